@@ -1,0 +1,7 @@
+pub mod Cache
+pub mod CacheLends
+pub mod Closures
+pub mod Entries
+pub mod Fields
+pub mod Requests
+pub mod Schedule

@@ -1,0 +1,34 @@
+-- Requests for keys: which of them hit. No cache is in sight here.
+use Rattle.std.specs.Prelude.{ℕ, suc, Bool, false, cond, not, ◌&&◌, nat_lt, List, [], ◌∷◌}
+use Rattle.std.specs.List.{list_any, take_while, count_by}
+
+module _ {K : Type 0} (eq : K → K → Bool) where
+  -- some key of ks is the same as x
+  abbrev pub holds : K → List K → Bool
+  holds x ks = list_any (eq x) ks
+
+  -- how many requests, the latest first, ask for a key that no earlier one asked for
+  abbrev pub distinct : List K → ℕ
+  distinct [] = 0
+  distinct (x ∷ earlier) = cond (holds x earlier) (distinct earlier) (suc (distinct earlier))
+
+  -- of the requests, the latest first, those after the latest one of x
+  abbrev pub since : K → List K → List K
+  since x past = take_while (λ y. not (eq x y)) past
+
+  -- x was requested before, and since then fewer than k distinct keys were
+  abbrev pub hit : ℕ → List K → K → Bool
+  hit k past x = holds x past && nat_lt (distinct (since x past)) k
+
+  -- for each request in order whether it hits, after the requests of the past, the latest first
+  abbrev pub marks_after : List K → ℕ → List K → List Bool
+  marks_after past k [] = []
+  marks_after past k (x ∷ rs) = hit k past x ∷ marks_after (x ∷ past) k rs
+
+  -- for each request in order whether it hits at capacity k
+  abbrev pub marks : ℕ → List K → List Bool
+  marks k rs = marks_after [] k rs
+
+  -- how many requests don't hit at capacity k
+  abbrev pub misses : ℕ → List K → ℕ
+  misses k rs = count_by not (marks k rs)

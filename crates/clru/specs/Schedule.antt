@@ -1,0 +1,26 @@
+-- Schedules: the keys that some policy, which may know all requests beforehand, holds before each request and at the end.
+use Rattle.std.specs.Prelude.{◌≡◌, ℕ, ◌≤◌, Bool, true, not, List, [], ◌∷◌, length}
+use Rattle.std.specs.List.{list_all, count_by}
+use Rattle.clru.specs.Requests.{holds}
+
+module _ {K : Type 0} (eq : K → K → Bool) where
+  -- after the request of x at the keys ks, x is held, and no other key came in
+  abbrev pub Serves : List K → K → List (List K) → Type 0
+  Serves ks x [] = ⊥
+  Serves ks x (next ∷ later) = (list_all (λ q. holds eq q (x ∷ ks)) next ≡ true) × (holds eq x next ≡ true)
+
+  -- a schedule of h keys for the requests; one that starts empty is `[] ∷ schedule`
+  abbrev pub IsSchedule : ℕ → List (List K) → List K → Type 0
+  IsSchedule h [] rs = ⊥
+  IsSchedule h (ks ∷ later) [] = (length ks ≤ h) × (later ≡ [])
+  IsSchedule h (ks ∷ later) (x ∷ rs) = (length ks ≤ h) × Serves ks x later × IsSchedule h later rs
+
+  -- for each request in order whether its key is held before it
+  abbrev pub schedule_marks : List (List K) → List K → List Bool
+  schedule_marks [] rs = []
+  schedule_marks (ks ∷ later) [] = []
+  schedule_marks (ks ∷ later) (x ∷ rs) = holds eq x ks ∷ schedule_marks later rs
+
+  -- how many requests find their key not held
+  abbrev pub schedule_misses : List (List K) → List K → ℕ
+  schedule_misses held rs = count_by not (schedule_marks held rs)

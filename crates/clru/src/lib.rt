@@ -1,0 +1,15 @@
+//! A weighted LRU cache.
+#![tactic(auto)]
+
+mod cache;
+mod error;
+mod pairs;
+mod recency;
+mod state;
+mod weight;
+
+pub use cache::CLruCache;
+pub use error::{NoMemory, PutError};
+pub use state::DefaultState;
+pub use std::num::NonZeroUsize;
+pub use weight::{WeightScale, ZeroWeightScale};

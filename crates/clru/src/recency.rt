@@ -1,0 +1,30 @@
+//! The calls that move an entry to the front and lend its value.
+ghost use Rattle.std.specs.Prelude.{◌≡◌, option_copied};
+ghost use Rattle.std.specs.Borrow.{sem};
+ghost use Rattle.std.specs.Map.{lookup};
+ghost use Rattle.clru.specs.CacheLends.{ends_with};
+ghost use Rattle.clru.specs.Entries.{touch};
+
+use crate::cache::CLruCache;
+use crate::pairs::{find, move_to_front};
+use crate::weight::WeightScale;
+use std::alloc::Allocator;
+use std::hash::{BuildHasher, Hash};
+
+impl<K: Eq + Hash, V, S: BuildHasher, W: WeightScale<K, V>, A: Allocator + Copy> CLruCache<
+    K,
+    V,
+    S,
+    W,
+    A,
+> {
+    /// Returns the value of the key, and makes its entry the most recently used.
+    pub fn get(&mut self, key: &K) -> Option<&V>
+        ensures* touches { sem 𝓛 (ends_with K.row V.row S.row W.row A.row S.Hasher.row K.Hash S.BuildHasher S.Hasher.Hasher W.WeightScale A.Allocator self.entry (touch K.eq key.now self.old.entries)) }
+        ensures value { option_copied result ≡ lookup (K.eq key.now) self.old.entries }
+    {
+        let at = find(&self.pairs, key)?;
+        move_to_front(&mut self.pairs, at);
+        Some(&self.pairs[0].1)
+    }
+}

@@ -1,0 +1,20 @@
+//! The hash builder of caches for which none is given.
+ghost use Rattle.std.specs.Hash.FoldHasher.{initial};
+
+use std::hash::{BuildHasher, FoldHasher};
+
+/// Builds std's `FoldHasher` with its fixed seed, so that each run of a program hashes alike.
+///
+/// For keys that an attacker picks, give a maker that takes a hash builder a `RandomState`.
+#[derive(Clone, Copy, Default)]
+pub struct DefaultState;
+
+impl BuildHasher for DefaultState {
+    type Hasher = FoldHasher;
+
+    ghost build_hasher = { λ _. initial };
+
+    fn build_hasher(&self) -> FoldHasher {
+        FoldHasher::default()
+    }
+}
