@@ -1,7 +1,8 @@
 -- What a search of the entries by place found, in the words of maps.
-use Rattle.std.proofs.Common.{◌≡◌, ℕ, zero, suc, ◌+◌, ◌<◌, Bool, true, false, cond, List, [], ◌∷◌, length, Option, Some, None, get_or, refl, sym, ap, ◌∙◌, subst, arith, add-one}
+use Rattle.std.proofs.Common.{◌≡◌, ℕ, zero, suc, ◌+◌, ◌-◌, ◌<◌, Bool, true, false, cond, List, [], ◌∷◌, length, take, Option, Some, None, get_or, refl, sym, ap, ◌∙◌, subst, arith, add-one}
 use Rattle.std.specs.List.{position, position_from, remove}
 use Rattle.std.specs.Map.{lookup, lookup_entry, remove_entry}
+use Rattle.clru.specs.Entries.{touch, plain_put}
 use Rattle.std.proofs.lemmas.Iterator.Adapters.{position_from-zero}
 
 module _ {K V : Type 0} (test : K → Bool) where
@@ -66,3 +67,16 @@ module _ {K V : Type 0} (test : K → Bool) where
 
   pub missed : {es : List (K × V)} → position (λ e. test e.0) es ≡ None → IsMissed es
   missed {es} h = missed_from es 0 (sym (position_from-zero (λ (e : K × V). test e.0) es) ∙ h)
+
+module _ {K V : Type 0} (eq : K → K → Bool) (x : K) {es : List (K × V)} where
+  pub touch-missed : IsMissed (eq x) es → touch eq x es ≡ es
+  touch-missed m = rw m.looked_up refl
+
+  pub touch-found : {i : ℕ} → IsFound (eq x) es i → (d : K × V) → get_or es i d ∷ remove es i ≡ touch eq x es
+  touch-found f d = rw (f.looked_up, f.at d, f.removed) refl
+
+  pub plain_put-missed : IsMissed (eq x) es → (c : ℕ) (v : V) → plain_put eq c x v es ≡ (x, v) ∷ take (c - 1) es
+  plain_put-missed m c v = rw m.looked_up refl
+
+  pub plain_put-found : {i : ℕ} → (f : IsFound (eq x) es i) → (c : ℕ) (v : V) → plain_put eq c x v es ≡ (f.entry.0, v) ∷ remove es i
+  plain_put-found f c v = rw (f.looked_up, f.removed) refl

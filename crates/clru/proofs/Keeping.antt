@@ -5,9 +5,11 @@ use Rattle.std.specs.List.{AllByRecursion, IsDistinct, remove}
 use Rattle.std.specs.Map.{keys_of, lookup, remove_entry}
 use Rattle.std.proofs.lemmas.Map.{NonePasses, none_passes_from_lookup, lookup-remove_entry}
 use Rattle.std.proofs.lemmas.Map.Keys.{IsDistinct-cons}
+use Rattle.std.proofs.lemmas.List.Edits.{length-remove}
 use Rattle.std.proofs.lemmas.List.Sums.{sum_by-cons, sum_by-remove}
 use Rattle.clru.specs.Entries.{weight_of, size_of}
 use Rattle.clru.specs.Fields.{IsCache}
+use Rattle.clru.proofs.Finding.{IsFound}
 use Rattle.clru.proofs.Sublists.{IsSublist, sublist_remove, sublist_keys, length-sublist, sum_by-sublist, IsDistinct-sublist}
 
 pub weight_of-cons : {K V : Type 0} (weight : K → V → ℕ) (e : K × V) (es : List (K × V)) → weight_of weight (e ∷ es) ≡ weight e.0 e.1 + weight_of weight es
@@ -54,3 +56,15 @@ module _ {K V : Type 0} {eq : K → K → Bool} (weight : K → V → ℕ) where
 -- once x is removed it is not held
 pub lookup-without : {K V : Type 0} {eq : K → K → Bool} → IsEquivalence eq → (x : K) (es : List (K × V)) → IsDistinct eq (keys_of es) → lookup (eq x) (remove_entry (eq x) es) ≡ None
 lookup-without {eq = eq} laws x es d = lookup-remove_entry laws (eq x) (λ y z h. laws.congr x y z h) x es d ∙ rw (laws.refl x) refl
+
+module _ {K V : Type 0} {eq : K → K → Bool} (weight : K → V → ℕ) where
+  -- when a found entry gets another value of the same weight and comes first
+  pub IsCache-front : {es : List (K × V)} {kept p r c i : ℕ} (r' : ℕ) (x : K) (v : V) → IsEquivalence eq → IsCache eq weight es kept p r c → (f : IsFound (eq x) es i) → weight f.entry.0 v ≡ weight f.entry.0 f.entry.1 → r ≤ r'
+      → IsCache eq weight ((f.entry.0, v) ∷ remove es i) kept p r' c
+  IsCache-front {es} {kept} {p} {r} {c} {i} r' x v laws old f alike room =
+      let sum : weight_of weight (remove es i) + weight f.entry.0 f.entry.1 ≡ weight_of weight es = subst (λ d. weight_of weight (remove es i) + weight d.0 d.1 ≡ weight_of weight es) (f.at f.entry) (sum_by-remove (λ (e : K × V). weight e.0 e.1) es i f.entry f.within) in
+      let rest = remove es i in
+      let cons : weight_of weight ((f.entry.0, v) ∷ rest) ≡ weight f.entry.0 v + weight_of weight rest = weight_of-cons weight (f.entry.0, v) rest in
+      let shorter : 1 + length rest ≡ length es = omega (arith, length-remove es i f.within) in
+      IsCache-put weight kept p r' x (f.entry.0, v) laws old (sublist_remove es i) (subst (λ l. lookup (eq x) l ≡ None) (sym f.removed) (lookup-without laws x es old.distinct)) f.passes
+      (omega (arith, cons, sum, alike, old.weighs)) (omega (arith, sum, alike, shorter, old.fits)) (omega (arith, shorter, old.held)) (omega (arith, room, old.reserved))

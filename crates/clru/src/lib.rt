@@ -4,6 +4,7 @@
 mod cache;
 mod error;
 mod pairs;
+mod put;
 mod recency;
 mod state;
 mod weight;

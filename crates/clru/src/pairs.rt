@@ -1,8 +1,11 @@
 //! The vector under the cache, the most recently used pair first. Each call is named for what it does to the list.
-ghost use Rattle.std.specs.Prelude.{◌≡◌, ◌<◌, ◌≤◌, ◌∷◌, remove, slice_index_or, position, vec_len, vec_capacity, OnOk, OnErr, IsTrue};
+ghost use Rattle.std.specs.Prelude.{◌≡◌, ◌<◌, ◌≤◌, ◌∷◌, length, remove, slice_index_or, position, vec_len, vec_capacity, OnOk, OnErr, IsTrue};
+ghost use Rattle.std.specs.Int.NonZero.{non_zero_usize_get};
+ghost use Rattle.clru.specs.Places.{GrowsIf};
 
 use crate::error::NoMemory;
 use std::alloc::Allocator;
+use std::num::NonZeroUsize;
 
 /// The place of the pair with the key.
 pub(crate) fn find<K: Eq, V, A: Allocator>(pairs: &Vec<(K, V), A>, key: &K) -> Option<usize>
@@ -15,6 +18,7 @@ pub(crate) fn find<K: Eq, V, A: Allocator>(pairs: &Vec<(K, V), A>, key: &K) -> O
 pub(crate) fn move_to_front<T, A: Allocator>(items: &mut Vec<T, A>, at: usize)
     requires { at < vec_len items.old }
     ensures front { (d : T) → items.new.items ≡ slice_index_or items.old.items at d ∷ remove items.old.items at }
+    ensures len { vec_len items.new ≡ vec_len items.old }
     ensures room { vec_capacity items.old ≤ vec_capacity items.new }
 {
     let item = items.remove(at);
@@ -38,25 +42,22 @@ pub(crate) fn make_ready_if<T, A: Allocator>(
     wanted: bool,
     items: &mut Vec<T, A>,
     places: &mut usize,
-    capacity: usize,
+    capacity: NonZeroUsize,
 ) -> Result<(), NoMemory>
-    requires below { IsTrue wanted → vec_len items.old < capacity }
-    requires held { vec_len items.old ≤ places.old }
+    requires below { IsTrue wanted → length items.old.items < non_zero_usize_get capacity }
+    requires held { length items.old.items ≤ places.old }
     requires reserved { places.old ≤ vec_capacity items.old }
     ensures items { items.new.items ≡ items.old.items }
-    ensures ready { OnOk result (IsTrue wanted → vec_len items.new < places.new) }
+    ensures ready { OnOk result (IsTrue wanted → length items.new.items < places.new) }
     ensures reserved { places.new ≤ vec_capacity items.new }
-    ensures never_falls { places.old ≤ places.new }
-    ensures free { vec_len items.old < places.old → places.new ≡ places.old }
-    ensures unwanted { (IsTrue wanted → ⊥) → places.new ≡ places.old }
-    ensures bounded { IsTrue wanted → vec_len items.old ≡ places.old → places.new ≤ capacity }
-    ensures refused { OnErr result (IsTrue wanted × (places.old ≡ vec_len items.old)) }
+    ensures grows { GrowsIf wanted (length items.old.items) (non_zero_usize_get capacity) places.old places.new }
+    ensures refused { OnErr result (IsTrue wanted × (places.old ≡ length items.old.items)) }
     ensures stays { OnErr result (places.new ≡ places.old) }
 {
     if !wanted || items.len() < *places {
         return Ok(());
     }
-    let next = grown(*places, capacity);
+    let next = grown(*places, capacity.get());
     if items.reserve_exact(next - items.len()).is_err() {
         return Err(NoMemory);
     }

@@ -1,0 +1,142 @@
+-- Keys held in lists of requests, and how many distinct ones there are.
+use Rattle.std.proofs.Common.{◌≡◌, ℕ, suc, ◌<◌, ◌≤◌, Bool, true, false, cond, not, ◌&&◌, ◌||◌, List, [], ◌∷◌, ◌++◌, refl, sym, ap, ◌∙◌, arith}
+use Rattle.std.proofs.lemmas.List.Sums.{take_while-cons}
+use Rattle.std.proofs.lemmas.Bool.Decides.{nat_tests}
+use Rattle.std.proofs.lemmas.Bool.{or_left, or_right, or_parts}
+use Rattle.std.specs.Cmp.{IsEquivalence}
+use Rattle.std.specs.List.{filter}
+use Rattle.clru.specs.Requests.{holds, distinct, since, hit}
+
+-- the two cases of a test
+pub split : {G : Type 0} (b : Bool) → (b ≡ true → G) → (b ≡ false → G) → G
+split true at_true at_false = at_true refl
+split false at_true at_false = at_false refl
+
+module _ {K : Type 0} (eq : K → K → Bool) where
+  -- the requests of other keys than x
+  abbrev pub others : K → List K → List K
+  others x ks = filter (λ y. not (eq x y)) ks
+
+  -- a key is held in two lists in a row where one of them holds it
+  pub holds-append : (x : K) (ks ls : List K) → holds eq x (ks ++ ls) ≡ (holds eq x ks || holds eq x ls)
+  holds-append x [] ls = refl
+  holds-append x (k ∷ ks) ls = split (eq x k) (λ t. rw t refl) (λ f. rw f (holds-append x ks ls))
+
+  -- since x, with one more request in front
+  pub since-cons : (x y : K) (past : List K) → since eq x (y ∷ past) ≡ cond (eq x y) [] (y ∷ since eq x past)
+  since-cons x y past = rw (take_while-cons (λ z. not (eq x z)) y past) (split (eq x y) (λ t. rw t refl) (λ f. rw f refl))
+
+module _ {K : Type 0} (eq : K → K → Bool) (laws : IsEquivalence eq) where
+  -- keys that are the same are held together
+  pub holds_same : (x y : K) (ks : List K) → eq x y ≡ true → holds eq x ks ≡ holds eq y ks
+  holds_same x y [] e = refl
+  holds_same x y (k ∷ ks) e = cc (laws.congr x y k e, holds_same x y ks e)
+
+  -- keys that are the same are apart from the same others
+  pub same_right : (x y z : K) → eq x y ≡ true → eq z x ≡ eq z y
+  same_right x y z e = laws.symm z x ∙ laws.congr x y z e ∙ laws.symm y z
+
+  -- the keys held among the others of x are those that are not the same as x
+  pub holds-others : (z x : K) (ks : List K) → holds eq z (others eq x ks) ≡ (not (eq x z) && holds eq z ks)
+  holds-others z x [] = split (eq x z) (λ t. rw t refl) (λ f. rw f refl)
+  holds-others z x (y ∷ ks) =
+      split (eq x y)
+      (λ t. split (eq x z)
+      (λ u. let ih = holds-others z x ks in rw (t, u) (rw u at ih))
+      (λ v. let ih = holds-others z x ks in
+      let w : eq z y ≡ false = sym (same_right x y z t) ∙ laws.symm z x ∙ v in
+      rw (t, v, w) (rw v at ih)))
+      (λ f. split (eq x z)
+      (λ u. let ih = holds-others z x ks in
+      let w : eq z y ≡ false = sym (laws.congr x z y u) ∙ f in
+      rw (f, u, w) (rw u at ih))
+      (λ v. let ih = holds-others z x ks in rw (f, v) (ap (λ b. eq z y || b) (rw v at ih))))
+
+  -- a key that is held counts as one distinct key
+  pub distinct_by_key : (x : K) (ks : List K) → distinct eq ks ≡ cond (holds eq x ks) (suc (distinct eq (others eq x ks))) (distinct eq (others eq x ks))
+  distinct_by_key x [] = refl
+  distinct_by_key x (y ∷ ks) =
+      split (eq x y)
+      (λ t. let ih = distinct_by_key x ks in
+      let e = holds_same x y ks t in
+      split (holds eq x ks) (λ h. rw (t, ← e, h) (rw h at ih)) (λ h. rw (t, ← e, h) (ap suc (rw h at ih))))
+      (λ f. let ih = distinct_by_key x ks in
+      let e : holds eq y (others eq x ks) ≡ holds eq y ks = rw (holds-others y x ks, f) refl in
+      split (holds eq x ks)
+      (λ h. split (holds eq y ks) (λ u. rw (f, h, u, e, u) (rw h at ih)) (λ v. rw (f, h, v, e, v) (ap suc (rw h at ih))))
+      (λ h. split (holds eq y ks) (λ u. rw (f, h, u, e, u) (rw h at ih)) (λ v. rw (f, h, v, e, v) (ap suc (rw h at ih)))))
+
+  -- a list whose keys are all held in another has at most as many distinct ones
+  pub distinct_mono : (xs ys : List K) → ((z : K) → holds eq z xs ≡ true → holds eq z ys ≡ true) → distinct eq xs ≤ distinct eq ys
+  distinct_mono [] ys within = omega arith
+  distinct_mono (x ∷ xs) ys within =
+      split (holds eq x xs)
+      (λ t. rw t (distinct_mono xs ys (λ z h. within z (or_right (eq z x) (holds eq z xs) h))))
+      (λ f.
+      let here : holds eq x ys ≡ true = within x (or_left (eq x x) (holds eq x xs) (laws.refl x)) in
+      let rest = distinct_mono xs (others eq x ys) (λ z h.
+      let apart : eq x z ≡ false = split (eq x z) (λ u. cc (holds_same x z xs u)) (λ v. v) in
+      let there = within z (or_right (eq z x) (holds eq z xs) h) in
+      rw (holds-others z x ys, apart) there) in
+      let e : distinct eq ys ≡ suc (distinct eq (others eq x ys)) = rw here at (distinct_by_key x ys) in
+      rw f (omega arith))
+
+  -- no key is requested since its own latest request
+  pub not_since : (x : K) (past : List K) → holds eq x (since eq x past) ≡ false
+  not_since x [] = refl
+  not_since x (y ∷ past) = rw (since-cons eq x y past) (split (eq x y) (λ t. rw t refl) (λ f. rw (f, f) (not_since x past)))
+
+  -- what is requested since x is requested before
+  pub since_within : (x z : K) (past : List K) → holds eq z (since eq x past) ≡ true → holds eq z past ≡ true
+  since_within x z [] h = h
+  since_within x z (y ∷ past) h =
+      let g = rw (since-cons eq x y past) at h in
+      split (eq x y)
+      (λ t. cc (rw t at g))
+      (λ f. split (eq z y) (λ u. rw u refl) (λ v. rw v (since_within x z past (rw (f, v) at g))))
+
+  -- where x is requested since y, so is all that is requested since x
+  since_since : (x y z : K) (past : List K) → holds eq x (since eq y past) ≡ true → holds eq z (since eq x past) ≡ true → holds eq z (since eq y past) ≡ true
+  since_since x y z [] h g = h
+  since_since x y z (w ∷ past) h g =
+      let hh = rw (since-cons eq y w past) at h in
+      let gg = rw (since-cons eq x w past) at g in
+      split (eq y w)
+      (λ t. cc (rw t at hh))
+      (λ f. split (eq x w)
+      (λ u. cc (rw u at gg))
+      (λ v. rw (since-cons eq y w past, f) (split (eq z w) (λ s. rw s refl) (λ n. rw n (since_since x y z past (rw (f, v) at hh) (rw (v, n) at gg))))))
+
+  -- where x is requested since y, fewer distinct keys are requested since x
+  pub distinct_since_since : (x y : K) (past : List K) → holds eq x (since eq y past) ≡ true → distinct eq (since eq x past) < distinct eq (since eq y past)
+  distinct_since_since x y past h =
+      let within : (z : K) → holds eq z (x ∷ since eq x past) ≡ true → holds eq z (since eq y past) ≡ true =
+      λ z g. split (eq z x) (λ t. rw (holds_same z x (since eq y past) t) h) (λ f. since_since x y z past h (rw f at g)) in
+      let e : distinct eq (x ∷ since eq x past) ≡ suc (distinct eq (since eq x past)) = rw (not_since x past) refl in
+      let m = distinct_mono (x ∷ since eq x past) (since eq y past) within in
+      omega (arith, m, e)
+
+  -- of two keys that were requested, one was requested since the other
+  since_either : (x y : K) (past : List K) → eq x y ≡ false → holds eq x past ≡ true → holds eq y past ≡ true → holds eq x (since eq y past) ≡ false → holds eq y (since eq x past) ≡ true
+  since_either x y [] apart hx hy g = hx
+  since_either x y (w ∷ past) apart hx hy g =
+      let gg = rw (since-cons eq y w past) at g in
+      rw (since-cons eq x w past) (split (eq y w)
+      (λ t. let v : eq x w ≡ false = sym (same_right y w x t) ∙ apart in rw (v, t) refl)
+      (λ f. let parts = or_parts (eq x w) (holds eq x (since eq y past)) (rw f at gg) in
+      let v : eq x w ≡ false = parts.0 in
+      rw (v, f) (since_either x y past apart (rw v at hx) (rw f at hy) parts.1)))
+
+  -- one request of x shifts the hits of every other key by one capacity, but for those that hit before x does
+  pub hit-cons : (j : ℕ) (x y : K) (past : List K) → eq x y ≡ false
+      → hit eq (suc j) (x ∷ past) y ≡ cond (hit eq j past x) (hit eq (suc j) past y) (hit eq j past y)
+  hit-cons j x y past apart =
+      let back : eq y x ≡ false = laws.symm y x ∙ apart in
+      rw (since-cons eq y x past, back) (split (holds eq y past)
+      (λ hy. rw hy (split (holds eq x (since eq y past))
+      (λ t. let lt = distinct_since_since x y past t in
+      rw (t, since_within y x past t) (grind (arith, nat_tests)))
+      (λ f. rw f (split (holds eq x past)
+      (λ hx. let lt = distinct_since_since y x past (since_either x y past apart hx hy f) in rw hx (grind (arith, nat_tests)))
+      (λ no_x. rw no_x (grind (arith, nat_tests)))))))
+      (λ no_y. rw no_y (split (hit eq j past x) (λ t. rw t refl) (λ f. rw f refl))))

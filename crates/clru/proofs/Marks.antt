@@ -1,0 +1,57 @@
+-- The marks of requests at two capacities, and after one more request.
+use Rattle.std.proofs.Common.{◌≡◌, ℕ, zero, suc, ◌+◌, ◌≤◌, Bool, true, cond, not, List, [], ◌∷◌, ◌++◌, reverse, refl, sym, ap, ◌∙◌, arith, append_assoc, append-nil, Some, ltb}
+use Rattle.std.proofs.lemmas.List.{reverse-append}
+use Rattle.std.proofs.lemmas.List.Sums.{sum_by-cons, sum_by_push}
+use Rattle.std.proofs.lemmas.Bool.{and_parts, and_from, lt-ltb, ltb-true}
+use Rattle.std.specs.List.{slice_get, count_by}
+use Rattle.clru.specs.Requests.{holds, distinct, since, hit, marks_after, marks, misses}
+use Rattle.clru.proofs.Distinct.{split}
+
+-- how many marks are false, with one more in front
+pub count_by-not-cons : (m : Bool) (ms : List Bool) → count_by not (m ∷ ms) ≡ cond m 0 1 + count_by not ms
+count_by-not-cons m ms = sum_by-cons (λ b. cond (not b) 1 0) m ms ∙ split m (λ t. rw t refl) (λ f. rw f refl)
+
+-- how many marks are false, with one more at the end
+pub count_by-not-push : (ms : List Bool) (m : Bool) → count_by not (ms ++ m ∷ []) ≡ count_by not ms + cond m 0 1
+count_by-not-push ms m = sum_by_push (λ b. cond (not b) 1 0) ms m ∙ split m (λ t. rw t refl) (λ f. rw f refl)
+
+module _ {K : Type 0} (eq : K → K → Bool) where
+  -- a hit at a capacity is a hit at each greater one
+  pub hit_more : (j k : ℕ) (past : List K) (x : K) → j ≤ k → hit eq j past x ≡ true → hit eq k past x ≡ true
+  hit_more j k past x more h =
+      let parts = and_parts (holds eq x past) (ltb (distinct eq (since eq x past)) j) h in
+      let lt = ltb-true (distinct eq (since eq x past)) j parts.1 in
+      and_from (holds eq x past) (ltb (distinct eq (since eq x past)) k) parts.0 (lt-ltb (distinct eq (since eq x past)) k (omega arith))
+
+  -- a mark that is true at a capacity is true at each greater one
+  pub marks_more : (j k : ℕ) (past rs : List K) (i : ℕ) → j ≤ k → slice_get (marks_after eq past j rs) i ≡ Some true → slice_get (marks_after eq past k rs) i ≡ Some true
+  marks_more j k past [] i more h = h
+  marks_more j k past (x ∷ rs) zero more h =
+      let t : hit eq j past x ≡ true = cc in
+      rw (hit_more j k past x more t) refl
+  marks_more j k past (x ∷ rs) (suc i) more h = marks_more j k (x ∷ past) rs i more h
+
+  -- a reversed list before another one, element by element
+  pub reverse-cons-append : (x : K) (xs ys : List K) → reverse (x ∷ xs) ++ ys ≡ reverse xs ++ (x ∷ ys)
+  reverse-cons-append x xs ys = ap (λ l. l ++ ys) (reverse-append (x ∷ []) xs) ∙ append_assoc (reverse xs) (x ∷ []) ys
+
+  -- the marks of two lists of requests in a row
+  pub marks_after-append : (past : List K) (k : ℕ) (xs ys : List K)
+      → marks_after eq past k (xs ++ ys) ≡ marks_after eq past k xs ++ marks_after eq (reverse xs ++ past) k ys
+  marks_after-append past k [] ys = refl
+  marks_after-append past k (x ∷ xs) ys =
+      ap (λ l. hit eq k past x ∷ l) (marks_after-append (x ∷ past) k xs ys
+      ∙ ap (λ l. marks_after eq (x ∷ past) k xs ++ marks_after eq l k ys) (sym (reverse-cons-append x xs past)))
+
+  -- the marks after one more request
+  pub marks_after_push : (past : List K) (k : ℕ) (xs : List K) (x : K)
+      → marks_after eq past k (xs ++ x ∷ []) ≡ marks_after eq past k xs ++ hit eq k (reverse xs ++ past) x ∷ []
+  marks_after_push past k xs x = marks_after-append past k xs (x ∷ [])
+
+  -- the same from the start
+  pub marks_push : (k : ℕ) (xs : List K) (x : K) → marks eq k (xs ++ x ∷ []) ≡ marks eq k xs ++ hit eq k (reverse xs) x ∷ []
+  marks_push k xs x = marks_after_push [] k xs x ∙ ap (λ l. marks eq k xs ++ hit eq k l x ∷ []) (append-nil (reverse xs))
+
+  -- the misses after one more request
+  pub misses_push : (k : ℕ) (xs : List K) (x : K) → misses eq k (xs ++ x ∷ []) ≡ misses eq k xs + cond (hit eq k (reverse xs) x) 0 1
+  misses_push k xs x = ap (count_by not) (marks_push k xs x) ∙ count_by-not-push (marks eq k xs) (hit eq k (reverse xs) x)
