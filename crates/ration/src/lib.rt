@@ -1,0 +1,124 @@
+//! An allocator for tests: it counts the requests that reach it, and refuses those that it is told to refuse.
+//!
+//! A test lends it, as in `Vec::new(&heap)`. A growth, a `reserve_exact` and a shrink of a `Vec` make one request each: the
+//! trait's own `grow` and `shrink` ask for the new block by `allocate`, and give the old one back by `deallocate`.
+//! It is proved that what it answers is a block of the inner allocator, of the size that was asked for. The counters are
+//! only tested, since no contract can say what a cell holds.
+#![tactic(auto)]
+
+use std::alloc::{AllocError, Allocator};
+use std::cell::Cell;
+
+/// Requests and blocks so far, and the refusals to come.
+#[derive(Drop)]
+struct Book {
+    asked: Cell<u64>,
+    given: Cell<u64>,
+    returned: Cell<u64>,
+    /// So many requests pass first,
+    passing: Cell<u64>,
+    /// and so many after them are refused.
+    refusing: Cell<u64>,
+}
+
+/// An allocator over another, `inner`, that can be told to refuse requests.
+#[derive(Drop)]
+pub struct Rationed<B: Allocator> {
+    inner: B,
+    book: Book,
+}
+
+impl<B: Allocator> Rationed<B> {
+    /// All requests pass until it is told otherwise.
+    pub fn new(inner: B) -> Rationed<B> {
+        let book = Book {
+            asked: Cell::new(0),
+            given: Cell::new(0),
+            returned: Cell::new(0),
+            passing: Cell::new(0),
+            refusing: Cell::new(0),
+        };
+        Rationed { inner, book }
+    }
+
+    /// Lets `n` more requests pass, and refuses all later ones.
+    pub fn refuse_after(&self, n: u64) {
+        self.book.passing.set(n);
+        self.book.refusing.set(u64::MAX);
+    }
+
+    /// Lets `n` more requests pass, refuses the next one, and lets the rest pass.
+    pub fn refuse_one_after(&self, n: u64) {
+        self.book.passing.set(n);
+        self.book.refusing.set(1);
+    }
+
+    /// Lets all requests pass from now on.
+    pub fn refuse_none(&self) {
+        self.book.refusing.set(0);
+    }
+
+    /// The requests for memory so far, refused ones included.
+    pub fn asked(&self) -> u64 {
+        self.book.asked.get()
+    }
+
+    /// The requests so far that got no memory, refused here or by the inner allocator.
+    pub fn refused(&self) -> u64 {
+        self.book.asked.get().wrapping_sub(self.book.given.get())
+    }
+
+    /// The blocks handed out and not yet given back: 0 where nothing leaks.
+    pub fn blocks(&self) -> u64 {
+        self.book.given.get().wrapping_sub(self.book.returned.get())
+    }
+}
+
+/// Counts a request, and returns whether it is to be refused.
+fn refuses(book: &Book) -> bool {
+    book.asked.set(book.asked.get().wrapping_add(1));
+    let passing = book.passing.get();
+    let refusing = book.refusing.get();
+    if passing > 0 {
+        book.passing.set(passing - 1);
+        return false;
+    }
+    if refusing == 0 {
+        return false;
+    }
+    book.refusing.set(refusing - 1);
+    true
+}
+
+fn hands_out(book: &Book) {
+    book.given.set(book.given.get().wrapping_add(1));
+}
+
+fn takes_back(book: &Book) {
+    book.returned.set(book.returned.get().wrapping_add(1));
+}
+
+unsafe impl<B: Allocator> Allocator for Rationed<B> {
+    ghost dealloc_token = { λ heap ty ptr. B.dealloc_token heap.inner ty ptr };
+
+    fn allocate(&self, size: usize, align: usize) -> Result<*mut u8, AllocError> {
+        if refuses(&self.book) {
+            return Err(AllocError);
+        }
+        match self.inner.allocate(size, align) {
+            Ok(block) => {
+                hands_out(&self.book);
+                Ok(block)
+            }
+            Err(error) => Err(error),
+        }
+    }
+
+    unsafe fn deallocate(&self, ptr: *mut u8, size: usize, align: usize) {
+        takes_back(&self.book);
+        self.inner.deallocate(ptr, size, align);
+    }
+}
+
+#[cfg(test)]
+mod tests;
