@@ -32,7 +32,7 @@ module _ {K : Type 0} (eq : K → K → Bool) (laws : IsEquivalence eq) where
   holds_same x y [] e = refl
   holds_same x y (k ∷ ks) e = cc (laws.congr x y k e, holds_same x y ks e)
 
-  -- keys that are the same are apart from the same others
+  -- keys that are the same are the same as the same keys
   pub same_right : (x y z : K) → eq x y ≡ true → eq z x ≡ eq z y
   same_right x y z e = laws.symm z x ∙ laws.congr x y z e ∙ laws.symm y z
 
@@ -53,7 +53,8 @@ module _ {K : Type 0} (eq : K → K → Bool) (laws : IsEquivalence eq) where
       (λ v. let ih = holds-others z x ks in rw (f, v) (ap (λ b. eq z y || b) (rw v at ih))))
 
   -- a key that is held counts as one distinct key
-  pub distinct_by_key : (x : K) (ks : List K) → distinct eq ks ≡ cond (holds eq x ks) (suc (distinct eq (others eq x ks))) (distinct eq (others eq x ks))
+  pub distinct_by_key : (x : K) (ks : List K) → distinct eq ks
+      ≡ cond (holds eq x ks) (suc (distinct eq (others eq x ks))) (distinct eq (others eq x ks))
   distinct_by_key x [] = refl
   distinct_by_key x (y ∷ ks) =
       split (eq x y)
@@ -86,6 +87,13 @@ module _ {K : Type 0} (eq : K → K → Bool) (laws : IsEquivalence eq) where
   not_since x [] = refl
   not_since x (y ∷ past) = rw (since-cons eq x y past) (split (eq x y) (λ t. rw t refl) (λ f. rw (f, f) (not_since x past)))
 
+  -- a list that holds x and all that is requested since x has more distinct keys than those
+  pub distinct_since_less : (x : K) (past ks : List K) → holds eq x ks ≡ true
+      → ((z : K) → holds eq z (since eq x past) ≡ true → holds eq z ks ≡ true) → distinct eq (since eq x past) < distinct eq ks
+  distinct_since_less x past ks held within =
+      let m = distinct_mono (x ∷ since eq x past) ks (λ z g. split (eq z x) (λ t. holds_same z x ks t ∙ held) (λ f. within z (rw f at g))) in
+      rw (not_since x past) at m
+
   -- what is requested since x is requested before
   pub since_within : (x z : K) (past : List K) → holds eq z (since eq x past) ≡ true → holds eq z past ≡ true
   since_within x z [] h = h
@@ -96,7 +104,8 @@ module _ {K : Type 0} (eq : K → K → Bool) (laws : IsEquivalence eq) where
       (λ f. split (eq z y) (λ u. rw u refl) (λ v. rw v (since_within x z past (rw (f, v) at g))))
 
   -- where x is requested since y, so is all that is requested since x
-  since_since : (x y z : K) (past : List K) → holds eq x (since eq y past) ≡ true → holds eq z (since eq x past) ≡ true → holds eq z (since eq y past) ≡ true
+  since_since : (x y z : K) (past : List K) → holds eq x (since eq y past) ≡ true → holds eq z (since eq x past) ≡ true
+      → holds eq z (since eq y past) ≡ true
   since_since x y z [] h g = h
   since_since x y z (w ∷ past) h g =
       let hh = rw (since-cons eq y w past) at h in
@@ -105,19 +114,17 @@ module _ {K : Type 0} (eq : K → K → Bool) (laws : IsEquivalence eq) where
       (λ t. cc (rw t at hh))
       (λ f. split (eq x w)
       (λ u. cc (rw u at gg))
-      (λ v. rw (since-cons eq y w past, f) (split (eq z w) (λ s. rw s refl) (λ n. rw n (since_since x y z past (rw (f, v) at hh) (rw (v, n) at gg))))))
+      (λ v. rw (since-cons eq y w past, f) (split (eq z w)
+      (λ s. rw s refl) (λ n. rw n (since_since x y z past (rw (f, v) at hh) (rw (v, n) at gg))))))
 
   -- where x is requested since y, fewer distinct keys are requested since x
-  pub distinct_since_since : (x y : K) (past : List K) → holds eq x (since eq y past) ≡ true → distinct eq (since eq x past) < distinct eq (since eq y past)
-  distinct_since_since x y past h =
-      let within : (z : K) → holds eq z (x ∷ since eq x past) ≡ true → holds eq z (since eq y past) ≡ true =
-      λ z g. split (eq z x) (λ t. rw (holds_same z x (since eq y past) t) h) (λ f. since_since x y z past h (rw f at g)) in
-      let e : distinct eq (x ∷ since eq x past) ≡ suc (distinct eq (since eq x past)) = rw (not_since x past) refl in
-      let m = distinct_mono (x ∷ since eq x past) (since eq y past) within in
-      omega (arith, m, e)
+  pub distinct_since_since : (x y : K) (past : List K) → holds eq x (since eq y past) ≡ true
+      → distinct eq (since eq x past) < distinct eq (since eq y past)
+  distinct_since_since x y past h = distinct_since_less x past (since eq y past) h (λ z g. since_since x y z past h g)
 
   -- of two keys that were requested, one was requested since the other
-  since_either : (x y : K) (past : List K) → eq x y ≡ false → holds eq x past ≡ true → holds eq y past ≡ true → holds eq x (since eq y past) ≡ false → holds eq y (since eq x past) ≡ true
+  since_either : (x y : K) (past : List K) → eq x y ≡ false → holds eq x past ≡ true → holds eq y past ≡ true
+      → holds eq x (since eq y past) ≡ false → holds eq y (since eq x past) ≡ true
   since_either x y [] apart hx hy g = hx
   since_either x y (w ∷ past) apart hx hy g =
       let gg = rw (since-cons eq y w past) at g in

@@ -1,5 +1,6 @@
 -- Why the first keys that a cache holds are the hits at each capacity up to its own.
-use Rattle.std.proofs.Common.{◌≡◌, ℕ, zero, suc, ◌-◌, ◌≤◌, Bool, true, false, cond, List, [], ◌∷◌, length, take, refl, sym, ap, ◌∙◌, arith, take_all, take-take, Option, Some, None, is_some}
+use Rattle.std.proofs.Common.{◌≡◌, ℕ, zero, suc, ◌-◌, ◌≤◌, Bool, true, false, cond, List, [], ◌∷◌}
+use Rattle.std.proofs.Common.{length, take, refl, sym, ap, ◌∙◌, arith, take_all, take-take, Option, Some, None, is_some}
 use Rattle.std.proofs.lemmas.List.{take-map, length-map}
 use Rattle.std.proofs.lemmas.Bool.Decides.{nat_tests}
 use Rattle.std.proofs.lemmas.Bool.{or_parts}
@@ -41,13 +42,15 @@ module _ {K V : Type 0} (eq : K → K → Bool) where
   is_some-lookup x (e ∷ es) = split (eq x e.0) (λ t. rw t refl) (λ f. rw f (is_some-lookup x es))
 
   -- under the invariant the keys held are the hits at the capacity
-  pub Keeps_held : {k : ℕ} {past : List K} (x : K) (es : List (K × V)) → length es ≤ k → Keeps eq k past (keys_of es) → holds eq x (keys_of es) ≡ hit eq k past x
+  pub Keeps_held : {k : ℕ} {past : List K} (x : K) (es : List (K × V)) → length es ≤ k → Keeps eq k past (keys_of es)
+      → holds eq x (keys_of es) ≡ hit eq k past x
   Keeps_held {k} x es short keeps =
       let all : take k (keys_of es) ≡ keys_of es = take_all k (keys_of es) (rw length-map short) in
       rw all at (keeps.kept k x (omega arith))
 
   -- what the entry found for x tells
-  lookup_entry_tells : (x : K) (es : List (K × V)) → MatchOption (lookup_entry (eq x) es) (holds eq x (keys_of es) ≡ false) (λ e. (eq x e.0 ≡ true) × (holds eq x (keys_of es) ≡ true))
+  lookup_entry_tells : (x : K) (es : List (K × V))
+      → MatchOption (lookup_entry (eq x) es) (holds eq x (keys_of es) ≡ false) (λ e. (eq x e.0 ≡ true) × (holds eq x (keys_of es) ≡ true))
   lookup_entry_tells x [] = refl
   lookup_entry_tells x (e ∷ es) = split (eq x e.0) (λ t. rw t (t, refl)) (λ f. rw f (lookup_entry_tells x es))
 
@@ -68,7 +71,8 @@ module _ {K V : Type 0} (eq : K → K → Bool) (laws : IsEquivalence eq) where
       → next ≡ (q, v) ∷ cond (holds eq x (keys_of es)) (remove_entry (eq x) es) (take (k - 1) es) → Keeps eq k (x ∷ past) (keys_of next)
   Keeps_put {k} {past} x q v es next same keeps e = record { kept = λ j y within. rw e (at j y within) }
     where
-      at : (j : ℕ) (y : K) → j ≤ k → holds eq y (take j (q ∷ keys_of (cond (holds eq x (keys_of es)) (remove_entry (eq x) es) (take (k - 1) es)))) ≡ hit eq j (x ∷ past) y
+      at : (j : ℕ) (y : K) → j ≤ k
+          → holds eq y (take j (q ∷ keys_of (cond (holds eq x (keys_of es)) (remove_entry (eq x) es) (take (k - 1) es)))) ≡ hit eq j (x ∷ past) y
       at zero y within = sym (hit-zero eq (x ∷ past) y)
       at (suc i) y within =
           split (eq x y)
@@ -85,7 +89,8 @@ module _ {K V : Type 0} (eq : K → K → Bool) (laws : IsEquivalence eq) where
 
   -- the same where the put is said by the entry that it finds
   pub Keeps_put_found : {k : ℕ} {past : List K} (x : K) (v : V) (es next : List (K × V)) → Keeps eq k past (keys_of es)
-      → next ≡ option_map_or (λ e. (e.0, v) ∷ remove_entry (eq x) es) (lookup_entry (eq x) es) ((x, v) ∷ take (k - 1) es) → Keeps eq k (x ∷ past) (keys_of next)
+      → next ≡ option_map_or (λ e. (e.0, v) ∷ remove_entry (eq x) es) (lookup_entry (eq x) es) ((x, v) ∷ take (k - 1) es)
+      → Keeps eq k (x ∷ past) (keys_of next)
   Keeps_put_found {k} {past} x v es next keeps is = found (lookup_entry (eq x) es) (lookup_entry_tells eq x es) is
     where
       found : (o : Option (K × V)) → MatchOption o (holds eq x (keys_of es) ≡ false) (λ e. (eq x e.0 ≡ true) × (holds eq x (keys_of es) ≡ true))

@@ -1,8 +1,13 @@
 pub mod Bound
+pub mod ByPlace
 pub mod Distinct
 pub mod Finding
+pub mod Fitting
 pub mod Hits
 pub mod Keeping
 pub mod Marks
+pub mod Places
 pub mod Putting
+pub mod Rows
+pub mod SchedulesByPlace
 pub mod Sublists

@@ -1,5 +1,6 @@
 -- The marks of requests at two capacities, and after one more request.
-use Rattle.std.proofs.Common.{◌≡◌, ℕ, zero, suc, ◌+◌, ◌≤◌, Bool, true, cond, not, List, [], ◌∷◌, ◌++◌, reverse, refl, sym, ap, ◌∙◌, arith, append_assoc, append-nil, Some, ltb}
+use Rattle.std.proofs.Common.{◌≡◌, ℕ, zero, suc, ◌+◌, ◌≤◌, Bool, true, cond, not, List, []}
+use Rattle.std.proofs.Common.{◌∷◌, ◌++◌, reverse, refl, sym, ap, ◌∙◌, arith, append_assoc, append-nil, Some, ltb}
 use Rattle.std.proofs.lemmas.List.{reverse-append}
 use Rattle.std.proofs.lemmas.List.Sums.{sum_by-cons, sum_by_push}
 use Rattle.std.proofs.lemmas.Bool.{and_parts, and_from, lt-ltb, ltb-true}
@@ -24,7 +25,8 @@ module _ {K : Type 0} (eq : K → K → Bool) where
       and_from (holds eq x past) (ltb (distinct eq (since eq x past)) k) parts.0 (lt-ltb (distinct eq (since eq x past)) k (omega arith))
 
   -- a mark that is true at a capacity is true at each greater one
-  pub marks_more : (j k : ℕ) (past rs : List K) (i : ℕ) → j ≤ k → slice_get (marks_after eq past j rs) i ≡ Some true → slice_get (marks_after eq past k rs) i ≡ Some true
+  pub marks_more : (j k : ℕ) (past rs : List K) (i : ℕ) → j ≤ k → slice_get (marks_after eq past j rs) i ≡ Some true
+      → slice_get (marks_after eq past k rs) i ≡ Some true
   marks_more j k past [] i more h = h
   marks_more j k past (x ∷ rs) zero more h =
       let t : hit eq j past x ≡ true = cc in

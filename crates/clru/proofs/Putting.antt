@@ -9,7 +9,7 @@ use Rattle.std.proofs.lemmas.List.Sums.{sum_by-cons}
 use Rattle.clru.specs.Cache.{Cache, GrowsOnlyIf, NeedsMemory}
 use Rattle.clru.specs.Entries.{weight_of, plain_put}
 use Rattle.clru.specs.Fields.{IsCache}
-use Rattle.clru.specs.Places.{GrowsIf}
+use Rattle.clru.specs.Growth.{GrowsIf}
 use Rattle.clru.proofs.Finding.{IsFound, IsMissed, plain_put-found}
 use Rattle.clru.proofs.Keeping.{IsCache-put}
 use Rattle.clru.proofs.Sublists.{IsSublist, sublist_take, All-sublist}

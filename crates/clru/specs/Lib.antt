@@ -1,8 +1,10 @@
+pub mod ByPlace
 pub mod Cache
 pub mod CacheLends
 pub mod Closures
 pub mod Entries
 pub mod Fields
-pub mod Places
+pub mod Growth
+pub mod Puts
 pub mod Requests
 pub mod Schedule

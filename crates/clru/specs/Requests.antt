@@ -1,5 +1,5 @@
 -- Requests for keys: which of them hit. No cache is in sight here.
-use Rattle.std.specs.Prelude.{ℕ, suc, Bool, false, cond, not, ◌&&◌, nat_lt, List, [], ◌∷◌}
+use Rattle.std.specs.Prelude.{ℕ, suc, Bool, cond, not, ◌&&◌, nat_lt, List, [], ◌∷◌}
 use Rattle.std.specs.List.{list_any, take_while, count_by}
 
 module _ {K : Type 0} (eq : K → K → Bool) where

@@ -1,7 +1,7 @@
 //! The vector under the cache, the most recently used pair first. Each call is named for what it does to the list.
 ghost use Rattle.std.specs.Prelude.{◌≡◌, ◌<◌, ◌≤◌, ◌∷◌, length, remove, slice_index_or, position, vec_len, vec_capacity, OnOk, OnErr, IsTrue};
 ghost use Rattle.std.specs.Int.NonZero.{non_zero_usize_get};
-ghost use Rattle.clru.specs.Places.{GrowsIf};
+ghost use Rattle.clru.specs.Growth.{GrowsIf};
 
 use crate::error::NoMemory;
 use std::alloc::Allocator;

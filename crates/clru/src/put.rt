@@ -1,19 +1,98 @@
 //! The calls that may add an entry.
-ghost use Rattle.std.specs.Prelude.{◌≡◌, None, Some, IfOk, IfErr, OnOk, OnErr, IsErr};
+ghost use Rattle.std.specs.Prelude.{◌≡◌, None, Some, is_ok, IfOk, IfErr, IsErr, if◌then◌else◌};
 ghost use Rattle.std.specs.Borrow.{sem};
 ghost use Rattle.std.specs.Map.{lookup, lookup_entry};
-ghost use Rattle.clru.specs.Cache.{NeedsPlace, GrowsOnlyIf};
+ghost use Rattle.clru.specs.Cache.{NeedsPlace, NeedsPlaceFor, GrowsOnlyIf};
 ghost use Rattle.clru.specs.CacheLends.{lends_put};
+ghost use Rattle.clru.specs.Puts.{WeightedPut};
+ghost use Rattle.clru.specs.Entries.{plain_put};
 ghost use Rattle.clru.specs.Closures.{TakesKey, TakesEntry, PutsOrModifies};
 ghost use Rattle.clru.specs.contracts.weight.ZeroWeightScale.{the_row as zero_scale_row};
 
 use crate::cache::CLruCache;
+use crate::error::PutError;
 use crate::pairs::{find, make_ready_if, move_to_front, push_front};
+use crate::shrink::shrink_to;
 use crate::weight::{WeightScale, ZeroWeightScale};
 use std::alloc::Allocator;
 use std::hash::{BuildHasher, Hash};
 
+impl<K: Eq + Hash, V, S: BuildHasher, W: WeightScale<K, V>, A: Allocator + Copy> CLruCache<
+    K,
+    V,
+    S,
+    W,
+    A,
+> {
+    /// Puts a pair into the cache, and returns the old value of its key. The pair is then the most recently used, under
+    /// the new key.
+    ///
+    /// Whatever does not fit beside it is dropped, the least recently used entry first, and nothing else. A pair that
+    /// weighs as much as the capacity or more is refused as too heavy, whether its key is held or not. A refused pair
+    /// comes back. The cost grows with the number of entries that are dropped.
+    pub fn put_with_weight(&mut self, key: K, value: V) -> Result<Option<V>, PutError<K, V>>
+    where
+        K: Drop,
+        V: Drop,
+        ensures put { WeightedPut K.eq (W.weight self.old.scale) self.old key value result self.new }
+        ensures places { GrowsOnlyIf (NeedsPlaceFor K.eq (W.weight self.old.scale) (W.weight self.old.scale key value) key self.old) self.old self.new }
+    {
+        let weight = self.scale.weight(&key, &value);
+        let capacity = self.capacity.get();
+        if weight >= capacity {
+            return Err(PutError::TooHeavy(key, value));
+        }
+        // Compared with the room that the pair leaves, so that no sum passes the largest number.
+        let room = capacity - 1 - weight;
+        if let Some(at) = find(&self.pairs, &key) {
+            let (old_key, old_value) = self.pairs.remove(at);
+            self.kept -= self.scale.weight(&old_key, &old_value);
+            shrink_to(&mut self.pairs, &mut self.kept, &self.scale, room);
+            push_front(&mut self.pairs, (key, value));
+            self.kept += weight;
+            return Ok(Some(old_value));
+        }
+        let wanted = self.pairs.len() + self.kept <= room;
+        let Ok(()) = make_ready_if(wanted, &mut self.pairs, &mut self.places, self.capacity) else {
+            return Err(PutError::NoMemory(key, value));
+        };
+        shrink_to(&mut self.pairs, &mut self.kept, &self.scale, room);
+        push_front(&mut self.pairs, (key, value));
+        self.kept += weight;
+        Ok(None)
+    }
+}
+
 impl<K: Eq + Hash, V, S: BuildHasher, A: Allocator + Copy> CLruCache<K, V, S, ZeroWeightScale, A> {
+    /// Puts a pair into the cache, and returns the old value of its key. Its entry is then the most recently used; a held
+    /// key stays as it was stored.
+    ///
+    /// A new entry drops the least recently used one of a full cache. Where memory is refused, the pair comes back.
+    pub fn put(&mut self, key: K, value: V) -> Result<Option<V>, (K, V)>
+    where
+        K: Drop,
+        V: Drop,
+        ensures answer { IfOk result (λ old. old ≡ lookup (K.eq key) self.old.entries) }
+        ensures entries { self.new.entries ≡ (if is_ok result then plain_put K.eq self.old.capacity key value self.old.entries else self.old.entries) }
+        ensures refused { IfErr result (λ pair. pair ≡ (key, value)) }
+        ensures memory { IsErr result → NeedsPlace K.eq key self.old }
+        ensures places { GrowsOnlyIf (NeedsPlace K.eq key self.old) self.old self.new }
+    {
+        if let Some(at) = find(&self.pairs, &key) {
+            let (stored, old) = self.pairs.remove(at);
+            push_front(&mut self.pairs, (stored, value));
+            return Ok(Some(old));
+        }
+        let capacity = self.capacity.get();
+        let wanted = self.pairs.len() < capacity;
+        let Ok(()) = make_ready_if(wanted, &mut self.pairs, &mut self.places, self.capacity) else {
+            return Err((key, value));
+        };
+        self.pairs.truncate(capacity - 1);
+        push_front(&mut self.pairs, (key, value));
+        Ok(None)
+    }
+
     /// Puts a new entry with the value that `put_op` makes of the key and the data, or has `modify_op` change the value
     /// of a held key. The entry is then the most recently used, and its value is lent.
     ///

@@ -1,0 +1,50 @@
+-- The longest beginning that fits.
+use Rattle.std.proofs.Common.{◌≡◌, ℕ, ◌+◌, ◌-◌, ◌<◌, ◌≤◌, leb, Bool, true, false, cond, List, [], ◌∷◌, ◌++◌, length, refl, sym, ap, ◌∙◌, subst, arith, length-append}
+use Rattle.std.proofs.lemmas.Bool.{leb-true, leb-false}
+use Rattle.clru.specs.Entries.{weight_of, size_of, fit, IsLongestFit}
+use Rattle.clru.proofs.Keeping.{weight_of-cons}
+
+module _ {K V : Type 0} (weight : K → V → ℕ) where
+  size_of-cons : (e : K × V) (es : List (K × V)) → size_of weight (e ∷ es) ≡ 1 + weight e.0 e.1 + size_of weight es
+  size_of-cons e es = omega (arith, weight_of-cons weight e es)
+
+  too_long : (c : ℕ) (e : K × V) (es q back : List (K × V)) → c < 1 + weight e.0 e.1 → e ∷ es ≡ q ++ back → size_of weight q ≤ c → length q ≤ 0
+  too_long c e es [] back h same small = omega arith
+  too_long c e es (d ∷ ds) back h same small =
+      let first : e ≡ d = cc in let w : weight e.0 e.1 ≡ weight d.0 d.1 = ap (λ (x : K × V). weight x.0 x.1) first in
+      absurd (omega (arith, size_of-cons d ds, w))
+
+  longer : (c : ℕ) (e : K × V) (es p q back : List (K × V)) → 1 + weight e.0 e.1 ≤ c → ((q back : List (K × V)) → es ≡ q ++ back → size_of weight q ≤ c - (1 + weight e.0 e.1) → length q ≤ length p)
+      → e ∷ es ≡ q ++ back → size_of weight q ≤ c → length q ≤ length (e ∷ p)
+  longer c e es p [] back h rest same small = omega arith
+  longer c e es p (d ∷ ds) back h rest same small =
+      let first : e ≡ d = cc in let w : weight e.0 e.1 ≡ weight d.0 d.1 = ap (λ (x : K × V). weight x.0 x.1) first in let tail : es ≡ ds ++ back = cc in
+      omega (arith, rest ds back tail (omega (arith, size_of-cons d ds, w)))
+
+  -- `fit` is it
+  pub fit_is_longest : (c : ℕ) (es : List (K × V)) → IsLongestFit weight c es (fit weight c es)
+  unfolding fit
+  fit_is_longest c [] = record { rest = []; begins = refl; fits = omega arith; longest = λ q back same small. omega (arith, ap length same, length-append q back) }
+  fit_is_longest c (e ∷ es) = (elim (leb (1 + weight e.0 e.1) c) as (λ b. leb (1 + weight e.0 e.1) c ≡ b → IsLongestFit weight c (e ∷ es) (cond b (e ∷ fit weight (c - (1 + weight e.0 e.1)) es) [])) [
+    | true ↦ λ t. let h = leb-true (1 + weight e.0 e.1) c t in let f = fit_is_longest (c - (1 + weight e.0 e.1)) es in record {
+      rest = f.rest;
+      begins = ap (λ l. e ∷ l) f.begins;
+      fits = omega (arith, size_of-cons e (fit weight (c - (1 + weight e.0 e.1)) es), f.fits);
+      longest = λ q back same small. longer c e es (fit weight (c - (1 + weight e.0 e.1)) es) q back h f.longest same small;
+    }
+    | false ↦ λ t. record { rest = e ∷ es; begins = refl; fits = omega arith; longest = λ q back same small. too_long c e es q back (leb-false (1 + weight e.0 e.1) c t) same small }
+  ]) refl
+
+-- two beginnings of one list that are as long are the same
+same_beginning : {X : Type 0} (p q back other : List X) → p ++ back ≡ q ++ other → length p ≡ length q → p ≡ q
+same_beginning [] [] back other same len = refl
+same_beginning [] (y ∷ ys) back other same len = absurd (omega arith)
+same_beginning (x ∷ xs) [] back other same len = absurd (omega arith)
+same_beginning (x ∷ xs) (y ∷ ys) back other same len =
+    let head : x ≡ y = cc in let tail : xs ++ back ≡ ys ++ other = cc in let rest : xs ≡ ys = same_beginning xs ys back other tail (omega arith) in cc
+
+-- no other beginning is the longest that fits
+pub longest_is_fit : {K V : Type 0} (weight : K → V → ℕ) (c : ℕ) (es p : List (K × V)) → IsLongestFit weight c es p → p ≡ fit weight c es
+longest_is_fit weight c es p l =
+    let f = fit_is_longest weight c es in
+    same_beginning p (fit weight c es) l.rest f.rest (sym l.begins ∙ f.begins) (omega (arith, l.longest (fit weight c es) f.rest f.begins f.fits, f.longest p l.rest l.begins l.fits))
