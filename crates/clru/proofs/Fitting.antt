@@ -1,8 +1,8 @@
 -- The longest beginning that fits.
-use Rattle.std.proofs.Common.{◌≡◌, ℕ, ◌+◌, ◌-◌, ◌<◌, ◌≤◌, leb, Bool, true, false, cond, List, [], ◌∷◌, ◌++◌, length, refl, sym, ap, ◌∙◌, subst, arith, length-append}
-use Rattle.std.proofs.lemmas.Bool.{leb-true, leb-false}
+use Rattle.std.proofs.Common.{◌≡◌, ℕ, ◌+◌, ◌-◌, ◌<◌, ◌≤◌, leb, Bool, true, false, cond, List, [], ◌∷◌, ◌++◌, length, refl, sym, ap, ◌∙◌, subst, inl, inr, arith, length-append, append-nil, append_assoc}
+use Rattle.std.proofs.lemmas.Bool.{leb-true, leb-false, cases_lt}
 use Rattle.clru.specs.Entries.{weight_of, size_of, fit, IsLongestFit}
-use Rattle.clru.proofs.Keeping.{weight_of-cons}
+use Rattle.clru.proofs.Keeping.{weight_of-cons, weight_of-push}
 
 module _ {K V : Type 0} (weight : K → V → ℕ) where
   size_of-cons : (e : K × V) (es : List (K × V)) → size_of weight (e ∷ es) ≡ 1 + weight e.0 e.1 + size_of weight es
@@ -48,3 +48,36 @@ pub longest_is_fit : {K V : Type 0} (weight : K → V → ℕ) (c : ℕ) (es p :
 longest_is_fit weight c es p l =
     let f = fit_is_longest weight c es in
     same_beginning p (fit weight c es) l.rest f.rest (sym l.begins ∙ f.begins) (omega (arith, l.longest (fit weight c es) f.rest f.begins f.fits, f.longest p l.rest l.begins l.fits))
+
+-- p is a beginning of the list that holds each one that fits
+pub record IsTooLongFit {K V : Type 0} (weight : K → V → ℕ) (c : ℕ) (es p : List (K × V)) : Type 0 where
+  pub rest : List (K × V)
+  pub begins : es ≡ p ++ rest
+  pub longest : (q back : List (K × V)) → es ≡ q ++ back → size_of weight q ≤ c → length q ≤ length p
+
+module _ {K V : Type 0} (weight : K → V → ℕ) (c : ℕ) where
+  pub whole_is_too_long : (es : List (K × V)) → IsTooLongFit weight c es es
+  whole_is_too_long es = record { rest = []; begins = sym (append-nil es); longest = λ q back same small. omega (arith, ap length same, length-append q back) }
+
+  shorter_is_too_long : (es p : List (K × V)) (e : K × V) → IsTooLongFit weight c es (p ++ e ∷ []) → c < size_of weight (p ++ e ∷ []) → IsTooLongFit weight c es p
+  shorter_is_too_long es p e long over = record {
+    rest = e ∷ long.rest;
+    begins = long.begins ∙ append_assoc p (e ∷ []) long.rest;
+    longest = λ q back same small. elim (cases_lt (length p) (length q)) [
+      | inl h ↦ let as_long : length q ≡ length (p ++ e ∷ []) = omega (arith, long.longest q back same small, length-append p (e ∷ [])) in
+          let all : q ≡ p ++ e ∷ [] = same_beginning q (p ++ e ∷ []) back long.rest (sym same ∙ long.begins) as_long in
+          absurd (omega (arith, ap (size_of weight) all))
+      | inr h ↦ h
+    ];
+  }
+
+  -- while it does not fit, its last pair can go, and its weight goes with it
+  pub last_goes : (es p left : List (K × V)) (k : K) (v : V) (kept : ℕ) → p ≡ left ++ (k, v) ∷ [] → kept ≡ weight_of weight p → c < length p + kept → IsTooLongFit weight c es p
+      → (kept - weight k v ≡ weight_of weight left) × (size_of weight left ≤ size_of weight p) × IsTooLongFit weight c es left
+  last_goes es p left k v kept is weighs over long =
+      let sum = weight_of-push weight left (k, v) in let len = length-append left ((k, v) ∷ []) in let all = ap (weight_of weight) is in let longer = ap length is in
+      (omega arith, omega arith, shorter_is_too_long es left (k, v) (subst (IsTooLongFit weight c es) is long) (omega arith))
+
+  -- once it fits it is the longest
+  pub too_long_fits : (es p : List (K × V)) → IsTooLongFit weight c es p → size_of weight p ≤ c → p ≡ fit weight c es
+  too_long_fits es p long fits = longest_is_fit weight c es p (record { rest = long.rest; begins = long.begins; fits = fits; longest = long.longest })

@@ -1,12 +1,12 @@
 -- Which changes of the entries keep what a cache's fields keep.
-use Rattle.std.proofs.Common.{◌≡◌, ℕ, ◌+◌, ◌-◌, ◌<◌, ◌≤◌, Bool, true, false, List, [], ◌∷◌, length, None, get_or, refl, sym, ◌∙◌, subst, arith}
+use Rattle.std.proofs.Common.{◌≡◌, ℕ, ◌+◌, ◌-◌, ◌<◌, ◌≤◌, Bool, true, false, List, [], ◌∷◌, ◌++◌, length, None, get_or, refl, sym, ◌∙◌, subst, arith}
 use Rattle.std.specs.Cmp.{IsEquivalence}
 use Rattle.std.specs.List.{AllByRecursion, IsDistinct, remove}
 use Rattle.std.specs.Map.{keys_of, lookup, remove_entry}
 use Rattle.std.proofs.lemmas.Map.{NonePasses, none_passes_from_lookup, lookup-remove_entry}
 use Rattle.std.proofs.lemmas.Map.Keys.{IsDistinct-cons}
 use Rattle.std.proofs.lemmas.List.Edits.{length-remove}
-use Rattle.std.proofs.lemmas.List.Sums.{sum_by-cons, sum_by-remove}
+use Rattle.std.proofs.lemmas.List.Sums.{sum_by-cons, sum_by-append, sum_by-remove}
 use Rattle.clru.specs.Entries.{weight_of, size_of}
 use Rattle.clru.specs.Fields.{IsCache}
 use Rattle.clru.proofs.Finding.{IsFound}
@@ -14,6 +14,10 @@ use Rattle.clru.proofs.Sublists.{IsSublist, sublist_remove, sublist_keys, length
 
 pub weight_of-cons : {K V : Type 0} (weight : K → V → ℕ) (e : K × V) (es : List (K × V)) → weight_of weight (e ∷ es) ≡ weight e.0 e.1 + weight_of weight es
 weight_of-cons {K} {V} weight e es = sum_by-cons (λ (e : K × V). weight e.0 e.1) e es
+
+pub weight_of-push : {K V : Type 0} (weight : K → V → ℕ) (es : List (K × V)) (e : K × V) → weight_of weight (es ++ e ∷ []) ≡ weight_of weight es + weight e.0 e.1
+weight_of-push {K} {V} weight es e =
+    let both : weight_of weight (es ++ e ∷ []) ≡ weight_of weight es + weight_of weight (e ∷ []) = sum_by-append (λ (d : K × V). weight d.0 d.1) es (e ∷ []) in omega (arith, both, weight_of-cons weight e [])
 
 module _ {K V : Type 0} (eq : K → K → Bool) where
   keys_apart : (x : K) (es : List (K × V)) → NonePasses (eq x) es → (q : K) → ((y : K) → eq x y ≡ eq q y) → AllByRecursion (λ y. eq q y ≡ false) (keys_of es)

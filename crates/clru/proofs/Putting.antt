@@ -69,17 +69,25 @@ weight_of-zero {K} {V} (e ∷ es) = let cons : weight_of (λ (k : K) (v : V). 0)
 pub lookup-sublist : {K V : Type 0} (test : K → Bool) {es fs : List (K × V)} → IsSublist es fs → lookup test es ≡ None → lookup test fs ≡ None
 lookup-sublist test {es} {fs} s absent = lookup-none test fs (All-sublist (λ e. test e.0 ≡ false) s (none_passes_from_lookup test es absent))
 
--- a new entry, put before what is left of the others, can be written to in front
-pub set-new : {K V : Type 0} {x : K} {v : V} {es fs items : List (K × V)} (n c : ℕ) → items ≡ (x, v) ∷ take n fs → fs ≡ es → n ≡ c - 1 → (e : K × V) → e ≡ get_or items 0 e → (w : V) → set items 0 (e.0, w) ≡ (x, w) ∷ take (c - 1) es
-set-new {x = x} {v} {es} {fs} {items} n c pushed same is e first w =
-    let whole : items ≡ (x, v) ∷ take (c - 1) es = pushed ∙ ap (λ l. (x, v) ∷ take n l) same ∙ ap (λ k. (x, v) ∷ take k es) is in
+-- a found entry that was taken out and comes first with another value
+pub put-front : {K V : Type 0} (test : K → Bool) {es rest items : List (K × V)} {i : ℕ} (f : IsFound test es i) (e : K × V) (v : V) → e ≡ get_or es i e → rest ≡ remove es i → items ≡ (e.0, v) ∷ rest → items ≡ (f.entry.0, v) ∷ remove es i
+put-front test {rest = rest} f e v taken left put = let same : e ≡ f.entry = taken ∙ f.at e in put ∙ ap (λ d. (d.0, v) ∷ rest) same ∙ ap (λ l. (f.entry.0, v) ∷ l) left
+
+-- a new entry that was put before what is left of the others
+pub new-front : {X : Type 0} {es fs rest items : List X} {x : X} (n c : ℕ) → n ≡ c → fs ≡ es → rest ≡ take (n - 1) fs → items ≡ x ∷ rest → items ≡ x ∷ take (c - 1) es
+new-front {es = es} {x = x} n c is same left put = put ∙ ap (λ l. x ∷ l) (left ∙ ap (λ l. take (n - 1) l) same ∙ ap (λ k. take (k - 1) es) is)
+
+-- it can be written to in front
+pub set-new : {K V : Type 0} {x : K} {v : V} {rest items : List (K × V)} → items ≡ (x, v) ∷ rest → (e : K × V) → e ≡ get_or items 0 e → (w : V) → set items 0 (e.0, w) ≡ (x, w) ∷ rest
+set-new {x = x} {rest = rest} whole e first w =
     let key : e.0 ≡ x = ap (λ d. d.0) (first ∙ ap (λ l. get_or l 0 e) whole) in
-    ap (λ l. set l 0 (e.0, w)) whole ∙ ap (λ k. (k, w) ∷ take (c - 1) es) key
+    ap (λ l. set l 0 (e.0, w)) whole ∙ ap (λ k. (k, w) ∷ rest) key
 
 -- a place is there for each entry after a put
 pub covers_put : (len c p : ℕ) → (len < c → len < p) → len ≤ p → min (1 + len) c ≤ p
 covers_put len c p free held = elim (cases_lt len c) [ inl h ↦ omega (arith, free h) | inr h ↦ omega arith ]
 
+-- no longer than the places
 pub length-new : {X : Type 0} (c p : ℕ) (x : X) (xs : List X) → 0 < c → min (1 + length xs) c ≤ p → length (x ∷ take (c - 1) xs) ≤ p
 length-new c p x xs some covers = omega (arith, length-take (c - 1) xs)
 

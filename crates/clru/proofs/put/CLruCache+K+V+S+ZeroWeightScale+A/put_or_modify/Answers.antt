@@ -1,11 +1,11 @@
-use Rattle.std.proofs.Common.{refl, sym, ap, ◌∙◌, arith, length, ltb, IsTrue, ◌<◌, ◌-◌, ◌∷◌, ◌≡◌, get_or}
+use Rattle.std.proofs.Common.{refl, sym, ap, ◌∙◌, arith, length, ltb, IsTrue, ◌<◌, ◌≡◌, get_or}
 use Rattle.std.proofs.lemmas.List.Edits.{length-remove}
 use Rattle.std.specs.Map.{lookup_entry}
 use Rattle.std.specs.NonZero.{non_zero_usize_get}
 use Rattle.std.proofs.lemmas.Bool.{ltb-true, lt-ltb}
 use Rattle.clru.proofs.Finding.{found, missed, plain_put-missed}
 use Rattle.clru.proofs.Keeping.{IsCache-front}
-use Rattle.clru.proofs.Putting.{grows_not, grows_if_needed, held_needs_none, front_is_found, set-front, plain_put-front, set-new, covers_put, length-new, IsCache-new}
+use Rattle.clru.proofs.Putting.{grows_not, grows_if_needed, held_needs_none, front_is_found, set-front, plain_put-front, new-front, set-new, covers_put, length-new, IsCache-new}
 use Rattle.clru.proofs.put.CLruCache+K+V+S+ZeroWeightScale+A.put_or_modify.Goals as goal
 
 pub modify_op-requires : goal.modify_op-requires
@@ -52,17 +52,17 @@ pub invariant_of-self-lent-2 : goal.invariant_of-self-lent-2
 invariant_of-self-lent-2 g c =
     λ w. let key = c.args.key in let m = missed (g.K.PartialEq.eq key) (sym c.in_default.ensures) in let e = c.in-Ok.ensures in let held = c.self.invariant.held in
     let len = c.self.inside.pairs.ok.0 in let capacity = c.get-capacity.ensures in let same = ap length e.items in
-    let pushed = c.push_front.ensures.items ∙ ap (λ l. (key, c.put_op-value.result) ∷ l) c.truncate.ensures.items in
-    rw (set-new _ _ pushed e.items (ap (λ k. k - 1) capacity.value) c.index_mut.result.now c.index_mut.ensures.value w)
+    let pushed = new-front _ _ capacity.value e.items c.truncate.ensures.items c.push_front.ensures.items in
+    rw (set-new pushed c.index_mut.result.now c.index_mut.ensures.value w)
     (IsCache-new _ _ key w g.met.K.Eq.laws c.self.invariant m.value (omega arith) (covers_put _ _ _ (λ h. omega (arith, e.ready (lt-ltb _ _ (omega arith)))) (omega (arith, e.grows.never_falls))) (omega (arith, e.reserved, c.truncate.ensures.capacity, c.push_front.ensures.room)))
 
 pub returns : goal.returns
 returns g c =
     let key = c.args.key in let m = missed (g.K.PartialEq.eq key) (sym c.in_default.ensures) in let e = c.in-Ok.ensures in let held = c.self.invariant.held in
     let len = c.self.inside.pairs.ok.0 in let capacity = c.get-capacity.ensures in let entry = c.index_mut.result.now in let same = ap length e.items in
-    let pushed = c.push_front.ensures.items ∙ ap (λ l. (key, c.put_op-value.result) ∷ l) c.truncate.ensures.items in
+    let pushed = new-front _ _ capacity.value e.items c.truncate.ensures.items c.push_front.ensures.items in
     let value : entry.1 ≡ c.put_op-value.result = ap (λ d. d.1) (c.index_mut.ensures.value ∙ ap (λ l. get_or l 0 entry) pushed) in
-    let written = set-new _ _ pushed e.items (ap (λ k. k - 1) capacity.value) entry c.index_mut.ensures.value in
+    let written = set-new pushed entry c.index_mut.ensures.value in
     let says : IsTrue (ltb c.len.result c.get-capacity.result) → length c.self.inside.pairs.items < non_zero_usize_get c.self.inside.capacity = λ h. omega (arith, ltb-true _ _ h) in
     let covers = covers_put (length c.self.inside.pairs.items) (non_zero_usize_get c.self.inside.capacity) c.make_ready_if.new.places (λ h. omega (arith, e.ready (lt-ltb _ _ (omega arith)))) (omega (arith, e.grows.never_falls)) in
     rw (← c.self.view_is) (
