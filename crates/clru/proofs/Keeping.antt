@@ -19,6 +19,11 @@ pub weight_of-push : {K V : Type 0} (weight : K → V → ℕ) (es : List (K × 
 weight_of-push {K} {V} weight es e =
     let both : weight_of weight (es ++ e ∷ []) ≡ weight_of weight es + weight_of weight (e ∷ []) = sum_by-append (λ (d : K × V). weight d.0 d.1) es (e ∷ []) in omega (arith, both, weight_of-cons weight e [])
 
+-- what stands at a place takes its weight with it
+pub weight_of-remove : {K V : Type 0} (weight : K → V → ℕ) (es : List (K × V)) (i : ℕ) (e : K × V) → i < length es → get_or es i e ≡ e → weight_of weight (remove es i) + weight e.0 e.1 ≡ weight_of weight es
+weight_of-remove {K} {V} weight es i e within at =
+    subst (λ d. weight_of weight (remove es i) + weight d.0 d.1 ≡ weight_of weight es) at (sum_by-remove (λ (d : K × V). weight d.0 d.1) es i e within)
+
 module _ {K V : Type 0} (eq : K → K → Bool) where
   keys_apart : (x : K) (es : List (K × V)) → NonePasses (eq x) es → (q : K) → ((y : K) → eq x y ≡ eq q y) → AllByRecursion (λ y. eq q y ≡ false) (keys_of es)
   keys_apart x [] none q same = tt
@@ -43,7 +48,7 @@ module _ {K V : Type 0} {eq : K → K → Bool} (weight : K → V → ℕ) where
   -- when the entry at a place goes
   pub IsCache-remove : {es : List (K × V)} {kept p r c : ℕ} (r' i : ℕ) (e : K × V) → IsCache eq weight es kept p r c → i < length es → e ≡ get_or es i e → r ≤ r' → IsCache eq weight (remove es i) (kept - weight e.0 e.1) p r' c
   IsCache-remove {es} {kept} {p} {r} {c} r' i e old within at room =
-      let sum : weight_of weight (remove es i) + weight e.0 e.1 ≡ weight_of weight es = subst (λ d. weight_of weight (remove es i) + weight d.0 d.1 ≡ weight_of weight es) (sym at) (sum_by-remove (λ (e : K × V). weight e.0 e.1) es i e within) in
+      let sum = weight_of-remove weight es i e within (sym at) in
       IsCache-sublist (kept - weight e.0 e.1) p r' old (sublist_remove es i) (omega (arith, sum, old.weighs)) (omega arith) (omega (arith, old.reserved, room))
 
   -- when some entries go, none of x stays, and a pair of x comes first
@@ -66,7 +71,7 @@ module _ {K V : Type 0} {eq : K → K → Bool} (weight : K → V → ℕ) where
   pub IsCache-front : {es : List (K × V)} {kept p r c i : ℕ} (r' : ℕ) (x : K) (v : V) → IsEquivalence eq → IsCache eq weight es kept p r c → (f : IsFound (eq x) es i) → weight f.entry.0 v ≡ weight f.entry.0 f.entry.1 → r ≤ r'
       → IsCache eq weight ((f.entry.0, v) ∷ remove es i) kept p r' c
   IsCache-front {es} {kept} {p} {r} {c} {i} r' x v laws old f alike room =
-      let sum : weight_of weight (remove es i) + weight f.entry.0 f.entry.1 ≡ weight_of weight es = subst (λ d. weight_of weight (remove es i) + weight d.0 d.1 ≡ weight_of weight es) (f.at f.entry) (sum_by-remove (λ (e : K × V). weight e.0 e.1) es i f.entry f.within) in
+      let sum = weight_of-remove weight es i f.entry f.within (f.at f.entry) in
       let rest = remove es i in
       let cons : weight_of weight ((f.entry.0, v) ∷ rest) ≡ weight f.entry.0 v + weight_of weight rest = weight_of-cons weight (f.entry.0, v) rest in
       let shorter : 1 + length rest ≡ length es = omega (arith, length-remove es i f.within) in

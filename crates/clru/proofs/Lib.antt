@@ -11,3 +11,4 @@ pub mod Putting
 pub mod Rows
 pub mod SchedulesByPlace
 pub mod Sublists
+pub mod Weighing

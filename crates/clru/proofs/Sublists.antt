@@ -1,5 +1,5 @@
 -- Lists that are left when some elements go and the others keep their order.
-use Rattle.std.proofs.Common.{◌≡◌, ℕ, zero, suc, ◌+◌, ◌≤◌, Bool, true, false, cond, List, [], ◌∷◌, length, take, refl, arith}
+use Rattle.std.proofs.Common.{◌≡◌, ℕ, zero, suc, ◌+◌, ◌≤◌, Bool, true, false, cond, List, [], ◌∷◌, ◌++◌, length, take, refl, arith}
 use Rattle.std.specs.List.{AllByRecursion, IsDistinct, sum_by, remove}
 use Rattle.std.specs.Map.{keys_of, remove_entry}
 use Rattle.std.proofs.lemmas.List.Sums.{sum_by-cons}
@@ -30,6 +30,10 @@ module _ {X : Type 0} where
   sublist_remove [] (suc i) = nothing
   sublist_remove (x ∷ xs) zero = goes (sublist_itself xs)
   sublist_remove (x ∷ xs) (suc i) = stays (sublist_remove xs i)
+
+  pub sublist_front : (xs ys : List X) → IsSublist (xs ++ ys) xs
+  sublist_front [] ys = sublist_none ys
+  sublist_front (x ∷ xs) ys = stays (sublist_front xs ys)
 
   pub sublist_trans : {xs ys zs : List X} → IsSublist xs ys → IsSublist ys zs → IsSublist xs zs
   sublist_trans nothing t = t

@@ -12,7 +12,7 @@ ghost use Rattle.clru.specs.contracts.weight.ZeroWeightScale.{the_row as zero_sc
 use crate::cache::CLruCache;
 use crate::error::PutError;
 use crate::pairs::{find, make_ready_if, move_to_front, push_front};
-use crate::shrink::shrink_to;
+use crate::shrink::push_front_of_fit;
 use crate::weight::{WeightScale, ZeroWeightScale};
 use std::alloc::Allocator;
 use std::hash::{BuildHasher, Hash};
@@ -47,18 +47,28 @@ impl<K: Eq + Hash, V, S: BuildHasher, W: WeightScale<K, V>, A: Allocator + Copy>
         if let Some(at) = find(&self.pairs, &key) {
             let (old_key, old_value) = self.pairs.remove(at);
             self.kept -= self.scale.weight(&old_key, &old_value);
-            shrink_to(&mut self.pairs, &mut self.kept, &self.scale, room);
-            push_front(&mut self.pairs, (key, value));
-            self.kept += weight;
+            push_front_of_fit(
+                &mut self.pairs,
+                &mut self.kept,
+                &self.scale,
+                room,
+                (key, value),
+                weight,
+            );
             return Ok(Some(old_value));
         }
         let wanted = self.pairs.len() + self.kept <= room;
         let Ok(()) = make_ready_if(wanted, &mut self.pairs, &mut self.places, self.capacity) else {
             return Err(PutError::NoMemory(key, value));
         };
-        shrink_to(&mut self.pairs, &mut self.kept, &self.scale, room);
-        push_front(&mut self.pairs, (key, value));
-        self.kept += weight;
+        push_front_of_fit(
+            &mut self.pairs,
+            &mut self.kept,
+            &self.scale,
+            room,
+            (key, value),
+            weight,
+        );
         Ok(None)
     }
 }

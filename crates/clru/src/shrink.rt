@@ -1,12 +1,36 @@
 //! Dropping the pairs that don't fit.
-ghost use Rattle.std.specs.Prelude.{◌≡◌, ◌≤◌, ◌<◌, ◌^◌, vec_capacity};
+ghost use Rattle.std.specs.Prelude.{◌≡◌, ◌≤◌, ◌<◌, ◌^◌, ◌+◌, ◌∷◌, length, vec_capacity};
 ghost use Rattle.clru.specs.Entries.{fit, weight_of, size_of};
 
+use crate::pairs::push_front;
 use crate::weight::WeightScale;
 use std::alloc::Allocator;
 
+/// Puts a pair of the given weight to the front, and drops from the back what passes `room` beside it.
+pub(crate) fn push_front_of_fit<K: Drop, V: Drop, W: WeightScale<K, V>, A: Allocator>(
+    pairs: &mut Vec<(K, V), A>,
+    kept: &mut usize,
+    scale: &W,
+    room: usize,
+    pair: (K, V),
+    weight: usize,
+)
+    requires weighs { kept.old ≡ weight_of (W.weight scale.now) pairs.old.items }
+    requires small { size_of (W.weight scale.now) pairs.old.items < 2 ^ 64 }
+    requires weight { weight ≡ W.weight scale.now pair.0 pair.1 }
+    requires sum { room + weight < 2 ^ 64 }
+    requires reserved { length (fit (W.weight scale.now) room pairs.old.items) < vec_capacity pairs.old }
+    ensures pairs { pairs.new.items ≡ pair ∷ fit (W.weight scale.now) room pairs.old.items }
+    ensures weighs { kept.new ≡ weight_of (W.weight scale.now) pairs.new.items }
+    ensures capacity { vec_capacity pairs.old ≤ vec_capacity pairs.new }
+{
+    shrink_to(pairs, kept, scale, room);
+    push_front(pairs, pair);
+    *kept += weight;
+}
+
 /// Drops pairs from the back until the number of pairs and their weight are at most `room`.
-pub(crate) fn shrink_to<K: Drop, V: Drop, W: WeightScale<K, V>, A: Allocator>(
+fn shrink_to<K: Drop, V: Drop, W: WeightScale<K, V>, A: Allocator>(
     pairs: &mut Vec<(K, V), A>,
     kept: &mut usize,
     scale: &W,
