@@ -8,6 +8,7 @@ pub mod Keeping
 pub mod Marks
 pub mod Places
 pub mod Putting
+pub mod Replaying
 pub mod Rows
 pub mod SchedulesByPlace
 pub mod Sublists

@@ -2,6 +2,7 @@ pub mod ByPlace
 pub mod Cache
 pub mod CacheLends
 pub mod Closures
+pub mod Competes
 pub mod Entries
 pub mod Fields
 pub mod Growth
