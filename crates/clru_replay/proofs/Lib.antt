@@ -1,0 +1,5 @@
+mod KnownLemmas
+mod LineLemmas
+mod MarksLemmas
+mod ReportLemmas
+mod Rows

@@ -1,0 +1,29 @@
+ghost use Rattle.std.specs.Prelude.{◌≡◌};
+
+/// Why a run ends without its whole report.
+#[derive(Clone, Copy, Debug, PartialEq, Eq)]
+pub enum Fault {
+    /// The first line is no capacity, or there is none.
+    BadCapacity,
+    /// A request for memory was refused.
+    Memory,
+    /// A read answered an error.
+    Reading,
+    /// A write answered an error or took nothing, or the flush failed.
+    Writing,
+}
+
+/// The exit status of a fault.
+pub fn status(fault: &Fault) -> u8
+    ensures bad_capacity { fault.now ≡ Fault.BadCapacity → result ≡ 2 }
+    ensures memory { fault.now ≡ Fault.Memory → result ≡ 3 }
+    ensures reading { fault.now ≡ Fault.Reading → result ≡ 4 }
+    ensures writing { fault.now ≡ Fault.Writing → result ≡ 5 }
+{
+    match *fault {
+        Fault::BadCapacity => 2,
+        Fault::Memory => 3,
+        Fault::Reading => 4,
+        Fault::Writing => 5,
+    }
+}

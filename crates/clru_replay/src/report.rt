@@ -1,0 +1,57 @@
+ghost use Rattle.std.specs.Prelude.{◌≡◌, ◌⊎◌, Err, Some, None, IfOk, IfErr, IsSome, string_bytes};
+ghost use Rattle.clru_replay.specs.Report.{misses_line, report, text_of};
+
+use crate::capacity::capacity_of;
+use crate::fault::Fault;
+use crate::lines::{keys_of, next_line};
+use clru::{DefaultState, replay};
+use std::alloc::{AllocError, Allocator};
+
+/// The report of an input. The first line is tested before any memory is asked for.
+pub fn report_on<A: Allocator + Copy>(alloc: A, input: &[u8]) -> Result<Vec<u8, A>, Fault>
+    ensures report { IfOk result (λ text. report input.now ≡ Some text.items) }
+    ensures bad_capacity { result ≡ Err Fault.BadCapacity → report input.now ≡ None }
+    ensures memory { result ≡ Err Fault.Memory → IsSome (report input.now) }
+    ensures fault { IfErr result (λ fault. (fault ≡ Fault.BadCapacity) ⊎ (fault ≡ Fault.Memory)) }
+{
+    let Some((first, requests)) = next_line(input) else {
+        return Err(Fault::BadCapacity);
+    };
+    let Some(capacity) = capacity_of(first) else {
+        return Err(Fault::BadCapacity);
+    };
+    let Ok(keys) = keys_of(alloc, requests) else {
+        return Err(Fault::Memory);
+    };
+    let Ok(replayed) = replay(alloc, capacity, keys, DefaultState) else {
+        return Err(Fault::Memory);
+    };
+    match report_text(alloc, &replayed.marks, replayed.misses) {
+        Ok(text) => Ok(text),
+        Err(_) => Err(Fault::Memory),
+    }
+}
+
+// A line for each request, and the line of the misses.
+fn report_text<A: Allocator + Copy>(
+    alloc: A,
+    marks: &[bool],
+    misses: usize,
+) -> Result<Vec<u8, A>, AllocError>
+    ensures { IfOk result (λ text. text.items ≡ text_of marks.now misses) }
+{
+    let mut text = Vec::new(alloc);
+    for hit in marks {
+        text.push(if *hit { b'H' } else { b'M' })?;
+        text.push(b'\n')?;
+    }
+    let last = last_line(alloc, misses)?;
+    text.extend_from_slice(last.as_bytes())?;
+    Ok(text)
+}
+
+fn last_line<A: Allocator + Copy>(alloc: A, misses: usize) -> Result<String<A>, AllocError>
+    ensures { IfOk result (λ line. string_bytes line ≡ misses_line misses) }
+{
+    format!(in alloc; "misses {misses}\n")
+}
