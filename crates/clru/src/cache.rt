@@ -1,6 +1,6 @@
 //! `CLruCache`: its makers, and the calls that read it. A clause sees a cache as its `entries`, the most recently used
 //! first, its `capacity`, its `scale` and its `places`, the number of entries for which memory was found.
-ghost use Rattle.std.specs.Prelude.{◌≡◌, ◌+◌, ◌<◌, ◌≤◌, ◌==◌, ◌↔◌, [], length, drop, min, is_some, option_copied, slice_get, IfOk, IsTrue, vec_capacity};
+ghost use Rattle.std.specs.Prelude.{◌≡◌, ◌+◌, ◌<◌, ◌≤◌, ◌==◌, ◌↔◌, [], length, drop, min, is_some, option_copied, slice_get, IfOk, IsOk, IsTrue, vec_capacity};
 ghost use Rattle.std.specs.Int.NonZero.{non_zero_usize_get};
 ghost use Rattle.std.specs.Map.{lookup};
 ghost use Rattle.clru.specs.Cache.{cache, with_entries, IsValid};
@@ -28,7 +28,7 @@ pub struct CLruCache<
     pub(crate) capacity: NonZeroUsize,
     pub(crate) hash_builder: S,
     pub(crate) scale: W,
-    pub(crate) kept: usize,
+    pub(crate) total_weight: usize,
     // No more than the vector's capacity, and not that number itself: a growth that was refused changes nothing.
     pub(crate) places: usize,
 }
@@ -46,7 +46,7 @@ impl<K: Eq + Hash, V, S: BuildHasher, W: WeightScale<K, V>, A: Allocator + Copy>
 
     ghost view = { λ c. cache c.pairs.items (non_zero_usize_get c.capacity) c.scale c.places };
 
-    ghost invariant = { λ c. IsCache K.eq (W.weight c.scale) c.pairs.items c.kept c.places (vec_capacity c.pairs) (non_zero_usize_get c.capacity) };
+    ghost invariant = { λ c. IsCache K.eq (W.weight c.scale) c.pairs.items c.total_weight c.places (vec_capacity c.pairs) (non_zero_usize_get c.capacity) };
 }
 
 impl<K: Eq + Hash, V, A: Allocator + Copy> CLruCache<K, V, DefaultState, ZeroWeightScale, A> {
@@ -75,7 +75,8 @@ impl<K: Eq + Hash, V, S: BuildHasher, A: Allocator + Copy> CLruCache<K, V, S, Ze
     ) -> Result<Self, NoMemory>
     where
         S: Drop,
-        ensures { IfOk result (λ c. c ≡ cache [] (non_zero_usize_get capacity) (record {}) (min reserve (non_zero_usize_get capacity))) }
+        ensures empty { IfOk result (λ c. c ≡ cache [] (non_zero_usize_get capacity) (record {}) (min reserve (non_zero_usize_get capacity))) }
+        ensures nothing_asked { reserve ≡ 0 → IsOk result }
     {
         let places = reserve.min(capacity.get());
         match Vec::with_capacity(alloc, places) {
@@ -129,7 +130,7 @@ impl<K: Eq + Hash, V, S: BuildHasher, W: WeightScale<K, V>, A: Allocator + Copy>
             capacity,
             hash_builder,
             scale,
-            kept: 0,
+            total_weight: 0,
             places,
         }
     }
@@ -154,7 +155,7 @@ impl<K: Eq + Hash, V, S: BuildHasher, W: WeightScale<K, V>, A: Allocator + Copy>
     pub fn weight(&self) -> usize
         ensures { result ≡ weight_of (W.weight self.now.scale) self.now.entries }
     {
-        self.kept
+        self.total_weight
     }
 
     /// Returns whether there is no entry.
@@ -169,7 +170,7 @@ impl<K: Eq + Hash, V, S: BuildHasher, W: WeightScale<K, V>, A: Allocator + Copy>
         ensures { IsTrue result ↔ (size_of (W.weight self.now.scale) self.now.entries ≡ self.now.capacity) }
     {
         let capacity = self.capacity.get();
-        self.pairs.len() + self.kept == capacity
+        self.pairs.len() + self.total_weight == capacity
     }
 
     /// Returns the value of the key, and leaves the order as it is.
@@ -196,7 +197,7 @@ impl<K: Eq + Hash, V, S: BuildHasher, W: WeightScale<K, V>, A: Allocator + Copy>
             return None;
         }
         let (key, value) = self.pairs.remove(0);
-        self.kept -= self.scale.weight(&key, &value);
+        self.total_weight -= self.scale.weight(&key, &value);
         Some((key, value))
     }
 }

@@ -46,10 +46,10 @@ impl<K: Eq + Hash, V, S: BuildHasher, W: WeightScale<K, V>, A: Allocator + Copy>
         let room = capacity - 1 - weight;
         if let Some(at) = find(&self.pairs, &key) {
             let (old_key, old_value) = self.pairs.remove(at);
-            self.kept -= self.scale.weight(&old_key, &old_value);
+            self.total_weight -= self.scale.weight(&old_key, &old_value);
             push_front_of_fit(
                 &mut self.pairs,
-                &mut self.kept,
+                &mut self.total_weight,
                 &self.scale,
                 room,
                 (key, value),
@@ -57,13 +57,13 @@ impl<K: Eq + Hash, V, S: BuildHasher, W: WeightScale<K, V>, A: Allocator + Copy>
             );
             return Ok(Some(old_value));
         }
-        let wanted = self.pairs.len() + self.kept <= room;
+        let wanted = self.pairs.len() + self.total_weight <= room;
         let Ok(()) = make_ready_if(wanted, &mut self.pairs, &mut self.places, self.capacity) else {
             return Err(PutError::NoMemory(key, value));
         };
         push_front_of_fit(
             &mut self.pairs,
-            &mut self.kept,
+            &mut self.total_weight,
             &self.scale,
             room,
             (key, value),

@@ -1,5 +1,5 @@
 //! Whole lists of requests, sent through a cache.
-ghost use Rattle.std.specs.Prelude.{◌≡◌, ◌≤◌, length, is_some, IfOk, IfErr};
+ghost use Rattle.std.specs.Prelude.{◌≡◌, ◌≤◌, [], length, is_some, IfOk, IfErr, IsOk};
 ghost use Rattle.std.specs.Int.NonZero.{non_zero_usize_get};
 ghost use Rattle.std.specs.Map.{lookup};
 ghost use Rattle.clru.specs.Cache.{with_entries, NeedsPlace};
@@ -21,8 +21,8 @@ use std::num::NonZeroUsize;
 /// empty and holds `h` keys, `capacity` or fewer, also of one that knows all the requests beforehand.
 ///
 /// Memory is taken before the first request: places for as many entries as there are keys, `capacity` at most, and the
-/// marks. Where either is refused, the keys come back as they were, and nothing else can be refused. Each request costs a
-/// search of the entries held. The cache hashes keys with `hash_builder`.
+/// marks. Where either is refused, the keys come back as they were, and nothing else can be refused. Without keys no memory
+/// is asked for. Each request costs a search of the entries held. The cache hashes keys with `hash_builder`.
 pub fn replay<K: Eq + Hash + Drop, S: BuildHasher + Drop, A: Allocator + Copy>(
     alloc: A,
     capacity: NonZeroUsize,
@@ -33,6 +33,7 @@ pub fn replay<K: Eq + Hash + Drop, S: BuildHasher + Drop, A: Allocator + Copy>(
     ensures misses { IfOk result (λ r. r.misses ≡ misses K.eq (non_zero_usize_get capacity) keys.items) }
     ensures bound { IfOk result (λ r. IsCompetitive K.eq (non_zero_usize_get capacity) keys.items r.misses) }
     ensures given_back { IfErr result (λ left. left.items ≡ keys.items) }
+    ensures nothing_asked { keys.items ≡ [] → IsOk result }
 {
     let Ok(mut cache) = CLruCache::with_places(alloc, capacity, hash_builder, keys.len()) else {
         return Err(keys);
