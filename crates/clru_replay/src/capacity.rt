@@ -9,7 +9,7 @@ use clru::NonZeroUsize;
 const MOST_DIGITS: usize = 20;
 
 /// The capacity that a line names: 1 to 20 digits and nothing else, and a value that is not 0 and fits a `usize`.
-pub fn capacity_of(line: &[u8]) -> Option<NonZeroUsize>
+pub(crate) fn capacity_of(line: &[u8]) -> Option<NonZeroUsize>
     ensures is_one { IfSome result (λ _. is_capacity line.now ≡ true) }
     ensures value { IfSome result (λ capacity. non_zero_usize_get capacity ≡ digits_value 10 line.now) }
     ensures none { IfNone result (is_capacity line.now ≡ false) }

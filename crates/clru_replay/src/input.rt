@@ -8,7 +8,10 @@ use std::io::{self, Read};
 const FIRST_ROOM: usize = 64 * 1024;
 
 /// All bytes of the reader, up to a read that answers none.
-pub fn read_input<R: Read, A: Allocator>(alloc: A, reader: &mut R) -> Result<Vec<u8, A>, Fault>
+pub(crate) fn read_input<R: Read, A: Allocator>(
+    alloc: A,
+    reader: &mut R,
+) -> Result<Vec<u8, A>, Fault>
     ensures bytes { IfOk result (λ input. Consumes (R.remaining reader.old) (R.remaining reader.new) input.items) }
     ensures end { OnOk result (IsAtEnd (R.remaining reader.new)) }
     ensures fault { IfErr result (λ fault. (fault ≡ Fault.Memory) ⊎ (fault ≡ Fault.Reading)) }

@@ -8,7 +8,7 @@ use std::hash::{Hash, Hasher};
 
 /// The key of a request: the bytes of its line.
 #[derive(Clone, Copy, PartialEq, Eq)]
-pub struct Key<'a>(pub &'a [u8]);
+pub(crate) struct Key<'a>(pub &'a [u8]);
 
 // The bytes go to the hasher in one call. A slice's own `Hash` gives it one byte a call.
 impl<'a> Hash for Key<'a> {
@@ -29,7 +29,7 @@ fn newline_at(bytes: &[u8]) -> Option<usize>
 }
 
 /// The first line of the bytes and what follows its newline, or `None` where there is no line.
-pub fn next_line(bytes: &[u8]) -> Option<(&[u8], &[u8])>
+pub(crate) fn next_line(bytes: &[u8]) -> Option<(&[u8], &[u8])>
     ensures line { IfSome result (λ found. lines_of bytes.now ≡ found.0.now ∷ lines_of found.1.now) }
     ensures shorter { IfSome result (λ found. length found.1.now < length bytes.now) }
     ensures none { IfNone result (lines_of bytes.now ≡ []) }
@@ -42,7 +42,10 @@ pub fn next_line(bytes: &[u8]) -> Option<(&[u8], &[u8])>
 }
 
 /// The lines of the bytes, as keys.
-pub fn keys_of<'a, A: Allocator>(alloc: A, bytes: &'a [u8]) -> Result<Vec<Key<'a>, A>, AllocError>
+pub(crate) fn keys_of<'a, A: Allocator>(
+    alloc: A,
+    bytes: &'a [u8],
+) -> Result<Vec<Key<'a>, A>, AllocError>
     ensures { IfOk result (λ keys. map (λ key. key.0.now) keys.items ≡ lines_of bytes.now) }
 {
     let mut keys = Vec::new(alloc);

@@ -5,7 +5,7 @@ use crate::fault::Fault;
 use std::io::Write;
 
 /// Writes the text, each call being offered all that is left of it, and then flushes.
-pub fn write_text<W: Write>(writer: &mut W, text: &[u8]) -> Result<(), Fault>
+pub(crate) fn write_text<W: Write>(writer: &mut W, text: &[u8]) -> Result<(), Fault>
     ensures written { OnOk result (Appends (W.contents writer.old) (W.contents writer.new) text.now) }
     ensures cut_short { IfErr result (λ _. (n : ℕ) × Appends (W.contents writer.old) (W.contents writer.new) (take n text.now)) }
     ensures fault { IfErr result (λ fault. fault ≡ Fault.Writing) }
