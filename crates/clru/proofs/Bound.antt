@@ -24,7 +24,8 @@ paid_new : (n g m d s u e b c : ℕ) → b ≤ 1 → Paid n g m (suc d) s (c + u
 paid_new n g m d s u e b c once ih = let p = mul-le-mul_left n once in omega (arith, p)
 
 -- a request that is new to a phase of k distinct keys: it begins a new one
-paid_full : (n g m d s u e b c : ℕ) → b ≤ 1 → Paid n g m 1 s (g + 1) 0 → d ≡ n + g → u ≤ g + 1 + e → n + g + 1 ≤ c + u → Paid n g (b + m) d (c + s) u e
+paid_full : (n g m d s u e b c : ℕ) → b ≤ 1 → Paid n g m 1 s (g + 1) 0 → d ≡ n + g → u ≤ g + 1 + e → n + g + 1 ≤ c + u
+    → Paid n g (b + m) d (c + s) u e
 paid_full n g m d s u e b c once ih full near seen =
     let p = mul-le-mul_left n once in
     let q = mul-le-mul_left n seen in
@@ -124,7 +125,8 @@ module _ {K : Type 0} (eq : K → K → Bool) (laws : IsEquivalence eq) where
       (λ f. rw f (omega (arith, phase_seen held phase)))
 
   -- the bound with one more request in front
-  bound_cons : (n g : ℕ) (held next : List K) (later : List (List K)) (x : K) (rs : List K) → 1 ≤ n → list_all (λ q. holds eq q (x ∷ held)) next ≡ true
+  bound_cons : (n g : ℕ) (held next : List K) (later : List (List K)) (x : K) (rs : List K) → 1 ≤ n
+      → list_all (λ q. holds eq q (x ∷ held)) next ≡ true
       → holds eq x next ≡ true → length next ≤ g + 1 → IsBounded n g next later rs → IsBounded n g held (next ∷ later) (x ∷ rs)
   bound_cons n g held next later x rs pos all served short rest phase older u e few seen near =
       let after = seen_next held next phase x u all seen in

@@ -1,5 +1,5 @@
 -- What a search of the entries by place found, in the words of maps.
-use Rattle.std.proofs.Common.{◌≡◌, ℕ, zero, suc, ◌+◌, ◌-◌, ◌<◌, Bool, true, false, cond, List, [], ◌∷◌, length, take, Option, Some, None, get_or, refl, sym, ap, ◌∙◌, subst, arith, add-one}
+use Rattle.std.proofs.Common.{◌≡◌, ℕ, suc, ◌+◌, ◌-◌, ◌<◌, Bool, true, false, List, [], ◌∷◌, length, take, Some, None, get_or, refl, sym, ap, ◌∙◌, subst, arith}
 use Rattle.std.specs.List.{position, position_from, remove}
 use Rattle.std.specs.Map.{lookup, lookup_entry, remove_entry}
 use Rattle.clru.specs.Entries.{touch, plain_put}
@@ -63,7 +63,8 @@ module _ {K V : Type 0} (test : K → Bool) where
   ]) refl
 
   pub found : {es : List (K × V)} {i : ℕ} → position (λ e. test e.0) es ≡ Some i → IsFound es i
-  found {es} {i} h = let f = found_from es 0 i (sym (position_from-zero (λ (e : K × V). test e.0) es) ∙ h) in subst (IsFound es) (let k : f.0 + 0 ≡ i = f.1 in omega (arith, k)) f.2
+  found {es} {i} h = let f = found_from es 0 i (sym (position_from-zero (λ (e : K × V). test e.0) es) ∙ h) in subst (IsFound es)
+      (let k : f.0 + 0 ≡ i = f.1 in omega (arith, k)) f.2
 
   pub missed : {es : List (K × V)} → position (λ e. test e.0) es ≡ None → IsMissed es
   missed {es} h = missed_from es 0 (sym (position_from-zero (λ (e : K × V). test e.0) es) ∙ h)

@@ -1,5 +1,5 @@
 -- The longest beginning that fits.
-use Rattle.std.proofs.Common.{◌≡◌, ℕ, ◌+◌, ◌-◌, ◌<◌, ◌≤◌, leb, Bool, true, false, cond, List, [], ◌∷◌, ◌++◌, length, refl, sym, ap, ◌∙◌, subst, inl, inr, arith, length-append, append-nil, append_assoc}
+use Rattle.std.proofs.Common.{◌≡◌, ℕ, ◌+◌, ◌-◌, ◌<◌, ◌≤◌, leb, true, false, cond, List, [], ◌∷◌, ◌++◌, length, refl, sym, ap, ◌∙◌, subst, inl, inr, arith, length-append, append-nil, append_assoc}
 use Rattle.std.proofs.lemmas.Bool.{leb-true, leb-false, cases_lt}
 use Rattle.clru.specs.Entries.{weight_of, size_of, fit, IsLongestFit}
 use Rattle.clru.proofs.Keeping.{weight_of-cons, weight_of-push}
@@ -18,22 +18,36 @@ module _ {K V : Type 0} (weight : K → V → ℕ) where
       → e ∷ es ≡ q ++ back → size_of weight q ≤ c → length q ≤ length (e ∷ p)
   longer c e es p [] back h rest same small = omega arith
   longer c e es p (d ∷ ds) back h rest same small =
-      let first : e ≡ d = cc in let w : weight e.0 e.1 ≡ weight d.0 d.1 = ap (λ (x : K × V). weight x.0 x.1) first in let tail : es ≡ ds ++ back = cc in
+      let first : e ≡ d = cc in let w : weight e.0 e.1 ≡ weight d.0 d.1 = ap (λ (x : K × V). weight x.0 x.1) first in
+      let tail : es ≡ ds ++ back = cc in
       omega (arith, rest ds back tail (omega (arith, size_of-cons d ds, w)))
 
   -- `fit` is it
   pub fit_is_longest : (c : ℕ) (es : List (K × V)) → IsLongestFit weight c es (fit weight c es)
   unfolding fit
-  fit_is_longest c [] = record { rest = []; begins = refl; fits = omega arith; longest = λ q back same small. omega (arith, ap length same, length-append q back) }
-  fit_is_longest c (e ∷ es) = (elim (leb (1 + weight e.0 e.1) c) as (λ b. leb (1 + weight e.0 e.1) c ≡ b → IsLongestFit weight c (e ∷ es) (cond b (e ∷ fit weight (c - (1 + weight e.0 e.1)) es) [])) [
-    | true ↦ λ t. let h = leb-true (1 + weight e.0 e.1) c t in let f = fit_is_longest (c - (1 + weight e.0 e.1)) es in record {
-      rest = f.rest;
-      begins = ap (λ l. e ∷ l) f.begins;
-      fits = omega (arith, size_of-cons e (fit weight (c - (1 + weight e.0 e.1)) es), f.fits);
-      longest = λ q back same small. longer c e es (fit weight (c - (1 + weight e.0 e.1)) es) q back h f.longest same small;
-    }
-    | false ↦ λ t. record { rest = e ∷ es; begins = refl; fits = omega arith; longest = λ q back same small. too_long c e es q back (leb-false (1 + weight e.0 e.1) c t) same small }
-  ]) refl
+  fit_is_longest c [] = record {
+    rest = [];
+    begins = refl;
+    fits = omega arith;
+    longest = λ q back same small. omega
+        (arith, ap length same, length-append q back);
+  }
+  fit_is_longest c (e ∷ es) = (elim (leb (1 + weight e.0 e.1) c) as
+      (λ b. leb (1 + weight e.0 e.1) c ≡ b → IsLongestFit weight c (e ∷ es) (cond b (e ∷ fit weight (c - (1 + weight e.0 e.1)) es) [])) [
+        | true ↦ λ t. let h = leb-true (1 + weight e.0 e.1) c t in let f = fit_is_longest (c - (1 + weight e.0 e.1)) es in record {
+          rest = f.rest;
+          begins = ap (λ l. e ∷ l) f.begins;
+          fits = omega (arith, size_of-cons e (fit weight (c - (1 + weight e.0 e.1)) es), f.fits);
+          longest = λ q back same small. longer c e es (fit weight (c - (1 + weight e.0 e.1)) es) q back h f.longest same small;
+        }
+        | false ↦ λ t. record {
+          rest = e ∷ es;
+          begins = refl;
+          fits = omega arith;
+          longest = λ q back same small. too_long c e es q back
+              (leb-false (1 + weight e.0 e.1) c t) same small;
+        }
+      ]) refl
 
 -- two beginnings of one list that are as long are the same
 same_beginning : {X : Type 0} (p q back other : List X) → p ++ back ≡ q ++ other → length p ≡ length q → p ≡ q
@@ -47,7 +61,8 @@ same_beginning (x ∷ xs) (y ∷ ys) back other same len =
 pub longest_is_fit : {K V : Type 0} (weight : K → V → ℕ) (c : ℕ) (es p : List (K × V)) → IsLongestFit weight c es p → p ≡ fit weight c es
 longest_is_fit weight c es p l =
     let f = fit_is_longest weight c es in
-    same_beginning p (fit weight c es) l.rest f.rest (sym l.begins ∙ f.begins) (omega (arith, l.longest (fit weight c es) f.rest f.begins f.fits, f.longest p l.rest l.begins l.fits))
+    same_beginning p (fit weight c es) l.rest f.rest (sym l.begins ∙ f.begins)
+    (omega (arith, l.longest (fit weight c es) f.rest f.begins f.fits, f.longest p l.rest l.begins l.fits))
 
 -- p is a beginning of the list that holds each one that fits
 pub record IsTooLongFit {K V : Type 0} (weight : K → V → ℕ) (c : ℕ) (es p : List (K × V)) : Type 0 where
@@ -57,9 +72,15 @@ pub record IsTooLongFit {K V : Type 0} (weight : K → V → ℕ) (c : ℕ) (es 
 
 module _ {K V : Type 0} (weight : K → V → ℕ) (c : ℕ) where
   pub whole_is_too_long : (es : List (K × V)) → IsTooLongFit weight c es es
-  whole_is_too_long es = record { rest = []; begins = sym (append-nil es); longest = λ q back same small. omega (arith, ap length same, length-append q back) }
+  whole_is_too_long es = record {
+    rest = [];
+    begins = sym (append-nil es);
+    longest = λ q back same small. omega
+        (arith, ap length same, length-append q back);
+  }
 
-  shorter_is_too_long : (es p : List (K × V)) (e : K × V) → IsTooLongFit weight c es (p ++ e ∷ []) → c < size_of weight (p ++ e ∷ []) → IsTooLongFit weight c es p
+  shorter_is_too_long : (es p : List (K × V)) (e : K × V) → IsTooLongFit weight c es (p ++ e ∷ []) → c < size_of weight (p ++ e ∷ [])
+      → IsTooLongFit weight c es p
   shorter_is_too_long es p e long over = record {
     rest = e ∷ long.rest;
     begins = long.begins ∙ append_assoc p (e ∷ []) long.rest;
@@ -72,10 +93,12 @@ module _ {K V : Type 0} (weight : K → V → ℕ) (c : ℕ) where
   }
 
   -- while it does not fit, its last pair can go, and its weight goes with it
-  pub last_goes : (es p left : List (K × V)) (k : K) (v : V) (kept : ℕ) → p ≡ left ++ (k, v) ∷ [] → kept ≡ weight_of weight p → c < length p + kept → IsTooLongFit weight c es p
+  pub last_goes : (es p left : List (K × V)) (k : K) (v : V) (kept : ℕ) → p ≡ left ++ (k, v) ∷ [] → kept ≡ weight_of weight p
+      → c < length p + kept → IsTooLongFit weight c es p
       → (kept - weight k v ≡ weight_of weight left) × (size_of weight left ≤ size_of weight p) × IsTooLongFit weight c es left
   last_goes es p left k v kept is weighs over long =
-      let sum = weight_of-push weight left (k, v) in let len = length-append left ((k, v) ∷ []) in let all = ap (weight_of weight) is in let longer = ap length is in
+      let sum = weight_of-push weight left (k, v) in let len = length-append left ((k, v) ∷ []) in let all = ap (weight_of weight) is in
+      let longer = ap length is in
       (omega arith, omega arith, shorter_is_too_long es left (k, v) (subst (IsTooLongFit weight c es) is long) (omega arith))
 
   -- once it fits it is the longest

@@ -1,5 +1,5 @@
 -- Lists that are left when some elements go and the others keep their order.
-use Rattle.std.proofs.Common.{◌≡◌, ℕ, zero, suc, ◌+◌, ◌≤◌, Bool, true, false, cond, List, [], ◌∷◌, ◌++◌, length, take, refl, arith}
+use Rattle.std.proofs.Common.{◌≡◌, ℕ, zero, suc, ◌≤◌, Bool, true, false, cond, List, [], ◌∷◌, ◌++◌, length, take, arith}
 use Rattle.std.specs.List.{AllByRecursion, IsDistinct, sum_by, remove}
 use Rattle.std.specs.Map.{keys_of, remove_entry}
 use Rattle.std.proofs.lemmas.List.Sums.{sum_by-cons}

@@ -1,5 +1,5 @@
 -- What a weighted put does to the entries, their weight and the places.
-use Rattle.std.proofs.Common.{◌≡◌, ℕ, ◌+◌, ◌-◌, ◌<◌, ◌≤◌, Bool, true, List, [], ◌∷◌, ◌++◌, length, None, inl, inr, sym, ap, ◌∙◌, subst, arith, append-nil, length-append}
+use Rattle.std.proofs.Common.{◌≡◌, ℕ, ◌+◌, ◌-◌, ◌<◌, ◌≤◌, Bool, List, [], ◌∷◌, ◌++◌, length, None, inl, inr, sym, ap, ◌∙◌, subst, arith, append-nil, length-append}
 use Rattle.std.specs.Cmp.{IsEquivalence}
 use Rattle.std.specs.Map.{lookup}
 use Rattle.std.proofs.lemmas.Bool.{cases_lt}
@@ -12,7 +12,8 @@ use Rattle.clru.proofs.Sublists.{IsSublist, sublist_front, sublist_trans, length
 
 module _ {K V : Type 0} (weight : K → V → ℕ) where
   pub sublist_fit : (c : ℕ) (es : List (K × V)) → IsSublist es (fit weight c es)
-  sublist_fit c es = let f = fit_is_longest weight c es in subst (λ l. IsSublist l (fit weight c es)) (sym f.begins) (sublist_front (fit weight c es) f.rest)
+  sublist_fit c es = let f = fit_is_longest weight c es in subst (λ l. IsSublist l (fit weight c es)) (sym f.begins)
+      (sublist_front (fit weight c es) f.rest)
 
   pub size_of-fit : (c : ℕ) (es : List (K × V)) → size_of weight (fit weight c es) ≤ c
   size_of-fit c es = (fit_is_longest weight c es).fits
@@ -26,7 +27,8 @@ module _ {K V : Type 0} (weight : K → V → ℕ) where
   length-fit c es over = let f = fit_is_longest weight c es in elim (cases_lt (length (fit weight c es)) (length es)) [
     | inl h ↦ h
     | inr h ↦ let none : length f.rest ≡ 0 = omega (arith, ap length f.begins, length-append (fit weight c es) f.rest) in
-        let whole : es ≡ fit weight c es = f.begins ∙ nil_rest (fit weight c es) f.rest none in absurd (omega (arith, f.fits, ap (size_of weight) whole))
+        let whole : es ≡ fit weight c es = f.begins ∙ nil_rest (fit weight c es) f.rest none in
+        absurd (omega (arith, f.fits, ap (size_of weight) whole))
   ]
 
   -- a place is there for each entry after a put
@@ -37,12 +39,17 @@ module _ {K V : Type 0} (weight : K → V → ℕ) where
   ]
 
   -- the new pair comes first, and what does not fit beside it goes
-  pub IsCache-weighted : {eq : K → K → Bool} {es fs : List (K × V)} {kept p r c : ℕ} (left p' r' : ℕ) (x : K) (v : V) → IsEquivalence eq → IsCache eq weight es kept p r c → IsSublist es fs → lookup (eq x) fs ≡ None → weight x v < c
-      → left ≡ weight_of weight ((x, v) ∷ fit weight (c - 1 - weight x v) fs) → 1 + length (fit weight (c - 1 - weight x v) fs) ≤ p' → p' ≤ r' → IsCache eq weight ((x, v) ∷ fit weight (c - 1 - weight x v) fs) left p' r' c
+  pub IsCache-weighted : {eq : K → K → Bool} {es fs : List (K × V)} {kept p r c : ℕ} (left p' r' : ℕ) (x : K) (v : V) → IsEquivalence eq
+      → IsCache eq weight es kept p r c → IsSublist es fs → lookup (eq x) fs ≡ None → weight x v < c
+      → left ≡ weight_of weight ((x, v) ∷ fit weight (c - 1 - weight x v) fs) → 1 + length
+      (fit weight (c - 1 - weight x v) fs) ≤ p' → p' ≤ r' → IsCache eq weight ((x, v) ∷ fit weight (c - 1 - weight x v) fs) left p' r' c
   IsCache-weighted {eq} {es} {fs} {c = c} left p' r' x v laws old s absent light w covers room =
       let room_left = c - 1 - weight x v in
-      IsCache-put weight left p' r' x (x, v) laws old (sublist_trans s (sublist_fit room_left fs)) (lookup-sublist (eq x) (sublist_fit room_left fs) absent) (laws.refl x) w (omega (arith, size_of-fit room_left fs)) covers room
+      IsCache-put weight left p' r' x (x, v) laws old (sublist_trans s (sublist_fit room_left fs))
+      (lookup-sublist (eq x) (sublist_fit room_left fs) absent) (laws.refl x) w (omega (arith, size_of-fit room_left fs)) covers room
 
   -- the list that the put leaves, by the room and the rest as the code has them
-  pub weighted_front : {x : K} {v : V} {items rest fs : List (K × V)} (room c : ℕ) → room ≡ c - 1 - weight x v → rest ≡ fs → items ≡ (x, v) ∷ fit weight room rest → items ≡ (x, v) ∷ fit weight (c - 1 - weight x v) fs
-  weighted_front {x} {v} {rest = rest} room c is same put = put ∙ ap (λ r. (x, v) ∷ fit weight r rest) is ∙ ap (λ l. (x, v) ∷ fit weight (c - 1 - weight x v) l) same
+  pub weighted_front : {x : K} {v : V} {items rest fs : List (K × V)} (room c : ℕ) → room ≡ c - 1 - weight x v → rest ≡ fs
+      → items ≡ (x, v) ∷ fit weight room rest → items ≡ (x, v) ∷ fit weight (c - 1 - weight x v) fs
+  weighted_front {x} {v} {rest = rest} room c is same put = put ∙ ap (λ r. (x, v) ∷ fit weight r rest) is ∙ ap
+      (λ l. (x, v) ∷ fit weight (c - 1 - weight x v) l) same

@@ -1,5 +1,5 @@
 -- What a cache ends as, once a reference into it has ended.
-use Rattle.std.specs.Prelude.{◌≡◌, List, Option, Result, ⊤}
+use Rattle.std.specs.Prelude.{◌≡◌, List, Result, ⊤}
 use Rattle.std.specs.Borrow.{Fml, RattleType, MutBor, LendsSoOk, follows_so}
 use Rattle.std.specs.HashMap.Lent.{HashMembers}
 use Rattle.std.specs.declared.alloc.Allocator as alloc
@@ -7,7 +7,7 @@ use Rattle.std.specs.declared.hash.Hasher as hasher
 use Rattle.std.specs.declared.hash.BuildHasher as builder
 use mathlib.Core.Option.{none}
 use Rattle.clru.specs.Cache.{Cache, with_entries, GrowsOnlyIf, NeedsPlace}
-use Rattle.clru.specs.Entries.{touch, plain_put}
+use Rattle.clru.specs.Entries.{plain_put}
 use Rattle.clru.specs.declared.weight.WeightScale as scale
 use Rattle.clru.specs.contracts.cache.CLruCache.{the_row}
 

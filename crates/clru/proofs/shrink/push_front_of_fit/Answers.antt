@@ -1,4 +1,4 @@
-use Rattle.std.proofs.Common.{ap, ◌∙◌, arith, rules}
+use Rattle.std.proofs.Common.{ap, ◌∙◌, rules}
 use Rattle.clru.specs.Entries.{weight_of}
 use Rattle.clru.proofs.Weighing.{size_of-fit}
 use Rattle.clru.proofs.shrink.push_front_of_fit.Goals as goal

@@ -16,13 +16,19 @@ returns-in_err-at g c =
 pub invariant_of-self-2 : goal.invariant_of-self-2
 invariant_of-self-2 g c =
     let f = found (g.K.PartialEq.eq c.args.key.now) (sym c.in_ok-at.ensures) in
-    rw (c.move_to_front.ensures.front f.entry, f.at f.entry) (IsCache-front (g.W.WeightScale.weight c.self.inside.scale) _ c.args.key.now f.entry.1 g.met.K.Eq.laws c.self.invariant f refl c.move_to_front.ensures.room)
+    rw (c.move_to_front.ensures.front f.entry, f.at f.entry)
+    (IsCache-front (g.W.WeightScale.weight c.self.inside.scale) _ c.args.key.now f.entry.1 g.met.K.Eq.laws c.self.invariant f refl c.move_to_front.ensures.room)
 
 pub returns : goal.returns
 returns g c =
     let i = c.self.inside in let test = g.K.PartialEq.eq c.args.key.now in let f = found test (sym c.in_ok-at.ensures) in
     let x = c.index.result.now in
     rw (← c.self.view_is) (
-      (refl, λ _. tt, ap (λ es. cache es (non_zero_usize_get i.capacity) i.scale i.places) (c.move_to_front.ensures.front f.entry ∙ touch-found g.K.PartialEq.eq c.args.key.now f f.entry)),
+      (
+        refl,
+        λ _. tt,
+        ap (λ es. cache es (non_zero_usize_get i.capacity) i.scale i.places)
+            (c.move_to_front.ensures.front f.entry ∙ touch-found g.K.PartialEq.eq c.args.key.now f f.entry),
+      ),
       record { touches = tt; value = lookup-found test f x (c.index.ensures ∙ ap (λ l. get_or l 0 x) (c.move_to_front.ensures.front x)) },
     )
