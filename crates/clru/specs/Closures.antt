@@ -31,8 +31,10 @@ module _ {M K V T R : Type 0} (g : Mut M (Bor K × (MutBor V × (T × Unit {0}))
     pub called : Called g modify (shown, (lent, (t, tt))) (r, (left, tt)) modify'
     pub leaves : left.now ≡ w
 
--- exactly one of the two is called, once: the put operation where the key is absent, the modify operation at the stored pair where it is held
-module _ {P M K V T : Type 0} (p : Mut P (Bor K × (T × Unit {0})) V) (m : Mut M (Bor K × (MutBor V × (T × Unit {0}))) (Unit {0} × (MutBor V × Unit {0}))) where
+-- exactly one of the two is called, once: the put operation where the key is absent, the modify operation at the stored
+-- pair where it is held
+module _ {P M K V T : Type 0} (p : Mut P (Bor K × (T × Unit {0})) V)
+    (m : Mut M (Bor K × (MutBor V × (T × Unit {0}))) (Unit {0} × (MutBor V × Unit {0}))) where
   abbrev pub PutsOrModifies : Option (K × V) → P → M → K → T → V → Type 0
   PutsOrModifies None put modify x t v = (put' : P) × CallsAtKey p put x t v put'
   PutsOrModifies (Some e) put modify x t v = (modify' : M) × CallsAtEntry m modify e.0 e.1 t tt v modify'

@@ -46,7 +46,8 @@ impl<K: Eq + Hash, V, S: BuildHasher, W: WeightScale<K, V>, A: Allocator + Copy>
 
     ghost view = { λ c. cache c.pairs.items (non_zero_usize_get c.capacity) c.scale c.places };
 
-    ghost invariant = { λ c. IsCache K.eq (W.weight c.scale) c.pairs.items c.total_weight c.places (vec_capacity c.pairs) (non_zero_usize_get c.capacity) };
+    ghost invariant = { λ c. IsCache K.eq (W.weight c.scale) c.pairs.items c.total_weight c.places (vec_capacity c.pairs)
+        (non_zero_usize_get c.capacity) };
 }
 
 impl<K: Eq + Hash, V, A: Allocator + Copy> CLruCache<K, V, DefaultState, ZeroWeightScale, A> {
@@ -75,30 +76,21 @@ impl<K: Eq + Hash, V, S: BuildHasher, A: Allocator + Copy> CLruCache<K, V, S, Ze
     ) -> Result<Self, NoMemory>
     where
         S: Drop,
-        ensures empty { IfOk result (λ c. c ≡ cache [] (non_zero_usize_get capacity) (record {}) (min reserve (non_zero_usize_get capacity))) }
+        ensures empty { let size = non_zero_usize_get capacity in IfOk result (λ c. c ≡ cache [] size (record {}) (min reserve size)) }
         ensures nothing_asked { reserve ≡ 0 → IsOk result }
     {
         let places = reserve.min(capacity.get());
-        match Vec::with_capacity(alloc, places) {
-            Ok(pairs) => Ok(CLruCache::empty(
-                pairs,
-                capacity,
-                hash_builder,
-                ZeroWeightScale,
-                places,
-            )),
-            Err(_) => Err(NoMemory),
-        }
+        let Ok(pairs) = Vec::with_capacity(alloc, places) else {
+            return Err(NoMemory);
+        };
+        Ok(CLruCache::empty(pairs, capacity, hash_builder, ZeroWeightScale, places))
     }
 }
 
-impl<K: Eq + Hash, V, W: WeightScale<K, V>, A: Allocator + Copy> CLruCache<
-    K,
-    V,
-    DefaultState,
-    W,
-    A,
-> {
+impl<K: Eq + Hash, V, W: WeightScale<K, V>, A> CLruCache<K, V, DefaultState, W, A>
+where
+    A: Allocator + Copy,
+{
     /// Creates a cache in which the number of entries and their weight by `scale` are at most `capacity`. It takes no memory.
     pub fn with_scale(alloc: A, capacity: NonZeroUsize, scale: W) -> Self
         ensures { result ≡ cache [] (non_zero_usize_get capacity) scale 0 }
@@ -107,13 +99,10 @@ impl<K: Eq + Hash, V, W: WeightScale<K, V>, A: Allocator + Copy> CLruCache<
     }
 }
 
-impl<K: Eq + Hash, V, S: BuildHasher, W: WeightScale<K, V>, A: Allocator + Copy> CLruCache<
-    K,
-    V,
-    S,
-    W,
-    A,
-> {
+impl<K: Eq + Hash, V, S: BuildHasher, W: WeightScale<K, V>, A> CLruCache<K, V, S, W, A>
+where
+    A: Allocator + Copy,
+{
     fn empty(
         pairs: Vec<(K, V), A>,
         capacity: NonZeroUsize,

@@ -5,8 +5,8 @@ ghost use Rattle.clru.specs.ByPlace.{IsHitAt, IsScheduleAt, IsScheduleMissAt};
 ghost use Rattle.clru.specs.Requests.{marks};
 ghost use Rattle.clru.specs.Schedule.{IsSchedule, schedule_marks};
 
-/// Does nothing at run time. Its contract says that the hits and the schedules that the other contracts cite, which are defined by computing, are
-/// those that a sentence about places describes.
+/// Does nothing at run time. Its contract says that the hits and the schedules that the other contracts cite, which are
+/// defined by computing, are those that a sentence about places describes.
 pub fn law_by_place<K: Eq>()
     ensures hits { (k i : ℕ) (requests : List K) → (slice_get (marks K.eq k requests) i ≡ Some true) ↔ IsHitAt K.eq k requests i }
     ensures one_mark_each { (k : ℕ) (requests : List K) → length (marks K.eq k requests) ≡ length requests }

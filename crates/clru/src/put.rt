@@ -17,13 +17,10 @@ use crate::weight::{WeightScale, ZeroWeightScale};
 use std::alloc::Allocator;
 use std::hash::{BuildHasher, Hash};
 
-impl<K: Eq + Hash, V, S: BuildHasher, W: WeightScale<K, V>, A: Allocator + Copy> CLruCache<
-    K,
-    V,
-    S,
-    W,
-    A,
-> {
+impl<K: Eq + Hash, V, S: BuildHasher, W: WeightScale<K, V>, A> CLruCache<K, V, S, W, A>
+where
+    A: Allocator + Copy,
+{
     /// Puts a pair into the cache, and returns the old value of its key. The pair is then the most recently used, under
     /// the new key.
     ///
@@ -35,7 +32,8 @@ impl<K: Eq + Hash, V, S: BuildHasher, W: WeightScale<K, V>, A: Allocator + Copy>
         K: Drop,
         V: Drop,
         ensures put { WeightedPut K.eq (W.weight self.old.scale) self.old key value result self.new }
-        ensures places { GrowsOnlyIf (NeedsPlaceFor K.eq (W.weight self.old.scale) (W.weight self.old.scale key value) key self.old) self.old self.new }
+        ensures places { let weight = W.weight self.old.scale in
+            GrowsOnlyIf (NeedsPlaceFor K.eq weight (weight key value) key self.old) self.old self.new }
     {
         let weight = self.scale.weight(&key, &value);
         let capacity = self.capacity.get();
@@ -83,7 +81,8 @@ impl<K: Eq + Hash, V, S: BuildHasher, A: Allocator + Copy> CLruCache<K, V, S, Ze
         K: Drop,
         V: Drop,
         ensures answer { IfOk result (λ old. old ≡ lookup (K.eq key) self.old.entries) }
-        ensures entries { self.new.entries ≡ (if is_ok result then plain_put K.eq self.old.capacity key value self.old.entries else self.old.entries) }
+        ensures entries { self.new.entries
+            ≡ (if is_ok result then plain_put K.eq self.old.capacity key value self.old.entries else self.old.entries) }
         ensures refused { IfErr result (λ pair. pair ≡ (key, value)) }
         ensures memory { IsErr result → NeedsPlace K.eq key self.old }
         ensures places { GrowsOnlyIf (NeedsPlace K.eq key self.old) self.old self.new }
@@ -119,9 +118,12 @@ impl<K: Eq + Hash, V, S: BuildHasher, A: Allocator + Copy> CLruCache<K, V, S, Ze
         K: Drop,
         V: Drop,
         requires put { lookup_entry (K.eq key) self.old.entries ≡ None → TakesKey P.FnMut put_op key «data» }
-        requires modify { (k : K) (v : V) → lookup_entry (K.eq key) self.old.entries ≡ Some (k, v) → TakesEntry M.FnMut modify_op k v «data» }
-        ensures* lends { sem 𝓛 (lends_put K.row V.row S.row zero_scale_row A.row S.Hasher.row K.Hash S.BuildHasher S.Hasher.Hasher ⟦<ZeroWeightScale as WeightScale<K, V>>⟧ A.Allocator self.entry key result) }
-        ensures called { IfOk result (λ x. PutsOrModifies P.FnMut M.FnMut (lookup_entry (K.eq key) self.old.entries) put_op modify_op key «data» x.now) }
+        requires modify { (k : K) (v : V) → lookup_entry (K.eq key) self.old.entries ≡ Some (k, v)
+            → TakesEntry M.FnMut modify_op k v «data» }
+        ensures* lends { sem 𝓛 (lends_put K.row V.row S.row zero_scale_row A.row S.Hasher.row K.Hash S.BuildHasher
+            S.Hasher.Hasher ⟦<ZeroWeightScale as WeightScale<K, V>>⟧ A.Allocator self.entry key result) }
+        ensures called { IfOk result (λ x.
+            PutsOrModifies P.FnMut M.FnMut (lookup_entry (K.eq key) self.old.entries) put_op modify_op key «data» x.now) }
         ensures refused { IfErr result (λ back. back ≡ (key, «data»)) }
         ensures memory { IsErr result → NeedsPlace K.eq key self.old }
     {

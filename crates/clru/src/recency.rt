@@ -11,16 +11,14 @@ use crate::weight::WeightScale;
 use std::alloc::Allocator;
 use std::hash::{BuildHasher, Hash};
 
-impl<K: Eq + Hash, V, S: BuildHasher, W: WeightScale<K, V>, A: Allocator + Copy> CLruCache<
-    K,
-    V,
-    S,
-    W,
-    A,
-> {
+impl<K: Eq + Hash, V, S: BuildHasher, W: WeightScale<K, V>, A> CLruCache<K, V, S, W, A>
+where
+    A: Allocator + Copy,
+{
     /// Returns the value of the key, and makes its entry the most recently used.
     pub fn get(&mut self, key: &K) -> Option<&V>
-        ensures* touches { sem 𝓛 (ends_with K.row V.row S.row W.row A.row S.Hasher.row K.Hash S.BuildHasher S.Hasher.Hasher W.WeightScale A.Allocator self.entry (touch K.eq key.now self.old.entries)) }
+        ensures* touches { sem 𝓛 (ends_with K.row V.row S.row W.row A.row S.Hasher.row K.Hash S.BuildHasher S.Hasher.Hasher
+            W.WeightScale A.Allocator self.entry (touch K.eq key.now self.old.entries)) }
         ensures value { option_copied result ≡ lookup (K.eq key.now) self.old.entries }
     {
         let at = find(&self.pairs, key)?;
