@@ -1,6 +1,7 @@
 pub mod Bound
 pub mod ByPlace
 pub mod Distinct
+pub mod EntryRows
 pub mod Finding
 pub mod Fitting
 pub mod Hits
