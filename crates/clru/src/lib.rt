@@ -1,4 +1,14 @@
-//! A weighted LRU cache.
+//! A weighted LRU cache: entries in order of recency, each with a weight, of which the least recently used go first.
+//!
+//! The number of entries and their total weight never pass the capacity together. With the scale of a cache that is made
+//! without one, each pair weighs nothing, and the capacity is the number of entries.
+//!
+//! Contracts see a cache as its entry list, the most recently used pair first, with the capacity, the scale and the number
+//! of places, for which memory was found. A put asks for memory only where its key is not held, no entry has to go and no
+//! place is free; where it is refused, it gives back what it was given and the entries stay.
+//!
+//! The entries lie in one vector, so a call that looks for a key costs a walk over them, and one that moves an entry to the
+//! front a move of those before it.
 #![tactic(auto)]
 
 mod answer;
@@ -16,7 +26,7 @@ mod weight;
 pub use answer::Replay;
 pub use cache::CLruCache;
 pub use error::{NoMemory, PutError};
-pub use laws::law_by_place;
+pub use laws::{law_by_place, law_longest_fit};
 pub use requests::replay;
 pub use state::DefaultState;
 pub use std::num::NonZeroUsize;

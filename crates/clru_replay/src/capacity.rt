@@ -1,3 +1,4 @@
+//! The first line of the input.
 ghost use Rattle.std.specs.Prelude.{◌≡◌, true, false, IfSome, IfNone};
 ghost use Rattle.std.specs.Int.NonZero.{non_zero_usize_get};
 ghost use Rattle.std.specs.Str.Parse.{digits_value};

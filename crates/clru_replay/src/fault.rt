@@ -1,3 +1,4 @@
+//! What can go wrong, and the exit status of each.
 ghost use Rattle.std.specs.Prelude.{◌≡◌};
 
 /// Why a run ends without its whole report.

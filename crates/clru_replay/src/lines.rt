@@ -1,3 +1,4 @@
+//! The lines of the input, each a key without a copy of its bytes.
 ghost use Rattle.std.specs.Prelude.{◌≡◌, ◌==◌, ◌<◌, [], ◌∷◌, map, length, position, IfOk, IfSome, IfNone};
 ghost use Rattle.std.specs.Cmp.Rules.{hashing};
 ghost use Rattle.std.proofs.Common.{rules};

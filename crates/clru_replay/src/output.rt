@@ -1,3 +1,4 @@
+//! Writing the report.
 ghost use Rattle.std.specs.Prelude.{◌≡◌, ℕ, take, IfErr, OnOk};
 ghost use Rattle.std.specs.Io.KnownBytes.{Appends};
 

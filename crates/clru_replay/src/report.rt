@@ -1,3 +1,4 @@
+//! The text of the report, taken whole before any of it is written.
 ghost use Rattle.std.specs.Prelude.{◌≡◌, ◌⊎◌, Err, Some, None, IfOk, IfErr, IsSome, string_bytes};
 ghost use Rattle.clru_replay.specs.Report.{misses_line, report, text_of};
 
