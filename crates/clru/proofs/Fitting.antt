@@ -64,21 +64,14 @@ longest_is_fit weight c es p l =
     same_beginning p (fit weight c es) l.rest f.rest (sym l.begins ∙ f.begins)
     (omega (arith, l.longest (fit weight c es) f.rest f.begins f.fits, f.longest p l.rest l.begins l.fits))
 
--- p is a beginning of the list that holds each one that fits
+-- p is a beginning of the list that each one that fits is a beginning of
 pub record IsTooLongFit {K V : Type 0} (weight : K → V → ℕ) (c : ℕ) (es p : List (K × V)) : Type 0 where
   pub rest : List (K × V)
   pub begins : es ≡ p ++ rest
   pub longest : (q back : List (K × V)) → es ≡ q ++ back → size_of weight q ≤ c → length q ≤ length p
 
 module _ {K V : Type 0} (weight : K → V → ℕ) (c : ℕ) where
-  pub whole_is_too_long : (es : List (K × V)) → IsTooLongFit weight c es es
-  whole_is_too_long es = record {
-    rest = [];
-    begins = sym (append-nil es);
-    longest = λ q back same small. omega
-        (arith, ap length same, length-append q back);
-  }
-
+  -- while it does not fit, its last pair can go
   shorter_is_too_long : (es p : List (K × V)) (e : K × V) → IsTooLongFit weight c es (p ++ e ∷ []) → c < size_of weight (p ++ e ∷ [])
       → IsTooLongFit weight c es p
   shorter_is_too_long es p e long over = record {
@@ -92,7 +85,7 @@ module _ {K V : Type 0} (weight : K → V → ℕ) (c : ℕ) where
     ];
   }
 
-  -- while it does not fit, its last pair can go, and its weight goes with it
+  -- and its weight goes with it
   pub last_goes : (es p left : List (K × V)) (k : K) (v : V) (kept : ℕ) → p ≡ left ++ (k, v) ∷ [] → kept ≡ weight_of weight p
       → c < length p + kept → IsTooLongFit weight c es p
       → (kept - weight k v ≡ weight_of weight left) × (size_of weight left ≤ size_of weight p) × IsTooLongFit weight c es left

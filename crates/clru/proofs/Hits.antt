@@ -23,10 +23,6 @@ module _ {K : Type 0} (eq : K → K → Bool) where
   hit-cons_same : (j : ℕ) (x y : K) (past : List K) → eq y x ≡ true → hit eq (suc j) (x ∷ past) y ≡ true
   hit-cons_same j x y past t = rw (since-cons eq y x past, t) (grind (arith, nat_tests))
 
-  -- the start: no request, no key held
-  pub Keeps-nil : (k : ℕ) → Keeps k [] []
-  Keeps-nil k = record { kept = λ j y within. elim j as (λ i. holds eq y (take i []) ≡ false) [ zero ↦ refl | suc i ↦ refl ] }
-
   -- a key that is not held is not among the first ones
   take_not_held : (x : K) (j : ℕ) (ks : List K) → holds eq x ks ≡ false → holds eq x (take j ks) ≡ false
   take_not_held x zero ks f = refl
@@ -36,11 +32,6 @@ module _ {K : Type 0} (eq : K → K → Bool) where
       rw parts.0 (take_not_held x j ks parts.1)
 
 module _ {K V : Type 0} (eq : K → K → Bool) where
-  -- a lookup finds a value where the key is held
-  pub is_some-lookup : (x : K) (es : List (K × V)) → is_some (lookup (eq x) es) ≡ holds eq x (keys_of es)
-  is_some-lookup x [] = refl
-  is_some-lookup x (e ∷ es) = split (eq x e.0) (λ t. rw t refl) (λ f. rw f (is_some-lookup x es))
-
   -- under the invariant the keys held are the hits at the capacity
   pub Keeps_held : {k : ℕ} {past : List K} (x : K) (es : List (K × V)) → length es ≤ k → Keeps eq k past (keys_of es)
       → holds eq x (keys_of es) ≡ hit eq k past x

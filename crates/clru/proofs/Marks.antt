@@ -17,22 +17,6 @@ pub count_by-not-push : (ms : List Bool) (m : Bool) → count_by not (ms ++ m �
 count_by-not-push ms m = sum_by_push (λ b. cond (not b) 1 0) ms m ∙ split m (λ t. rw t refl) (λ f. rw f refl)
 
 module _ {K : Type 0} (eq : K → K → Bool) where
-  -- a hit at a capacity is a hit at each greater one
-  pub hit_more : (j k : ℕ) (past : List K) (x : K) → j ≤ k → hit eq j past x ≡ true → hit eq k past x ≡ true
-  hit_more j k past x more h =
-      let parts = and_parts (holds eq x past) (ltb (distinct eq (since eq x past)) j) h in
-      let lt = ltb-true (distinct eq (since eq x past)) j parts.1 in
-      and_from (holds eq x past) (ltb (distinct eq (since eq x past)) k) parts.0 (lt-ltb (distinct eq (since eq x past)) k (omega arith))
-
-  -- a mark that is true at a capacity is true at each greater one
-  pub marks_more : (j k : ℕ) (past rs : List K) (i : ℕ) → j ≤ k → slice_get (marks_after eq past j rs) i ≡ Some true
-      → slice_get (marks_after eq past k rs) i ≡ Some true
-  marks_more j k past [] i more h = h
-  marks_more j k past (x ∷ rs) zero more h =
-      let t : hit eq j past x ≡ true = cc in
-      rw (hit_more j k past x more t) refl
-  marks_more j k past (x ∷ rs) (suc i) more h = marks_more j k (x ∷ past) rs i more h
-
   -- a reversed list before another one, element by element
   pub reverse-cons-append : (x : K) (xs ys : List K) → reverse (x ∷ xs) ++ ys ≡ reverse xs ++ (x ∷ ys)
   reverse-cons-append x xs ys = ap (λ l. l ++ ys) (reverse-append (x ∷ []) xs) ∙ append_assoc (reverse xs) (x ∷ []) ys
