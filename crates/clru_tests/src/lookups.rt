@@ -3,6 +3,7 @@
 use crate::lists::{emptied, room};
 use clru::CLruCache;
 use std::alloc::Global;
+use std::hash::{BuildHasherDefault, FoldHasher};
 use std::test::Fail;
 
 /// A cache of capacity 2, full: apple red, and then banana yellow.
@@ -57,6 +58,16 @@ fn test_get_with_borrow(rt: HostRuntime) -> Result<(), Fail> {
     );
     let key = String::from_str(rt.alloc(), "apple")?;
     assert_eq!(rt; cache.get(&key).copied(), Some("red"));
+    Ok(())
+}
+
+#[test]
+fn a_cache_takes_another_hash_builder(rt: HostRuntime) -> Result<(), Fail> {
+    let builder = BuildHasherDefault::<FoldHasher>::new();
+    let mut cache = CLruCache::with_hasher(rt.alloc(), room(2)?, builder);
+    assert_eq!(rt; (cache.capacity(), cache.len()), (2, 0));
+    assert_eq!(rt; cache.put("apple", 3)?, None);
+    assert_eq!(rt; cache.get(&"apple").copied(), Some(3));
     Ok(())
 }
 
