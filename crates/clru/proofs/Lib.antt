@@ -1,5 +1,6 @@
 pub mod Bound
 pub mod ByPlace
+pub mod CallerLemmas
 pub mod Distinct
 pub mod EntryRows
 pub mod Finding

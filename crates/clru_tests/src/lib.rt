@@ -1,6 +1,7 @@
 //! Tests of `clru` by its public calls alone. A crate with tests is proved twice, so they stand in one of their own.
 #![tactic(auto)]
 
+pub mod callers;
 #[cfg(test)]
 mod keys;
 #[cfg(test)]
