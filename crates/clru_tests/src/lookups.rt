@@ -1,6 +1,6 @@
 //! Calls that read a cache.
 
-use crate::lists::{emptied, room};
+use crate::lists::{gets, puts, room, takes_out};
 use clru::CLruCache;
 use std::alloc::Global;
 use std::hash::{BuildHasherDefault, FoldHasher};
@@ -22,8 +22,11 @@ fn test_insert_and_get(rt: HostRuntime) -> Result<(), Fail> {
     assert_eq!(rt; (cache.capacity(), cache.len(), cache.weight()), (2, 2, 0));
     assert!(rt; !cache.is_empty());
     assert!(rt; cache.is_full());
-    assert_eq!(rt; cache.get(&"apple").copied(), Some("red"));
-    assert_eq!(rt; cache.get(&"banana").copied(), Some("yellow"));
+    gets(
+        &rt,
+        &mut cache,
+        &[("apple", Some("red")), ("banana", Some("yellow"))],
+    );
     Ok(())
 }
 
@@ -32,7 +35,7 @@ fn test_peek(rt: HostRuntime) -> Result<(), Fail> {
     let mut cache = apple_and_banana(rt.alloc())?;
     assert_eq!(rt; cache.peek(&"banana").copied(), Some("yellow"));
     assert_eq!(rt; cache.peek(&"apple").copied(), Some("red"));
-    assert_eq!(rt; cache.put("pear", "green")?, None);
+    puts(&rt, &mut cache, &[("pear", "green", None)]);
     assert_eq!(rt; cache.peek(&"apple"), None);
     assert_eq!(rt; cache.peek(&"banana").copied(), Some("yellow"));
     assert_eq!(rt; cache.peek(&"pear").copied(), Some("green"));
@@ -42,7 +45,7 @@ fn test_peek(rt: HostRuntime) -> Result<(), Fail> {
 #[test]
 fn test_contains(rt: HostRuntime) -> Result<(), Fail> {
     let mut cache = apple_and_banana(rt.alloc())?;
-    assert_eq!(rt; cache.put("pear", "green")?, None);
+    puts(&rt, &mut cache, &[("pear", "green", None)]);
     assert!(rt; !cache.contains(&"apple"));
     assert!(rt; cache.contains(&"banana"));
     assert!(rt; cache.contains(&"pear"));
@@ -74,20 +77,12 @@ fn a_cache_takes_another_hash_builder(rt: HostRuntime) -> Result<(), Fail> {
 #[test]
 fn a_get_moves_its_entry_to_the_front(rt: HostRuntime) -> Result<(), Fail> {
     let mut cache = apple_and_banana(rt.alloc())?;
-    assert!(rt; cache.peek(&"apple").is_some());
+    assert_eq!(rt; cache.peek(&"apple").copied(), Some("red"));
     assert!(rt; cache.contains(&"apple"));
-    assert_eq!(rt;
-        cache.pop_front(),
-        Some(("banana", "yellow")),
-        "neither of them moved apple"
-    );
-    assert_eq!(rt; cache.put("pear", "green")?, None);
-    assert_eq!(rt; cache.get(&"apple").copied(), Some("red"));
-    assert_eq!(rt; cache.get(&"banana"), None);
-    assert_eq!(rt;
-        emptied(rt.alloc(), &mut cache)?.as_slice(),
-        [("apple", "red"), ("pear", "green")].as_slice()
-    );
-    assert_eq!(rt; cache.pop_front(), None);
+    // Neither of them moved apple.
+    assert_eq!(rt; cache.pop_front(), Some(("banana", "yellow")));
+    puts(&rt, &mut cache, &[("pear", "green", None)]);
+    gets(&rt, &mut cache, &[("apple", Some("red")), ("banana", None)]);
+    takes_out(&rt, &mut cache, &[("apple", "red"), ("pear", "green")]);
     Ok(())
 }

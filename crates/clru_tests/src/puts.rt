@@ -1,51 +1,81 @@
 //! Puts into caches whose capacity limits the number of entries.
 
 use crate::keys::Letter;
-use crate::lists::{emptied, room};
+use crate::lists::{gets, puts, room, takes_out};
 use clru::CLruCache;
 use std::test::Fail;
 
 #[test]
 fn a_put_of_a_held_key_answers_the_old_value(rt: HostRuntime) -> Result<(), Fail> {
     let mut fruit = CLruCache::new(rt.alloc(), room(2)?);
-    assert_eq!(rt; fruit.put("apple", 3)?, None);
-    assert_eq!(rt; fruit.put("banana", 2)?, None);
-    assert_eq!(rt; fruit.get(&"apple").copied(), Some(3));
-    assert_eq!(rt; fruit.get(&"banana").copied(), Some(2));
-    assert_eq!(rt; fruit.get(&"pear"), None);
-    assert_eq!(rt; fruit.put("banana", 4)?, Some(2));
-    assert_eq!(rt; fruit.put("pear", 5)?, None);
-    assert_eq!(rt; fruit.get(&"pear").copied(), Some(5));
-    assert_eq!(rt; fruit.get(&"banana").copied(), Some(4));
-    assert_eq!(rt; fruit.get(&"apple"), None);
+    puts(&rt, &mut fruit, &[("apple", 3, None), ("banana", 2, None)]);
+    gets(
+        &rt,
+        &mut fruit,
+        &[("apple", Some(3)), ("banana", Some(2)), ("pear", None)],
+    );
+    puts(
+        &rt,
+        &mut fruit,
+        &[("banana", 4, Some(2)), ("pear", 5, None)],
+    );
+    gets(
+        &rt,
+        &mut fruit,
+        &[("pear", Some(5)), ("banana", Some(4)), ("apple", None)],
+    );
     Ok(())
 }
 
 #[test]
 fn test_insert_update(rt: HostRuntime) -> Result<(), Fail> {
     let mut cache = CLruCache::new(rt.alloc(), room(1)?);
-    assert_eq!(rt; cache.put("apple", "red")?, None);
-    assert_eq!(rt; cache.put("apple", "green")?, Some("red"));
+    puts(
+        &rt,
+        &mut cache,
+        &[("apple", "red", None), ("apple", "green", Some("red"))],
+    );
     assert_eq!(rt; cache.len(), 1);
-    assert_eq!(rt; cache.get(&"apple").copied(), Some("green"));
+    gets(&rt, &mut cache, &[("apple", Some("green"))]);
     Ok(())
 }
 
 #[test]
 fn test_insert_removes_oldest(rt: HostRuntime) -> Result<(), Fail> {
     let mut cache = CLruCache::new(rt.alloc(), room(2)?);
-    for (fruit, color) in [("apple", "red"), ("banana", "yellow"), ("pear", "green")] {
-        assert_eq!(rt; cache.put(fruit, color)?, None, "{fruit}");
-    }
-    assert_eq!(rt; cache.get(&"apple"), None);
-    assert_eq!(rt; cache.get(&"banana").copied(), Some("yellow"));
-    assert_eq!(rt; cache.get(&"pear").copied(), Some("green"));
-    // It was dropped before, so there is no old value.
-    assert_eq!(rt; cache.put("apple", "green")?, None);
-    assert_eq!(rt; cache.put("tomato", "red")?, None);
-    assert_eq!(rt; cache.get(&"pear"), None);
-    assert_eq!(rt; cache.get(&"apple").copied(), Some("green"));
-    assert_eq!(rt; cache.get(&"tomato").copied(), Some("red"));
+    puts(
+        &rt,
+        &mut cache,
+        &[
+            ("apple", "red", None),
+            ("banana", "yellow", None),
+            ("pear", "green", None),
+        ],
+    );
+    gets(
+        &rt,
+        &mut cache,
+        &[
+            ("apple", None),
+            ("banana", Some("yellow")),
+            ("pear", Some("green")),
+        ],
+    );
+    // An apple was dropped before, so there is no old value.
+    puts(
+        &rt,
+        &mut cache,
+        &[("apple", "green", None), ("tomato", "red", None)],
+    );
+    gets(
+        &rt,
+        &mut cache,
+        &[
+            ("pear", None),
+            ("apple", Some("green")),
+            ("tomato", Some("red")),
+        ],
+    );
     Ok(())
 }
 
@@ -92,22 +122,15 @@ fn test_put_or_modify(rt: HostRuntime) -> Result<(), Fail> {
         assert_eq!(rt; *lent, value, "{key}");
         assert_eq!(rt; cache.len(), len, "{key}");
     }
-    assert_eq!(rt;
-        emptied(rt.alloc(), &mut cache)?.as_slice(),
-        [("b", 5), ("a", 2)].as_slice()
-    );
+    takes_out(&rt, &mut cache, &[("b", 5), ("a", 2)]);
     Ok(())
 }
 
 #[test]
 fn a_lent_value_can_be_written(rt: HostRuntime) -> Result<(), Fail> {
     let mut cache = CLruCache::new(rt.alloc(), room(2)?);
-    assert_eq!(rt; cache.put("a", 1)?, None);
-    assert_eq!(rt; cache.put("b", 2)?, None);
+    puts(&rt, &mut cache, &[("a", 1, None), ("b", 2, None)]);
     *cache.put_or_modify("a", |_, new| new, |_, value, new| *value = new, 7)? = 8;
-    assert_eq!(rt;
-        emptied(rt.alloc(), &mut cache)?.as_slice(),
-        [("a", 8), ("b", 2)].as_slice()
-    );
+    takes_out(&rt, &mut cache, &[("a", 8), ("b", 2)]);
     Ok(())
 }

@@ -2,59 +2,70 @@
 
 use crate::keys::Letter;
 use crate::lists::room;
-use clru::{DefaultState, Replay, replay};
+use clru::{DefaultState, replay};
 use std::alloc::Global;
+use std::hash::Hash;
+use std::process::Abort;
 use std::test::Fail;
 
-/// What a replay of the keys answers.
-fn replayed(alloc: Global, capacity: usize, keys: &[&'static str]) -> Result<Replay, &'static str> {
-    let keys = Vec::from_slice(alloc, keys).map_err(|_| "no memory for the keys")?;
-    replay(alloc, room(capacity)?, keys, DefaultState).map_err(|_| "the keys came back")
-}
-
-#[test]
-fn replay_of_two_keys_misses_four_times(rt: HostRuntime) -> Result<(), Fail> {
-    let answer = replayed(rt.alloc(), 2, &["a", "b", "c", "a"])?;
+/// Asserts that a replay of the keys marks each request as the letters say, H for a hit and M for a miss.
+fn marks<K: Eq + Hash + Drop>(
+    rt: &impl Abort,
+    alloc: Global,
+    capacity: usize,
+    keys: Vec<K>,
+    letters: &str,
+) -> Result<(), &'static str> {
+    let Ok(answer) = replay(alloc, room(capacity)?, keys, DefaultState) else {
+        return Err("the keys came back");
+    };
+    assert_eq!(rt; answer.marks.len(), letters.len());
+    for (hit, letter) in answer.marks.iter().zip(letters.as_bytes().iter()) {
+        assert_eq!(rt; *hit, *letter == b'H', "of {letters}");
+    }
     assert_eq!(rt;
-        answer.marks.as_slice(),
-        [false, false, false, false].as_slice()
+        answer.misses,
+        letters
+            .as_bytes()
+            .iter()
+            .filter(|letter| **letter == b'M')
+            .count()
     );
-    assert_eq!(rt; answer.misses, 4);
     Ok(())
 }
 
 #[test]
+fn replay_of_two_keys_misses_four_times(rt: HostRuntime) -> Result<(), Fail> {
+    let keys = Vec::from_array(rt.alloc(), ["a", "b", "c", "a"])?;
+    marks(&rt, rt.alloc(), 2, keys, "MMMM")?;
+    Ok(())
+}
+
+/// The same for a key of each byte.
+fn marks_bytes(
+    rt: &impl Abort,
+    alloc: Global,
+    capacity: usize,
+    keys: &str,
+    letters: &str,
+) -> Result<(), &'static str> {
+    let keys = Vec::from_slice(alloc, keys.as_bytes()).map_err(|_| "no memory for the keys")?;
+    marks(rt, alloc, capacity, keys, letters)
+}
+
+#[test]
 fn replay_marks_each_request(rt: HostRuntime) -> Result<(), Fail> {
-    let rows: [(usize, &[&'static str], &[bool]); 5] = [
-        (3, &["a", "b", "c", "a"], &[false, false, false, true]),
-        (
-            3,
-            &["a", "b", "c", "a", "d", "b", "a", "c"],
-            &[false, false, false, true, false, false, true, false],
-        ),
-        (2, &[], &[]),
-        (1, &["a", "a", "b", "a"], &[false, true, false, false]),
-        (usize::MAX, &["a", "b", "a"], &[false, false, true]),
-    ];
-    for (row, misses) in rows.iter().zip([3, 6, 0, 3, 2]) {
-        let (capacity, keys, marks) = *row;
-        let answer = replayed(rt.alloc(), capacity, keys)?;
-        assert_eq!(rt; answer.marks.as_slice(), marks, "{keys:?}");
-        assert_eq!(rt; answer.misses, misses, "{keys:?}");
-    }
+    marks_bytes(&rt, rt.alloc(), 3, "abca", "MMMH")?;
+    marks_bytes(&rt, rt.alloc(), 3, "abcadbac", "MMMHMMHM")?;
+    marks_bytes(&rt, rt.alloc(), 2, "", "")?;
+    marks_bytes(&rt, rt.alloc(), 1, "aaba", "MHMM")?;
+    marks_bytes(&rt, rt.alloc(), usize::MAX, "aba", "MMH")?;
     Ok(())
 }
 
 #[test]
 fn replay_goes_by_the_equality_of_keys(rt: HostRuntime) -> Result<(), Fail> {
     let keys = Vec::from_array(rt.alloc(), [b'A', b'b', b'a', b'B', b'c', b'A'].map(Letter))?;
-    let answer = replay(rt.alloc(), room(2)?, keys, DefaultState).map_err(
-        |_| "the keys came back",
-    )?;
-    assert_eq!(rt;
-        answer.marks.as_slice(),
-        [false, false, true, true, false, false].as_slice()
-    );
-    assert_eq!(rt; answer.misses, 4);
+    marks(&rt, rt.alloc(), 2, keys, "MMHHMM")?;
     Ok(())
 }
