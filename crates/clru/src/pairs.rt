@@ -1,5 +1,5 @@
 //! The vector under the cache, the most recently used pair first. Each call is named for what it does to the list.
-ghost use Rattle.std.specs.Prelude.{◌≡◌, ◌<◌, ◌≤◌, ◌∷◌, length, remove, slice_index_or, position, vec_len, vec_capacity, OnOk, OnErr, IsTrue};
+ghost use Rattle.std.specs.Prelude.{◌≡◌, ◌+◌, ◌<◌, ◌≤◌, ◌∷◌, min, max, length, remove, slice_index_or, position, vec_len, vec_capacity, OnOk, OnErr, IsTrue};
 ghost use Rattle.std.specs.Int.NonZero.{non_zero_usize_get};
 ghost use Rattle.clru.specs.Growth.{GrowsIf};
 
@@ -68,8 +68,7 @@ pub(crate) fn make_ready_if<T, A: Allocator>(
 /// Twice the places, at least four, and the capacity at most.
 fn grown(places: usize, capacity: usize) -> usize
     requires { places < capacity }
-    ensures more { places < result }
-    ensures bounded { result ≤ capacity }
+    ensures { result ≡ min capacity (max 4 (places + places)) }
 {
     if places < 2 {
         capacity.min(4)
