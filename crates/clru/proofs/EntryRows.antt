@@ -1,5 +1,5 @@
 -- Puts into small entry lists, worked out by hand: the definitions compute to them. A value is its own weight.
-use Rattle.std.proofs.Common.{◌≡◌, ℕ, ◌-◌, ◌^◌, ◌%◌, Bool, List, [], ◌∷◌, refl}
+use Rattle.std.proofs.Common.{◌≡◌, ℕ, ◌-◌, ◌^◌, ◌%◌, Bool, [], ◌∷◌, refl}
 use Rattle.std.specs.Prelude.{nat_eq}
 use Rattle.clru.specs.Entries.{touch, plain_put, weighted_put, fit, size_of}
 

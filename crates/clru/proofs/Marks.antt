@@ -1,11 +1,10 @@
 -- The marks of requests at two capacities, and after one more request.
-use Rattle.std.proofs.Common.{◌≡◌, ℕ, zero, suc, ◌+◌, ◌≤◌, Bool, true, cond, not, List, []}
-use Rattle.std.proofs.Common.{◌∷◌, ◌++◌, reverse, refl, sym, ap, ◌∙◌, arith, append_assoc, append-nil, Some, ltb}
+use Rattle.std.proofs.Common.{◌≡◌, ℕ, ◌+◌, Bool, cond, not, List, []}
+use Rattle.std.proofs.Common.{◌∷◌, ◌++◌, reverse, refl, sym, ap, ◌∙◌, append_assoc, append-nil}
 use Rattle.std.proofs.lemmas.List.{reverse-append}
 use Rattle.std.proofs.lemmas.List.Sums.{sum_by-cons, sum_by_push}
-use Rattle.std.proofs.lemmas.Bool.{and_parts, and_from, lt-ltb, ltb-true}
-use Rattle.std.specs.List.{slice_get, count_by}
-use Rattle.clru.specs.Requests.{holds, distinct, since, hit, marks_after, marks, misses}
+use Rattle.std.specs.List.{count_by}
+use Rattle.clru.specs.Requests.{hit, marks_after, marks, misses}
 use Rattle.clru.proofs.Distinct.{split}
 
 -- how many marks are false, with one more in front
