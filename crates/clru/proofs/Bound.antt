@@ -38,7 +38,7 @@ miss-le-one b = split b (λ t. rw t (omega arith)) (λ f. rw f (omega arith))
 
 module _ {K : Type 0} (eq : K → K → Bool) where
   -- a list has at most as many distinct keys as keys
-  distinct-le-length : (ks : List K) → distinct eq ks ≤ length ks
+  pub distinct-le-length : (ks : List K) → distinct eq ks ≤ length ks
   distinct-le-length [] = omega arith
   distinct-le-length (k ∷ ks) = let ih = distinct-le-length ks in split (holds eq k ks) (λ t. rw t (omega arith)) (λ f. rw f (omega arith))
 

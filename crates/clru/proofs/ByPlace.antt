@@ -8,6 +8,8 @@ use Rattle.std.specs.Cmp.{IsEquivalence}
 use Rattle.std.specs.List.{slice_get, slice_range}
 use Rattle.clru.specs.Requests.{holds, distinct, since, hit, marks_after, marks}
 use Rattle.clru.specs.ByPlace.{IsHitAt}
+use Rattle.clru.proofs.Counting.{count_unique}
+use Rattle.clru.proofs.DistinctByPlace.{distinct_by_place}
 use Rattle.clru.proofs.Distinct.{split, holds-append, since-cons, not_since}
 use Rattle.clru.proofs.Marks.{reverse-cons-append}
 use Rattle.clru.proofs.Places.{slice_get-append_right, slice_get_middle, slice_get_between, slice_range_between}
@@ -93,7 +95,9 @@ module _ {K : Type 0} (eq : K → K → Bool) where
         LacksKey_from_holds eq between x none (p - length before - 1) z
         (sym (slice_get_between before y between (x ∷ after) (p - length before - 1) within)
         ∙ ap (slice_get (before ++ y ∷ (between ++ x ∷ after))) (sym j) ∙ at);
-    few = rw slice_range_between few;
+    between = distinct eq (reverse between);
+    distinct_between = rw slice_range_between (distinct_by_place eq between);
+    few = few;
   }
 
   -- the same from what the places between tell
@@ -116,7 +120,8 @@ module _ {K : Type 0} (eq : K → K → Bool) where
   marks_from_IsHitAt k rs i r =
       let (before, between, after, e, n, m) = split_at_two_places rs r.before i r.key_before r.key r.earlier r.requested_before r.requested in
       marks_at_places k before r.key_before between r.key after rs i (sym e) (sym m) r.same
-      (λ p z low high at. r.latest p z (rw n at low) high at) (rw n r.few)
+      (λ p z low high at. r.latest p z (rw n at low) high at)
+      (rw (n, ← count_unique r.distinct_between (distinct_by_place eq (slice_range rs (r.before + 1) i))) r.few)
 
 module _ {K : Type 0} (eq : K → K → Bool) (laws : IsEquivalence eq) where
   -- what stands before a hit, split at the latest request of its key

@@ -1,9 +1,11 @@
 pub mod Bound
 pub mod ByPlace
 pub mod CallerLemmas
+pub mod Counting
 pub mod Distinct
 pub mod EntryRows
 pub mod Finding
+pub mod DistinctByPlace
 pub mod Fitting
 pub mod Hits
 pub mod Keeping

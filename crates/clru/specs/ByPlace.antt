@@ -1,7 +1,14 @@
 -- Hits and schedules said again by places, counted from 0, in the words of a sentence about them.
-use Rattle.std.specs.Prelude.{◌≡◌, ◌⊎◌, ℕ, ◌+◌, ◌<◌, ◌≤◌, Bool, true, false, Some, List, length, reverse}
-use Rattle.std.specs.List.{slice_get, slice_range}
-use Rattle.clru.specs.Requests.{distinct}
+-- Public clauses cite them.
+use Rattle.std.specs.Prelude.{◌≡◌, ◌⊎◌, ◌↔◌, ℕ, ◌+◌, ◌<◌, ◌≤◌, Bool, true, false, nat_eq, Some, List, length}
+use Rattle.std.specs.List.{slice_get, slice_range, Contains, IsDistinct}
+
+-- n is how many places have the property: there is a list of n pairwise different places, which are those and no others
+pub record IsCountOf (P : ℕ → Type 0) (n : ℕ) : Type 0 where
+  pub places : List ℕ
+  pub many : length places ≡ n
+  pub different : IsDistinct nat_eq places
+  pub each : (p : ℕ) → Contains places p ↔ P p
 
 module _ {K : Type 0} (eq : K → K → Bool) where
   -- some place of ks has a key that is the same as x
@@ -11,6 +18,12 @@ module _ {K : Type 0} (eq : K → K → Bool) where
   -- no place of ks has a key that is the same as x
   abbrev pub LacksKey : List K → K → Type 0
   LacksKey ks x = (p : ℕ) (y : K) → slice_get ks p ≡ Some y → eq x y ≡ false
+
+  -- the key at p stands there first: no place before p has a key that is the same
+  pub record IsFirstAt (ks : List K) (p : ℕ) : Type 0 where
+    pub key : K
+    pub at : slice_get ks p ≡ Some key
+    pub none_before : (j : ℕ) (y : K) → j < p → slice_get ks j ≡ Some y → eq key y ≡ false
 
   -- the request at i hits: its key was requested before, and since the latest such request fewer than k distinct keys were
   pub record IsHitAt (k : ℕ) (rs : List K) (i : ℕ) : Type 0 where
@@ -22,8 +35,10 @@ module _ {K : Type 0} (eq : K → K → Bool) where
     pub requested_before : slice_get rs before ≡ Some key_before
     pub same : eq key key_before ≡ true
     pub latest : (p : ℕ) (y : K) → before < p → p < i → slice_get rs p ≡ Some y → eq key y ≡ false
-    -- of the requests strictly between, the latest first
-    pub few : distinct eq (reverse (slice_range rs (before + 1) i)) < k
+    -- how many of the requests strictly between ask for a key that none of these before it asked for
+    pub between : ℕ
+    pub distinct_between : IsCountOf (IsFirstAt (slice_range rs (before + 1) i)) between
+    pub few : between < k
 
   -- a schedule of h keys: one more list of held keys than requests, each of at most h keys. Each key held after a request was held before it or
   -- is the request's, and the request's key is held after it
