@@ -1,16 +1,17 @@
 -- The computed numbers of distinct keys and of misses are counts of places.
-use Rattle.std.proofs.Common.{◌≡◌, ℕ, zero, suc, ◌+◌, ◌<◌, Bool, true, false, not, ◌⊎◌, List, [], ◌∷◌, ◌++◌, length, reverse}
-use Rattle.std.proofs.Common.{Some, inl, inr, refl, sym, ap, ◌∙◌, subst, arith, add-one}
+use Rattle.std.proofs.Common.{◌≡◌, ℕ, zero, suc, ◌+◌, ◌<◌, Bool, true, false, cond, not, ◌⊎◌, List, [], ◌∷◌, ◌++◌, length, reverse}
+use Rattle.std.proofs.Common.{Some, inl, inr, refl, sym, ap, ◌∙◌, subst, arith, add-one, add-zero}
 use Rattle.std.proofs.lemmas.List.{reverse-append, reverse-reverse}
 use Rattle.std.proofs.lemmas.Option.{same_Some, slice_get_within}
 use Rattle.std.specs.List.{slice_get, count_by}
 use Rattle.clru.specs.Requests.{holds, distinct}
-use Rattle.clru.specs.Schedule.{schedule_misses}
+use Rattle.clru.specs.Schedule.{schedule_marks, schedule_misses}
 use Rattle.clru.specs.ByPlace.{IsCountOf, IsFirstAt, IsScheduleMissAt}
 use Rattle.clru.proofs.Counting.{count_none, count_same, count_next}
 use Rattle.clru.proofs.Distinct.{split}
 use Rattle.clru.proofs.Marks.{count_by-not-push}
 use Rattle.clru.proofs.Places.{slice_get-append_left, slice_get_middle, LacksKey_from_holds, holds_from_LacksKey, holds-reverse}
+use Rattle.clru.proofs.SchedulesByPlace.{schedule_misses_by_place}
 
 module _ {X : Type 0} where
   -- what stands at a place of a list with one more element at its end
@@ -24,6 +25,39 @@ module _ {X : Type 0} where
         | inl a ↦ inl a
         | inr b ↦ inr (ap suc b.0, b.1)
       ]
+
+-- of marks, the last first
+false_marks_of : (last_first : List Bool) → IsCountOf (λ i. slice_get (reverse last_first) i ≡ Some false) (count_by not (reverse last_first))
+false_marks_of [] = count_none (λ i. slice_get {X = Bool} [] i ≡ Some false) (λ i at. cc)
+false_marks_of (m ∷ ms) =
+    let more : count_by not (reverse (m ∷ ms)) ≡ count_by not (reverse ms) + cond m 0 1 =
+    ap (count_by not) (reverse-append (m ∷ []) ms) ∙ count_by-not-push (reverse ms) m in
+    rw (more, reverse-append (m ∷ []) ms) (marks_next (reverse ms) m (count_by not (reverse ms)) (false_marks_of ms))
+  where
+    still : (bs : List Bool) (b : Bool) (i : ℕ) → slice_get bs i ≡ Some false → slice_get (bs ++ b ∷ []) i ≡ Some false
+    still bs b i at = let within : i < length bs = slice_get_within bs i false at in slice_get-append_left bs (b ∷ []) i within ∙ at
+
+    marks_next : (bs : List Bool) (b : Bool) (n : ℕ) → IsCountOf (λ i. slice_get bs i ≡ Some false) n
+        → IsCountOf (λ i. slice_get (bs ++ b ∷ []) i ≡ Some false) (n + cond b 0 1)
+    marks_next bs true n c = rw add-zero (count_same c (still bs true) (λ i at. elim (slice_get_push bs true false i at) [
+      | inl before ↦ before
+      | inr last ↦ let no : true ≡ false = last.1 in cc
+    ]))
+    marks_next bs false n c = rw add-one (count_next (length bs) c (λ i at. slice_get_within bs i false at) (still bs false)
+        (slice_get_middle bs [] false) (λ i at. elim (slice_get_push bs false false i at) [
+      | inl before ↦ inl before
+      | inr last ↦ inr last.0
+    ]))
+
+-- the false marks of a list are as many as their places
+pub false_marks_by_place : (ms : List Bool) → IsCountOf (λ i. slice_get ms i ≡ Some false) (count_by not ms)
+false_marks_by_place ms = subst (λ l. IsCountOf (λ i. slice_get l i ≡ Some false) (count_by not l)) (reverse-reverse ms) (false_marks_of (reverse ms))
+
+module _ {K : Type 0} (eq : K → K → Bool) where
+  -- a schedule's misses are as many as the requests that it misses
+  pub schedule_misses_counted : (held : List (List K)) (rs : List K) → IsCountOf (IsScheduleMissAt eq held rs) (schedule_misses eq held rs)
+  schedule_misses_counted held rs = count_same (false_marks_by_place (schedule_marks eq held rs))
+      (λ i. (schedule_misses_by_place eq held rs i).0) (λ i. (schedule_misses_by_place eq held rs i).1)
 
 module _ {K : Type 0} (eq : K → K → Bool) where
   -- a key that stands first still does with one more at the end

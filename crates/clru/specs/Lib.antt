@@ -6,6 +6,7 @@ pub mod Competes
 pub mod Entries
 pub mod Fields
 pub mod Growth
+pub mod Laws
 pub mod Puts
 pub mod Requests
 pub mod Schedule
