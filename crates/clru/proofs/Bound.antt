@@ -33,7 +33,7 @@ paid_full n g m d s u e b c once ih full near seen =
     rw full (omega (arith, p, q, r))
 
 -- a mark counts for one miss at most
-miss-le-one : (b : Bool) → cond b 0 1 ≤ 1
+pub miss-le-one : (b : Bool) → cond b 0 1 ≤ 1
 miss-le-one b = split b (λ t. rw t (omega arith)) (λ f. rw f (omega arith))
 
 module _ {K : Type 0} (eq : K → K → Bool) where

@@ -7,6 +7,7 @@ pub mod EntryRows
 pub mod Finding
 pub mod DistinctByPlace
 pub mod Fitting
+pub mod Growing
 pub mod Hits
 pub mod Keeping
 pub mod Marks

@@ -37,6 +37,15 @@ module _ {K : Type 0} (eq : K → K → Bool) where
   ScheduleMissesAreByPlace = (held : List (List K)) (requests : List K)
       → IsCountOf (IsScheduleMissAt eq held requests) (schedule_misses eq held requests)
 
+  -- a request that hits at a capacity hits at each greater one
+  abbrev pub HitsGrow : Type 0
+  HitsGrow = (k l i : ℕ) (requests : List K) → k ≤ l → slice_get (marks eq k requests) i ≡ Some true
+      → slice_get (marks eq l requests) i ≡ Some true
+
+  -- a greater capacity has no more misses
+  abbrev pub MissesFall : Type 0
+  MissesFall = (k l : ℕ) (requests : List K) → k ≤ l → misses eq l requests ≤ misses eq k requests
+
 module _ (K V : Type 0) where
   -- `fit` is the longest beginning that fits
   abbrev pub FitIsLongest : Type 0

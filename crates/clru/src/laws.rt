@@ -1,6 +1,7 @@
 //! Laws of the definitions that the contracts cite. They do nothing at run time.
 ghost use Rattle.clru.specs.Laws.{TrueMarksAreHits, OneMarkForEach, MissesAreFalseMarks, DistinctCountsFirst};
 ghost use Rattle.clru.specs.Laws.{SchedulesAreByPlace, FalseMarksAreMisses, ScheduleMissesAreByPlace};
+ghost use Rattle.clru.specs.Laws.{HitsGrow, MissesFall};
 ghost use Rattle.clru.specs.Laws.{FitIsLongest, OnlyFitIsLongest};
 
 /// Does nothing at run time. Its contract says that the hits, misses and numbers of distinct keys that the other contracts
@@ -17,6 +18,13 @@ pub fn law_schedules_by_place<K: Eq>()
     ensures schedules { SchedulesAreByPlace K.eq }
     ensures marks { FalseMarksAreMisses K.eq }
     ensures misses { ScheduleMissesAreByPlace K.eq }
+{}
+
+/// Does nothing at run time. Its contract says that a replay of a greater capacity hits wherever one of a lesser capacity
+/// does.
+pub fn law_growth<K: Eq>()
+    ensures grows { HitsGrow K.eq }
+    ensures misses { MissesFall K.eq }
 {}
 
 /// Does nothing at run time. Its contract says that what a weighted put keeps of the other entries, which is defined by
