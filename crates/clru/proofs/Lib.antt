@@ -9,6 +9,7 @@ pub mod DistinctByPlace
 pub mod Fitting
 pub mod Growing
 pub mod Hits
+pub mod Inclusion
 pub mod Keeping
 pub mod Marks
 pub mod Places

@@ -1,9 +1,10 @@
 -- The statements of the laws. Public clauses cite them.
-use Rattle.std.specs.Prelude.{◌≡◌, ◌↔◌, ℕ, ◌≤◌, Bool, true, false, Some, List, ◌++◌, length, reverse}
+use Rattle.std.specs.Prelude.{◌≡◌, ◌↔◌, ℕ, ◌≤◌, Bool, true, false, Some, List, [], ◌++◌, length, reverse}
 use Rattle.std.specs.List.{slice_get}
 use Rattle.clru.specs.ByPlace.{IsCountOf, IsFirstAt, IsHitAt, IsScheduleAt, IsScheduleMissAt}
 use Rattle.clru.specs.Entries.{fit, IsLongestFit}
 use Rattle.clru.specs.Requests.{distinct, marks, misses}
+use Rattle.clru.specs.Runs.{Call, after_all, AreTaken}
 use Rattle.clru.specs.Schedule.{IsSchedule, schedule_marks, schedule_misses}
 
 module _ {K : Type 0} (eq : K → K → Bool) where
@@ -54,3 +55,10 @@ module _ (K V : Type 0) where
   -- no other beginning is
   abbrev pub OnlyFitIsLongest : Type 0
   OnlyFitIsLongest = (weight : K → V → ℕ) (c : ℕ) (es p : List (K × V)) → IsLongestFit weight c es p → p ≡ fit weight c es
+
+module _ {K : Type 0} (eq : K → K → Bool) (V : Type 0) where
+  -- calls on two empty lists, of which the lesser capacity takes each: the list that they leave there begins the one that
+  -- they leave at the greater capacity
+  abbrev pub LesserBeginsGreater : Type 0
+  LesserBeginsGreater = (weight : K → V → ℕ) (c d : ℕ) (calls : List (Call K V)) → c ≤ d → AreTaken weight c calls
+      → (rest : List (K × V)) × (after_all eq weight d calls [] ≡ after_all eq weight c calls [] ++ rest)

@@ -9,4 +9,5 @@ pub mod Growth
 pub mod Laws
 pub mod Puts
 pub mod Requests
+pub mod Runs
 pub mod Schedule

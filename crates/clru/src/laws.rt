@@ -2,6 +2,7 @@
 ghost use Rattle.clru.specs.Laws.{TrueMarksAreHits, OneMarkForEach, MissesAreFalseMarks, DistinctCountsFirst};
 ghost use Rattle.clru.specs.Laws.{SchedulesAreByPlace, FalseMarksAreMisses, ScheduleMissesAreByPlace};
 ghost use Rattle.clru.specs.Laws.{HitsGrow, MissesFall};
+ghost use Rattle.clru.specs.Laws.{LesserBeginsGreater};
 ghost use Rattle.clru.specs.Laws.{FitIsLongest, OnlyFitIsLongest};
 
 /// Does nothing at run time. Its contract says that the hits, misses and numbers of distinct keys that the other contracts
@@ -25,6 +26,16 @@ pub fn law_schedules_by_place<K: Eq>()
 pub fn law_growth<K: Eq>()
     ensures grows { HitsGrow K.eq }
     ensures misses { MissesFall K.eq }
+{}
+
+/// Does nothing at run time. Its contract says that of two caches of one scale, both empty at first and sent the same calls,
+/// the one of the lesser capacity ends with the first entries of the other.
+///
+/// The calls are `put_with_weight`, `pop`, `pop_front`, `pop_back`, `clear`, `peek` and `contains`, and no put is refused.
+/// With a `get` among them, which moves an entry that the lesser cache may not hold, or with a put that one cache refuses,
+/// this does not hold.
+pub fn law_inclusion<K: Eq, V>()
+    ensures included { LesserBeginsGreater K.eq V }
 {}
 
 /// Does nothing at run time. Its contract says that what a weighted put keeps of the other entries, which is defined by

@@ -26,7 +26,7 @@ mod weight;
 pub use answer::Replay;
 pub use cache::CLruCache;
 pub use error::{NoMemory, PutError};
-pub use laws::{law_by_place, law_growth, law_longest_fit, law_schedules_by_place};
+pub use laws::{law_by_place, law_growth, law_inclusion, law_longest_fit, law_schedules_by_place};
 pub use requests::replay;
 pub use state::DefaultState;
 pub use std::num::NonZeroUsize;
