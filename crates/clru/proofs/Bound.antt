@@ -1,10 +1,11 @@
 -- The misses at a capacity against those of any schedule.
 use Rattle.std.proofs.Common.{◌≡◌, ℕ, suc, ◌+◌, ◌-◌, ◌*◌, ◌≤◌, Bool, true, false, cond, not, ◌||◌}
-use Rattle.std.proofs.Common.{List, [], ◌∷◌, ◌++◌, length, refl, ap, ◌∙◌, subst, arith, inl, inr, append-nil, mul-le-mul_left}
+use Rattle.std.proofs.Common.{List, [], ◌∷◌, ◌++◌, length, refl, ap, ◌∙◌, subst, arith, inl, inr, append-nil, mul-le-mul_left, mul-le-mul_right}
 use Rattle.std.proofs.Math.Bool.{or_comm}
 use Rattle.std.proofs.lemmas.Bool.{or_left, or_right, and_parts, or_cases, cases_lt, lt-ltb}
 use Rattle.std.specs.Cmp.{IsEquivalence}
 use Rattle.std.specs.List.{count_by, list_all}
+use Rattle.clru.specs.Competes.{IsCompetitive, IsCompetitiveFromAnyStart}
 use Rattle.clru.specs.Requests.{holds, distinct, since, hit, marks_after, misses}
 use Rattle.clru.specs.Schedule.{IsSchedule, schedule_misses}
 use Rattle.clru.proofs.Marks.{count_by-not-cons}
@@ -181,7 +182,13 @@ module _ {K : Type 0} (eq : K → K → Bool) (laws : IsEquivalence eq) where
       subst (λ c. (k - h + 1) * misses eq c rs ≤ c * schedule_misses eq (start ∷ schedule) rs + length start * (k - h + 1)) ek
       (bound_by (k - h + 1) (h - 1) start schedule rs (omega arith) (subst (λ c. IsSchedule eq c (start ∷ schedule) rs) eh sched))
 
-  -- against a schedule of h keys that starts empty
-  pub misses_bound_empty : (h k : ℕ) (schedule : List (List K)) (rs : List K) → 1 ≤ h → h ≤ k → IsSchedule eq h ([] ∷ schedule) rs
-      → (k - h + 1) * misses eq k rs ≤ k * schedule_misses eq ([] ∷ schedule) rs
-  misses_bound_empty h k schedule rs pos within sched = omega (arith, misses_bound h k [] schedule rs pos within sched)
+  -- the bound against each schedule that starts empty
+  pub competitive : (k : ℕ) (rs : List K) → IsCompetitive eq k rs (misses eq k rs)
+  competitive k rs h schedule pos within sched = omega (arith, misses_bound h k [] schedule rs pos within sched)
+
+  -- a schedule of h keys starts with h keys at most
+  pub competitive_from_any_start : (k : ℕ) (rs : List K) → IsCompetitiveFromAnyStart eq k rs (misses eq k rs)
+  competitive_from_any_start k rs h [] pos within sched = absurd sched
+  competitive_from_any_start k rs h (start ∷ schedule) pos within sched =
+      let kept : length start * (k - h + 1) ≤ h * (k - h + 1) = mul-le-mul_right (k - h + 1) (schedule_short h start schedule rs sched) in
+      omega (arith, misses_bound h k start schedule rs pos within sched, kept)

@@ -7,3 +7,8 @@ module _ {K : Type 0} (eq : K → K → Bool) where
   abbrev pub IsCompetitive : ℕ → List K → ℕ → Type 0
   IsCompetitive k requests n = (h : ℕ) (schedule : List (List K)) → 1 ≤ h → h ≤ k → IsSchedule eq h ([] ∷ schedule) requests
       → (k - h + 1) * n ≤ k * schedule_misses eq ([] ∷ schedule) requests
+
+  -- the same beside schedules that start with any keys, for up to h more misses
+  abbrev pub IsCompetitiveFromAnyStart : ℕ → List K → ℕ → Type 0
+  IsCompetitiveFromAnyStart k requests n = (h : ℕ) (schedule : List (List K)) → 1 ≤ h → h ≤ k → IsSchedule eq h schedule requests
+      → (k - h + 1) * n ≤ k * schedule_misses eq schedule requests + h * (k - h + 1)
