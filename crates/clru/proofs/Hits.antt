@@ -15,6 +15,14 @@ module _ {K : Type 0} (eq : K → K → Bool) where
   pub record Keeps (k : ℕ) (past ks : List K) : Type 0 where
     pub kept : (j : ℕ) (y : K) → j ≤ k → holds eq y (take j ks) ≡ hit eq j past y
 
+  -- before the first request nothing is held
+  pub Keeps_none : (k : ℕ) → Keeps k [] []
+  Keeps_none k = record { kept = none }
+    where
+      none : (j : ℕ) (y : K) → j ≤ k → holds eq y (take j []) ≡ hit eq j [] y
+      none zero y within = refl
+      none (suc j) y within = refl
+
   -- at capacity 0 nothing hits
   hit-zero : (past : List K) (x : K) → hit eq 0 past x ≡ false
   hit-zero past x = split (holds eq x past) (λ t. rw t (grind (arith, nat_tests))) (λ f. rw f refl)

@@ -13,6 +13,7 @@ pub mod Inclusion
 pub mod Keeping
 pub mod Marks
 pub mod Places
+pub mod PutRuns
 pub mod Putting
 pub mod Replaying
 pub mod Rows

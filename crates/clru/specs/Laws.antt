@@ -1,10 +1,11 @@
 -- The statements of the laws. Public clauses cite them.
-use Rattle.std.specs.Prelude.{◌≡◌, ◌↔◌, ℕ, ◌≤◌, Bool, true, false, Some, List, [], ◌++◌, length, reverse}
-use Rattle.std.specs.List.{slice_get}
+use Rattle.std.specs.Prelude.{◌≡◌, ◌↔◌, ℕ, ◌≤◌, Bool, true, false, not, Some, List, [], ◌∷◌, ◌++◌, length, reverse}
+use Rattle.std.specs.List.{slice_get, count_by}
 use Rattle.clru.specs.ByPlace.{IsCountOf, IsFirstAt, IsHitAt, IsScheduleAt, IsScheduleMissAt}
+use Rattle.clru.specs.Competes.{IsCompetitive, IsCompetitiveFromAnyStart}
 use Rattle.clru.specs.Entries.{fit, IsLongestFit}
 use Rattle.clru.specs.Requests.{distinct, marks, misses}
-use Rattle.clru.specs.Runs.{Call, after_all, AreTaken}
+use Rattle.clru.specs.Runs.{Call, after_all, AreTaken, IsPutRun, held_before}
 use Rattle.clru.specs.Schedule.{IsSchedule, schedule_marks, schedule_misses}
 
 module _ {K : Type 0} (eq : K → K → Bool) where
@@ -62,3 +63,18 @@ module _ {K : Type 0} (eq : K → K → Bool) (V : Type 0) where
   abbrev pub LesserBeginsGreater : Type 0
   LesserBeginsGreater = (weight : K → V → ℕ) (c d : ℕ) (calls : List (Call K V)) → c ≤ d → AreTaken weight c calls
       → (rest : List (K × V)) × (after_all eq weight d calls [] ≡ after_all eq weight c calls [] ++ rest)
+
+  -- a run of puts from the empty list holds a key before its put exactly where the request hits
+  abbrev pub PutsHit : Type 0
+  PutsHit = (k : ℕ) (requests : List K) (later : List (List (K × V))) → 1 ≤ k → IsPutRun eq k ([] ∷ later) requests
+      → held_before eq ([] ∷ later) requests ≡ marks eq k requests
+
+  -- the puts whose key is not held before them keep the bound beside schedules that start empty
+  abbrev pub PutsCompete : Type 0
+  PutsCompete = (k : ℕ) (requests : List K) (later : List (List (K × V))) → 1 ≤ k → IsPutRun eq k ([] ∷ later) requests
+      → IsCompetitive eq k requests (count_by not (held_before eq ([] ∷ later) requests))
+
+  -- and that beside schedules that start with any keys
+  abbrev pub PutsCompeteFromAnyStart : Type 0
+  PutsCompeteFromAnyStart = (k : ℕ) (requests : List K) (later : List (List (K × V))) → 1 ≤ k → IsPutRun eq k ([] ∷ later) requests
+      → IsCompetitiveFromAnyStart eq k requests (count_by not (held_before eq ([] ∷ later) requests))

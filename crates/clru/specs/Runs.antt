@@ -1,6 +1,9 @@
 -- Runs of calls over entry lists. Public clauses cite them.
-use Rattle.std.specs.Prelude.{ℕ, ◌-◌, ◌<◌, nat_lt, Bool, if◌then◌else◌, ⊤, List, [], ◌∷◌, length, take, drop}
+use Rattle.std.specs.Prelude.{◌≡◌, ℕ, ◌-◌, ◌<◌, nat_lt, Bool, true, if◌then◌else◌, ⊤, List, [], ◌∷◌, length, take, drop, map}
+use Rattle.std.specs.Map.{keys_of}
 use Rattle.clru.specs.Entries.{without, weighted_put}
+use Rattle.clru.specs.Requests.{holds}
+use Rattle.clru.specs.Schedule.{schedule_marks}
 
 -- one call on a cache
 pub data Call (K V : Type 0) : Type 0 where
@@ -38,3 +41,28 @@ module _ {K V : Type 0} (weight : K → V → ℕ) (c : ℕ) where
   abbrev pub AreTaken : List (Call K V) → Type 0
   AreTaken [] = ⊤
   AreTaken (call ∷ calls) = IsTaken call × AreTaken calls
+
+module _ {K V : Type 0} (eq : K → K → Bool) (k : ℕ) where
+  -- the entries after a put of the key x under the capacity k at weight zero, in whichever form: first a pair of the key, then
+  -- the others without its old pair, or, where it was not held, as many of the others as have room beside it
+  pub record IsPut (x : K) (es next : List (K × V)) : Type 0 where
+    pub key : K
+    pub value : V
+    pub same : eq x key ≡ true
+    pub entries : next ≡ (key, value) ∷ (if holds eq x (keys_of es) then without eq x es else take (k - 1) es)
+
+  -- the first of the later lists is the one after a put of x
+  abbrev pub PutsNext : List (K × V) → K → List (List (K × V)) → Type 0
+  PutsNext es x [] = ⊥
+  PutsNext es x (next ∷ later) = IsPut x es next
+
+  -- the entries before each request and at the end, where each request in turn is a put of its key
+  abbrev pub IsPutRun : List (List (K × V)) → List K → Type 0
+  IsPutRun [] requests = ⊥
+  IsPutRun (es ∷ later) [] = later ≡ []
+  IsPutRun (es ∷ later) (x ∷ requests) = PutsNext es x later × IsPutRun later requests
+
+module _ {K V : Type 0} (eq : K → K → Bool) where
+  -- for each request in order whether its key is held before it
+  abbrev pub held_before : List (List (K × V)) → List K → List Bool
+  held_before run requests = schedule_marks eq (map keys_of run) requests

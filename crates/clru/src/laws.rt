@@ -3,6 +3,7 @@ ghost use Rattle.clru.specs.Laws.{TrueMarksAreHits, OneMarkForEach, MissesAreFal
 ghost use Rattle.clru.specs.Laws.{SchedulesAreByPlace, FalseMarksAreMisses, ScheduleMissesAreByPlace};
 ghost use Rattle.clru.specs.Laws.{HitsGrow, MissesFall};
 ghost use Rattle.clru.specs.Laws.{LesserBeginsGreater};
+ghost use Rattle.clru.specs.Laws.{PutsHit, PutsCompete, PutsCompeteFromAnyStart};
 ghost use Rattle.clru.specs.Laws.{FitIsLongest, OnlyFitIsLongest};
 
 /// Does nothing at run time. Its contract says that the hits, misses and numbers of distinct keys that the other contracts
@@ -36,6 +37,17 @@ pub fn law_growth<K: Eq>()
 /// this does not hold.
 pub fn law_inclusion<K: Eq, V>()
     ensures included { LesserBeginsGreater K.eq V }
+{}
+
+/// Does nothing at run time. Its contract says that a cache of weight zero, empty at first, that takes each key of a list in
+/// turn by one of the puts, in whichever form, holds a key before its put exactly where `replay` of the list marks a hit, and
+/// that the puts whose key it does not hold keep the bound that `replay` keeps.
+///
+/// No put is refused, and no other call changes the cache.
+pub fn law_requests<K: Eq, V>()
+    ensures hits { PutsHit K.eq V }
+    ensures bound { PutsCompete K.eq V }
+    ensures bound_any_start { PutsCompeteFromAnyStart K.eq V }
 {}
 
 /// Does nothing at run time. Its contract says that what a weighted put keeps of the other entries, which is defined by

@@ -1,0 +1,52 @@
+-- Runs of puts hold the keys that hit.
+use Rattle.std.proofs.Common.{◌≡◌, ℕ, zero, suc, ◌-◌, ◌<◌, ◌≤◌, Bool, true, false, cond, not, List, [], ◌∷◌, length, take, map}
+use Rattle.std.proofs.Common.{refl, sym, ap, ap₂, ◌∙◌, subst, arith, length-take}
+use Rattle.std.specs.Cmp.{IsEquivalence}
+use Rattle.std.specs.List.{count_by}
+use Rattle.std.specs.Map.{keys_of, remove_entry}
+use Rattle.clru.specs.Competes.{IsCompetitive, IsCompetitiveFromAnyStart}
+use Rattle.clru.specs.Requests.{holds, hit, marks_after, marks, misses}
+use Rattle.clru.specs.Runs.{IsPut, IsPutRun, held_before}
+use Rattle.clru.proofs.Bound.{competitive, competitive_from_any_start}
+use Rattle.clru.proofs.Distinct.{split}
+use Rattle.clru.proofs.Hits.{Keeps, Keeps_none, Keeps_held, Keeps_put}
+
+module _ {K V : Type 0} (eq : K → K → Bool) where
+  -- without its pair a list that holds a key is shorter by one
+  pub length-without_held : (x : K) (es : List (K × V)) → holds eq x (keys_of es) ≡ true → suc (length (remove_entry (eq x) es)) ≡ length es
+  length-without_held x [] h = cc
+  length-without_held x (e ∷ es) h =
+      split (eq x e.0) (λ t. rw t refl) (λ f. let here = rw f at h in rw f (ap suc (length-without_held x es here)))
+
+  -- a put keeps a list within the capacity
+  length-put : (k : ℕ) (x : K) (es next : List (K × V)) → 1 ≤ k → length es ≤ k → IsPut eq k x es next → length next ≤ k
+  length-put k x es next some short p = rw p.entries (split (holds eq x (keys_of es))
+      (λ t. rw t (omega (arith, length-without_held x es t)))
+      (λ f. rw f (omega (arith, length-take (k - 1) es))))
+
+module _ {K V : Type 0} (eq : K → K → Bool) (laws : IsEquivalence eq) (k : ℕ) (some : 1 ≤ k) where
+  held_after : (past : List K) (es : List (K × V)) (later : List (List (K × V))) (rs : List K) → length es ≤ k → Keeps eq k past (keys_of es)
+      → IsPutRun eq k (es ∷ later) rs → held_before eq (es ∷ later) rs ≡ marks_after eq past k rs
+  held_after past es later [] short keeps run = refl
+  held_after past es [] (x ∷ rs) short keeps run = absurd run.0
+  held_after past es (next ∷ later) (x ∷ rs) short keeps run =
+      let p = run.0 in
+      let held = Keeps_held eq x es short keeps in
+      let rest = held_after (x ∷ past) next later rs (length-put eq k x es next some short p)
+      (Keeps_put eq laws x p.key p.value es next p.same keeps p.entries) run.1 in
+      rw (held, rest) refl
+
+  module _ (rs : List K) (later : List (List (K × V))) (run : IsPutRun eq k ([] ∷ later) rs) where
+    -- a run of puts holds a key before its put exactly where the request hits
+    pub held_before_marks : held_before eq ([] ∷ later) rs ≡ marks eq k rs
+    held_before_marks = held_after [] [] later rs (omega arith) (Keeps_none eq k) run
+
+    -- so the puts whose key is not held before them are the misses
+    not_held_misses : count_by not (held_before eq ([] ∷ later) rs) ≡ misses eq k rs
+    not_held_misses = ap (count_by not) held_before_marks
+
+    pub puts_compete : IsCompetitive eq k rs (count_by not (held_before eq ([] ∷ later) rs))
+    puts_compete = subst (IsCompetitive eq k rs) (sym not_held_misses) (competitive eq laws k rs)
+
+    pub puts_compete_from_any_start : IsCompetitiveFromAnyStart eq k rs (count_by not (held_before eq ([] ∷ later) rs))
+    puts_compete_from_any_start = subst (IsCompetitiveFromAnyStart eq k rs) (sym not_held_misses) (competitive_from_any_start eq laws k rs)
