@@ -14,6 +14,7 @@ pub mod Keeping
 pub mod Marks
 pub mod Places
 pub mod PutRuns
+pub mod PutSteps
 pub mod Putting
 pub mod Replaying
 pub mod Rows

@@ -10,19 +10,7 @@ use Rattle.clru.specs.Runs.{IsPut, IsPutRun, held_before}
 use Rattle.clru.proofs.Bound.{competitive, competitive_from_any_start}
 use Rattle.clru.proofs.Distinct.{split}
 use Rattle.clru.proofs.Hits.{Keeps, Keeps_none, Keeps_held, Keeps_put}
-
-module _ {K V : Type 0} (eq : K → K → Bool) where
-  -- without its pair a list that holds a key is shorter by one
-  pub length-without_held : (x : K) (es : List (K × V)) → holds eq x (keys_of es) ≡ true → suc (length (remove_entry (eq x) es)) ≡ length es
-  length-without_held x [] h = cc
-  length-without_held x (e ∷ es) h =
-      split (eq x e.0) (λ t. rw t refl) (λ f. let here = rw f at h in rw f (ap suc (length-without_held x es here)))
-
-  -- a put keeps a list within the capacity
-  length-put : (k : ℕ) (x : K) (es next : List (K × V)) → 1 ≤ k → length es ≤ k → IsPut eq k x es next → length next ≤ k
-  length-put k x es next some short p = rw p.entries (split (holds eq x (keys_of es))
-      (λ t. rw t (omega (arith, length-without_held x es t)))
-      (λ f. rw f (omega (arith, length-take (k - 1) es))))
+use Rattle.clru.proofs.PutSteps.{length-put}
 
 module _ {K V : Type 0} (eq : K → K → Bool) (laws : IsEquivalence eq) (k : ℕ) (some : 1 ≤ k) where
   held_after : (past : List K) (es : List (K × V)) (later : List (List (K × V))) (rs : List K) → length es ≤ k → Keeps eq k past (keys_of es)
@@ -33,7 +21,7 @@ module _ {K V : Type 0} (eq : K → K → Bool) (laws : IsEquivalence eq) (k : �
       let p = run.0 in
       let held = Keeps_held eq x es short keeps in
       let rest = held_after (x ∷ past) next later rs (length-put eq k x es next some short p)
-      (Keeps_put eq laws x p.key p.value es next p.same keeps p.entries) run.1 in
+      (Keeps_put eq laws x es next keeps p) run.1 in
       rw (held, rest) refl
 
   module _ (rs : List K) (later : List (List (K × V))) (run : IsPutRun eq k ([] ∷ later) rs) where
