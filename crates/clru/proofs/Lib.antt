@@ -18,6 +18,7 @@ pub mod PutSteps
 pub mod Putting
 pub mod Replaying
 pub mod Rows
+pub mod RunRows
 pub mod SchedulesByPlace
 pub mod Sublists
 pub mod Weighing
