@@ -1,19 +1,18 @@
 -- How many places have a property.
-use Rattle.std.proofs.Common.{◌≡◌, ℕ, zero, suc, ◌<◌, ◌≤◌, Bool, true, false, ◌⊎◌, ◌↔◌, List, [], ◌∷◌, length, inl, inr}
+use Rattle.std.proofs.Common.{◌≡◌, ℕ, zero, suc, ◌<◌, ◌≤◌, true, false, ◌⊎◌, List, [], ◌∷◌, length, inl, inr}
 use Rattle.std.proofs.Common.{refl, sym, ap, ◌∙◌, subst, arith, get_or}
-use Rattle.std.proofs.lemmas.Bool.{or_left, eqb-true, eq-eqb}
+use Rattle.std.proofs.lemmas.Bool.{eqb-true, eq-eqb}
 use Rattle.std.proofs.lemmas.Bool.Decides.{nat_tests}
 use Rattle.std.proofs.lemmas.Cmp.{nat_eq_equiv}
 use Rattle.std.proofs.lemmas.List.Elements.{recursion_from_All, Contains-get_or, Contains-append_cases, Contains-append_right}
 use Rattle.std.proofs.lemmas.Map.Keys.{IsDistinct-cons, any_passes_from_place}
 use Rattle.std.proofs.lemmas.Option.{slice_get-get_or, get_or_from_slice_get, slice_get_within}
 use Rattle.std.specs.Prelude.{nat_eq}
-use Rattle.std.specs.Cmp.{IsEquivalence}
-use Rattle.std.specs.List.{AllByRecursion, Contains, IsDistinct, slice_get}
+use Rattle.std.specs.List.{AllByRecursion, Contains, IsDistinct}
 use Rattle.clru.specs.Requests.{holds, distinct}
 use Rattle.clru.specs.ByPlace.{IsCountOf}
 use Rattle.clru.proofs.Bound.{distinct-le-length}
-use Rattle.clru.proofs.Distinct.{split, distinct_mono}
+use Rattle.clru.proofs.Distinct.{distinct_mono}
 use Rattle.clru.proofs.Places.{HasKey_from_holds}
 
 -- no place

@@ -45,9 +45,9 @@ false_marks_of (m ∷ ms) =
     ]))
     marks_next bs false n c = rw add-one (count_next (length bs) c (λ i at. slice_get_within bs i false at) (still bs false)
         (slice_get_middle bs [] false) (λ i at. elim (slice_get_push bs false false i at) [
-      | inl before ↦ inl before
-      | inr last ↦ inr last.0
-    ]))
+          | inl before ↦ inl before
+          | inr last ↦ inr last.0
+        ]))
 
 -- the false marks of a list are as many as their places
 pub false_marks_by_place : (ms : List Bool) → IsCountOf (λ i. slice_get ms i ≡ Some false) (count_by not ms)
@@ -75,13 +75,16 @@ module _ {K : Type 0} (eq : K → K → Bool) where
       → IsFirstAt eq xs p ⊎ ((p ≡ length xs) × (holds eq x xs ≡ false))
   first_before xs x p f = elim (slice_get_push xs x f.key p f.at) [
     | inl at ↦ let within : p < length xs = slice_get_within xs p f.key at in inl (record {
-        key = f.key;
-        at = at;
-        none_before = λ j y less at'. f.none_before j y less (slice_get-append_left xs (x ∷ []) j (omega arith) ∙ at');
-      })
-    | inr (e, same) ↦ inr (e, holds_from_LacksKey eq xs x (λ j y at.
-        let within : j < length xs = slice_get_within xs j y at in
-        rw same (f.none_before j y (omega arith) (slice_get-append_left xs (x ∷ []) j within ∙ at))))
+      key = f.key;
+      at = at;
+      none_before = λ j y less at'. f.none_before j y less (slice_get-append_left xs (x ∷ []) j (omega arith) ∙ at');
+    })
+    | inr (e, same) ↦ inr (
+      e,
+      holds_from_LacksKey eq xs x (λ j y at.
+          let within : j < length xs = slice_get_within xs j y at in
+          rw same (f.none_before j y (omega arith) (slice_get-append_left xs (x ∷ []) j within ∙ at))),
+    )
   ]
 
   -- a new key at the end stands first

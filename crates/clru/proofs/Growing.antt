@@ -1,5 +1,5 @@
 -- The marks of requests at a capacity and at a greater one.
-use Rattle.std.proofs.Common.{◌≡◌, ℕ, zero, suc, ◌≤◌, Bool, true, false, not, Some, List, [], ◌∷◌, ltb, ltb-true, lt-ltb, ap, arith}
+use Rattle.std.proofs.Common.{◌≡◌, ℕ, zero, suc, ◌≤◌, Bool, true, not, Some, List, [], ◌∷◌, ltb, ltb-true, lt-ltb, ap, arith}
 use Rattle.std.proofs.lemmas.Bool.{and_parts, and_from}
 use Rattle.std.proofs.lemmas.Option.{same_Some}
 use Rattle.std.specs.List.{slice_get, count_by}

@@ -1,12 +1,11 @@
 -- Why the first keys that a cache holds are the hits at each capacity up to its own.
 use Rattle.std.proofs.Common.{◌≡◌, ℕ, zero, suc, ◌-◌, ◌≤◌, Bool, true, false, cond, List, [], ◌∷◌}
-use Rattle.std.proofs.Common.{length, take, refl, sym, ap, ◌∙◌, arith, take_all, take-take, Option, Some, None}
+use Rattle.std.proofs.Common.{length, take, refl, sym, ap, ◌∙◌, arith, take_all, take-take}
 use Rattle.std.proofs.lemmas.List.{take-map, length-map}
 use Rattle.std.proofs.lemmas.Bool.Decides.{nat_tests}
 use Rattle.std.proofs.lemmas.Bool.{or_parts}
 use Rattle.std.specs.Cmp.{IsEquivalence}
-use Rattle.std.specs.Map.{keys_of, remove_entry, lookup_entry}
-use Rattle.std.specs.Option.{option_map_or, MatchOption}
+use Rattle.std.specs.Map.{keys_of, remove_entry}
 use Rattle.clru.specs.Requests.{holds, hit}
 use Rattle.clru.specs.Runs.{IsPut}
 use Rattle.clru.proofs.Distinct.{split, since-cons, same_right, hit-cons}

@@ -1,5 +1,5 @@
 -- The entries that a run of calls leaves at a capacity begin those that it leaves at a greater one.
-use Rattle.std.proofs.Common.{◌≡◌, ℕ, zero, suc, ◌+◌, ◌-◌, ◌<◌, ◌≤◌, leb, ltb, lt-ltb, Bool, true, false, List, [], ◌∷◌, ◌++◌, length, take, drop, refl, sym, ap, subst, arith, length-append}
+use Rattle.std.proofs.Common.{◌≡◌, ℕ, zero, suc, ◌+◌, ◌-◌, ◌<◌, ◌≤◌, leb, ltb, lt-ltb, Bool, true, List, [], ◌∷◌, ◌++◌, length, take, drop, refl, sym, ap, subst, arith, length-append}
 use Rattle.std.proofs.lemmas.Bool.{leb-true, le-leb}
 use Rattle.clru.specs.Entries.{without, fit}
 use Rattle.clru.specs.Runs.{Call, put_with_weight, pop, pop_front, pop_back, clear, peek, contains, after, after_all, IsTaken, AreTaken}

@@ -1,14 +1,13 @@
 -- Runs of puts hold the keys that hit.
-use Rattle.std.proofs.Common.{◌≡◌, ℕ, zero, suc, ◌-◌, ◌<◌, ◌≤◌, Bool, true, false, cond, not, List, [], ◌∷◌, length, take, map}
-use Rattle.std.proofs.Common.{refl, sym, ap, ap₂, ◌∙◌, subst, arith, length-take}
+use Rattle.std.proofs.Common.{◌≡◌, ℕ, ◌≤◌, Bool, not, List, [], ◌∷◌, length}
+use Rattle.std.proofs.Common.{refl, sym, ap, subst, arith}
 use Rattle.std.specs.Cmp.{IsEquivalence}
 use Rattle.std.specs.List.{count_by}
-use Rattle.std.specs.Map.{keys_of, remove_entry}
+use Rattle.std.specs.Map.{keys_of}
 use Rattle.clru.specs.Competes.{IsCompetitive, IsCompetitiveFromAnyStart}
-use Rattle.clru.specs.Requests.{holds, hit, marks_after, marks, misses}
-use Rattle.clru.specs.Runs.{IsPut, IsPutRun, held_before}
+use Rattle.clru.specs.Requests.{marks_after, marks, misses}
+use Rattle.clru.specs.Runs.{IsPutRun, held_before}
 use Rattle.clru.proofs.Bound.{competitive, competitive_from_any_start}
-use Rattle.clru.proofs.Distinct.{split}
 use Rattle.clru.proofs.Hits.{Keeps, Keeps_none, Keeps_held, Keeps_put}
 use Rattle.clru.proofs.PutSteps.{length-put}
 

@@ -1,6 +1,6 @@
 -- What each form of a put leaves at weight zero is what a put of a run leaves.
-use Rattle.std.proofs.Common.{◌≡◌, ℕ, zero, suc, ◌+◌, ◌-◌, ◌≤◌, Bool, true, false, List, [], ◌∷◌, length, take, leb, Option, Some, None}
-use Rattle.std.proofs.Common.{refl, sym, ap, ◌∙◌, arith, length-take, take_all}
+use Rattle.std.proofs.Common.{◌≡◌, ℕ, zero, suc, ◌-◌, ◌≤◌, Bool, true, false, List, [], ◌∷◌, length, take, leb, Option, Some, None}
+use Rattle.std.proofs.Common.{refl, ap, ◌∙◌, arith, length-take, take_all}
 use Rattle.std.proofs.lemmas.Bool.{le-leb}
 use Rattle.std.specs.Cmp.{IsEquivalence}
 use Rattle.std.specs.Map.{keys_of, lookup_entry}
@@ -64,6 +64,11 @@ module _ {K V : Type 0} (eq : K → K → Bool) (laws : IsEquivalence eq) (k : �
       let rest = without eq x es in
       let room : k - 1 - weight x v ≡ k - 1 = rw (none x v) (omega arith) in
       let kept : fit weight (k - 1 - weight x v) rest ≡ take (k - 1) rest = rw room (fit-weightless weight none (k - 1) rest) in
-      record { key = x; value = v; same = laws.refl x; entries = e ∙ ap (λ l. (x, v) ∷ l) (kept ∙ split (holds eq x (keys_of es))
-          (λ t. rw t (take_all (k - 1) rest (omega (arith, length-without_held eq x es t))))
-          (λ f. rw (f, without_not_held eq x es f) refl)) }
+      record {
+        key = x;
+        value = v;
+        same = laws.refl x;
+        entries = e ∙ ap (λ l. (x, v) ∷ l) (kept ∙ split (holds eq x (keys_of es))
+            (λ t. rw t (take_all (k - 1) rest (omega (arith, length-without_held eq x es t))))
+            (λ f. rw (f, without_not_held eq x es f) refl));
+      }

@@ -2,8 +2,7 @@
 use Rattle.std.proofs.Common.{◌≡◌, ℕ, true, false, List, [], ◌∷◌, refl, arith}
 use Rattle.std.specs.Prelude.{nat_eq}
 use Rattle.clru.specs.Entries.{touch, fit}
-use Rattle.clru.specs.Requests.{marks}
-use Rattle.clru.specs.Runs.{Call, put_with_weight, pop, pop_front, pop_back, clear, peek, contains, after_all, AreTaken, IsPut, IsPutRun, held_before}
+use Rattle.clru.specs.Runs.{Call, put_with_weight, pop, pop_front, pop_back, clear, peek, contains, after_all, AreTaken, IsPutRun, held_before}
 use Rattle.clru.proofs.EntryRows.{itself}
 
 abbrev weightless : ℕ → ℕ → ℕ
@@ -61,14 +60,22 @@ abbrev five_puts : List (List (ℕ × ℕ))
 five_puts = [] ∷ ((0, 5) ∷ []) ∷ ((1, 5) ∷ (0, 5) ∷ []) ∷ ((2, 5) ∷ (1, 5) ∷ []) ∷ ((0, 5) ∷ (2, 5) ∷ []) ∷ ((2, 6) ∷ (0, 5) ∷ []) ∷ []
 
 five_puts_are_a_run : IsPutRun nat_eq 2 five_puts (0 ∷ 1 ∷ 2 ∷ 0 ∷ 2 ∷ [])
-five_puts_are_a_run =
+five_puts_are_a_run = (
+  record { key = 0; value = 5; same = refl; entries = refl },
+  (
+    record { key = 1; value = 5; same = refl; entries = refl },
     (
-      record { key = 0; value = 5; same = refl; entries = refl }, (
-      record { key = 1; value = 5; same = refl; entries = refl }, (
-      record { key = 2; value = 5; same = refl; entries = refl }, (
-      record { key = 0; value = 5; same = refl; entries = refl }, (
-      record { key = 2; value = 6; same = refl; entries = refl }, refl))))
-    )
+      record { key = 2; value = 5; same = refl; entries = refl },
+      (
+        record { key = 0; value = 5; same = refl; entries = refl },
+        (
+          record { key = 2; value = 6; same = refl; entries = refl },
+          refl,
+        ),
+      ),
+    ),
+  ),
+)
 
 held_before_five_puts : held_before nat_eq five_puts (0 ∷ 1 ∷ 2 ∷ 0 ∷ 2 ∷ []) ≡ false ∷ false ∷ false ∷ false ∷ true ∷ []
 held_before_five_puts = refl

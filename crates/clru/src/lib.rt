@@ -26,8 +26,9 @@ mod weight;
 pub use answer::Replay;
 pub use cache::CLruCache;
 pub use error::{NoMemory, PutError};
-pub use laws::{law_by_place, law_growth, law_inclusion};
-pub use laws::{law_longest_fit, law_requests, law_schedules_by_place};
+pub use laws::{
+    law_by_place, law_growth, law_inclusion, law_longest_fit, law_requests, law_schedules_by_place,
+};
 pub use requests::replay;
 pub use state::DefaultState;
 pub use std::num::NonZeroUsize;
