@@ -4,6 +4,7 @@ ghost use Rattle.std.specs.Map.{lookup};
 ghost use Rattle.clru.specs.Entries.{size_of};
 
 pub mod puts;
+pub mod runs;
 
 use clru::{CLruCache, DefaultState, PutError, WeightScale};
 

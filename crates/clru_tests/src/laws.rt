@@ -1,10 +1,12 @@
 //! The laws, at types of a caller's, and why they speak of no more.
 
-use crate::callers::puts;
+use crate::callers::{puts, runs};
 use crate::lists::{puts_by_weight, room, takes_out};
 use crate::scales::ByLength;
-use clru::{CLruCache, PutError, law_by_place, law_growth, law_inclusion, law_longest_fit};
-use clru::{law_requests, law_schedules_by_place};
+use clru::{
+    CLruCache, PutError, law_by_place, law_growth, law_inclusion, law_longest_fit, law_requests,
+    law_schedules_by_place,
+};
 use std::test::Fail;
 
 #[test]
@@ -19,8 +21,10 @@ fn laws_do_nothing() {
 
 #[test]
 fn a_get_ends_the_inclusion(rt: HostRuntime) -> Result<(), Fail> {
-    let lists: [(usize, &[(&'static str, usize)]); 2] =
-        [(1, &[("b", 2)]), (2, &[("a", 1), ("b", 2)])];
+    let lists: [(usize, &[(&'static str, usize)]); 2] = [
+        (1, &[("b", 2)]),
+        (2, &[("a", 1), ("b", 2)]),
+    ];
     for (capacity, list) in lists {
         let mut cache = CLruCache::new(rt.alloc(), room(capacity)?);
         puts_by_weight(&rt, &mut cache, &[("a", 1, None), ("b", 2, None)]);
@@ -36,9 +40,22 @@ fn a_put_that_one_cache_refuses_ends_the_inclusion(rt: HostRuntime) -> Result<()
     let mut greater = CLruCache::with_scale(rt.alloc(), room(4)?, ByLength);
     puts_by_weight(&rt, &mut lesser, &[("y", "", None)]);
     puts_by_weight(&rt, &mut greater, &[("y", "", None), ("x", "aa", None)]);
-    assert_eq!(rt; lesser.put_with_weight("x", "aa"), Err(PutError::TooHeavy("x", "aa")));
+    assert_eq!(rt;
+        lesser.put_with_weight("x", "aa"),
+        Err(PutError::TooHeavy("x", "aa"))
+    );
     takes_out(&rt, &mut lesser, &[("y", "")]);
     takes_out(&rt, &mut greater, &[("x", "aa"), ("y", "")]);
+    Ok(())
+}
+
+#[test]
+fn a_run_of_puts_holds_what_a_replay_hits(rt: HostRuntime) -> Result<(), Fail> {
+    let mut cache = CLruCache::new(rt.alloc(), room(2)?);
+    let keys = Vec::from_array(rt.alloc(), ["a", "b", "c", "a", "c"])?;
+    let held = runs::held_before_puts(rt.alloc(), &mut cache, keys).ok_or("no memory")?;
+    assert_eq!(rt; held.as_slice(), &[false, false, false, false, true]);
+    takes_out(&rt, &mut cache, &[("c", ()), ("a", ())]);
     Ok(())
 }
 

@@ -185,7 +185,12 @@ fn a_start_counts_as_fetched_first(rt: HostRuntime) -> Result<(), Fail> {
 }
 
 /// The two sides of the bound beside a schedule that may start with any keys.
-fn sides_from_any_start(k: usize, misses: usize, h: usize, schedule_misses: usize) -> (usize, usize) {
+fn sides_from_any_start(
+    k: usize,
+    misses: usize,
+    h: usize,
+    schedule_misses: usize,
+) -> (usize, usize) {
     let more = k.saturating_sub(h).saturating_add(1);
     let saved = h.saturating_mul(more);
     (
@@ -210,7 +215,11 @@ fn a_start_saves_a_miss_for_each_of_its_keys(rt: HostRuntime) -> Result<(), Fail
             "{k} {h}"
         );
         assert_eq!(rt; replay_misses(rt.alloc(), k, requests)?, misses, "{k} {h}");
-        assert_eq!(rt; sides_from_any_start(k, misses, h, fewest), sides, "{k} {h}");
+        assert_eq!(rt;
+            sides_from_any_start(k, misses, h, fewest),
+            sides,
+            "{k} {h}"
+        );
         assert!(rt; sides.0 <= sides.1, "{k} {h}");
     }
     Ok(())

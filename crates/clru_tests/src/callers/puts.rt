@@ -43,12 +43,7 @@ pub fn put_or_modify<K: Eq + Hash + Drop, V: Drop>(
 ) -> Result<(), (K, V)>
     ensures step { OnOk result (IsPut K.eq cache.old.capacity key cache.old.entries cache.new.entries) }
 {
-    match cache.put_or_modify(
-        key,
-        |_, value| value,
-        |_, held, value| *held = value,
-        value,
-    ) {
+    match cache.put_or_modify(key, |_, value| value, |_, held, value| *held = value, value) {
         Ok(held) => {
             // The loan ends with the value as it is.
             let _ = &*held;
