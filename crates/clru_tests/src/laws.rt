@@ -54,7 +54,10 @@ fn a_run_of_puts_holds_what_a_replay_hits(rt: HostRuntime) -> Result<(), Fail> {
     let mut cache = CLruCache::new(rt.alloc(), room(2)?);
     let keys = Vec::from_array(rt.alloc(), ["a", "b", "c", "a", "c"])?;
     let held = runs::held_before_puts(rt.alloc(), &mut cache, keys).ok_or("no memory")?;
-    assert_eq!(rt; held.as_slice(), &[false, false, false, false, true]);
+    assert_eq!(rt;
+        held.as_slice(),
+        [false, false, false, false, true].as_slice()
+    );
     takes_out(&rt, &mut cache, &[("c", ()), ("a", ())]);
     Ok(())
 }
