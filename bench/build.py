@@ -97,16 +97,19 @@ def lay_ours(bench, ours):
 
 
 def lay_crate(crate, to):
-    """Copies a crate, and what its own checks kept where that is newer, so that it need not be proved once more."""
+    """Copies a crate, and what its own checks kept where that is newer and no check runs there, so that it need not be
+    proved once more."""
     to.mkdir(parents=True, exist_ok=True)
     for part in ("src", "specs", "proofs"):
         replace(crate / part, to / part)
     stamp = "out/rlib/stamp"
     lock = os.open(crate, os.O_RDONLY)
-    fcntl.flock(lock, fcntl.LOCK_EX)
     try:
+        fcntl.flock(lock, fcntl.LOCK_EX | fcntl.LOCK_NB)
         if time_of(crate / stamp) > time_of(to / stamp):
             replace(crate / "out", to / "out")
+    except BlockingIOError:
+        pass
     finally:
         os.close(lock)
 
