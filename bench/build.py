@@ -25,6 +25,7 @@ class Built:
     program: Path
     has_pop: bool
     names: dict  # by cache, ours first: what its column is headed by
+    tools: str
 
 
 def stop(why):
@@ -45,7 +46,9 @@ def build_all(bench, work, clru):
     libraries = [crates / CRATE / "out" / f"lib{CRATE}.a", kit / "c" / "liblibc_c.a"]
     names = build_peers(bench, work, clru, libraries)
     driver = work / "peers" / "target" / "release" / "driver"
-    return Built(work, driver, crates / PROGRAM / "out" / PROGRAM, has_pop, {"ours": "ours", **names})
+    program = crates / PROGRAM / "out" / PROGRAM
+    tools = f"{first_line('rt', 'version')}; {first_line('rustc', '--version')}"
+    return Built(work, driver, program, has_pop, {"ours": "ours", **names}, tools)
 
 
 def kit_of():
@@ -53,6 +56,10 @@ def kit_of():
     if not found:
         stop("the Rattle kit's bin is not on the PATH")
     return Path(found).resolve().parent.parent
+
+
+def first_line(*words):
+    return subprocess.run(words, stdout=subprocess.PIPE, text=True, check=True).stdout.split("\n")[0]
 
 
 def call(work, words, folder, given="", more=None):

@@ -29,6 +29,7 @@ def stop(why):
 
 
 def measure_all(given, built):
+    answer(built, "hashes")
     source = built.work / "lines"
     with open(source, "wb") as out:
         words = [built.driver, "input", str(given.lines_capacity), str(given.lines)]

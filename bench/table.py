@@ -12,6 +12,7 @@ STAGES = {
 
 def print_table(given, built, measured):
     peers = [it for it in built.names if it != "ours"]
+    print(built.tools)
     print(f"ns of processor time a call, the best of {given.rounds} rounds; in brackets ours by theirs, below 1 where ours is faster")
     heads = ["", "capacity", *built.names.values(), "ours by best", "hits", "misses"]
     rows = [heads]

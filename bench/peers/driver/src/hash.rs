@@ -77,21 +77,3 @@ impl Hasher for FoldHasher {
         self.state = folded_multiply(u64_at(bytes, len.saturating_sub(16)) ^ state, factor);
     }
 }
-
-#[cfg(test)]
-mod tests {
-    use super::FoldState;
-    use std::hash::{BuildHasher, Hash};
-
-    #[test]
-    fn a_number_is_hashed_as_its_bytes() {
-        let state = FoldState;
-        let mut hasher = state.build_hasher();
-        7u64.hash(&mut hasher);
-        let product = u128::from(super::SEED ^ 7) * u128::from(super::MULTIPLIER ^ 16);
-        assert_eq!(
-            std::hash::Hasher::finish(&hasher),
-            product as u64 ^ (product >> 64) as u64
-        );
-    }
-}

@@ -2,7 +2,7 @@
 //!
 //! `stages CACHE CAPACITY CALLS` prints a line for each stage: its name, the calls, nanoseconds, hits, misses and the sum
 //! of the values found. `memory CACHE CAPACITY` prints the growth of the resident memory by a fill, in bytes.
-//! `lines CACHE` is the program that replays the lines of standard input. `input CAPACITY LINES` prints such an input.
+//! `hashes` tests that all hash alike. `lines CACHE` is the program that replays the lines of standard input. `input CAPACITY LINES` prints such an input.
 
 mod cache;
 mod clock;
@@ -30,6 +30,8 @@ fn main() {
     match words[..] {
         ["stages", cache, capacity, calls] => print_stages(cache, number(capacity), number(calls)),
         ["memory", cache, capacity] => print_memory(cache, number(capacity)),
+        ["hashes"] if ours::hashes_alike() => {}
+        ["hashes"] => stop("our cache hashes otherwise"),
         ["lines", cache] => replay_lines(cache),
         ["input", capacity, count] => lines::print_input(number(capacity), number(count)),
         _ => stop("give stages, memory, lines or input, and what it takes"),

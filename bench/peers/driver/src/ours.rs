@@ -1,9 +1,13 @@
 //! The stages over our own cache, which its library runs and times.
 
+use crate::hash::FoldState;
 use crate::tally::{Found, Steps, Tally};
-use crate::workload::Workload;
+use crate::workload::{first_keys, Workload};
+use std::hash::{BuildHasher, Hash, Hasher};
 
 extern "C" {
+    fn clru_bench_hash_of_number(number: u64) -> u64;
+    fn clru_bench_hash_of_bytes(bytes: *const u8, count: usize) -> u64;
     fn clru_bench_replay(capacity: usize, keys: *const u64, count: usize, out: *mut Tally);
     fn clru_bench_fill(capacity: usize, keys: *const u64, count: usize) -> usize;
     fn clru_bench_steps(
@@ -53,4 +57,22 @@ pub fn stages(workload: &Workload) -> Found {
 pub fn fill(capacity: usize, keys: &[u64]) -> usize {
     // The pointer goes with the length of its slice.
     unsafe { clru_bench_fill(capacity, keys.as_ptr(), keys.len()) }
+}
+
+/// Whether our cache and the driver hash alike: numbers, and bytes of each length up to 64.
+pub fn hashes_alike() -> bool {
+    let numbers = first_keys(64);
+    let bytes: Vec<u8> = numbers.iter().map(|number| *number as u8).collect();
+    let number_alike = |number: &u64| {
+        let mut hasher = FoldState.build_hasher();
+        number.hash(&mut hasher);
+        hasher.finish() == unsafe { clru_bench_hash_of_number(*number) }
+    };
+    let bytes_alike = |count: usize| {
+        let mut hasher = FoldState.build_hasher();
+        hasher.write(&bytes[..count]);
+        // The pointer goes with a length that is no greater than that of its vector.
+        hasher.finish() == unsafe { clru_bench_hash_of_bytes(bytes.as_ptr(), count) }
+    };
+    numbers.iter().all(number_alike) && (0..=bytes.len()).all(bytes_alike)
 }
