@@ -1,5 +1,6 @@
-"""Builds our workloads, our program and the driver of the peers, all of it below a folder outside of the repository: the
-gate takes no Rattle file of the repository that stands in none of its crates."""
+"""Builds our workloads, our program and the driver of the peers, all of it in a folder outside of the repository.
+
+The gate takes no Rattle file of the repository that stands in none of its crates."""
 
 import fcntl
 import os
@@ -65,8 +66,9 @@ def first_line(*words):
 def call(work, words, folder, given="", more=None):
     """Runs a command of the build, whose output goes to a file."""
     log = work / "log"
+    variables = {**os.environ, **(more or {})}
     with open(log, "w") as out:
-        ran = subprocess.run(words, cwd=folder, input=given, text=True, stdout=out, stderr=out, env={**os.environ, **(more or {})})
+        ran = subprocess.run(words, cwd=folder, input=given, text=True, stdout=out, stderr=out, env=variables)
     if ran.returncode:
         print(log.read_text()[-3000:], file=sys.stderr)
         stop(f"{' '.join(words)} failed in {folder}")

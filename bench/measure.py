@@ -1,5 +1,6 @@
-"""Runs the measurements, each in a process of its own and the caches in turn, and keeps the best time of each."""
+"""Runs the measurements, each in a process of its own and the caches in turn, and keeps the times and the counts."""
 
+import hashlib
 import os
 import subprocess
 import sys
@@ -79,7 +80,7 @@ def run_lines(cells, given, built, source, cache):
     if status:
         stop(f"{words} failed")
     text = report.read_bytes()
-    counts = (text.count(b"H\n"), text.count(b"M\n"), text)
+    counts = (text.count(b"H\n"), text.count(b"M\n"), hashlib.sha256(text).hexdigest())
     time = (used.ru_utime + used.ru_stime) * 1e9
     add(cells, ("lines", given.lines_capacity, cache), given.lines, time, counts)
 
@@ -90,4 +91,5 @@ def agree(cells, built):
         for other in built.names:
             beside = cells.get((stage, capacity, other))
             if beside and beside.counts != cell.counts:
-                stop(f"{stage} at {capacity}: {cache} and {other} answer otherwise: {cell.counts[:2]} and {beside.counts[:2]}")
+                found = f"{cache} counts {cell.counts}, and {other} {beside.counts}"
+                stop(f"{stage} at {capacity}: {found}")
