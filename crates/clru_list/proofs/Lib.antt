@@ -5,3 +5,5 @@ pub mod Paths
 pub mod Puts
 pub mod Rings
 pub mod Soundness
+pub mod Steps
+pub mod Views

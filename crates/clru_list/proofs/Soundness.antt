@@ -143,7 +143,7 @@ module _ {T : Type 0} where
   occupy-loose l x es ring holds room =
       decide nowhere l.free
       (λ e t. let small = room (sym e) in let far = count-other l.size nowhere (keys_of es) (λ d. absurd (omega arith)) in
-      let outside : count l.size (nowhere ∷ keys_of es) ≡ 0 = omega (arith, holds.outside l.size) in
+      let outside : count l.size (nowhere ∷ keys_of es) ≡ 0 = omega (arith, holds.outside l.size (omega arith)) in
       rw t (record {
         linked = linked-next l.next (put l.prev l.size nowhere) l.size nowhere (keys_of es) outside (linked-prev l.next l.prev l.size nowhere (keys_of es) outside ring);
         held = held-append l.next l.item l.free l.size es x nowhere small holds;

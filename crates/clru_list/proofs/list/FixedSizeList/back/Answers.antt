@@ -1,14 +1,9 @@
-use Rattle.std.proofs.Common.{rules, ◌≡◌, ◌<◌, ◌↔◌, ◌^◌, [], length, min, IfOk, OnOk, IsOk, IsTrue, option_copied, vec_capacity, ℕ, ◌+◌, ◌-◌, ◌*◌, ◌≤◌, ◌/◌, ◌%◌, Bool, true, false, nat_eq, nat_lt, List, ◌∷◌, ◌++◌, slice_index_or, slice_set, bit_and, bit_or, Fits, w8, w32, w64, Bor, MutBor}
-use Rattle.std.specs.Option.{option_map}
-use Rattle.std.specs.Borrow.{sem}
-use Rattle.clru_list.specs.Links.{place_of}
-use Rattle.clru_list.specs.PlaceList.{place_list, item_at, first_entry, last_entry, first_place, last_place, place_after, place_before, IsValid}
+use Rattle.std.proofs.Common.{◌∙◌}
+use Rattle.clru_list.proofs.Views.{seen_back, seen_valid}
 use Rattle.clru_list.proofs.list.FixedSizeList.back.Goals as goal
 
--- src/list.rt:134:5
 pub returns-clause-value : goal.returns-clause-value
-returns-clause-value g c = ?
+returns-clause-value g c = c.item.ensures ∙ seen_back _ _ _ _ _ c.self.invariant _ c.self.view_is
 
--- src/list.rt:134:5
 pub returns-clause-valid : goal.returns-clause-valid
-returns-clause-valid g c = ?
+returns-clause-valid g c = seen_valid _ _ _ _ _ c.self.invariant _ c.self.view_is
