@@ -58,7 +58,7 @@ module _ {K V : Type 0} (eq : K → K → Bool) (laws : IsEquivalence eq) (k : �
   IsPut-plain e = put_found (lookup_entry (eq x) es) (lookup_entry_tells eq x es) e
 
   -- a weighted put
-  pub IsPut-weightless : (weight : K → V → ℕ) → ((y : K) (w : V) → weight y w ≡ 0) → length es ≤ k → next ≡ weighted_put weight eq k x v es
+  pub IsPut-weightless : (weight : K → V → ℕ) → ((y : K) (w : V) → weight y w ≡ 0) → length es ≤ k → next ≡ weighted_put eq weight k x v es
       → IsPut eq k x es next
   IsPut-weightless weight none short e =
       let rest = without eq x es in

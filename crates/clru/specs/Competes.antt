@@ -1,4 +1,5 @@
--- The competitive bound: the misses of a replay beside those of every schedule, also of one that knows all requests beforehand.
+-- The competitive bound: the misses of a replay beside those of every schedule, also of one that knows all requests beforehand. Public
+-- clauses cite it.
 use Rattle.std.specs.Prelude.{ℕ, ◌+◌, ◌-◌, ◌*◌, ◌≤◌, Bool, List, [], ◌∷◌}
 use Rattle.clru.specs.Schedule.{IsSchedule, schedule_misses}
 

@@ -18,7 +18,7 @@ pub data Call (K V : Type 0) : Type 0 where
 module _ {K V : Type 0} (eq : K → K → Bool) (weight : K → V → ℕ) (c : ℕ) where
   -- the entries after a call under the capacity c; a put of a pair that is too heavy is refused, and they stay
   abbrev pub after : Call K V → List (K × V) → List (K × V)
-  after (put_with_weight x v) es = if nat_lt (weight x v) c then weighted_put weight eq c x v es else es
+  after (put_with_weight x v) es = if nat_lt (weight x v) c then weighted_put eq weight c x v es else es
   after (pop x) es = without eq x es
   after pop_front es = drop 1 es
   after pop_back es = take (length es - 1) es

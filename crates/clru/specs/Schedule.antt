@@ -1,4 +1,5 @@
--- Schedules: the keys that some policy, which may know all requests beforehand, holds before each request and at the end.
+-- Schedules: the keys that some policy, which may know all requests beforehand, holds before each request and at the end. Public
+-- clauses cite them.
 use Rattle.std.specs.Prelude.{◌≡◌, ℕ, ◌≤◌, Bool, true, not, List, [], ◌∷◌, length}
 use Rattle.std.specs.List.{list_all, count_by}
 use Rattle.clru.specs.Requests.{holds}
