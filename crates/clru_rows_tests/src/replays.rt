@@ -1,7 +1,6 @@
 //! Whole lists of requests.
 
-use crate::keys::Letter;
-use crate::lists::room;
+use crate::steps::room;
 use clru::{DefaultState, replay};
 use std::alloc::Global;
 use std::hash::Hash;
@@ -9,7 +8,7 @@ use std::process::Abort;
 use std::test::Fail;
 
 /// Asserts that a replay of the keys marks each request as the letters say, H for a hit and M for a miss.
-fn marks<K: Eq + Hash + Drop>(
+pub(crate) fn marks<K: Eq + Hash + Drop>(
     rt: &impl Abort,
     alloc: Global,
     capacity: usize,
@@ -55,17 +54,15 @@ fn marks_bytes(
 
 #[test]
 fn replay_marks_each_request(rt: HostRuntime) -> Result<(), Fail> {
-    marks_bytes(&rt, rt.alloc(), 3, "abca", "MMMH")?;
-    marks_bytes(&rt, rt.alloc(), 3, "abcadbac", "MMMHMMHM")?;
-    marks_bytes(&rt, rt.alloc(), 2, "", "")?;
-    marks_bytes(&rt, rt.alloc(), 1, "aaba", "MHMM")?;
-    marks_bytes(&rt, rt.alloc(), usize::MAX, "aba", "MMH")?;
-    Ok(())
-}
-
-#[test]
-fn replay_goes_by_the_equality_of_keys(rt: HostRuntime) -> Result<(), Fail> {
-    let keys = Vec::from_array(rt.alloc(), [b'A', b'b', b'a', b'B', b'c', b'A'].map(Letter))?;
-    marks(&rt, rt.alloc(), 2, keys, "MMHHMM")?;
+    let rows = [
+        (3, "abca", "MMMH"),
+        (3, "abcadbac", "MMMHMMHM"),
+        (2, "", ""),
+        (1, "aaba", "MHMM"),
+        (usize::MAX, "aba", "MMH"),
+    ];
+    for (capacity, keys, letters) in rows {
+        marks_bytes(&rt, rt.alloc(), capacity, keys, letters)?;
+    }
     Ok(())
 }
