@@ -1,13 +1,21 @@
 //! Whole lists of requests.
 
 use crate::steps::room;
-use clru::{DefaultState, replay};
+use clru::{DefaultState, Replay, replay};
 use std::alloc::Global;
 use std::hash::Hash;
 use std::process::Abort;
 use std::test::Fail;
 
-/// Asserts that a replay of the keys marks each request as the letters say, H for a hit and M for a miss.
+/// Whether the marks are as the letters say, H for a hit and M for a miss, and the misses as many as the letters M.
+fn is_marked(answer: &Replay, letters: &[u8]) -> bool {
+    let misses = letters.iter().filter(|letter| **letter == b'M').count();
+    let mut pairs = answer.marks.iter().zip(letters.iter());
+    (answer.marks.len(), answer.misses) == (letters.len(), misses)
+        && pairs.all(|(hit, letter)| *hit == (*letter == b'H'))
+}
+
+/// Asserts that a replay of the keys marks each request as the letters say.
 pub(crate) fn marks<K: Eq + Hash + Drop>(
     rt: &impl Abort,
     alloc: Global,
@@ -18,18 +26,7 @@ pub(crate) fn marks<K: Eq + Hash + Drop>(
     let Ok(answer) = replay(alloc, room(capacity)?, keys, DefaultState) else {
         return Err("the keys came back");
     };
-    assert_eq!(rt; answer.marks.len(), letters.len());
-    for (hit, letter) in answer.marks.iter().zip(letters.as_bytes().iter()) {
-        assert_eq!(rt; *hit, *letter == b'H', "of {letters}");
-    }
-    assert_eq!(rt;
-        answer.misses,
-        letters
-            .as_bytes()
-            .iter()
-            .filter(|letter| **letter == b'M')
-            .count()
-    );
+    assert!(rt; is_marked(&answer, letters.as_bytes()), "of {letters}");
     Ok(())
 }
 

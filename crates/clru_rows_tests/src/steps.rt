@@ -6,7 +6,7 @@ use std::hash::Hash;
 use std::process::Abort;
 
 /// A call of a cache, and its answer.
-#[derive(Clone, Copy, Debug)]
+#[derive(Drop)]
 pub(crate) enum Step<K, V> {
     Put(K, V, Option<V>),
     PutWithWeight(K, V, Option<V>),
@@ -30,8 +30,8 @@ fn is_right<K: Eq + Hash + Copy, V: PartialEq + Copy>(
     cache: &mut CLruCache<K, V>,
     step: &Step<K, V>,
 ) -> bool {
-    match *step {
-        Step::Put(key, value, old) => cache.put(key, value) == Ok(old),
+    match step {
+        Step::Put(key, value, old) => cache.put(*key, *value) == Ok(*old),
         _ => is_right_by_weight(cache, step),
     }
 }
@@ -41,18 +41,18 @@ fn is_right_by_weight<K: Eq + Hash + Copy, V: PartialEq + Copy, W: WeightScale<K
     cache: &mut CLruCache<K, V, DefaultState, W>,
     step: &Step<K, V>,
 ) -> bool {
-    match *step {
+    match step {
         Step::Put(_, _, _) => false,
-        Step::PutWithWeight(key, value, old) => cache.put_with_weight(key, value) == Ok(old),
+        Step::PutWithWeight(key, value, old) => cache.put_with_weight(*key, *value) == Ok(*old),
         Step::TooHeavy(key, value) => {
-            cache.put_with_weight(key, value) == Err(PutError::TooHeavy(key, value))
+            cache.put_with_weight(*key, *value) == Err(PutError::TooHeavy(*key, *value))
         }
-        Step::Get(key, value) => cache.get(&key).copied() == value,
-        Step::Peek(key, value) => cache.peek(&key).copied() == value,
-        Step::Contains(key, held) => cache.contains(&key) == held,
-        Step::PopFront(key, value) => cache.pop_front() == Some((key, value)),
+        Step::Get(key, value) => cache.get(key).copied() == *value,
+        Step::Peek(key, value) => cache.peek(key).copied() == *value,
+        Step::Contains(key, held) => cache.contains(key) == *held,
+        Step::PopFront(key, value) => cache.pop_front() == Some((*key, *value)),
         Step::Size(len, weight, full) => {
-            (cache.len(), cache.weight(), cache.is_full()) == (len, weight, full)
+            (cache.len(), cache.weight(), cache.is_full()) == (*len, *weight, *full)
         }
     }
 }
@@ -65,8 +65,8 @@ pub(crate) fn runs<K: Eq + Hash + Copy + Debug, V: PartialEq + Copy + Debug>(
     steps: &[Step<K, V>],
     list: &[(K, V)],
 ) {
-    for step in steps {
-        assert!(rt; is_right(cache, step), "{step:?}");
+    for (i, step) in steps.iter().enumerate() {
+        assert!(rt; is_right(cache, step), "step {i}");
     }
     takes_out(rt, cache, list);
 }
@@ -82,8 +82,8 @@ pub(crate) fn runs_by_weight<
     steps: &[Step<K, V>],
     list: &[(K, V)],
 ) {
-    for step in steps {
-        assert!(rt; is_right_by_weight(cache, step), "{step:?}");
+    for (i, step) in steps.iter().enumerate() {
+        assert!(rt; is_right_by_weight(cache, step), "step {i}");
     }
     takes_out(rt, cache, list);
 }
