@@ -1,0 +1,62 @@
+-- One step of the model: a call, its answer, and the cache before and after it. Public clauses cite it.
+use Rattle.std.specs.Prelude.{◌≡◌, ℕ, ◌<◌, ◌≤◌, ◌==◌, Bool, List, length, drop, Option, is_some, Result, Ok, Err, slice_get}
+use Rattle.std.specs.Map.{lookup}
+use Rattle.clru.specs.Cache.{Cache, with_entries, GrowsOnlyIf, NeedsPlace, NeedsPlaceFor}
+use Rattle.clru.specs.Entries.{touch, plain_put, weighted_put, weight_of, size_of}
+use Rattle.clru.specs.declared.error.PutError.{PutError}
+use Rattle.clru.specs.declared.error.PutError.TheVariants.{TooHeavy, NoMemory}
+use Rattle.clru_runs.specs.declared.call.Answer.{Answer}
+use Rattle.clru_runs.specs.declared.call.Answer.TheVariants.{Stored, Weighed, Lent, Value, Pair, Number, Flag}
+use Rattle.clru_runs.specs.declared.call.Call.{Call}
+use Rattle.clru_runs.specs.declared.call.Call.TheVariants.{PutWithWeight, Get, Peek, Contains, Len, Weight, Capacity, IsEmpty, IsFull, PopFront}
+use Rattle.clru_runs.specs.declared.call.PlainCall.{PlainCall}
+use Rattle.clru_runs.specs.declared.call.PlainCall.TheVariants.{Put, PutOrModify, Any}
+
+module _ {K V W : Type 0} where
+  -- the answer is this one, and the cache is left so
+  pub record Gives (this : Answer K V) (so : Cache K V W) (answer : Answer K V) (new : Cache K V W) : Type 0 where
+    pub answers : answer ≡ this
+    pub leaves : new ≡ so
+
+  -- the entries are es, and a place is found only where one is needed
+  pub record Puts (needed : Type 0) (es : List (K × V)) (old new : Cache K V W) : Type 0 where
+    pub entries : new.entries ≡ es
+    pub places : GrowsOnlyIf needed old new
+
+  -- memory was refused, which may be only where a place is needed, and the entries stay
+  pub record WantsMemory (needed : Type 0) (old new : Cache K V W) : Type 0 where
+    pub needs : needed
+    pub stays : Puts needed old.entries old new
+
+  module _ (eq : K → K → Bool) where
+    module _ (old : Cache K V W) (x : K) (v : V) where
+      -- a plain put: it hands out what is given here, or the pair comes back
+      abbrev pub PlainPuts : {R : Type 0} → R → Result R (K × V) → Cache K V W → Type 0
+      PlainPuts given (Ok out) new = (out ≡ given) × Puts (NeedsPlace eq x old) (plain_put eq old.capacity x v old.entries) old new
+      PlainPuts given (Err back) new = (back ≡ (x, v)) × WantsMemory (NeedsPlace eq x old) old new
+
+      -- a weighted put: it hands out the old value of the key, or the pair comes back
+      abbrev pub WeightedPuts : (K → V → ℕ) → Result (Option V) (PutError K V) → Cache K V W → Type 0
+      WeightedPuts weight (Ok value) new = (weight x v < old.capacity) × (value ≡ lookup (eq x) old.entries)
+          × Puts (NeedsPlaceFor eq weight (weight x v) x old) (weighted_put weight eq old.capacity x v old.entries) old new
+      WeightedPuts weight (Err (TooHeavy k w)) new = (old.capacity ≤ weight x v) × (k ≡ x) × (w ≡ v) × (new ≡ old)
+      WeightedPuts weight (Err (NoMemory k w)) new = (k ≡ x) × (w ≡ v) × WantsMemory (NeedsPlaceFor eq weight (weight x v) x old) old new
+
+    -- a call by any scale
+    abbrev pub Step : (W → K → V → ℕ) → Cache K V W → Call K V → Answer K V → Cache K V W → Type 0
+    Step weight old (PutWithWeight x v) answer new = (r : Result (Option V) (PutError K V)) × (answer ≡ Weighed r) × WeightedPuts old x v (weight old.scale) r new
+    Step weight old (Get x) answer new = Gives (Value (lookup (eq x) old.entries)) (with_entries old (touch eq x old.entries)) answer new
+    Step weight old (Peek x) answer new = Gives (Value (lookup (eq x) old.entries)) old answer new
+    Step weight old (Contains x) answer new = Gives (Flag (is_some (lookup (eq x) old.entries))) old answer new
+    Step weight old Len answer new = Gives (Number (length old.entries)) old answer new
+    Step weight old Weight answer new = Gives (Number (weight_of (weight old.scale) old.entries)) old answer new
+    Step weight old Capacity answer new = Gives (Number old.capacity) old answer new
+    Step weight old IsEmpty answer new = Gives (Flag (length old.entries == 0)) old answer new
+    Step weight old IsFull answer new = Gives (Flag (size_of (weight old.scale) old.entries == old.capacity)) old answer new
+    Step weight old PopFront answer new = Gives (Pair (slice_get old.entries 0)) (with_entries old (drop 1 old.entries)) answer new
+
+    -- a call of a cache whose pairs weigh nothing
+    abbrev pub PlainStep : Cache K V W → PlainCall K V → Answer K V → Cache K V W → Type 0
+    PlainStep old (Put x v) answer new = (r : Result (Option V) (K × V)) × (answer ≡ Stored r) × PlainPuts old x v (lookup (eq x) old.entries) r new
+    PlainStep old (PutOrModify x v) answer new = (r : Result V (K × V)) × (answer ≡ Lent r) × PlainPuts old x v v r new
+    PlainStep old (Any call) answer new = Step (λ _ _ _. 0) old call answer new
