@@ -1,5 +1,5 @@
 -- Runs, from their ends.
-use Rattle.std.proofs.Common.{◌≡◌, List, [], ◌∷◌, ◌++◌, refl, subst}
+use Rattle.std.proofs.Common.{List, [], ◌∷◌, ◌++◌, refl, subst}
 use Rattle.clru_runs.specs.Run.{Run}
 
 module _ {State Call Answer : Type 0} (step : State → Call → Answer → State → Type 0) where

@@ -13,10 +13,9 @@ use Rattle.clru_runs.specs.declared.call.PlainCall.{PlainCall}
 use Rattle.clru_runs.specs.declared.call.PlainCall.TheVariants.{Put, PutOrModify, Any}
 
 module _ {K V W : Type 0} where
-  -- the answer is this one, and the cache is left so
-  pub record Gives (this : Answer K V) (so : Cache K V W) (answer : Answer K V) (new : Cache K V W) : Type 0 where
-    pub answers : answer ≡ this
-    pub leaves : new ≡ so
+  -- the answer tells a result, of which this holds
+  abbrev pub Tells : {R : Type 0} → (R → Answer K V) → (R → Cache K V W → Type 0) → Answer K V → Cache K V W → Type 0
+  Tells {R} tells Holds answer new = (result : R) × (answer ≡ tells result) × Holds result new
 
   -- the entries are es, and a place is found only where one is needed
   pub record Puts (needed : Type 0) (es : List (K × V)) (old new : Cache K V W) : Type 0 where
@@ -30,10 +29,10 @@ module _ {K V W : Type 0} where
 
   module _ (eq : K → K → Bool) where
     module _ (old : Cache K V W) (x : K) (v : V) where
-      -- a plain put: it hands out what is given here, or the pair comes back
+      -- a plain put: it hands this out, or the pair comes back
       abbrev pub PlainPuts : {R : Type 0} → R → Result R (K × V) → Cache K V W → Type 0
-      PlainPuts given (Ok out) new = (out ≡ given) × Puts (NeedsPlace eq x old) (plain_put eq old.capacity x v old.entries) old new
-      PlainPuts given (Err back) new = (back ≡ (x, v)) × WantsMemory (NeedsPlace eq x old) old new
+      PlainPuts this (Ok out) new = (out ≡ this) × Puts (NeedsPlace eq x old) (plain_put eq old.capacity x v old.entries) old new
+      PlainPuts this (Err back) new = (back ≡ (x, v)) × WantsMemory (NeedsPlace eq x old) old new
 
       -- a weighted put: it hands out the old value of the key, or the pair comes back
       abbrev pub WeightedPuts : (K → V → ℕ) → Result (Option V) (PutError K V) → Cache K V W → Type 0
@@ -42,21 +41,21 @@ module _ {K V W : Type 0} where
       WeightedPuts weight (Err (TooHeavy k w)) new = (old.capacity ≤ weight x v) × (k ≡ x) × (w ≡ v) × (new ≡ old)
       WeightedPuts weight (Err (NoMemory k w)) new = (k ≡ x) × (w ≡ v) × WantsMemory (NeedsPlaceFor eq weight (weight x v) x old) old new
 
-    -- a call by any scale
+    -- a call of a cache by any scale, one line for each
     abbrev pub Step : (W → K → V → ℕ) → Cache K V W → Call K V → Answer K V → Cache K V W → Type 0
-    Step weight old (PutWithWeight x v) answer new = (r : Result (Option V) (PutError K V)) × (answer ≡ Weighed r) × WeightedPuts old x v (weight old.scale) r new
-    Step weight old (Get x) answer new = Gives (Value (lookup (eq x) old.entries)) (with_entries old (touch eq x old.entries)) answer new
-    Step weight old (Peek x) answer new = Gives (Value (lookup (eq x) old.entries)) old answer new
-    Step weight old (Contains x) answer new = Gives (Flag (is_some (lookup (eq x) old.entries))) old answer new
-    Step weight old Len answer new = Gives (Number (length old.entries)) old answer new
-    Step weight old Weight answer new = Gives (Number (weight_of (weight old.scale) old.entries)) old answer new
-    Step weight old Capacity answer new = Gives (Number old.capacity) old answer new
-    Step weight old IsEmpty answer new = Gives (Flag (length old.entries == 0)) old answer new
-    Step weight old IsFull answer new = Gives (Flag (size_of (weight old.scale) old.entries == old.capacity)) old answer new
-    Step weight old PopFront answer new = Gives (Pair (slice_get old.entries 0)) (with_entries old (drop 1 old.entries)) answer new
+    Step weight old (PutWithWeight x v) answer new = Tells Weighed (WeightedPuts old x v (weight old.scale)) answer new
+    Step weight old (Get x) answer new = (answer ≡ Value (lookup (eq x) old.entries)) × (new ≡ with_entries old (touch eq x old.entries))
+    Step weight old (Peek x) answer new = (answer ≡ Value (lookup (eq x) old.entries)) × (new ≡ old)
+    Step weight old (Contains x) answer new = (answer ≡ Flag (is_some (lookup (eq x) old.entries))) × (new ≡ old)
+    Step weight old Len answer new = (answer ≡ Number (length old.entries)) × (new ≡ old)
+    Step weight old Weight answer new = (answer ≡ Number (weight_of (weight old.scale) old.entries)) × (new ≡ old)
+    Step weight old Capacity answer new = (answer ≡ Number old.capacity) × (new ≡ old)
+    Step weight old IsEmpty answer new = (answer ≡ Flag (length old.entries == 0)) × (new ≡ old)
+    Step weight old IsFull answer new = (answer ≡ Flag (size_of (weight old.scale) old.entries == old.capacity)) × (new ≡ old)
+    Step weight old PopFront answer new = (answer ≡ Pair (slice_get old.entries 0)) × (new ≡ with_entries old (drop 1 old.entries))
 
     -- a call of a cache whose pairs weigh nothing
     abbrev pub PlainStep : Cache K V W → PlainCall K V → Answer K V → Cache K V W → Type 0
-    PlainStep old (Put x v) answer new = (r : Result (Option V) (K × V)) × (answer ≡ Stored r) × PlainPuts old x v (lookup (eq x) old.entries) r new
-    PlainStep old (PutOrModify x v) answer new = (r : Result V (K × V)) × (answer ≡ Lent r) × PlainPuts old x v v r new
+    PlainStep old (Put x v) answer new = Tells Stored (PlainPuts old x v (lookup (eq x) old.entries)) answer new
+    PlainStep old (PutOrModify x v) answer new = Tells Lent (PlainPuts old x v v) answer new
     PlainStep old (Any call) answer new = Step (λ _ _ _. 0) old call answer new
