@@ -2,7 +2,7 @@
 
 use clru::{CLruCache, DefaultState, NonZeroUsize, WeightScale};
 use clru_runs::{Answer, Perform, perform_all};
-use std::alloc::{AllocError, Global};
+use std::alloc::{AllocError, Allocator, Global};
 use std::fmt::Debug;
 use std::hash::Hash;
 use std::process::Abort;
@@ -14,10 +14,10 @@ pub(crate) fn room(n: usize) -> Result<NonZeroUsize, &'static str> {
 
 /// Makes the calls of the rows in order, and asserts what each answers, and that the cache holds the pairs of `list` at the
 /// end, the most recently used first, and no other.
-pub(crate) fn runs<K, V, W, Q>(
+pub(crate) fn runs<K, V, W, A, Q>(
     rt: &impl Abort,
     alloc: Global,
-    mut cache: CLruCache<K, V, DefaultState, W>,
+    mut cache: CLruCache<K, V, DefaultState, W, A>,
     rows: Vec<(Q, Answer<K, V>)>,
     list: &[(K, V)],
 ) -> Result<(), AllocError>
@@ -25,7 +25,8 @@ where
     K: Eq + Hash + Copy + Debug,
     V: PartialEq + Copy + Debug,
     W: WeightScale<K, V> + Drop,
-    Q: Perform<CLruCache<K, V, DefaultState, W>, Answer = Answer<K, V>> + Drop,
+    A: Allocator + Copy + Drop,
+    Q: Perform<CLruCache<K, V, DefaultState, W, A>, Answer = Answer<K, V>> + Drop,
 {
     let mut calls = Vec::new(alloc);
     let mut wanted = Vec::new(alloc);
