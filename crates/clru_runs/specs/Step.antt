@@ -17,29 +17,38 @@ module _ {K V W : Type 0} where
   abbrev pub Tells : {R : Type 0} → (R → Answer K V) → (R → Cache K V W → Type 0) → Answer K V → Cache K V W → Type 0
   Tells {R} tells Holds answer new = (result : R) × (answer ≡ tells result) × Holds result new
 
-  -- the entries are es, and a place is found only where one is needed
-  pub record Puts (needed : Type 0) (es : List (K × V)) (old new : Cache K V W) : Type 0 where
+  -- a pair came in: the put hands this out, the entries are es, and a place is found only where one is needed
+  pub record Accepts {R : Type 0} (needed : Type 0) (this : R) (es : List (K × V)) (old : Cache K V W) (out : R) (new : Cache K V W) : Type 0 where
+    pub hands_out : out ≡ this
     pub entries : new.entries ≡ es
     pub places : GrowsOnlyIf needed old new
 
-  -- memory was refused, which may be only where a place is needed, and the entries stay
-  pub record WantsMemory (needed : Type 0) (old new : Cache K V W) : Type 0 where
+  -- memory was refused, which may be only where a place is needed: the pair comes back, and the entries stay
+  pub record WantsMemory (needed : Type 0) (pair : K × V) (old : Cache K V W) (back : K × V) (new : Cache K V W) : Type 0 where
     pub needs : needed
-    pub stays : Puts needed old.entries old new
+    pub comes_back : back ≡ pair
+    pub entries : new.entries ≡ old.entries
+    pub places : GrowsOnlyIf needed old new
+
+  -- the pair weighs as much as the capacity or more: it comes back, and nothing changes
+  pub record IsTooHeavy (weight : ℕ) (pair : K × V) (old : Cache K V W) (back : K × V) (new : Cache K V W) : Type 0 where
+    pub heavy : old.capacity ≤ weight
+    pub comes_back : back ≡ pair
+    pub same : new ≡ old
 
   module _ (eq : K → K → Bool) where
     module _ (old : Cache K V W) (x : K) (v : V) where
-      -- a plain put: it hands this out, or the pair comes back
+      -- a plain put, which hands this out
       abbrev pub PlainPuts : {R : Type 0} → R → Result R (K × V) → Cache K V W → Type 0
-      PlainPuts this (Ok out) new = (out ≡ this) × Puts (NeedsPlace eq x old) (plain_put eq old.capacity x v old.entries) old new
-      PlainPuts this (Err back) new = (back ≡ (x, v)) × WantsMemory (NeedsPlace eq x old) old new
+      PlainPuts this (Ok out) new = Accepts (NeedsPlace eq x old) this (plain_put eq old.capacity x v old.entries) old out new
+      PlainPuts this (Err back) new = WantsMemory (NeedsPlace eq x old) (x, v) old back new
 
-      -- a weighted put: it hands out the old value of the key, or the pair comes back
+      -- a weighted put
       abbrev pub WeightedPuts : (K → V → ℕ) → Result (Option V) (PutError K V) → Cache K V W → Type 0
-      WeightedPuts weight (Ok value) new = (weight x v < old.capacity) × (value ≡ lookup (eq x) old.entries)
-          × Puts (NeedsPlaceFor eq weight (weight x v) x old) (weighted_put weight eq old.capacity x v old.entries) old new
-      WeightedPuts weight (Err (TooHeavy k w)) new = (old.capacity ≤ weight x v) × (k ≡ x) × (w ≡ v) × (new ≡ old)
-      WeightedPuts weight (Err (NoMemory k w)) new = (k ≡ x) × (w ≡ v) × WantsMemory (NeedsPlaceFor eq weight (weight x v) x old) old new
+      WeightedPuts weight (Ok out) new = (weight x v < old.capacity) × Accepts (NeedsPlaceFor eq weight (weight x v) x old)
+          (lookup (eq x) old.entries) (weighted_put weight eq old.capacity x v old.entries) old out new
+      WeightedPuts weight (Err (TooHeavy k w)) new = IsTooHeavy (weight x v) (x, v) old (k, w) new
+      WeightedPuts weight (Err (NoMemory k w)) new = WantsMemory (NeedsPlaceFor eq weight (weight x v) x old) (x, v) old (k, w) new
 
     -- a call of a cache by any scale, one line for each
     abbrev pub Step : (W → K → V → ℕ) → Cache K V W → Call K V → Answer K V → Cache K V W → Type 0
