@@ -35,11 +35,10 @@ fn the_calls_come_back_where_answers_find_no_memory(rt: HostRuntime) -> Result<(
     let mut cache = CLruCache::new(rt.alloc(), room(3)?);
     let calls = vec![in &heap; Put("a", 1), Put("b", 2)]?;
     heap.refuse_after(0);
-    let asked = heap.asked();
     let Err(calls) = perform_all(&heap, &mut cache, calls) else {
         return Err(Fail::from("the memory was refused"));
     };
-    assert_eq!(rt; (heap.asked() - asked, calls.len(), cache.len()), (1, 2, 0));
+    assert_eq!(rt; (heap.asked(), calls.len(), cache.len()), (2, 2, 0));
     heap.refuse_none();
     let Ok(answers) = perform_all(&heap, &mut cache, calls) else {
         return Err(Fail::from("there is memory"));
@@ -48,6 +47,6 @@ fn the_calls_come_back_where_answers_find_no_memory(rt: HostRuntime) -> Result<(
         answers.as_slice(),
         [Stored(Ok(None)), Stored(Ok(None))].as_slice()
     );
-    assert_eq!(rt; (heap.asked() - asked, cache.len()), (2, 2));
+    assert_eq!(rt; (heap.asked(), cache.len()), (3, 2));
     Ok(())
 }
