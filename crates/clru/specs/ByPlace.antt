@@ -1,4 +1,4 @@
--- Hits and schedules said again by places, counted from 0, in the words of a sentence about them.
+-- Hits and schedules said again by places, counted from 0, in the words of a sentence about them. Public clauses cite them.
 use Rattle.std.specs.Prelude.{◌≡◌, ◌⊎◌, ℕ, ◌+◌, ◌<◌, ◌≤◌, Bool, true, false, Some, List, length, reverse}
 use Rattle.std.specs.List.{slice_get, slice_range}
 use Rattle.clru.specs.Requests.{distinct}

@@ -1,11 +1,12 @@
 pub mod ByPlace
 pub mod Cache
-pub mod CacheLends
 pub mod Closures
 pub mod Competes
 pub mod Entries
 pub mod Fields
 pub mod Growth
-pub mod Puts
+pub mod Lends
+pub mod Memory
+pub mod Refusals
 pub mod Requests
 pub mod Schedule

@@ -1,4 +1,4 @@
--- Requests for keys: which of them hit. No cache is in sight here.
+-- Requests for keys: which of them hit. No cache is in sight here. Public clauses cite them.
 use Rattle.std.specs.Prelude.{ℕ, suc, Bool, cond, not, ◌&&◌, nat_lt, List, [], ◌∷◌}
 use Rattle.std.specs.List.{list_any, take_while, count_by}
 

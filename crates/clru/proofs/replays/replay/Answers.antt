@@ -1,0 +1,34 @@
+use Rattle.std.proofs.Common.{rules, sym, ◌∙◌, ◌≡◌, ◌+◌, cond, arith, refl}
+use Rattle.std.proofs.lemmas.List.{length_push, map-id}
+use Rattle.std.proofs.lemmas.Iterator.Adapters.{YieldsList-from_vec}
+use Rattle.std.proofs.lemmas.Iterator.Consumers.{YieldsList-end}
+use Rattle.std.specs.Int.NonZero.{non_zero_usize_get}
+use Rattle.clru.proofs.Bound.{misses_bound_empty}
+use Rattle.clru.proofs.Replaying.{Replays-push}
+use Rattle.clru.proofs.replays.replay.Goals as goal
+use Rattle.clru.proofs.replays.replay.Goals.{then-not-hit, else-not-hit}
+
+pub loop-key-preserved : goal.loop-key-preserved
+loop-key-preserved g c =
+    let counted : c.if-not-hit.misses ≡ c.loop-key.misses + cond c.request-hit.result 0 1 = elim c.if-not-hit.branch [
+      | then-not-hit w ↦ rw (w.misses-is, w.if-not-hit.true) refl
+      | else-not-hit w ↦ rw (w.misses-is, w.if-not-hit.false) (omega arith)
+    ] in
+    let e = c.request-hit.ensures in let before = c.loop-key.invariant.replays in let pushed = c.push_reserved.ensures.items in
+    record {
+      next = tt;
+      ends = tt;
+      replays = Replays-push g.K.PartialEq.eq c.in-Some.key c.request-hit.result g.met.K.Eq.laws before e.hit e.put e.held pushed counted;
+      marked = omega (arith, c.push_reserved.ensures.len, c.loop-key.invariant.marked, length_push c.loop-key.yielded c.in-Some.key);
+      room = omega (arith, c.push_reserved.ensures.capacity, c.loop-key.invariant.room);
+    }
+
+pub returns-clause-bound : goal.returns-clause-bound
+returns-clause-bound g c =
+    let eq = g.K.PartialEq.eq in let keys = c.args.keys.items in
+    let gives = YieldsList-from_vec {s = c.into_iter-key-iterator.result} keys (search rules) (search rules) in
+    let whole = YieldsList-end gives c.loop-key.yielded c.loop-key.key-iterator c.loop-key.yielded_by c.next.result c.next.new.self
+    c.in-None.is c.next.ensures.steps in
+    let taken : c.loop-key.yielded ≡ keys = sym (map-id c.loop-key.yielded) ∙ whole.0 in
+    rw (c.loop-key.invariant.replays.misses, taken)
+    (λ h schedule. misses_bound_empty eq g.met.K.Eq.laws h (non_zero_usize_get c.args.capacity) schedule keys)
