@@ -1,8 +1,9 @@
 -- One step of the model: a call, its answer, and the cache before and after it. Public clauses cite it.
 use Rattle.std.specs.Prelude.{◌≡◌, ℕ, ◌<◌, ◌≤◌, ◌==◌, Bool, List, length, drop, Option, is_some, Result, Ok, Err, slice_get}
 use Rattle.std.specs.Map.{lookup}
-use Rattle.clru.specs.Cache.{Cache, with_entries, GrowsOnlyIf, NeedsPlace, NeedsPlaceFor}
+use Rattle.clru.specs.Cache.{Cache, with_entries}
 use Rattle.clru.specs.Entries.{touch, plain_put, weighted_put, weight_of, size_of}
+use Rattle.clru.specs.Memory.{GrowsOnlyIf, NeedsPlace, NeedsPlaceFor}
 use Rattle.clru.specs.declared.error.PutError.{PutError}
 use Rattle.clru.specs.declared.error.PutError.TheVariants.{TooHeavy, NoMemory}
 use Rattle.clru_runs.specs.declared.call.Answer.{Answer}
@@ -24,14 +25,14 @@ module _ {K V W : Type 0} where
     pub places : GrowsOnlyIf needed old new
 
   -- memory was refused, which may be only where a place is needed: the pair comes back, and the entries stay
-  pub record WantsMemory (needed : Type 0) (pair : K × V) (old : Cache K V W) (back : K × V) (new : Cache K V W) : Type 0 where
+  pub record RefusesForMemory (needed : Type 0) (pair : K × V) (old : Cache K V W) (back : K × V) (new : Cache K V W) : Type 0 where
     pub needs : needed
     pub comes_back : back ≡ pair
     pub entries : new.entries ≡ old.entries
     pub places : GrowsOnlyIf needed old new
 
   -- the pair weighs as much as the capacity or more: it comes back, and nothing changes
-  pub record IsTooHeavy (weight : ℕ) (pair : K × V) (old : Cache K V W) (back : K × V) (new : Cache K V W) : Type 0 where
+  pub record RefusesAsTooHeavy (weight : ℕ) (pair : K × V) (old : Cache K V W) (back : K × V) (new : Cache K V W) : Type 0 where
     pub heavy : old.capacity ≤ weight
     pub comes_back : back ≡ pair
     pub same : new ≡ old
@@ -40,15 +41,15 @@ module _ {K V W : Type 0} where
     module _ (old : Cache K V W) (x : K) (v : V) where
       -- a plain put, which hands this out
       abbrev pub PlainPuts : {R : Type 0} → R → Result R (K × V) → Cache K V W → Type 0
-      PlainPuts this (Ok out) new = Accepts (NeedsPlace eq x old) this (plain_put eq old.capacity x v old.entries) old out new
-      PlainPuts this (Err back) new = WantsMemory (NeedsPlace eq x old) (x, v) old back new
+      PlainPuts this (Ok out) new = Accepts (NeedsPlace eq old x) this (plain_put eq old.capacity x v old.entries) old out new
+      PlainPuts this (Err back) new = RefusesForMemory (NeedsPlace eq old x) (x, v) old back new
 
       -- a weighted put
       abbrev pub WeightedPuts : (K → V → ℕ) → Result (Option V) (PutError K V) → Cache K V W → Type 0
-      WeightedPuts weight (Ok out) new = (weight x v < old.capacity) × Accepts (NeedsPlaceFor eq weight (weight x v) x old)
-          (lookup (eq x) old.entries) (weighted_put weight eq old.capacity x v old.entries) old out new
-      WeightedPuts weight (Err (TooHeavy k w)) new = IsTooHeavy (weight x v) (x, v) old (k, w) new
-      WeightedPuts weight (Err (NoMemory k w)) new = WantsMemory (NeedsPlaceFor eq weight (weight x v) x old) (x, v) old (k, w) new
+      WeightedPuts weight (Ok out) new = (weight x v < old.capacity) × Accepts (NeedsPlaceFor eq weight old x v)
+          (lookup (eq x) old.entries) (weighted_put eq weight old.capacity x v old.entries) old out new
+      WeightedPuts weight (Err (TooHeavy k w)) new = RefusesAsTooHeavy (weight x v) (x, v) old (k, w) new
+      WeightedPuts weight (Err (NoMemory k w)) new = RefusesForMemory (NeedsPlaceFor eq weight old x v) (x, v) old (k, w) new
 
     -- a call of a cache by any scale, one line for each
     abbrev pub Step : (W → K → V → ℕ) → Cache K V W → Call K V → Answer K V → Cache K V W → Type 0
