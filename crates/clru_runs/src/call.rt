@@ -3,7 +3,7 @@
 use clru::PutError;
 
 /// A call of a cache, by any scale.
-#[derive(Debug, Drop)]
+#[derive(Clone, Debug, Drop)]
 pub enum Call<K, V> {
     PutWithWeight(K, V),
     Get(K),
@@ -18,7 +18,7 @@ pub enum Call<K, V> {
 }
 
 /// A call of a cache whose pairs weigh nothing.
-#[derive(Debug, Drop)]
+#[derive(Clone, Debug, Drop)]
 pub enum PlainCall<K, V> {
     Put(K, V),
 

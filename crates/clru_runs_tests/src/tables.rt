@@ -1,46 +1,54 @@
-//! What the tables share.
+//! Tables: calls with their answers, and the entries at the end.
 
 use clru::{CLruCache, DefaultState, NonZeroUsize, WeightScale};
 use clru_runs::{Answer, Perform, perform_all};
-use std::alloc::{AllocError, Allocator, Global};
+use std::alloc::{Allocator, Global};
 use std::fmt::Debug;
 use std::hash::Hash;
 use std::process::Abort;
+use std::test::Fail;
+
+/// A run of a cache that starts empty.
+#[derive(Drop)]
+pub(crate) struct Table<'a, Q, K, V> {
+    pub(crate) name: &'static str,
+    pub(crate) capacity: usize,
+    /// The calls in order, each with its answer.
+    pub(crate) rows: &'a [(Q, Answer<K, V>)],
+    /// The entries at the end, the most recently used first.
+    pub(crate) list: &'a [(K, V)],
+}
 
 /// A capacity.
 pub(crate) fn room(n: usize) -> Result<NonZeroUsize, &'static str> {
     NonZeroUsize::new(n).ok_or("a capacity is no 0")
 }
 
-/// Makes the calls of the rows in order, and asserts what each answers, and that the cache holds the pairs of `list` at the
-/// end, the most recently used first, and no other.
+/// Makes the calls of the table, asserts their answers, and takes the entries out.
 pub(crate) fn runs<K, V, W, A, Q>(
     rt: &impl Abort,
     alloc: Global,
-    mut cache: CLruCache<K, V, DefaultState, W, A>,
-    rows: Vec<(Q, Answer<K, V>)>,
-    list: &[(K, V)],
-) -> Result<(), AllocError>
+    table: &Table<Q, K, V>,
+    cache: &mut CLruCache<K, V, DefaultState, W, A>,
+) -> Result<(), Fail>
 where
     K: Eq + Hash + Copy + Debug,
     V: PartialEq + Copy + Debug,
-    W: WeightScale<K, V> + Drop,
-    A: Allocator + Copy + Drop,
-    Q: Perform<CLruCache<K, V, DefaultState, W, A>, Answer = Answer<K, V>> + Drop,
+    W: WeightScale<K, V>,
+    A: Allocator + Copy,
+    Q: Perform<CLruCache<K, V, DefaultState, W, A>, Answer = Answer<K, V>> + Clone + Debug + Drop,
 {
     let mut calls = Vec::new(alloc);
-    let mut wanted = Vec::new(alloc);
-    for (call, answer) in rows {
-        calls.push(call)?;
-        wanted.push(answer)?;
+    for (call, _) in table.rows {
+        calls.push(call.clone()?)?;
     }
-    let Ok(given) = perform_all(alloc, &mut cache, calls) else {
-        return Err(AllocError);
-    };
-    assert_eq!(rt; given.as_slice(), wanted.as_slice());
-    for pair in list {
-        assert_eq!(rt; cache.pop_front(), Some(*pair), "of {list:?}");
+    let answers = perform_all(alloc, cache, calls)?;
+    for (given, (call, answer)) in answers.into_iter().zip(table.rows) {
+        assert!(rt; given == *answer, "{call:?} of {}", table.name);
     }
-    assert!(rt; cache.is_empty());
+    for pair in table.list {
+        assert_eq!(rt; cache.pop_front(), Some(*pair), "of {}", table.name);
+    }
+    assert!(rt; cache.is_empty(), "{}", table.name);
     Ok(())
 }
