@@ -1,5 +1,4 @@
--- Hits and schedules said again by places, counted from 0, in the words of a sentence about them.
--- Public clauses cite them.
+-- Hits and schedules said again by places, counted from 0, in the words of a sentence about them. Public clauses cite them.
 use Rattle.std.specs.Prelude.{◌≡◌, ◌⊎◌, ◌↔◌, ℕ, ◌+◌, ◌<◌, ◌≤◌, Bool, true, false, nat_eq, Some, List, length}
 use Rattle.std.specs.List.{slice_get, slice_range, Contains, IsDistinct}
 

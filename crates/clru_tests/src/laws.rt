@@ -1,8 +1,8 @@
 //! The laws, at types of a caller's, and why they speak of no more.
 
-use crate::callers::{puts, runs};
+use crate::callers::{calls, puts, runs};
 use crate::lists::{puts_by_weight, room, takes_out};
-use crate::scales::ByLength;
+use crate::scales::{ByLength, ByValue};
 use clru::{
     CLruCache, PutError, law_by_place, law_growth, law_inclusion, law_longest_fit, law_requests,
     law_schedules_by_place,
@@ -17,6 +17,24 @@ fn laws_do_nothing() {
     law_inclusion::<u64, &'static str>();
     law_longest_fit::<u64, &'static str>();
     law_requests::<&'static str, u64>();
+}
+
+#[test]
+fn the_lesser_cache_ends_with_the_first_entries_of_the_greater(
+    rt: HostRuntime,
+) -> Result<(), Fail> {
+    let lists: [(usize, &[(u64, usize)]); 2] = [
+        (4, &[(2, 1), (0, 1)]),
+        (9, &[(2, 1), (0, 1), (1, 1)]),
+    ];
+    for (capacity, list) in lists {
+        let mut cache = CLruCache::with_scale(rt.alloc(), room(capacity)?, ByValue);
+        assert_eq!(rt; calls::put_pair(&mut cache, 0, 0), Ok(None));
+        assert_eq!(rt; calls::take_first(&mut cache), Some((0, 0)));
+        puts_by_weight(&rt, &mut cache, &[(1, 1, None), (0, 1, None), (2, 1, None)]);
+        takes_out(&rt, &mut cache, list);
+    }
+    Ok(())
 }
 
 #[test]
