@@ -1,6 +1,10 @@
 pub mod Bound
 pub mod ByPlace
 pub mod CallerLemmas
+pub mod ChainWalks
+pub mod Chaining
+pub mod Chains
+pub mod Cuts
 pub mod Distinct
 pub mod EntryRows
 pub mod Finding

@@ -1,6 +1,7 @@
 pub mod ByPlace
 pub mod Cache
 pub mod CacheLends
+pub mod Chained
 pub mod Closures
 pub mod Competes
 pub mod Entries
