@@ -1,0 +1,5 @@
+pub mod Lends
+pub mod Links
+pub mod PlaceList
+pub mod Pushes
+pub mod Retains

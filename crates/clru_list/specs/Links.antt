@@ -1,0 +1,128 @@
+-- How a list's nodes are linked. No public clause cites it.
+use Rattle.std.specs.Prelude.{◌≡◌, ◌⊎◌, ℕ, zero, suc, ◌+◌, ◌<◌, ◌≤◌, ◌==◌, ◌^◌, cond, List, [], ◌∷◌, ◌++◌, map, length, Option, Some, None, slice_index_or, vec_len}
+use Rattle.std.specs.Option.{option_map_or}
+use Rattle.std.specs.Map.{keys_of}
+use Rattle.clru_list.specs.PlaceList.{item_at}
+use Rattle.clru_list.specs.declared.chain.Chain.{Chain}
+use Rattle.clru_list.specs.declared.chain.Node.{Node}
+
+-- the place that no node has
+abbrev pub nowhere : ℕ
+nowhere = 18446744073709551615
+
+-- f with v at a
+abbrev pub put : {X : Type 0} → (ℕ → X) → ℕ → X → ℕ → X
+put f a v k = cond (a == k) v (f k)
+
+-- the links and the item at each place. At `nowhere` the next place is the front and the one before is the back
+pub record Links (T : Type 0) : Type 0 where
+  pub next : ℕ → ℕ
+  pub prev : ℕ → ℕ
+  pub item : ℕ → Option T
+  pub free : ℕ
+  pub size : ℕ
+
+module _ {T A : Type 0} where
+  abbrev pub next_of : Chain T A → ℕ → ℕ
+  next_of c = put (λ k. slice_index_or (map (λ n. n.next) c.nodes.items) k 0) nowhere c.front
+
+  abbrev pub prev_of : Chain T A → ℕ → ℕ
+  prev_of c = put (λ k. slice_index_or (map (λ n. n.prev) c.nodes.items) k 0) nowhere c.back
+
+  abbrev pub item_of : Chain T A → ℕ → Option T
+  item_of c k = slice_index_or (map (λ n. n.item) c.nodes.items) k None
+
+  abbrev pub links_of : Chain T A → Links T
+  links_of c = record { next = next_of c; prev = prev_of c; item = item_of c; free = c.free; size = vec_len c.nodes }
+
+module _ {T : Type 0} where
+  abbrev pub set_next : Links T → ℕ → ℕ → Links T
+  set_next l at to = record l { next = put l.next at to }
+
+  abbrev pub set_prev : Links T → ℕ → ℕ → Links T
+  set_prev l at to = record l { prev = put l.prev at to }
+
+  abbrev pub set_item : Links T → ℕ → Option T → Links T
+  set_item l at x = record l { item = put l.item at x }
+
+  -- a link may be written there
+  abbrev pub IsEnd : Links T → ℕ → Type 0
+  IsEnd l k = (k ≡ nowhere) ⊎ (k < l.size)
+
+  -- the neighbours of the place name each other
+  abbrev pub unlinked : Links T → ℕ → Links T
+  unlinked l p = set_prev (set_next l (l.prev p) (l.next p)) (l.next p) (l.prev p)
+
+  -- the place stands between a and b
+  abbrev pub linked : Links T → ℕ → ℕ → ℕ → Links T
+  linked l a p b = set_prev (set_next (set_prev (set_next l p b) p a) a p) b p
+
+  -- the place is the first free one
+  abbrev pub released : Links T → ℕ → Links T
+  released l p = record (set_next l p l.free) { free = p }
+
+  -- where an item goes: to the first free place, or to a new node
+  abbrev pub spot : Links T → ℕ
+  spot l = cond (nowhere == l.free) l.size l.free
+
+  abbrev pub appended : Links T → T → Links T
+  appended l x = record {
+    next = put l.next l.size nowhere;
+    prev = put l.prev l.size nowhere;
+    item = put l.item l.size (Some x);
+    free = l.free;
+    size = l.size + 1;
+  }
+
+  abbrev pub filled : Links T → T → Links T
+  filled l x = record (set_item l l.free (Some x)) { free = l.next l.free }
+
+  abbrev pub occupied : Links T → T → Links T
+  occupied l x = cond (nowhere == l.free) (appended l x) (filled l x)
+
+  -- so many entries along the next places, from a place on
+  abbrev pub walk : Links T → ℕ → ℕ → List (ℕ × T)
+  walk l at zero = []
+  walk l at (suc n) = option_map_or (λ x. (at, x) ∷ walk l (l.next at) n) (l.item at) []
+
+-- a link as a place
+abbrev pub place_of : ℕ → Option ℕ
+place_of k = cond (nowhere == k) None (Some k)
+
+-- how often a number is in a list
+abbrev pub count : ℕ → List ℕ → ℕ
+count k [] = 0
+count k (p ∷ ps) = cond (k == p) 1 0 + count k ps
+
+-- f leads from a along the places to b
+abbrev pub IsPath : (ℕ → ℕ) → ℕ → List ℕ → ℕ → Type 0
+IsPath f a [] b = f a ≡ b
+IsPath f a (p ∷ ps) b = (f a ≡ p) × IsPath f p ps b
+
+-- the free places from `at` on
+abbrev pub IsSpare : (ℕ → ℕ) → ℕ → List ℕ → Type 0
+IsSpare f at [] = at ≡ nowhere
+IsSpare f at (q ∷ qs) = (at ≡ q) × IsSpare f (f q) qs
+
+module _ {T : Type 0} where
+  -- the entries es are linked in their order, and out has the live ones that are not linked
+  pub record IsTied (l : Links T) (out es : List (ℕ × T)) : Type 0 where
+    pub spare : List ℕ
+    pub forward : IsPath l.next nowhere (keys_of es) nowhere
+    pub backward : (k : ℕ) → 0 < count k (nowhere ∷ keys_of es) → l.prev (l.next k) ≡ k
+    pub live : (k : ℕ) → l.item k ≡ item_at k (out ++ es)
+    pub chained : IsSpare l.next l.free spare
+    -- each place is free once or live once
+    pub inside : (k : ℕ) → k < l.size → count k spare + count k (keys_of (out ++ es)) ≡ 1
+    pub outside : (k : ℕ) → l.size ≤ k → count k spare + count k (keys_of (out ++ es)) ≡ 0
+    pub total : length (out ++ es) + length spare ≡ l.size
+    pub small : l.size ≤ nowhere
+
+  -- the entries of a list, with its fields and the room that the vector has
+  pub record IsSound (l : Links T) (len capacity places room : ℕ) (es : List (ℕ × T)) : Type 0 where
+    pub tied : IsTied l [] es
+    pub counted : len ≡ length es
+    pub fits : len ≤ capacity
+    pub within : l.size ≤ places
+    pub reserved : places ≤ room
+    pub countable : room < 2 ^ 63

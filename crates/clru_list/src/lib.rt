@@ -1,0 +1,20 @@
+//! A doubly linked list in one vector of nodes: each item has a place number, which it keeps until it is removed.
+//!
+//! Contracts see a list as its entries, the pairs of a place and an item, front first, with the capacity, the most entries
+//! that it may hold, and the places, the number of entries for which memory was found. The places of the entries differ
+//! pairwise. A push asks for memory only where each place is taken; where it is refused, it gives the item back and the list
+//! stays as it was.
+//!
+//! Free places are linked through their own nodes. Each call takes the same short time whatever the length is, but for
+//! `clear`, `retain`, `retain_mut` and a push that grows.
+#![tactic(auto)]
+
+mod chain;
+mod error;
+mod list;
+
+// A crate can name a list in a contract only where the types of its fields are exported.
+#[doc(hidden)]
+pub use chain::{Chain, Node};
+pub use error::{NoMemory, PushError};
+pub use list::FixedSizeList;

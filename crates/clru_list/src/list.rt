@@ -1,0 +1,180 @@
+//! `FixedSizeList`: its makers, and the calls that read it. A clause sees a list as its `entries`, its `capacity` and its
+//! `places`.
+ghost use Rattle.std.specs.Prelude.{◌≡◌, ◌<◌, ◌↔◌, ◌^◌, [], length, min, IfOk, OnOk, IsOk, IsTrue, option_copied, vec_capacity};
+ghost use Rattle.std.specs.Option.{option_map};
+ghost use Rattle.std.specs.Borrow.{sem};
+ghost use Rattle.clru_list.specs.Links.{place_of};
+ghost use Rattle.clru_list.specs.PlaceList.{place_list, item_at, first_entry, last_entry, first_place, last_place, place_after, place_before, IsValid};
+
+use crate::chain::{Chain, NOWHERE, Node};
+use crate::error::NoMemory;
+use std::alloc::{Allocator, Global};
+use std::marker::Model;
+
+mod order;
+mod push;
+mod remove;
+mod resize;
+mod retain;
+
+/// A list of at most `capacity` items, each of which keeps its place number until it is removed.
+#[derive(Drop)]
+pub struct FixedSizeList<T, A: Allocator + Copy = Global> {
+    pub(crate) chain: Chain<T, A>,
+    pub(crate) len: usize,
+    pub(crate) capacity: usize,
+    // No more than the vector's capacity, and not that number itself: a growth that was refused changes nothing.
+    pub(crate) places: usize,
+}
+
+impl<T, A: Allocator + Copy> Model for FixedSizeList<T, A> {
+    ghost use Rattle.std.specs.Prelude.{ℕ, List, vec_capacity};
+    ghost use Rattle.clru_list.specs.PlaceList.{PlaceList, place_list, place_list_code};
+    ghost use Rattle.clru_list.specs.Links.{links_of, walk, IsSound};
+
+    ghost Value = { PlaceList T };
+
+    ghost coded = { place_list_code T.code };
+
+    ghost view = { λ l. place_list (walk (links_of l.chain) l.chain.front l.len) l.capacity l.places };
+
+    ghost invariant = { λ l. (es : List (ℕ × T))
+        × IsSound (links_of l.chain) l.len l.capacity l.places (vec_capacity l.chain.nodes) es };
+}
+
+impl<T, A: Allocator + Copy> FixedSizeList<T, A> {
+    /// Creates an empty list that holds at most `capacity` items. It takes no memory.
+    pub fn new(alloc: A, capacity: usize) -> Self
+        ensures { result ≡ place_list [] capacity 0 }
+    {
+        FixedSizeList::empty(Vec::new(alloc), capacity, 0)
+    }
+
+    /// Creates an empty list with memory for `reserve` items, or for `capacity` items where that is less.
+    pub fn with_memory(alloc: A, capacity: usize, reserve: usize) -> Result<Self, NoMemory>
+        ensures empty { IfOk result (λ l. l ≡ place_list [] capacity (min reserve capacity)) }
+        ensures nothing_asked { min reserve capacity ≡ 0 → IsOk result }
+        ensures countable { OnOk result (min reserve capacity < 2 ^ 63) }
+    {
+        let places = reserve.min(capacity);
+        let Ok(nodes) = Vec::with_capacity(alloc, places) else {
+            return Err(NoMemory);
+        };
+        Ok(FixedSizeList::empty(nodes, capacity, places))
+    }
+
+    fn empty(nodes: Vec<Node<T>, A>, capacity: usize, places: usize) -> Self
+        requires none { nodes.items ≡ [] }
+        requires reserved { vec_capacity nodes ≡ places }
+        ensures { result ≡ place_list [] capacity places }
+    {
+        FixedSizeList {
+            chain: Chain::new(nodes),
+            len: 0,
+            capacity,
+            places,
+        }
+    }
+
+    /// Returns the number of items.
+    pub fn len(&self) -> usize
+        ensures len { result ≡ length self.now.entries }
+        ensures valid { IsValid self.now }
+    {
+        self.len
+    }
+
+    /// Returns the number of items that the list may hold.
+    pub fn capacity(&self) -> usize
+        ensures capacity { result ≡ self.now.capacity }
+        ensures valid { IsValid self.now }
+    {
+        self.capacity
+    }
+
+    /// Returns the number of items for which memory was found.
+    pub fn places(&self) -> usize
+        ensures places { result ≡ self.now.places }
+        ensures valid { IsValid self.now }
+    {
+        self.places
+    }
+
+    /// Returns whether there is no item.
+    pub fn is_empty(&self) -> bool
+        ensures { IsTrue result ↔ (self.now.entries ≡ []) }
+    {
+        self.len == 0
+    }
+
+    /// Returns whether the length is at the capacity.
+    pub fn is_full(&self) -> bool
+        ensures { IsTrue result ↔ (length self.now.entries ≡ self.now.capacity) }
+    {
+        self.len == self.capacity
+    }
+
+    /// Returns the item at a place, or nothing where none is there.
+    pub fn get(&self, place: usize) -> Option<&T>
+        ensures value { option_copied result ≡ item_at place self.now.entries }
+        ensures valid { IsValid self.now }
+    {
+        self.chain.item(place)
+    }
+
+    /// Returns the first item.
+    pub fn front(&self) -> Option<&T>
+        ensures value { option_copied result ≡ option_map (λ e. e.1) (first_entry self.now.entries) }
+        ensures valid { IsValid self.now }
+    {
+        self.chain.item(self.chain.front)
+    }
+
+    /// Returns the last item.
+    pub fn back(&self) -> Option<&T>
+        ensures value { option_copied result ≡ option_map (λ e. e.1) (last_entry self.now.entries) }
+        ensures valid { IsValid self.now }
+    {
+        self.chain.item(self.chain.back)
+    }
+
+    /// Returns the place of the first item.
+    pub fn front_idx(&self) -> Option<usize>
+        ensures place { result ≡ first_place self.now.entries }
+        ensures valid { IsValid self.now }
+    {
+        some_place(self.chain.front)
+    }
+
+    /// Returns the place of the last item.
+    pub fn back_idx(&self) -> Option<usize>
+        ensures place { result ≡ last_place self.now.entries }
+        ensures valid { IsValid self.now }
+    {
+        some_place(self.chain.back)
+    }
+
+    /// Returns the place behind that of an item. There is none behind the last, nor where no item is.
+    pub fn next_idx(&self, place: usize) -> Option<usize>
+        ensures place { result ≡ place_after place self.now.entries }
+        ensures valid { IsValid self.now }
+    {
+        self.chain.item(place)?;
+        some_place(self.chain.next(place))
+    }
+
+    /// Returns the place before that of an item. There is none before the first, nor where no item is.
+    pub fn prev_idx(&self, place: usize) -> Option<usize>
+        ensures place { result ≡ place_before place self.now.entries }
+        ensures valid { IsValid self.now }
+    {
+        self.chain.item(place)?;
+        some_place(self.chain.prev(place))
+    }
+}
+
+fn some_place(place: usize) -> Option<usize>
+    ensures { result ≡ place_of place }
+{
+    if place == NOWHERE { None } else { Some(place) }
+}

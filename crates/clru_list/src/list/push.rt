@@ -1,0 +1,95 @@
+//! The calls that may ask for memory.
+ghost use Rattle.std.specs.Prelude.{◌≡◌, ◌<◌, ◌+◌, ◌∷◌, ◌++◌, [], min, max, length, IfOk, OnOk, IfErr, OnErr};
+ghost use Rattle.clru_list.specs.PlaceList.{IsValid, NeedsPlace};
+ghost use Rattle.clru_list.specs.Pushes.{GrowsIfNeeded, Refuses};
+
+use crate::chain::NOWHERE;
+use crate::error::{NoMemory, PushError};
+use crate::list::FixedSizeList;
+use std::alloc::Allocator;
+
+impl<T, A: Allocator + Copy> FixedSizeList<T, A> {
+    /// Finds memory for one more item, where the length is below the capacity and each place is taken. The places double,
+    /// up to the capacity.
+    pub fn make_ready(&mut self) -> Result<(), NoMemory>
+        ensures entries { self.new.entries ≡ self.old.entries }
+        ensures ready { OnOk result (length self.old.entries < self.old.capacity → length self.old.entries < self.new.places) }
+        ensures refused { OnErr result (NeedsPlace self.old × (self.new ≡ self.old)) }
+        ensures places { GrowsIfNeeded self.old self.new }
+        ensures valid { IsValid self.new }
+    {
+        if self.len == self.capacity {
+            return Ok(());
+        }
+        if self.len < self.places {
+            return Ok(());
+        }
+        let places = grown(self.places, self.capacity);
+        let more = places - self.chain.nodes.len();
+        if self.chain.nodes.reserve_exact(more).is_err() {
+            return Err(NoMemory);
+        }
+        self.places = places;
+        Ok(())
+    }
+
+    /// Puts an item to the front, and returns its place: one that was free, or a new one.
+    ///
+    /// A full list refuses it, and so does one that finds no memory; then the item comes back.
+    pub fn push_front(&mut self, item: T) -> Result<usize, PushError<T>>
+        ensures entries { IfOk result (λ place. self.new.entries ≡ (place, item) ∷ self.old.entries) }
+        ensures refused { IfErr result (Refuses self.old item) }
+        ensures stays { OnErr result (self.new ≡ self.old) }
+        ensures places { GrowsIfNeeded self.old self.new }
+        ensures valid { IsValid self.new }
+    {
+        if self.len == self.capacity {
+            return Err(PushError::Full(item));
+        }
+        if self.make_ready().is_err() {
+            return Err(PushError::NoMemory(item));
+        }
+        let place = self.chain.occupy(item);
+        let front = self.chain.front;
+        self.chain.link(NOWHERE, place, front);
+        self.len += 1;
+        Ok(place)
+    }
+
+    /// Puts an item to the back, and returns its place: one that was free, or a new one.
+    ///
+    /// A full list refuses it, and so does one that finds no memory; then the item comes back.
+    pub fn push_back(&mut self, item: T) -> Result<usize, PushError<T>>
+        ensures entries { IfOk result (λ place. self.new.entries ≡ self.old.entries ++ (place, item) ∷ []) }
+        ensures refused { IfErr result (Refuses self.old item) }
+        ensures stays { OnErr result (self.new ≡ self.old) }
+        ensures places { GrowsIfNeeded self.old self.new }
+        ensures valid { IsValid self.new }
+    {
+        if self.len == self.capacity {
+            return Err(PushError::Full(item));
+        }
+        if self.make_ready().is_err() {
+            return Err(PushError::NoMemory(item));
+        }
+        let place = self.chain.occupy(item);
+        let back = self.chain.back;
+        self.chain.link(back, place, NOWHERE);
+        self.len += 1;
+        Ok(place)
+    }
+}
+
+/// Twice the places, at least four, and the capacity at most.
+fn grown(places: usize, capacity: usize) -> usize
+    requires { places < capacity }
+    ensures { result ≡ min capacity (max 4 (places + places)) }
+{
+    if places < 2 {
+        capacity.min(4)
+    } else if places < capacity - places {
+        places + places
+    } else {
+        capacity
+    }
+}

@@ -1,0 +1,56 @@
+//! The calls that keep the items at which a closure answers `true`.
+ghost use Rattle.std.specs.Prelude.{◌≡◌};
+ghost use Rattle.std.specs.Map.Calls.{CallableOnEachPair, RetainsPairs};
+ghost use Rattle.clru_list.specs.PlaceList.{with_entries, IsValid};
+ghost use Rattle.clru_list.specs.Retains.{CalledAtItem, TakesItem, CalledAtItemMut, TakesItemMut};
+
+use crate::list::FixedSizeList;
+use std::alloc::Allocator;
+
+impl<T, A: Allocator + Copy> FixedSizeList<T, A> {
+    /// Calls a closure at each place and its item, from the front to the back, and removes those items at which it answers
+    /// `false`.
+    pub fn retain<F: FnMut(usize, &T) -> bool>(&mut self, mut f: F)
+    where
+        T: Drop,
+        requires { CallableOnEachPair (CalledAtItem F.FnMut) (TakesItem F.FnMut) f self.old.entries }
+        ensures called { RetainsPairs (CalledAtItem F.FnMut) f self.old.entries self.new.entries }
+        ensures stays { self.new ≡ with_entries self.old self.new.entries }
+        ensures valid { IsValid self.new }
+    {
+        let mut at = self.front_idx();
+        while let Some(place) = at {
+            at = self.next_idx(place);
+            let keep = match self.get(place) {
+                Some(item) => f(place, item),
+                None => unreachable!(),
+            };
+            if !keep {
+                self.remove(place);
+            }
+        }
+    }
+
+    /// Calls a closure at each place and its item, from the front to the back, and removes those items at which it answers
+    /// `false`. The others have what it left there.
+    pub fn retain_mut<F: FnMut(usize, &mut T) -> bool>(&mut self, mut f: F)
+    where
+        T: Drop,
+        requires { CallableOnEachPair (CalledAtItemMut F.FnMut) (TakesItemMut F.FnMut) f self.old.entries }
+        ensures called { RetainsPairs (CalledAtItemMut F.FnMut) f self.old.entries self.new.entries }
+        ensures stays { self.new ≡ with_entries self.old self.new.entries }
+        ensures valid { IsValid self.new }
+    {
+        let mut at = self.front_idx();
+        while let Some(place) = at {
+            at = self.next_idx(place);
+            let keep = match self.get_mut(place) {
+                Some(item) => f(place, item),
+                None => unreachable!(),
+            };
+            if !keep {
+                self.remove(place);
+            }
+        }
+    }
+}
