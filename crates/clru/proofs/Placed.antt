@@ -1,10 +1,10 @@
 -- The entries of a list of nodes: what stands at a place once one is written, taken out or put in.
-use Rattle.std.proofs.Common.{◌≡◌, ℕ, ◌==◌, Bool, true, false, cond, Option, Some, None, IsSome, List, [], ◌∷◌, map, length, refl, sym, ap, ◌∙◌, subst, arith, inl, inr}
+use Rattle.std.proofs.Common.{◌≡◌, ℕ, suc, ◌==◌, ◌≤◌, Bool, true, false, cond, Option, Some, None, IsSome, List, [], ◌∷◌, map, length, refl, sym, ap, ◌∙◌, subst, arith, inl, inr}
 use Rattle.std.proofs.lemmas.Bool.{cases_eq, eq-eqb, ne_eqb}
 use Rattle.std.specs.Option.{option_map, option_map_or}
 use Rattle.clru_list.specs.PlaceList.{PlaceList, item_at, without, with_at, IsApart, IsValid}
 use Rattle.clru.specs.Chained.{nowhere, put, steps_of, IsLinked}
-use Rattle.clru.specs.Nodes.{placed_of, pairs_of, link_at, key_at, IsLive}
+use Rattle.clru.specs.Nodes.{pair_of, placed_of, pairs_of, link_at, key_at, IsLive}
 use Rattle.clru.specs.declared.nodes.Item.{Item}
 use Rattle.clru.proofs.Chains.{put-same, put-other}
 use Rattle.clru.proofs.Chaining.{steps_off}
@@ -83,6 +83,85 @@ module _ {K V : Type 0} where
 
   pub same_pairs : (es fs : List (ℕ × Item K V)) → placed_of es ≡ placed_of fs → pairs_of es ≡ pairs_of fs
   same_pairs es fs same = pairs-placed es ∙ ap (λ l. map (λ (e : ℕ × (K × V)). e.1) l) same ∙ sym (pairs-placed fs)
+
+  -- the pair at a place
+  pub pair_at-placed : (q : ℕ) (es : List (ℕ × Item K V)) → option_map (λ (i : Item K V). pair_of i) (item_at q es) ≡ item_at q (placed_of es)
+  pair_at-placed q [] = refl
+  pair_at-placed q (e ∷ es) = elim (cases_eq q e.0) [
+    | inl here ↦ rw (eq-eqb q e.0 here) refl
+    | inr there ↦ rw (ne_eqb q e.0 there) (pair_at-placed q es)
+  ]
+
+  -- new links leave the pair at a place
+  pub same_pair : (es fs : List (ℕ × Item K V)) → placed_of es ≡ placed_of fs → (q : ℕ) (i : Item K V) → item_at q es ≡ Some i
+      → (j : Item K V) × (item_at q fs ≡ Some j) × (pair_of i ≡ pair_of j)
+  same_pair es fs same q i held =
+      let there : option_map (λ (i : Item K V). pair_of i) (item_at q fs) ≡ Some (pair_of i) =
+          pair_at-placed q fs ∙ ap (λ l. item_at q l) (sym same) ∙ sym (pair_at-placed q es) ∙ rw held refl in
+      (elim (item_at q fs) as (λ o. item_at q fs ≡ o → option_map (λ (i : Item K V). pair_of i) o ≡ Some (pair_of i)
+          → (j : Item K V) × (item_at q fs ≡ Some j) × (pair_of i ≡ pair_of j)) [
+        | None ↦ λ e no. cc
+        | Some j ↦ λ e yes. (j, e, let back : pair_of i ≡ pair_of j = cc in back)
+      ]) refl there
+
+  length-placed : (es : List (ℕ × Item K V)) → length (placed_of es) ≡ length es
+  length-placed [] = refl
+  length-placed (e ∷ es) = ap suc (length-placed es)
+
+  -- new links leave how many there are
+  pub same_length : (es fs : List (ℕ × Item K V)) → placed_of es ≡ placed_of fs → length es ≡ length fs
+  same_length es fs same = sym (length-placed es) ∙ ap length same ∙ length-placed fs
+
+  -- there are as many pairs as entries
+  pub length-pairs : (es : List (ℕ × Item K V)) → length (pairs_of es) ≡ length es
+  length-pairs [] = refl
+  length-pairs (e ∷ es) = ap suc (length-pairs es)
+
+  -- new links leave the places apart
+  none_at-placed : (q : ℕ) (es : List (ℕ × Item K V)) → item_at q es ≡ None → item_at q (placed_of es) ≡ None
+  none_at-placed q es none = sym (pair_at-placed q es) ∙ rw none refl
+
+  none_from_placed : (q : ℕ) (es : List (ℕ × Item K V)) → item_at q (placed_of es) ≡ None → item_at q es ≡ None
+  none_from_placed q es none = (elim (item_at q es) as (λ o. option_map (λ (i : Item K V). pair_of i) o ≡ None → o ≡ None) [
+    | None ↦ λ e. refl
+    | Some i ↦ λ e. let no : Some (pair_of i) ≡ None = e in cc
+  ]) (pair_at-placed q es ∙ none)
+
+  apart-placed : (es : List (ℕ × Item K V)) → IsApart es → IsApart (placed_of es)
+  apart-placed [] apart = apart
+  apart-placed (e ∷ es) apart = (none_at-placed e.0 es apart.0, apart-placed es apart.1)
+
+  apart_from_placed : (es : List (ℕ × Item K V)) → IsApart (placed_of es) → IsApart es
+  apart_from_placed [] apart = apart
+  apart_from_placed (e ∷ es) apart = (none_from_placed e.0 es apart.0, apart_from_placed es apart.1)
+
+  pub same_apart : (es fs : List (ℕ × Item K V)) → placed_of es ≡ placed_of fs → IsApart es → IsApart fs
+  same_apart es fs same apart = apart_from_placed fs (subst (λ l. IsApart l) same (apart-placed es apart))
+
+  -- what is left, with its places, is left of the pairs
+  placed-without : (p : ℕ) (es : List (ℕ × Item K V)) → placed_of (without p es) ≡ without p (placed_of es)
+  placed-without p [] = refl
+  placed-without p (e ∷ es) = elim (cases_eq p e.0) [
+    | inl here ↦ rw (eq-eqb p e.0 here) refl
+    | inr there ↦ rw (ne_eqb p e.0 there) (ap (λ l. (e.0, (e.1.key, e.1.value)) ∷ l) (placed-without p es))
+  ]
+
+  pub length-without : (p : ℕ) (es : List (ℕ × Item K V)) → length (without p es) ≤ length es
+  length-without p [] = omega arith
+  length-without p (e ∷ es) = let ih = length-without p es in elim (p == e.0) as (λ b. length (cond b es (e ∷ without p es)) ≤ suc (length es)) [
+    | true ↦ omega arith
+    | false ↦ omega (arith, ih)
+  ]
+
+  pub length-without_held : (p : ℕ) (es : List (ℕ × Item K V)) (i : Item K V) → item_at p es ≡ Some i → suc (length (without p es)) ≡ length es
+  length-without_held p [] i held = cc
+  length-without_held p (e ∷ es) i held = elim (cases_eq p e.0) [
+    | inl here ↦ rw (eq-eqb p e.0 here) refl
+    | inr there ↦ rw (ne_eqb p e.0 there) (ap suc (length-without_held p es i (rw (ne_eqb p e.0 there) at held)))
+  ]
+
+  pub same_without : (p : ℕ) (es fs : List (ℕ × Item K V)) → placed_of es ≡ placed_of fs → placed_of (without p es) ≡ placed_of (without p fs)
+  same_without p es fs same = placed-without p es ∙ ap (λ l. without p l) same ∙ sym (placed-without p fs)
 
   pub not_live : (q : ℕ) (es : List (ℕ × Item K V)) → item_at q es ≡ None → IsLive es q → ⊥
   not_live q es gone live = let both : Some live.0 ≡ None = sym live.1 ∙ gone in cc

@@ -1,8 +1,8 @@
 //! The chains: for each head the places of its keys, linked from one to the next.
-ghost use Rattle.std.specs.Prelude.{◌≡◌, ℕ, ◌<◌, length, IsSome};
-ghost use Rattle.clru_list.specs.PlaceList.{item_at};
-ghost use Rattle.clru.specs.Chained.{nowhere, IsCut, IsWalk, IsLinked};
-ghost use Rattle.clru.specs.Nodes.{head_by, head_at, link_at, placed_of, steps_at, IsLive, IsPlace, IsSame};
+ghost use Rattle.std.specs.Prelude.{◌≡◌, ℕ, ◌<◌, length};
+ghost use Rattle.clru_list.specs.PlaceList.{IsApart};
+ghost use Rattle.clru.specs.Chained.{nowhere, IsCut, IsLinked, IsWalk};
+ghost use Rattle.clru.specs.Nodes.{hash_by, head_by, head_at, link_at, key_at, placed_of, steps_at, IsLive, IsPlace, IsChainedAs, IsChainedBut, HasHome, IsSame};
 
 use crate::nodes::Nodes;
 use std::alloc::Allocator;
@@ -62,5 +62,37 @@ impl<K: Eq + Hash, V, S: BuildHasher, A: Allocator + Copy> Nodes<K, V, S, A> {
             next = item.chain;
         }
         at
+    }
+
+    /// Puts a place to the end of the chain of its key's head.
+    pub(crate) fn append(&mut self, head: usize, place: usize)
+        requires home { let hash = hash_by S.Hasher.finish S.Hasher.write S.build_hasher K.hash_input in HasHome hash head place self.old }
+        requires ends { link_at self.old.list.entries place ≡ nowhere }
+        requires chained { let hash = hash_by S.Hasher.finish S.Hasher.write S.build_hasher K.hash_input in IsChainedBut hash place self.old }
+        ensures chained { let hash = hash_by S.Hasher.finish S.Hasher.write S.build_hasher K.hash_input in
+            IsChainedAs hash (key_at self.new.list.entries) self.new }
+        ensures pairs { placed_of self.new.list.entries ≡ placed_of self.old.list.entries }
+        ensures same { IsSame self.old self.new }
+    {
+        let last = self.before(head, NOWHERE);
+        self.link(head, last, place);
+    }
+
+    /// Takes a place out of the chain of its key's head.
+    pub(crate) fn unchain(&mut self, head: usize, place: usize)
+        requires home { let hash = hash_by S.Hasher.finish S.Hasher.write S.build_hasher K.hash_input in HasHome hash head place self.old }
+        requires chained { let hash = hash_by S.Hasher.finish S.Hasher.write S.build_hasher K.hash_input in
+            IsChainedAs hash (key_at self.old.list.entries) self.old }
+        ensures chained { let hash = hash_by S.Hasher.finish S.Hasher.write S.build_hasher K.hash_input in IsChainedBut hash place self.new }
+        ensures pairs { placed_of self.new.list.entries ≡ placed_of self.old.list.entries }
+        ensures same { IsSame self.old self.new }
+        ensures apart { IsApart self.new.list.entries }
+    {
+        let before = self.before(head, place);
+        let Some(item) = self.list.get(place) else {
+            unreachable!()
+        };
+        let next = item.chain;
+        self.link(head, before, next);
     }
 }
