@@ -1,11 +1,15 @@
 pub mod Bound
 pub mod ByPlace
 pub mod CallerLemmas
+pub mod ChainWalks
+pub mod Chaining
+pub mod Chains
 pub mod Counting
+pub mod Cuts
 pub mod Distinct
+pub mod DistinctByPlace
 pub mod EntryRows
 pub mod Finding
-pub mod DistinctByPlace
 pub mod Fitting
 pub mod Growing
 pub mod Hits

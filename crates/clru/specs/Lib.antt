@@ -1,5 +1,7 @@
 pub mod ByPlace
 pub mod Cache
+pub mod CacheLends
+pub mod Chained
 pub mod Closures
 pub mod Entries
 pub mod Fields
