@@ -14,8 +14,13 @@ pub mod Fitting
 pub mod Growing
 pub mod Hits
 pub mod Inclusion
+pub mod Indexed
+pub mod IndexedMoves
 pub mod Keeping
 pub mod Marks
+pub mod PlaceEnds
+pub mod Placed
+pub mod PlacedPairs
 pub mod Places
 pub mod PutRuns
 pub mod PutSteps

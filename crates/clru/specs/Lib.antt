@@ -9,6 +9,7 @@ pub mod Growth
 pub mod Laws
 pub mod Lends
 pub mod Memory
+pub mod Nodes
 pub mod Refusals
 pub mod Requests
 pub mod Runs

@@ -15,6 +15,7 @@ mod cache;
 mod error;
 mod hasher;
 mod laws;
+mod nodes;
 mod pairs;
 mod replays;
 mod shrink;
