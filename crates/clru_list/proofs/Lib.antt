@@ -1,4 +1,5 @@
 pub mod EntryLists
+pub mod Growing
 pub mod Holding
 pub mod NodeLemmas
 pub mod Paths

@@ -67,6 +67,9 @@ module _ {T : Type 0} where
       seen_front = ap l.item (front_is l.next l.prev (keys_of i.0) i.1.linked) ∙ i.1.held.live _ ∙ first_item i.0
           ∙ ap (λ es. option_map (λ e. e.1) (first_entry es)) (sym seen_entries)
 
+      pub front_place : l.next nowhere ≡ first_or nowhere (keys_of now.entries)
+      front_place = front_is l.next l.prev (keys_of i.0) i.1.linked ∙ ap (λ es. first_or nowhere (keys_of es)) (sym seen_entries)
+
       pub seen_back : l.item (l.prev nowhere) ≡ option_map (λ e. e.1) (last_entry now.entries)
       seen_back = ap l.item (back_is l.next l.prev (keys_of i.0) i.1.linked) ∙ i.1.held.live _
           ∙ last_item i.0 (keys_once l len capacity places room i.0 i.1) ∙ ap (λ es. option_map (λ e. e.1) (last_entry es)) (sym seen_entries)
@@ -91,6 +94,9 @@ module _ {T : Type 0} where
     -- the item that is seen at a place is there
     pub held_item : (p : ℕ) → IsSome (item_at p now.entries) → (x : T) × (l.item p ≡ Some x)
     held_item p some = let it = some_item (item_at p now.entries) some in (it.0, seen_item l len capacity places room i now h p ∙ it.1)
+
+    pub seen_length : len ≡ length now.entries
+    seen_length = i.1.counted ∙ ap length (sym (seen_entries l len capacity places room i now h))
 
     pub seen_with : (change : List (ℕ × T) → List (ℕ × T)) → with_entries now (change now.entries) ≡ place_list (change i.0) capacity places
     seen_with change = ap (λ n. with_entries n (change n.entries)) (seen l len capacity places room i now h)
