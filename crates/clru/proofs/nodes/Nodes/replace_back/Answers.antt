@@ -5,7 +5,7 @@ use Rattle.clru_list.specs.PlaceList.{item_at, without, with_entries, IsApart}
 use Rattle.clru.specs.Chained.{nowhere, put, IsChained}
 use Rattle.clru.specs.Nodes.{hash_by, head_by, head_at, link_at, key_at, home_at, pair_of, pairs_of, IsIndexed}
 use Rattle.clru.specs.declared.nodes.Item.{Item}
-use Rattle.clru.proofs.Indexed.{head_within, same_trans}
+use Rattle.clru.proofs.Indexed.{head_within}
 use Rattle.clru.proofs.IndexedMoves.{chained_replace, indexed_from}
 use Rattle.clru.proofs.Placed.{same_pair, same_pairs, same_without, same_length, length-pairs, length-without_held}
 use Rattle.clru.proofs.PlaceEnds.{last_at, held_last, last_pair, none_at_last, some_live}
@@ -78,7 +78,15 @@ pub returns-clause-indexed : goal.returns-clause-indexed
 returns-clause-indexed g c =
     let x = c.args.self.now in let u = c.unchain.new.self.list.entries in let p = c.in-Some.place in let h = c.home-old_head.ensures in
     let there = same_pair x.list.entries u (sym c.unchain.ensures.pairs) p h.item h.held in
-    indexed_from {x = x} c.requires.indexed (same_trans {y = c.unchain.new.self} c.unchain.ensures.same c.append.ensures.same)
+    let a = c.unchain.ensures.same in let b = c.append.ensures.same in
+    indexed_from {x = x} c.requires.indexed
+    (record {
+      capacity = b.capacity ∙ a.capacity;
+      placed = b.placed ∙ a.placed;
+      builder = b.builder ∙ a.builder;
+      places = b.places ∙ a.places;
+      heads = b.heads ∙ a.heads;
+    })
     c.append.ensures.chained
     (omega (arith, same_length c.append.new.self.list.entries ((p, c.replace-old.new.dest) ∷ without p u) c.append.ensures.pairs,
     length-without_held p u there.0 there.1, same_length u x.list.entries c.unchain.ensures.pairs))
