@@ -1,2 +1,10 @@
-pub mod Puts
+pub mod EntryLists
+pub mod Growing
+pub mod Holding
 pub mod NodeLemmas
+pub mod Paths
+pub mod Puts
+pub mod Rings
+pub mod Soundness
+pub mod Steps
+pub mod Views

@@ -101,3 +101,14 @@ module _ {T A : Type 0} where
         let next = put-same (next_of c) at n.next (node_next c at n long ne h) in let prev = put-same (prev_of c) at n.prev (node_prev c at n long ne h) in
         links_of-write c at (record n { item = x }) long ne
         ∙ (λ i. record { next = next i; prev = prev i; item = put (item_of c) at x; free = c.free; size = vec_len c.nodes })
+
+  -- other memory for the same nodes
+  pub links_of-moved : (c : Chain T A) (v : Vec (Node T) A) → v.items ≡ c.nodes.items → vec_len v ≡ vec_len c.nodes → links_of (record c { nodes = v }) ≡ links_of c
+  links_of-moved c v same len =
+      λ i. record {
+        next = put (column (λ m. m.next) 0 (same i)) nowhere c.front;
+        prev = put (column (λ m. m.prev) 0 (same i)) nowhere c.back;
+        item = column (λ m. m.item) None (same i);
+        free = c.free;
+        size = len i;
+      }
