@@ -3,7 +3,7 @@ use Rattle.std.proofs.Common.{◌≡◌, ℕ, ◌-◌, ◌^◌, ◌%◌, Bool, [
 use Rattle.std.specs.Prelude.{nat_eq}
 use Rattle.clru.specs.Entries.{touch, plain_put, weighted_put, fit, size_of}
 
-abbrev itself : ℕ → ℕ → ℕ
+abbrev pub itself : ℕ → ℕ → ℕ
 itself key value = value
 
 -- keys are the same where their last digits are
@@ -30,17 +30,17 @@ unfolding fit
 fit_ends_at_the_first_that_does_not = refl
 
 -- a weighted put takes the new key, and what fits beside the new value stays
-weighted_put_on_a_held_key : weighted_put itself last_digit 8 12 3 ((2, 2) ∷ (3, 1) ∷ (4, 1) ∷ []) ≡ (12, 3) ∷ (3, 1) ∷ (4, 1) ∷ []
+weighted_put_on_a_held_key : weighted_put last_digit itself 8 12 3 ((2, 2) ∷ (3, 1) ∷ (4, 1) ∷ []) ≡ (12, 3) ∷ (3, 1) ∷ (4, 1) ∷ []
 unfolding fit
 weighted_put_on_a_held_key = refl
 
 -- a heavy one drops all others
-weighted_put_of_a_heavy_pair : weighted_put itself nat_eq 10 2 6 ((1, 3) ∷ []) ≡ (2, 6) ∷ []
+weighted_put_of_a_heavy_pair : weighted_put nat_eq itself 10 2 6 ((1, 3) ∷ []) ≡ (2, 6) ∷ []
 unfolding fit
 weighted_put_of_a_heavy_pair = refl
 
 -- at the greatest capacity, beside a weight near it
-weighted_put_beside_a_great_weight : weighted_put itself nat_eq (2 ^ 64 - 1) 2 1 ((1, 2 ^ 64 - 4) ∷ []) ≡ (2, 1) ∷ (1, 2 ^ 64 - 4) ∷ []
+weighted_put_beside_a_great_weight : weighted_put nat_eq itself (2 ^ 64 - 1) 2 1 ((1, 2 ^ 64 - 4) ∷ []) ≡ (2, 1) ∷ (1, 2 ^ 64 - 4) ∷ []
 unfolding fit
 weighted_put_beside_a_great_weight = refl
 

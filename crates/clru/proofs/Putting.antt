@@ -6,10 +6,11 @@ use Rattle.std.specs.Map.{lookup}
 use Rattle.std.proofs.lemmas.Bool.{cases_lt}
 use Rattle.std.proofs.lemmas.Map.{lookup-none, none_passes_from_lookup}
 use Rattle.std.proofs.lemmas.List.Sums.{sum_by-cons}
-use Rattle.clru.specs.Cache.{Cache, GrowsOnlyIf, NeedsMemory}
+use Rattle.clru.specs.Cache.{Cache}
 use Rattle.clru.specs.Entries.{weight_of, plain_put}
 use Rattle.clru.specs.Fields.{IsCache}
 use Rattle.clru.specs.Growth.{GrowsIf}
+use Rattle.clru.specs.Memory.{GrowsOnlyIf, NeedsMemory}
 use Rattle.clru.proofs.Finding.{IsFound, plain_put-found}
 use Rattle.clru.proofs.Keeping.{IsCache-put}
 use Rattle.clru.proofs.Sublists.{IsSublist, sublist_take, All-sublist}
@@ -27,12 +28,12 @@ grows_not needed old new needs_none capacity scale places covers = record {
 }
 
 module _ {K V W : Type 0} {eq : K → K → Bool} {x : K} where
-  pub held_needs_none : {nothing_goes : Type 0} {v : V} (c : Cache K V W) → lookup (eq x) c.entries ≡ Some v → NeedsMemory eq x c nothing_goes → ⊥
+  pub held_needs_none : {nothing_goes : Type 0} {v : V} (c : Cache K V W) → lookup (eq x) c.entries ≡ Some v → NeedsMemory eq c x nothing_goes → ⊥
   held_needs_none c held n = let absent = n.absent in cc
 
   places_stay : {nothing_goes : Type 0} (old new : Cache K V W) (wanted : Bool) → (IsTrue wanted → nothing_goes) → lookup (eq x) old.entries ≡ None
       → length old.entries ≤ old.places → GrowsIf wanted (length old.entries) old.capacity old.places new.places →
-      (NeedsMemory eq x old nothing_goes → ⊥) → new.places ≡ old.places
+      (NeedsMemory eq old x nothing_goes → ⊥) → new.places ≡ old.places
   places_stay old new false says absent held grows _ = grows.unwanted (λ t. cc)
   places_stay old new true says absent held grows needs_none = elim (cases_lt (length old.entries) old.places) [
     | inl free ↦ grows.free free
@@ -44,7 +45,7 @@ module _ {K V W : Type 0} {eq : K → K → Bool} {x : K} where
       → lookup (eq x) old.entries ≡ None
       → length old.entries ≤ old.places → GrowsIf wanted (length old.entries) old.capacity old.places new.places
       → new.capacity ≡ old.capacity → new.scale ≡ old.scale → length new.entries ≤ new.places → GrowsOnlyIf
-      (NeedsMemory eq x old nothing_goes) old new
+      (NeedsMemory eq old x nothing_goes) old new
   grows_if_needed old new wanted says asks absent held grows capacity scale covers = record {
     capacity = capacity;
     scale = scale;

@@ -1,7 +1,7 @@
--- What a contract sees of a cache.
-use Rattle.std.specs.Prelude.{◌≡◌, ℕ, ◌+◌, ◌<◌, ◌≤◌, Bool, List, length, None, refl}
+-- What a contract sees of a cache. Public clauses cite it.
+use Rattle.std.specs.Prelude.{ℕ, ◌<◌, ◌≤◌, Bool, List, length, refl}
 use Rattle.std.specs.List.{IsDistinct}
-use Rattle.std.specs.Map.{keys_of, lookup}
+use Rattle.std.specs.Map.{keys_of}
 use Rattle.std.specs.Coded.{Coded, code_by, coded×, coded_list, coded_ℕ}
 use Rattle.clru.specs.Entries.{size_of}
 
@@ -31,26 +31,3 @@ module _ {K V W : Type 0} where
     pub fits : size_of weight c.entries ≤ c.capacity
     pub some : 0 < c.capacity
     pub held : length c.entries ≤ c.places
-
-  -- x is not held, no entry has to go, and each place is taken: only then does a put ask for memory
-  pub record NeedsMemory (eq : K → K → Bool) (x : K) (c : Cache K V W) (nothing_goes : Type 0) : Type 0 where
-    pub absent : lookup (eq x) c.entries ≡ None
-    pub room : nothing_goes
-    pub taken : c.places ≡ length c.entries
-
-  -- for a pair of no weight
-  abbrev pub NeedsPlace : (K → K → Bool) → K → Cache K V W → Type 0
-  NeedsPlace eq x c = NeedsMemory eq x c (length c.entries < c.capacity)
-
-  -- for a pair of the weight w
-  abbrev pub NeedsPlaceFor : (K → K → Bool) → (K → V → ℕ) → ℕ → K → Cache K V W → Type 0
-  NeedsPlaceFor eq weight w x c = NeedsMemory eq x c (size_of weight c.entries + (1 + w) ≤ c.capacity)
-
-  -- capacity and scale stay, and so do the places unless one is needed; they never fall, and a growth stays within the capacity
-  pub record GrowsOnlyIf (needed : Type 0) (old new : Cache K V W) : Type 0 where
-    pub capacity : new.capacity ≡ old.capacity
-    pub scale : new.scale ≡ old.scale
-    pub never_falls : old.places ≤ new.places
-    pub stays : (needed → ⊥) → new.places ≡ old.places
-    pub bounded : needed → new.places ≤ new.capacity
-    pub covers : length new.entries ≤ new.places

@@ -1,4 +1,4 @@
--- The closure calls of put-or-modify.
+-- The closure calls of put-or-modify. Public clauses cite them.
 use Rattle.std.specs.Prelude.{◌≡◌, Option, Some, None}
 use Rattle.std.specs.Borrow.{Bor, MutBor}
 use Rattle.std.specs.Fn.{Mut, Takes, Called}

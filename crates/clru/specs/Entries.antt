@@ -1,4 +1,5 @@
--- Entry lists: pairs of a key and a value, the most recently used first, the keys pairwise not the same.
+-- Entry lists: pairs of a key and a value, the most recently used first, the keys pairwise not the same. Public clauses cite
+-- them.
 use Rattle.std.specs.Prelude.{◌≡◌, ℕ, ◌+◌, ◌-◌, ◌≤◌, nat_le, Bool, cond, List, [], ◌∷◌, ◌++◌, length, take}
 use Rattle.std.specs.List.{sum_by}
 use Rattle.std.specs.Option.{option_map_or}
@@ -39,6 +40,6 @@ module _ {K V : Type 0} where
       pub fits : size_of p ≤ c
       pub longest : (q back : List (K × V)) → es ≡ q ++ back → size_of q ≤ c → length q ≤ length p
 
-    -- a weighted put under the capacity c: the new pair with the new key, before what of the others fits beside it
-    abbrev pub weighted_put : (K → K → Bool) → ℕ → K → V → List (K × V) → List (K × V)
-    weighted_put eq c x v es = (x, v) ∷ fit (c - 1 - weight x v) (without eq x es)
+  -- a weighted put under the capacity c: the new pair with the new key, before what of the others fits beside it
+  abbrev pub weighted_put : (K → K → Bool) → (K → V → ℕ) → ℕ → K → V → List (K × V) → List (K × V)
+  weighted_put eq weight c x v es = (x, v) ∷ fit weight (c - 1 - weight x v) (without eq x es)

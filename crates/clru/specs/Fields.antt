@@ -1,4 +1,4 @@
--- What a cache's fields keep.
+-- Private: what a cache's fields keep. No public clause cites it.
 use Rattle.std.specs.Prelude.{◌≡◌, ℕ, ◌≤◌, Bool, List, length}
 use Rattle.std.specs.List.{IsDistinct}
 use Rattle.std.specs.Map.{keys_of}

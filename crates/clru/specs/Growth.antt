@@ -1,4 +1,4 @@
--- The places of a list that may get one more item.
+-- Private: the places of a list that may get one more item. No public clause cites it.
 use Rattle.std.specs.Prelude.{◌≡◌, ℕ, ◌<◌, ◌≤◌, Bool, IsTrue}
 
 -- memory for one more item is found only where that is wanted and the len items take each place, and within the capacity

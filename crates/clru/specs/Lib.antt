@@ -3,10 +3,14 @@ pub mod Cache
 pub mod CacheLends
 pub mod Chained
 pub mod Closures
-pub mod Competes
 pub mod Entries
 pub mod Fields
 pub mod Growth
-pub mod Puts
+pub mod Laws
+pub mod Lends
+pub mod Memory
+pub mod Nodes
+pub mod Refusals
 pub mod Requests
+pub mod Runs
 pub mod Schedule

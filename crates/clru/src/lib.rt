@@ -11,23 +11,21 @@
 //! front a move of those before it.
 #![tactic(auto)]
 
-mod answer;
 mod cache;
 mod error;
+mod hasher;
 mod laws;
 mod pairs;
-mod put;
-mod recency;
-mod requests;
+mod replays;
 mod shrink;
-mod state;
 mod weight;
 
-pub use answer::Replay;
 pub use cache::CLruCache;
 pub use error::{NoMemory, PutError};
-pub use laws::{law_by_place, law_longest_fit};
-pub use requests::replay;
-pub use state::DefaultState;
+pub use hasher::DefaultState;
+pub use laws::{
+    law_by_place, law_growth, law_inclusion, law_longest_fit, law_requests, law_schedules_by_place,
+};
+pub use replays::{Replay, replay};
 pub use std::num::NonZeroUsize;
 pub use weight::{WeightScale, ZeroWeightScale};

@@ -41,17 +41,16 @@ invariant_of-self g c =
     (omega (arith, c.if-weight-capacity.false, size, weighs)) (p.weighs ∙ ap (weight_of w) put) (omega (arith, shorter, len, old.held))
     (omega (arith, old.reserved, r.capacity, p.capacity)))
 
-pub returns-in-Some-clause-put : goal.returns-in-Some-clause-put
-returns-in-Some-clause-put g c =
-    let eq = g.K.PartialEq.eq in let key = c.args.key in let w = g.W.WeightScale.weight c.self.inside.scale in
-    let es = c.self.inside.pairs.items in let capacity = non_zero_usize_get c.self.inside.capacity in
-    let f = found (eq key) (sym c.in-Some.ensures) in let r = c.remove-old_key.ensures in let size = c.get-capacity.ensures.value in
-    let weighs = c.weight-weight.ensures in
-    rw (← c.self.view_is) (
-      omega (arith, c.if-weight-capacity.false, size, weighs),
-      lookup-found (eq key) f c.remove-old_key.result r.value,
-      weighted_front w _ capacity (omega (arith, size, weighs)) (r.items ∙ f.removed) c.push_front_of_fit.ensures.pairs,
-    )
+pub returns-in-Some-clause-answer : goal.returns-in-Some-clause-answer
+returns-in-Some-clause-answer g c =
+    let test = g.K.PartialEq.eq c.args.key in
+    rw (← c.self.view_is) (lookup-found test (found test (sym c.in-Some.ensures)) c.remove-old_key.result c.remove-old_key.ensures.value)
+
+pub returns-in-Some-clause-entries : goal.returns-in-Some-clause-entries
+returns-in-Some-clause-entries g c =
+    let f = found (g.K.PartialEq.eq c.args.key) (sym c.in-Some.ensures) in
+    rw (← c.self.view_is) (weighted_front (g.W.WeightScale.weight c.self.inside.scale) _ (non_zero_usize_get c.self.inside.capacity)
+    (omega (arith, c.get-capacity.ensures.value, c.weight-weight.ensures)) (c.remove-old_key.ensures.items ∙ f.removed) c.push_front_of_fit.ensures.pairs)
 
 pub returns-in-Some-clause-places : goal.returns-in-Some-clause-places
 returns-in-Some-clause-places g c =
@@ -62,22 +61,16 @@ returns-in-Some-clause-places g c =
     rw (← c.self.view_is) (grows_not _ _ _ (held_needs_none _ f.value) refl refl refl
     (omega (arith, ap length p.pairs, shorter, ap length r.items, len, c.self.invariant.held)))
 
-pub returns-in_default-make_ready_if-clause-put : goal.returns-in_default-make_ready_if-clause-put
-returns-in_default-make_ready_if-clause-put g c =
+pub returns-in_default-make_ready_if-clause-memory : goal.returns-in_default-make_ready_if-clause-memory
+returns-in_default-make_ready_if-clause-memory g c =
     let m = missed (g.K.PartialEq.eq c.args.key) (sym c.in_default.ensures) in let e = c.in_default-make_ready_if.ensures in
     let old = c.self.invariant in
     let size = c.get-capacity.ensures.value in let weighs = c.weight-weight.ensures in let len = c.self.inside.pairs.ok.0 in
-    rw (← c.self.view_is) (
-      record {
-        absent = m.value;
-        room = omega
-            (arith, leb-true _ _ e.refused.0, c.if-weight-capacity.false, size, weighs, len, old.weighs, c.len.ensures);
-        taken = e.refused.1;
-      },
-      refl,
-      refl,
-      e.items,
-    )
+    rw (← c.self.view_is) (λ _. record {
+      absent = m.value;
+      room = omega (arith, leb-true _ _ e.refused.0, c.if-weight-capacity.false, size, weighs, len, old.weighs, c.len.ensures);
+      taken = e.refused.1;
+    })
 
 pub push_front_of_fit-requires-2-clause-reserved : goal.push_front_of_fit-requires-2-clause-reserved
 push_front_of_fit-requires-2-clause-reserved g c =
@@ -100,16 +93,15 @@ invariant_of-self-2 g c =
     rw put (IsCache-weighted w _ _ _ key c.args.value g.met.K.Eq.laws old (sublist_itself es) m.value
     (omega (arith, c.if-weight-capacity.false, size, weighs)) (p.weighs ∙ ap (weight_of w) put) covers (omega (arith, e.reserved, p.capacity)))
 
-pub returns-clause-put : goal.returns-clause-put
-returns-clause-put g c =
-    let eq = g.K.PartialEq.eq in let key = c.args.key in let w = g.W.WeightScale.weight c.self.inside.scale in
-    let capacity = non_zero_usize_get c.self.inside.capacity in
-    let m = missed (eq key) (sym c.in_default.ensures) in let size = c.get-capacity.ensures.value in let weighs = c.weight-weight.ensures in
-    rw (← c.self.view_is) (
-      omega (arith, c.if-weight-capacity.false, size, weighs),
-      sym m.value,
-      weighted_front w _ capacity (omega (arith, size, weighs)) (c.in-Ok.ensures.items ∙ sym m.removed) c.push_front_of_fit-2.ensures.pairs,
-    )
+pub returns-clause-answer : goal.returns-clause-answer
+returns-clause-answer g c = rw (← c.self.view_is) (sym (missed (g.K.PartialEq.eq c.args.key) (sym c.in_default.ensures)).value)
+
+pub returns-clause-entries : goal.returns-clause-entries
+returns-clause-entries g c =
+    let m = missed (g.K.PartialEq.eq c.args.key) (sym c.in_default.ensures) in
+    rw (← c.self.view_is) (weighted_front (g.W.WeightScale.weight c.self.inside.scale) _ (non_zero_usize_get c.self.inside.capacity)
+    (omega (arith, c.get-capacity.ensures.value, c.weight-weight.ensures)) (c.in-Ok.ensures.items ∙ sym m.removed)
+    c.push_front_of_fit-2.ensures.pairs)
 
 pub returns-clause-places : goal.returns-clause-places
 returns-clause-places g c =

@@ -1,0 +1,43 @@
+use Rattle.std.proofs.Common.{rules, sym, ◌∙◌, ◌≡◌, ◌+◌, cond, arith, refl, ap}
+use Rattle.std.proofs.lemmas.List.{length_push, map-id}
+use Rattle.std.proofs.lemmas.Iterator.Adapters.{YieldsList-from_vec}
+use Rattle.std.proofs.lemmas.Iterator.Consumers.{YieldsList-end}
+use Rattle.std.specs.Int.NonZero.{non_zero_usize_get}
+use Rattle.clru.specs.Requests.{misses}
+use Rattle.clru.proofs.Bound.{competitive, competitive_from_any_start}
+use Rattle.clru.proofs.Replaying.{Replays-push}
+use Rattle.clru.proofs.replays.replay.Goals as goal
+use Rattle.clru.proofs.replays.replay.Goals.{then-not-hit, else-not-hit}
+
+pub loop-key-preserved : goal.loop-key-preserved
+loop-key-preserved g c =
+    let counted : c.if-not-hit.misses ≡ c.loop-key.misses + cond c.request-hit.result 0 1 = elim c.if-not-hit.branch [
+      | then-not-hit w ↦ rw (w.misses-is, w.if-not-hit.true) refl
+      | else-not-hit w ↦ rw (w.misses-is, w.if-not-hit.false) (omega arith)
+    ] in
+    let e = c.request-hit.ensures in let before = c.loop-key.invariant.replays in let pushed = c.push_reserved.ensures.items in
+    record {
+      next = tt;
+      ends = tt;
+      replays = Replays-push g.K.PartialEq.eq c.in-Some.key c.request-hit.result g.met.K.Eq.laws before e.hit e.put e.held pushed counted;
+      marked = omega (arith, c.push_reserved.ensures.len, c.loop-key.invariant.marked, length_push c.loop-key.yielded c.in-Some.key);
+      room = omega (arith, c.push_reserved.ensures.capacity, c.loop-key.invariant.room);
+    }
+
+pub returns-clause-misses : goal.returns-clause-misses
+returns-clause-misses g c =
+    let eq = g.K.PartialEq.eq in let keys = c.args.keys.items in
+    let gives = YieldsList-from_vec {s = c.into_iter-key-iterator.result} keys (search rules) (search rules) in
+    let whole = YieldsList-end gives c.loop-key.yielded c.loop-key.key-iterator c.loop-key.yielded_by c.next.result c.next.new.self
+    c.in-None.is c.next.ensures.steps in
+    let taken : c.loop-key.yielded ≡ keys = sym (map-id c.loop-key.yielded) ∙ whole.0 in
+    c.loop-key.invariant.replays.misses ∙ ap (misses eq (non_zero_usize_get c.args.capacity)) taken
+
+pub returns-clause-bound : goal.returns-clause-bound
+returns-clause-bound g c =
+    rw (returns-clause-misses g c) (competitive g.K.PartialEq.eq g.met.K.Eq.laws (non_zero_usize_get c.args.capacity) c.args.keys.items)
+
+pub returns-clause-bound_any_start : goal.returns-clause-bound_any_start
+returns-clause-bound_any_start g c =
+    rw (returns-clause-misses g c)
+    (competitive_from_any_start g.K.PartialEq.eq g.met.K.Eq.laws (non_zero_usize_get c.args.capacity) c.args.keys.items)

@@ -1,0 +1,58 @@
+//! The calls whose closures make or change the value.
+ghost use Rattle.std.specs.Prelude.{◌≡◌, None, Some, IfOk, IfErr, IsErr};
+ghost use Rattle.std.specs.Borrow.{sem};
+ghost use Rattle.std.specs.Map.{lookup_entry};
+ghost use Rattle.clru.specs.Closures.{TakesKey, TakesEntry, PutsOrModifies};
+ghost use Rattle.clru.specs.Lends.{lends_put};
+ghost use Rattle.clru.specs.Memory.{NeedsPlace};
+ghost use Rattle.clru.specs.contracts.weight.ZeroWeightScale.{the_row as zero_scale_row};
+
+use crate::cache::CLruCache;
+use crate::pairs::{find, make_ready_if, move_to_front, push_front};
+use crate::weight::{WeightScale, ZeroWeightScale};
+use std::alloc::Allocator;
+use std::hash::{BuildHasher, Hash};
+
+impl<K: Eq + Hash, V, S: BuildHasher, A: Allocator + Copy> CLruCache<K, V, S, ZeroWeightScale, A> {
+    /// Puts a new entry with the value that `put_op` makes of the key and the data, or has `modify_op` change the value
+    /// of a held key. The entry is then the most recently used, and its value is lent.
+    ///
+    /// A new entry drops the least recently used one of a full cache, after `put_op` has answered. Where memory is
+    /// refused, the key and the data come back and no closure was called.
+    pub fn put_or_modify<T, P: FnMut(&K, T) -> V, M: FnMut(&K, &mut V, T)>(
+        &mut self,
+        key: K,
+        mut put_op: P,
+        mut modify_op: M,
+        data: T,
+    ) -> Result<&mut V, (K, T)>
+    where
+        K: Drop,
+        V: Drop,
+        requires put { lookup_entry (K.eq key) self.old.entries ≡ None → TakesKey P.FnMut put_op key «data» }
+        requires modify { (k : K) (v : V) → lookup_entry (K.eq key) self.old.entries ≡ Some (k, v)
+            → TakesEntry M.FnMut modify_op k v «data» }
+        ensures* lends { sem 𝓛 (lends_put K.row V.row S.row zero_scale_row A.row S.Hasher.row K.Hash S.BuildHasher
+            S.Hasher.Hasher ⟦<ZeroWeightScale as WeightScale<K, V>>⟧ A.Allocator self.entry key result) }
+        ensures called { IfOk result (λ x.
+            PutsOrModifies P.FnMut M.FnMut (lookup_entry (K.eq key) self.old.entries) put_op modify_op key «data» x.now) }
+        ensures refused { IfErr result (λ back. back ≡ (key, «data»)) }
+        ensures memory { IsErr result → NeedsPlace K.eq self.old key }
+    {
+        if let Some(at) = find(&self.pairs, &key) {
+            move_to_front(&mut self.pairs, at);
+            let entry = &mut self.pairs[0];
+            modify_op(&entry.0, &mut entry.1, data);
+            return Ok(&mut entry.1);
+        }
+        let capacity = self.capacity.get();
+        let wanted = self.pairs.len() < capacity;
+        let Ok(()) = make_ready_if(wanted, &mut self.pairs, &mut self.places, self.capacity) else {
+            return Err((key, data));
+        };
+        let value = put_op(&key, data);
+        self.pairs.truncate(capacity - 1);
+        push_front(&mut self.pairs, (key, value));
+        Ok(&mut self.pairs[0].1)
+    }
+}

@@ -1,0 +1,74 @@
+//! Whole lists of requests, sent through a cache.
+ghost use Rattle.std.specs.Prelude.{◌≡◌, ◌≤◌, [], length, is_some, IfOk, IfErr, IsOk};
+ghost use Rattle.std.specs.Int.NonZero.{non_zero_usize_get};
+ghost use Rattle.std.specs.Map.{lookup};
+ghost use Rattle.clru.specs.Cache.{with_entries};
+ghost use Rattle.clru.specs.Schedule.{IsCompetitive, IsCompetitiveFromAnyStart};
+ghost use Rattle.clru.specs.Entries.{plain_put};
+ghost use Rattle.clru.specs.Memory.{NeedsPlace};
+ghost use Rattle.clru.specs.Requests.{marks, misses};
+
+mod answer;
+
+use crate::cache::CLruCache;
+use crate::weight::ZeroWeightScale;
+pub use answer::Replay;
+use std::alloc::Allocator;
+use std::hash::{BuildHasher, Hash};
+use std::num::NonZeroUsize;
+
+/// Sends the keys in order through an empty cache of the capacity, and answers which of them it held and how many it did not.
+///
+/// A request is a hit where its key was requested before, and fewer than `capacity` distinct keys since then. The misses
+/// keep the competitive bound: they are at most `capacity / (capacity - h + 1)` times those of every schedule that starts
+/// empty and holds `h` keys, `capacity` or fewer, also of one that knows all the requests beforehand. Beside a schedule
+/// that starts with keys they are at most `h` more than that.
+///
+/// Memory is taken before the first request: places for as many entries as there are keys, `capacity` at most, and the
+/// marks. Where either is refused, the keys come back as they were, and nothing else can be refused. Without keys no memory
+/// is asked for. Each request costs a search of the entries held. The cache hashes keys with `hash_builder`.
+pub fn replay<K: Eq + Hash + Drop, S: BuildHasher + Drop, A: Allocator + Copy>(
+    alloc: A,
+    capacity: NonZeroUsize,
+    keys: Vec<K, A>,
+    hash_builder: S,
+) -> Result<Replay<A>, Vec<K, A>>
+    ensures marks { IfOk result (λ r. r.marks.items ≡ marks K.eq (non_zero_usize_get capacity) keys.items) }
+    ensures misses { IfOk result (λ r. r.misses ≡ misses K.eq (non_zero_usize_get capacity) keys.items) }
+    ensures bound { IfOk result (λ r. IsCompetitive K.eq (non_zero_usize_get capacity) keys.items r.misses) }
+    ensures bound_any_start { IfOk result (λ r. IsCompetitiveFromAnyStart K.eq (non_zero_usize_get capacity) keys.items r.misses) }
+    ensures given_back { IfErr result (λ left. left.items ≡ keys.items) }
+    ensures never_refused { keys.items ≡ [] → IsOk result }
+{
+    let Ok(mut cache) = CLruCache::with_places(alloc, capacity, hash_builder, keys.len()) else {
+        return Err(keys);
+    };
+    let Ok(mut marks) = Vec::with_capacity(alloc, keys.len()) else {
+        return Err(keys);
+    };
+    let mut misses = 0;
+    for key in keys {
+        let hit = request(&mut cache, key);
+        if !hit {
+            misses += 1;
+        }
+        marks.push_reserved(hit);
+    }
+    Ok(Replay { marks, misses })
+}
+
+/// Puts the key with the answer as its value: whether it was held before. No memory may be wanted.
+fn request<K: Eq + Hash + Drop, S: BuildHasher, A: Allocator + Copy>(
+    cache: &mut CLruCache<K, bool, S, ZeroWeightScale, A>,
+    key: K,
+) -> bool
+    requires ready { ¬ NeedsPlace K.eq cache.old key }
+    ensures hit { result ≡ is_some (lookup (K.eq key) cache.old.entries) }
+    ensures put { cache.new ≡ with_entries cache.old (plain_put K.eq cache.old.capacity key result cache.old.entries) }
+    ensures held { length cache.new.entries ≤ cache.new.places }
+{
+    match cache.put_or_modify(key, |_, ()| false, |_, mark, ()| *mark = true, ()) {
+        Ok(mark) => *mark,
+        Err(_) => unreachable!(),
+    }
+}
