@@ -66,6 +66,15 @@ module _ {K V : Type 0} where
     | inr n ↦ live_of_key es q k (sym (put-other (key_at es) out None q n) ∙ is)
   ]
 
+pub same_trans : {K V S A H : Type 0} {x y z : Nodes K V S A H} → IsSame x y → IsSame y z → IsSame x z
+same_trans a b = record {
+  capacity = b.capacity ∙ a.capacity;
+  placed = b.placed ∙ a.placed;
+  builder = b.builder ∙ a.builder;
+  places = b.places ∙ a.places;
+  heads = b.heads ∙ a.heads;
+}
+
 module _ {K V S A H : Type 0} (hash : S → K → ℕ) {x y : Nodes K V S A H} where
   -- the heads of keys stay
   pub same_homes : IsSame x y → (heads link : ℕ → ℕ) (key : ℕ → Option K) → IsChained (home_at hash x) heads link key

@@ -25,6 +25,7 @@ pub mod Places
 pub mod PutRuns
 pub mod PutSteps
 pub mod Putting
+pub mod Relinking
 pub mod Replaying
 pub mod Rows
 pub mod RunRows

@@ -1,6 +1,5 @@
 pub mod ByPlace
 pub mod Cache
-pub mod CacheLends
 pub mod Chained
 pub mod Closures
 pub mod Entries

@@ -100,3 +100,17 @@ module _ {K V S A H : Type 0} where
     pub none : x.list.entries ≡ []
     pub capacity : x.list.capacity ≡ c
     pub places : x.places ≡ p
+
+  -- the pairs stay, and so do the capacity and the builder
+  pub record KeepsPairs (old new : Nodes K V S A H) : Type 0 where
+    pub pairs : pairs_of new.list.entries ≡ pairs_of old.list.entries
+    pub capacity : new.list.capacity ≡ old.list.capacity
+    pub builder : new.hash_builder ≡ old.hash_builder
+
+  -- the pairs stay at their places, and all but heads and links is as it was
+  pub record KeepsPlaces (old new : Nodes K V S A H) : Type 0 where
+    pub pairs : placed_of new.list.entries ≡ placed_of old.list.entries
+    pub capacity : new.list.capacity ≡ old.list.capacity
+    pub placed : new.list.places ≡ old.list.places
+    pub builder : new.hash_builder ≡ old.hash_builder
+    pub places : new.places ≡ old.places

@@ -1,10 +1,81 @@
 //! Memory for more pairs: places in the list, and heads that go with them.
-ghost use Rattle.std.specs.Prelude.{◌≡◌, ◌+◌, ◌≤◌, Some, replicate, IfOk, IfSome, IsOk};
+ghost use Rattle.std.specs.Prelude.{◌≡◌, ℕ, ◌+◌, ◌<◌, ◌≤◌, Some, length, replicate, IfOk, IfSome, IsOk, OnOk, OnErr, IsTrue};
 ghost use Rattle.clru.specs.Chained.{nowhere};
+ghost use Rattle.clru.specs.Growth.{GrowsIf};
+ghost use Rattle.clru.specs.Nodes.{hash_by, head_at, key_at, placed_of, pairs_of, IsChainedAs, IsIndexed, IsSame, KeepsPairs, KeepsPlaces};
 
+use crate::nodes::Nodes;
 use crate::nodes::chains::NOWHERE;
 use clru_list::NoMemory;
 use std::alloc::Allocator;
+use std::hash::{BuildHasher, Hash};
+
+impl<K: Eq + Hash, V, S: BuildHasher, A: Allocator + Copy> Nodes<K, V, S, A> {
+    /// Finds memory for one more pair, where that is wanted and each place is taken. The places double, up to the capacity,
+    /// and the heads with them. A place counts once both have memory.
+    pub(crate) fn make_ready_if(&mut self, wanted: bool) -> Result<(), NoMemory>
+        requires below { IsTrue wanted → length (pairs_of self.old.list.entries) < self.old.list.capacity }
+        requires indexed { let hash = hash_by S.Hasher.finish S.Hasher.write S.build_hasher K.hash_input in IsIndexed hash self.old }
+        ensures ready { OnOk result (IsTrue wanted → length (pairs_of self.new.list.entries) < self.new.places) }
+        ensures grows { GrowsIf wanted (length (pairs_of self.old.list.entries)) self.old.list.capacity self.old.places self.new.places }
+        ensures refused { OnErr result (IsTrue wanted × (self.old.places ≡ length (pairs_of self.old.list.entries)) × (self.new.places ≡ self.old.places)) }
+        ensures indexed { let hash = hash_by S.Hasher.finish S.Hasher.write S.build_hasher K.hash_input in IsIndexed hash self.new }
+        ensures keeps { KeepsPairs self.old self.new }
+    {
+        if !wanted || self.list.len() < self.places {
+            return Ok(());
+        }
+        self.list.make_ready()?;
+        // The list may have places past the capacity, from a time when that was larger.
+        let places = self.list.places().min(self.list.capacity());
+        self.make_heads(places)?;
+        self.places = places;
+        Ok(())
+    }
+
+    /// Finds memory for the heads of so many places, and chains the keys anew where the number of heads changes.
+    fn make_heads(&mut self, places: usize) -> Result<(), NoMemory>
+        requires { let hash = hash_by S.Hasher.finish S.Hasher.write S.build_hasher K.hash_input in IsIndexed hash self.old }
+        ensures headed { OnOk result (places ≤ length self.new.heads.items) }
+        ensures never_falls { length self.old.heads.items ≤ length self.new.heads.items }
+        ensures chained { let hash = hash_by S.Hasher.finish S.Hasher.write S.build_hasher K.hash_input in
+            IsChainedAs hash (key_at self.new.list.entries) self.new }
+        ensures keeps { KeepsPlaces self.old self.new }
+    {
+        let Some(size) = heads_for(places) else {
+            return Err(NoMemory);
+        };
+        if size <= self.heads.len() {
+            return Ok(());
+        }
+        self.heads = empty_heads(*self.heads.allocator(), size)?;
+        self.relink();
+        Ok(())
+    }
+
+    /// Chains all keys, where each head is empty.
+    fn relink(&mut self)
+        requires free { (h : ℕ) → head_at self.old.heads.items h ≡ nowhere }
+        requires some { 0 < length self.old.heads.items }
+        ensures chained { let hash = hash_by S.Hasher.finish S.Hasher.write S.build_hasher K.hash_input in
+            IsChainedAs hash (key_at self.new.list.entries) self.new }
+        ensures pairs { placed_of self.new.list.entries ≡ placed_of self.old.list.entries }
+        ensures same { IsSame self.old self.new }
+    {
+        // From the last place, so that what came in first stands first in its chain.
+        let mut place = self.list.places();
+        while place > 0 {
+            place -= 1;
+            let Some(item) = self.list.get(place) else {
+                continue;
+            };
+            let head = self.head_of(self.hash(&item.key));
+            let first = self.first(head);
+            self.link(head, place, first);
+            self.link(head, NOWHERE, place);
+        }
+    }
+}
 
 /// The number of heads for so many places: the least power of two that is at least twice as many. There is none where it
 /// passes what can be counted.

@@ -1,0 +1,16 @@
+use Rattle.std.proofs.Common.{◌≡◌}
+use Rattle.clru.specs.Nodes.{hash_by, placed_of, IsChainedAs, IsSame}
+use Rattle.clru.proofs.Relinking.{key_from}
+use Rattle.clru.proofs.nodes.Nodes.relink.Given as goal
+
+abbrev pub invariant-loop-place : goal.invariant-loop-place
+invariant-loop-place g l =
+    let hash = hash_by g.S.Hasher.Hasher.finish g.S.Hasher.Hasher.write g.S.BuildHasher.build_hasher g.K.Hash.hash_input in
+    record {
+      chained : IsChainedAs hash (key_from l.place l.self.list.entries) l.self;
+      pairs : placed_of l.self.list.entries ≡ placed_of l.fn.self.list.entries;
+      same : IsSame l.fn.self l.self;
+    }
+
+abbrev pub decreases-loop-place : goal.decreases-loop-place
+decreases-loop-place g l = l.place
