@@ -17,11 +17,10 @@ loop-at-smaller g c = fewer (CalledAtItem g.F.FnMut) (TakesItem g.F.FnMut) _ _ _
 
 pub loop-at-preserved : goal.loop-at-preserved
 loop-at-preserved g c =
-    let called = record { shown = c.in-Some-get.item; shows = some_injective (c.in-Some-get.ensures.value ∙ item_here (CalledAtItem g.F.FnMut) (TakesItem g.F.FnMut) _ _ _ _ _ c.loop-at.invariant c.in-Some.place c.in-Some.is); called = c.f-keep.ensures; stays = refl } in
-    goes_on (CalledAtItem g.F.FnMut) (TakesItem g.F.FnMut) _ _ _ _ _ c.loop-at.invariant c.in-Some.place c.in-Some.is c.f-keep.result _ c.f-keep.new.self c.loop-at.self c.keep_if.new.self c.next_idx-at.result called (written_same (CalledAtItem g.F.FnMut) (TakesItem g.F.FnMut) _ _ _ _ _ c.loop-at.invariant c.in-Some.place c.in-Some.is) c.keep_if.ensures.entries c.keep_if.ensures.valid c.next_idx-at.ensures.place
+    goes_on (CalledAtItem g.F.FnMut) (TakesItem g.F.FnMut) _ _ _ _ _ c.loop-at.invariant c.in-Some.place c.in-Some.is c.f-keep.result _ c.f-keep.new.self c.loop-at.self c.keep_if.new.self c.next_idx-at.result record { shown = c.in-Some-get.item; shows = some_injective (c.in-Some-get.ensures.value ∙ item_here (CalledAtItem g.F.FnMut) (TakesItem g.F.FnMut) _ _ _ _ _ c.loop-at.invariant c.in-Some.place c.in-Some.is); called = c.f-keep.ensures; stays = refl } (written_same (CalledAtItem g.F.FnMut) (TakesItem g.F.FnMut) _ _ _ _ _ c.loop-at.invariant c.in-Some.place c.in-Some.is) c.keep_if.ensures.entries c.keep_if.ensures.valid c.next_idx-at.ensures.place
 
 pub returns-clause-called : goal.returns-clause-called
-returns-clause-called g c = ends (CalledAtItem g.F.FnMut) (TakesItem g.F.FnMut) _ _ _ _ _ c.loop-at.invariant ?
+returns-clause-called g c = ends (CalledAtItem g.F.FnMut) (TakesItem g.F.FnMut) _ _ _ _ _ c.loop-at.invariant c.in_default.not-Some
 
 pub returns-clause-stays : goal.returns-clause-stays
 returns-clause-stays g c = c.loop-at.invariant.stays

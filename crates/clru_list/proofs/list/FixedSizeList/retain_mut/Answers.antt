@@ -17,11 +17,10 @@ loop-at-smaller g c = fewer (CalledAtItemMut g.F.FnMut) (TakesItemMut g.F.FnMut)
 
 pub loop-at-preserved : goal.loop-at-preserved
 loop-at-preserved g c =
-    let called = record { shown = c.in-Some-get_mut.item; left = _; shows = some_injective (c.in-Some-get_mut.ensures.value ∙ item_here (CalledAtItemMut g.F.FnMut) (TakesItemMut g.F.FnMut) _ _ _ _ _ c.loop-at.invariant c.in-Some.place c.in-Some.is); called = c.f-keep.ensures; leaves = refl } in
-    goes_on (CalledAtItemMut g.F.FnMut) (TakesItemMut g.F.FnMut) _ _ _ _ _ c.loop-at.invariant c.in-Some.place c.in-Some.is c.f-keep.result c.f-keep.new.arg3 c.f-keep.new.self _ c.keep_if.new.self c.next_idx-at.result called refl c.keep_if.ensures.entries c.keep_if.ensures.valid c.next_idx-at.ensures.place
+    goes_on (CalledAtItemMut g.F.FnMut) (TakesItemMut g.F.FnMut) _ _ _ _ _ c.loop-at.invariant c.in-Some.place c.in-Some.is c.f-keep.result c.f-keep.new.arg3 c.f-keep.new.self _ c.keep_if.new.self c.next_idx-at.result record { shown = c.in-Some-get_mut.item; left = _; shows = some_injective (c.in-Some-get_mut.ensures.value ∙ item_here (CalledAtItemMut g.F.FnMut) (TakesItemMut g.F.FnMut) _ _ _ _ _ c.loop-at.invariant c.in-Some.place c.in-Some.is); called = c.f-keep.ensures; leaves = refl } refl c.keep_if.ensures.entries c.keep_if.ensures.valid c.next_idx-at.ensures.place
 
 pub returns-clause-called : goal.returns-clause-called
-returns-clause-called g c = ends (CalledAtItemMut g.F.FnMut) (TakesItemMut g.F.FnMut) _ _ _ _ _ c.loop-at.invariant ?
+returns-clause-called g c = ends (CalledAtItemMut g.F.FnMut) (TakesItemMut g.F.FnMut) _ _ _ _ _ c.loop-at.invariant c.in_default.not-Some
 
 pub returns-clause-stays : goal.returns-clause-stays
 returns-clause-stays g c = c.loop-at.invariant.stays
