@@ -10,6 +10,7 @@ pub mod Distinct
 pub mod DistinctByPlace
 pub mod EntryRows
 pub mod Finding
+pub mod FirstItem
 pub mod Fitting
 pub mod Growing
 pub mod Hits

@@ -9,6 +9,7 @@ pub mod Laws
 pub mod Lends
 pub mod Memory
 pub mod Nodes
+pub mod NodesLends
 pub mod Refusals
 pub mod Requests
 pub mod Runs

@@ -1,5 +1,5 @@
 -- What the list, the heads and the links of a cache's nodes keep together. No public clause cites this file.
-use Rattle.std.specs.Prelude.{◌≡◌, ℕ, ◌-◌, ◌<◌, ◌≤◌, Bool, true, Option, Some, None, List, [], map, length, slice_index_or, bit_and, vec_len}
+use Rattle.std.specs.Prelude.{◌≡◌, ℕ, ◌-◌, ◌<◌, ◌≤◌, Bool, true, Option, Some, None, List, [], ◌∷◌, map, length, slice_index_or, bit_and, vec_len}
 use Rattle.std.specs.List.{fold}
 use Rattle.std.specs.Option.{option_map, option_map_or}
 use Rattle.clru_list.specs.PlaceList.{PlaceList, item_at}
@@ -26,6 +26,11 @@ module _ {K V : Type 0} where
   -- the pairs, front first: all that a cache sees
   abbrev pub pairs_of : List (ℕ × Item K V) → List (K × V)
   pairs_of es = map (λ e. pair_of e.1) es
+
+  -- the pairs with another value in front
+  abbrev pub with_front : V → List (K × V) → List (K × V)
+  with_front v [] = []
+  with_front v (e ∷ es) = (e.0, v) ∷ es
 
   abbrev pub link_at : List (ℕ × Item K V) → ℕ → ℕ
   link_at es q = option_map_or (λ i. i.chain) (item_at q es) nowhere

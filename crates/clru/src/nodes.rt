@@ -2,10 +2,9 @@
 //!
 //! Each key has a head, which its hash picks, and the places of the keys of one head are linked to a chain. The clauses
 //! below this module name places, heads and links; those that the cache calls speak of the pairs alone.
-ghost use Rattle.std.specs.Prelude.{◌≡◌, min, None, slice_get, IfOk, IsOk, IfSome, IfNone, option_copied};
+ghost use Rattle.std.specs.Prelude.{◌≡◌, min, length, None, IfOk, IsOk, IfSome, IfNone, option_copied};
 ghost use Rattle.std.specs.List.{IsDistinct};
 ghost use Rattle.std.specs.Map.{keys_of, lookup, lookup_entry};
-ghost use Rattle.std.specs.Option.{option_map};
 ghost use Rattle.clru_list.specs.PlaceList.{IsValid};
 ghost use Rattle.clru.specs.Nodes.{hash_by, pairs_of, key_at, IsAt, IsChainedAs, IsIndexed, IsEmpty};
 
@@ -15,6 +14,7 @@ use std::alloc::Allocator;
 use std::hash::{BuildHasher, Hash};
 
 mod chains;
+mod front;
 mod growth;
 mod moves;
 
@@ -80,6 +80,13 @@ impl<K: Eq + Hash, V, S: BuildHasher, A: Allocator + Copy> Nodes<K, V, S, A> {
         })
     }
 
+    /// Returns the number of pairs.
+    pub(crate) fn len(&self) -> usize
+        ensures { result ≡ length (pairs_of self.now.list.entries) }
+    {
+        self.list.len()
+    }
+
     /// Returns the hash of a key.
     pub(crate) fn hash(&self, key: &K) -> u64
         ensures { result ≡ hash_by S.Hasher.finish S.Hasher.write S.build_hasher K.hash_input self.now.hash_builder key.now }
@@ -117,16 +124,6 @@ impl<K: Eq + Hash, V, S: BuildHasher, A: Allocator + Copy> Nodes<K, V, S, A> {
         match self.list.get(place) {
             Some(item) => Some(&item.value),
             None => unreachable!(),
-        }
-    }
-
-    /// Returns the value of the first pair.
-    pub(crate) fn front(&self) -> Option<&V>
-        ensures { option_copied result ≡ option_map (λ e. e.1) (slice_get (pairs_of self.now.list.entries) 0) }
-    {
-        match self.list.front() {
-            Some(item) => Some(&item.value),
-            None => None,
         }
     }
 }

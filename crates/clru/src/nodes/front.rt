@@ -1,0 +1,51 @@
+//! The first pair, which a touch has put there.
+ghost use Rattle.std.specs.Prelude.{◌≡◌, ◌<◌, Some, length, slice_get, option_copied};
+ghost use Rattle.std.specs.Borrow.{sem};
+ghost use Rattle.std.specs.Option.{option_map};
+ghost use Rattle.clru_list.specs.PlaceList.{first_entry};
+ghost use Rattle.clru.specs.Nodes.{hash_by, pairs_of, with_front, IsIndexed, IsSame};
+ghost use Rattle.clru.specs.NodesLends.{lends_front};
+
+use crate::nodes::{Item, Nodes};
+use std::alloc::Allocator;
+use std::hash::{BuildHasher, Hash};
+use std::mem;
+
+impl<K: Eq + Hash, V, S: BuildHasher, A: Allocator + Copy> Nodes<K, V, S, A> {
+    /// Returns the value of the first pair.
+    pub(crate) fn front(&self) -> Option<&V>
+        ensures { option_copied result ≡ option_map (λ e. e.1) (slice_get (pairs_of self.now.list.entries) 0) }
+    {
+        match self.list.front() {
+            Some(item) => Some(&item.value),
+            None => None,
+        }
+    }
+
+    /// Returns the first item for writing.
+    pub(crate) fn front_item(&mut self) -> &mut Item<K, V>
+        requires { 0 < length (pairs_of self.old.list.entries) }
+        ensures* lends { sem 𝓛 (lends_front K.row V.row S.row A.row S.Hasher.row A.Allocator self.entry result) }
+        ensures first { option_map (λ e. e.1) (first_entry self.old.list.entries) ≡ Some result.now }
+    {
+        match self.list.front_mut() {
+            Some(item) => item,
+            None => unreachable!(),
+        }
+    }
+
+    /// Writes another value to the first pair, and returns the old one.
+    pub(crate) fn set_front(&mut self, value: V) -> V
+        requires some { 0 < length (pairs_of self.old.list.entries) }
+        requires indexed { let hash = hash_by S.Hasher.finish S.Hasher.write S.build_hasher K.hash_input in IsIndexed hash self.old }
+        ensures value { Some result ≡ option_map (λ e. e.1) (slice_get (pairs_of self.old.list.entries) 0) }
+        ensures pairs { pairs_of self.new.list.entries ≡ with_front value (pairs_of self.old.list.entries) }
+        ensures indexed { let hash = hash_by S.Hasher.finish S.Hasher.write S.build_hasher K.hash_input in IsIndexed hash self.new }
+        ensures same { IsSame self.old self.new }
+    {
+        match self.list.front_mut() {
+            Some(item) => mem::replace(&mut item.value, value),
+            None => unreachable!(),
+        }
+    }
+}
