@@ -1,20 +1,20 @@
--- What a search of the entries by place found, in the words of maps.
-use Rattle.std.proofs.Common.{◌≡◌, ℕ, suc, ◌+◌, ◌-◌, ◌<◌, Bool, true, false, List, [], ◌∷◌, length, take, Some, None, get_or, refl, sym, ap, ◌∙◌, subst, arith}
-use Rattle.std.specs.List.{position, position_from, remove}
+-- What a look-up of the entries found, in the words of maps.
+use Rattle.std.proofs.Common.{◌≡◌, ℕ, suc, ◌+◌, ◌-◌, Bool, true, false, List, [], ◌∷◌, length, take, Option, Some, None, is_some, slice_get, refl, sym, ap, ◌∙◌, arith}
 use Rattle.std.specs.Map.{lookup, lookup_entry, remove_entry}
-use Rattle.clru.specs.Entries.{touch, plain_put}
-use Rattle.std.proofs.lemmas.Iterator.Adapters.{position_from-zero}
+use Rattle.std.specs.Option.{option_map}
+use Rattle.std.proofs.lemmas.List.Sums.{sum_by-cons}
+use Rattle.clru.specs.Entries.{touch, plain_put, weight_of}
+use Rattle.clru.specs.Nodes.{with_front}
+use Rattle.clru.proofs.Distinct.{split}
 
 module _ {K V : Type 0} (test : K → Bool) where
-  -- the first entry whose key passes stands at i
-  pub record IsFound (es : List (K × V)) (i : ℕ) : Type 0 where
+  -- the first entry whose key passes
+  pub record IsHeld (es : List (K × V)) : Type 0 where
     pub entry : K × V
     pub passes : test entry.0 ≡ true
-    pub at : (d : K × V) → get_or es i d ≡ entry
-    pub within : i < length es
     pub looked_up : lookup_entry test es ≡ Some entry
     pub value : lookup test es ≡ Some entry.1
-    pub removed : remove es i ≡ remove_entry test es
+    pub shorter : suc (length (remove_entry test es)) ≡ length es
 
   -- no key passes
   pub record IsMissed (es : List (K × V)) : Type 0 where
@@ -22,62 +22,87 @@ module _ {K V : Type 0} (test : K → Bool) where
     pub value : lookup test es ≡ None
     pub removed : remove_entry test es ≡ es
 
-  -- what stands there is what a look-up gives
-  pub lookup-found : {es : List (K × V)} {i : ℕ} → IsFound es i → (e : K × V) → e ≡ get_or es i e → Some e.1 ≡ lookup test es
-  lookup-found f e h = let same : e ≡ f.entry = h ∙ f.at e in ap (λ (x : K × V). Some x.1) same ∙ sym f.value
+  held_entry : (es : List (K × V)) (e : K × V) → lookup_entry test es ≡ Some e → IsHeld es
+  held_entry [] e h = cc
+  held_entry (d ∷ es) e h = split (test d.0)
+      (λ t. record { entry = d; passes = t; looked_up = rw t refl; value = rw t refl; shorter = rw t refl })
+      (λ f. let rest = held_entry es e (rw f at h) in record {
+        entry = rest.entry;
+        passes = rest.passes;
+        looked_up = rw f rest.looked_up;
+        value = rw f rest.value;
+        shorter = rw f (ap suc rest.shorter);
+      })
 
-  found_here : (e : K × V) (es : List (K × V)) → test e.0 ≡ true → IsFound (e ∷ es) 0
-  found_here e es t = record {
-    entry = e;
-    passes = t;
-    at = λ d. refl;
-    within = omega arith;
-    looked_up = rw t refl;
-    value = rw t refl;
-    removed = rw t refl;
-  }
+  missed_entry : (es : List (K × V)) → lookup_entry test es ≡ None → IsMissed es
+  missed_entry [] h = record { looked_up = refl; value = refl; removed = refl }
+  missed_entry (d ∷ es) h = split (test d.0) (λ t. let no : Some d ≡ None = rw t at h in cc)
+      (λ f. let rest = missed_entry es (rw f at h) in record {
+        looked_up = rw f rest.looked_up;
+        value = rw f rest.value;
+        removed = rw f (ap (λ l. d ∷ l) rest.removed);
+      })
 
-  found_later : (e : K × V) (es : List (K × V)) (i : ℕ) → test e.0 ≡ false → IsFound es i → IsFound (e ∷ es) (suc i)
-  found_later e es i t f = record {
-    entry = f.entry;
-    passes = f.passes;
-    at = f.at;
-    within = omega (arith, f.within);
-    looked_up = rw t f.looked_up;
-    value = rw t f.value;
-    removed = rw t (ap (λ l. e ∷ l) f.removed);
-  }
+  -- a search finds an entry where it finds a value
+  pub is_some-lookup_entry : (es : List (K × V)) → is_some (lookup_entry test es) ≡ is_some (lookup test es)
+  is_some-lookup_entry [] = refl
+  is_some-lookup_entry (e ∷ es) = split (test e.0) (λ t. rw t refl) (λ f. rw f (is_some-lookup_entry es))
 
-  found_from : (es : List (K × V)) (n j : ℕ) → position_from (λ e. test e.0) n es ≡ Some j → (i : ℕ) × (i + n ≡ j) × IsFound es i
-  found_from [] n j h = cc
-  found_from (e ∷ es) n j h = (elim (test e.0) as (λ b. test e.0 ≡ b → (i : ℕ) × (i + n ≡ j) × IsFound (e ∷ es) i) [
-    | true ↦ λ t. let same : Some n ≡ Some j = rw t at h in (0, let k : n ≡ j = cc in omega arith, found_here e es t)
-    | false ↦ λ t. let later = found_from es (n + 1) j (rw t at h) in (suc later.0, omega (arith, later.1), found_later e es later.0 t later.2)
-  ]) refl
+  -- what a look-up of the entry tells
+  pub held_at : {es : List (K × V)} {e : K × V} → Some e ≡ lookup_entry test es → IsHeld es
+  held_at {es} {e} h = held_entry es e (sym h)
 
-  missed_from : (es : List (K × V)) (n : ℕ) → position_from (λ e. test e.0) n es ≡ None → IsMissed es
-  missed_from [] n h = record { looked_up = refl; value = refl; removed = refl }
-  missed_from (e ∷ es) n h = (elim (test e.0) as (λ b. test e.0 ≡ b → IsMissed (e ∷ es)) [
-    | true ↦ λ t. let no : Some n ≡ None = rw t at h in cc
-    | false ↦ λ t. let m = missed_from es (n + 1) (rw t at h) in record { looked_up = rw t m.looked_up; value = rw t m.value; removed = rw t (ap (λ l. e ∷ l) m.removed) }
-  ]) refl
+  pub missed_at : {es : List (K × V)} → None ≡ lookup_entry test es → IsMissed es
+  missed_at {es} h = missed_entry es (sym h)
 
-  pub found : {es : List (K × V)} {i : ℕ} → position (λ e. test e.0) es ≡ Some i → IsFound es i
-  found {es} {i} h = let f = found_from es 0 i (sym (position_from-zero (λ (e : K × V). test e.0) es) ∙ h) in subst (IsFound es)
-      (let k : f.0 + 0 ≡ i = f.1 in omega (arith, k)) f.2
+  -- what a test whether there is a value tells
+  pub held : {es : List (K × V)} → true ≡ is_some (lookup test es) → IsHeld es
+  held {es} h = (elim (lookup_entry test es) as (λ o. lookup_entry test es ≡ o → is_some o ≡ true → IsHeld es) [
+    | None ↦ λ e no. cc
+    | Some d ↦ λ e yes. held_entry es d e
+  ]) refl (is_some-lookup_entry es ∙ sym h)
 
-  pub missed : {es : List (K × V)} → position (λ e. test e.0) es ≡ None → IsMissed es
-  missed {es} h = missed_from es 0 (sym (position_from-zero (λ (e : K × V). test e.0) es) ∙ h)
+  pub missed : {es : List (K × V)} → false ≡ is_some (lookup test es) → IsMissed es
+  missed {es} h = (elim (lookup_entry test es) as (λ o. lookup_entry test es ≡ o → is_some o ≡ false → IsMissed es) [
+    | None ↦ λ e none. missed_entry es e
+    | Some d ↦ λ e no. cc
+  ]) refl (is_some-lookup_entry es ∙ sym h)
+
+  -- the entry that is found takes its weight with it
+  weight_of_found : (weight : K → V → ℕ) (es : List (K × V)) (e : K × V) → lookup_entry test es ≡ Some e
+      → weight_of weight (remove_entry test es) + weight e.0 e.1 ≡ weight_of weight es
+  weight_of_found weight [] e h = cc
+  weight_of_found weight (d ∷ es) e h =
+      let cons : weight_of weight (d ∷ es) ≡ weight d.0 d.1 + weight_of weight es = sum_by-cons (λ (x : K × V). weight x.0 x.1) d es in
+      split (test d.0)
+      (λ t. let first : Some d ≡ Some e = rw t at h in let same : d ≡ e = cc in
+          rw t (let w : weight e.0 e.1 ≡ weight d.0 d.1 = ap (λ (x : K × V). weight x.0 x.1) (sym same) in omega (arith, cons, w)))
+      (λ f. let later = weight_of_found weight es e (rw f at h) in
+          let rest : weight_of weight (d ∷ remove_entry test es) ≡ weight d.0 d.1 + weight_of weight (remove_entry test es) =
+              sum_by-cons (λ (x : K × V). weight x.0 x.1) d (remove_entry test es) in
+          rw f (omega (arith, cons, rest, later)))
+
+  pub weight_of-held : (weight : K → V → ℕ) {es : List (K × V)} → (h : IsHeld es)
+      → weight_of weight (remove_entry test es) + weight h.entry.0 h.entry.1 ≡ weight_of weight es
+  weight_of-held weight {es} h = weight_of_found weight es h.entry h.looked_up
 
 module _ {K V : Type 0} (eq : K → K → Bool) (x : K) {es : List (K × V)} where
   pub touch-missed : IsMissed (eq x) es → touch eq x es ≡ es
   touch-missed m = rw m.looked_up refl
 
-  pub touch-found : {i : ℕ} → IsFound (eq x) es i → (d : K × V) → get_or es i d ∷ remove es i ≡ touch eq x es
-  touch-found f d = rw (f.looked_up, f.at d, f.removed) refl
+  pub touch-held : (h : IsHeld (eq x) es) → touch eq x es ≡ h.entry ∷ remove_entry (eq x) es
+  touch-held h = rw h.looked_up refl
 
   pub plain_put-missed : IsMissed (eq x) es → (c : ℕ) (v : V) → plain_put eq c x v es ≡ (x, v) ∷ take (c - 1) es
   plain_put-missed m c v = rw m.looked_up refl
 
-  pub plain_put-found : {i : ℕ} → (f : IsFound (eq x) es i) → (c : ℕ) (v : V) → plain_put eq c x v es ≡ (f.entry.0, v) ∷ remove es i
-  plain_put-found f c v = rw (f.looked_up, f.removed) refl
+  pub plain_put-held : (h : IsHeld (eq x) es) → (c : ℕ) (v : V) → plain_put eq c x v es ≡ (h.entry.0, v) ∷ remove_entry (eq x) es
+  plain_put-held h c v = rw h.looked_up refl
+
+  -- a touched list with another value in front
+  pub with_front-touch : (h : IsHeld (eq x) es) → (v : V) → with_front v (touch eq x es) ≡ (h.entry.0, v) ∷ remove_entry (eq x) es
+  with_front-touch h v = ap (with_front v) (touch-held h)
+
+  -- the first value of a touched list is the one that is found
+  pub first_touched : IsHeld (eq x) es → option_map (λ (e : K × V). e.1) (slice_get (touch eq x es) 0) ≡ lookup (eq x) es
+  first_touched h = rw (h.looked_up, h.value) refl

@@ -1,16 +1,17 @@
 -- Which changes of the entries keep what a cache's fields keep.
-use Rattle.std.proofs.Common.{◌≡◌, ℕ, ◌+◌, ◌-◌, ◌<◌, ◌≤◌, Bool, true, false, List, [], ◌∷◌, ◌++◌, length, None, get_or, refl, sym, ◌∙◌, subst, arith}
+use Rattle.std.proofs.Common.{◌≡◌, ℕ, ◌+◌, ◌-◌, ◌<◌, ◌≤◌, Bool, true, false, List, [], ◌∷◌, ◌++◌, length, drop, Some, None, slice_get, refl, sym, ◌∙◌, subst, arith}
 use Rattle.std.specs.Cmp.{IsEquivalence}
-use Rattle.std.specs.List.{AllByRecursion, IsDistinct, remove}
-use Rattle.std.specs.Map.{keys_of, lookup, remove_entry}
+use Rattle.std.specs.List.{AllByRecursion, IsDistinct}
+use Rattle.std.specs.Map.{keys_of, lookup, lookup_entry, remove_entry}
 use Rattle.std.proofs.lemmas.Map.{NonePasses, none_passes_from_lookup, lookup-remove_entry}
 use Rattle.std.proofs.lemmas.Map.Keys.{IsDistinct-cons}
-use Rattle.std.proofs.lemmas.List.Edits.{length-remove}
-use Rattle.std.proofs.lemmas.List.Sums.{sum_by-cons, sum_by-append, sum_by-remove}
-use Rattle.clru.specs.Entries.{weight_of, size_of}
-use Rattle.clru.specs.Fields.{IsCache}
-use Rattle.clru.proofs.Finding.{IsFound}
-use Rattle.clru.proofs.Sublists.{IsSublist, sublist_remove, sublist_keys, length-sublist, sum_by-sublist, IsDistinct-sublist}
+use Rattle.std.proofs.lemmas.List.Sums.{sum_by-cons, sum_by-append}
+use Rattle.clru.specs.Entries.{weight_of, size_of, touch}
+use Rattle.clru.specs.Fields.{IsKept, IsCache}
+use Rattle.clru.specs.Nodes.{pairs_of, IsIndexed, IsSame}
+use Rattle.clru.specs.declared.nodes.Nodes.{Nodes}
+use Rattle.clru.proofs.Finding.{IsHeld, weight_of-held, touch-held, touch-missed, held_at, missed_at}
+use Rattle.clru.proofs.Sublists.{IsSublist, goes, sublist_itself, sublist_remove_entry, sublist_keys, length-sublist, sum_by-sublist, IsDistinct-sublist}
 
 pub weight_of-cons : {K V : Type 0} (weight : K → V → ℕ) (e : K × V) (es : List (K × V))
     → weight_of weight (e ∷ es) ≡ weight e.0 e.1 + weight_of weight es
@@ -22,13 +23,6 @@ weight_of-push {K} {V} weight es e =
     let both : weight_of weight (es ++ e ∷ []) ≡ weight_of weight es + weight_of weight (e ∷ []) = sum_by-append
     (λ (d : K × V). weight d.0 d.1) es (e ∷ []) in omega (arith, both, weight_of-cons weight e [])
 
--- what stands at a place takes its weight with it
-pub weight_of-remove : {K V : Type 0} (weight : K → V → ℕ) (es : List (K × V)) (i : ℕ) (e : K × V) → i < length es → get_or es i e ≡ e
-    → weight_of weight (remove es i) + weight e.0 e.1 ≡ weight_of weight es
-weight_of-remove {K} {V} weight es i e within at =
-    subst (λ d. weight_of weight (remove es i) + weight d.0 d.1 ≡ weight_of weight es) at
-    (sum_by-remove (λ (d : K × V). weight d.0 d.1) es i e within)
-
 module _ {K V : Type 0} (eq : K → K → Bool) where
   keys_apart : (x : K) (es : List (K × V)) → NonePasses (eq x) es → (q : K) → ((y : K) → eq x y ≡ eq q y)
       → AllByRecursion (λ y. eq q y ≡ false) (keys_of es)
@@ -37,41 +31,41 @@ module _ {K V : Type 0} (eq : K → K → Bool) where
 
 module _ {K V : Type 0} {eq : K → K → Bool} (weight : K → V → ℕ) where
   -- with no entry
-  pub IsCache-none : (p r c : ℕ) → p ≤ r → IsCache eq weight [] 0 p r c
+  pub IsKept-none : (c : ℕ) → IsKept eq weight [] 0 c
   unfolding IsDistinct
-  IsCache-none p r c h = record { distinct = tt; weighs = refl; fits = omega arith; held = omega arith; reserved = h }
+  IsKept-none c = record { distinct = tt; weighs = refl; fits = omega arith }
 
   -- when some entries go
-  pub IsCache-sublist : {es fs : List (K × V)} {kept p r c : ℕ} (left p' r' : ℕ) → IsCache eq weight es kept p r c → IsSublist es fs
-      → left ≡ weight_of weight fs → p ≤ p' → p' ≤ r' → IsCache eq weight fs left p' r' c
-  IsCache-sublist left p' r' old s w grows reserved = record {
+  pub IsKept-sublist : {es fs : List (K × V)} {kept c : ℕ} (left : ℕ) → IsKept eq weight es kept c → IsSublist es fs
+      → left ≡ weight_of weight fs → IsKept eq weight fs left c
+  IsKept-sublist left old s w = record {
     distinct = IsDistinct-sublist eq (sublist_keys s) old.distinct;
     weighs = w;
     fits = omega (arith, old.fits, length-sublist s, sum_by-sublist (λ (e : K × V). weight e.0 e.1) s);
-    held = omega (arith, old.held, length-sublist s, grows);
-    reserved = reserved;
   }
 
-  -- when the entry at a place goes
-  pub IsCache-remove : {es : List (K × V)} {kept p r c : ℕ} (r' i : ℕ) (e : K × V) → IsCache eq weight es kept p r c → i < length es
-      → e ≡ get_or es i e → r ≤ r' → IsCache eq weight (remove es i) (kept - weight e.0 e.1) p r' c
-  IsCache-remove {es} {kept} {p} {r} {c} r' i e old within at room =
-      let sum = weight_of-remove weight es i e within (sym at) in
-      IsCache-sublist (kept - weight e.0 e.1) p r' old (sublist_remove es i) (omega (arith, sum, old.weighs)) (omega arith)
-      (omega (arith, old.reserved, room))
+  -- when the first entry goes
+  pub IsKept-tail : {e : K × V} {es : List (K × V)} {kept c : ℕ} → IsKept eq weight (e ∷ es) kept c
+      → IsKept eq weight es (kept - weight e.0 e.1) c
+  IsKept-tail {e} {es} {kept} old =
+      IsKept-sublist (kept - weight e.0 e.1) old (goes (sublist_itself es)) (omega (arith, weight_of-cons weight e es, old.weighs))
+
+  -- the same by a look at it
+  pub IsKept-first : {es : List (K × V)} {kept c : ℕ} (e : K × V) → IsKept eq weight es kept c → Some e ≡ slice_get es 0
+      → IsKept eq weight (drop 1 es) (kept - weight e.0 e.1) c
+  IsKept-first {es = []} e old h = cc
+  IsKept-first {es = d ∷ es} {kept = kept} {c = c} e old h =
+      let first : d ≡ e = cc in subst (λ (f : K × V). IsKept eq weight es (kept - weight f.0 f.1) c) first (IsKept-tail old)
 
   -- when some entries go, none of x stays, and a pair of x comes first
-  pub IsCache-put : {es fs : List (K × V)} {kept p r c : ℕ} (left p' r' : ℕ) (x : K) (e : K × V) → IsEquivalence eq
-      → IsCache eq weight es kept p r c → IsSublist es fs → lookup (eq x) fs ≡ None → eq x e.0 ≡ true
-      → left ≡ weight_of weight (e ∷ fs) → 1 + weight e.0 e.1 + size_of weight fs ≤ c → 1 + length fs ≤ p' → p' ≤ r' → IsCache eq weight
-      (e ∷ fs) left p' r' c
-  IsCache-put {es} {fs} left p' r' x e laws old s absent same w fits held reserved = record {
+  pub IsKept-put : {es fs : List (K × V)} {kept c : ℕ} (left : ℕ) (x : K) (e : K × V) → IsEquivalence eq
+      → IsKept eq weight es kept c → IsSublist es fs → lookup (eq x) fs ≡ None → eq x e.0 ≡ true
+      → left ≡ weight_of weight (e ∷ fs) → 1 + weight e.0 e.1 + size_of weight fs ≤ c → IsKept eq weight (e ∷ fs) left c
+  IsKept-put {es} {fs} left x e laws old s absent same w fits = record {
     distinct = IsDistinct-cons eq e.0 (keys_of fs) (keys_apart eq x fs (none_passes_from_lookup (eq x) fs absent) e.0
         (λ y. laws.congr x e.0 y same)) (IsDistinct-sublist eq (sublist_keys s) old.distinct);
     weighs = w;
     fits = rw (weight_of-cons weight e fs) (omega (arith, fits));
-    held = omega (arith, held);
-    reserved = reserved;
   }
 
 -- once x is removed it is not held
@@ -80,16 +74,37 @@ pub lookup-without : {K V : Type 0} {eq : K → K → Bool} → IsEquivalence eq
 lookup-without {eq = eq} laws x es d = lookup-remove_entry laws (eq x) (λ y z h. laws.congr x y z h) x es d ∙ rw (laws.refl x) refl
 
 module _ {K V : Type 0} {eq : K → K → Bool} (weight : K → V → ℕ) where
-  -- when a found entry gets another value of the same weight and comes first
-  pub IsCache-front : {es : List (K × V)} {kept p r c i : ℕ} (r' : ℕ) (x : K) (v : V) → IsEquivalence eq → IsCache eq weight es kept p r c
-      → (f : IsFound (eq x) es i) → weight f.entry.0 v ≡ weight f.entry.0 f.entry.1 → r ≤ r'
-      → IsCache eq weight ((f.entry.0, v) ∷ remove es i) kept p r' c
-  IsCache-front {es} {kept} {p} {r} {c} {i} r' x v laws old f alike room =
-      let sum = weight_of-remove weight es i f.entry f.within (f.at f.entry) in
-      let rest = remove es i in
-      let cons : weight_of weight ((f.entry.0, v) ∷ rest) ≡ weight f.entry.0 v + weight_of weight rest = weight_of-cons weight (f.entry.0, v) rest in
-      let shorter : 1 + length rest ≡ length es = omega (arith, length-remove es i f.within) in
-      IsCache-put weight kept p r' x (f.entry.0, v) laws old (sublist_remove es i)
-      (subst (λ l. lookup (eq x) l ≡ None) (sym f.removed) (lookup-without laws x es old.distinct)) f.passes
-      (omega (arith, cons, sum, alike, old.weighs)) (omega (arith, sum, alike, shorter, old.fits)) (omega (arith, shorter, old.held))
-      (omega (arith, room, old.reserved))
+  -- when the entry that is found gets another value of the same weight and comes first
+  pub IsKept-front : {es : List (K × V)} {kept c : ℕ} (x : K) (v : V) → IsEquivalence eq → IsKept eq weight es kept c
+      → (h : IsHeld (eq x) es) → weight h.entry.0 v ≡ weight h.entry.0 h.entry.1
+      → IsKept eq weight ((h.entry.0, v) ∷ remove_entry (eq x) es) kept c
+  IsKept-front {es} {kept} {c} x v laws old h alike =
+      let rest = remove_entry (eq x) es in let sum = weight_of-held (eq x) weight h in
+      let cons : weight_of weight ((h.entry.0, v) ∷ rest) ≡ weight h.entry.0 v + weight_of weight rest = weight_of-cons weight (h.entry.0, v) rest in
+      IsKept-put weight kept x (h.entry.0, v) laws old (sublist_remove_entry (eq x) es) (lookup-without laws x es old.distinct) h.passes
+      (omega (arith, cons, sum, alike, old.weighs)) (omega (arith, sum, alike, h.shorter, old.fits))
+
+  -- when it comes first as it is, or none is found
+  pub IsKept-touch : {es : List (K × V)} {kept c : ℕ} (x : K) → IsEquivalence eq → IsKept eq weight es kept c
+      → IsKept eq weight (touch eq x es) kept c
+  IsKept-touch {es} {kept} {c} x laws old =
+      (elim (lookup_entry (eq x) es) as (λ o. lookup_entry (eq x) es ≡ o → IsKept eq weight (touch eq x es) kept c) [
+        | None ↦ λ e. subst (λ l. IsKept eq weight l kept c) (sym (touch-missed eq x (missed_at (eq x) (sym e)))) old
+        | Some d ↦ λ e. let h = held_at (eq x) (sym e) in
+            subst (λ l. IsKept eq weight l kept c) (sym (touch-held eq x h)) (IsKept-front x h.entry.1 laws old h refl)
+      ]) refl
+
+module _ {K V S A H : Type 0} {eq : K → K → Bool} (weight : K → V → ℕ) {hash : S → K → ℕ} {x y : Nodes K V S A H} {kept c : ℕ} where
+  -- a cache whose nodes have other pairs
+  pub IsCache-from : {fs : List (K × V)} {left : ℕ} → IsCache eq weight hash x kept c → pairs_of y.list.entries ≡ fs → IsKept eq weight fs left c
+      → IsIndexed hash y → y.list.capacity ≡ x.list.capacity → IsCache eq weight hash y left c
+  IsCache-from {fs} {left} old same pairs indexed capacity = record {
+    pairs = subst (λ l. IsKept eq weight l left c) (sym same) pairs;
+    indexed = indexed;
+    room = capacity ∙ old.room;
+  }
+
+  -- after a touch
+  pub IsCache-touch : (k : K) → IsEquivalence eq → IsCache eq weight hash x kept c → pairs_of y.list.entries ≡ touch eq k (pairs_of x.list.entries)
+      → IsIndexed hash y → IsSame x y → IsCache eq weight hash y kept c
+  IsCache-touch k laws old same indexed rest = IsCache-from old same (IsKept-touch weight k laws old.pairs) indexed rest.capacity

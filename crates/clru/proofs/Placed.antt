@@ -16,9 +16,9 @@ module _ {T : Type 0} where
   item_at-with_at p q w [] i held = cc
   item_at-with_at p q w (e ∷ es) i held = elim (cases_eq p e.0) [
     | inl here ↦ elim (cases_eq p q) [
-        | inl same ↦ rw (eq-eqb p e.0 here, eq-eqb p q same, eq-eqb q e.0 (sym same ∙ here)) refl
-        | inr apart ↦ rw (eq-eqb p e.0 here, ne_eqb p q apart, ne_eqb q e.0 (λ h. apart (here ∙ sym h))) refl
-      ]
+      | inl same ↦ rw (eq-eqb p e.0 here, eq-eqb p q same, eq-eqb q e.0 (sym same ∙ here)) refl
+      | inr apart ↦ rw (eq-eqb p e.0 here, ne_eqb p q apart, ne_eqb q e.0 (λ h. apart (here ∙ sym h))) refl
+    ]
     | inr there ↦
         let later = rw (ne_eqb p e.0 there) at held in let ih = item_at-with_at p q w es i later in elim (cases_eq p q) [
           | inl same ↦ rw (ne_eqb p e.0 there, ne_eqb q e.0 (λ h. there (same ∙ h))) ih
@@ -33,9 +33,9 @@ module _ {T : Type 0} where
       let none : Option T = None in elim (p == q) as (λ b. none ≡ cond b none none) [ true ↦ refl | false ↦ refl ]
   item_at-without p q (e ∷ es) apart = elim (cases_eq p e.0) [
     | inl here ↦ elim (cases_eq p q) [
-        | inl same ↦ rw (eq-eqb p e.0 here, eq-eqb p q same) (subst (λ x. item_at x es ≡ None) (sym here ∙ same) apart.0)
-        | inr other ↦ rw (eq-eqb p e.0 here, ne_eqb p q other, ne_eqb q e.0 (λ h. other (here ∙ sym h))) refl
-      ]
+      | inl same ↦ rw (eq-eqb p e.0 here, eq-eqb p q same) (subst (λ x. item_at x es ≡ None) (sym here ∙ same) apart.0)
+      | inr other ↦ rw (eq-eqb p e.0 here, ne_eqb p q other, ne_eqb q e.0 (λ h. other (here ∙ sym h))) refl
+    ]
     | inr there ↦
         let ih = item_at-without p q es apart.1 in elim (cases_eq p q) [
           | inl same ↦ rw (ne_eqb p e.0 there, ne_eqb q e.0 (λ h. there (same ∙ h))) ih
@@ -97,9 +97,9 @@ module _ {K V : Type 0} where
       → (j : Item K V) × (item_at q fs ≡ Some j) × (pair_of i ≡ pair_of j)
   same_pair es fs same q i held =
       let there : option_map (λ (i : Item K V). pair_of i) (item_at q fs) ≡ Some (pair_of i) =
-          pair_at-placed q fs ∙ ap (λ l. item_at q l) (sym same) ∙ sym (pair_at-placed q es) ∙ rw held refl in
+      pair_at-placed q fs ∙ ap (λ l. item_at q l) (sym same) ∙ sym (pair_at-placed q es) ∙ rw held refl in
       (elim (item_at q fs) as (λ o. item_at q fs ≡ o → option_map (λ (i : Item K V). pair_of i) o ≡ Some (pair_of i)
-          → (j : Item K V) × (item_at q fs ≡ Some j) × (pair_of i ≡ pair_of j)) [
+      → (j : Item K V) × (item_at q fs ≡ Some j) × (pair_of i ≡ pair_of j)) [
         | None ↦ λ e no. cc
         | Some j ↦ λ e yes. (j, e, let back : pair_of i ≡ pair_of j = cc in back)
       ]) refl there
@@ -184,9 +184,9 @@ linked_at_place heads link h at to link' off set = record {
     | inl e ↦ put-same link' nowhere (heads h) q (sym e) ∙ sym (put-other (steps_of heads link h) at to q (λ d. off (d ∙ e))
         ∙ put-same link nowhere (heads h) q (sym e))
     | inr away ↦ steps_off heads link' h q away ∙ set q ∙ elim (cases_eq at q) [
-        | inl e ↦ put-same link at to q e ∙ sym (put-same (steps_of heads link h) at to q e)
-        | inr n ↦ put-other link at to q n ∙ sym (put-other (steps_of heads link h) at to q n ∙ steps_off heads link h q away)
-      ]
+      | inl e ↦ put-same link at to q e ∙ sym (put-same (steps_of heads link h) at to q e)
+      | inr n ↦ put-other link at to q n ∙ sym (put-other (steps_of heads link h) at to q n ∙ steps_off heads link h q away)
+    ]
   ];
   others = λ g n. refl;
 }

@@ -1,5 +1,5 @@
 -- What a put does to the entries and the places.
-use Rattle.std.proofs.Common.{◌≡◌, ℕ, ◌+◌, ◌-◌, ◌<◌, ◌≤◌, Bool, true, false, List, [], ◌∷◌, length, take, None, Some, get_or, set, min, IsTrue, inl, inr, refl, sym, ap, ◌∙◌, arith, length-take}
+use Rattle.std.proofs.Common.{◌≡◌, ℕ, ◌+◌, ◌-◌, ◌<◌, ◌≤◌, Bool, true, false, List, [], ◌∷◌, length, take, None, Some, get_or, set, min, IsTrue, inl, inr, refl, sym, ap, ◌∙◌, arith, length-take, take_all}
 use Rattle.std.specs.Cmp.{IsEquivalence}
 use Rattle.std.specs.List.{remove}
 use Rattle.std.specs.Map.{lookup}
@@ -8,11 +8,11 @@ use Rattle.std.proofs.lemmas.Map.{lookup-none, none_passes_from_lookup}
 use Rattle.std.proofs.lemmas.List.Sums.{sum_by-cons}
 use Rattle.clru.specs.Cache.{Cache}
 use Rattle.clru.specs.Entries.{weight_of, plain_put}
-use Rattle.clru.specs.Fields.{IsCache}
+use Rattle.clru.specs.Fields.{IsKept}
 use Rattle.clru.specs.Growth.{GrowsIf}
 use Rattle.clru.specs.Memory.{GrowsOnlyIf, NeedsMemory}
-use Rattle.clru.proofs.Finding.{IsFound, plain_put-found}
-use Rattle.clru.proofs.Keeping.{IsCache-put}
+use Rattle.clru.proofs.Finding.{IsMissed, plain_put-missed}
+use Rattle.clru.proofs.Keeping.{IsKept-put}
 use Rattle.clru.proofs.Sublists.{IsSublist, sublist_take, All-sublist}
 
 -- a put on a held key needs no memory
@@ -30,6 +30,10 @@ grows_not needed old new needs_none capacity scale places covers = record {
 module _ {K V W : Type 0} {eq : K → K → Bool} {x : K} where
   pub held_needs_none : {nothing_goes : Type 0} {v : V} (c : Cache K V W) → lookup (eq x) c.entries ≡ Some v → NeedsMemory eq c x nothing_goes → ⊥
   held_needs_none c held n = let absent = n.absent in cc
+
+  -- a put into a full list needs none
+  pub full_needs_none : (c : Cache K V W) → length c.entries ≡ c.capacity → NeedsMemory eq c x (length c.entries < c.capacity) → ⊥
+  full_needs_none c full n = let room = n.room in absurd (omega arith)
 
   places_stay : {nothing_goes : Type 0} (old new : Cache K V W) (wanted : Bool) → (IsTrue wanted → nothing_goes) → lookup (eq x) old.entries ≡ None
       → length old.entries ≤ old.places → GrowsIf wanted (length old.entries) old.capacity old.places new.places →
@@ -55,19 +59,6 @@ module _ {K V W : Type 0} {eq : K → K → Bool} {x : K} where
     covers = covers;
   }
 
-module _ {K V : Type 0} (eq : K → K → Bool) (x : K) {es items : List (K × V)} {i : ℕ} (f : IsFound (eq x) es i)
-    (moved : (d : K × V) → items ≡ get_or es i d ∷ remove es i) (e : K × V) (first : e ≡ get_or items 0 e) where
-  -- the entry in front, after it was moved there, is the found one
-  pub front_is_found : e ≡ f.entry
-  front_is_found = first ∙ ap (λ l. get_or l 0 e) (moved e) ∙ f.at e
-
-  -- with another value it is what a put leaves
-  pub set-front : (w : V) → set items 0 (e.0, w) ≡ (f.entry.0, w) ∷ remove es i
-  set-front w = ap (λ l. set l 0 (e.0, w)) (moved e) ∙ ap (λ (d : K × V). (d.0, w) ∷ remove es i) front_is_found
-
-  pub plain_put-front : (c : ℕ) (w : V) → set items 0 (e.0, w) ≡ plain_put eq c x w es
-  plain_put-front c w = set-front w ∙ sym (plain_put-found eq x f c w)
-
 pub weight_of-zero : {K V : Type 0} (es : List (K × V)) → weight_of (λ (k : K) (v : V). 0) es ≡ 0
 weight_of-zero [] = refl
 weight_of-zero {K} {V} (e ∷ es) = let cons : weight_of (λ (k : K) (v : V). 0) (e ∷ es) ≡ 0 + weight_of
@@ -76,41 +67,22 @@ weight_of-zero {K} {V} (e ∷ es) = let cons : weight_of (λ (k : K) (v : V). 0)
 pub lookup-sublist : {K V : Type 0} (test : K → Bool) {es fs : List (K × V)} → IsSublist es fs → lookup test es ≡ None → lookup test fs ≡ None
 lookup-sublist test {es} {fs} s absent = lookup-none test fs (All-sublist (λ e. test e.0 ≡ false) s (none_passes_from_lookup test es absent))
 
--- a found entry that was taken out and comes first with another value
-pub put-front : {K V : Type 0} (test : K → Bool) {es rest items : List (K × V)} {i : ℕ} (f : IsFound test es i) (e : K × V) (v : V)
-    → e ≡ get_or es i e → rest ≡ remove es i → items ≡ (e.0, v) ∷ rest → items ≡ (f.entry.0, v) ∷ remove es i
-put-front test {rest = rest} f e v taken left put = let same : e ≡ f.entry = taken ∙ f.at e in put ∙ ap (λ d. (d.0, v) ∷ rest) same ∙ ap
-    (λ l. (f.entry.0, v) ∷ l) left
-
--- a new entry that was put before what is left of the others
-pub new-front : {X : Type 0} {es fs rest items : List X} {x : X} (n c : ℕ) → n ≡ c → fs ≡ es → rest ≡ take (n - 1) fs → items ≡ x ∷ rest
-    → items ≡ x ∷ take (c - 1) es
-new-front {es = es} {x = x} n c is same left put = put ∙ ap (λ l. x ∷ l) (left ∙ ap (λ l. take (n - 1) l) same ∙ ap (λ k. take (k - 1) es) is)
-
--- it can be written to in front
-pub set-new : {K V : Type 0} {x : K} {v : V} {rest items : List (K × V)} → items ≡ (x, v) ∷ rest → (e : K × V) → e ≡ get_or items 0 e
-    → (w : V) → set items 0 (e.0, w) ≡ (x, w) ∷ rest
-set-new {x = x} {rest = rest} whole e first w =
-    let key : e.0 ≡ x = ap (λ d. d.0) (first ∙ ap (λ l. get_or l 0 e) whole) in
-    ap (λ l. set l 0 (e.0, w)) whole ∙ ap (λ k. (k, w) ∷ rest) key
-
--- a place is there for each entry after a put
-pub covers_put : (len c p : ℕ) → (len < c → len < p) → len ≤ p → min (1 + len) c ≤ p
-covers_put len c p free held = elim (cases_lt len c) [ inl h ↦ omega (arith, free h) | inr h ↦ omega arith ]
-
--- no longer than the places
-pub length-new : {X : Type 0} (c p : ℕ) (x : X) (xs : List X) → 0 < c → min (1 + length xs) c ≤ p → length (x ∷ take (c - 1) xs) ≤ p
-length-new c p x xs some covers = omega (arith, length-take (c - 1) xs)
-
 -- at weight zero
 module _ {K V : Type 0} {eq : K → K → Bool} where
   -- a new entry comes first, and what is past the capacity goes
-  pub IsCache-new : {es : List (K × V)} {kept p r c : ℕ} (p' r' : ℕ) (x : K) (v : V) → IsEquivalence eq
-      → IsCache eq (λ k v. 0) es kept p r c → lookup (eq x) es ≡ None → 0 < c → min (1 + length es) c ≤ p' → p' ≤ r'
-      → IsCache eq (λ k v. 0) ((x, v) ∷ take (c - 1) es) kept p' r' c
-  IsCache-new {es} {kept} {p} {r} {c} p' r' x v laws old absent some covers room =
+  pub IsKept-new : {es : List (K × V)} {kept c : ℕ} (x : K) (v : V) → IsEquivalence eq → IsKept eq (λ k v. 0) es kept c
+      → lookup (eq x) es ≡ None → 0 < c → IsKept eq (λ k v. 0) ((x, v) ∷ take (c - 1) es) kept c
+  IsKept-new {es} {kept} {c} x v laws old absent some =
       let rest = take (c - 1) es in let len : length rest ≡ min (c - 1) (length es) = length-take (c - 1) es in
-      IsCache-put (λ k v. 0) kept p' r' x (x, v) laws old (sublist_take (c - 1) es)
+      IsKept-put (λ k v. 0) kept x (x, v) laws old (sublist_take (c - 1) es)
       (lookup-sublist (eq x) (sublist_take (c - 1) es) absent) (laws.refl x)
       (omega (arith, old.weighs, weight_of-zero es, weight_of-zero ((x, v) ∷ rest))) (omega (arith, weight_of-zero rest, len))
-      (omega (arith, len, covers)) room
+
+  -- the same where the last entry went because all places of the capacity were taken
+  pub put_full : {es : List (K × V)} (c : ℕ) (x : K) (v : V) → IsMissed (eq x) es → length es ≡ c
+      → (x, v) ∷ take (length es - 1) es ≡ plain_put eq c x v es
+  put_full {es} c x v m full = ap (λ n. (x, v) ∷ take (n - 1) es) full ∙ sym (plain_put-missed eq x m c v)
+
+  -- and where no entry had to go
+  pub put_free : {es : List (K × V)} (c : ℕ) (x : K) (v : V) → IsMissed (eq x) es → length es < c → (x, v) ∷ es ≡ plain_put eq c x v es
+  put_free {es} c x v m free = ap (λ l. (x, v) ∷ l) (sym (take_all (c - 1) es (omega arith))) ∙ sym (plain_put-missed eq x m c v)

@@ -37,9 +37,9 @@ module _ {K V : Type 0} where
   key_from-next p q es n = elim (cases_lt q p) [
     | inl past ↦ key_from-past p q es past ∙ sym (key_from-past (p + 1) q es (omega (arith, past)))
     | inr within ↦ elim (cases_lt p q) [
-        | inl more ↦ key_from-within p q es within ∙ sym (key_from-within (p + 1) q es (omega (arith, more)))
-        | inr less ↦ absurd (n (omega (arith, within, less)))
-      ]
+      | inl more ↦ key_from-within p q es within ∙ sym (key_from-within (p + 1) q es (omega (arith, more)))
+      | inr less ↦ absurd (n (omega (arith, within, less)))
+    ]
   ]
 
 module _ {K : Type 0} (home : K → ℕ) {heads link : ℕ → ℕ} {key : ℕ → Option K} (c : IsChained home heads link key) where
@@ -49,17 +49,17 @@ module _ {K : Type 0} (home : K → ℕ) {heads link : ℕ → ℕ} {key : ℕ �
       → key' p ≡ Some k → ((q : ℕ) → (q ≡ p → ⊥) → key' q ≡ key q) → IsChained home heads₂ link₂ key'
   chained_first h p k off fresh is {heads₁} {link₁} {heads₂} {link₂} one two key' new keys =
       let start : heads₁ h ≡ heads h =
-          one.here nowhere ∙ put-other (steps_of heads link h) p (heads h) nowhere off in
+      one.here nowhere ∙ put-other (steps_of heads link h) p (heads h) nowhere off in
       let same : (g : ℕ) → heads₁ g ≡ heads g = λ g. elim (cases_eq g h) [
         | inl e ↦ ap heads₁ e ∙ start ∙ ap heads (sym e)
         | inr n ↦ one.others g n
       ] in
       let links : (q : ℕ) → (q ≡ nowhere → ⊥) → (p ≡ q → ⊥) → link₁ q ≡ link q = λ q away n.
-          sym (steps_off heads₁ link₁ h q away) ∙ one.here q ∙ put-other (steps_of heads link h) p (heads h) q n ∙ steps_off heads link h q away in
+      sym (steps_off heads₁ link₁ h q away) ∙ one.here q ∙ put-other (steps_of heads link h) p (heads h) q n ∙ steps_off heads link h q away in
       let c₁ : IsChained home heads₁ link₁ key = chained_same home c heads₁ link₁ key same
-          (λ q j away held. links q away (λ e. let no : None ≡ Some j = sym fresh ∙ ap key e ∙ held in cc)) (λ q away. refl) in
+      (λ q j away held. links q away (λ e. let no : None ≡ Some j = sym fresh ∙ ap key e ∙ held in cc)) (λ q away. refl) in
       let onward : link₁ p ≡ steps_of heads₁ link₁ h nowhere =
-          sym (steps_off heads₁ link₁ h p off) ∙ one.here p ∙ put-same (steps_of heads link h) p (heads h) p refl ∙ sym start in
+      sym (steps_off heads₁ link₁ h p off) ∙ one.here p ∙ put-same (steps_of heads link h) p (heads h) p refl ∙ sym start in
       chained_insert home c₁ h (c₁.chain h) p heads₂ link₂ key' k off fresh onward two new is keys
 
 module _ {K V : Type 0} (home : K → ℕ) {heads : ℕ → ℕ} (p : ℕ) (es : List (ℕ × Item K V))
@@ -71,7 +71,7 @@ module _ {K V : Type 0} (home : K → ℕ) {heads : ℕ → ℕ} (p : ℕ) (es :
       (λ q off. elim (cases_eq q p) [
         | inl e ↦
             let here : key_from p es p ≡ key_from (p + 1) es p =
-                key_from-within p p es (omega arith) ∙ rw none refl ∙ sym (key_from-past (p + 1) p es (omega arith)) in
+            key_from-within p p es (omega arith) ∙ rw none refl ∙ sym (key_from-past (p + 1) p es (omega arith)) in
             subst (λ x. key_from p es x ≡ key_from (p + 1) es x) (sym e) here
         | inr n ↦ key_from-next p q es n
       ])

@@ -28,11 +28,6 @@ pub lends_whether_held : {P M K : Type 0} (p : Mut P (Bor K × (Unit {0} × Unit
 lends_whether_held p m None x puts modifies c = puts c.1.shown _ c.0 c.1.called
 lends_whether_held p m (Some e) x puts modifies c = sym c.1.leaves ∙ modifies c.1.shown c.1.lent c.1.left c.0 c.1.called
 
--- a search finds an entry where it finds a value
-pub is_some-lookup_entry : {K V : Type 0} (test : K → Bool) (es : List (K × V)) → is_some (lookup_entry test es) ≡ is_some (lookup test es)
-is_some-lookup_entry test [] = refl
-is_some-lookup_entry test (e ∷ es) = split (test e.0) (λ t. rw t refl) (λ f. rw f (is_some-lookup_entry test es))
-
 -- a plain put adds one entry at most
 length-plain_put-le : {K V : Type 0} (eq : K → K → Bool) (c : ℕ) (x : K) (v : V) (es : List (K × V)) → length (plain_put eq c x v es) ≤ 1 + length es
 length-plain_put-le eq c x v es =

@@ -4,9 +4,9 @@ use Rattle.std.specs.Cmp.{IsEquivalence}
 use Rattle.std.specs.Map.{lookup}
 use Rattle.std.proofs.lemmas.Bool.{cases_lt}
 use Rattle.clru.specs.Entries.{weight_of, size_of, fit}
-use Rattle.clru.specs.Fields.{IsCache}
+use Rattle.clru.specs.Fields.{IsKept}
 use Rattle.clru.proofs.Fitting.{fit_is_longest}
-use Rattle.clru.proofs.Keeping.{IsCache-put}
+use Rattle.clru.proofs.Keeping.{IsKept-put}
 use Rattle.clru.proofs.Putting.{lookup-sublist}
 use Rattle.clru.proofs.Sublists.{IsSublist, sublist_front, sublist_trans, length-sublist}
 
@@ -31,25 +31,25 @@ module _ {K V : Type 0} (weight : K → V → ℕ) where
         absurd (omega (arith, f.fits, ap (size_of weight) whole))
   ]
 
-  -- a place is there for each entry after a put
-  pub covers_fit : (c p : ℕ) (es : List (K × V)) → (size_of weight es ≤ c → length es < p) → length es ≤ p → 1 + length (fit weight c es) ≤ p
-  covers_fit c p es free held = elim (cases_lt c (size_of weight es)) [
-    | inl over ↦ omega (arith, length-fit c es over)
-    | inr all ↦ omega (arith, free all, length-sublist (sublist_fit c es))
-  ]
-
   -- the new pair comes first, and what does not fit beside it goes
-  pub IsCache-weighted : {eq : K → K → Bool} {es fs : List (K × V)} {kept p r c : ℕ} (left p' r' : ℕ) (x : K) (v : V) → IsEquivalence eq
-      → IsCache eq weight es kept p r c → IsSublist es fs → lookup (eq x) fs ≡ None → weight x v < c
-      → left ≡ weight_of weight ((x, v) ∷ fit weight (c - 1 - weight x v) fs) → 1 + length
-      (fit weight (c - 1 - weight x v) fs) ≤ p' → p' ≤ r' → IsCache eq weight ((x, v) ∷ fit weight (c - 1 - weight x v) fs) left p' r' c
-  IsCache-weighted {eq} {es} {fs} {c = c} left p' r' x v laws old s absent light w covers room =
-      let room_left = c - 1 - weight x v in
-      IsCache-put weight left p' r' x (x, v) laws old (sublist_trans s (sublist_fit room_left fs))
-      (lookup-sublist (eq x) (sublist_fit room_left fs) absent) (laws.refl x) w (omega (arith, size_of-fit room_left fs)) covers room
+  pub IsKept-weighted : {eq : K → K → Bool} {es fs : List (K × V)} {kept c : ℕ} (left : ℕ) (x : K) (v : V) → IsEquivalence eq
+      → IsKept eq weight es kept c → IsSublist es fs → lookup (eq x) fs ≡ None → weight x v < c
+      → left ≡ weight_of weight ((x, v) ∷ fit weight (c - 1 - weight x v) fs)
+      → IsKept eq weight ((x, v) ∷ fit weight (c - 1 - weight x v) fs) left c
+  IsKept-weighted {eq} {es} {fs} {c = c} left x v laws old s absent light w =
+      let room = c - 1 - weight x v in
+      IsKept-put weight left x (x, v) laws old (sublist_trans s (sublist_fit room fs))
+      (lookup-sublist (eq x) (sublist_fit room fs) absent) (laws.refl x) w (omega (arith, size_of-fit room fs))
 
-  -- the list that the put leaves, by the room and the rest as the code has them
+  -- the list that the put leaves, by the room as the code has it
   pub weighted_front : {x : K} {v : V} {items rest fs : List (K × V)} (room c : ℕ) → room ≡ c - 1 - weight x v → rest ≡ fs
       → items ≡ (x, v) ∷ fit weight room rest → items ≡ (x, v) ∷ fit weight (c - 1 - weight x v) fs
   weighted_front {x} {v} {rest = rest} room c is same put = put ∙ ap (λ r. (x, v) ∷ fit weight r rest) is ∙ ap
       (λ l. (x, v) ∷ fit weight (c - 1 - weight x v) l) same
+
+  -- a place is free for the new pair
+  pub free_after_fit : (c p : ℕ) (es : List (K × V)) → (size_of weight es ≤ c → length es < p) → length es ≤ p → length (fit weight c es) < p
+  free_after_fit c p es free held = elim (cases_lt c (size_of weight es)) [
+    | inl over ↦ omega (arith, length-fit c es over)
+    | inr all ↦ omega (arith, free all, length-sublist (sublist_fit c es))
+  ]

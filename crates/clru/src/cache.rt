@@ -11,6 +11,7 @@ mod put;
 mod remove;
 
 use crate::hasher::DefaultState;
+use crate::nodes::Nodes;
 use crate::weight::{WeightScale, ZeroWeightScale};
 use std::alloc::{Allocator, Global};
 use std::hash::{BuildHasher, Hash};
@@ -26,30 +27,27 @@ pub struct CLruCache<
     W: WeightScale<K, V> = ZeroWeightScale,
     A: Allocator + Copy = Global,
 > {
-    pub(crate) pairs: Vec<(K, V), A>,
+    pub(crate) nodes: Nodes<K, V, S, A>,
     pub(crate) capacity: NonZeroUsize,
-    pub(crate) hash_builder: S,
     pub(crate) scale: W,
     pub(crate) total_weight: usize,
-    // No more than the vector's capacity, and not that number itself: a growth that was refused changes nothing.
-    pub(crate) places: usize,
 }
 
 impl<K: Eq + Hash, V, S: BuildHasher, W: WeightScale<K, V>, A: Allocator + Copy> Model
     for CLruCache<K, V, S, W, A> {
-    ghost use Rattle.std.specs.Prelude.{vec_capacity};
     ghost use Rattle.std.specs.Int.NonZero.{non_zero_usize_get};
     ghost use Rattle.clru.specs.Cache.{Cache, cache, cache_code};
     ghost use Rattle.clru.specs.Fields.{IsCache};
+    ghost use Rattle.clru.specs.Nodes.{hash_by, pairs_of};
 
     ghost Value = { Cache K V W };
 
     ghost coded = { cache_code K.code V.code W.code };
 
-    ghost view = { λ c. cache c.pairs.items (non_zero_usize_get c.capacity) c.scale c.places };
+    ghost view = { λ c. cache (pairs_of c.nodes.list.entries) (non_zero_usize_get c.capacity) c.scale c.nodes.places };
 
-    ghost invariant = { λ c. IsCache K.eq (W.weight c.scale) c.pairs.items c.total_weight c.places (vec_capacity c.pairs)
-        (non_zero_usize_get c.capacity) };
+    ghost invariant = { λ c. IsCache K.eq (W.weight c.scale) (hash_by S.Hasher.finish S.Hasher.write S.build_hasher K.hash_input)
+        c.nodes c.total_weight (non_zero_usize_get c.capacity) };
 }
 
 impl<K: Eq + Hash, V, S: BuildHasher, W: WeightScale<K, V>, A> CLruCache<K, V, S, W, A>
@@ -62,7 +60,7 @@ where
         ensures valid { IsValid K.eq (W.weight self.now.scale) self.now }
     {
         let _capacity = self.capacity.get();
-        self.pairs.len()
+        self.nodes.len()
     }
 
     /// Returns what the number of entries and their total weight never pass together.
@@ -83,7 +81,7 @@ where
     pub fn is_empty(&self) -> bool
         ensures { IsTrue result ↔ (self.now.entries ≡ []) }
     {
-        self.pairs.is_empty()
+        self.nodes.len() == 0
     }
 
     /// Returns whether the number of entries and their total weight reach the capacity.
@@ -91,6 +89,6 @@ where
         ensures { IsTrue result ↔ (size_of (W.weight self.now.scale) self.now.entries ≡ self.now.capacity) }
     {
         let capacity = self.capacity.get();
-        self.pairs.len() + self.total_weight == capacity
+        self.nodes.len() + self.total_weight == capacity
     }
 }

@@ -16,7 +16,6 @@ mod error;
 mod hasher;
 mod laws;
 mod nodes;
-mod pairs;
 mod replays;
 mod shrink;
 mod weight;

@@ -6,7 +6,6 @@ ghost use Rattle.clru.specs.Entries.{touch};
 ghost use Rattle.clru.specs.Lends.{ends_with};
 
 use crate::cache::CLruCache;
-use crate::pairs::{find, move_to_front};
 use crate::weight::WeightScale;
 use std::alloc::Allocator;
 use std::hash::{BuildHasher, Hash};
@@ -21,17 +20,18 @@ where
             W.WeightScale A.Allocator self.entry (touch K.eq key.now self.old.entries)) }
         ensures value { option_copied result ≡ lookup (K.eq key.now) self.old.entries }
     {
-        let at = find(&self.pairs, key)?;
-        move_to_front(&mut self.pairs, at);
-        Some(&self.pairs[0].1)
+        let hash = self.nodes.hash(key);
+        if self.nodes.touch(hash, key) {
+            return self.nodes.front();
+        }
+        None
     }
 
     /// Returns the value of the key, and leaves the order as it is.
     pub fn peek(&self, key: &K) -> Option<&V>
         ensures { option_copied result ≡ lookup (K.eq key.now) self.now.entries }
     {
-        let at = find(&self.pairs, key)?;
-        Some(&self.pairs[at].1)
+        self.nodes.get(self.nodes.hash(key), key)
     }
 
     /// Returns whether the key is held, and leaves the order as it is.

@@ -8,7 +8,6 @@ ghost use Rattle.clru.specs.Memory.{NeedsPlace};
 ghost use Rattle.clru.specs.contracts.weight.ZeroWeightScale.{the_row as zero_scale_row};
 
 use crate::cache::CLruCache;
-use crate::pairs::{find, make_ready_if, move_to_front, push_front};
 use crate::weight::{WeightScale, ZeroWeightScale};
 use std::alloc::Allocator;
 use std::hash::{BuildHasher, Hash};
@@ -39,20 +38,22 @@ impl<K: Eq + Hash, V, S: BuildHasher, A: Allocator + Copy> CLruCache<K, V, S, Ze
         ensures refused { IfErr result (λ back. back ≡ (key, «data»)) }
         ensures memory { IsErr result → NeedsPlace K.eq self.old key }
     {
-        if let Some(at) = find(&self.pairs, &key) {
-            move_to_front(&mut self.pairs, at);
-            let entry = &mut self.pairs[0];
-            modify_op(&entry.0, &mut entry.1, data);
-            return Ok(&mut entry.1);
+        let hash = self.nodes.hash(&key);
+        if self.nodes.touch(hash, &key) {
+            let item = self.nodes.front_item();
+            modify_op(&item.key, &mut item.value, data);
+            return Ok(&mut item.value);
         }
-        let capacity = self.capacity.get();
-        let wanted = self.pairs.len() < capacity;
-        let Ok(()) = make_ready_if(wanted, &mut self.pairs, &mut self.places, self.capacity) else {
+        if self.nodes.len() == self.capacity.get() {
+            let value = put_op(&key, data);
+            let _ = self.nodes.replace_back(hash, key, value);
+            return Ok(&mut self.nodes.front_item().value);
+        }
+        let Ok(()) = self.nodes.make_ready_if(true) else {
             return Err((key, data));
         };
         let value = put_op(&key, data);
-        self.pairs.truncate(capacity - 1);
-        push_front(&mut self.pairs, (key, value));
-        Ok(&mut self.pairs[0].1)
+        self.nodes.push_front(hash, key, value);
+        Ok(&mut self.nodes.front_item().value)
     }
 }

@@ -1,11 +1,13 @@
 //! The makers.
-ghost use Rattle.std.specs.Prelude.{◌≡◌, ◌≤◌, [], min, IfOk, IsOk, vec_capacity};
+ghost use Rattle.std.specs.Prelude.{◌≡◌, [], min, IfOk, IsOk};
 ghost use Rattle.std.specs.Int.NonZero.{non_zero_usize_get};
 ghost use Rattle.clru.specs.Cache.{cache};
+ghost use Rattle.clru.specs.Nodes.{hash_by, IsEmpty, IsIndexed};
 
 use crate::cache::CLruCache;
 use crate::error::NoMemory;
 use crate::hasher::DefaultState;
+use crate::nodes::Nodes;
 use crate::weight::{WeightScale, ZeroWeightScale};
 use std::alloc::Allocator;
 use std::hash::{BuildHasher, Hash};
@@ -25,7 +27,11 @@ impl<K: Eq + Hash, V, S: BuildHasher, A: Allocator + Copy> CLruCache<K, V, S, Ze
     pub fn with_hasher(alloc: A, capacity: NonZeroUsize, hash_builder: S) -> Self
         ensures { result ≡ cache [] (non_zero_usize_get capacity) (record {}) 0 }
     {
-        CLruCache::empty(Vec::new(alloc), capacity, hash_builder, ZeroWeightScale, 0)
+        CLruCache::empty(
+            Nodes::new(alloc, capacity.get(), hash_builder),
+            capacity,
+            ZeroWeightScale,
+        )
     }
 
     /// Creates a cache with memory for `reserve` entries, or for `capacity` entries where that is less.
@@ -40,11 +46,10 @@ impl<K: Eq + Hash, V, S: BuildHasher, A: Allocator + Copy> CLruCache<K, V, S, Ze
         ensures empty { let size = non_zero_usize_get capacity in IfOk result (λ c. c ≡ cache [] size (record {}) (min reserve size)) }
         ensures never_refused { reserve ≡ 0 → IsOk result }
     {
-        let places = reserve.min(capacity.get());
-        let Ok(pairs) = Vec::with_capacity(alloc, places) else {
+        let Ok(nodes) = Nodes::with_memory(alloc, capacity.get(), hash_builder, reserve) else {
             return Err(NoMemory);
         };
-        Ok(CLruCache::empty(pairs, capacity, hash_builder, ZeroWeightScale, places))
+        Ok(CLruCache::empty(nodes, capacity, ZeroWeightScale))
     }
 }
 
@@ -56,7 +61,11 @@ where
     pub fn with_scale(alloc: A, capacity: NonZeroUsize, scale: W) -> Self
         ensures { result ≡ cache [] (non_zero_usize_get capacity) scale 0 }
     {
-        CLruCache::empty(Vec::new(alloc), capacity, DefaultState, scale, 0)
+        CLruCache::empty(
+            Nodes::new(alloc, capacity.get(), DefaultState),
+            capacity,
+            scale,
+        )
     }
 }
 
@@ -64,24 +73,16 @@ impl<K: Eq + Hash, V, S: BuildHasher, W: WeightScale<K, V>, A> CLruCache<K, V, S
 where
     A: Allocator + Copy,
 {
-    fn empty(
-        pairs: Vec<(K, V), A>,
-        capacity: NonZeroUsize,
-        hash_builder: S,
-        scale: W,
-        places: usize,
-    ) -> Self
-        requires none { pairs.items ≡ [] }
-        requires reserved { places ≤ vec_capacity pairs }
-        ensures { result ≡ cache [] (non_zero_usize_get capacity) scale places }
+    fn empty(nodes: Nodes<K, V, S, A>, capacity: NonZeroUsize, scale: W) -> Self
+        requires none { IsEmpty (non_zero_usize_get capacity) nodes.places nodes }
+        requires indexed { let hash = hash_by S.Hasher.finish S.Hasher.write S.build_hasher K.hash_input in IsIndexed hash nodes }
+        ensures { result ≡ cache [] (non_zero_usize_get capacity) scale nodes.places }
     {
         CLruCache {
-            pairs,
+            nodes,
             capacity,
-            hash_builder,
             scale,
             total_weight: 0,
-            places,
         }
     }
 }

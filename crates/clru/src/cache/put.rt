@@ -7,8 +7,7 @@ ghost use Rattle.clru.specs.Refusals.{pair_of, IsTooHeavy, WantsMemory};
 
 use crate::cache::CLruCache;
 use crate::error::PutError;
-use crate::pairs::{find, make_ready_if, push_front};
-use crate::shrink::push_front_of_fit;
+use crate::shrink::shrink_to;
 use crate::weight::{WeightScale, ZeroWeightScale};
 use std::alloc::Allocator;
 use std::hash::{BuildHasher, Hash};
@@ -42,31 +41,21 @@ where
         }
         // Compared with the room that the pair leaves, so that no sum passes the largest number.
         let room = capacity - 1 - weight;
-        if let Some(at) = find(&self.pairs, &key) {
-            let (old_key, old_value) = self.pairs.remove(at);
+        let hash = self.nodes.hash(&key);
+        if let Some((old_key, old_value)) = self.nodes.take(hash, &key) {
             self.total_weight -= self.scale.weight(&old_key, &old_value);
-            push_front_of_fit(
-                &mut self.pairs,
-                &mut self.total_weight,
-                &self.scale,
-                room,
-                (key, value),
-                weight,
-            );
+            shrink_to(&mut self.nodes, &mut self.total_weight, &self.scale, room);
+            self.nodes.push_front(hash, key, value);
+            self.total_weight += weight;
             return Ok(Some(old_value));
         }
-        let wanted = self.pairs.len() + self.total_weight <= room;
-        let Ok(()) = make_ready_if(wanted, &mut self.pairs, &mut self.places, self.capacity) else {
+        let wanted = self.nodes.len() + self.total_weight <= room;
+        let Ok(()) = self.nodes.make_ready_if(wanted) else {
             return Err(PutError::NoMemory(key, value));
         };
-        push_front_of_fit(
-            &mut self.pairs,
-            &mut self.total_weight,
-            &self.scale,
-            room,
-            (key, value),
-            weight,
-        );
+        shrink_to(&mut self.nodes, &mut self.total_weight, &self.scale, room);
+        self.nodes.push_front(hash, key, value);
+        self.total_weight += weight;
         Ok(None)
     }
 }
@@ -87,18 +76,18 @@ impl<K: Eq + Hash, V, S: BuildHasher, A: Allocator + Copy> CLruCache<K, V, S, Ze
         ensures memory { IsErr result → NeedsPlace K.eq self.old key }
         ensures places { GrowsOnlyIf (NeedsPlace K.eq self.old key) self.old self.new }
     {
-        if let Some(at) = find(&self.pairs, &key) {
-            let (stored, old) = self.pairs.remove(at);
-            push_front(&mut self.pairs, (stored, value));
-            return Ok(Some(old));
+        let hash = self.nodes.hash(&key);
+        if self.nodes.touch(hash, &key) {
+            return Ok(Some(self.nodes.set_front(value)));
         }
-        let capacity = self.capacity.get();
-        let wanted = self.pairs.len() < capacity;
-        let Ok(()) = make_ready_if(wanted, &mut self.pairs, &mut self.places, self.capacity) else {
+        if self.nodes.len() == self.capacity.get() {
+            let _ = self.nodes.replace_back(hash, key, value);
+            return Ok(None);
+        }
+        let Ok(()) = self.nodes.make_ready_if(true) else {
             return Err((key, value));
         };
-        self.pairs.truncate(capacity - 1);
-        push_front(&mut self.pairs, (key, value));
+        self.nodes.push_front(hash, key, value);
         Ok(None)
     }
 }

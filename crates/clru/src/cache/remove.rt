@@ -16,10 +16,7 @@ where
         ensures value { result ≡ slice_get self.old.entries 0 }
         ensures entries { self.new ≡ with_entries self.old (drop 1 self.old.entries) }
     {
-        if self.pairs.is_empty() {
-            return None;
-        }
-        let (key, value) = self.pairs.remove(0);
+        let (key, value) = self.nodes.pop_front()?;
         self.total_weight -= self.scale.weight(&key, &value);
         Some((key, value))
     }

@@ -1,5 +1,6 @@
 use Rattle.std.proofs.Common.{rules, ◌∙◌}
-use Rattle.clru.proofs.Replaying.{lends_whether_held, is_some-lookup_entry}
+use Rattle.clru.proofs.Finding.{is_some-lookup_entry}
+use Rattle.clru.proofs.Replaying.{lends_whether_held}
 use Rattle.clru.proofs.replays.request.Goals as goal
 
 pub returns-clause-hit : goal.returns-clause-hit

@@ -1,9 +1,13 @@
-use Rattle.std.proofs.Common.{arith}
-use Rattle.clru.proofs.Keeping.{IsCache-remove}
+use Rattle.std.proofs.Common.{◌∙◌}
+use Rattle.clru.proofs.Keeping.{IsKept-first}
 use Rattle.clru.proofs.cache.CLruCache.pop_front.Goals as goal
 
-pub invariant_of-self : goal.invariant_of-self
-invariant_of-self g c =
-    rw (c.remove-key.ensures.items, c.weight.ensures) (IsCache-remove
-    (g.W.WeightScale.weight c.self.inside.scale) _ 0 c.remove-key.result c.self.invariant (omega arith) c.remove-key.ensures.value
-    (omega (arith, c.remove-key.ensures.capacity)))
+pub invariant_of-self-2 : goal.invariant_of-self-2
+invariant_of-self-2 g c =
+    let e = c.in_ok-key.ensures in
+    record {
+      pairs = rw (e.pairs, c.weight.ensures)
+          (IsKept-first (g.W.WeightScale.weight c.self.inside.scale) (c.in_ok-key.key, c.in_ok-key.value) c.self.invariant.pairs e.pair);
+      indexed = e.indexed;
+      room = e.same.capacity ∙ c.self.invariant.room;
+    }

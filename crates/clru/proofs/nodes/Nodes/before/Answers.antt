@@ -15,7 +15,7 @@ unreachable-requires g c =
     let none = none_at_start x.list c.get.ensures.valid in
     let w = c.loop-next.invariant.walk in
     let dead : IsLive x.list.entries c.loop-next.next → ⊥ =
-        not_live c.loop-next.next x.list.entries (sym c.get.ensures.value ∙ ap option_copied c.in_default.is) in
+    not_live c.loop-next.next x.list.entries (sym c.get.ensures.value ∙ ap option_copied c.in_default.is) in
     elim (cases_eq c.args.place nowhere) [
       | inl e ↦ c.loop-next-test.true (walk_over w none dead ∙ sym e)
       | inr n ↦ walk_missed w none dead c.args.place (refl, n)
@@ -29,7 +29,7 @@ loop-next-smaller g c =
     let f = steps_at x c.args.head in
     let held : item_at next x.list.entries ≡ Some c.in-Some.item.now = sym c.in-Some.ensures.value in
     let off : next ≡ nowhere → ⊥ =
-        λ e. none (c.in-Some.item.now, subst (λ q. item_at q x.list.entries ≡ Some c.in-Some.item.now) e held) in
+    λ e. none (c.in-Some.item.now, subst (λ q. item_at q x.list.entries ≡ Some c.in-Some.item.now) e held) in
     let step = step_of_item (head_at x.heads.items) c.args.head next x.list.entries c.in-Some.item.now held off in
     subst (λ n. steps_left f n (length x.list.entries) < steps_left f next (length x.list.entries)) step
     (walk_nearer c.loop-next.invariant.walk none off)
@@ -41,7 +41,7 @@ loop-next-preserved g c =
     let next = c.loop-next.next in
     let held : item_at next x.list.entries ≡ Some c.in-Some.item.now = sym c.in-Some.ensures.value in
     let off : next ≡ nowhere → ⊥ =
-        λ e. none (c.in-Some.item.now, subst (λ q. item_at q x.list.entries ≡ Some c.in-Some.item.now) e held) in
+    λ e. none (c.in-Some.item.now, subst (λ q. item_at q x.list.entries ≡ Some c.in-Some.item.now) e held) in
     let step = step_of_item (head_at x.heads.items) c.args.head next x.list.entries c.in-Some.item.now held off in
     record {
       leads = step;

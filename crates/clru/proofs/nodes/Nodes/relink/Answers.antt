@@ -44,11 +44,11 @@ loop-place-preserved g c =
     let next : c.loop-place.place ≡ p + 1 = omega arith in
     let held : item_at p es ≡ Some item = sym c.in-Some.ensures.value in
     let off : p ≡ nowhere → ⊥ =
-        λ e. none_at_start x.list c.get.ensures.valid (item, subst (λ q. item_at q es ≡ Some item) e held) in
+    λ e. none_at_start x.list c.get.ensures.valid (item, subst (λ q. item_at q es ≡ Some item) e held) in
     let same = same_trans {y = x₁} c.link.ensures.same c.link-in-loop-place.ensures.same in
     let pairs = c.link-in-loop-place.ensures.pairs ∙ c.link.ensures.pairs in
     let one = subst (λ t. IsLinked (head_at x.heads.items) (link_at es) h p t (head_at x₁.heads.items) (link_at x₁.list.entries)) c.first-first.ensures
-        c.link.ensures.linked in
+    c.link.ensures.linked in
     record {
       chained = same_homes hash same (head_at x₂.heads.items) (link_at x₂.list.entries) (key_from p x₂.list.entries)
           (chained_more (home_at hash x) p es

@@ -62,7 +62,7 @@ returns-clause-pair g c =
     let item = c.in-Some-move_front.item.now in
     let is : item ≡ there.0 = let both : Some item ≡ Some there.0 = c.in-Some-move_front.ensures.value ∙ there.1 in cc in
     let pair : pair_of c.replace-old.result ≡ pair_of l.item =
-        ap (λ i. pair_of i) (c.replace-old.ensures.value ∙ is) ∙ sym there.2 ∙ ap (λ i. pair_of i) last in
+    ap (λ i. pair_of i) (c.replace-old.ensures.value ∙ is) ∙ sym there.2 ∙ ap (λ i. pair_of i) last in
     ap (λ (p : g.row.K.Denot × g.row.V.Denot). Some p) pair ∙ sym (last_pair l).0
 
 pub returns-clause-pairs : goal.returns-clause-pairs
@@ -88,5 +88,9 @@ returns-clause-indexed g c =
       heads = b.heads ∙ a.heads;
     })
     c.append.ensures.chained
-    (omega (arith, same_length c.append.new.self.list.entries ((p, c.replace-old.new.dest) ∷ without p u) c.append.ensures.pairs,
-    length-without_held p u there.0 there.1, same_length u x.list.entries c.unchain.ensures.pairs))
+    (omega (
+      arith,
+      same_length c.append.new.self.list.entries ((p, c.replace-old.new.dest) ∷ without p u) c.append.ensures.pairs,
+      length-without_held p u there.0 there.1,
+      same_length u x.list.entries c.unchain.ensures.pairs,
+    ))
