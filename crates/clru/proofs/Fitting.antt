@@ -1,5 +1,5 @@
 -- The longest beginning that fits.
-use Rattle.std.proofs.Common.{◌≡◌, ℕ, ◌+◌, ◌-◌, ◌<◌, ◌≤◌, leb, true, false, cond, List, [], ◌∷◌, ◌++◌, length, refl, sym, ap, ◌∙◌, subst, inl, inr, arith, length-append, append_assoc}
+use Rattle.std.proofs.Common.{◌≡◌, ℕ, zero, suc, Some, None, take, slice_get, ◌+◌, ◌-◌, ◌<◌, ◌≤◌, leb, true, false, cond, List, [], ◌∷◌, ◌++◌, length, refl, sym, ap, ◌∙◌, subst, inl, inr, arith, length-append, append_assoc, append-nil}
 use Rattle.std.proofs.lemmas.Bool.{leb-true, leb-false, cases_lt}
 use Rattle.clru.specs.Entries.{weight_of, size_of, fit, IsLongestFit}
 use Rattle.clru.proofs.Keeping.{weight_of-cons, weight_of-push}
@@ -94,6 +94,36 @@ module _ {K V : Type 0} (weight : K → V → ℕ) (c : ℕ) where
       let longer = ap length is in
       (omega arith, omega arith, shorter_is_too_long es left (k, v) (subst (IsTooLongFit weight c es) is long) (omega arith))
 
+  -- the whole list is too long, or fits
+  pub whole_is_too_long : (es : List (K × V)) → IsTooLongFit weight c es es
+  whole_is_too_long es = record {
+    rest = [];
+    begins = sym (append-nil es);
+    longest = λ q back same small. omega (arith, ap length same, length-append q back);
+  }
+
   -- once it fits it is the longest
   pub too_long_fits : (es p : List (K × V)) → IsTooLongFit weight c es p → size_of weight p ≤ c → p ≡ fit weight c es
   too_long_fits es p long fits = longest_is_fit weight c es p (record { rest = long.rest; begins = long.begins; fits = fits; longest = long.longest })
+
+module _ {X : Type 0} where
+  last_at : (n : ℕ) (xs : List X) (x : X) → length xs ≡ n + 1 → Some x ≡ slice_get xs n → xs ≡ take n xs ++ x ∷ []
+  last_at n [] x len at = absurd (omega arith)
+  last_at zero (y ∷ []) x len at = let same : y ≡ x = cc in ap (λ z. z ∷ []) same
+  last_at zero (y ∷ (z ∷ xs)) x len at = absurd (omega arith)
+  last_at (suc n) (y ∷ xs) x len at = ap (λ l. y ∷ l) (last_at n xs x (omega arith) at)
+
+  -- a list with a last element is the others before it
+  pub split_last : (xs : List X) (x : X) → Some x ≡ slice_get xs (length xs - 1) → xs ≡ take (length xs - 1) xs ++ x ∷ []
+  split_last [] x at = cc
+  split_last (y ∷ xs) x at = last_at (length (y ∷ xs) - 1) (y ∷ xs) x (omega arith) at
+
+  found_at : (n : ℕ) (xs : List X) → n < length xs → slice_get xs n ≡ None → ⊥
+  found_at n [] within none = absurd (omega arith)
+  found_at zero (x ∷ xs) within none = cc
+  found_at (suc n) (x ∷ xs) within none = found_at n xs (omega arith) none
+
+  -- one without a last element is empty
+  pub no_last : (xs : List X) → None ≡ slice_get xs (length xs - 1) → xs ≡ []
+  no_last [] none = refl
+  no_last (x ∷ xs) none = absurd (found_at (length (x ∷ xs) - 1) (x ∷ xs) (omega arith) (sym none))

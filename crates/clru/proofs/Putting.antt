@@ -15,6 +15,16 @@ use Rattle.clru.proofs.Finding.{IsMissed, plain_put-missed}
 use Rattle.clru.proofs.Keeping.{IsKept-put}
 use Rattle.clru.proofs.Sublists.{IsSublist, sublist_take, All-sublist}
 
+-- the same growth, by other names of its numbers
+pub GrowsIf-along : {wanted : Bool} {len c p q len' c' p' q' : ℕ} → len' ≡ len → c' ≡ c → p' ≡ p → q' ≡ q → GrowsIf wanted len c p q
+    → GrowsIf wanted len' c' p' q'
+GrowsIf-along same_len same_c same_p same_q g = record {
+  never_falls = omega (arith, same_p, same_q, g.never_falls);
+  unwanted = λ n. omega (arith, same_p, same_q, g.unwanted n);
+  free = λ f. omega (arith, same_p, same_q, g.free (omega (arith, f, same_len, same_p)));
+  bounded = λ t e. omega (arith, same_c, same_q, g.bounded t (omega (arith, e, same_len, same_p)));
+}
+
 -- a put on a held key needs no memory
 pub grows_not : {K V W : Type 0} (needed : Type 0) (old new : Cache K V W) → (needed → ⊥) → new.capacity ≡ old.capacity
     → new.scale ≡ old.scale → new.places ≡ old.places → length new.entries ≤ new.places → GrowsOnlyIf needed old new
@@ -78,7 +88,8 @@ module _ {K V : Type 0} {eq : K → K → Bool} where
       (lookup-sublist (eq x) (sublist_take (c - 1) es) absent) (laws.refl x)
       (omega (arith, old.weighs, weight_of-zero es, weight_of-zero ((x, v) ∷ rest))) (omega (arith, weight_of-zero rest, len))
 
-  -- the same where the last entry went because all places of the capacity were taken
+module _ {K V : Type 0} (eq : K → K → Bool) where
+  -- a plain put of a new key where the last entry went, since the list had as many entries as the capacity
   pub put_full : {es : List (K × V)} (c : ℕ) (x : K) (v : V) → IsMissed (eq x) es → length es ≡ c
       → (x, v) ∷ take (length es - 1) es ≡ plain_put eq c x v es
   put_full {es} c x v m full = ap (λ n. (x, v) ∷ take (n - 1) es) full ∙ sym (plain_put-missed eq x m c v)
