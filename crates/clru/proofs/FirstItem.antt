@@ -2,7 +2,7 @@
 use Rattle.std.proofs.Common.{◌≡◌, ℕ, ◌≤◌, ◌==◌, Bool, true, false, Option, Some, None, List, [], ◌∷◌, length, refl, sym, ap, ◌∙◌, subst, arith}
 use Rattle.std.specs.Option.{option_map}
 use Rattle.clru_list.specs.PlaceList.{with_entries, first_entry, with_first}
-use Rattle.clru.specs.Nodes.{pairs_of, with_front, link_at, key_at, home_at, IsIndexed}
+use Rattle.clru.specs.Nodes.{pair_of, pairs_of, with_front, link_at, key_at, home_at, IsIndexed}
 use Rattle.clru.specs.declared.nodes.Item.{Item}
 use Rattle.clru.specs.declared.nodes.Nodes.{Nodes}
 use Rattle.clru.proofs.Chaining.{chained_same}
@@ -46,3 +46,10 @@ module _ {K V : Type 0} (i : Item K V) (v : V) where
       (chained_same (home_at hash x) old.chained _ _ _ (λ h. refl) (λ q k off is. first_link x.list.entries h q)
       (λ q off. first_key x.list.entries h q))
       (omega (arith, length-with_first x.list.entries))
+
+-- the first item has the first pair
+pub first_pair : {K V : Type 0} (es : List (ℕ × Item K V)) (i : Item K V) {e : K × V} {rest : List (K × V)}
+    → option_map (λ d. d.1) (first_entry es) ≡ Some i → pairs_of es ≡ e ∷ rest → pair_of i ≡ e
+first_pair [] i h same = cc
+first_pair (d ∷ es) i {e} {rest} h same =
+    let first : d.1 ≡ i = cc in let heads : pair_of d.1 ≡ e = cc in ap pair_of (sym first) ∙ heads
