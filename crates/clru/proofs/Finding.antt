@@ -55,6 +55,10 @@ module _ {K V : Type 0} (test : K → Bool) where
   pub missed_at : {es : List (K × V)} → None ≡ lookup_entry test es → IsMissed es
   missed_at {es} h = missed_entry es (sym h)
 
+  -- it is the entry
+  pub held_is : {es : List (K × V)} {e : K × V} → (h : IsHeld es) → Some e ≡ lookup_entry test es → e ≡ h.entry
+  held_is h found = let same = found ∙ h.looked_up in cc
+
   -- what a test whether there is a value tells
   pub held : {es : List (K × V)} → true ≡ is_some (lookup test es) → IsHeld es
   held {es} h = (elim (lookup_entry test es) as (λ o. lookup_entry test es ≡ o → is_some o ≡ true → IsHeld es) [
