@@ -1,11 +1,12 @@
-use Rattle.std.proofs.Common.{rules, sym, ◌∙◌, ◌≡◌, ◌+◌, cond, arith, refl, ap}
+use Rattle.std.proofs.Common.{rules, sym, ◌∙◌, ◌≡◌, ◌+◌, ◌≤◌, cond, min, [], length, arith, refl, ap, subst}
 use Rattle.std.proofs.lemmas.List.{length_push, map-id}
 use Rattle.std.proofs.lemmas.Iterator.Adapters.{YieldsList-from_vec}
 use Rattle.std.proofs.lemmas.Iterator.Consumers.{YieldsList-end}
 use Rattle.std.specs.Int.NonZero.{non_zero_usize_get}
 use Rattle.clru.specs.Requests.{misses}
 use Rattle.clru.proofs.Bound.{competitive, competitive_from_any_start}
-use Rattle.clru.proofs.Replaying.{Replays-push}
+use Rattle.clru.proofs.Hits.{Keeps_none}
+use Rattle.clru.proofs.Replaying.{Replays, Replays-push}
 use Rattle.clru.proofs.replays.replay.Goals as goal
 use Rattle.clru.proofs.replays.replay.Goals.{then-not-hit, else-not-hit}
 
@@ -41,3 +42,24 @@ pub returns-clause-bound_any_start : goal.returns-clause-bound_any_start
 returns-clause-bound_any_start g c =
     rw (returns-clause-misses g c)
     (competitive_from_any_start g.K.PartialEq.eq g.met.K.Eq.laws (non_zero_usize_get c.args.capacity) c.args.keys.items)
+
+pub loop-key-init : goal.loop-key-init
+loop-key-init g c =
+    let eq = g.K.PartialEq.eq in let k = non_zero_usize_get c.args.capacity in
+    let len : c.len.result ≡ length c.args.keys.items = omega (arith, c.len.ensures, c.args.keys.ok.0) in
+    record {
+      next = tt;
+      ends = tt;
+      replays = subst (λ cache. Replays eq k (length c.args.keys.items) [] c.in-Ok-with_capacity.marks.items 0 cache) (sym c.in-Ok.ensures.empty)
+          (record {
+            marks = search rules;
+            misses = search rules;
+            keeps = Keeps_none eq k;
+            capacity = refl;
+            places = ap (λ n. min n k) len;
+            covered = omega arith;
+            fewer = omega arith;
+          });
+      marked = search rules;
+      room = search rules;
+    }
