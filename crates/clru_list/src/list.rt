@@ -16,6 +16,7 @@ mod push;
 mod remove;
 mod resize;
 mod retain;
+mod walk;
 
 /// A list of at most `capacity` items, each of which keeps its place number until it is removed.
 #[derive(Drop)]
