@@ -10,7 +10,7 @@ use Rattle.clru_list.specs.Walks.{stretch, IsWindow}
 
 module _ {T : Type 0} where
   -- the place of an entry is not that of the first, where the entry stands behind it
-  differs : (d : ℕ × T) (es : List (ℕ × T)) (p : ℕ) (x : T) → item_at d.0 es ≡ None → item_at p es ≡ Some x → (p == d.0) ≡ false
+  pub differs : (d : ℕ × T) (es : List (ℕ × T)) (p : ℕ) (x : T) → item_at d.0 es ≡ None → item_at p es ≡ Some x → (p == d.0) ≡ false
   differs d es p x none some =
       elim (p == d.0) as (λ b. (p == d.0) ≡ b → b ≡ false) [ true ↦ λ same. let e = eqb-true p d.0 same in let h : item_at p es ≡ None = rw e none in cc | false ↦ λ _. refl ] refl
 
@@ -41,6 +41,13 @@ module _ {T : Type 0} where
   last_entry_from-get : (before : Option (ℕ × T)) (e : ℕ × T) (es : List (ℕ × T)) → last_entry_from before (e ∷ es) ≡ slice_get (e ∷ es) (length es)
   last_entry_from-get before e [] = refl
   last_entry_from-get before e (d ∷ es) = last_entry_from-get (Some e) d es
+
+  last_entry_from-push : (before : Option (ℕ × T)) (es : List (ℕ × T)) (e : ℕ × T) → last_entry_from before (es ++ e ∷ []) ≡ Some e
+  last_entry_from-push before [] e = refl
+  last_entry_from-push before (d ∷ es) e = last_entry_from-push (Some d) es e
+
+  pub last_entry-push : (es : List (ℕ × T)) (e : ℕ × T) → last_entry (es ++ e ∷ []) ≡ Some e
+  last_entry-push es e = last_entry_from-push None es e
 
   -- a walk over the whole list
   pub whole : (es : List (ℕ × T)) → IsWindow (keys_of es) 0 (length es) (first_place es) (last_place es)
