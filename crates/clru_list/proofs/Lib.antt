@@ -1,2 +1,12 @@
+pub mod CallerLemmas
+pub mod CursorSteps
+pub mod EntryLists
+pub mod Holding
+pub mod NodeLemmas
+pub mod Paths
+pub mod Puts
+pub mod Rings
+pub mod Soundness
 pub mod Steps
+pub mod Views
 pub mod Windows

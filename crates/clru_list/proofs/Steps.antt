@@ -1,83 +1,189 @@
--- The list once a cursor has passed an entry, with what was written there.
-use Rattle.std.proofs.Common.{◌≡◌, ℕ, zero, suc, ◌+◌, ◌-◌, ◌<◌, ◌≤◌, ◌==◌, cond, true, false, List, [], ◌∷◌, ◌++◌, length, set, take, drop, refl, sym, ap, ◌∙◌, subst, arith, add-one, slice_get, Some, Option}
-use Rattle.std.specs.Option.{option_map_or, option_and_then}
+-- What each call does to a whole list.
+use Rattle.std.proofs.Common.{◌≡◌, ℕ, suc, ◌+◌, ◌-◌, ◌<◌, ◌≤◌, ◌^◌, ◌⊎◌, inl, inr, Bool, true, false, cond, eqb, List, [], ◌∷◌, ◌++◌, length, Option, Some, None, IsSome, refl, sym, ap, ◌∙◌, arith, subst}
+use Rattle.std.proofs.lemmas.List.{length-append, append-nil}
 use Rattle.std.specs.Map.{keys_of}
-use Rattle.std.proofs.lemmas.Bool.{eq-eqb}
-use Rattle.std.proofs.lemmas.List.{length-map, length-take, length-drop, take_more_set, take-set, take-set-le, drop-set, drop-set-lt, drop-set-add}
-use Rattle.std.proofs.lemmas.Option.{slice_get_within}
-use denote.MutBor.{at_last}
-use Rattle.clru_list.specs.PlaceList.{PlaceList, with_entries, item_at, with_at, IsApart, place_after, place_before, first_place, last_place}
-use Rattle.clru_list.specs.Walks.{stretch, IsWindow}
-use Rattle.clru_list.specs.Cursors.{CanStep, Passes, PassesBack, cursor_rest, cursor_before, cursor_after, written, past_front, past_back, stepped, stepped_back}
-use Rattle.clru_list.specs.declared.cursor.FixedSizeListIterMut.{FixedSizeListIterMut}
-use Rattle.clru_list.proofs.Windows.{FrontEntry, BackEntry, front_entry, back_entry, differs, item_at-entry}
+use Rattle.clru_list.specs.PlaceList.{PlaceList, place_list, item_at, without, with_at, place_after, place_before}
+use Rattle.clru_list.specs.Links.{Links, put, count, IsLinked, IsHeld, IsSound, nowhere, place_of, walk, unlinked, linked, released, set_item, occupied, spot, IsEnd}
+use Rattle.clru_list.proofs.Puts.{split, decide, put-here, put-other}
+use Rattle.clru_list.proofs.Paths.{count-append, count-here, count-other, last_or, first_or, last_or-counted, first_or-counted, count-le-cons}
+use Rattle.clru_list.proofs.EntryLists.{Split, split_at, without-split, with_at-split, item_at-none, keys-split, keys-joined, first_place-is, place_after-split, place_before-split, reordered}
+use Rattle.clru_list.proofs.Rings.{next_is, prev_is, front_is, back_is}
+use Rattle.clru_list.proofs.Holding.{below, end_of, free_is, held-reorder, held-write}
+use Rattle.clru_list.proofs.Soundness.{IsLoose, link-loose, unlink-loose, release-loose, occupy-loose, no_nowhere, ring_once, end_at}
 
-module _ {T : Type 0} where
-  -- a write leaves the places
-  pub keys-with_at : (p : ℕ) (w : T) (es : List (ℕ × T)) → keys_of (with_at p w es) ≡ keys_of es
-  keys-with_at p w [] = refl
-  keys-with_at p w (e ∷ es) =
-      elim (p == e.0) as (λ b. keys_of (cond b ((e.0, w) ∷ es) (e ∷ with_at p w es)) ≡ e.0 ∷ keys_of es) [ true ↦ refl | false ↦ ap (λ l. e.0 ∷ l) (keys-with_at p w es) ]
+module _ {T : Type 0} (l : Links T) (len capacity places room : ℕ) (i : (es : List (ℕ × T)) × IsSound l len capacity places room es) where
+  -- another capacity
+  pub sound-resize : (c : ℕ) → len ≤ c → IsSound l len c places room i.0
+  sound-resize c fits = record { linked = i.1.linked; held = i.1.held; counted = i.1.counted; fits = fits; within = i.1.within; reserved = i.1.reserved; countable = i.1.countable }
 
-  -- a write at a place is one at the number of its entry
-  pub with_at-set : (es : List (ℕ × T)) (k : ℕ) (e : ℕ × T) (w : T) → IsApart es → slice_get es k ≡ Some e → with_at e.0 w es ≡ set es k (e.0, w)
-  with_at-set [] k e w apart at = cc
-  with_at-set (d ∷ es) zero e w apart at = let same : d ≡ e = cc in rw (same, eq-eqb e.0 e.0 refl) refl
-  with_at-set (d ∷ es) (suc k) e w apart at =
-      rw (differs d es e.0 e.1 apart.0 (item_at-entry es k e apart.1 at)) (ap (λ l. d ∷ l) (with_at-set es k e w apart.1 at))
+  -- more places
+  pub sound-grow : (more wide : ℕ) → places ≤ more → more ≤ wide → wide < 2 ^ 63 → IsSound l len capacity more wide i.0
+  sound-grow more wide grows reserved countable = record {
+    linked = i.1.linked; held = i.1.held; counted = i.1.counted; fits = i.1.fits; within = omega (arith, i.1.within); reserved = reserved; countable = countable }
 
-  pub length-stretch : (es : List (ℕ × T)) (done left : ℕ) → done + left ≤ length (keys_of es) → length (stretch done left es) ≡ left
-  length-stretch es done left fits = omega (arith, length-take left (drop done es), length-drop done es, length-map es (λ (e : ℕ × T). e.0))
+  module _ (p : ℕ) (x : T) (h : l.item p ≡ Some x) where
+    at_place : Split p x i.0
+    at_place = split_at p x i.0 (sym (i.1.held.live p) ∙ h)
 
-module _ {T A : Type 0} where
-  -- what a write at the front leaves of the cursor that was moved on
-  pub stepped-is : (c d : FixedSizeListIterMut T A) (p : ℕ) (w : T) → c.front ≡ Some p → d ≡ past_front c
-      → written d (Some p) w ≡ stepped c w
-  stepped-is c d p w front passed = ap (λ x. written x (Some p) w) passed ∙ ap (λ f. written (past_front c) f w) (sym front)
+    ring_split : IsLinked l.next l.prev (keys_of (at_place.before ++ (p, x) ∷ at_place.behind))
+    ring_split = let P : List (ℕ × T) → Type 0 = λ es. IsLinked l.next l.prev (keys_of es) in subst P at_place.is i.1.linked
 
-  pub stepped_back-is : (c d : FixedSizeListIterMut T A) (p : ℕ) (w : T) → c.back ≡ Some p → d ≡ past_back c
-      → written d (Some p) w ≡ stepped_back c w
-  stepped_back-is c d p w back passed = ap (λ x. written x (Some p) w) passed ∙ ap (λ f. written (past_back c) f w) (sym back)
+    held_split : IsHeld l.next l.item l.free l.size (at_place.before ++ (p, x) ∷ at_place.behind)
+    held_split = let P : List (ℕ × T) → Type 0 = λ es. IsHeld l.next l.item l.free l.size es in subst P at_place.is i.1.held
 
-  pub passes : (c : FixedSizeListIterMut T A) (w : T) → IsApart c.list.now.entries → (e : FrontEntry c.list.now.entries c.done c.left c.front c.back) → 0 < c.left
-      → Passes c e.item w (stepped c w)
-  passes c w apart e some =
-      let es = c.list.now.entries in
-      let new = (stepped c w).list.now.entries in
-      let now : new ≡ with_at e.place w es = ap (λ f. (option_map_or (λ p. with_entries c.list.now (with_at p w es)) f c.list.now).entries) e.stands in
-      let here : new ≡ set es c.done (e.place, w) = now ∙ with_at-set es c.done (e.place, e.item) w apart e.at in
-      let keys : keys_of new ≡ keys_of es = ap keys_of now ∙ keys-with_at e.place w es in
-      let front : (stepped c w).front ≡ place_after e.place es = ap (option_and_then (λ p. place_after p es)) e.stands in
-      let within = slice_get_within es c.done (e.place, e.item) e.at in
-      let same : c.done + 1 + (c.left - 1) ≡ c.done + c.left = omega arith in
-      record {
-        can = subst (λ k. IsWindow k (c.done + 1) (c.left - 1) (stepped c w).front c.back) (sym keys)
-            (subst (λ f. IsWindow (keys_of es) (c.done + 1) (c.left - 1) f c.back) (sym front) e.moved);
-        place = e.place;
-        rest = e.yields ∙ ap (λ l. (e.place, e.item) ∷ take (c.left - 1) l) (sym (ap (drop (c.done + 1)) here ∙ drop-set-lt (c.done + 1) es c.done (e.place, w) (omega arith)));
-        before = ap (take (c.done + 1)) here ∙ take_more_set es c.done (e.place, w) within;
-        after = ap (λ k. drop k new) same ∙ ap (drop (c.done + c.left)) here ∙ drop-set-lt (c.done + c.left) es c.done (e.place, w) (omega arith);
-      }
+    without_is : without p i.0 ≡ at_place.before ++ at_place.behind
+    without_is = ap (without p) at_place.is ∙ without-split p x at_place.before at_place.behind at_place.absent
 
-  pub passes_back : (c : FixedSizeListIterMut T A) (w : T) → IsApart c.list.now.entries → (e : BackEntry c.list.now.entries c.done c.left c.front c.back) → 0 < c.left
-      → PassesBack c e.item w (stepped_back c w)
-  passes_back c w apart e some =
-      let es = c.list.now.entries in
-      let new = (stepped_back c w).list.now.entries in
-      let at : c.done + c.left - 1 ≡ c.done + (c.left - 1) = omega arith in
-      let end : c.done + (c.left - 1) + 1 ≡ c.done + c.left = omega arith in
-      let stands = ap (slice_get es) (sym at) ∙ e.at in
-      let now : new ≡ with_at e.place w es = ap (λ f. (option_map_or (λ p. with_entries c.list.now (with_at p w es)) f c.list.now).entries) e.stands in
-      let here : new ≡ set es (c.done + (c.left - 1)) (e.place, w) = now ∙ with_at-set es (c.done + (c.left - 1)) (e.place, e.item) w apart stands in
-      let keys : keys_of new ≡ keys_of es = ap keys_of now ∙ keys-with_at e.place w es in
-      let back : (stepped_back c w).back ≡ place_before e.place es = ap (option_and_then (λ p. place_before p es)) e.stands in
-      let within = slice_get_within es (c.done + (c.left - 1)) (e.place, e.item) stands in
-      record {
-        can = subst (λ k. IsWindow k c.done (c.left - 1) c.front (stepped_back c w).back) (sym keys)
-            (subst (λ b. IsWindow (keys_of es) c.done (c.left - 1) c.front b) (sym back) e.moved);
-        place = e.place;
-        rest = e.yields ∙ ap (λ l. l ++ (e.place, e.item) ∷ [])
-            (sym (ap (λ l. take (c.left - 1) (drop c.done l)) here ∙ ap (take (c.left - 1)) (drop-set-add c.done es (c.left - 1) (e.place, w)) ∙ take-set (drop c.done es) (c.left - 1) (e.place, w)));
-        before = ap (take c.done) here ∙ take-set-le c.done es (c.done + (c.left - 1)) (e.place, w) (omega arith);
-        after = ap (drop (c.done + (c.left - 1))) here ∙ drop-set es (c.done + (c.left - 1)) (e.place, w) within ∙ ap (λ k. (e.place, w) ∷ drop k es) end;
-      }
+    ring_parts : IsLinked l.next l.prev (keys_of at_place.before ++ p ∷ keys_of at_place.behind)
+    ring_parts = let P : List ℕ → Type 0 = λ r. IsLinked l.next l.prev r in subst P (keys-split at_place.before at_place.behind p x) ring_split
+
+    keys_count : (k : ℕ) → count k (keys_of i.0) ≡ count k (keys_of at_place.before) + count k (p ∷ keys_of at_place.behind)
+    keys_count k = ap (λ es. count k (keys_of es)) at_place.is ∙ ap (count k) (keys-split at_place.before at_place.behind p x)
+        ∙ count-append k (keys_of at_place.before) (p ∷ keys_of at_place.behind)
+
+    pub place_below : p < l.size
+    place_below = let here = count-here p (keys_of at_place.behind) in below l.next l.item l.free l.size i.0 i.1.held p (omega (arith, keys_count p))
+
+    pub prev_end : IsEnd l (l.prev p)
+    prev_end = let P : ℕ → Type 0 = λ k. IsEnd l k in let k = last_or nowhere (keys_of at_place.before) in let last = last_or-counted nowhere (keys_of at_place.before) in
+        subst P (sym (prev_is l.next l.prev (keys_of at_place.before) p (keys_of at_place.behind) ring_parts))
+        (end_at l len capacity places room i.0 i.1 (last_or nowhere (keys_of at_place.before)) (omega (arith, keys_count (last_or nowhere (keys_of at_place.before)))))
+
+    pub next_end : IsEnd l (l.next p)
+    next_end = let P : ℕ → Type 0 = λ k. IsEnd l k in let first = first_or-counted nowhere (keys_of at_place.behind) in
+        let le = count-le-cons (first_or nowhere (keys_of at_place.behind)) p (keys_of at_place.behind) in
+        subst P (sym (next_is l.next l.prev (keys_of at_place.before) p (keys_of at_place.behind) ring_parts))
+        (end_at l len capacity places room i.0 i.1 (first_or nowhere (keys_of at_place.behind)) (omega (arith, keys_count (first_or nowhere (keys_of at_place.behind)))))
+
+    length_split : length i.0 ≡ suc (length (at_place.before ++ at_place.behind))
+    length_split = ap length at_place.is ∙ (reordered p x at_place.before at_place.behind at_place.absent).lengths
+
+    unlinked_loose : IsLoose (unlinked l p) p x (at_place.before ++ at_place.behind)
+    unlinked_loose = unlink-loose l p x at_place.before at_place.behind at_place.absent ring_split held_split
+
+    -- the item is out, and its place is free
+    pub sound-remove : IsSound (released (unlinked (set_item l p None) p) p) (len - 1) capacity places room (without p i.0)
+    sound-remove =
+        let done = release-loose (unlinked l p) p x (at_place.before ++ at_place.behind) unlinked_loose in
+        let P : List (ℕ × T) → Type 0 = λ es. IsSound (released (unlinked (set_item l p None) p) p) (len - 1) capacity places room es in
+        subst P (sym without_is) (record {
+          linked = done.0;
+          held = done.1;
+          counted = omega (arith, i.1.counted, length_split);
+          fits = omega (arith, i.1.fits);
+          within = i.1.within;
+          reserved = i.1.reserved;
+          countable = i.1.countable;
+        })
+
+    -- the links after the place is out lead somewhere
+    pub front_end : IsEnd (unlinked l p) ((unlinked l p).next nowhere)
+    front_end =
+        let es = at_place.before ++ at_place.behind in let loose = unlinked_loose in let P : ℕ → Type 0 = λ k. IsEnd (unlinked l p) k in
+        let first = first_or-counted nowhere (keys_of es) in
+        subst P (sym (front_is (unlinked l p).next (unlinked l p).prev (keys_of es) loose.linked))
+        (end_of (unlinked l p).next (unlinked l p).item (unlinked l p).free (unlinked l p).size ((p, x) ∷ es) loose.held (first_or nowhere (keys_of es)) (omega arith))
+
+    -- the item is at the front
+    pub sound-front : IsSound (linked (unlinked l p) nowhere p ((unlinked l p).next nowhere)) len capacity places room ((p, x) ∷ without p i.0)
+    sound-front =
+        let es = at_place.before ++ at_place.behind in let loose = unlinked_loose in
+        let done = link-loose (unlinked l p) p x nowhere ((unlinked l p).next nowhere) [] es refl (front_is (unlinked l p).next (unlinked l p).prev (keys_of es) loose.linked) loose in
+        let P : List (ℕ × T) → Type 0 = λ ds. IsSound (linked (unlinked l p) nowhere p ((unlinked l p).next nowhere)) len capacity places room ((p, x) ∷ ds) in
+        subst P (sym without_is) (record {
+          linked = done.0;
+          held = done.1;
+          counted = omega (arith, i.1.counted, length_split);
+          fits = i.1.fits;
+          within = i.1.within;
+          reserved = i.1.reserved;
+          countable = i.1.countable;
+        })
+
+    -- another item is at the place
+    pub sound-write : (w : T) → IsSound (set_item l p (Some w)) len capacity places room (with_at p w i.0)
+    sound-write w =
+        let bs = at_place.before in let cs = at_place.behind in
+        let P : List (ℕ × T) → Type 0 = λ es. IsSound (set_item l p (Some w)) len capacity places room es in
+        let Q : List ℕ → Type 0 = λ r. IsLinked l.next l.prev r in
+        let order = reordered p x bs cs at_place.absent in let back = reordered p w bs cs at_place.absent in
+        subst P (sym (ap (with_at p w) at_place.is ∙ with_at-split p x w bs cs at_place.absent)) (record {
+          linked = subst Q (sym (keys-split bs cs p w)) ring_parts;
+          held = held-reorder l.next (put l.item p (Some w)) l.free l.size ((p, w) ∷ (bs ++ cs)) (bs ++ (p, w) ∷ cs)
+              (record { items = λ k. sym (back.items k); counts = λ k. sym (back.counts k); lengths = sym back.lengths })
+              (held-write l.next l.item l.free l.size (bs ++ cs) p x w (held-reorder l.next l.item l.free l.size (bs ++ (p, x) ∷ cs) ((p, x) ∷ (bs ++ cs)) order held_split));
+          counted = omega (arith, i.1.counted, length_split, back.lengths);
+          fits = i.1.fits;
+          within = i.1.within;
+          reserved = i.1.reserved;
+          countable = i.1.countable;
+        })
+
+    none_nowhere : (count nowhere (keys_of at_place.before) ≡ 0) × (count nowhere (keys_of at_place.behind) ≡ 0)
+    none_nowhere = let n = no_nowhere l len capacity places room i.0 i.1 in (omega (arith, keys_count nowhere), omega (arith, keys_count nowhere))
+
+    pub next_place : place_of (l.next p) ≡ place_after p i.0
+    next_place = ap place_of (next_is l.next l.prev (keys_of at_place.before) p (keys_of at_place.behind) ring_parts) ∙ sym (first_place-is at_place.behind none_nowhere.1)
+        ∙ sym (ap (place_after p) at_place.is ∙ place_after-split p x at_place.before at_place.behind at_place.absent)
+
+    pub prev_place : place_of (l.prev p) ≡ place_before p i.0
+    prev_place = ap place_of (prev_is l.next l.prev (keys_of at_place.before) p (keys_of at_place.behind) ring_parts)
+        ∙ sym (ap (place_before p) at_place.is ∙ place_before-split nowhere p x at_place.before at_place.behind at_place.absent none_nowhere.0)
+
+  -- where an item goes there is none, and a node for it has memory
+  pub free_none : l.item l.free ≡ None
+  free_none = elim (free_is l.next l.item l.free l.size i.0 i.1.held) [
+    | inl e ↦ ap l.item e.0 ∙ i.1.held.live nowhere ∙ item_at-none nowhere i.0 (no_nowhere l len capacity places room i.0 i.1)
+    | inr e ↦ e.1
+  ]
+
+  pub free_end : IsEnd l l.free
+  free_end = elim (free_is l.next l.item l.free l.size i.0 i.1.held) [ inl e ↦ inl e.0 | inr e ↦ inr e.0 ]
+
+  pub free_room : len < places → l.free ≡ nowhere → l.size < room
+  free_room lt is = elim (free_is l.next l.item l.free l.size i.0 i.1.held) [
+    | inl e ↦ omega (arith, e.1, i.1.counted, i.1.reserved)
+    | inr e ↦ absurd (omega (arith, e.0, i.1.held.small))
+  ]
+
+  module _ (x : T) (lt : len < places) where
+    occupied_loose : IsLoose (occupied l x) (spot l) x i.0
+    occupied_loose = occupy-loose l x i.0 i.1.linked i.1.held (λ e. omega (arith, free_room lt e, i.1.countable))
+
+    pub spot_below : spot l < (occupied l x).size
+    spot_below = let here = count-here (spot l) (keys_of i.0) in
+        below (occupied l x).next (occupied l x).item (occupied l x).free (occupied l x).size ((spot l, x) ∷ i.0) occupied_loose.held (spot l) (omega arith)
+
+    occupied_within : (occupied l x).size ≤ places
+    occupied_within = decide nowhere l.free
+        (λ e t. rw t (elim (free_is l.next l.item l.free l.size i.0 i.1.held) [
+          | inl d ↦ omega (arith, d.1, i.1.counted)
+          | inr d ↦ absurd (omega (arith, d.0, i.1.held.small))
+        ]))
+        (λ _ f. rw f i.1.within)
+
+    pub occupied_front : IsEnd (occupied l x) ((occupied l x).next nowhere)
+    occupied_front = let loose = occupied_loose in let P : ℕ → Type 0 = λ k. IsEnd (occupied l x) k in let first = first_or-counted nowhere (keys_of i.0) in
+        subst P (sym (front_is (occupied l x).next (occupied l x).prev (keys_of i.0) loose.linked))
+        (end_of (occupied l x).next (occupied l x).item (occupied l x).free (occupied l x).size ((spot l, x) ∷ i.0) loose.held (first_or nowhere (keys_of i.0)) (omega arith))
+
+    pub occupied_back : IsEnd (occupied l x) ((occupied l x).prev nowhere)
+    occupied_back = let loose = occupied_loose in let P : ℕ → Type 0 = λ k. IsEnd (occupied l x) k in let last = last_or-counted nowhere (keys_of i.0) in
+        subst P (sym (back_is (occupied l x).next (occupied l x).prev (keys_of i.0) loose.linked))
+        (end_of (occupied l x).next (occupied l x).item (occupied l x).free (occupied l x).size ((spot l, x) ∷ i.0) loose.held (last_or nowhere (keys_of i.0)) (omega arith))
+
+    -- the item is pushed to the front
+    pub sound-push_front : len < capacity → IsSound (linked (occupied l x) nowhere (spot l) ((occupied l x).next nowhere)) (len + 1) capacity places room ((spot l, x) ∷ i.0)
+    sound-push_front fits =
+        let loose = occupied_loose in
+        let done = link-loose (occupied l x) (spot l) x nowhere ((occupied l x).next nowhere) [] i.0 refl (front_is (occupied l x).next (occupied l x).prev (keys_of i.0) loose.linked) loose in
+        record { linked = done.0; held = done.1; counted = omega (arith, i.1.counted); fits = omega arith; within = occupied_within; reserved = i.1.reserved; countable = i.1.countable }
+
+    -- the item is pushed to the back
+    pub sound-push_back : len < capacity → IsSound (linked (occupied l x) ((occupied l x).prev nowhere) (spot l) nowhere) (len + 1) capacity places room (i.0 ++ (spot l, x) ∷ [])
+    sound-push_back fits =
+        let P : List (ℕ × T) → Type 0 = λ es. IsLoose (occupied l x) (spot l) x es in
+        let loose = occupied_loose in
+        let done = link-loose (occupied l x) (spot l) x ((occupied l x).prev nowhere) nowhere i.0 [] (back_is (occupied l x).next (occupied l x).prev (keys_of i.0) loose.linked) refl
+        (subst P (sym (append-nil i.0)) loose) in
+        record { linked = done.0; held = done.1; counted = omega (arith, i.1.counted, length-append i.0 ((spot l, x) ∷ [])); fits = omega arith; within = occupied_within; reserved = i.1.reserved; countable = i.1.countable }

@@ -104,23 +104,27 @@ abbrev pub IsSpare : (ℕ → ℕ) → ℕ → List ℕ → Type 0
 IsSpare f at [] = at ≡ nowhere
 IsSpare f at (q ∷ qs) = (at ≡ q) × IsSpare f (f q) qs
 
+-- the places of a ring, after `nowhere`: forwards each link leads to the next, and backwards each leads to where it came from
+pub record IsLinked (next prev : ℕ → ℕ) (ring : List ℕ) : Type 0 where
+  pub forward : IsPath next nowhere ring nowhere
+  pub backward : (k : ℕ) → 0 < count k (nowhere ∷ ring) → prev (next k) ≡ k
+
 module _ {T : Type 0} where
-  -- the entries es are linked in their order, and out has the live ones that are not linked
-  pub record IsTied (l : Links T) (out es : List (ℕ × T)) : Type 0 where
+  -- the nodes hold these entries, in whatever order, and each other node is free
+  pub record IsHeld (next : ℕ → ℕ) (item : ℕ → Option T) (free size : ℕ) (all : List (ℕ × T)) : Type 0 where
     pub spare : List ℕ
-    pub forward : IsPath l.next nowhere (keys_of es) nowhere
-    pub backward : (k : ℕ) → 0 < count k (nowhere ∷ keys_of es) → l.prev (l.next k) ≡ k
-    pub live : (k : ℕ) → l.item k ≡ item_at k (out ++ es)
-    pub chained : IsSpare l.next l.free spare
-    -- each place is free once or live once
-    pub inside : (k : ℕ) → k < l.size → count k spare + count k (keys_of (out ++ es)) ≡ 1
-    pub outside : (k : ℕ) → l.size ≤ k → count k spare + count k (keys_of (out ++ es)) ≡ 0
-    pub total : length (out ++ es) + length spare ≡ l.size
-    pub small : l.size ≤ nowhere
+    pub live : (k : ℕ) → item k ≡ item_at k all
+    pub chained : IsSpare next free spare
+    -- each place is free once or held once
+    pub inside : (k : ℕ) → k < size → count k spare + count k (keys_of all) ≡ 1
+    pub outside : (k : ℕ) → size ≤ k → count k spare + count k (keys_of all) ≡ 0
+    pub total : length all + length spare ≡ size
+    pub small : size ≤ nowhere
 
   -- the entries of a list, with its fields and the room that the vector has
   pub record IsSound (l : Links T) (len capacity places room : ℕ) (es : List (ℕ × T)) : Type 0 where
-    pub tied : IsTied l [] es
+    pub linked : IsLinked l.next l.prev (keys_of es)
+    pub held : IsHeld l.next l.item l.free l.size es
     pub counted : len ≡ length es
     pub fits : len ≤ capacity
     pub within : l.size ≤ places

@@ -1,0 +1,77 @@
+-- What a list shows, from what its fields keep.
+use Rattle.std.proofs.Common.{◌≡◌, ℕ, suc, ◌+◌, ◌-◌, ◌<◌, ◌≤◌, ◌^◌, ◌⊎◌, inl, inr, Bool, true, false, cond, eqb, List, [], ◌∷◌, ◌++◌, length, Option, Some, None, IsSome, refl, sym, ap, ◌∙◌, arith, subst}
+use Rattle.std.specs.Option.{option_map}
+use Rattle.std.specs.Map.{keys_of}
+use Rattle.clru_list.specs.PlaceList.{PlaceList, place_list, with_entries, item_at, without, with_at, to_front, first_entry, last_entry, last_entry_from, first_place, last_place, place_after, place_before, place_before_from, IsApart, IsValid}
+use Rattle.clru_list.specs.Links.{Links, put, count, IsLinked, IsHeld, IsSound, nowhere, place_of, walk, unlinked, linked, released, set_item, occupied, spot, IsEnd}
+use Rattle.clru_list.proofs.Puts.{split, decide, put-here, put-other}
+use Rattle.clru_list.proofs.Paths.{count-append, count-here, count-other, last_or, first_or, last_or-counted, first_or-counted, apart_head, apart_tail}
+use Rattle.clru_list.proofs.EntryLists.{Split, split_at, without-split, with_at-split, item_at-none, item_at-here, item_at-other, item_at-in, absent, keys-split, keys-joined, first_place-is, place_after-split, place_before-split}
+use Rattle.clru_list.proofs.Rings.{next_is, prev_is, front_is, back_is}
+use Rattle.clru_list.proofs.Holding.{below, end_of, free_is}
+use Rattle.clru_list.proofs.Soundness.{walk-is, view-is, valid, ring_once, keys_once, no_nowhere, first_place_view, last_place_view, last_counted, first_counted, end_at, counted}
+
+module _ {T : Type 0} where
+  -- behind and before a place without an item there is none
+  pub place_after-none : (p : ℕ) (es : List (ℕ × T)) → item_at p es ≡ None → place_after p es ≡ None
+  place_after-none p [] h = refl
+  place_after-none p (e ∷ es) h =
+      split (eqb p e.0) (λ t. let same : Some e.1 ≡ None = rw t at h in absurd (cc)) (λ f. rw f (place_after-none p es (rw f at h)))
+
+  pub place_before-none : (o : Option ℕ) (p : ℕ) (es : List (ℕ × T)) → item_at p es ≡ None → place_before_from o p es ≡ None
+  place_before-none o p [] h = refl
+  place_before-none o p (e ∷ es) h =
+      split (eqb p e.0) (λ t. let same : Some e.1 ≡ None = rw t at h in absurd (cc)) (λ f. rw f (place_before-none (Some e.0) p es (rw f at h)))
+
+  last_item-from : (e : ℕ × T) (es : List (ℕ × T)) → ((k : ℕ) → count k (keys_of (e ∷ es)) ≤ 1)
+      → item_at (last_or e.0 (keys_of es)) (e ∷ es) ≡ option_map (λ d. d.1) (last_entry_from (Some e) es)
+  last_item-from e [] once = item_at-here e.0 e.1 []
+  last_item-from e (d ∷ es) once =
+      let last = last_or-counted d.0 (keys_of es) in
+      let ne : last_or d.0 (keys_of es) ≡ e.0 → ⊥ = λ h. let P : ℕ → Type 0 = λ k. 0 < count k (keys_of (d ∷ es)) in
+      let held = subst P h last in let here = count-here e.0 (keys_of (d ∷ es)) in absurd (omega (arith, once e.0)) in
+      item_at-other (last_or d.0 (keys_of es)) e.0 e.1 (d ∷ es) ne ∙ last_item-from d es (λ k. omega (arith, once k))
+
+  -- the item at the last place
+  pub last_item : (es : List (ℕ × T)) → ((k : ℕ) → count k (keys_of es) ≤ 1) → item_at (last_or nowhere (keys_of es)) es ≡ option_map (λ d. d.1) (last_entry es)
+  last_item [] once = refl
+  last_item (e ∷ es) once = last_item-from e es once
+
+  -- the item at the first place
+  pub first_item : (es : List (ℕ × T)) → item_at (first_or nowhere (keys_of es)) es ≡ option_map (λ d. d.1) (first_entry es)
+  first_item [] = refl
+  first_item (e ∷ es) = item_at-here e.0 e.1 es
+
+  module _ (l : Links T) (len capacity places room : ℕ) (i : (es : List (ℕ × T)) × IsSound l len capacity places room es) where
+    module _ (now : PlaceList T) (h : place_list (walk l (l.next nowhere) len) capacity places ≡ now) where
+      -- what is seen is the entries, with the fields
+      pub seen : now ≡ place_list i.0 capacity places
+      seen = sym h ∙ view-is l len capacity places room i.0 i.1
+
+      pub seen_entries : now.entries ≡ i.0
+      seen_entries = ap (λ n. n.entries) seen
+
+      pub seen_valid : IsValid now
+      seen_valid = subst IsValid (sym seen) (valid l len capacity places room i.0 i.1)
+
+      pub seen_item : (p : ℕ) → l.item p ≡ item_at p now.entries
+      seen_item p = i.1.held.live p ∙ ap (item_at p) (sym seen_entries)
+
+      pub seen_front : l.item (l.next nowhere) ≡ option_map (λ e. e.1) (first_entry now.entries)
+      seen_front = ap l.item (front_is l.next l.prev (keys_of i.0) i.1.linked) ∙ i.1.held.live _ ∙ first_item i.0
+          ∙ ap (λ es. option_map (λ e. e.1) (first_entry es)) (sym seen_entries)
+
+      pub seen_back : l.item (l.prev nowhere) ≡ option_map (λ e. e.1) (last_entry now.entries)
+      seen_back = ap l.item (back_is l.next l.prev (keys_of i.0) i.1.linked) ∙ i.1.held.live _
+          ∙ last_item i.0 (keys_once l len capacity places room i.0 i.1) ∙ ap (λ es. option_map (λ e. e.1) (last_entry es)) (sym seen_entries)
+
+      pub seen_first : place_of (l.next nowhere) ≡ first_place now.entries
+      seen_first = first_place_view l len capacity places room i.0 i.1 ∙ ap first_place (sym seen_entries)
+
+      pub seen_last : place_of (l.prev nowhere) ≡ last_place now.entries
+      seen_last = last_place_view l len capacity places room i.0 i.1 ∙ ap last_place (sym seen_entries)
+
+    -- a held place has a node, and its neighbours can be written
+    pub held_below : (p : ℕ) → IsSome (l.item p) → p < l.size
+    held_below p some = let P : Option T → Type 0 = λ o. IsSome o in
+        below l.next l.item l.free l.size i.0 i.1.held p (counted p i.0 (subst P (i.1.held.live p) some))

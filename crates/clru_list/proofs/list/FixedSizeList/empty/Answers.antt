@@ -1,0 +1,10 @@
+use Rattle.std.proofs.Common.{rules, ◌≡◌, ◌<◌, ◌↔◌, ◌^◌, [], length, min, IfOk, OnOk, IsOk, IsTrue, option_copied, vec_capacity, ℕ, ◌+◌, ◌-◌, ◌*◌, ◌≤◌, ◌/◌, ◌%◌, Bool, true, false, nat_eq, nat_lt, List, ◌∷◌, ◌++◌, slice_index_or, slice_set, bit_and, bit_or, Fits, w8, w32, w64, Bor, MutBor}
+use Rattle.std.specs.Option.{option_map}
+use Rattle.std.specs.Borrow.{sem}
+use Rattle.clru_list.specs.Links.{place_of}
+use Rattle.clru_list.specs.PlaceList.{place_list, item_at, first_entry, last_entry, first_place, last_place, place_after, place_before, IsValid}
+use Rattle.clru_list.proofs.list.FixedSizeList.empty.Goals as goal
+
+-- src/list.rt:66:5
+pub invariant_of-result : goal.invariant_of-result
+invariant_of-result g c = ?

@@ -1,0 +1,22 @@
+use Rattle.std.proofs.Common.{rules, ◌≡◌, ◌<◌, ◌↔◌, ◌^◌, [], length, min, IfOk, OnOk, IsOk, IsTrue, option_copied, vec_capacity, ℕ, ◌+◌, ◌-◌, ◌*◌, ◌≤◌, ◌/◌, ◌%◌, Bool, true, false, nat_eq, nat_lt, List, ◌∷◌, ◌++◌, slice_index_or, slice_set, bit_and, bit_or, Fits, w8, w32, w64, Bor, MutBor}
+use Rattle.std.specs.Option.{option_map}
+use Rattle.std.specs.Borrow.{sem}
+use Rattle.clru_list.specs.Links.{place_of}
+use Rattle.clru_list.specs.PlaceList.{place_list, item_at, first_entry, last_entry, first_place, last_place, place_after, place_before, IsValid}
+use Rattle.clru_list.proofs.list.FixedSizeList.prev_idx.Goals as goal
+
+-- src/list.rt:171:9
+pub returns-in_err-item-clause-place : goal.returns-in_err-item-clause-place
+returns-in_err-item-clause-place g c = ?
+
+-- src/list.rt:171:9
+pub returns-in_err-item-clause-valid : goal.returns-in_err-item-clause-valid
+returns-in_err-item-clause-valid g c = ?
+
+-- src/list.rt:167:5
+pub returns-clause-place : goal.returns-clause-place
+returns-clause-place g c = ?
+
+-- src/list.rt:167:5
+pub returns-clause-valid : goal.returns-clause-valid
+returns-clause-valid g c = ?
