@@ -1,6 +1,6 @@
 //! The iterator over the places and the items of a list, from both ends.
-ghost use Rattle.std.specs.Prelude.{◌≡◌, length, Some, ⊤};
-ghost use Rattle.std.specs.Iterator.{YieldsFirstBy, YieldsLastBy, item_count};
+ghost use Rattle.std.specs.Prelude.{◌≡◌, length, Some, IfSome, ⊤};
+ghost use Rattle.std.specs.Iterator.{IsWithinCount, UpTo, YieldsFirstBy, YieldsLastBy, at_most, item_count};
 
 use crate::list::FixedSizeList;
 use std::alloc::{AllocError, Allocator, Global};
@@ -55,6 +55,8 @@ impl<'a, T, A: Allocator + Copy> Iterator for FixedSizeListIter<'a, T, A> {
     }
 
     fn size_hint(&self) -> (usize, Option<usize>)
+        ensures lower { IsWithinCount result.0 (at_most (length self.now)) }
+        ensures upper { IfSome result.1 (UpTo (at_most (length self.now))) }
         ensures value { result ≡ (length self.now, Some (length self.now)) }
     {
         (self.left, Some(self.left))

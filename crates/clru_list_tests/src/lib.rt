@@ -1,0 +1,4 @@
+//! Tests of `clru_list` by its public calls alone. A crate with tests is proved twice, so they stand in one of their own.
+#![tactic(auto)]
+
+pub mod callers;
