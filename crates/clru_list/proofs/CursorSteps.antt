@@ -1,5 +1,5 @@
 -- The list once a cursor has passed an entry, with what was written there.
-use Rattle.std.proofs.Common.{◌≡◌, ℕ, zero, suc, ◌+◌, ◌-◌, ◌<◌, ◌≤◌, ◌==◌, cond, true, false, List, [], ◌∷◌, ◌++◌, length, set, take, drop, refl, sym, ap, ◌∙◌, subst, arith, add-one, slice_get, Some, Option}
+use Rattle.std.proofs.Common.{◌≡◌, ℕ, zero, suc, ◌+◌, ◌-◌, ◌<◌, ◌≤◌, ◌==◌, cond, true, false, List, [], ◌∷◌, ◌++◌, length, set, take, drop, refl, sym, ap, ◌∙◌, subst, arith, add-one, slice_get, Some, None, Option}
 use Rattle.std.specs.Option.{option_map_or, option_and_then}
 use Rattle.std.specs.Map.{keys_of}
 use Rattle.std.proofs.lemmas.Bool.{eq-eqb}
@@ -25,6 +25,12 @@ module _ {T : Type 0} where
   with_at-set (d ∷ es) zero e w apart at = let same : d ≡ e = cc in rw (same, eq-eqb e.0 e.0 refl) refl
   with_at-set (d ∷ es) (suc k) e w apart at =
       rw (differs d es e.0 e.1 apart.0 (item_at-entry es k e apart.1 at)) (ap (λ l. d ∷ l) (with_at-set es k e w apart.1 at))
+
+  -- a write leaves the capacity and the places
+  written-list : (l : PlaceList T) (place : Option ℕ) (w : T)
+      → let d = option_map_or (λ p. with_entries l (with_at p w l.entries)) place l in d ≡ with_entries l d.entries
+  written-list l None w = refl
+  written-list l (Some p) w = refl
 
   pub length-stretch : (es : List (ℕ × T)) (done left : ℕ) → done + left ≤ length (keys_of es) → length (stretch done left es) ≡ left
   length-stretch es done left fits = omega (arith, length-take left (drop done es), length-drop done es, length-map es (λ (e : ℕ × T). e.0))
@@ -57,6 +63,7 @@ module _ {T A : Type 0} where
         rest = e.yields ∙ ap (λ l. (e.place, e.item) ∷ take (c.left - 1) l) (sym (ap (drop (c.done + 1)) here ∙ drop-set-lt (c.done + 1) es c.done (e.place, w) (omega arith)));
         before = ap (take (c.done + 1)) here ∙ take_more_set es c.done (e.place, w) within;
         after = ap (λ k. drop k new) same ∙ ap (drop (c.done + c.left)) here ∙ drop-set-lt (c.done + c.left) es c.done (e.place, w) (omega arith);
+        list = written-list c.list.now c.front w;
       }
 
   pub passes_back : (c : FixedSizeListIterMut T A) (w : T) → IsApart c.list.now.entries → (e : BackEntry c.list.now.entries c.done c.left c.front c.back) → 0 < c.left
@@ -80,4 +87,5 @@ module _ {T A : Type 0} where
             (sym (ap (λ l. take (c.left - 1) (drop c.done l)) here ∙ ap (take (c.left - 1)) (drop-set-add c.done es (c.left - 1) (e.place, w)) ∙ take-set (drop c.done es) (c.left - 1) (e.place, w)));
         before = ap (take c.done) here ∙ take-set-le c.done es (c.done + (c.left - 1)) (e.place, w) (omega arith);
         after = ap (drop (c.done + (c.left - 1))) here ∙ drop-set es (c.done + (c.left - 1)) (e.place, w) within ∙ ap (λ k. (e.place, w) ∷ drop k es) end;
+        list = written-list c.list.now c.back w;
       }

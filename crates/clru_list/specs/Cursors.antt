@@ -71,6 +71,7 @@ module _ {T A : Type 0} where
     pub rest : cursor_rest c ≡ (place, x) ∷ cursor_rest d
     pub before : cursor_before d ≡ cursor_before c ++ (place, w) ∷ []
     pub after : cursor_after d ≡ cursor_after c
+    pub list : cursor_list d ≡ with_entries (cursor_list c) (cursor_list d).entries
 
   -- d has passed the last entry that c has left, where x was and w is
   pub record PassesBack (c : FixedSizeListIterMut T A) (x w : T) (d : FixedSizeListIterMut T A) : Type 0 where
@@ -79,6 +80,7 @@ module _ {T A : Type 0} where
     pub rest : cursor_rest c ≡ cursor_rest d ++ (place, x) ∷ []
     pub before : cursor_before d ≡ cursor_before c
     pub after : cursor_after d ≡ (place, w) ∷ cursor_after c
+    pub list : cursor_list d ≡ with_entries (cursor_list c) (cursor_list d).entries
 
 module _ (T A : RattleType) (heap : alloc.Ghosts A.Denot) (c : MutBor (FixedSizeListIterMut T.Denot A.Denot)) where
   -- the cursor is past the first entry that it had left, which has the last item written through r

@@ -1,5 +1,5 @@
 //! Callers that are proved over the contracts of the list alone.
-ghost use Rattle.std.specs.Prelude.{◌≡◌, ◌/◌, ◌∷◌, ◌++◌, [], map, IfOk};
+ghost use Rattle.std.specs.Prelude.{◌≡◌, ◌+◌, ◌/◌, ◌^◌, ◌<◌, ◌∷◌, ◌++◌, [], map, IfOk};
 ghost use Rattle.clru_list.specs.PlaceList.{with_entries};
 
 use clru_list::{FixedSizeList, PushError};
@@ -28,12 +28,18 @@ pub fn halve_by_both_ends(list: &mut FixedSizeList<u64>)
     }
 }
 
-/// Pushes two items to the back, and then brings the first of them to the front, by the place that it kept.
-pub fn push_and_lift(list: &mut FixedSizeList<u64>, lifted: u64, other: u64) -> Result<(usize, usize), PushError<u64>>
-    ensures { IfOk result (λ places. list.new.entries ≡ (places.0, lifted) ∷ (list.old.entries ++ (places.1, other) ∷ [])) }
+/// Pushes two items to the back, and then brings the first of them to the front, by the place that it kept, and adds to it.
+pub fn push_and_lift(list: &mut FixedSizeList<u64>, item: u64, other: u64) -> Result<(usize, usize), PushError<u64>>
+    requires { item < 2 ^ 63 }
+    ensures { IfOk result (λ places. list.new.entries ≡ (places.0, item + 1) ∷ (list.old.entries ++ (places.1, other) ∷ [])) }
 {
-    let place = list.push_back(lifted)?;
+    let place = list.push_back(item)?;
     let behind = list.push_back(other)?;
-    list.move_front(place);
-    Ok((place, behind))
+    match list.move_front(place) {
+        Some(lifted) => {
+            *lifted += 1;
+            Ok((place, behind))
+        }
+        None => unreachable!(),
+    }
 }
