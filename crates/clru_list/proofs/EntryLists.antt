@@ -1,5 +1,5 @@
 -- Entries by the place of one of them.
-use Rattle.std.proofs.Common.{◌≡◌, ℕ, suc, ◌+◌, ◌<◌, ◌≤◌, Bool, true, false, cond, eqb, List, [], ◌∷◌, ◌++◌, length, map, Option, Some, None, refl, sym, ap, ◌∙◌, arith, subst}
+use Rattle.std.proofs.Common.{◌≡◌, ℕ, suc, ◌+◌, ◌<◌, ◌≤◌, Bool, true, false, cond, eqb, List, [], ◌∷◌, ◌++◌, length, map, drop, Option, Some, None, IsSome, refl, sym, ap, ◌∙◌, arith, subst}
 use Rattle.std.proofs.lemmas.List.{map-append, length-append}
 use Rattle.std.specs.Option.{option_map}
 use Rattle.std.specs.Map.{keys_of}
@@ -132,3 +132,61 @@ module _ {T : Type 0} where
   apart_from_counts (e ∷ es) once =
       let here = count-here e.0 (keys_of es) in
       (item_at-none e.0 es (omega (arith, once e.0)), apart_from_counts es (λ k. omega (arith, once k)))
+
+  -- no entry is at the place, so none goes
+  pub without-none : (p : ℕ) (es : List (ℕ × T)) → item_at p es ≡ None → without p es ≡ es
+  without-none p [] h = refl
+  without-none p (e ∷ es) h =
+      split (eqb p e.0) (λ t. let same : Some e.1 ≡ None = rw t at h in absurd (cc)) (λ f. rw f (ap (λ l. e ∷ l) (without-none p es (rw f at h))))
+
+  -- the first entry goes
+  pub without-first : (es : List (ℕ × T)) → without (first_or nowhere (keys_of es)) es ≡ drop 1 es
+  without-first [] = refl
+  without-first (e ∷ es) = decide e.0 e.0 (λ _ t. rw t refl) (λ ne _. absurd (ne refl))
+
+  -- the entries before the last one
+  pub record IsLast (p : ℕ) (es : List (ℕ × T)) : Type 0 where
+    pub before : List (ℕ × T)
+    pub item : T
+    pub is : es ≡ before ++ (p, item) ∷ []
+    pub absent : count p (keys_of before) ≡ 0
+
+  last_is-from : (p : ℕ) (e : ℕ × T) (es : List (ℕ × T)) → IsApart (e ∷ es) → option_map (λ d. d.0) (last_entry_from (Some e) es) ≡ Some p → IsLast p (e ∷ es)
+  last_is-from p e [] apart h = let same : e.0 ≡ p = cc in record { before = []; item = e.1; is = λ i. (same i, e.1) ∷ []; absent = refl }
+  last_is-from p e (d ∷ es) apart h =
+      let rest = last_is-from p d es apart.1 h in
+      let ne : p ≡ e.0 → ⊥ = λ same. let none = absent e.0 (d ∷ es) apart.0 in
+      let all = ap (λ l. count e.0 (keys_of l)) rest.is ∙ ap (count e.0) (keys-split rest.before [] p rest.item) ∙ count-append e.0 (keys_of rest.before) (p ∷ []) in
+      let here = count-other e.0 p [] in
+      let P : ℕ → Type 0 = λ k. count e.0 (k ∷ []) ≡ 1 in let one = subst P (sym same) (count-here e.0 []) in
+      absurd (omega arith) in
+      record { before = e ∷ rest.before; item = rest.item; is = ap (λ l. e ∷ l) rest.is; absent = count-other p e.0 (keys_of rest.before) ne ∙ rest.absent }
+
+  -- the last place ends the entries
+  pub last_is : (p : ℕ) (es : List (ℕ × T)) → IsApart es → last_place es ≡ Some p → IsLast p es
+  last_is p [] apart h = absurd (cc)
+  last_is p (e ∷ es) apart h = last_is-from p e es apart h
+
+  last_from-append : (o : Option (ℕ × T)) (bs : List (ℕ × T)) (e : ℕ × T) → last_entry_from o (bs ++ e ∷ []) ≡ Some e
+  last_from-append o [] e = refl
+  last_from-append o (b ∷ bs) e = last_from-append (Some b) bs e
+
+  pub last_entry-append : (bs : List (ℕ × T)) (e : ℕ × T) → last_entry (bs ++ e ∷ []) ≡ Some e
+  last_entry-append bs e = last_from-append None bs e
+
+  pub with_last-append : (w : T) (bs : List (ℕ × T)) (e : ℕ × T) → with_last w (bs ++ e ∷ []) ≡ bs ++ (e.0, w) ∷ []
+  with_last-append w [] e = refl
+  with_last-append w (b ∷ []) e = refl
+  with_last-append w (b ∷ (d ∷ bs)) e = ap (λ l. b ∷ l) (with_last-append w (d ∷ bs) e)
+
+  -- another item at the last place
+  pub with_at-last : (p : ℕ) (w : T) (es : List (ℕ × T)) → IsLast p es → with_at p w es ≡ with_last w es
+  with_at-last p w es last = ap (with_at p w) last.is ∙ with_at-split p last.item w last.before [] last.absent
+      ∙ sym (ap (with_last w) last.is ∙ with_last-append w last.before (p, last.item))
+
+  pub item_at-last : (p : ℕ) (es : List (ℕ × T)) → IsLast p es → item_at p es ≡ option_map (λ d. d.1) (last_entry es)
+  item_at-last p es last = ap (item_at p) last.is ∙ item_at-in p last.item last.before [] last.absent
+      ∙ sym (ap (λ l. option_map (λ d. d.1) (last_entry l)) last.is ∙ ap (option_map (λ d. d.1)) (last_entry-append last.before (p, last.item)))
+
+  pub last_some : (p : ℕ) (es : List (ℕ × T)) → IsLast p es → IsSome (item_at p es)
+  last_some p es last = rw (ap (item_at p) last.is ∙ item_at-in p last.item last.before [] last.absent) refl

@@ -1,6 +1,7 @@
 pub mod CallerLemmas
 pub mod CursorSteps
 pub mod EntryLists
+pub mod Growing
 pub mod Holding
 pub mod NodeLemmas
 pub mod Paths

@@ -3,7 +3,8 @@ use Rattle.std.proofs.Common.{◌≡◌, ℕ, ◌<◌, Bool, true, false, cond, 
 use Rattle.std.proofs.lemmas.Bool.{eqb-true, eqb-false, eq-eqb, ne_eqb}
 use Rattle.std.proofs.lemmas.List.{map-set, map-append, get_or-set_same, get_or-set_other, get_or-append_right, get_or_append_left}
 use mathlib.Core.Path.{fun_ext}
-use Rattle.clru_list.specs.Links.{put}
+use Rattle.std.specs.Prelude.{Option}
+use Rattle.clru_list.specs.Links.{put, Links, set_item}
 
 -- the two cases of a test
 pub split : {G : Type 0} (b : Bool) → (b ≡ true → G) → (b ≡ false → G) → G
@@ -31,3 +32,7 @@ module _ {X : Type 0} where
       fun_ext (λ k. decide a k
       (λ e t. decide b k (λ d _. absurd (ne (e ∙ sym d))) (λ _ n. rw (t, n) refl))
       (λ _ n. rw n refl))
+
+-- the item that is there already
+pub set_item-same : {T : Type 0} (l : Links T) (at : ℕ) (x : Option T) → l.item at ≡ x → set_item l at x ≡ l
+set_item-same l at x h = λ i. record l { item = put-same l.item at x h i }

@@ -1,9 +1,15 @@
 -- What a list shows, from what its fields keep.
 use Rattle.std.proofs.Common.{◌≡◌, ℕ, suc, ◌+◌, ◌-◌, ◌<◌, ◌≤◌, ◌^◌, ◌⊎◌, inl, inr, Bool, true, false, cond, eqb, List, [], ◌∷◌, ◌++◌, length, Option, Some, None, IsSome, refl, sym, ap, ◌∙◌, arith, subst}
-use Rattle.std.specs.Option.{option_map}
+use Rattle.std.specs.Option.{option_map, option_map_or}
 use Rattle.std.specs.Map.{keys_of}
 use Rattle.clru_list.specs.PlaceList.{PlaceList, place_list, with_entries, item_at, without, with_at, to_front, first_entry, last_entry, last_entry_from, first_place, last_place, place_after, place_before, place_before_from, IsApart, IsValid}
-use Rattle.clru_list.specs.Links.{Links, put, count, IsLinked, IsHeld, IsSound, nowhere, place_of, walk, unlinked, linked, released, set_item, occupied, spot, IsEnd}
+use Rattle.std.specs.Prelude.{vec_len, vec_capacity, slice_index_or as get_or}
+use Rattle.std.specs.Vec.{with_item}
+use Rattle.clru_list.specs.declared.chain.Chain.{Chain}
+use Rattle.clru_list.specs.declared.chain.Node.{Node}
+use Rattle.clru_list.proofs.NodeLemmas.{links_of-set_item}
+use Rattle.clru_list.proofs.Steps.{place_below, sound-write}
+use Rattle.clru_list.specs.Links.{Links, links_of, put, count, IsLinked, IsHeld, IsSound, nowhere, place_of, walk, unlinked, linked, released, set_item, occupied, spot, IsEnd}
 use Rattle.clru_list.proofs.Puts.{split, decide, put-here, put-other}
 use Rattle.clru_list.proofs.Paths.{count-append, count-here, count-other, last_or, first_or, last_or-counted, first_or-counted, apart_head, apart_tail}
 use Rattle.clru_list.proofs.EntryLists.{Split, split_at, without-split, with_at-split, item_at-none, item_at-here, item_at-other, item_at-in, absent, keys-split, keys-joined, first_place-is, place_after-split, place_before-split}
@@ -61,6 +67,9 @@ module _ {T : Type 0} where
       seen_front = ap l.item (front_is l.next l.prev (keys_of i.0) i.1.linked) ∙ i.1.held.live _ ∙ first_item i.0
           ∙ ap (λ es. option_map (λ e. e.1) (first_entry es)) (sym seen_entries)
 
+      pub front_place : l.next nowhere ≡ first_or nowhere (keys_of now.entries)
+      front_place = front_is l.next l.prev (keys_of i.0) i.1.linked ∙ ap (λ es. first_or nowhere (keys_of es)) (sym seen_entries)
+
       pub seen_back : l.item (l.prev nowhere) ≡ option_map (λ e. e.1) (last_entry now.entries)
       seen_back = ap l.item (back_is l.next l.prev (keys_of i.0) i.1.linked) ∙ i.1.held.live _
           ∙ last_item i.0 (keys_once l len capacity places room i.0 i.1) ∙ ap (λ es. option_map (λ e. e.1) (last_entry es)) (sym seen_entries)
@@ -75,3 +84,42 @@ module _ {T : Type 0} where
     pub held_below : (p : ℕ) → IsSome (l.item p) → p < l.size
     held_below p some = let P : Option T → Type 0 = λ o. IsSome o in
         below l.next l.item l.free l.size i.0 i.1.held p (counted p i.0 (subst P (i.1.held.live p) some))
+
+  pub some_item : (o : Option T) → IsSome o → (x : T) × (o ≡ Some x)
+  some_item None some = absurd (cc)
+  some_item (Some x) some = (x, refl)
+
+  module _ (l : Links T) (len capacity places room : ℕ) (i : (es : List (ℕ × T)) × IsSound l len capacity places room es)
+      (now : PlaceList T) (h : place_list (walk l (l.next nowhere) len) capacity places ≡ now) where
+    -- the item that is seen at a place is there
+    pub held_item : (p : ℕ) → IsSome (item_at p now.entries) → (x : T) × (l.item p ≡ Some x)
+    held_item p some = let it = some_item (item_at p now.entries) some in (it.0, seen_item l len capacity places room i now h p ∙ it.1)
+
+    pub seen_length : len ≡ length now.entries
+    seen_length = i.1.counted ∙ ap length (sym (seen_entries l len capacity places room i now h))
+
+    pub seen_with : (change : List (ℕ × T) → List (ℕ × T)) → with_entries now (change now.entries) ≡ place_list (change i.0) capacity places
+    seen_with change = ap (λ n. with_entries n (change n.entries)) (seen l len capacity places room i now h)
+
+    pub seen_to_front : (p : ℕ) (x : T) → l.item p ≡ Some x → with_entries now (to_front p now.entries) ≡ place_list ((p, x) ∷ without p i.0) capacity places
+    seen_to_front p x is = seen_with (to_front p)
+        ∙ ap (λ o. place_list (option_map_or (λ y. (p, y) ∷ without p i.0) o i.0) capacity places) (sym (i.1.held.live p) ∙ is)
+
+  -- the same fact of equal links, in memory of the same size
+  pub sound-at : (l m : Links T) (len capacity places room wide : ℕ) (es : List (ℕ × T)) → m ≡ l → wide ≡ room → IsSound l len capacity places room es
+      → IsSound m len capacity places wide es
+  sound-at l m len capacity places room wide es links memory s =
+      let P : Links T → Type 0 = λ k. IsSound k len capacity places room es in let Q : ℕ → Type 0 = λ r. IsSound m len capacity places r es in
+      subst Q (sym memory) (subst P (sym links) s)
+
+module _ {T A : Type 0} (c : Chain T A) (len capacity places : ℕ)
+    (i : (es : List (ℕ × T)) × IsSound (links_of c) len capacity places (vec_capacity c.nodes) es) (p : ℕ) (x : T) (h : (links_of c).item p ≡ Some x)
+    (n : Node T) (is : n ≡ get_or c.nodes.items p n) where
+  -- another item is written into the node of a place
+  pub sound-write_node : (w : T)
+      → IsSound (links_of (record c { nodes = with_item c.nodes p (record n { item = Some w }) })) len capacity places (vec_capacity c.nodes) (with_at p w i.0)
+  sound-write_node w =
+      let below : p < vec_len c.nodes = place_below (links_of c) len capacity places (vec_capacity c.nodes) i p x h in let small = c.nodes.small in let ok = c.nodes.ok in
+      sound-at (set_item (links_of c) p (Some w)) _ len capacity places (vec_capacity c.nodes) (vec_capacity c.nodes) _
+      (links_of-set_item c p n below (λ e. absurd (omega arith)) is (Some w)) refl
+      (sound-write (links_of c) len capacity places (vec_capacity c.nodes) i p x h w)

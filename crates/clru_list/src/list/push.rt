@@ -26,9 +26,9 @@ impl<T, A: Allocator + Copy> FixedSizeList<T, A> {
         }
         let places = grown(self.places, self.capacity);
         let more = places - self.chain.nodes.len();
-        if self.chain.nodes.reserve_exact(more).is_err() {
+        let Ok(()) = self.chain.nodes.reserve_exact(more) else {
             return Err(NoMemory);
-        }
+        };
         self.places = places;
         Ok(())
     }
@@ -46,9 +46,9 @@ impl<T, A: Allocator + Copy> FixedSizeList<T, A> {
         if self.len == self.capacity {
             return Err(PushError::Full(item));
         }
-        if self.make_ready().is_err() {
+        let Ok(()) = self.make_ready() else {
             return Err(PushError::NoMemory(item));
-        }
+        };
         let place = self.chain.occupy(item);
         let front = self.chain.front;
         self.chain.link(NOWHERE, place, front);
@@ -69,9 +69,9 @@ impl<T, A: Allocator + Copy> FixedSizeList<T, A> {
         if self.len == self.capacity {
             return Err(PushError::Full(item));
         }
-        if self.make_ready().is_err() {
+        let Ok(()) = self.make_ready() else {
             return Err(PushError::NoMemory(item));
-        }
+        };
         let place = self.chain.occupy(item);
         let back = self.chain.back;
         self.chain.link(back, place, NOWHERE);

@@ -1,14 +1,15 @@
-use Rattle.std.proofs.Common.{rules, ◌≡◌, IsSome, Some, ℕ, ◌+◌, ◌-◌, ◌*◌, ◌<◌, ◌≤◌, length, ◌/◌, ◌%◌, Bool, true, false, nat_eq, nat_lt, List, [], ◌∷◌, ◌++◌, slice_index_or, slice_set, bit_and, bit_or, Fits, w8, w32, w64, Bor, MutBor}
-use Rattle.std.specs.Option.{option_map, option_copied_mut}
-use Rattle.std.specs.Borrow.{sem}
-use Rattle.clru_list.specs.PlaceList.{with_entries, item_at, to_front, first_entry, last_entry, IsValid}
-use Rattle.clru_list.specs.Lends.{lends_item, lends_held, lends_moved, lends_first, lends_last}
+use Rattle.std.proofs.Common.{sym, ap, ◌∙◌, inl}
+use Rattle.clru_list.specs.PlaceList.{with_entries}
+use Rattle.clru_list.proofs.EntryLists.{last_is, last_some, with_at-last, item_at-last}
+use mathlib.Core.Path.{fun_ext}
 use Rattle.clru_list.proofs.list.FixedSizeList.back_mut.Goals as goal
 
--- src/list/order.rt:43:14
 pub item_mut-requires : goal.item_mut-requires
-item_mut-requires g c = ?
+item_mut-requires g c =
+    let e = c.in_ok-back.ensures in last_some c.in_ok-back.back c.args.self.now.entries (last_is c.in_ok-back.back c.args.self.now.entries e.valid.apart (sym e.place))
 
--- src/list/order.rt:37:5
 pub returns : goal.returns
-returns g c = ?
+returns g c =
+    let e = c.in_ok-back.ensures in let b = c.in_ok-back.back in let es = c.args.self.now.entries in let last = last_is b es e.valid.apart (sym e.place) in
+    (ap (λ f. inl (c.item_mut.result.ghost_name, f)) (fun_ext (λ w. ap (with_entries c.args.self.now) (with_at-last b w es last))),
+    record { lends = tt; value = sym c.item_mut.ensures.value ∙ item_at-last b es last; valid = e.valid })

@@ -1,34 +1,41 @@
-use Rattle.std.proofs.Common.{rules, ◌≡◌, IsSome, Some, ℕ, ◌+◌, ◌-◌, ◌*◌, ◌<◌, ◌≤◌, length, ◌/◌, ◌%◌, Bool, true, false, nat_eq, nat_lt, List, [], ◌∷◌, ◌++◌, slice_index_or, slice_set, bit_and, bit_or, Fits, w8, w32, w64, Bor, MutBor}
-use Rattle.std.specs.Option.{option_map, option_copied_mut}
-use Rattle.std.specs.Borrow.{sem}
-use Rattle.clru_list.specs.PlaceList.{with_entries, item_at, to_front, first_entry, last_entry, IsValid}
-use Rattle.clru_list.specs.Lends.{lends_item, lends_held, lends_moved, lends_first, lends_last}
+use Rattle.std.proofs.Common.{◌<◌, refl, sym, ap, ◌∙◌, subst}
+use Rattle.clru_list.specs.Links.{Links, links_of, linked, nowhere, IsEnd}
+use Rattle.clru_list.proofs.Soundness.{view-is}
+use Rattle.clru_list.proofs.Steps.{place_below, prev_end, next_end, front_end, sound-front}
+use Rattle.clru_list.proofs.Views.{held_item, seen_to_front, sound-at}
 use Rattle.clru_list.proofs.list.FixedSizeList.bring_front.Goals as goal
 
--- src/list/order.rt:73:9
 pub unlink-requires-clause-place : goal.unlink-requires-clause-place
-unlink-requires-clause-place g c = ?
+unlink-requires-clause-place g c =
+    let it = held_item _ _ _ _ _ c.self.invariant _ c.self.view_is c.args.place c.requires in place_below _ _ _ _ _ c.self.invariant c.args.place it.0 it.1
 
--- src/list/order.rt:73:9
 pub unlink-requires-clause-prev : goal.unlink-requires-clause-prev
-unlink-requires-clause-prev g c = ?
+unlink-requires-clause-prev g c =
+    let it = held_item _ _ _ _ _ c.self.invariant _ c.self.view_is c.args.place c.requires in prev_end _ _ _ _ _ c.self.invariant c.args.place it.0 it.1
 
--- src/list/order.rt:73:9
 pub unlink-requires-clause-next : goal.unlink-requires-clause-next
-unlink-requires-clause-next g c = ?
+unlink-requires-clause-next g c =
+    let it = held_item _ _ _ _ _ c.self.invariant _ c.self.view_is c.args.place c.requires in next_end _ _ _ _ _ c.self.invariant c.args.place it.0 it.1
 
--- src/list/order.rt:75:9
 pub link-requires-clause-place : goal.link-requires-clause-place
-link-requires-clause-place g c = ?
+link-requires-clause-place g c =
+    let it = held_item _ _ _ _ _ c.self.invariant _ c.self.view_is c.args.place c.requires in
+    let P : Links g.row.T.Denot → Type 0 = λ l. c.args.place < l.size in
+    subst P (sym c.unlink.ensures.links) (place_below _ _ _ _ _ c.self.invariant c.args.place it.0 it.1)
 
--- src/list/order.rt:75:9
 pub link-requires-clause-next : goal.link-requires-clause-next
-link-requires-clause-next g c = ?
+link-requires-clause-next g c =
+    let it = held_item _ _ _ _ _ c.self.invariant _ c.self.view_is c.args.place c.requires in
+    let P : Links g.row.T.Denot → Type 0 = λ l. IsEnd l (l.next nowhere) in
+    subst P (sym c.unlink.ensures.links) (front_end _ _ _ _ _ c.self.invariant c.args.place it.0 it.1)
 
--- src/list/order.rt:69:5
-pub invariant_of-self : goal.invariant_of-self
-invariant_of-self g c = ?
+abbrev pub invariant_of-self : goal.invariant_of-self
+invariant_of-self g c =
+    let it = held_item _ _ _ _ _ c.self.invariant _ c.self.view_is c.args.place c.requires in
+    (_, sound-at _ _ _ _ _ _ _ _ (c.link.ensures.links ∙ ap (λ l. linked l nowhere c.args.place (l.next nowhere)) c.unlink.ensures.links)
+    (c.link.ensures.room ∙ c.unlink.ensures.room) (sound-front _ _ _ _ _ c.self.invariant c.args.place it.0 it.1))
 
--- src/list/order.rt:69:5
 pub returns : goal.returns
-returns g c = ?
+returns g c =
+    let it = held_item _ _ _ _ _ c.self.invariant _ c.self.view_is c.args.place c.requires in
+    view-is _ _ _ _ _ _ (invariant_of-self g c).1 ∙ sym (seen_to_front _ _ _ _ _ c.self.invariant _ c.self.view_is c.args.place it.0 it.1)

@@ -1,10 +1,9 @@
-use Rattle.std.proofs.Common.{rules, ◌≡◌, ◌<◌, ◌↔◌, ◌^◌, [], length, min, IfOk, OnOk, IsOk, IsTrue, option_copied, vec_capacity, ℕ, ◌+◌, ◌-◌, ◌*◌, ◌≤◌, ◌/◌, ◌%◌, Bool, true, false, nat_eq, nat_lt, List, ◌∷◌, ◌++◌, slice_index_or, slice_set, bit_and, bit_or, Fits, w8, w32, w64, Bor, MutBor}
-use Rattle.std.specs.Option.{option_map}
-use Rattle.std.specs.Borrow.{sem}
-use Rattle.clru_list.specs.Links.{place_of}
-use Rattle.clru_list.specs.PlaceList.{place_list, item_at, first_entry, last_entry, first_place, last_place, place_after, place_before, IsValid}
+use Rattle.std.proofs.Common.{length, None, get_or, map, vec_len, vec_capacity, ap, ◌∙◌, arith, []}
+use Rattle.clru_list.proofs.Soundness.{sound-empty}
 use Rattle.clru_list.proofs.list.FixedSizeList.empty.Goals as goal
 
--- src/list.rt:66:5
 pub invariant_of-result : goal.invariant_of-result
-invariant_of-result g c = ?
+invariant_of-result g c =
+    let e = c.new.ensures in let r = c.new.result in
+    ([], sound-empty _ _ _ _ e.ends.0 e.ends.1 (λ k. ap (λ v. get_or (map (λ n. n.item) v.items) k None) e.nodes ∙ ap (λ ns. get_or (map (λ n. n.item) ns) k None) c.requires.none)
+    e.ends.2 (ap vec_len e.nodes ∙ c.args.nodes.ok.0 ∙ ap length c.requires.none) (omega (arith, ap vec_capacity e.nodes, c.requires.reserved)) r.nodes.small)

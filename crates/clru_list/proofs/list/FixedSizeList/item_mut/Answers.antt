@@ -1,22 +1,36 @@
-use Rattle.std.proofs.Common.{rules, ◌≡◌, IsSome, Some, ℕ, ◌+◌, ◌-◌, ◌*◌, ◌<◌, ◌≤◌, length, ◌/◌, ◌%◌, Bool, true, false, nat_eq, nat_lt, List, [], ◌∷◌, ◌++◌, slice_index_or, slice_set, bit_and, bit_or, Fits, w8, w32, w64, Bor, MutBor}
-use Rattle.std.specs.Option.{option_map, option_copied_mut}
-use Rattle.std.specs.Borrow.{sem}
-use Rattle.clru_list.specs.PlaceList.{with_entries, item_at, to_front, first_entry, last_entry, IsValid}
-use Rattle.clru_list.specs.Lends.{lends_item, lends_held, lends_moved, lends_first, lends_last}
+use Rattle.std.proofs.Common.{refl, sym, ◌∙◌}
+use Rattle.clru_list.specs.PlaceList.{with_at}
+use Rattle.clru_list.proofs.NodeLemmas.{node_item}
+use Rattle.clru_list.proofs.Soundness.{view-is}
+use Rattle.clru_list.proofs.Steps.{place_below}
+use Rattle.clru_list.proofs.Views.{held_item, seen_with, seen_item, sound-write_node}
 use Rattle.clru_list.proofs.list.FixedSizeList.item_mut.Goals as goal
 
--- src/list/order.rt:66:9
 pub index_mut-requires : goal.index_mut-requires
-index_mut-requires g c = ?
+index_mut-requires g c =
+    let it = held_item _ _ _ _ _ c.self.invariant _ c.self.view_is c.args.place c.requires in place_below _ _ _ _ _ c.self.invariant c.args.place it.0 it.1
 
--- src/list/order.rt:66:9
 pub item_mut-requires : goal.item_mut-requires
-item_mut-requires g c = ?
+item_mut-requires g c =
+    let it = held_item _ _ _ _ _ c.self.invariant _ c.self.view_is c.args.place c.requires in
+    let below = place_below _ _ _ _ _ c.self.invariant c.args.place it.0 it.1 in
+    rw (sym (node_item c.self.inside.chain c.args.place c.index_mut.result.now below c.index_mut.ensures.value) ∙ it.1) refl
 
--- src/list/order.rt:61:5
 pub invariant_of-self-lent : goal.invariant_of-self-lent
-invariant_of-self-lent g c = ?
+invariant_of-self-lent g c = λ w.
+    let it = held_item _ _ _ _ _ c.self.invariant _ c.self.view_is c.args.place c.requires in
+    (_, sound-write_node c.self.inside.chain _ _ _ c.self.invariant c.args.place it.0 it.1 c.index_mut.result.now c.index_mut.ensures.value w)
 
--- src/list/order.rt:61:5
 pub returns : goal.returns
-returns g c = ?
+returns g c =
+    let it = held_item _ _ _ _ _ c.self.invariant _ c.self.view_is c.args.place c.requires in
+    let below = place_below _ _ _ _ _ c.self.invariant c.args.place it.0 it.1 in (
+      (refl, λ w. view-is _ _ _ _ _ _
+          (sound-write_node c.self.inside.chain _ _ _ c.self.invariant c.args.place it.0 it.1 c.index_mut.result.now c.index_mut.ensures.value w)
+          ∙ sym (seen_with _ _ _ _ _ c.self.invariant _ c.self.view_is (with_at c.args.place w))),
+      record {
+        lends = tt;
+        value = sym (seen_item _ _ _ _ _ c.self.invariant _ c.self.view_is c.args.place)
+            ∙ node_item c.self.inside.chain c.args.place c.index_mut.result.now below c.index_mut.ensures.value ∙ c.item_mut.ensures.value;
+      },
+    )

@@ -1,12 +1,13 @@
-use Rattle.std.proofs.Common.{rules, ◌≡◌, [], drop, ℕ, ◌+◌, ◌-◌, ◌*◌, ◌<◌, ◌≤◌, length, ◌/◌, ◌%◌, Bool, true, false, nat_eq, nat_lt, List, ◌∷◌, ◌++◌, slice_index_or, slice_set, bit_and, bit_or, Fits, w8, w32, w64, Bor, MutBor}
-use Rattle.std.specs.Option.{option_map}
-use Rattle.clru_list.specs.PlaceList.{with_entries, item_at, without, first_entry, IsValid}
+use Rattle.std.proofs.Common.{sym, ap, ◌∙◌}
+use Rattle.clru_list.specs.PlaceList.{with_entries, without}
+use Rattle.clru_list.proofs.EntryLists.{without-first}
+use Rattle.clru_list.proofs.Views.{seen_item, seen_front, front_place}
 use Rattle.clru_list.proofs.list.FixedSizeList.pop_front.Goals as goal
 
--- src/list/remove.rt:25:5
 pub returns-clause-value : goal.returns-clause-value
-returns-clause-value g c = ?
+returns-clause-value g c = c.remove.ensures.value ∙ sym (seen_item _ _ _ _ _ c.self.invariant _ c.self.view_is c.self.inside.chain.front) ∙ seen_front _ _ _ _ _ c.self.invariant _ c.self.view_is
 
--- src/list/remove.rt:25:5
 pub returns-clause-entries : goal.returns-clause-entries
-returns-clause-entries g c = ?
+returns-clause-entries g c =
+    let es = c.args.self.now.entries in
+    c.remove.ensures.entries ∙ ap (with_entries c.args.self.now) (ap (λ p. without p es) (front_place _ _ _ _ _ c.self.invariant _ c.self.view_is) ∙ without-first es)

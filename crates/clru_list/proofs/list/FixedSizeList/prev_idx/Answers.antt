@@ -1,22 +1,21 @@
-use Rattle.std.proofs.Common.{rules, ◌≡◌, ◌<◌, ◌↔◌, ◌^◌, [], length, min, IfOk, OnOk, IsOk, IsTrue, option_copied, vec_capacity, ℕ, ◌+◌, ◌-◌, ◌*◌, ◌≤◌, ◌/◌, ◌%◌, Bool, true, false, nat_eq, nat_lt, List, ◌∷◌, ◌++◌, slice_index_or, slice_set, bit_and, bit_or, Fits, w8, w32, w64, Bor, MutBor}
-use Rattle.std.specs.Option.{option_map}
-use Rattle.std.specs.Borrow.{sem}
+use Rattle.std.proofs.Common.{None, sym, ap, ◌∙◌}
 use Rattle.clru_list.specs.Links.{place_of}
-use Rattle.clru_list.specs.PlaceList.{place_list, item_at, first_entry, last_entry, first_place, last_place, place_after, place_before, IsValid}
+use Rattle.clru_list.specs.PlaceList.{place_before}
+use Rattle.clru_list.proofs.Steps.{prev_place}
+use Rattle.clru_list.proofs.Views.{seen_item, seen_entries, seen_valid, place_before-none}
 use Rattle.clru_list.proofs.list.FixedSizeList.prev_idx.Goals as goal
 
--- src/list.rt:171:9
 pub returns-in_err-item-clause-place : goal.returns-in_err-item-clause-place
-returns-in_err-item-clause-place g c = ?
+returns-in_err-item-clause-place g c =
+    c.from_residual.ensures ∙ sym (place_before-none None c.args.place _ (sym (seen_item _ _ _ _ _ c.self.invariant _ c.self.view_is c.args.place) ∙ sym c.in_err-item.ensures))
 
--- src/list.rt:171:9
 pub returns-in_err-item-clause-valid : goal.returns-in_err-item-clause-valid
-returns-in_err-item-clause-valid g c = ?
+returns-in_err-item-clause-valid g c = seen_valid _ _ _ _ _ c.self.invariant _ c.self.view_is
 
--- src/list.rt:167:5
 pub returns-clause-place : goal.returns-clause-place
-returns-clause-place g c = ?
+returns-clause-place g c =
+    c.some_place.ensures ∙ ap place_of c.prev.ensures ∙ prev_place _ _ _ _ _ c.self.invariant c.args.place _ (sym c.in_ok-item.ensures)
+    ∙ ap (place_before c.args.place) (sym (seen_entries _ _ _ _ _ c.self.invariant _ c.self.view_is))
 
--- src/list.rt:167:5
 pub returns-clause-valid : goal.returns-clause-valid
-returns-clause-valid g c = ?
+returns-clause-valid g c = seen_valid _ _ _ _ _ c.self.invariant _ c.self.view_is

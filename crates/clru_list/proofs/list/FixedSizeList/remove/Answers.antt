@@ -1,44 +1,51 @@
-use Rattle.std.proofs.Common.{rules, ◌≡◌, [], drop, ℕ, ◌+◌, ◌-◌, ◌*◌, ◌<◌, ◌≤◌, length, ◌/◌, ◌%◌, Bool, true, false, nat_eq, nat_lt, List, ◌∷◌, ◌++◌, slice_index_or, slice_set, bit_and, bit_or, Fits, w8, w32, w64, Bor, MutBor}
-use Rattle.std.specs.Option.{option_map}
-use Rattle.clru_list.specs.PlaceList.{with_entries, item_at, without, first_entry, IsValid}
+use Rattle.std.proofs.Common.{None, refl, sym, ap, ◌∙◌, subst}
+use Rattle.clru_list.specs.Links.{Links, links_of, set_item, unlinked, released, IsEnd}
+use Rattle.clru_list.specs.PlaceList.{with_entries, without}
+use Rattle.clru_list.proofs.EntryLists.{without-none}
+use Rattle.clru_list.proofs.Puts.{set_item-same}
+use Rattle.clru_list.proofs.Soundness.{view-is, valid_view}
+use Rattle.clru_list.proofs.Steps.{prev_end, next_end, sound-remove}
+use Rattle.clru_list.proofs.Views.{seen, seen_item, seen_with, sound-at}
 use Rattle.clru_list.proofs.list.FixedSizeList.remove.Goals as goal
 
--- src/list/remove.rt:17:20
-pub invariant_of-self : goal.invariant_of-self
-invariant_of-self g c = ?
+abbrev pub invariant_of-self : goal.invariant_of-self
+invariant_of-self g c =
+    let e = c.in_err-item.ensures in
+    (c.self.invariant.0, sound-at _ _ _ _ _ _ _ _ (e.links ∙ set_item-same (links_of c.self.inside.chain) c.args.place None (sym e.value)) e.room c.self.invariant.1)
 
--- src/list/remove.rt:17:20
 pub returns-in_err-item-clause-value : goal.returns-in_err-item-clause-value
-returns-in_err-item-clause-value g c = ?
+returns-in_err-item-clause-value g c = c.from_residual.ensures ∙ c.in_err-item.ensures.value ∙ seen_item _ _ _ _ _ c.self.invariant _ c.self.view_is c.args.place
 
--- src/list/remove.rt:17:20
 pub returns-in_err-item-clause-entries : goal.returns-in_err-item-clause-entries
-returns-in_err-item-clause-entries g c = ?
+returns-in_err-item-clause-entries g c =
+    let none = sym (seen_item _ _ _ _ _ c.self.invariant _ c.self.view_is c.args.place) ∙ sym c.in_err-item.ensures.value in
+    view-is _ _ _ _ _ _ (invariant_of-self g c).1 ∙ sym (seen _ _ _ _ _ c.self.invariant _ c.self.view_is)
+    ∙ sym (ap (with_entries c.args.self.now) (without-none c.args.place c.args.self.now.entries none))
 
--- src/list/remove.rt:17:20
 pub returns-in_err-item-clause-valid : goal.returns-in_err-item-clause-valid
-returns-in_err-item-clause-valid g c = ?
+returns-in_err-item-clause-valid g c = valid_view _ _ _ _ _ _ (invariant_of-self g c).1
 
--- src/list/remove.rt:18:9
 pub unlink-requires-clause-prev : goal.unlink-requires-clause-prev
-unlink-requires-clause-prev g c = ?
+unlink-requires-clause-prev g c =
+    let P : Links g.row.T.Denot → Type 0 = λ l. IsEnd l (l.prev c.args.place) in
+    subst P (sym c.in_ok-item.ensures.links) (prev_end _ _ _ _ _ c.self.invariant c.args.place c.in_ok-item.item (sym c.in_ok-item.ensures.value))
 
--- src/list/remove.rt:18:9
 pub unlink-requires-clause-next : goal.unlink-requires-clause-next
-unlink-requires-clause-next g c = ?
+unlink-requires-clause-next g c =
+    let P : Links g.row.T.Denot → Type 0 = λ l. IsEnd l (l.next c.args.place) in
+    subst P (sym c.in_ok-item.ensures.links) (next_end _ _ _ _ _ c.self.invariant c.args.place c.in_ok-item.item (sym c.in_ok-item.ensures.value))
 
--- src/list/remove.rt:12:5
-pub invariant_of-self-2 : goal.invariant_of-self-2
-invariant_of-self-2 g c = ?
+abbrev pub invariant_of-self-2 : goal.invariant_of-self-2
+invariant_of-self-2 g c =
+    let p = c.args.place in let e = c.in_ok-item.ensures in
+    (_, sound-at _ _ _ _ _ _ _ _ (c.release.ensures.links ∙ ap (λ l. released l p) (c.unlink.ensures.links ∙ ap (λ l. unlinked l p) e.links))
+    (c.release.ensures.room ∙ c.unlink.ensures.room ∙ e.room) (sound-remove _ _ _ _ _ c.self.invariant p c.in_ok-item.item (sym e.value)))
 
--- src/list/remove.rt:12:5
 pub returns-clause-value : goal.returns-clause-value
-returns-clause-value g c = ?
+returns-clause-value g c = c.in_ok-item.ensures.value ∙ seen_item _ _ _ _ _ c.self.invariant _ c.self.view_is c.args.place
 
--- src/list/remove.rt:12:5
 pub returns-clause-entries : goal.returns-clause-entries
-returns-clause-entries g c = ?
+returns-clause-entries g c = view-is _ _ _ _ _ _ (invariant_of-self-2 g c).1 ∙ sym (seen_with _ _ _ _ _ c.self.invariant _ c.self.view_is (without c.args.place))
 
--- src/list/remove.rt:12:5
 pub returns-clause-valid : goal.returns-clause-valid
-returns-clause-valid g c = ?
+returns-clause-valid g c = valid_view _ _ _ _ _ _ (invariant_of-self-2 g c).1

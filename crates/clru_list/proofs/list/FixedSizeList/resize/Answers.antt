@@ -1,11 +1,13 @@
-use Rattle.std.proofs.Common.{rules, ◌≡◌, ◌≤◌, length, ℕ, ◌+◌, ◌-◌, ◌*◌, ◌<◌, ◌/◌, ◌%◌, Bool, true, false, nat_eq, nat_lt, List, [], ◌∷◌, ◌++◌, slice_index_or, slice_set, bit_and, bit_or, Fits, w8, w32, w64, Bor, MutBor}
-use Rattle.clru_list.specs.PlaceList.{place_list, IsValid}
+use Rattle.std.proofs.Common.{length, ap, ◌∙◌, arith}
+use Rattle.clru_list.proofs.Soundness.{valid_view}
+use Rattle.clru_list.proofs.Steps.{sound-resize}
+use Rattle.clru_list.proofs.Views.{seen_entries}
 use Rattle.clru_list.proofs.list.FixedSizeList.resize.Goals as goal
 
--- src/list/resize.rt:11:5
 pub invariant_of-self : goal.invariant_of-self
-invariant_of-self g c = ?
+invariant_of-self g c =
+    let same = ap length (seen_entries _ _ _ _ _ c.self.invariant _ c.self.view_is) in
+    (c.self.invariant.0, sound-resize _ _ _ _ _ c.self.invariant c.args.capacity (omega (arith, c.self.invariant.1.counted, same, c.requires)))
 
--- src/list/resize.rt:11:5
 pub returns-clause-valid : goal.returns-clause-valid
-returns-clause-valid g c = ?
+returns-clause-valid g c = valid_view _ _ _ _ _ _ (invariant_of-self g c).1
