@@ -2,3 +2,17 @@
 #![tactic(auto)]
 
 pub mod callers;
+#[cfg(test)]
+mod entries;
+#[cfg(test)]
+mod owned;
+#[cfg(test)]
+mod refusals;
+#[cfg(test)]
+mod requests;
+#[cfg(test)]
+mod rows;
+#[cfg(test)]
+mod schedules;
+#[cfg(test)]
+mod walks;
