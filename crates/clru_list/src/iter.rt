@@ -1,6 +1,7 @@
 //! The iterator over the places and the items of a list, from both ends.
 ghost use Rattle.std.specs.Prelude.{◌≡◌, length, Some, IfSome, ⊤};
-ghost use Rattle.std.specs.Iterator.{IsWithinCount, UpTo, YieldsFirstBy, YieldsLastBy, at_most, item_count};
+ghost use Rattle.std.specs.Iterator.{UpTo, YieldsFirstBy, YieldsLastBy, at_most, item_count};
+ghost use Rattle.std.specs.Iterator.SizeHint.{IsWithinCount};
 
 use crate::list::FixedSizeList;
 use std::alloc::{AllocError, Allocator, Global};
