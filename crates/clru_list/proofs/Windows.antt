@@ -49,18 +49,20 @@ module _ {T : Type 0} where
   pub last_entry-push : (es : List (ℕ × T)) (e : ℕ × T) → last_entry (es ++ e ∷ []) ≡ Some e
   last_entry-push es e = last_entry_from-push None es e
 
+  last_place-get : (es : List (ℕ × T)) → 0 < length es → last_place es ≡ slice_get (keys_of es) (0 + length es - 1)
+  last_place-get [] some = absurd (omega arith)
+  last_place-get (e ∷ es) some = let at : 0 + suc (length es) - 1 ≡ length es = omega arith in
+      ap (option_map (λ (d : ℕ × T). d.0)) (last_entry_from-get None e es) ∙ sym (slice_get-map (λ (d : ℕ × T). d.0) (e ∷ es) (length es))
+      ∙ ap (slice_get (keys_of (e ∷ es))) (sym at)
+
   -- a walk over the whole list
-  pub whole : (es : List (ℕ × T)) → IsWindow (keys_of es) 0 (length es) (first_place es) (last_place es)
-  whole es = record {
+  pub whole : (es : List (ℕ × T)) (left : ℕ) (front back : Option ℕ) → left ≡ length es → front ≡ first_place es → back ≡ last_place es
+      → IsWindow (keys_of es) 0 left front back
+  whole es left front back long first last = rw (long, first, last) record {
     fits = omega (arith, length-map es (λ (e : ℕ × T). e.0));
     first = λ _. first_place-get es;
-    last = last_get es;
-  } where
-    last_get : (es : List (ℕ × T)) → 0 < length es → last_place es ≡ slice_get (keys_of es) (0 + length es - 1)
-    last_get [] some = absurd (omega arith)
-    last_get (e ∷ es) some = let at : 0 + suc (length es) - 1 ≡ length es = omega arith in
-        ap (option_map (λ (d : ℕ × T). d.0)) (last_entry_from-get None e es) ∙ sym (slice_get-map (λ (d : ℕ × T). d.0) (e ∷ es) (length es))
-        ∙ ap (slice_get (keys_of (e ∷ es))) (sym at)
+    last = last_place-get es;
+  }
 
   -- the first entry that a walk has before it
   pub record FrontEntry (es : List (ℕ × T)) (done left : ℕ) (front back : Option ℕ) : Type 0 where

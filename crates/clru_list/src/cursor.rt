@@ -3,10 +3,12 @@ ghost use Rattle.std.specs.Prelude.{◌≡◌, ◌<◌, length, Some, IfSome};
 ghost use Rattle.std.specs.Option.{option_map, option_copied_mut};
 ghost use Rattle.std.specs.Borrow.{sem};
 ghost use Rattle.clru_list.specs.PlaceList.{first_entry, last_entry};
-ghost use Rattle.clru_list.specs.Cursors.{CanStep, Passes, PassesBack, cursor_rest, past_front, past_back, stepped, stepped_back, lends_next, lends_next_back, lends_next_if, lends_next_back_if};
+ghost use Rattle.clru_list.specs.Cursors.{CanStep, Passes, PassesBack, cursor_rest, stepped, stepped_back, lends_next, lends_next_back, lends_next_if, lends_next_back_if};
 
 use crate::list::FixedSizeList;
 use std::alloc::{Allocator, Global};
+
+mod ends;
 
 /// A cursor over a list. It has entries left, at first the whole list, and passes them one by one from either end. What is
 /// written through an item that it lends is in the list from then on.
@@ -36,7 +38,7 @@ impl<'a, T, A: Allocator + Copy> FixedSizeListIterMut<'a, T, A> {
         ensures value { option_copied_mut result ≡ option_map (λ e. e.1) (first_entry (cursor_rest self.old)) }
         ensures passes { IfSome result (λ x. (w : T) → Passes self.old x.now w (stepped self.old w)) }
     {
-        if self.left == 0 {
+        if self.len() == 0 {
             return None;
         }
         let (_, item) = self.next_entry();
@@ -50,7 +52,7 @@ impl<'a, T, A: Allocator + Copy> FixedSizeListIterMut<'a, T, A> {
         ensures value { option_copied_mut result ≡ option_map (λ e. e.1) (last_entry (cursor_rest self.old)) }
         ensures passes { IfSome result (λ x. (w : T) → PassesBack self.old x.now w (stepped_back self.old w)) }
     {
-        if self.left == 0 {
+        if self.len() == 0 {
             return None;
         }
         let (_, item) = self.next_entry_back();
@@ -85,34 +87,5 @@ impl<'a, T, A: Allocator + Copy> FixedSizeListIterMut<'a, T, A> {
             Some(item) => (place, item),
             None => unreachable!(),
         }
-    }
-
-    fn pass_front(&mut self) -> usize
-        requires can { CanStep self.old }
-        requires left { 0 < self.old.left }
-        ensures place { self.old.front ≡ Some result }
-        ensures passed { self.new ≡ past_front self.old }
-    {
-        let Some(place) = self.front else {
-            unreachable!()
-        };
-        self.front = self.list.next_idx(place);
-        self.done += 1;
-        self.left -= 1;
-        place
-    }
-
-    fn pass_back(&mut self) -> usize
-        requires can { CanStep self.old }
-        requires left { 0 < self.old.left }
-        ensures place { self.old.back ≡ Some result }
-        ensures passed { self.new ≡ past_back self.old }
-    {
-        let Some(place) = self.back else {
-            unreachable!()
-        };
-        self.back = self.list.prev_idx(place);
-        self.left -= 1;
-        place
     }
 }

@@ -29,7 +29,7 @@ returns g c =
     ap option_copied_mut (sym c.in-Some.is) ∙ c.get_mut.ensures.value ∙ (λ i. item_at (place i) (same i)) ∙ e.held in
     let item : e.item ≡ c.in-Some.item.now = cc in
     (
-      (refl, λ w. stepped-is s c.pass_front-place.new.self c.pass_front-place.result w c.pass_front-place.ensures.place c.pass_front-place.ensures.passed),
+      (refl, λ w. let moved = stepped-is s c.pass_front-place.new.self c.pass_front-place.result w c.pass_front-place.ensures.place c.pass_front-place.ensures.passed in cc),
       record {
         lends = tt;
         entry = ap first_entry e.yields ∙ (λ i. Some (sym place i, item i));

@@ -30,7 +30,7 @@ returns g c =
     ap option_copied_mut (sym c.in-Some.is) ∙ c.get_mut.ensures.value ∙ (λ i. item_at (place i) (same i)) ∙ e.held in
     let item : e.item ≡ c.in-Some.item.now = cc in
     (
-      (refl, λ w. stepped_back-is s c.pass_back-place.new.self c.pass_back-place.result w c.pass_back-place.ensures.place c.pass_back-place.ensures.passed),
+      (refl, λ w. let moved = stepped_back-is s c.pass_back-place.new.self c.pass_back-place.result w c.pass_back-place.ensures.place c.pass_back-place.ensures.passed in cc),
       record {
         lends = tt;
         entry = ap last_entry e.yields ∙ last_entry-push (stretch s.done (s.left - 1) s.list.now.entries) (e.place, e.item) ∙ (λ i. Some (sym place i, item i));
