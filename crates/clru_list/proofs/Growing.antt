@@ -1,12 +1,19 @@
 -- Places that grow.
 use Rattle.std.proofs.Common.{◌≡◌, ℕ, ◌<◌, ◌≤◌, List, length, refl, sym, ap, ◌∙◌, arith, subst}
-use Rattle.clru_list.specs.PlaceList.{PlaceList, place_list, with_entries, NeedsPlace}
+use Rattle.clru_list.specs.PlaceList.{PlaceList, NeedsPlace}
 use Rattle.clru_list.specs.Pushes.{GrowsIfNeeded}
 
 module _ {T : Type 0} where
-  -- other entries grow no places
-  pub grows-along : (old mid : PlaceList T) (es : List (ℕ × T)) → GrowsIfNeeded old mid → GrowsIfNeeded old (with_entries mid es)
-  grows-along old mid es h = record { capacity = h.capacity; never_falls = h.never_falls; stays = h.stays; bounded = h.bounded }
+  -- a list with the same capacity and as many places has grown alike
+  pub grows-same : (old mid seen new : PlaceList T) → GrowsIfNeeded old mid → mid ≡ seen → new.capacity ≡ seen.capacity → new.places ≡ seen.places → GrowsIfNeeded old new
+  grows-same old mid seen new h is capacity places =
+      let same_capacity = ap (λ l. l.capacity) is in let same_places = ap (λ l. l.places) is in
+      record {
+        capacity = capacity ∙ sym same_capacity ∙ h.capacity;
+        never_falls = omega (arith, h.never_falls);
+        stays = λ none. places ∙ sym same_places ∙ h.stays none;
+        bounded = λ needs. let le = h.bounded needs in omega arith;
+      }
 
   -- a list that is not full has a free place, once it was made ready
   pub becomes_ready : (old new seen : PlaceList T) (len capacity less : ℕ) → len ≡ length old.entries → capacity ≡ old.capacity → len ≤ capacity → (len ≡ capacity → ⊥)

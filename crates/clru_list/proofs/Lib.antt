@@ -6,6 +6,7 @@ pub mod Holding
 pub mod NodeLemmas
 pub mod Paths
 pub mod Puts
+pub mod Retaining
 pub mod Rings
 pub mod Soundness
 pub mod Steps

@@ -1,7 +1,7 @@
 //! The calls that keep the items at which a closure answers `true`.
-ghost use Rattle.std.specs.Prelude.{◌≡◌};
+ghost use Rattle.std.specs.Prelude.{◌≡◌, if◌then◌else◌};
 ghost use Rattle.std.specs.Map.Calls.{CallableOnEachPair, RetainsPairs};
-ghost use Rattle.clru_list.specs.PlaceList.{with_entries, IsValid};
+ghost use Rattle.clru_list.specs.PlaceList.{with_entries, without, IsValid};
 ghost use Rattle.clru_list.specs.Retains.{CalledAtItem, TakesItem, CalledAtItemMut, TakesItemMut};
 
 use crate::list::FixedSizeList;
@@ -25,9 +25,7 @@ impl<T, A: Allocator + Copy> FixedSizeList<T, A> {
                 Some(item) => f(place, item),
                 None => unreachable!(),
             };
-            if !keep {
-                self.remove(place);
-            }
+            self.keep_if(place, keep);
         }
     }
 
@@ -48,9 +46,20 @@ impl<T, A: Allocator + Copy> FixedSizeList<T, A> {
                 Some(item) => f(place, item),
                 None => unreachable!(),
             };
-            if !keep {
-                self.remove(place);
-            }
+            self.keep_if(place, keep);
+        }
+    }
+    fn keep_if(&mut self, place: usize, keep: bool)
+    where
+        T: Drop,
+        ensures entries { self.new
+            ≡ with_entries self.old (if keep then self.old.entries else without place self.old.entries) }
+        ensures valid { IsValid self.new }
+    {
+        // The list's invariant is known where a field is used.
+        let _ = &self.chain;
+        if !keep {
+            self.remove(place);
         }
     }
 }

@@ -1,9 +1,6 @@
-use Rattle.std.proofs.Common.{◌≡◌, ◌+◌, ◌<◌, ◌∷◌, ◌++◌, [], length, refl, sym, ap, ◌∙◌, subst, arith}
+use Rattle.std.proofs.Common.{◌≡◌, ℕ, ◌+◌, ◌<◌, ◌∷◌, ◌++◌, [], length, refl, sym, ap, ◌∙◌, subst, arith}
 use Rattle.clru_list.specs.Links.{Links, links_of, linked, spot, occupied, nowhere, IsEnd}
-use Rattle.clru_list.specs.PlaceList.{PlaceList}
-use Rattle.clru_list.specs.Pushes.{GrowsIfNeeded}
-use Rattle.clru_list.specs.PlaceList.{with_entries}
-use Rattle.clru_list.proofs.Growing.{grows-along, becomes_ready}
+use Rattle.clru_list.proofs.Growing.{grows-same, becomes_ready}
 use Rattle.clru_list.proofs.Soundness.{walk-is, view-is, valid_view}
 use Rattle.clru_list.proofs.Steps.{free_end, free_none, free_room, spot_below, occupied_back, sound-push_back}
 use Rattle.clru_list.proofs.Views.{seen, seen_entries, seen_length, seen_valid, sound-at}
@@ -56,9 +53,7 @@ returns-clause-entries g c =
     walk-is _ _ _ _ _ _ (invariant_of-self g c).1 ∙ (λ i. same i ++ (sym c.occupy-place.ensures.place i, c.args.item) ∷ [])
 
 pub returns-clause-places : goal.returns-clause-places
-returns-clause-places g c =
-    let P : PlaceList g.row.T.Denot → Type 0 = λ l. GrowsIfNeeded c.args.self.now (with_entries l _) in
-    subst P (seen _ _ _ _ _ c.self-2.invariant _ c.self-2.view_is) (grows-along c.args.self.now c.make_ready.new.self _ c.in-Ok.ensures.places)
+returns-clause-places g c = grows-same _ _ _ _ c.in-Ok.ensures.places (seen _ _ _ _ _ c.self-2.invariant _ c.self-2.view_is) refl refl
 
 pub returns-clause-valid : goal.returns-clause-valid
 returns-clause-valid g c = valid_view _ _ _ _ _ _ (invariant_of-self g c).1

@@ -1,53 +1,29 @@
-use Rattle.std.proofs.Common.{rules, ◌≡◌, ℕ, ◌+◌, ◌-◌, ◌*◌, ◌<◌, ◌≤◌, length, ◌/◌, ◌%◌, Bool, true, false, nat_eq, nat_lt, List, [], ◌∷◌, ◌++◌, slice_index_or, slice_set, bit_and, bit_or, Fits, w8, w32, w64, Bor, MutBor}
-use Rattle.std.specs.Map.Calls.{CallableOnEachPair, RetainsPairs}
-use Rattle.clru_list.specs.PlaceList.{with_entries, IsValid}
-use Rattle.clru_list.specs.Retains.{CalledAtItem, TakesItem, CalledAtItemMut, TakesItemMut}
+use Rattle.std.proofs.Common.{◌≡◌, Some, None, refl, sym, ap, ◌∙◌}
+use Rattle.clru_list.specs.Retains.{CalledAtItemMut, TakesItemMut}
+use Rattle.clru_list.proofs.Retaining.{starts, ends, head, item_here, takes_here, goes_on, fewer, some_injective}
 use Rattle.clru_list.proofs.list.FixedSizeList.retain_mut.Goals as goal
 
--- src/list/retain.rt:45:9
 pub loop-at-init : goal.loop-at-init
-loop-at-init g c = ?
+loop-at-init g c = starts (CalledAtItemMut g.F.FnMut) (TakesItemMut g.F.FnMut) c.args.f c.args.self.now _ c.front_idx-at.ensures.place c.front_idx-at.ensures.valid c.requires
 
--- src/list/retain.rt:48:31
 pub f-keep-requires : goal.f-keep-requires
-f-keep-requires g c = ?
+f-keep-requires g c = takes_here (CalledAtItemMut g.F.FnMut) (TakesItemMut g.F.FnMut) _ _ _ _ _ c.loop-at.invariant c.in-Some.place c.in-Some.is _ (some_injective (c.in-Some-get_mut.ensures.value ∙ item_here (CalledAtItemMut g.F.FnMut) (TakesItemMut g.F.FnMut) _ _ _ _ _ c.loop-at.invariant c.in-Some.place c.in-Some.is))
 
--- src/list/retain.rt:49:25
 pub unreachable-requires : goal.unreachable-requires
-unreachable-requires g c = ?
+unreachable-requires g c = let it = c.in-None.ensures.value ∙ item_here (CalledAtItemMut g.F.FnMut) (TakesItemMut g.F.FnMut) _ _ _ _ _ c.loop-at.invariant c.in-Some.place c.in-Some.is in cc
 
--- src/list/retain.rt:45:9
-pub loop-at-smaller-then-not-keep : goal.loop-at-smaller-then-not-keep
-loop-at-smaller-then-not-keep g c = ?
-
--- src/list/retain.rt:45:9
-pub loop-at-preserved-then-not-keep : goal.loop-at-preserved-then-not-keep
-loop-at-preserved-then-not-keep g c = ?
-
--- src/list/retain.rt:45:9
-pub loop-at-smaller-then-not-keep-2 : goal.loop-at-smaller-then-not-keep-2
-loop-at-smaller-then-not-keep-2 g c = ?
-
--- src/list/retain.rt:45:9
-pub loop-at-preserved-then-not-keep-2 : goal.loop-at-preserved-then-not-keep-2
-loop-at-preserved-then-not-keep-2 g c = ?
-
--- src/list/retain.rt:45:9
 pub loop-at-smaller : goal.loop-at-smaller
-loop-at-smaller g c = ?
+loop-at-smaller g c = fewer (CalledAtItemMut g.F.FnMut) (TakesItemMut g.F.FnMut) _ _ _ _ _ c.loop-at.invariant c.in-Some.place c.in-Some.is c.f-keep.result c.f-keep.new.arg3 _ c.keep_if.new.self c.next_idx-at.result refl c.keep_if.ensures.entries c.keep_if.ensures.valid c.next_idx-at.ensures.place
 
--- src/list/retain.rt:45:9
 pub loop-at-preserved : goal.loop-at-preserved
-loop-at-preserved g c = ?
+loop-at-preserved g c =
+    goes_on (CalledAtItemMut g.F.FnMut) (TakesItemMut g.F.FnMut) _ _ _ _ _ c.loop-at.invariant c.in-Some.place c.in-Some.is c.f-keep.result c.f-keep.new.arg3 c.f-keep.new.self _ c.keep_if.new.self c.next_idx-at.result record { shown = c.in-Some-get_mut.item; left = _; shows = some_injective (c.in-Some-get_mut.ensures.value ∙ item_here (CalledAtItemMut g.F.FnMut) (TakesItemMut g.F.FnMut) _ _ _ _ _ c.loop-at.invariant c.in-Some.place c.in-Some.is); called = c.f-keep.ensures; leaves = refl } refl c.keep_if.ensures.entries c.keep_if.ensures.valid c.next_idx-at.ensures.place
 
--- src/list/retain.rt:36:5
 pub returns-clause-called : goal.returns-clause-called
-returns-clause-called g c = ?
+returns-clause-called g c = ends (CalledAtItemMut g.F.FnMut) (TakesItemMut g.F.FnMut) _ _ _ _ _ c.loop-at.invariant c.in_default.not-Some
 
--- src/list/retain.rt:36:5
 pub returns-clause-stays : goal.returns-clause-stays
-returns-clause-stays g c = ?
+returns-clause-stays g c = c.loop-at.invariant.stays
 
--- src/list/retain.rt:36:5
 pub returns-clause-valid : goal.returns-clause-valid
-returns-clause-valid g c = ?
+returns-clause-valid g c = c.loop-at.invariant.valid
