@@ -3,9 +3,10 @@ ghost use Rattle.std.specs.Prelude.{◌≡◌, ◌+◌, ◌/◌, ◌^◌, ◌<�
 ghost use Rattle.clru_list.specs.PlaceList.{with_entries};
 
 use clru_list::{FixedSizeList, PushError};
+use std::alloc::Allocator;
 
 /// Halves each item.
-pub fn halve(list: &mut FixedSizeList<u64>)
+pub fn halve<A: Allocator + Copy>(list: &mut FixedSizeList<u64, A>)
     ensures { list.new ≡ with_entries list.old (map (λ e. (e.0, e.1 / 2)) list.old.entries) }
 {
     let mut cursor = list.iter_mut();
@@ -26,6 +27,20 @@ pub fn halve_by_both_ends(list: &mut FixedSizeList<u64>)
             *last /= 2;
         }
     }
+}
+
+/// Halves each item, from the back to the front, and returns the place that it came to at last.
+pub fn halve_backwards(list: &mut FixedSizeList<u64>) -> Option<usize>
+    ensures { list.new ≡ with_entries list.old (map (λ e. (e.0, e.1 / 2)) list.old.entries) }
+{
+    let mut at = None;
+    let mut cursor = list.iter_mut();
+    while cursor.len() > 0 {
+        let (place, value) = cursor.next_entry_back();
+        *value /= 2;
+        at = Some(place);
+    }
+    at
 }
 
 /// Pushes two items to the back, and then brings the first of them to the front, by the place that it kept, and adds to it.

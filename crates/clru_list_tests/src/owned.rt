@@ -62,16 +62,19 @@ fn replaced_and_refused_items_are_dropped(rt: HostRuntime) -> Result<(), Fail> {
     let heap = Rationed::new(rt.alloc());
     let mut list = filled(&heap, 9)?;
     let mut cursor = list.iter_mut();
-    while let Some(old) = cursor.next() {
+    if let Some(old) = cursor.next() {
         *old = Vec::new(&heap);
     }
-    assert_eq!(rt; heap.blocks(), 1);
+    if let Some(old) = list.back_mut() {
+        *old = Vec::new(&heap);
+    }
+    assert_eq!(rt; heap.blocks(), 8);
     let more = item(&heap, 9)?;
     match list.push_back(more) {
         Err(PushError::Full(item)) => assert_eq!(rt; item.as_slice(), [9u64].as_slice()),
         _ => return Err("the list is full".into()),
     }
-    assert_eq!(rt; heap.blocks(), 1);
+    assert_eq!(rt; heap.blocks(), 8);
     drop(list);
     assert_eq!(rt; heap.blocks(), 0);
     Ok(())

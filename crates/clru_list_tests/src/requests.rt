@@ -1,5 +1,6 @@
 //! The requests for memory, counted.
 
+use crate::callers::halve;
 use clru_list::FixedSizeList;
 use ration::Rationed;
 use std::test::Fail;
@@ -49,10 +50,7 @@ fn a_growth_asks_once_and_no_other_call_does(rt: HostRuntime) -> Result<(), Fail
     assert_eq!(rt; list.move_front(back).copied(), Some(0));
     assert_eq!(rt; list.remove(back), Some(0));
     assert!(rt; list.push_back(0).is_ok(), "a free place");
-    let mut cursor = list.iter_mut();
-    while let Some(item) = cursor.next() {
-        *item /= 2;
-    }
+    halve(&mut list);
     assert_eq!(rt; list.iter().count(), 4);
     list.retain(|_, item| *item > 0);
     list.retain_mut(|_, item| *item > 0);

@@ -1,6 +1,6 @@
 //! The walks over a list, at a concrete type.
 
-use crate::callers::{halve, halve_by_both_ends, push_and_lift};
+use crate::callers::{halve, halve_backwards, halve_by_both_ends, push_and_lift};
 use clru_list::FixedSizeList;
 use std::alloc::{AllocError, Global};
 use std::test::Fail;
@@ -40,37 +40,15 @@ fn a_walk_gives_each_entry_once_from_both_ends(rt: HostRuntime) -> Result<(), Fa
 }
 
 #[test]
-fn what_a_cursor_writes_is_in_the_list(rt: HostRuntime) -> Result<(), Fail> {
-    let mut list = tens(rt.alloc(), 4)?;
-    let first = list.front_idx();
-    let mut cursor = list.iter_mut();
-    if let Some(item) = cursor.next() {
-        *item = 1;
-    }
-    if let Some(item) = cursor.next_back() {
-        *item = 4;
-    }
-    let (place, item) = cursor.next_entry();
-    *item = 2;
-    let (behind, item) = cursor.next_entry_back();
-    *item = 3;
-    assert_eq!(rt; cursor.len(), 0);
-    assert!(rt; cursor.next().is_none());
-    assert!(rt; cursor.next_back().is_none());
-    assert_eq!(rt; items(rt.alloc(), &list)?.as_slice(), [1u64, 2, 3, 4].as_slice());
-    assert_eq!(rt; (list.front_idx(), list.next_idx(place)), (first, Some(behind)));
-    Ok(())
-}
-
-#[test]
 fn callers_write_each_item(rt: HostRuntime) -> Result<(), Fail> {
     for n in 0..6u64 {
         let mut list = tens(rt.alloc(), n)?;
         halve(&mut list);
         halve_by_both_ends(&mut list);
+        assert_eq!(rt; halve_backwards(&mut list), list.front_idx());
         let mut want = Vec::new(rt.alloc());
         for half in 1..=n {
-            want.push(half * 10 / 4)?;
+            want.push(half * 10 / 8)?;
         }
         assert_eq!(rt; items(rt.alloc(), &list)?.as_slice(), want.as_slice());
     }

@@ -4,10 +4,10 @@ use Rattle.clru_list.proofs.CallerLemmas.{Writes}
 use Rattle.clru_list_tests.proofs.callers.halve.Given as goal
 
 abbrev pub invariant-loop-item : goal.invariant-loop-item
-invariant-loop-item l = record {
+invariant-loop-item g l = record {
   writes : Writes (λ x. x / 2) l.fn.list l.cursor;
   same_list : cursor_name l.cursor ≡ cursor_name l.initial.cursor;
 }
 
 abbrev pub decreases-loop-item : goal.decreases-loop-item
-decreases-loop-item l = length (cursor_rest l.cursor)
+decreases-loop-item g l = length (cursor_rest l.cursor)
