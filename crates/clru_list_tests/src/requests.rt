@@ -55,8 +55,8 @@ fn a_growth_asks_once_and_no_other_call_does(rt: HostRuntime) -> Result<(), Fail
     list.retain(|_, item| *item > 0);
     list.retain_mut(|_, item| *item > 0);
     assert_eq!(rt; list.pop_front(), Some(1));
-    list.resize(20);
     list.clear();
+    list.resize(20);
     assert_eq!(rt; (list.len(), list.places(), heap.asked(), heap.refused()), (0, 4, 1, 0));
     Ok(())
 }
