@@ -1,12 +1,12 @@
 -- Entries by the place of one of them.
-use Rattle.std.proofs.Common.{◌≡◌, ℕ, suc, ◌+◌, ◌<◌, ◌≤◌, Bool, true, false, cond, eqb, List, [], ◌∷◌, ◌++◌, length, map, drop, Option, Some, None, IsSome, refl, sym, ap, ◌∙◌, arith, subst}
+use Rattle.std.proofs.Common.{◌≡◌, ℕ, ◌<◌, ◌≤◌, eqb, List, [], ◌∷◌, ◌++◌, length, drop, Option, Some, None, IsSome, refl, sym, ap, ◌∙◌, arith, subst}
 use Rattle.std.proofs.lemmas.List.{map-append, length-append}
 use Rattle.std.specs.Option.{option_map}
 use Rattle.std.specs.Map.{keys_of}
-use Rattle.clru_list.specs.PlaceList.{item_at, without, with_at, first_entry, last_entry_from, last_entry, first_place, last_place, place_after, place_before_from, place_before, with_first, with_last, IsApart}
+use Rattle.clru_list.specs.PlaceList.{item_at, without, with_at, last_entry_from, last_entry, first_place, last_place, place_after, place_before_from, with_last, IsApart}
 use Rattle.clru_list.specs.Links.{count, nowhere, place_of}
 use Rattle.clru_list.proofs.Puts.{split, decide}
-use Rattle.clru_list.proofs.Paths.{count-append, count-here, count-other, apart_head, apart_tail, last_or, first_or, last_or-counted, first_or-counted}
+use Rattle.clru_list.proofs.Paths.{count-append, count-here, count-other, apart_head, apart_tail, last_or, first_or, last_or-counted}
 
 pub place_of-some : (k : ℕ) → (nowhere ≡ k → ⊥) → place_of k ≡ Some k
 place_of-some k ne = decide nowhere k (λ e _. absurd (ne e)) (λ _ f. rw f refl)
@@ -77,7 +77,7 @@ module _ {T : Type 0} where
     reordered bs cs h = record {
       items = λ k. item_at-split k bs cs h;
       counts = λ k. let split = ap (count k) (keys-split bs cs p x) ∙ count-append k (keys_of bs) (p ∷ keys_of cs) in
-      let joined = ap (count k) (keys-joined bs cs) ∙ count-append k (keys_of bs) (keys_of cs) in omega arith;
+          let joined = ap (count k) (keys-joined bs cs) ∙ count-append k (keys_of bs) (keys_of cs) in omega arith;
       lengths = omega (arith, length-append bs ((p, x) ∷ cs), length-append bs cs);
     }
 

@@ -1,6 +1,6 @@
 -- Places that grow.
-use Rattle.std.proofs.Common.{◌≡◌, ℕ, ◌<◌, ◌≤◌, List, length, refl, sym, ap, ◌∙◌, arith, subst}
-use Rattle.clru_list.specs.PlaceList.{PlaceList, NeedsPlace}
+use Rattle.std.proofs.Common.{◌≡◌, ℕ, ◌<◌, ◌≤◌, length, sym, ap, ◌∙◌, arith}
+use Rattle.clru_list.specs.PlaceList.{PlaceList}
 use Rattle.clru_list.specs.Pushes.{GrowsIfNeeded}
 
 module _ {T : Type 0} where

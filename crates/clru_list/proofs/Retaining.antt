@@ -1,12 +1,11 @@
 -- The entries that are kept along a walk, and those that are still to be asked for.
-use Rattle.std.proofs.Common.{◌≡◌, ℕ, suc, ◌+◌, ◌<◌, ◌≤◌, Bool, true, false, cond, eqb, List, [], ◌∷◌, ◌++◌, length, Option, Some, None, refl, sym, ap, ◌∙◌, arith, subst, append_assoc}
-use Rattle.std.specs.Option.{option_map}
+use Rattle.std.proofs.Common.{◌≡◌, ℕ, ◌<◌, ◌≤◌, Bool, true, false, cond, eqb, List, [], ◌∷◌, ◌++◌, length, Option, Some, None, refl, sym, ap, ◌∙◌, arith, subst, append_assoc}
 use Rattle.std.specs.Map.{keys_of}
 use Rattle.std.specs.Map.Calls.{RetainsPairs, CallableOnEachPair}
 use Rattle.clru_list.specs.PlaceList.{PlaceList, with_entries, item_at, without, with_at, first_place, place_after, IsApart, IsValid}
 use Rattle.clru_list.specs.Links.{count}
 use Rattle.clru_list.proofs.Puts.{decide}
-use Rattle.clru_list.proofs.Paths.{count-append, count-here, count-other, apart_head, apart_tail}
+use Rattle.clru_list.proofs.Paths.{count-append, count-here, apart_head, apart_tail}
 use Rattle.clru_list.proofs.EntryLists.{absent, keys-split, item_at-in, place_after-split, without-split, with_at-split}
 
 module _ {T : Type 0} where

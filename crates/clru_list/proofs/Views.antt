@@ -1,21 +1,21 @@
 -- What a list shows, from what its fields keep.
-use Rattle.std.proofs.Common.{◌≡◌, ℕ, suc, ◌+◌, ◌-◌, ◌<◌, ◌≤◌, ◌^◌, ◌⊎◌, inl, inr, Bool, true, false, cond, eqb, List, [], ◌∷◌, ◌++◌, length, Option, Some, None, IsSome, refl, sym, ap, ◌∙◌, arith, subst}
+use Rattle.std.proofs.Common.{◌≡◌, ℕ, ◌<◌, ◌≤◌, eqb, List, [], ◌∷◌, length, Option, Some, None, IsSome, refl, sym, ap, ◌∙◌, arith, subst}
 use Rattle.std.specs.Option.{option_map, option_map_or}
 use Rattle.std.specs.Map.{keys_of}
-use Rattle.clru_list.specs.PlaceList.{PlaceList, place_list, with_entries, item_at, without, with_at, to_front, first_entry, last_entry, last_entry_from, first_place, last_place, place_after, place_before, place_before_from, IsApart, IsValid}
+use Rattle.clru_list.specs.PlaceList.{PlaceList, place_list, with_entries, item_at, without, with_at, to_front, first_entry, last_entry, last_entry_from, first_place, last_place, place_after, place_before_from, IsValid}
 use Rattle.std.specs.Prelude.{vec_len, vec_capacity, slice_index_or as get_or}
 use Rattle.std.specs.Vec.{with_item}
 use Rattle.clru_list.specs.declared.chain.Chain.{Chain}
 use Rattle.clru_list.specs.declared.chain.Node.{Node}
 use Rattle.clru_list.proofs.NodeLemmas.{links_of-set_item}
 use Rattle.clru_list.proofs.Steps.{place_below, sound-write}
-use Rattle.clru_list.specs.Links.{Links, links_of, put, count, IsLinked, IsHeld, IsSound, nowhere, place_of, walk, unlinked, linked, released, set_item, occupied, spot, IsEnd}
-use Rattle.clru_list.proofs.Puts.{split, decide, put-here, put-other}
-use Rattle.clru_list.proofs.Paths.{count-append, count-here, count-other, last_or, first_or, last_or-counted, first_or-counted, apart_head, apart_tail}
-use Rattle.clru_list.proofs.EntryLists.{Split, split_at, without-split, with_at-split, item_at-none, item_at-here, item_at-other, item_at-in, absent, keys-split, keys-joined, first_place-is, place_after-split, place_before-split}
-use Rattle.clru_list.proofs.Rings.{next_is, prev_is, front_is, back_is}
-use Rattle.clru_list.proofs.Holding.{below, end_of, free_is}
-use Rattle.clru_list.proofs.Soundness.{walk-is, view-is, valid, ring_once, keys_once, no_nowhere, first_place_view, last_place_view, last_counted, first_counted, end_at, counted}
+use Rattle.clru_list.specs.Links.{Links, links_of, count, IsSound, nowhere, place_of, walk, set_item}
+use Rattle.clru_list.proofs.Puts.{split}
+use Rattle.clru_list.proofs.Paths.{count-here, last_or, first_or, last_or-counted}
+use Rattle.clru_list.proofs.EntryLists.{item_at-here, item_at-other}
+use Rattle.clru_list.proofs.Rings.{front_is, back_is}
+use Rattle.clru_list.proofs.Holding.{below}
+use Rattle.clru_list.proofs.Soundness.{view-is, valid, keys_once, first_place_view, last_place_view, counted}
 
 module _ {T : Type 0} where
   -- behind and before a place without an item there is none

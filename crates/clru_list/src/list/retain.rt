@@ -49,6 +49,7 @@ impl<T, A: Allocator + Copy> FixedSizeList<T, A> {
             self.keep_if(place, keep);
         }
     }
+
     fn keep_if(&mut self, place: usize, keep: bool)
     where
         T: Drop,

@@ -1,4 +1,4 @@
-use Rattle.std.proofs.Common.{None, sym, ap, ◌∙◌}
+use Rattle.std.proofs.Common.{sym, ap, ◌∙◌}
 use Rattle.clru_list.specs.Links.{place_of}
 use Rattle.clru_list.specs.PlaceList.{place_after}
 use Rattle.clru_list.proofs.Steps.{next_place}

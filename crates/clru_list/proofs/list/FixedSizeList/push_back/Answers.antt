@@ -1,7 +1,7 @@
-use Rattle.std.proofs.Common.{◌≡◌, ℕ, ◌+◌, ◌<◌, ◌∷◌, ◌++◌, [], length, refl, sym, ap, ◌∙◌, subst, arith}
-use Rattle.clru_list.specs.Links.{Links, links_of, linked, spot, occupied, nowhere, IsEnd}
+use Rattle.std.proofs.Common.{ℕ, ◌<◌, ◌∷◌, ◌++◌, [], refl, sym, ap, ◌∙◌, subst}
+use Rattle.clru_list.specs.Links.{Links, links_of, linked, occupied, nowhere, IsEnd}
 use Rattle.clru_list.proofs.Growing.{grows-same, becomes_ready}
-use Rattle.clru_list.proofs.Soundness.{walk-is, view-is, valid_view}
+use Rattle.clru_list.proofs.Soundness.{walk-is, valid_view}
 use Rattle.clru_list.proofs.Steps.{free_end, free_none, free_room, spot_below, occupied_back, sound-push_back}
 use Rattle.clru_list.proofs.Views.{seen, seen_entries, seen_length, seen_valid, sound-at}
 use Rattle.clru_list.proofs.list.FixedSizeList.push_back.Goals as goal
@@ -43,9 +43,11 @@ abbrev pub invariant_of-self : goal.invariant_of-self
 invariant_of-self g c =
     let ready = becomes_ready _ _ _ _ _ _ (seen_length _ _ _ _ _ c.self.invariant _ c.self.view_is) (sym (ap (λ l. l.capacity) (seen _ _ _ _ _ c.self.invariant _ c.self.view_is))) c.self.invariant.1.fits c.if-self.false
     c.in-Ok.ensures.entries c.in-Ok.ensures.ready c.in-Ok.ensures.places (seen _ _ _ _ _ c.self-2.invariant _ c.self-2.view_is) c.self-2.invariant.1.counted in
-    let e = c.occupy-place.ensures in
-    (_, sound-at _ _ _ _ _ _ _ _ (c.link.ensures.links ∙ (λ i. linked (e.links i) ((e.links i).prev nowhere) (e.place i) nowhere)) (c.link.ensures.room ∙ e.room)
-    (sound-push_back _ _ _ _ _ c.self-2.invariant c.args.item ready.0 ready.1))
+    let e = c.occupy-place.ensures in (
+      _,
+      sound-at _ _ _ _ _ _ _ _ (c.link.ensures.links ∙ (λ i. linked (e.links i) ((e.links i).prev nowhere) (e.place i) nowhere)) (c.link.ensures.room ∙ e.room)
+          (sound-push_back _ _ _ _ _ c.self-2.invariant c.args.item ready.0 ready.1),
+    )
 
 pub returns-clause-entries : goal.returns-clause-entries
 returns-clause-entries g c =
