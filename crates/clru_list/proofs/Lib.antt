@@ -3,6 +3,7 @@ pub mod Growing
 pub mod Holding
 pub mod NodeLemmas
 pub mod Paths
+pub mod PlaceLemmas
 pub mod Puts
 pub mod Retaining
 pub mod Rings

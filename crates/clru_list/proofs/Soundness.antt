@@ -68,14 +68,6 @@ module _ {T : Type 0} where
     pub last_place_view : place_of (l.prev nowhere) ≡ last_place es
     last_place_view = ap place_of (back_is l.next l.prev (keys_of es) s.linked) ∙ sym (last_place-is es no_nowhere)
 
-    pub last_counted : 0 < count (l.prev nowhere) (nowhere ∷ keys_of es)
-    last_counted = let P : ℕ → Type 0 = λ k. 0 < count k (nowhere ∷ keys_of es) in
-        subst P (sym (back_is l.next l.prev (keys_of es) s.linked)) (last_or-counted nowhere (keys_of es))
-
-    pub first_counted : 0 < count (l.next nowhere) (nowhere ∷ keys_of es)
-    first_counted = let P : ℕ → Type 0 = λ k. 0 < count k (nowhere ∷ keys_of es) in
-        subst P (sym (front_is l.next l.prev (keys_of es) s.linked)) (first_or-counted nowhere (keys_of es))
-
     -- a link may be written at the ends
     pub end_at : (k : ℕ) → 0 < count k (nowhere ∷ keys_of es) → IsEnd l k
     end_at k held = end_of l.next l.item l.free l.size es s.held k held

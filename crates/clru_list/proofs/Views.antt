@@ -80,11 +80,6 @@ module _ {T : Type 0} where
       pub seen_last : place_of (l.prev nowhere) ≡ last_place now.entries
       seen_last = last_place_view l len capacity places room i.0 i.1 ∙ ap last_place (sym seen_entries)
 
-    -- a held place has a node, and its neighbours can be written
-    pub held_below : (p : ℕ) → IsSome (l.item p) → p < l.size
-    held_below p some = let P : Option T → Type 0 = λ o. IsSome o in
-        below l.next l.item l.free l.size i.0 i.1.held p (counted p i.0 (subst P (i.1.held.live p) some))
-
   pub some_item : (o : Option T) → IsSome o → (x : T) × (o ≡ Some x)
   some_item None some = absurd (cc)
   some_item (Some x) some = (x, refl)
