@@ -159,7 +159,7 @@ impl<T, A: Allocator + Copy> FixedSizeList<T, A> {
         ensures place { result ≡ place_after place self.now.entries }
         ensures valid { IsValid self.now }
     {
-        self.chain.item(place)?;
+        self.get(place)?;
         some_place(self.chain.next(place))
     }
 
@@ -168,7 +168,7 @@ impl<T, A: Allocator + Copy> FixedSizeList<T, A> {
         ensures place { result ≡ place_before place self.now.entries }
         ensures valid { IsValid self.now }
     {
-        self.chain.item(place)?;
+        self.get(place)?;
         some_place(self.chain.prev(place))
     }
 }

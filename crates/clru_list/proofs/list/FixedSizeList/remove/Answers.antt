@@ -44,10 +44,10 @@ invariant_of-self-2 g c =
     )
 
 pub returns-clause-value : goal.returns-clause-value
-returns-clause-value g c = c.in_ok-item.ensures.value ∙ seen_item _ _ _ _ _ c.self.invariant _ c.self.view_is c.args.place
+returns-clause-value g c = cc (c.in_ok-item.ensures.value, seen_item _ _ _ _ _ c.self.invariant _ c.self.view_is c.args.place)
 
 pub returns-clause-entries : goal.returns-clause-entries
-returns-clause-entries g c = view-is _ _ _ _ _ _ (invariant_of-self-2 g c).1 ∙ sym (seen_with _ _ _ _ _ c.self.invariant _ c.self.view_is (without c.args.place))
+returns-clause-entries g c = cc (view-is _ _ _ _ _ _ (invariant_of-self-2 g c).1, seen_with _ _ _ _ _ c.self.invariant _ c.self.view_is (without c.args.place))
 
 pub returns-clause-valid : goal.returns-clause-valid
 returns-clause-valid g c = valid_view _ _ _ _ _ _ (invariant_of-self-2 g c).1
