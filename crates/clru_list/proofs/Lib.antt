@@ -1,5 +1,4 @@
 pub mod EntryLists
-pub mod Growing
 pub mod Holding
 pub mod NodeLemmas
 pub mod Paths

@@ -5,7 +5,7 @@ use Rattle.std.specs.Map.{keys_of}
 use Rattle.clru_list.specs.PlaceList.{place_list, item_at, first_place, last_place, IsValid}
 use Rattle.clru_list.specs.Links.{Links, put, count, IsPath, IsLinked, IsHeld, IsSound, nowhere, place_of, walk, unlinked, linked, released, occupied, spot, IsEnd}
 use Rattle.clru_list.proofs.Puts.{decide}
-use Rattle.clru_list.proofs.Paths.{count-append, count-here, count-other, last_or, first_or, last_or-counted, first_or-counted}
+use Rattle.clru_list.proofs.Paths.{count-append, count-here, count-other, last_or, first_or, last_or-counted}
 use Rattle.clru_list.proofs.EntryLists.{reordered, item_at-none, item_at-here, keys-split, keys-joined, apart_from_counts, first_place-is, last_place-is}
 use Rattle.clru_list.proofs.Rings.{IsOnce, prev_is, front_is, back_is, linked-unlink, linked-link, linked-next, linked-prev}
 use Rattle.clru_list.proofs.Holding.{once, below, end_of, held-reorder, held-next, held-fill, held-append, held-release}

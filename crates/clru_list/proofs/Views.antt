@@ -14,8 +14,7 @@ use Rattle.clru_list.proofs.Puts.{split}
 use Rattle.clru_list.proofs.Paths.{count-here, last_or, first_or, last_or-counted}
 use Rattle.clru_list.proofs.EntryLists.{item_at-here, item_at-other}
 use Rattle.clru_list.proofs.Rings.{front_is, back_is}
-use Rattle.clru_list.proofs.Holding.{below}
-use Rattle.clru_list.proofs.Soundness.{view-is, valid, keys_once, first_place_view, last_place_view, counted}
+use Rattle.clru_list.proofs.Soundness.{view-is, valid, keys_once, first_place_view, last_place_view}
 
 module _ {T : Type 0} where
   -- behind and before a place without an item there is none
@@ -92,6 +91,12 @@ module _ {T : Type 0} where
 
     pub seen_length : len ≡ length now.entries
     seen_length = i.1.counted ∙ ap length (sym (seen_entries l len capacity places room i now h))
+
+    -- the room that is seen is there
+    pub has_room : (length now.entries < now.places) × (length now.entries < now.capacity) → (len < places) × (len < capacity)
+    has_room free =
+        let sees = seen l len capacity places room i now h in let same_places = ap (λ n. n.places) sees in let same_capacity = ap (λ n. n.capacity) sees in
+        let below = free.0 in let fits = free.1 in let counts = seen_length in (omega arith, omega arith)
 
     pub seen_with : (change : List (ℕ × T) → List (ℕ × T)) → with_entries now (change now.entries) ≡ place_list (change i.0) capacity places
     seen_with change = ap (λ n. with_entries n (change n.entries)) (seen l len capacity places room i now h)
