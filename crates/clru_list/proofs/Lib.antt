@@ -1,10 +1,10 @@
 pub mod CallerLemmas
 pub mod CursorSteps
 pub mod EntryLists
-pub mod Growing
 pub mod Holding
 pub mod NodeLemmas
 pub mod Paths
+pub mod PlaceLemmas
 pub mod Puts
 pub mod Retaining
 pub mod Rings

@@ -103,14 +103,16 @@ impl<T, A: Allocator + Copy> FixedSizeList<T, A> {
 
     /// Returns whether there is no item.
     pub fn is_empty(&self) -> bool
-        ensures { IsTrue result ↔ (self.now.entries ≡ []) }
+        ensures empty { IsTrue result ↔ (self.now.entries ≡ []) }
+        ensures valid { IsValid self.now }
     {
         self.len == 0
     }
 
     /// Returns whether the length is at the capacity.
     pub fn is_full(&self) -> bool
-        ensures { IsTrue result ↔ (length self.now.entries ≡ self.now.capacity) }
+        ensures full { IsTrue result ↔ (length self.now.entries ≡ self.now.capacity) }
+        ensures valid { IsValid self.now }
     {
         self.len == self.capacity
     }
@@ -160,7 +162,7 @@ impl<T, A: Allocator + Copy> FixedSizeList<T, A> {
         ensures place { result ≡ place_after place self.now.entries }
         ensures valid { IsValid self.now }
     {
-        self.chain.item(place)?;
+        self.get(place)?;
         some_place(self.chain.next(place))
     }
 
@@ -169,7 +171,7 @@ impl<T, A: Allocator + Copy> FixedSizeList<T, A> {
         ensures place { result ≡ place_before place self.now.entries }
         ensures valid { IsValid self.now }
     {
-        self.chain.item(place)?;
+        self.get(place)?;
         some_place(self.chain.prev(place))
     }
 }

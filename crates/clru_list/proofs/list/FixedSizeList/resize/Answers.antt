@@ -1,4 +1,4 @@
-use Rattle.std.proofs.Common.{length, ap, ◌∙◌, arith}
+use Rattle.std.proofs.Common.{length, ap, arith}
 use Rattle.clru_list.proofs.Soundness.{valid_view}
 use Rattle.clru_list.proofs.Steps.{sound-resize}
 use Rattle.clru_list.proofs.Views.{seen_entries}
