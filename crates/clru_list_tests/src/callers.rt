@@ -44,7 +44,11 @@ pub fn halve_backwards(list: &mut FixedSizeList<u64>) -> Option<usize>
 }
 
 /// Pushes two items to the back, and then brings the first of them to the front, by the place that it kept, and adds to it.
-pub fn push_and_lift(list: &mut FixedSizeList<u64>, item: u64, other: u64) -> Result<(usize, usize), PushError<u64>>
+pub fn push_and_lift(
+    list: &mut FixedSizeList<u64>,
+    item: u64,
+    other: u64,
+) -> Result<(usize, usize), PushError<u64>>
     requires { item < 2 ^ 63 }
     ensures { IfOk result (λ places. list.new.entries ≡ (places.0, item + 1) ∷ (list.old.entries ++ (places.1, other) ∷ [])) }
 {

@@ -19,7 +19,11 @@ pub(crate) fn has<T: PartialEq + Copy + Debug, A: Allocator + Copy>(
     assert_eq!(rt; forward.next(), None);
     let mut backward = list.iter();
     for (place, item) in entries.iter().rev() {
-        assert_eq!(rt; backward.next_back(), Some((*place, item)), "of {entries:?}");
+        assert_eq!(rt;
+            backward.next_back(),
+            Some((*place, item)),
+            "of {entries:?}"
+        );
     }
     assert_eq!(rt; backward.next_back(), None);
     follows_the_places(rt, list, entries);

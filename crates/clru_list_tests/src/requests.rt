@@ -9,8 +9,7 @@ use std::test::Fail;
 fn makers_ask_for_what_they_reserve_at_once(rt: HostRuntime) {
     for (reserve, asked) in [(0, 0), (1, 1), (5, 1), (9, 1), (usize::MAX, 1)] {
         let heap = Rationed::new(rt.alloc());
-        let list: Result<FixedSizeList<u64, &_>, _> =
-            FixedSizeList::with_memory(&heap, 9, reserve);
+        let list: Result<FixedSizeList<u64, &_>, _> = FixedSizeList::with_memory(&heap, 9, reserve);
         assert_eq!(rt;
             (list.is_ok(), heap.asked()),
             (true, asked),
@@ -57,6 +56,9 @@ fn a_growth_asks_once_and_no_other_call_does(rt: HostRuntime) -> Result<(), Fail
     assert_eq!(rt; list.pop_front(), Some(1));
     list.clear();
     list.resize(20);
-    assert_eq!(rt; (list.len(), list.places(), heap.asked(), heap.refused()), (0, 4, 1, 0));
+    assert_eq!(rt;
+        (list.len(), list.places(), heap.asked(), heap.refused()),
+        (0, 4, 1, 0)
+    );
     Ok(())
 }

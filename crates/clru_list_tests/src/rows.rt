@@ -20,7 +20,10 @@ fn a_list_of_capacity_0_is_full(rt: HostRuntime) {
     let mut list = FixedSizeList::new(rt.alloc(), 0);
     assert_eq!(rt; list.push_front(1u64), Err(PushError::Full(1)));
     assert_eq!(rt; list.push_back(1), Err(PushError::Full(1)));
-    assert_eq!(rt; (list.is_empty(), list.is_full(), list.capacity()), (true, true, 0));
+    assert_eq!(rt;
+        (list.is_empty(), list.is_full(), list.capacity()),
+        (true, true, 0)
+    );
 }
 
 #[test]
@@ -75,8 +78,11 @@ fn a_list_grows_by_its_pushes(rt: HostRuntime) -> Result<(), Fail> {
 
 #[test]
 fn a_reserve_of_the_greatest_number_is_refused(rt: HostRuntime) {
-    let made: Result<FixedSizeList<u64>, NoMemory> =
-        FixedSizeList::with_memory(rt.alloc(), usize::MAX, usize::MAX);
+    let made: Result<FixedSizeList<u64>, NoMemory> = FixedSizeList::with_memory(
+        rt.alloc(),
+        usize::MAX,
+        usize::MAX,
+    );
     assert_eq!(rt; made.err(), Some(NoMemory));
 }
 
@@ -87,8 +93,14 @@ fn ends<A: Allocator + Copy>(
     front: Option<u64>,
     back: Option<u64>,
 ) {
-    assert_eq!(rt; (list.front().copied(), list.front_mut().copied()), (front, front));
-    assert_eq!(rt; (list.back().copied(), list.back_mut().copied()), (back, back));
+    assert_eq!(rt;
+        (list.front().copied(), list.front_mut().copied()),
+        (front, front)
+    );
+    assert_eq!(rt;
+        (list.back().copied(), list.back_mut().copied()),
+        (back, back)
+    );
     assert_eq!(rt; list.is_empty(), front.is_none());
 }
 

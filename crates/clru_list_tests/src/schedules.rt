@@ -67,7 +67,11 @@ fn visit<A: Allocator + Copy>(
         assert_eq!(rt; twins.list.remove(place), Some(item), "at {place}");
         assert_eq!(rt; twins.list.get(place), None);
     } else {
-        assert_eq!(rt; twins.list.move_front(place).copied(), Some(item), "at {place}");
+        assert_eq!(rt;
+            twins.list.move_front(place).copied(),
+            Some(item),
+            "at {place}"
+        );
         let inserted = twins.entries.insert(0, (place, item));
         inserted.map_err(|_| "no memory for an entry")?;
     }
@@ -76,7 +80,10 @@ fn visit<A: Allocator + Copy>(
 
 fn run(rt: &impl Abort, alloc: Global, steps: u64) -> Result<(), &'static str> {
     let list = FixedSizeList::new(alloc, 40);
-    let mut twins = Twins { list, entries: Vec::new(alloc) };
+    let mut twins = Twins {
+        list,
+        entries: Vec::new(alloc),
+    };
     let mut seed = 1;
     for step in 0..steps {
         seed = drawn(seed);

@@ -34,8 +34,14 @@ fn a_walk_gives_each_entry_once_from_both_ends(rt: HostRuntime) -> Result<(), Fa
     let mut copy = walk.clone()?;
     assert_eq!(rt; walk.next_back().map(|(_, item)| *item), Some(30));
     assert_eq!(rt; walk.next().map(|(_, item)| *item), Some(20));
-    assert_eq!(rt; (walk.next(), walk.next_back(), walk.len()), (None, None, 0));
-    assert_eq!(rt; (copy.len(), copy.next_back().map(|(_, item)| *item)), (2, Some(30)));
+    assert_eq!(rt;
+        (walk.next(), walk.next_back(), walk.len()),
+        (None, None, 0)
+    );
+    assert_eq!(rt;
+        (copy.len(), copy.next_back().map(|(_, item)| *item)),
+        (2, Some(30))
+    );
     Ok(())
 }
 
@@ -59,7 +65,13 @@ fn callers_write_each_item(rt: HostRuntime) -> Result<(), Fail> {
 fn callers_move_an_item_by_its_place(rt: HostRuntime) -> Result<(), Fail> {
     let mut list = tens(rt.alloc(), 2)?;
     let (place, behind) = push_and_lift(&mut list, 5, 6).map_err(|_| "a push is refused")?;
-    assert_eq!(rt; items(rt.alloc(), &list)?.as_slice(), [6u64, 10, 20, 6].as_slice());
-    assert_eq!(rt; (list.front_idx(), list.back_idx()), (Some(place), Some(behind)));
+    assert_eq!(rt;
+        items(rt.alloc(), &list)?.as_slice(),
+        [6u64, 10, 20, 6].as_slice()
+    );
+    assert_eq!(rt;
+        (list.front_idx(), list.back_idx()),
+        (Some(place), Some(behind))
+    );
     Ok(())
 }

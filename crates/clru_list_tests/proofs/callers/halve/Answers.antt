@@ -1,4 +1,4 @@
-use Rattle.std.proofs.Common.{◌≡◌, ◌/◌, [], ◌∷◌, refl, sym, ap, ◌∙◌, length, arith}
+use Rattle.std.proofs.Common.{◌≡◌, ◌/◌, [], refl, sym, ap, ◌∙◌, length, arith}
 use Rattle.std.specs.Option.{option_copied_mut}
 use Rattle.clru_list.specs.Cursors.{cursor_rest}
 use Rattle.clru_list.proofs.CallerLemmas.{first_entry-none, writes-start, writes-next, writes-end}

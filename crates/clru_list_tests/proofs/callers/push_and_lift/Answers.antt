@@ -1,4 +1,4 @@
-use Rattle.std.proofs.Common.{◌≡◌, ℕ, ◌+◌, ◌<◌, List, [], ◌∷◌, ◌++◌, Some, None, sym, ap, ◌∙◌, subst, append_assoc, arith}
+use Rattle.std.proofs.Common.{◌≡◌, ℕ, ◌+◌, List, [], ◌∷◌, ◌++◌, Some, None, sym, ap, ◌∙◌, subst, append_assoc, arith}
 use Rattle.std.specs.Option.{option_copied_mut}
 use Rattle.clru_list.specs.PlaceList.{item_at, without, IsApart}
 use Rattle.clru_list.proofs.CallerLemmas.{item_at-between, without-between}
@@ -9,8 +9,7 @@ found : (es now new : List (ℕ × ℕ)) (p q x y : ℕ) → now ≡ es ++ (p, x
     → (item_at p new ≡ Some x) × (without p new ≡ es ++ (q, y) ∷ [])
 found es now new p q x y first second apart =
     let is : new ≡ es ++ (p, x) ∷ ((q, y) ∷ []) = second ∙ ap (λ l. l ++ (q, y) ∷ []) first ∙ append_assoc es ((p, x) ∷ []) ((q, y) ∷ []) in
-    let apart' = subst IsApart is apart in
-    (
+    let apart' = subst IsApart is apart in (
       ap (item_at p) is ∙ item_at-between es ((q, y) ∷ []) p x apart',
       ap (without p) is ∙ without-between es ((q, y) ∷ []) p x apart',
     )
