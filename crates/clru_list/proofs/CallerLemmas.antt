@@ -18,8 +18,8 @@ module _ {T A : Type 0} where
   cursor-parts c =
       let es = c.list.now.entries in
       sym (
-        ap (λ l. take c.done es ++ (take c.left (drop c.done es) ++ l)) (sym (drop-drop c.left c.done es))
-        ∙ ap (λ l. take c.done es ++ l) (take-append-drop c.left (drop c.done es)) ∙ take-append-drop c.done es
+      ap (λ l. take c.done es ++ (take c.left (drop c.done es) ++ l)) (sym (drop-drop c.left c.done es))
+      ∙ ap (λ l. take c.done es ++ l) (take-append-drop c.left (drop c.done es)) ∙ take-append-drop c.done es
       )
 
   module _ (f : T → T) (l : PlaceList T) where
@@ -70,8 +70,8 @@ module _ {T A : Type 0} where
     pub writes-end : (c : FixedSizeListIterMut T A) → Writes c → cursor_rest c ≡ [] → cursor_list c ≡ with_entries l (with_items f l.entries)
     writes-end c w none =
         w.list ∙ ap (with_entries l) (
-          cursor-parts c ∙ (λ i. w.before i ++ (none i ++ w.after i))
-          ∙ sym (ap (with_items f) (w.all ∙ ap (λ es. w.ahead ++ (es ++ w.behind)) none) ∙ map-append {B = ℕ × T} (λ (e : ℕ × T). (e.0, f e.1)) w.ahead w.behind)
+        cursor-parts c ∙ (λ i. w.before i ++ (none i ++ w.after i))
+        ∙ sym (ap (with_items f) (w.all ∙ ap (λ es. w.ahead ++ (es ++ w.behind)) none) ∙ map-append {B = ℕ × T} (λ (e : ℕ × T). (e.0, f e.1)) w.ahead w.behind)
         )
 
 module _ {T : Type 0} where

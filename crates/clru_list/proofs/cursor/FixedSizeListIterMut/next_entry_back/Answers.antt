@@ -28,8 +28,7 @@ returns g c =
     let place : c.pass_back-place.result ≡ e.place = cc in
     let shown : Some c.in-Some.item.now ≡ Some e.item =
     ap option_copied_mut (sym c.in-Some.is) ∙ c.get_mut.ensures.value ∙ (λ i. item_at (place i) (same i)) ∙ e.held in
-    let item : e.item ≡ c.in-Some.item.now = cc in
-    (
+    let item : e.item ≡ c.in-Some.item.now = cc in (
       (refl, λ w. let moved = stepped_back-is s c.pass_back-place.new.self c.pass_back-place.result w c.pass_back-place.ensures.place c.pass_back-place.ensures.passed in cc),
       record {
         lends = tt;
