@@ -46,6 +46,32 @@ fn a_walk_gives_each_entry_once_from_both_ends(rt: HostRuntime) -> Result<(), Fa
 }
 
 #[test]
+fn a_cursor_names_the_place_that_it_lends(rt: HostRuntime) -> Result<(), Fail> {
+    let mut list = tens(rt.alloc(), 3)?;
+    let (front, back) = (list.front_idx(), list.back_idx());
+    let mut cursor = list.iter_mut();
+    if cursor.len() > 0 {
+        let (place, item) = cursor.next_entry();
+        *item = 1;
+        assert_eq!(rt; Some(place), front);
+    }
+    let mut cursor = list.iter_mut();
+    if cursor.len() > 0 {
+        let (place, item) = cursor.next_entry_back();
+        *item = 3;
+        assert_eq!(rt; Some(place), back);
+        if let Some(item) = list.get_mut(place) {
+            *item = 4;
+        }
+    }
+    assert_eq!(rt;
+        items(rt.alloc(), &list)?.as_slice(),
+        [1u64, 20, 4].as_slice()
+    );
+    Ok(())
+}
+
+#[test]
 fn callers_write_each_item(rt: HostRuntime) -> Result<(), Fail> {
     for n in 0..6u64 {
         let mut list = tens(rt.alloc(), n)?;
