@@ -1,16 +1,15 @@
 -- The list once a cursor has passed an entry, with what was written there.
-use Rattle.std.proofs.Common.{◌≡◌, ℕ, zero, suc, ◌+◌, ◌-◌, ◌<◌, ◌≤◌, ◌==◌, cond, true, false, List, [], ◌∷◌, ◌++◌, length, set, take, drop, refl, sym, ap, ◌∙◌, subst, arith, add-one, slice_get, Some, None, Option}
+use Rattle.std.proofs.Common.{◌≡◌, ℕ, zero, suc, ◌+◌, ◌-◌, ◌<◌, ◌≤◌, ◌==◌, cond, true, false, List, [], ◌∷◌, ◌++◌, length, set, take, drop, refl, sym, ap, ◌∙◌, subst, arith, slice_get, Some, None, Option}
 use Rattle.std.specs.Option.{option_map_or, option_and_then}
 use Rattle.std.specs.Map.{keys_of}
 use Rattle.std.proofs.lemmas.Bool.{eq-eqb}
 use Rattle.std.proofs.lemmas.List.{length-map, length-take, length-drop, take_more_set, take-set, take-set-le, drop-set, drop-set-lt, drop-set-add}
 use Rattle.std.proofs.lemmas.Option.{slice_get_within}
-use denote.MutBor.{at_last}
-use Rattle.clru_list.specs.PlaceList.{PlaceList, with_entries, item_at, with_at, IsApart, place_after, place_before, first_place, last_place}
+use Rattle.clru_list.specs.PlaceList.{PlaceList, with_entries, with_at, IsApart, place_after, place_before}
 use Rattle.clru_list.specs.Walks.{stretch, IsWindow}
-use Rattle.clru_list.specs.Cursors.{CanStep, Passes, PassesBack, cursor_rest, cursor_before, cursor_after, written, past_front, past_back, stepped, stepped_back}
+use Rattle.clru_list.specs.Cursors.{Passes, PassesBack, written, past_front, past_back, stepped, stepped_back}
 use Rattle.clru_list.specs.declared.cursor.FixedSizeListIterMut.{FixedSizeListIterMut}
-use Rattle.clru_list.proofs.Windows.{FrontEntry, BackEntry, front_entry, back_entry, differs, item_at-entry}
+use Rattle.clru_list.proofs.Windows.{FrontEntry, BackEntry, differs, item_at-entry}
 
 module _ {T : Type 0} where
   -- a write leaves the places

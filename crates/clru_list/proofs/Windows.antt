@@ -1,11 +1,11 @@
 -- The entries at the two ends of a walk, and where it stands once it has passed one of them.
-use Rattle.std.proofs.Common.{◌≡◌, ℕ, zero, suc, ◌+◌, ◌-◌, ◌<◌, ◌≤◌, ◌==◌, Bool, true, false, cond, List, [], ◌∷◌, ◌++◌, length, get_or, take, drop, refl, sym, ap, ◌∙◌, arith, add-one, slice_get, Some, None, Option}
+use Rattle.std.proofs.Common.{◌≡◌, ℕ, zero, suc, ◌+◌, ◌-◌, ◌<◌, ◌==◌, true, false, List, [], ◌∷◌, ◌++◌, length, take, drop, refl, sym, ap, ◌∙◌, arith, slice_get, Some, None, Option}
 use Rattle.std.specs.Option.{option_map}
 use Rattle.std.specs.Map.{keys_of}
 use Rattle.std.proofs.lemmas.Bool.{eq-eqb, eqb-true}
-use Rattle.std.proofs.lemmas.Option.{slice_get-get_or, get_or_from_slice_get, slice_get_within, slice_get-map}
+use Rattle.std.proofs.lemmas.Option.{get_or_from_slice_get, slice_get_within, slice_get-map}
 use Rattle.std.proofs.lemmas.List.{length-map, length-drop, drop_more, take_more, get_or-drop}
-use Rattle.clru_list.specs.PlaceList.{item_at, IsApart, first_place, last_entry_from, last_entry, last_place, place_after, place_before_from, place_before, first_entry}
+use Rattle.clru_list.specs.PlaceList.{item_at, IsApart, first_place, last_entry_from, last_entry, last_place, place_after, place_before_from, place_before}
 use Rattle.clru_list.specs.Walks.{stretch, IsWindow}
 
 module _ {T : Type 0} where

@@ -1,8 +1,8 @@
-use Rattle.std.proofs.Common.{◌≡◌, ◌<◌, List, ◌∷◌, Some, None, refl, sym, ap, ◌∙◌, subst, arith}
+use Rattle.std.proofs.Common.{◌≡◌, ◌<◌, Some, None, refl, sym, ap, ◌∙◌, subst, arith}
 use Rattle.std.specs.Option.{option_copied_mut}
 use Rattle.clru_list.specs.PlaceList.{IsApart, item_at, first_entry}
 use Rattle.clru_list.specs.Cursors.{Passes, stepped}
-use Rattle.clru_list.proofs.Windows.{FrontEntry, front_entry}
+use Rattle.clru_list.proofs.Windows.{front_entry}
 use Rattle.clru_list.proofs.CursorSteps.{stepped-is, passes, length-stretch}
 use Rattle.clru_list.proofs.cursor.FixedSizeListIterMut.next_entry.Goals as goal
 

@@ -1,9 +1,9 @@
-use Rattle.std.proofs.Common.{◌≡◌, ◌<◌, ◌-◌, List, [], ◌∷◌, ◌++◌, Some, None, refl, sym, ap, ◌∙◌, subst, arith}
+use Rattle.std.proofs.Common.{◌≡◌, ◌<◌, ◌-◌, Some, None, refl, sym, ap, ◌∙◌, subst, arith}
 use Rattle.std.specs.Option.{option_copied_mut}
 use Rattle.clru_list.specs.PlaceList.{IsApart, item_at, last_entry}
 use Rattle.clru_list.specs.Walks.{stretch}
 use Rattle.clru_list.specs.Cursors.{PassesBack, stepped_back}
-use Rattle.clru_list.proofs.Windows.{BackEntry, back_entry, last_entry-push}
+use Rattle.clru_list.proofs.Windows.{back_entry, last_entry-push}
 use Rattle.clru_list.proofs.CursorSteps.{stepped_back-is, passes_back, length-stretch}
 use Rattle.clru_list.proofs.cursor.FixedSizeListIterMut.next_entry_back.Goals as goal
 

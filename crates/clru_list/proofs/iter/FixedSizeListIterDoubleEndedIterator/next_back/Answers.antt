@@ -1,8 +1,8 @@
-use Rattle.std.proofs.Common.{◌≡◌, ◌<◌, ◌+◌, ◌-◌, [], ◌∷◌, ◌++◌, Some, None, option_copied, refl, ap, sym, ◌∙◌, subst, arith}
+use Rattle.std.proofs.Common.{◌≡◌, ◌-◌, [], ◌∷◌, ◌++◌, Some, None, option_copied, ap, sym, ◌∙◌, subst, arith}
 use Rattle.std.specs.Map.{keys_of}
 use Rattle.clru_list.specs.PlaceList.{item_at, place_before}
 use Rattle.clru_list.specs.Walks.{stretch, IsWindow}
-use Rattle.clru_list.proofs.Windows.{BackEntry, back_entry}
+use Rattle.clru_list.proofs.Windows.{back_entry}
 use Rattle.clru_list.proofs.iter.FixedSizeListIterDoubleEndedIterator.next_back.Goals as goal
 
 pub unreachable-requires-in_default-get : goal.unreachable-requires-in_default-get

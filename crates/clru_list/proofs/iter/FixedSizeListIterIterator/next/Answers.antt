@@ -1,8 +1,8 @@
-use Rattle.std.proofs.Common.{◌≡◌, ◌<◌, ◌+◌, ◌-◌, ◌∷◌, Some, None, option_copied, refl, ap, sym, ◌∙◌, subst, arith}
+use Rattle.std.proofs.Common.{◌≡◌, ◌+◌, ◌-◌, ◌∷◌, Some, None, option_copied, ap, sym, ◌∙◌, subst, arith}
 use Rattle.std.specs.Map.{keys_of}
 use Rattle.clru_list.specs.PlaceList.{item_at, place_after}
 use Rattle.clru_list.specs.Walks.{stretch, IsWindow}
-use Rattle.clru_list.proofs.Windows.{FrontEntry, front_entry}
+use Rattle.clru_list.proofs.Windows.{front_entry}
 use Rattle.clru_list.proofs.iter.FixedSizeListIterIterator.next.Goals as goal
 
 pub unreachable-requires-in_default-get : goal.unreachable-requires-in_default-get

@@ -1,4 +1,4 @@
-use Rattle.std.proofs.Common.{◌≡◌, ◌+◌, length, refl, rules, arith}
+use Rattle.std.proofs.Common.{◌+◌, refl, rules, arith}
 use Rattle.std.proofs.lemmas.List.{take_all, drop_all}
 use Rattle.clru_list.proofs.Windows.{whole}
 use Rattle.clru_list.proofs.list.FixedSizeList.iter_mut.Goals as goal
