@@ -32,4 +32,4 @@ returns c =
     let f = found _ _ _ _ _ _ _ c.in_ok-place.ensures.entries c.in_ok-behind.ensures.entries c.move_front.ensures.valid.apart in
     let shown = ap option_copied_mut (sym c.in-Some.is) ∙ c.move_front.ensures.value ∙ f.0 in
     let item : c.in-Some.lifted.now ≡ c.args.item = cc in
-    (λ i. (c.in_ok-place.place, item i + 1) ∷ f.1 i)
+    cc (item, f.1)
