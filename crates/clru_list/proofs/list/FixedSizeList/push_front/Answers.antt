@@ -32,9 +32,11 @@ link-requires-clause-next g c =
 abbrev pub invariant_of-self : goal.invariant_of-self
 invariant_of-self g c =
     let room = has_room _ _ _ _ _ c.self.invariant _ c.self.view_is c.in_ok-item.ensures.room in
-    let e = c.occupy-place.ensures in
-    (_, sound-at _ _ _ _ _ _ _ _ (c.link.ensures.links ∙ (λ i. linked (e.links i) nowhere (e.place i) ((e.links i).next nowhere))) (c.link.ensures.room ∙ e.room)
-    (sound-push_front _ _ _ _ _ c.self.invariant c.in_ok-item.item room.0 room.1))
+    let e = c.occupy-place.ensures in (
+      _,
+      sound-at _ _ _ _ _ _ _ _ (c.link.ensures.links ∙ (λ i. linked (e.links i) nowhere (e.place i) ((e.links i).next nowhere))) (c.link.ensures.room ∙ e.room)
+          (sound-push_front _ _ _ _ _ c.self.invariant c.in_ok-item.item room.0 room.1),
+    )
 
 pub returns-clause-entries : goal.returns-clause-entries
 returns-clause-entries g c =
