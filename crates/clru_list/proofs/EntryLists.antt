@@ -1,12 +1,12 @@
 -- Entries by the place of one of them.
-use Rattle.std.proofs.Common.{◌≡◌, ℕ, suc, ◌+◌, ◌<◌, ◌≤◌, Bool, true, false, cond, eqb, List, [], ◌∷◌, ◌++◌, length, map, drop, Option, Some, None, IsSome, refl, sym, ap, ◌∙◌, arith, subst}
+use Rattle.std.proofs.Common.{◌≡◌, ℕ, ◌<◌, ◌≤◌, eqb, List, [], ◌∷◌, ◌++◌, length, drop, Option, Some, None, IsSome, refl, sym, ap, ◌∙◌, arith, subst}
 use Rattle.std.proofs.lemmas.List.{map-append, length-append}
 use Rattle.std.specs.Option.{option_map}
 use Rattle.std.specs.Map.{keys_of}
-use Rattle.clru_list.specs.PlaceList.{item_at, without, with_at, first_entry, last_entry_from, last_entry, first_place, last_place, place_after, place_before_from, place_before, with_first, with_last, IsApart}
+use Rattle.clru_list.specs.PlaceList.{item_at, without, with_at, last_entry_from, last_entry, first_place, last_place, place_after, place_before_from, with_last, IsApart}
 use Rattle.clru_list.specs.Links.{count, nowhere, place_of}
 use Rattle.clru_list.proofs.Puts.{split, decide}
-use Rattle.clru_list.proofs.Paths.{count-append, count-here, count-other, apart_head, apart_tail, last_or, first_or, last_or-counted, first_or-counted}
+use Rattle.clru_list.proofs.Paths.{count-append, count-here, count-other, apart_head, apart_tail, last_or, first_or, last_or-counted}
 
 pub place_of-some : (k : ℕ) → (nowhere ≡ k → ⊥) → place_of k ≡ Some k
 place_of-some k ne = decide nowhere k (λ e _. absurd (ne e)) (λ _ f. rw f refl)
@@ -47,9 +47,6 @@ module _ {T : Type 0} where
       (λ ne f. let rest = split_at p x es (rw f at h) in
       record { before = e ∷ rest.before; behind = rest.behind; is = ap (λ l. e ∷ l) rest.is; absent = count-other p e.0 (keys_of rest.before) ne ∙ rest.absent })
 
-  keys-append : (es ds : List (ℕ × T)) → keys_of (es ++ ds) ≡ keys_of es ++ keys_of ds
-  keys-append es ds = map-append (λ e. e.0) es ds
-
   pub keys-split : (bs cs : List (ℕ × T)) (p : ℕ) (x : T) → keys_of (bs ++ (p, x) ∷ cs) ≡ keys_of bs ++ p ∷ keys_of cs
   keys-split bs cs p x = map-append (λ e. e.0) bs ((p, x) ∷ cs)
 
@@ -77,7 +74,7 @@ module _ {T : Type 0} where
     reordered bs cs h = record {
       items = λ k. item_at-split k bs cs h;
       counts = λ k. let split = ap (count k) (keys-split bs cs p x) ∙ count-append k (keys_of bs) (p ∷ keys_of cs) in
-      let joined = ap (count k) (keys-joined bs cs) ∙ count-append k (keys_of bs) (keys_of cs) in omega arith;
+          let joined = ap (count k) (keys-joined bs cs) ∙ count-append k (keys_of bs) (keys_of cs) in omega arith;
       lengths = omega (arith, length-append bs ((p, x) ∷ cs), length-append bs cs);
     }
 
@@ -190,3 +187,32 @@ module _ {T : Type 0} where
 
   pub last_some : (p : ℕ) (es : List (ℕ × T)) → IsLast p es → IsSome (item_at p es)
   last_some p es last = rw (ap (item_at p) last.is ∙ item_at-in p last.item last.before [] last.absent) refl
+
+  -- places that differ are each counted once
+  pub counts_from_apart : (es : List (ℕ × T)) → IsApart es → (k : ℕ) → count k (keys_of es) ≤ 1
+  counts_from_apart [] apart k = omega arith
+  counts_from_apart (e ∷ es) apart k =
+      let ih = counts_from_apart es apart.1 k in let none = absent e.0 es apart.0 in
+      decide k e.0
+      (λ same t. let P : ℕ → Type 0 = λ m. count m (keys_of es) ≡ 0 in let gone = subst P (sym same) none in rw t (omega arith))
+      (λ _ f. rw f (omega arith))
+
+  -- a place does not stand before its entry
+  pub absent_before : (bs cs : List (ℕ × T)) (p : ℕ) (x : T) → IsApart (bs ++ (p, x) ∷ cs) → count p (keys_of bs) ≡ 0
+  absent_before bs cs p x apart =
+      let once = counts_from_apart (bs ++ (p, x) ∷ cs) apart p in let here = count-here p (keys_of cs) in
+      let all = ap (count p) (keys-split bs cs p x) ∙ count-append p (keys_of bs) (p ∷ keys_of cs) in omega arith
+
+  -- the entry of the first place comes first
+  pub record IsHead (p : ℕ) (es : List (ℕ × T)) : Type 0 where
+    pub value : T
+    pub rest : List (ℕ × T)
+    pub is : es ≡ (p, value) ∷ rest
+
+  pub head_is : (p : ℕ) (es : List (ℕ × T)) → first_place es ≡ Some p → IsHead p es
+  head_is p [] h = absurd (cc)
+  head_is p (e ∷ es) h = let same : e.0 ≡ p = cc in record { value = e.1; rest = es; is = λ i. (same i, e.1) ∷ es }
+
+  pub no_head : (es : List (ℕ × T)) → ((p : ℕ) → first_place es ≡ Some p → ⊥) → es ≡ []
+  no_head [] h = refl
+  no_head (e ∷ es) h = absurd (h e.0 refl)

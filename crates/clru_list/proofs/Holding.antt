@@ -1,13 +1,12 @@
 -- Which places are held and which are free, and what the steps of a list do to them.
-use Rattle.std.proofs.Common.{◌≡◌, ℕ, suc, ◌+◌, ◌<◌, ◌≤◌, ◌⊎◌, inl, inr, Bool, true, false, cond, eqb, List, [], ◌∷◌, ◌++◌, length, Option, Some, None, refl, sym, ap, ◌∙◌, arith, subst}
-use Rattle.std.proofs.lemmas.List.{length-append}
+use Rattle.std.proofs.Common.{◌≡◌, ℕ, ◌+◌, ◌<◌, ◌≤◌, ◌⊎◌, inl, inr, List, [], ◌∷◌, length, Option, Some, None, refl, sym, ap, ◌∙◌, arith, subst}
 use Rattle.std.proofs.lemmas.Bool.{cases_lt}
 use Rattle.std.specs.Map.{keys_of}
 use Rattle.clru_list.specs.PlaceList.{item_at}
 use Rattle.clru_list.specs.Links.{put, count, IsHeld, IsSpare, nowhere}
 use Rattle.clru_list.proofs.Puts.{decide, put-here, put-other}
-use Rattle.clru_list.proofs.Paths.{count-append, count-here, count-other, apart_head, apart_tail}
-use Rattle.clru_list.proofs.EntryLists.{IsReordered, item_at-none, item_at-here, item_at-other, absent, keys-split}
+use Rattle.clru_list.proofs.Paths.{count-here, count-other, apart_head, apart_tail}
+use Rattle.clru_list.proofs.EntryLists.{IsReordered, item_at-none, item_at-here, item_at-other}
 use Rattle.clru_list.proofs.Rings.{IsOnce}
 
 -- a link that no free place has

@@ -1,11 +1,14 @@
+pub mod CallerLemmas
+pub mod CursorSteps
 pub mod EntryLists
-pub mod Growing
 pub mod Holding
 pub mod NodeLemmas
 pub mod Paths
+pub mod PlaceLemmas
 pub mod Puts
 pub mod Retaining
 pub mod Rings
 pub mod Soundness
 pub mod Steps
 pub mod Views
+pub mod Windows

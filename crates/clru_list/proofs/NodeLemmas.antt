@@ -1,13 +1,13 @@
 -- What a write to one node, or a new node, does to the links.
-use Rattle.std.proofs.Common.{◌≡◌, ℕ, ◌+◌, ◌<◌, Bool, true, false, cond, eqb, List, length, get_or, set, map, ◌++◌, ◌∷◌, [], Option, Some, None, vec_len, refl, sym, ap, ◌∙◌, arith, subst, inl, inr, ◌⊎◌, ◌≤◌}
-use Rattle.std.proofs.lemmas.List.{map-set, map-append, get_or-set_same, get_or-set_other, get_or-append_right, get_or_append_left, get_or-map, length-map}
+use Rattle.std.proofs.Common.{◌≡◌, ℕ, ◌+◌, ◌<◌, List, length, get_or, set, map, ◌++◌, ◌∷◌, [], Option, None, vec_len, sym, ap, ◌∙◌, arith, subst, inl, inr}
+use Rattle.std.proofs.lemmas.List.{map-set, map-append, get_or-set_same, get_or-set_other, get_or_append_left, get_or-map, length-map}
 use Rattle.std.specs.Prelude.{Vec}
 use Rattle.std.specs.Vec.{with_item}
 use Rattle.std.proofs.lemmas.List.{get_or_past, length-append}
 use Rattle.std.proofs.Math.Seq.{get_or-append_seam}
 use Rattle.std.proofs.lemmas.Bool.{cases_lt}
 use mathlib.Core.Path.{fun_ext}
-use Rattle.clru_list.specs.Links.{put, nowhere, Links, links_of, next_of, prev_of, item_of, IsEnd, set_next, set_prev, set_item}
+use Rattle.clru_list.specs.Links.{put, nowhere, links_of, next_of, prev_of, item_of, IsEnd, set_next, set_prev, set_item}
 use Rattle.clru_list.specs.declared.chain.Chain.{Chain}
 use Rattle.clru_list.specs.declared.chain.Node.{Node}
 use Rattle.clru_list.proofs.Puts.{decide, put-same, put-swap, put-other}

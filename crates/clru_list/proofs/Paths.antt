@@ -1,7 +1,7 @@
 -- Paths along links, and how often a place is on them.
-use Rattle.std.proofs.Common.{◌≡◌, ℕ, suc, ◌+◌, ◌<◌, ◌≤◌, Bool, true, false, cond, eqb, List, [], ◌∷◌, ◌++◌, length, refl, sym, ap, ◌∙◌, arith, subst}
-use Rattle.clru_list.specs.Links.{put, count, IsPath, IsSpare, nowhere}
-use Rattle.clru_list.proofs.Puts.{split, decide, put-here, put-other}
+use Rattle.std.proofs.Common.{◌≡◌, ℕ, ◌+◌, ◌<◌, ◌≤◌, List, [], ◌∷◌, ◌++◌, refl, sym, ap, ◌∙◌, arith, subst}
+use Rattle.clru_list.specs.Links.{put, count, IsPath}
+use Rattle.clru_list.proofs.Puts.{decide, put-here, put-other}
 
 -- ---- counts
 
@@ -70,9 +70,10 @@ path-redirect f v a [] b once path = put-here f a v
 path-redirect f v a (p ∷ ps) b once path =
     let last = last_or-counted p ps in
     let ne : last_or p ps ≡ a → ⊥ = λ e.
-    let P : ℕ → Type 0 = λ m. 0 < count m (p ∷ ps) in let held = subst P e last in let here = count-here a (p ∷ ps) in absurd (omega (arith, once a)) in
-    (put-other f (last_or p ps) v a ne ∙ path.0,
-    path-redirect f v p ps b (λ k. let le = count-le-cons k a (p ∷ ps) in omega (arith, once k)) path.1)
+    let P : ℕ → Type 0 = λ m. 0 < count m (p ∷ ps) in let held = subst P e last in let here = count-here a (p ∷ ps) in absurd (omega (arith, once a)) in (
+      put-other f (last_or p ps) v a ne ∙ path.0,
+      path-redirect f v p ps b (λ k. let le = count-le-cons k a (p ∷ ps) in omega (arith, once k)) path.1,
+    )
 
 -- where a path leads from its last place, and to its first
 pub path_last : (f : ℕ → ℕ) (a : ℕ) (ps : List ℕ) (b : ℕ) → IsPath f a ps b → f (last_or a ps) ≡ b

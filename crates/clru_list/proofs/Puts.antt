@@ -1,7 +1,6 @@
 -- Functions with another value at one number.
-use Rattle.std.proofs.Common.{◌≡◌, ℕ, ◌<◌, Bool, true, false, cond, eqb, List, length, get_or, set, map, ◌++◌, ◌∷◌, [], refl, sym, ap, ◌∙◌, arith}
+use Rattle.std.proofs.Common.{◌≡◌, ℕ, Bool, true, false, eqb, refl, sym, ap, ◌∙◌}
 use Rattle.std.proofs.lemmas.Bool.{eqb-true, eqb-false, eq-eqb, ne_eqb}
-use Rattle.std.proofs.lemmas.List.{map-set, map-append, get_or-set_same, get_or-set_other, get_or-append_right, get_or_append_left}
 use mathlib.Core.Path.{fun_ext}
 use Rattle.std.specs.Prelude.{Option}
 use Rattle.clru_list.specs.Links.{put, Links, set_item}

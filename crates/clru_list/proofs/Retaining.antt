@@ -1,30 +1,14 @@
 -- The entries that are kept along a walk, and those that are still to be asked for.
-use Rattle.std.proofs.Common.{◌≡◌, ℕ, suc, ◌+◌, ◌<◌, ◌≤◌, Bool, true, false, cond, eqb, List, [], ◌∷◌, ◌++◌, length, Option, Some, None, refl, sym, ap, ◌∙◌, arith, subst, append_assoc}
-use Rattle.std.specs.Option.{option_map}
+use Rattle.std.proofs.Common.{◌≡◌, ℕ, ◌<◌, Bool, true, false, cond, eqb, List, [], ◌∷◌, ◌++◌, length, Option, Some, None, refl, sym, ap, ◌∙◌, arith, subst, append_assoc}
 use Rattle.std.specs.Map.{keys_of}
 use Rattle.std.specs.Map.Calls.{RetainsPairs, CallableOnEachPair}
 use Rattle.clru_list.specs.PlaceList.{PlaceList, with_entries, item_at, without, with_at, first_place, place_after, IsApart, IsValid}
 use Rattle.clru_list.specs.Links.{count}
 use Rattle.clru_list.proofs.Puts.{decide}
-use Rattle.clru_list.proofs.Paths.{count-append, count-here, count-other, apart_head, apart_tail}
-use Rattle.clru_list.proofs.EntryLists.{absent, keys-split, item_at-in, place_after-split, without-split, with_at-split}
+use Rattle.clru_list.proofs.Paths.{apart_head, apart_tail}
+use Rattle.clru_list.proofs.EntryLists.{IsHead, head_is, no_head, absent_before, item_at-in, place_after-split, without-split, with_at-split}
 
 module _ {T : Type 0} where
-  -- places that differ are each counted once
-  pub counts_from_apart : (es : List (ℕ × T)) → IsApart es → (k : ℕ) → count k (keys_of es) ≤ 1
-  counts_from_apart [] apart k = omega arith
-  counts_from_apart (e ∷ es) apart k =
-      let ih = counts_from_apart es apart.1 k in let none = absent e.0 es apart.0 in
-      decide k e.0
-      (λ same t. let P : ℕ → Type 0 = λ m. count m (keys_of es) ≡ 0 in let gone = subst P (sym same) none in rw t (omega arith))
-      (λ _ f. rw f (omega arith))
-
-  -- a place does not stand before its entry
-  pub absent_before : (bs cs : List (ℕ × T)) (p : ℕ) (x : T) → IsApart (bs ++ (p, x) ∷ cs) → count p (keys_of bs) ≡ 0
-  absent_before bs cs p x apart =
-      let once = counts_from_apart (bs ++ (p, x) ∷ cs) apart p in let here = count-here p (keys_of cs) in
-      let all = ap (count p) (keys-split bs cs p x) ∙ count-append p (keys_of bs) (p ∷ keys_of cs) in omega arith
-
   -- the entries from a place on
   abbrev pub from_place : Option ℕ → List (ℕ × T) → List (ℕ × T)
   from_place None es = []
@@ -39,20 +23,6 @@ module _ {T : Type 0} where
   from_first : (bs cs : List (ℕ × T)) → IsApart (bs ++ cs) → from_place (first_place cs) (bs ++ cs) ≡ cs
   from_first bs [] apart = refl
   from_first bs (c ∷ cs) apart = from_some bs cs c.0 c.1 (absent_before bs cs c.0 c.1 apart)
-
-  -- the entry of the first place comes first
-  pub record IsHead (p : ℕ) (es : List (ℕ × T)) : Type 0 where
-    pub value : T
-    pub rest : List (ℕ × T)
-    pub is : es ≡ (p, value) ∷ rest
-
-  pub head_is : (p : ℕ) (es : List (ℕ × T)) → first_place es ≡ Some p → IsHead p es
-  head_is p [] h = absurd (cc)
-  head_is p (e ∷ es) h = let same : e.0 ≡ p = cc in record { value = e.1; rest = es; is = λ i. (same i, e.1) ∷ es }
-
-  pub no_head : (es : List (ℕ × T)) → ((p : ℕ) → first_place es ≡ Some p → ⊥) → es ≡ []
-  no_head [] h = refl
-  no_head (e ∷ es) h = absurd (h e.0 refl)
 
 pub some_injective : {X : Type 0} {x y : X} → Some x ≡ Some y → x ≡ y
 some_injective h = cc

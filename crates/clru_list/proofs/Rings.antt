@@ -1,9 +1,9 @@
 -- A place that leaves a ring of links, or comes into it.
-use Rattle.std.proofs.Common.{◌≡◌, ℕ, suc, ◌+◌, ◌<◌, ◌≤◌, Bool, true, false, cond, eqb, List, [], ◌∷◌, ◌++◌, length, refl, sym, ap, ◌∙◌, arith, subst}
+use Rattle.std.proofs.Common.{◌≡◌, ℕ, ◌<◌, ◌≤◌, List, [], ◌∷◌, ◌++◌, sym, ap, ◌∙◌, arith, subst}
 use Rattle.std.proofs.lemmas.List.{append-nil}
 use Rattle.clru_list.specs.Links.{put, count, IsPath, IsLinked, nowhere}
 use Rattle.clru_list.proofs.Puts.{decide, put-here, put-other}
-use Rattle.clru_list.proofs.Paths.{count-append, count-here, count-other, apart_head, apart_tail, count-le-cons, last_or, first_or, last_or-counted, first_or-counted, path_join, path_left, path_right, path-outside, path-redirect, path_last, path_first, path_closed}
+use Rattle.clru_list.proofs.Paths.{count-append, count-here, count-other, last_or, first_or, last_or-counted, first_or-counted, path_join, path_left, path_right, path-outside, path-redirect, path_last, path_first, path_closed}
 
 -- a ring counts each place once
 abbrev pub IsOnce : List ℕ → Type 0
@@ -44,9 +44,10 @@ module _ (f : ℕ → ℕ) (s e : ℕ) where
       (path-outside f p q s ps q (omega (arith, once p)) left) in
       let last = last_or-counted s ps in let m = count-append (last_or s ps) ps (p ∷ (q ∷ qs)) in
       let ne : last_or s ps ≡ p → ⊥ = λ d. let P : ℕ → Type 0 = λ k. 0 < count k (s ∷ ps) in let held = subst P d last in absurd (omega (arith, once p)) in
-      path_join (put (put f p q) (last_or s ps) p) s ps p (q ∷ qs) e redirected
-      (put-other (put f p q) (last_or s ps) p p ne ∙ put-here f p q,
-      path-outside (put f p q) (last_or s ps) p q qs e (omega (arith, once (last_or s ps))) (path-outside f p q q qs e (omega (arith, once p)) right))
+      path_join (put (put f p q) (last_or s ps) p) s ps p (q ∷ qs) e redirected (
+        put-other (put f p q) (last_or s ps) p p ne ∙ put-here f p q,
+        path-outside (put f p q) (last_or s ps) p q qs e (omega (arith, once (last_or s ps))) (path-outside f p q q qs e (omega (arith, once p)) right),
+      )
 
   -- from the last place of the beginning the link leads to the first of the rest
   pub path_middle : (ps qs : List ℕ) → IsPath f s (ps ++ qs) e → f (last_or s ps) ≡ first_or e qs
@@ -77,15 +78,15 @@ module _ (next prev : ℕ → ℕ) where
       record {
         forward = subst P (sym (prev_is ps p qs ring)) (path-unlink next nowhere nowhere ps p qs once ring.forward);
         backward = λ k held.
-        let n = count-append k ps qs in let m = count-append k ps (p ∷ qs) in
-        let in_ring : 0 < count k (nowhere ∷ (ps ++ p ∷ qs)) = omega arith in
-        decide (prev p) k
-        (λ e t. rw t (put-here prev (next p) (prev p) ∙ e))
-        (λ ne f. let not_p : next p ≡ next k → ⊥ = λ same.
-        let is_p : p ≡ k = sym (ring.backward p at_p) ∙ ap prev same ∙ ring.backward k in_ring in
-        let here = count-here k qs in let Q : ℕ → Type 0 = λ l. count k (nowhere ∷ (ps ++ l ∷ qs)) ≤ 1 in let twice = subst Q is_p (once k) in
-        let o = count-append k ps (k ∷ qs) in absurd (omega arith) in
-        rw f (put-other prev (next p) (prev p) (next k) not_p ∙ ring.backward k in_ring));
+            let n = count-append k ps qs in let m = count-append k ps (p ∷ qs) in
+            let in_ring : 0 < count k (nowhere ∷ (ps ++ p ∷ qs)) = omega arith in
+            decide (prev p) k
+            (λ e t. rw t (put-here prev (next p) (prev p) ∙ e))
+            (λ ne f. let not_p : next p ≡ next k → ⊥ = λ same.
+            let is_p : p ≡ k = sym (ring.backward p at_p) ∙ ap prev same ∙ ring.backward k in_ring in
+            let here = count-here k qs in let Q : ℕ → Type 0 = λ l. count k (nowhere ∷ (ps ++ l ∷ qs)) ≤ 1 in let twice = subst Q is_p (once k) in
+            let o = count-append k ps (k ∷ qs) in absurd (omega arith) in
+            rw f (put-other prev (next p) (prev p) (next k) not_p ∙ ring.backward k in_ring));
       }
 
   pub linked-link : (ps : List ℕ) (p : ℕ) (qs : List ℕ) (a b : ℕ) → a ≡ last_or nowhere ps → b ≡ first_or nowhere qs
@@ -98,20 +99,20 @@ module _ (next prev : ℕ → ℕ) where
       record {
         forward = rw (is_a, is_b) (path-link next nowhere nowhere ps p qs once ring.forward);
         backward = λ k held.
-        let new = count-append k ps (p ∷ qs) in let old = count-append k ps qs in
-        decide a k
-        (λ e t. rw t (put-other (put prev p a) b p p not_b ∙ put-here prev p a ∙ e))
-        (λ ne f. decide p k
-        (λ e t. rw (f, t) (put-here (put prev p a) b p ∙ e))
-        (λ other g.
-        let none = count-other k p qs (λ e. other (sym e)) in
-        let in_ring : 0 < count k (nowhere ∷ (ps ++ qs)) = omega arith in
-        let last = last_or-counted nowhere ps in let l = count-append (last_or nowhere ps) ps qs in
-        let apart : b ≡ next k → ⊥ = λ same.
-        ne (is_a ∙ sym (ring.backward (last_or nowhere ps) (omega arith)) ∙ ap prev (path_middle next nowhere nowhere ps qs ring.forward ∙ sym is_b ∙ same) ∙ ring.backward k in_ring) in
-        let closed = path_closed next nowhere (ps ++ qs) nowhere k ring.forward in_ring in
-        let fresh : p ≡ next k → ⊥ = λ same. let P : ℕ → Type 0 = λ m. 0 < count m (nowhere ∷ (ps ++ qs)) in let held_p = subst P (sym same) closed in absurd (omega (arith, once p)) in
-        rw (f, g) (put-other (put prev p a) b p (next k) apart ∙ put-other prev p a (next k) fresh ∙ ring.backward k in_ring)));
+            let new = count-append k ps (p ∷ qs) in let old = count-append k ps qs in
+            decide a k
+            (λ e t. rw t (put-other (put prev p a) b p p not_b ∙ put-here prev p a ∙ e))
+            (λ ne f. decide p k
+            (λ e t. rw (f, t) (put-here (put prev p a) b p ∙ e))
+            (λ other g.
+            let none = count-other k p qs (λ e. other (sym e)) in
+            let in_ring : 0 < count k (nowhere ∷ (ps ++ qs)) = omega arith in
+            let last = last_or-counted nowhere ps in let l = count-append (last_or nowhere ps) ps qs in
+            let apart : b ≡ next k → ⊥ = λ same.
+            ne (is_a ∙ sym (ring.backward (last_or nowhere ps) (omega arith)) ∙ ap prev (path_middle next nowhere nowhere ps qs ring.forward ∙ sym is_b ∙ same) ∙ ring.backward k in_ring) in
+            let closed = path_closed next nowhere (ps ++ qs) nowhere k ring.forward in_ring in
+            let fresh : p ≡ next k → ⊥ = λ same. let P : ℕ → Type 0 = λ m. 0 < count m (nowhere ∷ (ps ++ qs)) in let held_p = subst P (sym same) closed in absurd (omega (arith, once p)) in
+            rw (f, g) (put-other (put prev p a) b p (next k) apart ∙ put-other prev p a (next k) fresh ∙ ring.backward k in_ring)));
       }
 
   -- links of a place outside the ring

@@ -1,15 +1,14 @@
 -- What the fields of a list keep, and what its steps do to its entries.
-use Rattle.std.proofs.Common.{◌≡◌, ℕ, suc, ◌+◌, ◌<◌, ◌≤◌, ◌^◌, ◌⊎◌, inl, inr, Bool, true, false, cond, eqb, List, [], ◌∷◌, ◌++◌, length, Option, Some, None, IsSome, refl, sym, ap, ◌∙◌, arith, subst}
-use Rattle.std.proofs.lemmas.List.{length-append, append-nil}
+use Rattle.std.proofs.Common.{◌≡◌, ℕ, ◌<◌, ◌≤◌, ◌^◌, inl, inr, List, [], ◌∷◌, ◌++◌, length, Option, Some, None, IsSome, refl, sym, ap, ◌∙◌, arith, subst}
 use Rattle.std.proofs.lemmas.Bool.{cases_lt}
 use Rattle.std.specs.Map.{keys_of}
-use Rattle.clru_list.specs.PlaceList.{place_list, item_at, without, with_at, first_place, last_place, place_after, place_before, IsApart, IsValid}
-use Rattle.clru_list.specs.Links.{Links, put, count, IsPath, IsLinked, IsHeld, IsSound, nowhere, place_of, walk, unlinked, linked, released, set_item, occupied, spot, appended, filled, IsEnd}
-use Rattle.clru_list.proofs.Puts.{split, decide, put-here, put-other}
-use Rattle.clru_list.proofs.Paths.{count-append, count-here, count-other, last_or, first_or, last_or-counted, first_or-counted, path_closed}
-use Rattle.clru_list.proofs.EntryLists.{IsReordered, Split, split_at, reordered, without-split, with_at-split, item_at-none, item_at-here, item_at-other, item_at-in, absent, keys-split, keys-joined, apart_from_counts, place_of-some, first_place-is, last_place-is, place_after-split, place_before-split}
-use Rattle.clru_list.proofs.Rings.{IsOnce, next_is, prev_is, front_is, back_is, linked-unlink, linked-link, linked-next, linked-prev}
-use Rattle.clru_list.proofs.Holding.{once, below, end_of, held-reorder, held-next, held-fill, held-append, held-release, held-write, free_is}
+use Rattle.clru_list.specs.PlaceList.{place_list, item_at, first_place, last_place, IsValid}
+use Rattle.clru_list.specs.Links.{Links, put, count, IsPath, IsLinked, IsHeld, IsSound, nowhere, place_of, walk, unlinked, linked, released, occupied, spot, IsEnd}
+use Rattle.clru_list.proofs.Puts.{decide}
+use Rattle.clru_list.proofs.Paths.{count-append, count-here, count-other, last_or, first_or, last_or-counted}
+use Rattle.clru_list.proofs.EntryLists.{reordered, item_at-none, item_at-here, keys-split, keys-joined, apart_from_counts, first_place-is, last_place-is}
+use Rattle.clru_list.proofs.Rings.{IsOnce, prev_is, front_is, back_is, linked-unlink, linked-link, linked-next, linked-prev}
+use Rattle.clru_list.proofs.Holding.{once, below, end_of, held-reorder, held-next, held-fill, held-append, held-release}
 
 module _ {T : Type 0} where
   -- the walk along the links of the entries
@@ -69,14 +68,6 @@ module _ {T : Type 0} where
     pub last_place_view : place_of (l.prev nowhere) ≡ last_place es
     last_place_view = ap place_of (back_is l.next l.prev (keys_of es) s.linked) ∙ sym (last_place-is es no_nowhere)
 
-    pub last_counted : 0 < count (l.prev nowhere) (nowhere ∷ keys_of es)
-    last_counted = let P : ℕ → Type 0 = λ k. 0 < count k (nowhere ∷ keys_of es) in
-        subst P (sym (back_is l.next l.prev (keys_of es) s.linked)) (last_or-counted nowhere (keys_of es))
-
-    pub first_counted : 0 < count (l.next nowhere) (nowhere ∷ keys_of es)
-    first_counted = let P : ℕ → Type 0 = λ k. 0 < count k (nowhere ∷ keys_of es) in
-        subst P (sym (front_is l.next l.prev (keys_of es) s.linked)) (first_or-counted nowhere (keys_of es))
-
     -- a link may be written at the ends
     pub end_at : (k : ℕ) → 0 < count k (nowhere ∷ keys_of es) → IsEnd l k
     end_at k held = end_of l.next l.item l.free l.size es s.held k held
@@ -107,7 +98,7 @@ module _ {T : Type 0} where
         let order = reordered p x bs cs outside in (
           subst S (sym split) (linked-link l.next l.prev ps p qs a b is_a is_b apart_in (subst R joined loose.linked)),
           held-reorder (put (put l.next p b) a p) l.item l.free l.size ((p, x) ∷ (bs ++ cs)) (bs ++ (p, x) ∷ cs)
-          (record { items = λ k. sym (order.items k); counts = λ k. sym (order.counts k); lengths = sym order.lengths }) at_a,
+              (record { items = λ k. sym (order.items k); counts = λ k. sym (order.counts k); lengths = sym order.lengths }) at_a,
         )
 
     -- it leaves its neighbours

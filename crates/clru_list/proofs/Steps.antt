@@ -1,15 +1,15 @@
 -- What each call does to a whole list.
-use Rattle.std.proofs.Common.{◌≡◌, ℕ, suc, ◌+◌, ◌-◌, ◌<◌, ◌≤◌, ◌^◌, ◌⊎◌, inl, inr, Bool, true, false, cond, eqb, List, [], ◌∷◌, ◌++◌, length, Option, Some, None, IsSome, refl, sym, ap, ◌∙◌, arith, subst}
+use Rattle.std.proofs.Common.{◌≡◌, ℕ, suc, ◌+◌, ◌-◌, ◌<◌, ◌≤◌, ◌^◌, inl, inr, List, [], ◌∷◌, ◌++◌, length, Some, None, refl, sym, ap, ◌∙◌, arith, subst}
 use Rattle.std.proofs.lemmas.List.{length-append, append-nil}
 use Rattle.std.specs.Map.{keys_of}
-use Rattle.clru_list.specs.PlaceList.{PlaceList, place_list, item_at, without, with_at, place_after, place_before}
-use Rattle.clru_list.specs.Links.{Links, put, count, IsLinked, IsHeld, IsSound, nowhere, place_of, walk, unlinked, linked, released, set_item, occupied, spot, IsEnd}
-use Rattle.clru_list.proofs.Puts.{split, decide, put-here, put-other}
-use Rattle.clru_list.proofs.Paths.{count-append, count-here, count-other, last_or, first_or, last_or-counted, first_or-counted, count-le-cons}
-use Rattle.clru_list.proofs.EntryLists.{Split, split_at, without-split, with_at-split, item_at-none, keys-split, keys-joined, first_place-is, place_after-split, place_before-split, reordered}
+use Rattle.clru_list.specs.PlaceList.{without, with_at, place_after, place_before}
+use Rattle.clru_list.specs.Links.{Links, put, count, IsLinked, IsHeld, IsSound, nowhere, place_of, unlinked, linked, released, set_item, occupied, spot, IsEnd}
+use Rattle.clru_list.proofs.Puts.{decide}
+use Rattle.clru_list.proofs.Paths.{count-append, count-here, last_or, first_or, last_or-counted, first_or-counted, count-le-cons}
+use Rattle.clru_list.proofs.EntryLists.{Split, split_at, without-split, with_at-split, item_at-none, keys-split, first_place-is, place_after-split, place_before-split, reordered}
 use Rattle.clru_list.proofs.Rings.{next_is, prev_is, front_is, back_is}
 use Rattle.clru_list.proofs.Holding.{below, end_of, free_is, held-reorder, held-write}
-use Rattle.clru_list.proofs.Soundness.{IsLoose, link-loose, unlink-loose, release-loose, occupy-loose, no_nowhere, ring_once, end_at}
+use Rattle.clru_list.proofs.Soundness.{IsLoose, link-loose, unlink-loose, release-loose, occupy-loose, no_nowhere, end_at}
 
 module _ {T : Type 0} (l : Links T) (len capacity places room : ℕ) (i : (es : List (ℕ × T)) × IsSound l len capacity places room es) where
   -- another capacity
@@ -19,7 +19,14 @@ module _ {T : Type 0} (l : Links T) (len capacity places room : ℕ) (i : (es : 
   -- more places
   pub sound-grow : (more wide : ℕ) → places ≤ more → more ≤ wide → wide < 2 ^ 63 → IsSound l len capacity more wide i.0
   sound-grow more wide grows reserved countable = record {
-    linked = i.1.linked; held = i.1.held; counted = i.1.counted; fits = i.1.fits; within = omega (arith, i.1.within); reserved = reserved; countable = countable }
+    linked = i.1.linked;
+    held = i.1.held;
+    counted = i.1.counted;
+    fits = i.1.fits;
+    within = omega (arith, i.1.within);
+    reserved = reserved;
+    countable = countable;
+  }
 
   module _ (p : ℕ) (x : T) (h : l.item p ≡ Some x) where
     at_place : Split p x i.0

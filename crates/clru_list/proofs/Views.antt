@@ -1,21 +1,20 @@
 -- What a list shows, from what its fields keep.
-use Rattle.std.proofs.Common.{◌≡◌, ℕ, suc, ◌+◌, ◌-◌, ◌<◌, ◌≤◌, ◌^◌, ◌⊎◌, inl, inr, Bool, true, false, cond, eqb, List, [], ◌∷◌, ◌++◌, length, Option, Some, None, IsSome, refl, sym, ap, ◌∙◌, arith, subst}
+use Rattle.std.proofs.Common.{◌≡◌, ℕ, ◌<◌, ◌≤◌, eqb, List, [], ◌∷◌, length, Option, Some, None, IsSome, refl, sym, ap, ◌∙◌, arith, subst}
 use Rattle.std.specs.Option.{option_map, option_map_or}
 use Rattle.std.specs.Map.{keys_of}
-use Rattle.clru_list.specs.PlaceList.{PlaceList, place_list, with_entries, item_at, without, with_at, to_front, first_entry, last_entry, last_entry_from, first_place, last_place, place_after, place_before, place_before_from, IsApart, IsValid}
+use Rattle.clru_list.specs.PlaceList.{PlaceList, place_list, with_entries, item_at, without, with_at, to_front, first_entry, last_entry, last_entry_from, first_place, last_place, place_after, place_before_from, IsValid}
 use Rattle.std.specs.Prelude.{vec_len, vec_capacity, slice_index_or as get_or}
 use Rattle.std.specs.Vec.{with_item}
 use Rattle.clru_list.specs.declared.chain.Chain.{Chain}
 use Rattle.clru_list.specs.declared.chain.Node.{Node}
 use Rattle.clru_list.proofs.NodeLemmas.{links_of-set_item}
 use Rattle.clru_list.proofs.Steps.{place_below, sound-write}
-use Rattle.clru_list.specs.Links.{Links, links_of, put, count, IsLinked, IsHeld, IsSound, nowhere, place_of, walk, unlinked, linked, released, set_item, occupied, spot, IsEnd}
-use Rattle.clru_list.proofs.Puts.{split, decide, put-here, put-other}
-use Rattle.clru_list.proofs.Paths.{count-append, count-here, count-other, last_or, first_or, last_or-counted, first_or-counted, apart_head, apart_tail}
-use Rattle.clru_list.proofs.EntryLists.{Split, split_at, without-split, with_at-split, item_at-none, item_at-here, item_at-other, item_at-in, absent, keys-split, keys-joined, first_place-is, place_after-split, place_before-split}
-use Rattle.clru_list.proofs.Rings.{next_is, prev_is, front_is, back_is}
-use Rattle.clru_list.proofs.Holding.{below, end_of, free_is}
-use Rattle.clru_list.proofs.Soundness.{walk-is, view-is, valid, ring_once, keys_once, no_nowhere, first_place_view, last_place_view, last_counted, first_counted, end_at, counted}
+use Rattle.clru_list.specs.Links.{Links, links_of, count, IsSound, nowhere, place_of, walk, set_item}
+use Rattle.clru_list.proofs.Puts.{split}
+use Rattle.clru_list.proofs.Paths.{count-here, last_or, first_or, last_or-counted}
+use Rattle.clru_list.proofs.EntryLists.{item_at-here, item_at-other}
+use Rattle.clru_list.proofs.Rings.{front_is, back_is}
+use Rattle.clru_list.proofs.Soundness.{view-is, valid, keys_once, first_place_view, last_place_view}
 
 module _ {T : Type 0} where
   -- behind and before a place without an item there is none
@@ -80,11 +79,6 @@ module _ {T : Type 0} where
       pub seen_last : place_of (l.prev nowhere) ≡ last_place now.entries
       seen_last = last_place_view l len capacity places room i.0 i.1 ∙ ap last_place (sym seen_entries)
 
-    -- a held place has a node, and its neighbours can be written
-    pub held_below : (p : ℕ) → IsSome (l.item p) → p < l.size
-    held_below p some = let P : Option T → Type 0 = λ o. IsSome o in
-        below l.next l.item l.free l.size i.0 i.1.held p (counted p i.0 (subst P (i.1.held.live p) some))
-
   pub some_item : (o : Option T) → IsSome o → (x : T) × (o ≡ Some x)
   some_item None some = absurd (cc)
   some_item (Some x) some = (x, refl)
@@ -97,6 +91,12 @@ module _ {T : Type 0} where
 
     pub seen_length : len ≡ length now.entries
     seen_length = i.1.counted ∙ ap length (sym (seen_entries l len capacity places room i now h))
+
+    -- the room that is seen is there
+    pub has_room : (length now.entries < now.places) × (length now.entries < now.capacity) → (len < places) × (len < capacity)
+    has_room free =
+        let sees = seen l len capacity places room i now h in let same_places = ap (λ n. n.places) sees in let same_capacity = ap (λ n. n.capacity) sees in
+        let below = free.0 in let fits = free.1 in let counts = seen_length in (omega arith, omega arith)
 
     pub seen_with : (change : List (ℕ × T) → List (ℕ × T)) → with_entries now (change now.entries) ≡ place_list (change i.0) capacity places
     seen_with change = ap (λ n. with_entries n (change n.entries)) (seen l len capacity places room i now h)

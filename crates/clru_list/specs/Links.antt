@@ -1,10 +1,9 @@
 -- How a list's nodes are linked. No public clause cites it.
-use Rattle.std.specs.Prelude.{◌≡◌, ◌⊎◌, ℕ, zero, suc, ◌+◌, ◌<◌, ◌≤◌, ◌==◌, ◌^◌, cond, List, [], ◌∷◌, ◌++◌, map, length, Option, Some, None, slice_index_or, vec_len}
+use Rattle.std.specs.Prelude.{◌≡◌, ◌⊎◌, ℕ, zero, suc, ◌+◌, ◌<◌, ◌≤◌, ◌==◌, ◌^◌, cond, List, [], ◌∷◌, map, length, Option, Some, None, slice_index_or, vec_len}
 use Rattle.std.specs.Option.{option_map_or}
 use Rattle.std.specs.Map.{keys_of}
 use Rattle.clru_list.specs.PlaceList.{item_at}
 use Rattle.clru_list.specs.declared.chain.Chain.{Chain}
-use Rattle.clru_list.specs.declared.chain.Node.{Node}
 
 -- the place that no node has
 abbrev pub nowhere : ℕ

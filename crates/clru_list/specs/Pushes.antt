@@ -1,5 +1,5 @@
 -- How a list grows, and why a push is refused. Public clauses cite it.
-use Rattle.std.specs.Prelude.{◌≡◌, ℕ, ◌<◌, ◌≤◌, length}
+use Rattle.std.specs.Prelude.{◌≡◌, ◌≤◌, length}
 use Rattle.clru_list.specs.PlaceList.{PlaceList, NeedsPlace}
 use Rattle.clru_list.specs.declared.error.PushError.{PushError}
 use Rattle.clru_list.specs.declared.error.PushError.TheVariants.{Full, NoMemory}

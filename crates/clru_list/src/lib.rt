@@ -10,11 +10,15 @@
 #![tactic(auto)]
 
 mod chain;
+mod cursor;
 mod error;
+mod iter;
 mod list;
 
 // A crate can name a list in a contract only where the types of its fields are exported.
 #[doc(hidden)]
 pub use chain::{Chain, Node};
+pub use cursor::FixedSizeListIterMut;
 pub use error::{NoMemory, PushError};
+pub use iter::FixedSizeListIter;
 pub use list::FixedSizeList;

@@ -16,6 +16,7 @@ mod push;
 mod remove;
 mod resize;
 mod retain;
+mod walk;
 
 /// A list of at most `capacity` items, each of which keeps its place number until it is removed.
 #[derive(Drop)]
@@ -102,14 +103,16 @@ impl<T, A: Allocator + Copy> FixedSizeList<T, A> {
 
     /// Returns whether there is no item.
     pub fn is_empty(&self) -> bool
-        ensures { IsTrue result ↔ (self.now.entries ≡ []) }
+        ensures empty { IsTrue result ↔ (self.now.entries ≡ []) }
+        ensures valid { IsValid self.now }
     {
         self.len == 0
     }
 
     /// Returns whether the length is at the capacity.
     pub fn is_full(&self) -> bool
-        ensures { IsTrue result ↔ (length self.now.entries ≡ self.now.capacity) }
+        ensures full { IsTrue result ↔ (length self.now.entries ≡ self.now.capacity) }
+        ensures valid { IsValid self.now }
     {
         self.len == self.capacity
     }
@@ -159,7 +162,7 @@ impl<T, A: Allocator + Copy> FixedSizeList<T, A> {
         ensures place { result ≡ place_after place self.now.entries }
         ensures valid { IsValid self.now }
     {
-        self.chain.item(place)?;
+        self.get(place)?;
         some_place(self.chain.next(place))
     }
 
@@ -168,7 +171,7 @@ impl<T, A: Allocator + Copy> FixedSizeList<T, A> {
         ensures place { result ≡ place_before place self.now.entries }
         ensures valid { IsValid self.now }
     {
-        self.chain.item(place)?;
+        self.get(place)?;
         some_place(self.chain.prev(place))
     }
 }

@@ -50,12 +50,11 @@ impl<T, A: Allocator + Copy> FixedSizeList<T, A> {
         ensures value { option_copied_mut result ≡ item_at place self.old.entries }
         ensures valid { IsValid self.old }
     {
-        if self.get(place).is_some() {
-            self.bring_front(place);
-            Some(self.item_mut(place))
-        } else {
-            None
+        if self.get(place).is_none() {
+            return None;
         }
+        self.bring_front(place);
+        Some(self.item_mut(place))
     }
 
     fn item_mut(&mut self, place: usize) -> &mut T

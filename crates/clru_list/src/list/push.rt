@@ -43,12 +43,7 @@ impl<T, A: Allocator + Copy> FixedSizeList<T, A> {
         ensures places { GrowsIfNeeded self.old self.new }
         ensures valid { IsValid self.new }
     {
-        if self.len == self.capacity {
-            return Err(PushError::Full(item));
-        }
-        let Ok(()) = self.make_ready() else {
-            return Err(PushError::NoMemory(item));
-        };
+        let item = self.admit(item)?;
         let place = self.chain.occupy(item);
         let front = self.chain.front;
         self.chain.link(NOWHERE, place, front);
@@ -66,17 +61,30 @@ impl<T, A: Allocator + Copy> FixedSizeList<T, A> {
         ensures places { GrowsIfNeeded self.old self.new }
         ensures valid { IsValid self.new }
     {
-        if self.len == self.capacity {
-            return Err(PushError::Full(item));
-        }
-        let Ok(()) = self.make_ready() else {
-            return Err(PushError::NoMemory(item));
-        };
+        let item = self.admit(item)?;
         let place = self.chain.occupy(item);
         let back = self.chain.back;
         self.chain.link(back, place, NOWHERE);
         self.len += 1;
         Ok(place)
+    }
+
+    /// Finds room for an item, and gives it back.
+    fn admit(&mut self, item: T) -> Result<T, PushError<T>>
+        ensures item { IfOk result (λ x. x ≡ item) }
+        ensures room { OnOk result ((length self.new.entries < self.new.places) × (length self.new.entries < self.new.capacity)) }
+        ensures entries { self.new.entries ≡ self.old.entries }
+        ensures refused { IfErr result (λ e. Refuses self.old item e × (self.new ≡ self.old)) }
+        ensures places { GrowsIfNeeded self.old self.new }
+        ensures valid { IsValid self.new }
+    {
+        if self.is_full() {
+            return Err(PushError::Full(item));
+        }
+        match self.make_ready() {
+            Ok(()) => Ok(item),
+            Err(NoMemory) => Err(PushError::NoMemory(item)),
+        }
     }
 }
 

@@ -39,16 +39,17 @@ impl<T, A: Allocator + Copy> FixedSizeList<T, A> {
         ensures stays { self.new ≡ with_entries self.old self.new.entries }
         ensures valid { IsValid self.new }
     {
-        let mut at = self.front_idx();
-        while let Some(place) = at {
-            at = self.next_idx(place);
-            let keep = match self.get_mut(place) {
+        let mut next = self.front_idx();
+        while let Some(place) = next {
+            next = self.next_idx(place);
+            let kept = match self.get_mut(place) {
                 Some(item) => f(place, item),
                 None => unreachable!(),
             };
-            self.keep_if(place, keep);
+            self.keep_if(place, kept);
         }
     }
+
     fn keep_if(&mut self, place: usize, keep: bool)
     where
         T: Drop,

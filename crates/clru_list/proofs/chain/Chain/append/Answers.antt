@@ -1,5 +1,4 @@
-use Rattle.std.proofs.Common.{◌≡◌, vec_len, arith}
-use Rattle.clru_list.specs.Links.{nowhere}
+use Rattle.std.proofs.Common.{arith}
 use Rattle.clru_list.proofs.NodeLemmas.{links_of-append}
 use Rattle.clru_list.proofs.chain.Chain.append.Goals as goal
 

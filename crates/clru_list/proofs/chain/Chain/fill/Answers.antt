@@ -1,4 +1,4 @@
-use Rattle.std.proofs.Common.{◌≡◌, ap, sym, ◌∙◌, arith, vec_len, ◌<◌}
+use Rattle.std.proofs.Common.{◌≡◌, ap, sym, ◌∙◌, arith}
 use Rattle.clru_list.specs.Links.{nowhere, links_of, set_item, next_of}
 use Rattle.clru_list.proofs.NodeLemmas.{links_of-set_item, node_next}
 use Rattle.clru_list.proofs.chain.Chain.fill.Goals as goal

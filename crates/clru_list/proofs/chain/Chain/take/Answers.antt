@@ -1,5 +1,5 @@
-use Rattle.std.proofs.Common.{◌≡◌, ap, ◌∙◌, refl, arith, vec_len, ◌<◌}
-use Rattle.clru_list.specs.Links.{nowhere, links_of, set_item}
+use Rattle.std.proofs.Common.{ap, ◌∙◌, refl, arith, vec_len, ◌<◌}
+use Rattle.clru_list.specs.Links.{links_of, set_item}
 use Rattle.clru_list.proofs.NodeLemmas.{links_of-set_item}
 use Rattle.clru_list.proofs.chain.Chain.take.Goals as goal
 

@@ -10,6 +10,7 @@ item_mut-requires g c =
 
 pub returns : goal.returns
 returns g c =
-    let e = c.in_ok-back.ensures in let b = c.in_ok-back.back in let es = c.args.self.now.entries in let last = last_is b es e.valid.apart (sym e.place) in
-    (ap (λ f. inl (c.item_mut.result.ghost_name, f)) (fun_ext (λ w. ap (with_entries c.args.self.now) (with_at-last b w es last))),
-    record { lends = tt; value = sym c.item_mut.ensures.value ∙ item_at-last b es last; valid = e.valid })
+    let e = c.in_ok-back.ensures in let b = c.in_ok-back.back in let es = c.args.self.now.entries in let last = last_is b es e.valid.apart (sym e.place) in (
+      ap (λ f. inl (c.item_mut.result.ghost_name, f)) (fun_ext (λ w. ap (with_entries c.args.self.now) (with_at-last b w es last))),
+      record { lends = tt; value = sym c.item_mut.ensures.value ∙ item_at-last b es last; valid = e.valid },
+    )

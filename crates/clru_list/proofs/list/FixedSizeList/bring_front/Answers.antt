@@ -1,5 +1,5 @@
-use Rattle.std.proofs.Common.{◌<◌, refl, sym, ap, ◌∙◌, subst}
-use Rattle.clru_list.specs.Links.{Links, links_of, linked, nowhere, IsEnd}
+use Rattle.std.proofs.Common.{◌<◌, sym, ap, ◌∙◌, subst}
+use Rattle.clru_list.specs.Links.{Links, linked, nowhere, IsEnd}
 use Rattle.clru_list.proofs.Soundness.{view-is}
 use Rattle.clru_list.proofs.Steps.{place_below, prev_end, next_end, front_end, sound-front}
 use Rattle.clru_list.proofs.Views.{held_item, seen_to_front, sound-at}
@@ -31,9 +31,11 @@ link-requires-clause-next g c =
 
 abbrev pub invariant_of-self : goal.invariant_of-self
 invariant_of-self g c =
-    let it = held_item _ _ _ _ _ c.self.invariant _ c.self.view_is c.args.place c.requires in
-    (_, sound-at _ _ _ _ _ _ _ _ (c.link.ensures.links ∙ ap (λ l. linked l nowhere c.args.place (l.next nowhere)) c.unlink.ensures.links)
-    (c.link.ensures.room ∙ c.unlink.ensures.room) (sound-front _ _ _ _ _ c.self.invariant c.args.place it.0 it.1))
+    let it = held_item _ _ _ _ _ c.self.invariant _ c.self.view_is c.args.place c.requires in (
+      _,
+      sound-at _ _ _ _ _ _ _ _ (c.link.ensures.links ∙ ap (λ l. linked l nowhere c.args.place (l.next nowhere)) c.unlink.ensures.links)
+          (c.link.ensures.room ∙ c.unlink.ensures.room) (sound-front _ _ _ _ _ c.self.invariant c.args.place it.0 it.1),
+    )
 
 pub returns : goal.returns
 returns g c =

@@ -25,9 +25,12 @@ pub returns : goal.returns
 returns g c =
     let it = held_item _ _ _ _ _ c.self.invariant _ c.self.view_is c.args.place c.requires in
     let below = place_below _ _ _ _ _ c.self.invariant c.args.place it.0 it.1 in (
-      (refl, λ w. view-is _ _ _ _ _ _
-          (sound-write_node c.self.inside.chain _ _ _ c.self.invariant c.args.place it.0 it.1 c.index_mut.result.now c.index_mut.ensures.value w)
-          ∙ sym (seen_with _ _ _ _ _ c.self.invariant _ c.self.view_is (with_at c.args.place w))),
+      (
+        refl,
+        λ w. view-is _ _ _ _ _ _
+            (sound-write_node c.self.inside.chain _ _ _ c.self.invariant c.args.place it.0 it.1 c.index_mut.result.now c.index_mut.ensures.value w)
+            ∙ sym (seen_with _ _ _ _ _ c.self.invariant _ c.self.view_is (with_at c.args.place w)),
+      ),
       record {
         lends = tt;
         value = sym (seen_item _ _ _ _ _ c.self.invariant _ c.self.view_is c.args.place)

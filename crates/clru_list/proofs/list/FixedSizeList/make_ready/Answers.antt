@@ -1,4 +1,4 @@
-use Rattle.std.proofs.Common.{length, refl, sym, ap, ◌∙◌, arith}
+use Rattle.std.proofs.Common.{refl, sym, ap, ◌∙◌, arith}
 use Rattle.clru_list.proofs.NodeLemmas.{links_of-moved}
 use Rattle.clru_list.proofs.Soundness.{view-is, valid_view}
 use Rattle.clru_list.proofs.Steps.{sound-grow}
@@ -17,9 +17,11 @@ returns-then-self-2-clause-valid g c = seen_valid _ _ _ _ _ c.self.invariant _ c
 
 abbrev pub invariant_of-self : goal.invariant_of-self
 invariant_of-self g c =
-    let e = c.reserve_exact.ensures in let i = c.self.invariant in
-    (i.0, sound-at _ _ _ _ _ _ _ _ (links_of-moved c.self.inside.chain c.reserve_exact.new.self e.items e.len) refl
-    (sound-grow _ _ _ _ _ i c.self.inside.places _ (omega arith) (omega (arith, i.1.reserved, e.capacity)) c.reserve_exact.new.self.small))
+    let e = c.reserve_exact.ensures in let i = c.self.invariant in (
+      i.0,
+      sound-at _ _ _ _ _ _ _ _ (links_of-moved c.self.inside.chain c.reserve_exact.new.self e.items e.len) refl
+          (sound-grow _ _ _ _ _ i c.self.inside.places _ (omega arith) (omega (arith, i.1.reserved, e.capacity)) c.reserve_exact.new.self.small),
+    )
 
 pub returns-in_default-clause-refused : goal.returns-in_default-clause-refused
 returns-in_default-clause-refused g c =
@@ -33,10 +35,12 @@ returns-in_default-clause-valid g c = valid_view _ _ _ _ _ _ (invariant_of-self 
 
 abbrev pub invariant_of-self-2 : goal.invariant_of-self-2
 invariant_of-self-2 g c =
-    let e = c.reserve_exact.ensures in let i = c.self.invariant in
-    (i.0, sound-at _ _ _ _ _ _ _ _ (links_of-moved c.self.inside.chain c.reserve_exact.new.self e.items e.len) refl
-    (sound-grow _ _ _ _ _ i c.grown-places.result _ (omega (arith, c.grown-places.ensures, c.if-self.false, c.if-self-2.false, i.1.fits))
-    (omega (arith, c.in-Ok.ensures.ok, e.len, c.len.ensures, i.1.within, c.grown-places.ensures)) c.reserve_exact.new.self.small))
+    let e = c.reserve_exact.ensures in let i = c.self.invariant in (
+      i.0,
+      sound-at _ _ _ _ _ _ _ _ (links_of-moved c.self.inside.chain c.reserve_exact.new.self e.items e.len) refl
+          (sound-grow _ _ _ _ _ i c.grown-places.result _ (omega (arith, c.grown-places.ensures, c.if-self.false, c.if-self-2.false, i.1.fits))
+          (omega (arith, c.in-Ok.ensures.ok, e.len, c.len.ensures, i.1.within, c.grown-places.ensures)) c.reserve_exact.new.self.small),
+    )
 
 pub returns-clause-ready : goal.returns-clause-ready
 returns-clause-ready g c = λ lt.

@@ -1,11 +1,11 @@
-use Rattle.std.proofs.Common.{sym, ap, ◌∙◌}
+use Rattle.std.proofs.Common.{ap, ◌∙◌}
 use Rattle.clru_list.specs.PlaceList.{with_entries, without}
 use Rattle.clru_list.proofs.EntryLists.{without-first}
 use Rattle.clru_list.proofs.Views.{seen_item, seen_front, front_place}
 use Rattle.clru_list.proofs.list.FixedSizeList.pop_front.Goals as goal
 
 pub returns-clause-value : goal.returns-clause-value
-returns-clause-value g c = c.remove.ensures.value ∙ sym (seen_item _ _ _ _ _ c.self.invariant _ c.self.view_is c.self.inside.chain.front) ∙ seen_front _ _ _ _ _ c.self.invariant _ c.self.view_is
+returns-clause-value g c = cc (c.remove.ensures.value, seen_item _ _ _ _ _ c.self.invariant _ c.self.view_is c.self.inside.chain.front, seen_front _ _ _ _ _ c.self.invariant _ c.self.view_is)
 
 pub returns-clause-entries : goal.returns-clause-entries
 returns-clause-entries g c =

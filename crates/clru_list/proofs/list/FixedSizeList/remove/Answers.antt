@@ -1,5 +1,5 @@
-use Rattle.std.proofs.Common.{None, refl, sym, ap, ◌∙◌, subst}
-use Rattle.clru_list.specs.Links.{Links, links_of, set_item, unlinked, released, IsEnd}
+use Rattle.std.proofs.Common.{None, sym, ap, ◌∙◌, subst}
+use Rattle.clru_list.specs.Links.{Links, links_of, unlinked, released, IsEnd}
 use Rattle.clru_list.specs.PlaceList.{with_entries, without}
 use Rattle.clru_list.proofs.EntryLists.{without-none}
 use Rattle.clru_list.proofs.Puts.{set_item-same}
@@ -37,15 +37,17 @@ unlink-requires-clause-next g c =
 
 abbrev pub invariant_of-self-2 : goal.invariant_of-self-2
 invariant_of-self-2 g c =
-    let p = c.args.place in let e = c.in_ok-item.ensures in
-    (_, sound-at _ _ _ _ _ _ _ _ (c.release.ensures.links ∙ ap (λ l. released l p) (c.unlink.ensures.links ∙ ap (λ l. unlinked l p) e.links))
-    (c.release.ensures.room ∙ c.unlink.ensures.room ∙ e.room) (sound-remove _ _ _ _ _ c.self.invariant p c.in_ok-item.item (sym e.value)))
+    let p = c.args.place in let e = c.in_ok-item.ensures in (
+      _,
+      sound-at _ _ _ _ _ _ _ _ (c.release.ensures.links ∙ ap (λ l. released l p) (c.unlink.ensures.links ∙ ap (λ l. unlinked l p) e.links))
+          (c.release.ensures.room ∙ c.unlink.ensures.room ∙ e.room) (sound-remove _ _ _ _ _ c.self.invariant p c.in_ok-item.item (sym e.value)),
+    )
 
 pub returns-clause-value : goal.returns-clause-value
-returns-clause-value g c = c.in_ok-item.ensures.value ∙ seen_item _ _ _ _ _ c.self.invariant _ c.self.view_is c.args.place
+returns-clause-value g c = cc (c.in_ok-item.ensures.value, seen_item _ _ _ _ _ c.self.invariant _ c.self.view_is c.args.place)
 
 pub returns-clause-entries : goal.returns-clause-entries
-returns-clause-entries g c = view-is _ _ _ _ _ _ (invariant_of-self-2 g c).1 ∙ sym (seen_with _ _ _ _ _ c.self.invariant _ c.self.view_is (without c.args.place))
+returns-clause-entries g c = cc (view-is _ _ _ _ _ _ (invariant_of-self-2 g c).1, seen_with _ _ _ _ _ c.self.invariant _ c.self.view_is (without c.args.place))
 
 pub returns-clause-valid : goal.returns-clause-valid
 returns-clause-valid g c = valid_view _ _ _ _ _ _ (invariant_of-self-2 g c).1

@@ -1,4 +1,4 @@
-use Rattle.std.proofs.Common.{length, ap, ◌∙◌, arith}
+use Rattle.std.proofs.Common.{length, ap, arith}
 use Rattle.clru_list.proofs.Soundness.{valid_view}
 use Rattle.clru_list.proofs.Steps.{sound-resize}
 use Rattle.clru_list.proofs.Views.{seen_entries}
@@ -7,7 +7,7 @@ use Rattle.clru_list.proofs.list.FixedSizeList.resize.Goals as goal
 pub invariant_of-self : goal.invariant_of-self
 invariant_of-self g c =
     let same = ap length (seen_entries _ _ _ _ _ c.self.invariant _ c.self.view_is) in
-    (c.self.invariant.0, sound-resize _ _ _ _ _ c.self.invariant c.args.capacity (omega (arith, c.self.invariant.1.counted, same, c.requires)))
+    (c.self.invariant.0, sound-resize _ _ _ _ _ c.self.invariant _ (omega (arith, c.self.invariant.1.counted, same, c.requires)))
 
 pub returns-clause-valid : goal.returns-clause-valid
 returns-clause-valid g c = valid_view _ _ _ _ _ _ (invariant_of-self g c).1

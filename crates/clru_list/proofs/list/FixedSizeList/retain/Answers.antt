@@ -1,6 +1,6 @@
-use Rattle.std.proofs.Common.{◌≡◌, Some, None, refl, sym, ap, ◌∙◌}
+use Rattle.std.proofs.Common.{refl, ◌∙◌}
 use Rattle.clru_list.specs.Retains.{CalledAtItem, TakesItem}
-use Rattle.clru_list.proofs.Retaining.{starts, ends, head, item_here, takes_here, goes_on, fewer, written_same, some_injective}
+use Rattle.clru_list.proofs.Retaining.{starts, ends, item_here, takes_here, goes_on, fewer, written_same, some_injective}
 use Rattle.clru_list.proofs.list.FixedSizeList.retain.Goals as goal
 
 pub loop-at-init : goal.loop-at-init

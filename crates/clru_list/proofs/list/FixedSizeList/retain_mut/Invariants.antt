@@ -3,8 +3,8 @@ use Rattle.clru_list.specs.Retains.{CalledAtItemMut, TakesItemMut}
 use Rattle.clru_list.proofs.Retaining.{IsRetaining, from_place}
 use Rattle.clru_list.proofs.list.FixedSizeList.retain_mut.Given as goal
 
-abbrev pub invariant-loop-at : goal.invariant-loop-at
-invariant-loop-at g l = IsRetaining (CalledAtItemMut g.F.FnMut) (TakesItemMut g.F.FnMut) l.fn.f l.fn.self l.f l.self l.at
+abbrev pub invariant-loop-next : goal.invariant-loop-next
+invariant-loop-next g l = IsRetaining (CalledAtItemMut g.F.FnMut) (TakesItemMut g.F.FnMut) l.fn.f l.fn.self l.f l.self l.next
 
-abbrev pub decreases-loop-at : goal.decreases-loop-at
-decreases-loop-at g l = length (from_place l.at l.self.entries)
+abbrev pub decreases-loop-next : goal.decreases-loop-next
+decreases-loop-next g l = length (from_place l.next l.self.entries)
