@@ -11,5 +11,4 @@ mod run;
 
 pub use call::{Answer, Call, PlainCall};
 pub use perform::Perform;
-
 pub use run::perform_all;
