@@ -15,18 +15,6 @@ impl<K> WeightScale<K, &'static str> for ByLength {
     }
 }
 
-/// Each pair weighs the same.
-#[derive(Clone, Copy)]
-pub(crate) struct Each(pub(crate) usize);
-
-impl<K, V> WeightScale<K, V> for Each {
-    ghost weight = { λ scale _ _. scale.0 };
-
-    fn weight(&self, _key: &K, _value: &V) -> usize {
-        self.0
-    }
-}
-
 /// A number weighs itself.
 #[derive(Clone, Copy)]
 pub(crate) struct ByValue;

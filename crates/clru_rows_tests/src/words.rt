@@ -1,6 +1,6 @@
 //! A caller: it counts words.
 
-use crate::lists::{room, takes_out};
+use crate::steps::{room, takes_out};
 use clru::{CLruCache, NonZeroUsize};
 use std::alloc::{AllocError, Global};
 use std::test::Fail;
