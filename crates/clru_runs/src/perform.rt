@@ -10,8 +10,10 @@ use std::hash::{BuildHasher, Hash};
 pub trait Perform<C> {
     type Answer;
 
+    // The `C` before, the call, its answer, and the `C` after.
     ghost step: { C → Self → Self.Answer → C → Type 0 };
 
+    /// Makes the call. It never fails: what was refused is an answer.
     fn perform(self, cache: &mut C) -> Self::Answer
         ensures { step cache.old self result cache.new };
 }
