@@ -44,16 +44,17 @@ module _ {K V W : Type 0} where
       PlainPuts this (Ok out) new = Accepts (NeedsPlace eq old x) this (plain_put eq old.capacity x v old.entries) old out new
       PlainPuts this (Err back) new = RefusesForMemory (NeedsPlace eq old x) (x, v) old back new
 
+    module _ (weight : K → V → ℕ) (old : Cache K V W) (x : K) (v : V) where
       -- a weighted put
-      abbrev pub WeightedPuts : (K → V → ℕ) → Result (Option V) (PutError K V) → Cache K V W → Type 0
-      WeightedPuts weight (Ok out) new = (weight x v < old.capacity) × Accepts (NeedsPlaceFor eq weight old x v)
+      abbrev pub WeightedPuts : Result (Option V) (PutError K V) → Cache K V W → Type 0
+      WeightedPuts (Ok out) new = (weight x v < old.capacity) × Accepts (NeedsPlaceFor eq weight old x v)
           (lookup (eq x) old.entries) (weighted_put eq weight old.capacity x v old.entries) old out new
-      WeightedPuts weight (Err (TooHeavy k w)) new = RefusesAsTooHeavy (weight x v) (x, v) old (k, w) new
-      WeightedPuts weight (Err (NoMemory k w)) new = RefusesForMemory (NeedsPlaceFor eq weight old x v) (x, v) old (k, w) new
+      WeightedPuts (Err (TooHeavy k w)) new = RefusesAsTooHeavy (weight x v) (x, v) old (k, w) new
+      WeightedPuts (Err (NoMemory k w)) new = RefusesForMemory (NeedsPlaceFor eq weight old x v) (x, v) old (k, w) new
 
     -- a call of a cache by any scale, one line for each
     abbrev pub Step : (W → K → V → ℕ) → Cache K V W → Call K V → Answer K V → Cache K V W → Type 0
-    Step weight old (PutWithWeight x v) answer new = Tells Weighed (WeightedPuts old x v (weight old.scale)) answer new
+    Step weight old (PutWithWeight x v) answer new = Tells Weighed (WeightedPuts (weight old.scale) old x v) answer new
     Step weight old (Get x) answer new = (answer ≡ Value (lookup (eq x) old.entries)) × (new ≡ with_entries old (touch eq x old.entries))
     Step weight old (Peek x) answer new = (answer ≡ Value (lookup (eq x) old.entries)) × (new ≡ old)
     Step weight old (Contains x) answer new = (answer ≡ Flag (is_some (lookup (eq x) old.entries))) × (new ≡ old)

@@ -1,8 +1,13 @@
 //! Any list of calls of a cache is a run of the model.
 //!
-//! A call is a value, and `perform` makes it; its contract is one step of the model, from the cache before the call to the
-//! cache after it. `perform_all` makes a list of calls, and its contract is a run: a chain of such steps. Both are proved
-//! over the contracts of the cache alone.
+//! A call is a value, and `perform` makes it: its contract is one step of the model, from the cache before the call to the
+//! cache after it, which is valid. `perform_all` makes a list of calls: its contract is a run, a chain of such steps. Both
+//! are proved over the contracts of the cache alone.
+//!
+//! A value is copied out of the cache, so `V` is `Copy`: a clone may want memory, and would be one more way to fail. A key
+//! is moved in and needs `Drop`.
+//!
+//! One more call is a variant of `Call` or of `PlainCall`, its arm in `perform.rt`, and its line in `Step` or `PlainStep`.
 #![tactic(auto)]
 
 mod call;
@@ -11,5 +16,4 @@ mod run;
 
 pub use call::{Answer, Call, PlainCall};
 pub use perform::Perform;
-
 pub use run::perform_all;

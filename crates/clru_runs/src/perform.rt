@@ -1,4 +1,5 @@
 //! One call, made.
+ghost use Rattle.clru.specs.Cache.{IsValid};
 ghost use Rattle.clru_runs.specs.Step.{Step, PlainStep};
 
 use crate::call::{Answer, Call, PlainCall};
@@ -10,58 +11,89 @@ use std::hash::{BuildHasher, Hash};
 pub trait Perform<C> {
     type Answer;
 
+    // The `C` before, the call, its answer, and the `C` after.
     ghost step: { C → Self → Self.Answer → C → Type 0 };
 
+    /// Makes the call. It never fails: what was refused is an answer.
     fn perform(self, cache: &mut C) -> Self::Answer
         ensures { step cache.old self result cache.new };
 }
 
-impl<K: Eq + Hash + Drop, V: Copy, S: BuildHasher, W: WeightScale<K, V>, A> Perform<CLruCache<K, V, S, W, A>> for Call<K, V>
+impl<K: Eq + Hash + Drop, V: Copy, S: BuildHasher, W: WeightScale<K, V>, A> Perform<
+    CLruCache<K, V, S, W, A>,
+> for Call<K, V>
 where
     A: Allocator + Copy,
 {
     type Answer = Answer<K, V>;
 
-    ghost step = { Step K.eq W.weight };
+    ghost step = { λ old call answer new. Step K.eq W.weight old call answer new × IsValid K.eq (W.weight new.scale) new };
 
     fn perform(self, cache: &mut CLruCache<K, V, S, W, A>) -> Answer<K, V> {
-        match self {
-            Call::PutWithWeight(key, value) => put_with_weight(cache, key, value),
-            Call::Get(key) => Answer::Value(cache.get(&key).copied()),
-            Call::Peek(key) => Answer::Value(cache.peek(&key).copied()),
-            Call::Contains(key) => Answer::Flag(cache.contains(&key)),
-            Call::Len => Answer::Number(cache.len()),
-            Call::Weight => Answer::Number(cache.weight()),
-            Call::Capacity => Answer::Number(cache.capacity()),
-            Call::IsEmpty => Answer::Flag(cache.is_empty()),
-            Call::IsFull => Answer::Flag(cache.is_full()),
-            Call::PopFront => Answer::Pair(cache.pop_front()),
-        }
+        let answer = make(self, cache);
+        // The contract of `len` has what holds of each cache.
+        let _len = cache.len();
+        answer
     }
 }
 
-impl<K: Eq + Hash + Drop, V: Copy, S: BuildHasher, A> Perform<CLruCache<K, V, S, ZeroWeightScale, A>> for PlainCall<K, V>
+impl<K: Eq + Hash + Drop, V: Copy, S: BuildHasher, A> Perform<
+    CLruCache<K, V, S, ZeroWeightScale, A>,
+> for PlainCall<K, V>
 where
     A: Allocator + Copy,
 {
     type Answer = Answer<K, V>;
 
-    ghost step = { PlainStep K.eq };
+    ghost step = { λ old call answer new. PlainStep K.eq old call answer new × IsValid K.eq (λ _ _. 0) new };
 
     fn perform(self, cache: &mut CLruCache<K, V, S, ZeroWeightScale, A>) -> Answer<K, V> {
-        match self {
-            PlainCall::Put(key, value) => put(cache, key, value),
-            PlainCall::PutOrModify(key, value) => put_or_modify(cache, key, value),
-            PlainCall::Any(call) => call.perform(cache),
-        }
+        let answer = make_plain(self, cache);
+        let _len = cache.len();
+        answer
     }
 }
 
-fn put_with_weight<K: Eq + Hash + Drop, V: Copy, S: BuildHasher, W: WeightScale<K, V>, A: Allocator + Copy>(
+fn make<K: Eq + Hash + Drop, V: Copy, S: BuildHasher, W: WeightScale<K, V>, A: Allocator + Copy>(
+    call: Call<K, V>,
     cache: &mut CLruCache<K, V, S, W, A>,
-    key: K,
-    value: V,
 ) -> Answer<K, V>
+    ensures { Step K.eq W.weight cache.old call result cache.new }
+{
+    match call {
+        Call::PutWithWeight(key, value) => put_with_weight(cache, key, value),
+        Call::Get(key) => Answer::Value(cache.get(&key).copied()),
+        Call::Peek(key) => Answer::Value(cache.peek(&key).copied()),
+        Call::Contains(key) => Answer::Flag(cache.contains(&key)),
+        Call::Len => Answer::Number(cache.len()),
+        Call::Weight => Answer::Number(cache.weight()),
+        Call::Capacity => Answer::Number(cache.capacity()),
+        Call::IsEmpty => Answer::Flag(cache.is_empty()),
+        Call::IsFull => Answer::Flag(cache.is_full()),
+        Call::PopFront => Answer::Pair(cache.pop_front()),
+    }
+}
+
+fn make_plain<K: Eq + Hash + Drop, V: Copy, S: BuildHasher, A: Allocator + Copy>(
+    call: PlainCall<K, V>,
+    cache: &mut CLruCache<K, V, S, ZeroWeightScale, A>,
+) -> Answer<K, V>
+    ensures { PlainStep K.eq cache.old call result cache.new }
+{
+    match call {
+        PlainCall::Put(key, value) => put(cache, key, value),
+        PlainCall::PutOrModify(key, value) => put_or_modify(cache, key, value),
+        PlainCall::Any(call) => make(call, cache),
+    }
+}
+
+fn put_with_weight<
+    K: Eq + Hash + Drop,
+    V: Copy,
+    S: BuildHasher,
+    W: WeightScale<K, V>,
+    A: Allocator + Copy,
+>(cache: &mut CLruCache<K, V, S, W, A>, key: K, value: V) -> Answer<K, V>
     ensures { Step K.eq W.weight cache.old (Call.PutWithWeight key value) result cache.new }
 {
     Answer::Weighed(cache.put_with_weight(key, value))

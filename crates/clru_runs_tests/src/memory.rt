@@ -52,3 +52,20 @@ fn the_calls_come_back_where_answers_find_no_memory(rt: HostRuntime) -> Result<(
     assert_eq!(rt; (heap.asked(), answers.len(), cache.len()), (3, 2, 2));
     Ok(())
 }
+
+#[test]
+fn a_long_run_makes_one_request_for_its_answers(rt: HostRuntime) -> Result<(), Fail> {
+    let heap = Rationed::new(rt.alloc());
+    let mut cache = CLruCache::new(rt.alloc(), room(100)?);
+    let mut calls = Vec::with_capacity(&heap, 20_000)?;
+    for n in 0..20_000u32 {
+        calls.push(Put(n, n))?;
+    }
+    let asked = heap.asked();
+    let Ok(answers) = perform_all(&heap, &mut cache, calls) else {
+        return Err(Fail::from("there is memory"));
+    };
+    assert_eq!(rt; heap.asked(), asked.saturating_add(1));
+    assert_eq!(rt; (answers.len(), cache.len()), (20_000, 100));
+    Ok(())
+}

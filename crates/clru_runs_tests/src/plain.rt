@@ -5,9 +5,26 @@ use clru::CLruCache;
 use clru_runs::Answer::{Flag, Lent, Number, Pair, Stored, Value};
 use clru_runs::Call::{Capacity, Contains, Get, IsEmpty, IsFull, Len, Peek, PopFront, Weight};
 use clru_runs::PlainCall::{self, Any, Put, PutOrModify};
+use std::alloc::Global;
+use std::fmt::Debug;
+use std::hash::Hash;
+use std::process::Abort;
 use std::test::Fail;
 
 type Of<V> = Table<'static, PlainCall<&'static str, V>, &'static str, V>;
+
+/// Runs each of the tables.
+fn run_all<K: Eq + Hash + Copy + Debug, V: PartialEq + Copy + Debug>(
+    rt: &impl Abort,
+    alloc: Global,
+    tables: &[Table<PlainCall<K, V>, K, V>],
+) -> Result<(), Fail> {
+    for table in tables {
+        let mut cache = CLruCache::new(alloc, room(table.capacity)?);
+        runs(rt, alloc, table, &mut cache)?;
+    }
+    Ok(())
+}
 
 static TEXTS: &[Of<&'static str>] = &[
     Table {
@@ -88,11 +105,7 @@ static TEXTS: &[Of<&'static str>] = &[
 
 #[test]
 fn texts(rt: HostRuntime) -> Result<(), Fail> {
-    for table in TEXTS {
-        let mut cache = CLruCache::new(rt.alloc(), room(table.capacity)?);
-        runs(&rt, rt.alloc(), table, &mut cache)?;
-    }
-    Ok(())
+    run_all(&rt, rt.alloc(), TEXTS)
 }
 
 static NUMBERS: &[Of<u64>] = &[
@@ -154,11 +167,7 @@ static NUMBERS: &[Of<u64>] = &[
 
 #[test]
 fn numbers(rt: HostRuntime) -> Result<(), Fail> {
-    for table in NUMBERS {
-        let mut cache = CLruCache::new(rt.alloc(), room(table.capacity)?);
-        runs(&rt, rt.alloc(), table, &mut cache)?;
-    }
-    Ok(())
+    run_all(&rt, rt.alloc(), NUMBERS)
 }
 
 #[test]
