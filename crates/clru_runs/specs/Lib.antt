@@ -1,2 +1,3 @@
+pub mod PutRun
 pub mod Run
 pub mod Step

@@ -4,7 +4,7 @@
 #[cfg(test)]
 mod drawn;
 #[cfg(test)]
-mod inclusion;
+mod laws;
 #[cfg(test)]
 mod memory;
 #[cfg(test)]

@@ -1,11 +1,13 @@
-//! Tables in pairs: the same calls of a lesser cache and of a greater one. Where no put is refused and no `get` is among
-//! them, the lesser ends with the first entries of the greater; these show why only then.
+//! What the laws of runs speak of. Tables in pairs have the same calls of a lesser cache and of a greater one: where no put
+//! is refused and no `get` is among them, the lesser ends with the first entries of the greater, and else it may not.
 
 use crate::scales::{ByLength, ByValue};
 use crate::tables::{Table, room, runs};
-use clru::{CLruCache, PutError};
-use clru_runs::Answer::{Flag, Pair, Value, Weighed};
+use clru::{CLruCache, PutError, ZeroWeightScale};
+use clru_runs::Answer::{Flag, Lent, Pair, Stored, Value, Weighed};
 use clru_runs::Call::{self, Contains, Get, Peek, PopFront, PutWithWeight};
+use clru_runs::PlainCall::{self, Any, Put, PutOrModify};
+use clru_runs::law_put_runs;
 use std::test::Fail;
 
 type Of<V> = Table<'static, Call<&'static str, V>, &'static str, V>;
@@ -87,6 +89,27 @@ static WEIGHTLESS: &[Of<usize>] = &[
         list: &[("a", 1), ("b", 2)],
     },
 ];
+
+static PUTS: Table<'static, PlainCall<&'static str, usize>, &'static str, usize> = Table {
+    name: "puts in any form hold what a replay hits",
+    capacity: 2,
+    rows: &[
+        (Put("a", 1), Stored(Ok(None))),
+        (Any(PutWithWeight("b", 2)), Weighed(Ok(None))),
+        (Any(Contains("c")), Flag(false)),
+        (PutOrModify("c", 3), Lent(Ok(3))),
+        (Put("a", 4), Stored(Ok(None))),
+        (Put("c", 5), Stored(Ok(Some(3)))),
+    ],
+    list: &[("c", 5), ("a", 4)],
+};
+
+#[test]
+fn puts_in_any_form_hold_what_a_replay_hits(rt: HostRuntime) -> Result<(), Fail> {
+    law_put_runs::<&'static str, usize, ZeroWeightScale>();
+    let mut cache = CLruCache::new(rt.alloc(), room(PUTS.capacity)?);
+    runs(&rt, rt.alloc(), &PUTS, &mut cache)
+}
 
 #[test]
 fn the_lesser_ends_with_the_first_entries_of_the_greater(rt: HostRuntime) -> Result<(), Fail> {
