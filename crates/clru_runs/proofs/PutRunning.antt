@@ -64,9 +64,10 @@ module _ {K V W : Type 0} (eq : K → K → Bool) (laws : IsEquivalence eq) wher
   run_of_puts k (x ∷ requests) old new (call ∷ calls) (answer ∷ answers) run some is short puts =
       let step = put_step x call answer old run.0 (rw is short) puts.0 run.1 in
       let put = subst (λ c. IsPut eq c x old.entries run.0.entries) is step.put in
-      let (later, first) = entries_first eq run.0 calls answers new run.2 in
-      (subst (λ l. PutsNext eq k old.entries x l) (sym first) put,
-      run_of_puts k requests run.0 new calls answers run.2 some (step.capacity ∙ is) (length-put eq k x old.entries run.0.entries some short put) puts.1)
+      let (later, first) = entries_first eq run.0 calls answers new run.2 in (
+        subst (λ l. PutsNext eq k old.entries x l) (sym first) put,
+        run_of_puts k requests run.0 new calls answers run.2 some (step.capacity ∙ is) (length-put eq k x old.entries run.0.entries some short put) puts.1,
+      )
   run_of_puts k requests old new calls answers run some is short puts = absurd puts
 
   module _ (requests : List K) (old new : Cache K V W) (calls : List (PlainCall K V)) (answers : List (Answer K V))

@@ -13,5 +13,4 @@ mod run;
 pub use call::{Answer, Call, PlainCall};
 pub use laws::law_put_runs;
 pub use perform::Perform;
-
 pub use run::perform_all;
