@@ -1,5 +1,13 @@
 //! Laws of runs. They do nothing at run time.
+ghost use Rattle.clru_runs.specs.IncludedRun.{LesserRunBeginsGreater};
 ghost use Rattle.clru_runs.specs.PutRun.{RunsArePutRuns, RunsHit, RunsCompete, RunsCompeteFromAnyStart};
+
+/// Does nothing at run time. Its contract says what `clru::law_inclusion` says, of the runs of the model: the same calls of
+/// two caches of one scale, empty at first, leave the lesser with the first entries of the greater, where each call is a put
+/// by weight that is not refused, a removal, or a read that moves no entry.
+pub fn law_included_runs<K: Eq, V, W>()
+    ensures included { LesserRunBeginsGreater K.eq V W }
+{}
 
 /// Does nothing at run time. Its contract says what `clru::law_requests` says, of the runs of the model: where the calls of
 /// a run are puts, in whichever form and none refused, of the keys of a list in turn, and the cache is empty at first and its

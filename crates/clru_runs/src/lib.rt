@@ -11,6 +11,6 @@ mod perform;
 mod run;
 
 pub use call::{Answer, Call, PlainCall};
-pub use laws::law_put_runs;
+pub use laws::{law_included_runs, law_put_runs};
 pub use perform::Perform;
 pub use run::perform_all;
