@@ -1,6 +1,5 @@
 -- A run of calls that keep the inclusion is a run of the calls of `law_inclusion`.
 use Rattle.std.proofs.Common.{◌≡◌, ℕ, ◌<◌, ◌≤◌, lt-ltb, Bool, List, [], ◌∷◌, ◌++◌, map, Ok, refl, sym, ap, ◌∙◌, subst}
-use Rattle.std.specs.Map.{lookup}
 use Rattle.clru.specs.Cache.{Cache}
 use Rattle.clru.specs.Runs as model
 use Rattle.clru.specs.Runs.{put_with_weight, pop_front, clear, peek, contains, after, after_all, IsTaken, AreTaken}

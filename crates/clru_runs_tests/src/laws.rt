@@ -7,7 +7,7 @@ use clru::{CLruCache, PutError, ZeroWeightScale};
 use clru_runs::Answer::{Flag, Lent, Pair, Stored, Value, Weighed};
 use clru_runs::Call::{self, Contains, Get, Peek, PopFront, PutWithWeight};
 use clru_runs::PlainCall::{self, Any, Put, PutOrModify};
-use clru_runs::law_put_runs;
+use clru_runs::{law_included_runs, law_put_runs};
 use std::test::Fail;
 
 type Of<V> = Table<'static, Call<&'static str, V>, &'static str, V>;
@@ -113,6 +113,7 @@ fn puts_in_any_form_hold_what_a_replay_hits(rt: HostRuntime) -> Result<(), Fail>
 
 #[test]
 fn the_lesser_ends_with_the_first_entries_of_the_greater(rt: HostRuntime) -> Result<(), Fail> {
+    law_included_runs::<&'static str, usize, ByValue>();
     for table in NUMBERS {
         let mut cache = CLruCache::with_scale(rt.alloc(), room(table.capacity)?, ByValue);
         runs(&rt, rt.alloc(), table, &mut cache)?;
