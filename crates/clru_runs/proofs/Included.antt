@@ -1,5 +1,5 @@
 -- A run of calls that keep the inclusion is a run of the calls of `law_inclusion`.
-use Rattle.std.proofs.Common.{◌≡◌, ℕ, ◌<◌, ◌≤◌, lt-ltb, Bool, List, [], ◌∷◌, ◌++◌, map, Ok, refl, sym, ap, ◌∙◌, subst}
+use Rattle.std.proofs.Common.{◌≡◌, ℕ, ◌<◌, ◌≤◌, lt-ltb, Bool, List, [], ◌∷◌, ◌++◌, map, Ok, refl, sym, ap, ◌∙◌}
 use Rattle.clru.specs.Cache.{Cache}
 use Rattle.clru.specs.Runs as model
 use Rattle.clru.specs.Runs.{put_with_weight, pop_front, clear, peek, contains, after, after_all, IsTaken, AreTaken}
@@ -10,7 +10,7 @@ use Rattle.clru_runs.specs.declared.call.Call.{Call}
 use Rattle.clru_runs.specs.declared.call.Call.TheVariants.{PutWithWeight, Peek, Contains, PopFront}
 use Rattle.clru_runs.specs.IncludedRun.{KeepsInclusion, EachKeepsInclusion}
 use Rattle.clru_runs.specs.Run.{Run}
-use Rattle.clru_runs.specs.Step.{Step, WeightedPuts}
+use Rattle.clru_runs.specs.Step.{Step}
 
 module _ {K V : Type 0} where
   -- the call as `law_inclusion` has it; of the others, of which it does not speak, nothing is said
@@ -33,7 +33,7 @@ module _ {K V W : Type 0} (eq : K → K → Bool) (weight : W → K → V → �
       → IsCall call old new
   call_of_step (PutWithWeight x v) (Weighed (Ok out)) old new keeps step =
       let same : step.0 ≡ Ok out = cc in
-      let accepts = subst (λ r. WeightedPuts eq old x v (weight old.scale) r new) same step.2 in
+      let accepts = rw same at step.2 in
       let light : weight old.scale x v < old.capacity = accepts.0 in
       record {
         entries = rw lt-ltb accepts.1.entries;

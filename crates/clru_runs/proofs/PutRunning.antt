@@ -1,7 +1,6 @@
 -- Each run of puts of the model is a run of puts over entry lists.
 use Rattle.std.proofs.Common.{◌≡◌, ℕ, ◌≤◌, Bool, List, [], ◌∷◌, length, Ok, refl, sym, ap, ◌∙◌, subst, arith}
 use Rattle.std.specs.Cmp.{IsEquivalence}
-use Rattle.std.specs.Map.{lookup}
 use Rattle.clru.specs.Cache.{Cache}
 use Rattle.clru.specs.Entries.{plain_put}
 use Rattle.clru.specs.Runs.{IsPut, IsPutRun, PutsNext}
@@ -13,7 +12,7 @@ use Rattle.clru_runs.specs.declared.call.PlainCall.{PlainCall}
 use Rattle.clru_runs.specs.declared.call.PlainCall.TheVariants.{Put, PutOrModify, Any}
 use Rattle.clru_runs.specs.PutRun.{PutsKey, PutEach, entries_of}
 use Rattle.clru_runs.specs.Run.{Run}
-use Rattle.clru_runs.specs.Step.{PlainStep, PlainPuts, WeightedPuts}
+use Rattle.clru_runs.specs.Step.{PlainStep}
 
 module _ {K V W : Type 0} (eq : K → K → Bool) where
   -- the entries of a run begin with those before its first call
@@ -41,15 +40,15 @@ module _ {K V W : Type 0} (eq : K → K → Bool) (laws : IsEquivalence eq) wher
       → PutsKey x call answer → PlainStep eq old call answer new → IsPutStep x old new
   put_step x (Put y v) (Stored (Ok out)) old new short is step =
       let same : step.0 ≡ Ok out = cc in
-      let accepts = subst (λ r. PlainPuts eq old y v (lookup (eq y) old.entries) r new) same step.2 in
+      let accepts = rw same at step.2 in
       rw is (plain_step y v old new accepts.entries accepts.places.capacity)
   put_step x (PutOrModify y v) (Lent (Ok value)) old new short is step =
       let same : step.0 ≡ Ok value = cc in
-      let accepts = subst (λ r. PlainPuts eq old y v v r new) same step.2 in
+      let accepts = rw same at step.2 in
       rw is (plain_step y v old new accepts.entries accepts.places.capacity)
   put_step x (Any (PutWithWeight y v)) (Weighed (Ok out)) old new short is step =
       let same : step.0 ≡ Ok out = cc in
-      let accepts = subst (λ r. WeightedPuts eq old y v (λ _ _. 0) r new) same step.2 in
+      let accepts = rw same at step.2 in
       rw is (record {
         put = IsPut-weightless eq laws old.capacity y v old.entries new.entries (λ _ _. 0) (λ _ _. refl) short accepts.1.entries;
         capacity = accepts.1.places.capacity;
