@@ -16,9 +16,7 @@ pub trait Perform<C> {
         ensures { step cache.old self result cache.new };
 }
 
-impl<K: Eq + Hash + Drop, V: Copy, S: BuildHasher, W: WeightScale<K, V>, A> Perform<
-    CLruCache<K, V, S, W, A>,
-> for Call<K, V>
+impl<K: Eq + Hash + Drop, V: Copy, S: BuildHasher, W: WeightScale<K, V>, A> Perform<CLruCache<K, V, S, W, A>> for Call<K, V>
 where
     A: Allocator + Copy,
 {
@@ -42,9 +40,7 @@ where
     }
 }
 
-impl<K: Eq + Hash + Drop, V: Copy, S: BuildHasher, A> Perform<
-    CLruCache<K, V, S, ZeroWeightScale, A>,
-> for PlainCall<K, V>
+impl<K: Eq + Hash + Drop, V: Copy, S: BuildHasher, A> Perform<CLruCache<K, V, S, ZeroWeightScale, A>> for PlainCall<K, V>
 where
     A: Allocator + Copy,
 {
@@ -61,13 +57,11 @@ where
     }
 }
 
-fn put_with_weight<
-    K: Eq + Hash + Drop,
-    V: Copy,
-    S: BuildHasher,
-    W: WeightScale<K, V>,
-    A: Allocator + Copy,
->(cache: &mut CLruCache<K, V, S, W, A>, key: K, value: V) -> Answer<K, V>
+fn put_with_weight<K: Eq + Hash + Drop, V: Copy, S: BuildHasher, W: WeightScale<K, V>, A: Allocator + Copy>(
+    cache: &mut CLruCache<K, V, S, W, A>,
+    key: K,
+    value: V,
+) -> Answer<K, V>
     ensures { Step K.eq W.weight cache.old (Call.PutWithWeight key value) result cache.new }
 {
     Answer::Weighed(cache.put_with_weight(key, value))
