@@ -1,2 +1,4 @@
+pub mod Included
 pub mod Lending
+pub mod PutRunning
 pub mod Running

@@ -1,2 +1,4 @@
+pub mod IncludedRun
+pub mod PutRun
 pub mod Run
 pub mod Step

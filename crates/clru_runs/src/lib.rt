@@ -11,9 +11,11 @@
 #![tactic(auto)]
 
 mod call;
+mod laws;
 mod perform;
 mod run;
 
 pub use call::{Answer, Call, PlainCall};
+pub use laws::{law_included_runs, law_put_runs};
 pub use perform::Perform;
 pub use run::perform_all;

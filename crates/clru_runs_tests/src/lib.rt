@@ -4,6 +4,8 @@
 #[cfg(test)]
 mod drawn;
 #[cfg(test)]
+mod laws;
+#[cfg(test)]
 mod memory;
 #[cfg(test)]
 mod pairs;

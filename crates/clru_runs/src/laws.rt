@@ -1,0 +1,21 @@
+//! Laws of runs. They do nothing at run time.
+ghost use Rattle.clru_runs.specs.IncludedRun.{LesserRunBeginsGreater};
+ghost use Rattle.clru_runs.specs.PutRun.{RunsArePutRuns, RunsHit, RunsCompete, RunsCompeteFromAnyStart};
+
+/// Does nothing at run time. Its contract says what `clru::law_inclusion` says, of the runs of the model: the same calls of
+/// two caches of one scale, empty at first, leave the lesser with the first entries of the greater, where each call is a put
+/// by weight that is not refused, a removal, or a read that moves no entry.
+pub fn law_included_runs<K: Eq, V, W>()
+    ensures included { LesserRunBeginsGreater K.eq V W }
+{}
+
+/// Does nothing at run time. Its contract says what `clru::law_requests` says, of the runs of the model: where the calls of
+/// a run are puts, in whichever form and none refused, of the keys of a list in turn, and the cache is empty at first and its
+/// pairs weigh nothing, then a key is held before its put exactly where `clru::replay` of the list marks a hit, and the puts
+/// whose key is not held keep the competitive bounds.
+pub fn law_put_runs<K: Eq, V, W>()
+    ensures put_runs { RunsArePutRuns K.eq V W }
+    ensures hits { RunsHit K.eq V W }
+    ensures bound { RunsCompete K.eq V W }
+    ensures bound_any_start { RunsCompeteFromAnyStart K.eq V W }
+{}

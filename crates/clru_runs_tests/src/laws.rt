@@ -1,0 +1,140 @@
+//! What the laws of runs speak of. Tables in pairs have the same calls of a lesser cache and of a greater one: where no put
+//! is refused and no `get` is among them, the lesser ends with the first entries of the greater, and else it may not.
+
+use crate::scales::{ByLength, ByValue};
+use crate::tables::{Table, room, runs};
+use clru::{CLruCache, PutError, ZeroWeightScale};
+use clru_runs::Answer::{Flag, Lent, Pair, Stored, Value, Weighed};
+use clru_runs::Call::{self, Contains, Get, Peek, PopFront, PutWithWeight};
+use clru_runs::PlainCall::{self, Any, Put, PutOrModify};
+use clru_runs::{law_included_runs, law_put_runs};
+use std::test::Fail;
+
+type Of<V> = Table<'static, Call<&'static str, V>, &'static str, V>;
+
+static NUMBERS: &[Of<usize>] = &[
+    Table {
+        name: "the lesser",
+        capacity: 4,
+        rows: &[
+            (PutWithWeight("a", 0), Weighed(Ok(None))),
+            (PopFront, Pair(Some(("a", 0)))),
+            (PutWithWeight("b", 1), Weighed(Ok(None))),
+            (PutWithWeight("a", 1), Weighed(Ok(None))),
+            (PutWithWeight("c", 1), Weighed(Ok(None))),
+            (Peek("b"), Value(None)),
+            (Contains("a"), Flag(true)),
+        ],
+        list: &[("c", 1), ("a", 1)],
+    },
+    Table {
+        name: "the greater",
+        capacity: 9,
+        rows: &[
+            (PutWithWeight("a", 0), Weighed(Ok(None))),
+            (PopFront, Pair(Some(("a", 0)))),
+            (PutWithWeight("b", 1), Weighed(Ok(None))),
+            (PutWithWeight("a", 1), Weighed(Ok(None))),
+            (PutWithWeight("c", 1), Weighed(Ok(None))),
+            (Peek("b"), Value(Some(1))),
+            (Contains("a"), Flag(true)),
+        ],
+        list: &[("c", 1), ("a", 1), ("b", 1)],
+    },
+];
+
+static TEXTS: &[Of<&'static str>] = &[
+    Table {
+        name: "the lesser refuses a put",
+        capacity: 2,
+        rows: &[
+            (PutWithWeight("y", ""), Weighed(Ok(None))),
+            (
+                PutWithWeight("x", "aa"),
+                Weighed(Err(PutError::TooHeavy("x", "aa"))),
+            ),
+        ],
+        list: &[("y", "")],
+    },
+    Table {
+        name: "the greater takes it",
+        capacity: 4,
+        rows: &[
+            (PutWithWeight("y", ""), Weighed(Ok(None))),
+            (PutWithWeight("x", "aa"), Weighed(Ok(None))),
+        ],
+        list: &[("x", "aa"), ("y", "")],
+    },
+];
+
+static WEIGHTLESS: &[Of<usize>] = &[
+    Table {
+        name: "the lesser gets nothing",
+        capacity: 1,
+        rows: &[
+            (PutWithWeight("a", 1), Weighed(Ok(None))),
+            (PutWithWeight("b", 2), Weighed(Ok(None))),
+            (Get("a"), Value(None)),
+        ],
+        list: &[("b", 2)],
+    },
+    Table {
+        name: "the greater moves an entry",
+        capacity: 2,
+        rows: &[
+            (PutWithWeight("a", 1), Weighed(Ok(None))),
+            (PutWithWeight("b", 2), Weighed(Ok(None))),
+            (Get("a"), Value(Some(1))),
+        ],
+        list: &[("a", 1), ("b", 2)],
+    },
+];
+
+static PUTS: Table<'static, PlainCall<&'static str, usize>, &'static str, usize> = Table {
+    name: "puts in any form hold what a replay hits",
+    capacity: 2,
+    rows: &[
+        (Put("a", 1), Stored(Ok(None))),
+        (Any(PutWithWeight("b", 2)), Weighed(Ok(None))),
+        (Any(Contains("c")), Flag(false)),
+        (PutOrModify("c", 3), Lent(Ok(3))),
+        (Put("a", 4), Stored(Ok(None))),
+        (Put("c", 5), Stored(Ok(Some(3)))),
+    ],
+    list: &[("c", 5), ("a", 4)],
+};
+
+#[test]
+fn puts_in_any_form_hold_what_a_replay_hits(rt: HostRuntime) -> Result<(), Fail> {
+    law_put_runs::<&'static str, usize, ZeroWeightScale>();
+    let mut cache = CLruCache::new(rt.alloc(), room(PUTS.capacity)?);
+    runs(&rt, rt.alloc(), &PUTS, &mut cache)
+}
+
+#[test]
+fn the_lesser_ends_with_the_first_entries_of_the_greater(rt: HostRuntime) -> Result<(), Fail> {
+    law_included_runs::<&'static str, usize, ByValue>();
+    for table in NUMBERS {
+        let mut cache = CLruCache::with_scale(rt.alloc(), room(table.capacity)?, ByValue);
+        runs(&rt, rt.alloc(), table, &mut cache)?;
+    }
+    Ok(())
+}
+
+#[test]
+fn a_put_that_one_cache_refuses_ends_the_inclusion(rt: HostRuntime) -> Result<(), Fail> {
+    for table in TEXTS {
+        let mut cache = CLruCache::with_scale(rt.alloc(), room(table.capacity)?, ByLength);
+        runs(&rt, rt.alloc(), table, &mut cache)?;
+    }
+    Ok(())
+}
+
+#[test]
+fn a_get_ends_the_inclusion(rt: HostRuntime) -> Result<(), Fail> {
+    for table in WEIGHTLESS {
+        let mut cache = CLruCache::new(rt.alloc(), room(table.capacity)?);
+        runs(&rt, rt.alloc(), table, &mut cache)?;
+    }
+    Ok(())
+}
