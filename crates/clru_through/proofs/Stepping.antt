@@ -4,7 +4,7 @@ use Rattle.std.proofs.lemmas.Bool.{cases_lt}
 use Rattle.std.specs.Cmp.{IsEquivalence}
 use Rattle.std.specs.Option.{option_copied, is_some}
 use Rattle.std.specs.Borrow.{Bor}
-use Rattle.std.specs.Prelude.{is_ok, IfOk, IfErr, ◌↔◌, if◌then◌else◌}
+use Rattle.std.specs.Prelude.{is_ok, IfSome, IfErr, ◌↔◌, if◌then◌else◌}
 use Rattle.std.specs.Map.{lookup}
 use Rattle.clru.specs.Cache.{Cache, with_entries}
 use Rattle.clru.specs.Entries.{touch, weighted_put}
@@ -16,7 +16,7 @@ use Rattle.clru_through.specs.Given.{loaded_value}
 use Rattle.clru_through.specs.Steps.{Passes}
 use Rattle.clru_through.specs.Store.{AllFrom}
 use Rattle.clru_through.specs.Taking.{loaded_by}
-use Rattle.clru_through.proofs.Sourced.{AllFrom-weighted_put, lookup-weighted_put, touch-absent}
+use Rattle.clru_through.proofs.Sourced.{AllFrom-lookup, AllFrom-weighted_put, lookup-weighted_put, touch-absent}
 
 module _ {K V W : Type 0} (eq : K → K → Bool) (x : K) (old : Cache K V W) {after : Cache K V W} where
   -- a look-up that answers nothing: x is not held, and the cache stays as it is
@@ -72,3 +72,10 @@ module _ {K V W : Type 0} {eq : K → K → Bool} {weight : K → V → ℕ} {ol
       → loaded_value (eq x) new.entries (loaded_by result) ≡ Some v
   loaded_value-put laws (Ok o) p = rw p.entries (lookup-weighted_put eq x laws weight old.capacity v old.entries)
   loaded_value-put laws (Err r) p = ap (λ (e : K × V). Some e.1) p.refused
+
+-- the value that a look-up answers is the source's
+pub value_by_peek : {K V : Type 0} (eq : K → K → Bool) (x : K) (value : K → Option V) → ((y : K) → IsTrue (eq x y) → value x ≡ value y)
+    → (es : List (K × V)) → AllFrom value es → (answer : Option (Bor V)) → option_copied answer ≡ lookup (eq x) es
+    → IfSome answer (λ v. value x ≡ Some v.now)
+value_by_peek eq x value same es all None is = tt
+value_by_peek eq x value same es all (Some v) is = AllFrom-lookup eq x value same es v.now all (sym is)

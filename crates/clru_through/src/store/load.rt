@@ -2,11 +2,11 @@
 ghost use Rattle.std.specs.Prelude.{◌≡◌, Some, IfOk, IfErr, IfSome, IsSomeAnd};
 ghost use Rattle.std.specs.Option.{option_copied};
 ghost use Rattle.std.specs.Map.{lookup};
-ghost use Rattle.clru_through.specs.Given.{loaded_value};
+ghost use Rattle.clru_through.specs.Given.{answer_value, loaded_value};
 ghost use Rattle.clru_through.specs.Steps.{Loads};
 ghost use Rattle.clru_through.specs.Taking.{loaded_by};
 
-use crate::answer::Loaded;
+use crate::answer::{Answer, Loaded};
 use crate::source::Source;
 use crate::store::Through;
 use clru::{PutError, WeightScale};
@@ -50,6 +50,33 @@ impl<
         ensures value { IfSome result (λ v. R.value self.now.source key.now ≡ Some v.now) }
     {
         self.cache.peek(key)
+    }
+}
+
+impl<
+    K: Eq + Hash + Copy,
+    V,
+    E,
+    R: Source<K, V, E>,
+    S: BuildHasher,
+    W: WeightScale<K, V>,
+    A: Allocator + Copy,
+> Through<K, V, E, R, S, W, A> {
+    /// Returns the value of the key, and makes it the most recently used one. It is fetched first if it is not held.
+    ///
+    /// It is a load, which says what the store is afterwards, and a look at what is held then.
+    pub fn get(&mut self, key: K) -> Result<Answer<'_, V>, E>
+    where
+        V: Drop,
+        ensures { IfOk result (λ answer. R.value self.old.source key ≡ Some (answer_value answer)) }
+    {
+        match self.load(key)? {
+            Loaded::Passed(value) => Ok(Answer::Passed(value)),
+            Loaded::Held => match self.peek(&key) {
+                Some(value) => Ok(Answer::Held(value)),
+                None => unreachable!(),
+            },
+        }
     }
 }
 
