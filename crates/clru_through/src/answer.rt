@@ -1,7 +1,7 @@
 //! What a store answers of a key.
 
 /// The value of a key.
-#[derive(Drop)]
+#[derive(Debug, Drop, PartialEq, Eq)]
 pub enum Answer<'a, V> {
     /// It is held, and lent.
     Held(&'a V),

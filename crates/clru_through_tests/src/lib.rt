@@ -2,4 +2,16 @@
 #![tactic(auto)]
 
 pub mod callers;
+#[cfg(test)]
+mod failures;
+#[cfg(test)]
+mod memory;
+#[cfg(test)]
+mod owned;
+#[cfg(test)]
+mod rows;
+#[cfg(test)]
+mod sources;
+#[cfg(test)]
+mod steps;
 pub mod tiers;
