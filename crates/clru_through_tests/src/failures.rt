@@ -20,7 +20,10 @@ fn fetches_again(rt: &impl Abort, store: &mut Texts, fetched: &Cell<u64>) -> u64
         let before = store.len();
         if gets(store, one(letter)) == Want::Failed(7) {
             failed = fetched.get();
-            assert_eq!(rt; (store.len(), store.weight()), (before, 2 * before));
+            assert_eq!(rt;
+                (store.len(), store.weight()),
+                (before, before.saturating_mul(2))
+            );
             assert_eq!(rt; gets(store, one(letter)), Want::Held(letter, 2));
         }
         let extra = u64::from(failed > 0);

@@ -36,14 +36,14 @@ fn gets_nine(
     heap: &Rationed<Global>,
     store: &mut Numbers,
     fetched: &Cell<u64>,
-) -> usize {
+) -> u64 {
     let mut held = 0;
     for key in 0..9u64 {
         let refused = heap.refused();
         match store.get(key) {
             Ok(Answer::Held(value)) => {
                 assert_eq!(rt; (*value, heap.refused()), (2 * key, refused));
-                held += 1;
+                held = key + 1;
             }
             Ok(Answer::Passed(value)) => {
                 assert_eq!(rt; value, 2 * key);
@@ -51,7 +51,11 @@ fn gets_nine(
             }
             Err(error) => assert_eq!(rt; error, 0, "there is no such error"),
         }
-        assert_eq!(rt; (store.len(), fetched.get()), (held, key + 1), "at {key}");
+        assert_eq!(rt;
+            (store.len() as u64, fetched.get()),
+            (held, key + 1),
+            "at {key}"
+        );
     }
     held
 }
@@ -66,11 +70,7 @@ fn a_value_without_memory_is_passed_on(rt: HostRuntime) -> Result<(), Fail> {
             heap.refuse_after(n);
             let held = gets_nine(&rt, &heap, &mut store, &fetched);
             for key in 0..9u64 {
-                assert_eq!(rt;
-                    store.peek(&key).is_some(),
-                    key < held as u64,
-                    "{key} of {held}"
-                );
+                assert_eq!(rt; store.peek(&key).is_some(), key < held, "{key} of {held}");
             }
         }
         assert_eq!(rt; heap.blocks(), 0);
