@@ -2,6 +2,7 @@
 use Rattle.std.proofs.Common.{◌≡◌, ℕ, ◌-◌, Bool, true, false, cond, List, [], ◌∷◌, Option, Some, None, IsTrue, refl, sym, ap, ◌∙◌}
 use Rattle.std.specs.Cmp.{IsEquivalence}
 use Rattle.std.specs.List.{AllByRecursion}
+use Rattle.std.specs.Option.{option_map_or}
 use Rattle.std.specs.Map.{lookup, lookup_entry, remove_entry}
 use Rattle.clru.specs.Entries.{fit, touch, weighted_put, without}
 use Rattle.clru.proofs.Sublists.{All-sublist, sublist_remove_entry, sublist_trans}
@@ -65,13 +66,14 @@ module _ {K V : Type 0} (eq : K → K → Bool) (x : K) where
     AllFrom-lookup same es v all h =
         let e = entry_of (eq x) es v h in same e.key e.passes ∙ AllFrom-lookup_entry (eq x) value es (e.key, v) all e.looked_up
 
-    pub AllFrom-touch : (es : List (K × V)) (v : V) → lookup (eq x) es ≡ Some v → AllFrom value es → AllFrom value (touch eq x es)
-    AllFrom-touch es v h all =
-        let e = entry_of (eq x) es v h in
-        rw e.looked_up (
-          AllFrom-lookup_entry (eq x) value es (e.key, v) all e.looked_up,
-          All-sublist (λ (d : K × V). value d.0 ≡ Some d.1) (sublist_remove_entry (eq x) es) all,
-        )
+    AllFrom-touched : (es : List (K × V)) (o : Option (K × V)) → AllFrom value es → lookup_entry (eq x) es ≡ o
+        → AllFrom value (option_map_or (λ e. e ∷ without eq x es) o es)
+    AllFrom-touched es None all h = all
+    AllFrom-touched es (Some e) all h =
+        (AllFrom-lookup_entry (eq x) value es e all h, All-sublist (λ (d : K × V). value d.0 ≡ Some d.1) (sublist_remove_entry (eq x) es) all)
+
+    pub AllFrom-touch : (es : List (K × V)) → AllFrom value es → AllFrom value (touch eq x es)
+    AllFrom-touch es all = AllFrom-touched es (lookup_entry (eq x) es) all refl
 
     pub AllFrom-weighted_put : (weight : K → V → ℕ) (c : ℕ) (v : V) (es : List (K × V)) → value x ≡ Some v → AllFrom value es
         → AllFrom value (weighted_put eq weight c x v es)

@@ -22,10 +22,14 @@ module _ {K V W : Type 0} (eq : K → K → Bool) (weight : K → V → ℕ) (ol
     pub entries : new.entries ≡ old.entries
     pub places : GrowsOnlyIf (NeedsPlaceFor eq weight old x v) old new
 
+  -- what becomes of the fetched value v
+  abbrev pub Takes : V → Loaded V → Cache K V W → Type 0
+  Takes v Held new = IsPut v new
+  Takes v (Passed given) new = IsPassed v given new
+
   -- what becomes of a fetch's answer
   abbrev pub Passes : {E : Type 0} → Result V E → Result (Loaded V) E → Cache K V W → Type 0
-  Passes (Ok v) (Ok Held) new = IsPut v new
-  Passes (Ok v) (Ok (Passed given)) new = IsPassed v given new
+  Passes (Ok v) (Ok loaded) new = Takes v loaded new
   Passes (Ok v) (Err e) new = ⊥
   Passes (Err d) (Ok loaded) new = ⊥
   Passes (Err d) (Err e) new = (e ≡ d) × (new ≡ old)

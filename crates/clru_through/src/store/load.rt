@@ -1,15 +1,17 @@
 //! The calls that look for a key.
-ghost use Rattle.std.specs.Prelude.{◌≡◌, Some, IfOk, IfErr, IfSome, IsSomeAnd};
+ghost use Rattle.std.specs.Prelude.{◌≡◌, Option, Some, IfOk, IfErr, IfSome, IsFalse, IsSomeAnd, is_some};
 ghost use Rattle.std.specs.Option.{option_copied};
 ghost use Rattle.std.specs.Map.{lookup};
+ghost use Rattle.clru.specs.Cache.{with_entries};
+ghost use Rattle.clru.specs.Entries.{touch};
 ghost use Rattle.clru_through.specs.Given.{answer_value, loaded_value};
-ghost use Rattle.clru_through.specs.Steps.{Loads};
-ghost use Rattle.clru_through.specs.Taking.{loaded_by};
+ghost use Rattle.clru_through.specs.Store.{AllFrom};
+ghost use Rattle.clru_through.specs.Steps.{Loads, Takes};
 
 use crate::answer::{Answer, Loaded};
 use crate::source::Source;
 use crate::store::Through;
-use clru::{PutError, WeightScale};
+use clru::{CLruCache, PutError, WeightScale};
 use std::alloc::Allocator;
 use std::hash::{BuildHasher, Hash};
 
@@ -37,11 +39,11 @@ impl<
         ensures refused { IfErr result (λ _. self.new.cache ≡ self.old.cache) }
         ensures kept { (k : K) → R.value self.new.source k ≡ R.value self.old.source k }
     {
-        if self.cache.get(&key).is_some() {
+        if move_to_front_if_held(&mut self.cache, &key) {
             return Ok(Loaded::Held);
         }
         let value = self.source.fetch(&key)?;
-        Ok(taken(self.cache.put_with_weight(key, value)))
+        Ok(taken(&mut self.cache, key, value))
     }
 
     /// Returns the value of the key if it is held. Nothing is fetched, and the order stays as it is.
@@ -80,11 +82,35 @@ impl<
     }
 }
 
-/// What a put of a fetched value comes to.
-fn taken<K: Drop, V: Drop>(put: Result<Option<V>, PutError<K, V>>) -> Loaded<V>
-    ensures { result ≡ loaded_by put }
+/// Makes the value of the key the most recently used one, and returns whether it is held.
+fn move_to_front_if_held<K: Eq + Hash, V, S: BuildHasher, W: WeightScale<K, V>, A>(
+    cache: &mut CLruCache<K, V, S, W, A>,
+    key: &K,
+) -> bool
+where
+    A: Allocator + Copy,
+    ensures found { result ≡ is_some (lookup (K.eq key.now) cache.old.entries) }
+    ensures touches { cache.new ≡ with_entries cache.old (touch K.eq key.now cache.old.entries) }
+    ensures missed { IsFalse result → cache.new ≡ cache.old }
+    ensures sourced { (value : K → Option V) → AllFrom value cache.old.entries → AllFrom value cache.new.entries }
 {
-    match put {
+    cache.get(key).is_some()
+}
+
+/// Puts a fetched value, and returns what became of it.
+fn taken<K: Eq + Hash + Drop, V: Drop, S: BuildHasher, W: WeightScale<K, V>, A>(
+    cache: &mut CLruCache<K, V, S, W, A>,
+    key: K,
+    value: V,
+) -> Loaded<V>
+where
+    A: Allocator + Copy,
+    ensures taken { Takes K.eq (W.weight cache.old.scale) cache.old key value result cache.new }
+    ensures value { loaded_value (K.eq key) cache.new.entries result ≡ Some value }
+    ensures sourced { (gives : K → Option V) → gives key ≡ Some value → AllFrom gives cache.old.entries
+        → AllFrom gives cache.new.entries }
+{
+    match cache.put_with_weight(key, value) {
         Ok(_) => Loaded::Held,
         Err(PutError::TooHeavy(_, value)) => Loaded::Passed(value),
         Err(PutError::NoMemory(_, value)) => Loaded::Passed(value),
