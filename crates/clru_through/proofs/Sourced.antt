@@ -37,6 +37,7 @@ module _ {K V : Type 0} (test : K → Bool) where
   module _ (value : K → Option V) where
     -- what holds of each entry holds of the one that is found
     pub AllFrom-lookup_entry : (es : List (K × V)) (e : K × V) → AllFrom value es → lookup_entry test es ≡ Some e → value e.0 ≡ Some e.1
+    unfolding AllFrom
     AllFrom-lookup_entry [] e all h = cc
     AllFrom-lookup_entry (f ∷ es) e all h = (elim (test f.0) as (λ b. test f.0 ≡ b → value e.0 ≡ Some e.1) [
       | true ↦ λ t. let first : Some f ≡ Some e = rw t at h in let same : f ≡ e = cc in rw (← same) all.0
@@ -44,9 +45,10 @@ module _ {K V : Type 0} (test : K → Bool) where
     ]) refl
 
 -- a source that gives the same values as another
-pub AllFrom-kept : {K V : Type 0} (new old : K → Option V) → ((k : K) → new k ≡ old k) → (es : List (K × V)) → AllFrom old es → AllFrom new es
-AllFrom-kept new old kept [] all = tt
-AllFrom-kept new old kept (e ∷ es) all = (kept e.0 ∙ all.0, AllFrom-kept new old kept es all.1)
+pub sourced_by : {K V : Type 0} (new old : K → Option V) → ((k : K) → new k ≡ old k) → (es : List (K × V)) → AllFrom old es → AllFrom new es
+unfolding AllFrom
+sourced_by new old kept [] all = tt
+sourced_by new old kept (e ∷ es) all = (kept e.0 ∙ all.0, sourced_by new old kept es all.1)
 
 module _ {K V : Type 0} (eq : K → K → Bool) (x : K) where
   pub touch-absent : (es : List (K × V)) → lookup (eq x) es ≡ None → touch eq x es ≡ es
@@ -68,6 +70,7 @@ module _ {K V : Type 0} (eq : K → K → Bool) (x : K) where
 
     AllFrom-touched : (es : List (K × V)) (o : Option (K × V)) → AllFrom value es → lookup_entry (eq x) es ≡ o
         → AllFrom value (option_map_or (λ e. e ∷ without eq x es) o es)
+    unfolding AllFrom
     AllFrom-touched es None all h = all
     AllFrom-touched es (Some e) all h =
         (AllFrom-lookup_entry (eq x) value es e all h, All-sublist (λ (d : K × V). value d.0 ≡ Some d.1) (sublist_remove_entry (eq x) es) all)
@@ -77,6 +80,7 @@ module _ {K V : Type 0} (eq : K → K → Bool) (x : K) where
 
     pub AllFrom-weighted_put : (weight : K → V → ℕ) (c : ℕ) (v : V) (es : List (K × V)) → value x ≡ Some v → AllFrom value es
         → AllFrom value (weighted_put eq weight c x v es)
+    unfolding AllFrom
     AllFrom-weighted_put weight c v es h all = (
       h,
       All-sublist (λ (d : K × V). value d.0 ≡ Some d.1)

@@ -17,5 +17,5 @@ module _ {K V W R : Type 0} where
   store_code c r = code_by (Cache K V W × R) (coded× c r) (λ t. (t.cache, t.source)) (λ p. store p.0 p.1) (λ _. refl)
 
 -- each entry has the value that the source gives for its key
-abbrev pub AllFrom : {K V : Type 0} → (K → Option V) → List (K × V) → Type 0
+unfoldable pub AllFrom : {K V : Type 0} → (K → Option V) → List (K × V) → Type 0
 AllFrom value es = AllByRecursion (λ e. value e.0 ≡ Some e.1) es

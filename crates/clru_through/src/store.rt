@@ -59,6 +59,7 @@ impl<
     A: Allocator + Copy,
 > Through<K, V, E, R, S, W, A> {
     /// Creates a store of a source and a cache before it. It takes no memory.
+    #[tactic(auto, unfolding(crate::specs::Store::AllFrom))]
     pub fn new(cache: CLruCache<K, V, S, W, A>, source: R) -> Self
         requires { cache.entries ≡ [] }
         ensures { result ≡ store cache source }

@@ -2,12 +2,9 @@ use Rattle.std.proofs.Common.{Ok, Err, sym, ◌∙◌, subst}
 use Rattle.std.proofs.lemmas.Result.{err_from_is_err_and}
 use Rattle.std.specs.Map.{lookup}
 use Rattle.clru_through.specs.Steps.{Takes}
-use Rattle.clru_through.proofs.Sourced.{AllFrom-kept, AllFrom-lookup, lookup-touch}
+use Rattle.clru_through.proofs.Sourced.{AllFrom-lookup, lookup-touch}
 use Rattle.clru_through.proofs.Looking.{is_there, is_absent}
 use Rattle.clru_through.proofs.store.Through.load.Goals as goal
-
-pub invariant_of-self : goal.invariant_of-self
-invariant_of-self g c = c.move_to_front_if_held.ensures.sourced (g.R.Source.value c.self.inside.source) c.self.invariant
 
 pub returns-then-move_to_front_if_held-clause-value : goal.returns-then-move_to_front_if_held-clause-value
 returns-then-move_to_front_if_held-clause-value g c =
@@ -22,14 +19,6 @@ returns-in_err-value-clause-step g c =
     let p = err_from_is_err_and c.from_residual.result c.from_residual.ensures.1 in
     rw (p.1, ← c.self.view_is, is_absent (lookup (g.K.PartialEq.eq c.args.key) c.self.inside.cache.entries) (sym look.found ∙ missed))
     (record { fetched = Err c.in_err-value.field-0.0; fetch = c.in_err-value.ensures.step; passes = (p.2, look.missed missed) })
-
-pub invariant_of-self-2 : goal.invariant_of-self-2
-invariant_of-self-2 g c =
-    let value = g.R.Source.value in let kept = c.in_ok-value.ensures.kept in
-    let look = c.move_to_front_if_held.ensures in
-    c.taken.ensures.sourced (value c.fetch.new.self) (kept c.args.key ∙ c.in_ok-value.ensures.value)
-    (AllFrom-kept (value c.fetch.new.self) (value c.self.inside.source) kept c.move_to_front_if_held.new.cache.entries
-        (look.sourced (value c.self.inside.source) c.self.invariant))
 
 pub returns-clause-step : goal.returns-clause-step
 returns-clause-step g c =
