@@ -12,13 +12,9 @@ pub is_there : {V : Type 0} (held : Option V) → is_some held ≡ true → (v :
 is_there None some = cc
 is_there (Some v) some = (v, refl)
 
-pub is_absent : {V : Type 0} (held : Option V) → is_some held ≡ false → held ≡ None
-is_absent None none = refl
-is_absent (Some v) none = cc
-
-pub is_absent_by : {V : Type 0} (answer : Option (Bor V)) (held : Option V) → option_copied answer ≡ held → is_some answer ≡ false → held ≡ None
-is_absent_by None held is none = sym is
-is_absent_by (Some v) held is none = cc
+pub is_absent : {V : Type 0} (answer : Option (Bor V)) (held : Option V) → option_copied answer ≡ held → is_some answer ≡ false → held ≡ None
+is_absent None held is none = sym is
+is_absent (Some v) held is none = cc
 
 -- where x is not held, the cache with the entry of x in front is as it is
 pub with_entries-touch-absent : {K V W : Type 0} (eq : K → K → Bool) (x : K) (c : Cache K V W) → lookup (eq x) c.entries ≡ None

@@ -1,5 +1,5 @@
 //! The calls that look for a key.
-ghost use Rattle.std.specs.Prelude.{◌≡◌, Option, Some, IfOk, IfErr, IfSome, IsFalse, IsSomeAnd, is_some};
+ghost use Rattle.std.specs.Prelude.{◌≡◌, Option, Some, None, IfOk, IfErr, IfSome, IsFalse, IsSomeAnd, is_some};
 ghost use Rattle.std.specs.Option.{option_copied};
 ghost use Rattle.std.specs.Map.{lookup};
 ghost use Rattle.clru.specs.Cache.{with_entries};
@@ -92,6 +92,7 @@ where
     A: Allocator + Copy,
     ensures found { result ≡ is_some (lookup (K.eq key.now) cache.old.entries) }
     ensures touches { cache.new ≡ with_entries cache.old (touch K.eq key.now cache.old.entries) }
+    ensures absent { IsFalse result → lookup (K.eq key.now) cache.old.entries ≡ None }
     ensures missed { IsFalse result → cache.new ≡ cache.old }
     ensures sourced { (value : K → Option V) → AllFrom value cache.old.entries → AllFrom value cache.new.entries }
 {

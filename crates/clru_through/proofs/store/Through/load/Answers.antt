@@ -3,7 +3,7 @@ use Rattle.std.proofs.lemmas.Result.{err_from_is_err_and}
 use Rattle.std.specs.Map.{lookup}
 use Rattle.clru_through.specs.Steps.{Takes}
 use Rattle.clru_through.proofs.Sourced.{AllFrom-lookup, lookup-touch}
-use Rattle.clru_through.proofs.Looking.{is_there, is_absent}
+use Rattle.clru_through.proofs.Looking.{is_there}
 use Rattle.clru_through.proofs.store.Through.load.Goals as goal
 
 pub returns-then-move_to_front_if_held-clause-value : goal.returns-then-move_to_front_if_held-clause-value
@@ -17,14 +17,14 @@ pub returns-in_err-value-clause-step : goal.returns-in_err-value-clause-step
 returns-in_err-value-clause-step g c =
     let look = c.move_to_front_if_held.ensures in let missed = c.if-move_to_front_if_held.false in
     let p = err_from_is_err_and c.from_residual.result c.from_residual.ensures.1 in
-    rw (p.1, ← c.self.view_is, is_absent (lookup (g.K.PartialEq.eq c.args.key) c.self.inside.cache.entries) (sym look.found ∙ missed))
+    rw (p.1, ← c.self.view_is, look.absent missed)
     (record { fetched = Err c.in_err-value.field-0.0; fetch = c.in_err-value.ensures.step; passes = (p.2, look.missed missed) })
 
 pub returns-clause-step : goal.returns-clause-step
 returns-clause-step g c =
-    let eq = g.K.PartialEq.eq in let old = c.self.inside.cache in let look = c.move_to_front_if_held.ensures in
+    let eq = g.K.PartialEq.eq in let look = c.move_to_front_if_held.ensures in
     let missed = c.if-move_to_front_if_held.false in
-    rw (← c.self.view_is, is_absent (lookup (eq c.args.key) old.entries) (sym look.found ∙ missed)) (record {
+    rw (← c.self.view_is, look.absent missed) (record {
       fetched = Ok c.in_ok-value.value;
       fetch = c.in_ok-value.ensures.step;
       passes = subst (λ cache. Takes eq (g.W.WeightScale.weight cache.scale) cache c.args.key c.in_ok-value.value c.taken.result c.taken.new.cache)
