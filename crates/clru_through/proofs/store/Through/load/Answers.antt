@@ -1,4 +1,4 @@
-use Rattle.std.proofs.Common.{Ok, Err, sym, ◌∙◌, subst}
+use Rattle.std.proofs.Common.{rules, Ok, Err, sym, ◌∙◌, subst}
 use Rattle.std.proofs.lemmas.Result.{err_from_is_err_and}
 use Rattle.std.specs.Map.{lookup}
 use Rattle.clru_through.specs.Steps.{Takes}
@@ -18,7 +18,7 @@ returns-in_err-value-clause-step g c =
     let look = c.move_to_front_if_held.ensures in let missed = c.if-move_to_front_if_held.false in
     let p = err_from_is_err_and c.from_residual.result c.from_residual.ensures.1 in
     rw (p.1, ← c.self.view_is, look.absent missed)
-    (record { fetched = Err c.in_err-value.field-0.0; fetch = c.in_err-value.ensures.step; passes = (p.2, look.missed missed) })
+    (record { fetched = Err c.in_err-value.field-0.0; fetch = search rules; passes = (p.2, search rules) })
 
 pub returns-clause-step : goal.returns-clause-step
 returns-clause-step g c =
@@ -26,7 +26,7 @@ returns-clause-step g c =
     let missed = c.if-move_to_front_if_held.false in
     rw (← c.self.view_is, look.absent missed) (record {
       fetched = Ok c.in_ok-value.value;
-      fetch = c.in_ok-value.ensures.step;
+      fetch = search rules;
       passes = subst (λ cache. Takes eq (g.W.WeightScale.weight cache.scale) cache c.args.key c.in_ok-value.value c.taken.result c.taken.new.cache)
           (look.missed missed) c.taken.ensures.taken;
     })
