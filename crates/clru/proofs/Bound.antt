@@ -1,12 +1,12 @@
 -- The misses at a capacity against those of any schedule.
 use Rattle.std.proofs.Common.{◌≡◌, ℕ, suc, ◌+◌, ◌-◌, ◌*◌, ◌≤◌, Bool, true, false, cond, not, ◌||◌}
-use Rattle.std.proofs.Common.{List, [], ◌∷◌, ◌++◌, length, refl, ap, ◌∙◌, subst, arith, inl, inr, append-nil, mul-le-mul_left}
+use Rattle.std.proofs.Common.{List, [], ◌∷◌, ◌++◌, length, refl, ap, ◌∙◌, subst, arith, inl, inr, append-nil, mul-le-mul_left, mul-le-mul_right}
 use Rattle.std.proofs.Math.Bool.{or_comm}
 use Rattle.std.proofs.lemmas.Bool.{or_left, or_right, and_parts, or_cases, cases_lt, lt-ltb}
 use Rattle.std.specs.Cmp.{IsEquivalence}
 use Rattle.std.specs.List.{count_by, list_all}
 use Rattle.clru.specs.Requests.{holds, distinct, since, hit, marks_after, misses}
-use Rattle.clru.specs.Schedule.{IsSchedule, schedule_misses}
+use Rattle.clru.specs.Schedule.{IsSchedule, schedule_misses, IsCompetitive, IsCompetitiveFromAnyStart}
 use Rattle.clru.proofs.Marks.{count_by-not-cons}
 use Rattle.clru.proofs.Distinct.{split, holds-append, since-cons, distinct_since_less, since_within, holds_same, distinct_mono}
 
@@ -33,12 +33,12 @@ paid_full n g m d s u e b c once ih full near seen =
     rw full (omega (arith, p, q, r))
 
 -- a mark counts for one miss at most
-miss-le-one : (b : Bool) → cond b 0 1 ≤ 1
+pub miss-le-one : (b : Bool) → cond b 0 1 ≤ 1
 miss-le-one b = split b (λ t. rw t (omega arith)) (λ f. rw f (omega arith))
 
 module _ {K : Type 0} (eq : K → K → Bool) where
   -- a list has at most as many distinct keys as keys
-  distinct-le-length : (ks : List K) → distinct eq ks ≤ length ks
+  pub distinct-le-length : (ks : List K) → distinct eq ks ≤ length ks
   distinct-le-length [] = omega arith
   distinct-le-length (k ∷ ks) = let ih = distinct-le-length ks in split (holds eq k ks) (λ t. rw t (omega arith)) (λ f. rw f (omega arith))
 
@@ -60,7 +60,7 @@ module _ {K : Type 0} (eq : K → K → Bool) (laws : IsEquivalence eq) where
 
   -- a key of the latest requests, which have at most k distinct keys, hits at k
   hit_within : (k : ℕ) (x : K) (phase older : List K) → holds eq x phase ≡ true → distinct eq phase ≤ k
-      → hit eq k (phase ++ older) x ≡ true
+      → hit eq k x (phase ++ older) ≡ true
   hit_within k x phase older h few =
       let less = distinct_since_less eq laws x phase phase h (λ z g. since_within eq laws x z phase g) in
       rw (holds-append eq x phase older, h, since-append x phase older h) (lt-ltb (distinct eq (since eq x phase)) k (omega arith))
@@ -92,7 +92,7 @@ module _ {K : Type 0} (eq : K → K → Bool) (laws : IsEquivalence eq) where
   -- phase have at most u distinct ones.
   abbrev IsBounded : (n g : ℕ) (held : List K) (later : List (List K)) (rs : List K) → Type 0
   IsBounded n g held later rs = (phase older : List K) (u e : ℕ) → distinct eq phase ≤ n + g → distinct eq (held ++ phase) ≤ u → u ≤ g + 1 + e
-      → Paid n g (count_by not (marks_after eq (phase ++ older) (n + g) rs)) (distinct eq phase) (schedule_misses eq (held ∷ later) rs) u e
+      → Paid n g (count_by not (marks_after eq (n + g) (phase ++ older) rs)) (distinct eq phase) (schedule_misses eq (held ∷ later) rs) u e
 
   -- the keys held after a request of x, and the phase with it: one more than before where x is new to both
   seen_next : (held next phase : List K) (x : K) (u : ℕ) → list_all (λ q. holds eq q (x ∷ held)) next ≡ true → distinct eq (held ++ phase) ≤ u
@@ -130,8 +130,8 @@ module _ {K : Type 0} (eq : K → K → Bool) (laws : IsEquivalence eq) where
       → holds eq x next ≡ true → length next ≤ g + 1 → IsBounded n g next later rs → IsBounded n g held (next ∷ later) (x ∷ rs)
   bound_cons n g held next later x rs pos all served short rest phase older u e few seen near =
       let after = seen_next held next phase x u all seen in
-      let hits = hit eq (n + g) (phase ++ older) x in
-      let m = count_by not (marks_after eq (x ∷ (phase ++ older)) (n + g) rs) in
+      let hits = hit eq (n + g) x (phase ++ older) in
+      let m = count_by not (marks_after eq (n + g) (x ∷ (phase ++ older)) rs) in
       let s = schedule_misses eq (next ∷ later) rs in
       let c : ℕ = cond (holds eq x held) 0 1 in
       let d : ℕ = distinct eq phase in
@@ -181,7 +181,13 @@ module _ {K : Type 0} (eq : K → K → Bool) (laws : IsEquivalence eq) where
       subst (λ c. (k - h + 1) * misses eq c rs ≤ c * schedule_misses eq (start ∷ schedule) rs + length start * (k - h + 1)) ek
       (bound_by (k - h + 1) (h - 1) start schedule rs (omega arith) (subst (λ c. IsSchedule eq c (start ∷ schedule) rs) eh sched))
 
-  -- against a schedule of h keys that starts empty
-  pub misses_bound_empty : (h k : ℕ) (schedule : List (List K)) (rs : List K) → 1 ≤ h → h ≤ k → IsSchedule eq h ([] ∷ schedule) rs
-      → (k - h + 1) * misses eq k rs ≤ k * schedule_misses eq ([] ∷ schedule) rs
-  misses_bound_empty h k schedule rs pos within sched = omega (arith, misses_bound h k [] schedule rs pos within sched)
+  -- the bound against each schedule that starts empty
+  pub competitive : (k : ℕ) (rs : List K) → IsCompetitive eq k rs (misses eq k rs)
+  competitive k rs h schedule pos within sched = omega (arith, misses_bound h k [] schedule rs pos within sched)
+
+  -- a schedule of h keys starts with h keys at most
+  pub competitive_from_any_start : (k : ℕ) (rs : List K) → IsCompetitiveFromAnyStart eq k rs (misses eq k rs)
+  competitive_from_any_start k rs h [] pos within sched = absurd sched
+  competitive_from_any_start k rs h (start ∷ schedule) pos within sched =
+      let kept : length start * (k - h + 1) ≤ h * (k - h + 1) = mul-le-mul_right (k - h + 1) (schedule_short h start schedule rs sched) in
+      omega (arith, misses_bound h k start schedule rs pos within sched, kept)

@@ -8,6 +8,8 @@ use Rattle.std.specs.Cmp.{IsEquivalence}
 use Rattle.std.specs.List.{slice_get, slice_range}
 use Rattle.clru.specs.Requests.{holds, distinct, since, hit, marks_after, marks}
 use Rattle.clru.specs.ByPlace.{IsHitAt}
+use Rattle.clru.proofs.Counting.{count_unique}
+use Rattle.clru.proofs.DistinctByPlace.{distinct_by_place}
 use Rattle.clru.proofs.Distinct.{split, holds-append, since-cons, not_since}
 use Rattle.clru.proofs.Marks.{reverse-cons-append}
 use Rattle.clru.proofs.Places.{slice_get-append_right, slice_get_middle, slice_get_between, slice_range_between}
@@ -15,25 +17,25 @@ use Rattle.clru.proofs.Places.{split_at_two_places, LacksKey_from_holds, holds_f
 
 module _ {K : Type 0} (eq : K → K → Bool) where
   -- there is one mark for each request
-  pub length-marks_after : (past : List K) (k : ℕ) (rs : List K) → length (marks_after eq past k rs) ≡ length rs
+  pub length-marks_after : (past : List K) (k : ℕ) (rs : List K) → length (marks_after eq k past rs) ≡ length rs
   length-marks_after past k [] = refl
   length-marks_after past k (x ∷ rs) = ap suc (length-marks_after (x ∷ past) k rs)
 
   -- a mark is whether the request at its place hits after those before it
-  marks_after_at : (past : List K) (k : ℕ) (rs : List K) (i : ℕ) (b : Bool) → slice_get (marks_after eq past k rs) i ≡ Some b
-      → (before : List K) × (x : K) × (after : List K) × (rs ≡ before ++ x ∷ after) × (length before ≡ i) × (hit eq k (reverse before ++ past) x ≡ b)
+  marks_after_at : (past : List K) (k : ℕ) (rs : List K) (i : ℕ) (b : Bool) → slice_get (marks_after eq k past rs) i ≡ Some b
+      → (before : List K) × (x : K) × (after : List K) × (rs ≡ before ++ x ∷ after) × (length before ≡ i) × (hit eq k x (reverse before ++ past) ≡ b)
   marks_after_at past k [] i b h = cc
   marks_after_at past k (x ∷ rs) zero b h = ([], x, rs, refl, refl, same_Some _ _ h)
   marks_after_at past k (x ∷ rs) (suc i) b h =
       let (before, y, after, e, n, m) = marks_after_at (x ∷ past) k rs i b h in
-      (x ∷ before, y, after, ap (λ l. x ∷ l) e, ap suc n, ap (λ l. hit eq k l y) (reverse-cons-append eq x before past) ∙ m)
+      (x ∷ before, y, after, ap (λ l. x ∷ l) e, ap suc n, ap (λ l. hit eq k y l) (reverse-cons-append eq x before past) ∙ m)
 
   -- the mark of the request after some others
   marks_after_next : (past : List K) (k : ℕ) (before : List K) (x : K) (after : List K)
-      → slice_get (marks_after eq past k (before ++ x ∷ after)) (length before) ≡ Some (hit eq k (reverse before ++ past) x)
+      → slice_get (marks_after eq k past (before ++ x ∷ after)) (length before) ≡ Some (hit eq k x (reverse before ++ past))
   marks_after_next past k [] x after = refl
   marks_after_next past k (y ∷ before) x after =
-      marks_after_next (y ∷ past) k before x after ∙ ap (λ l. Some (hit eq k l x)) (sym (reverse-cons-append eq y before past))
+      marks_after_next (y ∷ past) k before x after ∙ ap (λ l. Some (hit eq k x l)) (sym (reverse-cons-append eq y before past))
 
   -- requests of which one is of x are those since the latest such request, that one, and older ones
   split_since : (x : K) (past : List K) → holds eq x past ≡ true
@@ -58,7 +60,7 @@ module _ {K : Type 0} (eq : K → K → Bool) where
 
   -- a request hits where one of the same key came before it, with fewer than k distinct keys and no such request between
   hit_after_middle : (k : ℕ) (before : List K) (y : K) (between : List K) (x : K) → eq x y ≡ true → holds eq x between ≡ false
-      → distinct eq (reverse between) < k → hit eq k (reverse (before ++ y ∷ between)) x ≡ true
+      → distinct eq (reverse between) < k → hit eq k x (reverse (before ++ y ∷ between)) ≡ true
   hit_after_middle k before y between x same none few =
       let recent : List K = reverse between in
       let apart : holds eq x recent ≡ false = holds-reverse eq x between ∙ none in
@@ -74,7 +76,7 @@ module _ {K : Type 0} (eq : K → K → Bool) where
       let front = before ++ y ∷ between in
       rw (n, ← append_assoc before (y ∷ between) (x ∷ after))
       (marks_after_next [] k front x after
-      ∙ ap Some (ap (λ l. hit eq k l x) (append-nil (reverse front)) ∙ hit_after_middle k before y between x same none few))
+      ∙ ap Some (ap (λ l. hit eq k x l) (append-nil (reverse front)) ∙ hit_after_middle k before y between x same none few))
 
   -- the same by places
   IsHitAt_middle : (k : ℕ) (before : List K) (y : K) (between : List K) (x : K) (after : List K) → eq x y ≡ true → holds eq x between ≡ false
@@ -93,7 +95,9 @@ module _ {K : Type 0} (eq : K → K → Bool) where
         LacksKey_from_holds eq between x none (p - length before - 1) z
         (sym (slice_get_between before y between (x ∷ after) (p - length before - 1) within)
         ∙ ap (slice_get (before ++ y ∷ (between ++ x ∷ after))) (sym j) ∙ at);
-    few = rw slice_range_between few;
+    between = distinct eq (reverse between);
+    distinct_between = rw slice_range_between (distinct_by_place eq between);
+    few = few;
   }
 
   -- the same from what the places between tell
@@ -116,11 +120,12 @@ module _ {K : Type 0} (eq : K → K → Bool) where
   marks_from_IsHitAt k rs i r =
       let (before, between, after, e, n, m) = split_at_two_places rs r.before i r.key_before r.key r.earlier r.requested_before r.requested in
       marks_at_places k before r.key_before between r.key after rs i (sym e) (sym m) r.same
-      (λ p z low high at. r.latest p z (rw n at low) high at) (rw n r.few)
+      (λ p z low high at. r.latest p z (rw n at low) high at)
+      (rw (n, ← count_unique r.distinct_between (distinct_by_place eq (slice_range rs (r.before + 1) i))) r.few)
 
 module _ {K : Type 0} (eq : K → K → Bool) (laws : IsEquivalence eq) where
   -- what stands before a hit, split at the latest request of its key
-  split_at_hit : (k : ℕ) (front : List K) (x : K) → hit eq k (reverse front) x ≡ true → (before : List K) × (y : K) × (between : List K)
+  split_at_hit : (k : ℕ) (front : List K) (x : K) → hit eq k x (reverse front) ≡ true → (before : List K) × (y : K) × (between : List K)
       × (before ++ y ∷ between ≡ front) × (eq x y ≡ true) × (holds eq x between ≡ false) × (distinct eq (reverse between) < k)
   split_at_hit k front x h =
       let parts = and_parts (holds eq x (reverse front)) (ltb (distinct eq (since eq x (reverse front))) k) h in

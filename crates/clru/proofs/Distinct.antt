@@ -136,7 +136,7 @@ module _ {K : Type 0} (eq : K → K → Bool) (laws : IsEquivalence eq) where
 
   -- one request of x shifts the hits of every other key by one capacity, but for those that hit before x does
   pub hit-cons : (j : ℕ) (x y : K) (past : List K) → eq x y ≡ false
-      → hit eq (suc j) (x ∷ past) y ≡ cond (hit eq j past x) (hit eq (suc j) past y) (hit eq j past y)
+      → hit eq (suc j) y (x ∷ past) ≡ cond (hit eq j x past) (hit eq (suc j) y past) (hit eq j y past)
   hit-cons j x y past apart =
       let back : eq y x ≡ false = laws.symm y x ∙ apart in
       rw (since-cons eq y x past, back) (split (holds eq y past)
@@ -146,4 +146,4 @@ module _ {K : Type 0} (eq : K → K → Bool) (laws : IsEquivalence eq) where
       (λ f. rw f (split (holds eq x past)
       (λ hx. let lt = distinct_since_since y x past (since_either x y past apart hx hy f) in rw hx (grind (arith, nat_tests)))
       (λ no_x. rw no_x (grind (arith, nat_tests)))))))
-      (λ no_y. rw no_y (split (hit eq j past x) (λ t. rw t refl) (λ f. rw f refl))))
+      (λ no_y. rw no_y (split (hit eq j x past) (λ t. rw t refl) (λ f. rw f refl))))

@@ -3,7 +3,7 @@ use Rattle.std.proofs.Common.{◌≡◌, ℕ, ◌-◌, ◌^◌, ◌%◌, Bool, [
 use Rattle.std.specs.Prelude.{nat_eq}
 use Rattle.clru.specs.Entries.{touch, plain_put, weighted_put, fit, size_of}
 
-abbrev itself : ℕ → ℕ → ℕ
+abbrev pub itself : ℕ → ℕ → ℕ
 itself key value = value
 
 -- keys are the same where their last digits are

@@ -1,26 +1,34 @@
 -- Why the first keys that a cache holds are the hits at each capacity up to its own.
 use Rattle.std.proofs.Common.{◌≡◌, ℕ, zero, suc, ◌-◌, ◌≤◌, Bool, true, false, cond, List, [], ◌∷◌}
-use Rattle.std.proofs.Common.{length, take, refl, sym, ap, ◌∙◌, arith, take_all, take-take, Option, Some, None}
+use Rattle.std.proofs.Common.{length, take, refl, sym, ap, ◌∙◌, arith, take_all, take-take}
 use Rattle.std.proofs.lemmas.List.{take-map, length-map}
 use Rattle.std.proofs.lemmas.Bool.Decides.{nat_tests}
 use Rattle.std.proofs.lemmas.Bool.{or_parts}
 use Rattle.std.specs.Cmp.{IsEquivalence}
-use Rattle.std.specs.Map.{keys_of, remove_entry, lookup_entry}
-use Rattle.std.specs.Option.{option_map_or, MatchOption}
+use Rattle.std.specs.Map.{keys_of, remove_entry}
 use Rattle.clru.specs.Requests.{holds, hit}
+use Rattle.clru.specs.Runs.{IsPut}
 use Rattle.clru.proofs.Distinct.{split, since-cons, same_right, hit-cons}
 
 module _ {K : Type 0} (eq : K → K → Bool) where
   -- up to the capacity k, the first j of the keys held, latest first, are the hits at capacity j
   pub record Keeps (k : ℕ) (past ks : List K) : Type 0 where
-    pub kept : (j : ℕ) (y : K) → j ≤ k → holds eq y (take j ks) ≡ hit eq j past y
+    pub kept : (j : ℕ) (y : K) → j ≤ k → holds eq y (take j ks) ≡ hit eq j y past
+
+  -- before the first request nothing is held
+  pub Keeps_none : (k : ℕ) → Keeps k [] []
+  Keeps_none k = record { kept = none }
+    where
+      none : (j : ℕ) (y : K) → j ≤ k → holds eq y (take j []) ≡ hit eq j y []
+      none zero y within = refl
+      none (suc j) y within = refl
 
   -- at capacity 0 nothing hits
-  hit-zero : (past : List K) (x : K) → hit eq 0 past x ≡ false
+  hit-zero : (past : List K) (x : K) → hit eq 0 x past ≡ false
   hit-zero past x = split (holds eq x past) (λ t. rw t (grind (arith, nat_tests))) (λ f. rw f refl)
 
   -- a key that was just requested hits at every capacity above 0
-  hit-cons_same : (j : ℕ) (x y : K) (past : List K) → eq y x ≡ true → hit eq (suc j) (x ∷ past) y ≡ true
+  hit-cons_same : (j : ℕ) (x y : K) (past : List K) → eq y x ≡ true → hit eq (suc j) y (x ∷ past) ≡ true
   hit-cons_same j x y past t = rw (since-cons eq y x past, t) (grind (arith, nat_tests))
 
   -- a key that is not held is not among the first ones
@@ -34,16 +42,10 @@ module _ {K : Type 0} (eq : K → K → Bool) where
 module _ {K V : Type 0} (eq : K → K → Bool) where
   -- under the invariant the keys held are the hits at the capacity
   pub Keeps_held : {k : ℕ} {past : List K} (x : K) (es : List (K × V)) → length es ≤ k → Keeps eq k past (keys_of es)
-      → holds eq x (keys_of es) ≡ hit eq k past x
+      → holds eq x (keys_of es) ≡ hit eq k x past
   Keeps_held {k} x es short keeps =
       let all : take k (keys_of es) ≡ keys_of es = take_all k (keys_of es) (rw length-map short) in
       rw all at (keeps.kept k x (omega arith))
-
-  -- what the entry found for x tells
-  lookup_entry_tells : (x : K) (es : List (K × V))
-      → MatchOption (lookup_entry (eq x) es) (holds eq x (keys_of es) ≡ false) (λ e. (eq x e.0 ≡ true) × (holds eq x (keys_of es) ≡ true))
-  lookup_entry_tells x [] = refl
-  lookup_entry_tells x (e ∷ es) = split (eq x e.0) (λ t. rw t (t, refl)) (λ f. rw f (lookup_entry_tells x es))
 
 module _ {K V : Type 0} (eq : K → K → Bool) (laws : IsEquivalence eq) where
   -- the first keys once an entry of x is taken out, at another key
@@ -57,15 +59,15 @@ module _ {K V : Type 0} (eq : K → K → Bool) (laws : IsEquivalence eq) where
       (λ f. let ih = holds-take-remove x y j es apart in
       rw (f, ih) (split (holds eq x (take j (keys_of es))) (λ t. rw t refl) (λ g. rw g refl)))
 
-  -- the invariant after a put of x that stays under the key q
-  pub Keeps_put : {k : ℕ} {past : List K} (x q : K) (v : V) (es next : List (K × V)) → eq x q ≡ true → Keeps eq k past (keys_of es)
-      → next ≡ (q, v) ∷ cond (holds eq x (keys_of es)) (remove_entry (eq x) es) (take (k - 1) es) → Keeps eq k (x ∷ past) (keys_of next)
-  Keeps_put {k} {past} x q v es next same keeps e = record { kept = λ j y within. rw e (at j y within) }
+  -- the invariant after a put of x
+  pub Keeps_put : {k : ℕ} {past : List K} (x : K) (es next : List (K × V)) → Keeps eq k past (keys_of es) → IsPut eq k x es next
+      → Keeps eq k (x ∷ past) (keys_of next)
+  Keeps_put {k} {past} x es next keeps put = record { kept = λ j y within. rw put.entries (at put.key put.same j y within) }
     where
-      at : (j : ℕ) (y : K) → j ≤ k
-          → holds eq y (take j (q ∷ keys_of (cond (holds eq x (keys_of es)) (remove_entry (eq x) es) (take (k - 1) es)))) ≡ hit eq j (x ∷ past) y
-      at zero y within = sym (hit-zero eq (x ∷ past) y)
-      at (suc i) y within =
+      at : (q : K) → eq x q ≡ true → (j : ℕ) (y : K) → j ≤ k
+          → holds eq y (take j (q ∷ keys_of (cond (holds eq x (keys_of es)) (remove_entry (eq x) es) (take (k - 1) es)))) ≡ hit eq j y (x ∷ past)
+      at q same zero y within = sym (hit-zero eq (x ∷ past) y)
+      at q same (suc i) y within =
           split (eq x y)
           (λ t. let w : eq y q ≡ true = sym (laws.congr x y q t) ∙ same in
           rw w (sym (hit-cons_same eq i x y past (laws.symm y x ∙ t))))
@@ -73,18 +75,7 @@ module _ {K V : Type 0} (eq : K → K → Bool) (laws : IsEquivalence eq) where
           let here : i ≤ k = omega arith in
           rw (w, hit-cons eq laws i x y past f) (split (holds eq x (keys_of es))
           (λ held. rw held (holds-take-remove x y i es f ∙ rw (keeps.kept i x here, keeps.kept (suc i) y within, keeps.kept i y here) refl))
-          (λ new. let no_hit : hit eq i past x ≡ false = sym (keeps.kept i x here) ∙ take_not_held eq x i (keys_of es) new in
+          (λ new. let no_hit : hit eq i x past ≡ false = sym (keeps.kept i x here) ∙ take_not_held eq x i (keys_of es) new in
           let short : i ≤ k - 1 = omega arith in
           rw (new, no_hit) (ap (λ l. holds eq y (take i l)) (sym (take-map (λ p. p.0) (k - 1) es))
           ∙ ap (λ l. holds eq y l) (take-take i (k - 1) (keys_of es) short) ∙ keeps.kept i y here))))
-
-  -- the same where the put is said by the entry that it finds
-  pub Keeps_put_found : {k : ℕ} {past : List K} (x : K) (v : V) (es next : List (K × V)) → Keeps eq k past (keys_of es)
-      → next ≡ option_map_or (λ e. (e.0, v) ∷ remove_entry (eq x) es) (lookup_entry (eq x) es) ((x, v) ∷ take (k - 1) es)
-      → Keeps eq k (x ∷ past) (keys_of next)
-  Keeps_put_found {k} {past} x v es next keeps is = found (lookup_entry (eq x) es) (lookup_entry_tells eq x es) is
-    where
-      found : (o : Option (K × V)) → MatchOption o (holds eq x (keys_of es) ≡ false) (λ e. (eq x e.0 ≡ true) × (holds eq x (keys_of es) ≡ true))
-          → next ≡ option_map_or (λ e. (e.0, v) ∷ remove_entry (eq x) es) o ((x, v) ∷ take (k - 1) es) → Keeps eq k (x ∷ past) (keys_of next)
-      found None f e = Keeps_put x x v es next (laws.refl x) keeps (rw f e)
-      found (Some p) t e = Keeps_put x p.0 v es next t.0 keeps (rw t.1 e)

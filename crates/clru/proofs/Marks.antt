@@ -22,21 +22,21 @@ module _ {K : Type 0} (eq : K → K → Bool) where
 
   -- the marks of two lists of requests in a row
   pub marks_after-append : (past : List K) (k : ℕ) (xs ys : List K)
-      → marks_after eq past k (xs ++ ys) ≡ marks_after eq past k xs ++ marks_after eq (reverse xs ++ past) k ys
+      → marks_after eq k past (xs ++ ys) ≡ marks_after eq k past xs ++ marks_after eq k (reverse xs ++ past) ys
   marks_after-append past k [] ys = refl
   marks_after-append past k (x ∷ xs) ys =
-      ap (λ l. hit eq k past x ∷ l) (marks_after-append (x ∷ past) k xs ys
-      ∙ ap (λ l. marks_after eq (x ∷ past) k xs ++ marks_after eq l k ys) (sym (reverse-cons-append x xs past)))
+      ap (λ l. hit eq k x past ∷ l) (marks_after-append (x ∷ past) k xs ys
+      ∙ ap (λ l. marks_after eq k (x ∷ past) xs ++ marks_after eq k l ys) (sym (reverse-cons-append x xs past)))
 
   -- the marks after one more request
   pub marks_after_push : (past : List K) (k : ℕ) (xs : List K) (x : K)
-      → marks_after eq past k (xs ++ x ∷ []) ≡ marks_after eq past k xs ++ hit eq k (reverse xs ++ past) x ∷ []
+      → marks_after eq k past (xs ++ x ∷ []) ≡ marks_after eq k past xs ++ hit eq k x (reverse xs ++ past) ∷ []
   marks_after_push past k xs x = marks_after-append past k xs (x ∷ [])
 
   -- the same from the start
-  pub marks_push : (k : ℕ) (xs : List K) (x : K) → marks eq k (xs ++ x ∷ []) ≡ marks eq k xs ++ hit eq k (reverse xs) x ∷ []
-  marks_push k xs x = marks_after_push [] k xs x ∙ ap (λ l. marks eq k xs ++ hit eq k l x ∷ []) (append-nil (reverse xs))
+  pub marks_push : (k : ℕ) (xs : List K) (x : K) → marks eq k (xs ++ x ∷ []) ≡ marks eq k xs ++ hit eq k x (reverse xs) ∷ []
+  marks_push k xs x = marks_after_push [] k xs x ∙ ap (λ l. marks eq k xs ++ hit eq k x l ∷ []) (append-nil (reverse xs))
 
   -- the misses after one more request
-  pub misses_push : (k : ℕ) (xs : List K) (x : K) → misses eq k (xs ++ x ∷ []) ≡ misses eq k xs + cond (hit eq k (reverse xs) x) 0 1
-  misses_push k xs x = ap (count_by not) (marks_push k xs x) ∙ count_by-not-push (marks eq k xs) (hit eq k (reverse xs) x)
+  pub misses_push : (k : ℕ) (xs : List K) (x : K) → misses eq k (xs ++ x ∷ []) ≡ misses eq k xs + cond (hit eq k x (reverse xs)) 0 1
+  misses_push k xs x = ap (count_by not) (marks_push k xs x) ∙ count_by-not-push (marks eq k xs) (hit eq k x (reverse xs))

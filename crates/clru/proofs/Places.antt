@@ -78,21 +78,21 @@ module _ {X : Type 0} where
 
 module _ {K : Type 0} (eq : K → K → Bool) where
   -- a key that is held has a place
-  pub HasKey_from_holds : (ks : List K) (x : K) → holds eq x ks ≡ true → HasKey eq ks x
+  pub HasKey_from_holds : (ks : List K) (x : K) → holds eq x ks ≡ true → HasKey eq x ks
   HasKey_from_holds [] x h = cc
   HasKey_from_holds (k ∷ ks) x h =
       split (eq x k) (λ t. (0, k, refl, t)) (λ f. let (p, y, at, same) = HasKey_from_holds ks x (rw f at h) in (suc p, y, at, same))
 
   -- a key that has a place is held
-  pub holds_from_HasKey : (ks : List K) (x : K) → HasKey eq ks x → holds eq x ks ≡ true
+  pub holds_from_HasKey : (ks : List K) (x : K) → HasKey eq x ks → holds eq x ks ≡ true
   holds_from_HasKey ks x (p, y, at, same) = any_passes_from_place (eq x) ks p y at same
 
   -- a key that is not held has no place
-  pub LacksKey_from_holds : (ks : List K) (x : K) → holds eq x ks ≡ false → LacksKey eq ks x
+  pub LacksKey_from_holds : (ks : List K) (x : K) → holds eq x ks ≡ false → LacksKey eq x ks
   LacksKey_from_holds ks x h p y at = false_from_ne_true (eq x y) (λ t. cc (any_passes_from_place (eq x) ks p y at t))
 
   -- a key that has no place is not held
-  pub holds_from_LacksKey : (ks : List K) (x : K) → LacksKey eq ks x → holds eq x ks ≡ false
+  pub holds_from_LacksKey : (ks : List K) (x : K) → LacksKey eq x ks → holds eq x ks ≡ false
   holds_from_LacksKey ks x none = false_from_ne_true (holds eq x ks) (λ t.
       let (p, y, at, same) = HasKey_from_holds ks x t in cc (none p y at))
 

@@ -12,8 +12,9 @@ use Rattle.clru.specs.Entries.{plain_put}
 use Rattle.clru.specs.Requests.{hit, marks, misses}
 use Rattle.clru.proofs.Distinct.{split}
 use Rattle.std.proofs.lemmas.Map.Made.{is_some-lookup}
-use Rattle.clru.proofs.Hits.{Keeps, Keeps_held, Keeps_put_found}
+use Rattle.clru.proofs.Hits.{Keeps, Keeps_held, Keeps_put}
 use Rattle.clru.proofs.Marks.{marks_push, misses_push}
+use Rattle.clru.proofs.PutSteps.{IsPut-plain}
 use Rattle.clru.proofs.Sublists.{length-sublist, sublist_take, sublist_remove_entry}
 
 -- a put-or-modify whose put operation makes `false` and whose modify operation leaves `true` lends whether the entry was there
@@ -61,11 +62,11 @@ module _ {K W : Type 0} (eq : K → K → Bool) where
       let short : length c.entries ≤ k = omega (arith, r.covered, r.places) in
       let entries : new.entries ≡ plain_put eq k x held c.entries =
       ap (λ d. d.entries) put ∙ ap (λ i. plain_put eq i x held c.entries) r.capacity in
-      let hits : held ≡ hit eq k (reverse xs) x = is ∙ is_some-lookup (eq x) c.entries ∙ Keeps_held eq x c.entries short r.keeps in
+      let hits : held ≡ hit eq k x (reverse xs) = is ∙ is_some-lookup (eq x) c.entries ∙ Keeps_held eq x c.entries short r.keeps in
       record {
         marks = marked ∙ ap (λ l. l ++ held ∷ []) r.marks ∙ ap (λ b. marks eq k xs ++ b ∷ []) hits ∙ sym (marks_push eq k xs x);
         misses = missed ∙ ap (λ i. i + cond held 0 1) r.misses ∙ ap (λ b. misses eq k xs + cond b 0 1) hits ∙ sym (misses_push eq k xs x);
-        keeps = rw (reverse-append xs (x ∷ [])) (Keeps_put_found eq laws x held c.entries new.entries r.keeps entries);
+        keeps = rw (reverse-append xs (x ∷ [])) (Keeps_put eq laws x c.entries new.entries r.keeps (IsPut-plain eq laws k x held c.entries new.entries entries));
         capacity = ap (λ d. d.capacity) put ∙ r.capacity;
         places = ap (λ d. d.places) put ∙ r.places;
         covered = covers;

@@ -1,6 +1,6 @@
 -- Small lists of requests whose marks and schedules are worked out by hand: the definitions compute to them.
 -- The keys a, b, c and d are 0, 1, 2 and 3.
-use Rattle.std.proofs.Common.{◌≡◌, ℕ, ◌-◌, ◌^◌, true, false, List, [], ◌∷◌, refl, arith}
+use Rattle.std.proofs.Common.{◌≡◌, ℕ, ◌+◌, ◌-◌, ◌*◌, ◌^◌, true, false, List, [], ◌∷◌, refl, arith}
 use Rattle.std.specs.Prelude.{nat_eq}
 use Rattle.clru.specs.Requests.{marks, misses}
 use Rattle.clru.specs.Schedule.{IsSchedule, schedule_misses}
@@ -83,3 +83,56 @@ foreseeing_is_schedule = search arith
 
 misses_of_foreseeing : schedule_misses nat_eq foreseeing four_keys ≡ 5
 misses_of_foreseeing = refl
+
+-- schedules that start with keys: up to h of them save it a miss each
+abbrev starts_with_both : List (List ℕ)
+starts_with_both = (0 ∷ 1 ∷ []) ∷ (0 ∷ 1 ∷ []) ∷ (0 ∷ 1 ∷ []) ∷ []
+
+starts_with_both_is_schedule : IsSchedule nat_eq 2 starts_with_both (0 ∷ 1 ∷ [])
+starts_with_both_is_schedule = search arith
+
+misses_of_starts_with_both : schedule_misses nat_eq starts_with_both (0 ∷ 1 ∷ []) ≡ 0
+misses_of_starts_with_both = refl
+
+-- at k = h = 2 the bound is reached
+both_reach_the_bound : (2 - 2 + 1) * misses nat_eq 2 (0 ∷ 1 ∷ []) ≡ 2 * 0 + 2 * (2 - 2 + 1)
+both_reach_the_bound = refl
+
+abbrev starts_with_one : List (List ℕ)
+starts_with_one = (0 ∷ []) ∷ (0 ∷ []) ∷ (1 ∷ []) ∷ []
+
+starts_with_one_is_schedule : IsSchedule nat_eq 1 starts_with_one (0 ∷ 1 ∷ [])
+starts_with_one_is_schedule = search arith
+
+misses_of_starts_with_one : schedule_misses nat_eq starts_with_one (0 ∷ 1 ∷ []) ≡ 1
+misses_of_starts_with_one = refl
+
+-- and at k = 2, h = 1
+one_reaches_the_bound : (2 - 1 + 1) * misses nat_eq 2 (0 ∷ 1 ∷ []) ≡ 2 * 1 + 1 * (2 - 1 + 1)
+one_reaches_the_bound = refl
+
+abbrev starts_with_two_of_three : List (List ℕ)
+starts_with_two_of_three = (0 ∷ 1 ∷ []) ∷ (0 ∷ 1 ∷ []) ∷ (0 ∷ 1 ∷ []) ∷ (0 ∷ 2 ∷ []) ∷ []
+
+starts_with_two_of_three_is_schedule : IsSchedule nat_eq 2 starts_with_two_of_three (0 ∷ 1 ∷ 2 ∷ [])
+starts_with_two_of_three_is_schedule = search arith
+
+misses_of_starts_with_two_of_three : schedule_misses nat_eq starts_with_two_of_three (0 ∷ 1 ∷ 2 ∷ []) ≡ 1
+misses_of_starts_with_two_of_three = refl
+
+-- at k = 3, h = 2 it is 6 ≤ 7
+two_of_three_keep_the_bound : (3 - 2 + 1) * misses nat_eq 3 (0 ∷ 1 ∷ 2 ∷ []) + 1 ≡ 3 * 1 + 2 * (3 - 2 + 1)
+two_of_three_keep_the_bound = refl
+
+abbrev starts_with_the_only_key : List (List ℕ)
+starts_with_the_only_key = (0 ∷ []) ∷ (0 ∷ []) ∷ []
+
+starts_with_the_only_key_is_schedule : IsSchedule nat_eq 1 starts_with_the_only_key (0 ∷ [])
+starts_with_the_only_key_is_schedule = search arith
+
+misses_of_starts_with_the_only_key : schedule_misses nat_eq starts_with_the_only_key (0 ∷ []) ≡ 0
+misses_of_starts_with_the_only_key = refl
+
+-- at k = h = 1 it is reached
+the_only_key_reaches_the_bound : (1 - 1 + 1) * misses nat_eq 1 (0 ∷ []) ≡ 1 * 0 + 1 * (1 - 1 + 1)
+the_only_key_reaches_the_bound = refl

@@ -43,7 +43,7 @@ module _ {K : Type 0} (eq : K → K → Bool) where
 
   -- after the first request each key held was held before it or is the request's
   kept_first : (ks next : List K) (x : K) → list_all (λ q. holds eq q (x ∷ ks)) next ≡ true
-      → (p : ℕ) (q : K) → slice_get next p ≡ Some q → HasKey eq ks q ⊎ (eq q x ≡ true)
+      → (p : ℕ) (q : K) → slice_get next p ≡ Some q → HasKey eq q ks ⊎ (eq q x ≡ true)
   kept_first ks next x all p q at =
       elim (or_cases (eq q x) (holds eq q ks) (list_all_at (λ k. holds eq k (x ∷ ks)) next p q all at)) [
         | inl t ↦ inr t
@@ -62,17 +62,17 @@ module _ {K : Type 0} (eq : K → K → Bool) where
   }
     where
       kept : (i : ℕ) (l m : List K) (y : K) → slice_get (ks ∷ next ∷ later) i ≡ Some l → slice_get (ks ∷ next ∷ later) (i + 1) ≡ Some m
-          → slice_get (x ∷ rs) i ≡ Some y → (p : ℕ) (q : K) → slice_get m p ≡ Some q → HasKey eq l q ⊎ (eq q y ≡ true)
+          → slice_get (x ∷ rs) i ≡ Some y → (p : ℕ) (q : K) → slice_get m p ≡ Some q → HasKey eq q l ⊎ (eq q y ≡ true)
       kept zero l m y at after asked =
-          subst₂ (λ (a : List K) (b : K). (p : ℕ) (q : K) → slice_get m p ≡ Some q → HasKey eq a q ⊎ (eq q b ≡ true))
+          subst₂ (λ (a : List K) (b : K). (p : ℕ) (q : K) → slice_get m p ≡ Some q → HasKey eq q a ⊎ (eq q b ≡ true))
           (same_Some _ _ at) (same_Some _ _ asked)
-          (subst (λ (c : List K). (p : ℕ) (q : K) → slice_get c p ≡ Some q → HasKey eq ks q ⊎ (eq q x ≡ true))
+          (subst (λ (c : List K). (p : ℕ) (q : K) → slice_get c p ≡ Some q → HasKey eq q ks ⊎ (eq q x ≡ true))
           (same_Some _ _ after) (kept_first ks next x all))
       kept (suc i) l m y at after asked = s.kept_or_requested i l m y at (rw add-one (rw add-one at after)) asked
 
-      served : (i : ℕ) (m : List K) (y : K) → slice_get (ks ∷ next ∷ later) (i + 1) ≡ Some m → slice_get (x ∷ rs) i ≡ Some y → HasKey eq m y
+      served : (i : ℕ) (m : List K) (y : K) → slice_get (ks ∷ next ∷ later) (i + 1) ≡ Some m → slice_get (x ∷ rs) i ≡ Some y → HasKey eq y m
       served zero m y after asked =
-          subst₂ (λ (a : List K) (b : K). HasKey eq a b) (same_Some _ _ after) (same_Some _ _ asked) (HasKey_from_holds eq next x held)
+          subst₂ (λ (a : List K) (b : K). HasKey eq b a) (same_Some _ _ after) (same_Some _ _ asked) (HasKey_from_holds eq next x held)
       served (suc i) m y after asked = s.served i m y (rw add-one (rw add-one at after)) asked
 
   -- a schedule is one by places

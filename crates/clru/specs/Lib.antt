@@ -1,12 +1,13 @@
 pub mod ByPlace
 pub mod Cache
 pub mod Closures
-pub mod Competes
 pub mod Entries
 pub mod Fields
 pub mod Growth
+pub mod Laws
 pub mod Lends
 pub mod Memory
 pub mod Refusals
 pub mod Requests
+pub mod Runs
 pub mod Schedule

@@ -17,17 +17,17 @@ module _ {K : Type 0} (eq : K → K → Bool) where
   since x past = take_while (λ y. not (eq x y)) past
 
   -- x was requested before, and since then fewer than k distinct keys were
-  abbrev pub hit : ℕ → List K → K → Bool
-  hit k past x = holds x past && nat_lt (distinct (since x past)) k
+  abbrev pub hit : ℕ → K → List K → Bool
+  hit k x past = holds x past && nat_lt (distinct (since x past)) k
 
   -- for each request in order whether it hits, after the requests of the past, the latest first
-  abbrev pub marks_after : List K → ℕ → List K → List Bool
-  marks_after past k [] = []
-  marks_after past k (x ∷ rs) = hit k past x ∷ marks_after (x ∷ past) k rs
+  abbrev pub marks_after : ℕ → List K → List K → List Bool
+  marks_after k past [] = []
+  marks_after k past (x ∷ rs) = hit k x past ∷ marks_after k (x ∷ past) rs
 
   -- for each request in order whether it hits at capacity k
   abbrev pub marks : ℕ → List K → List Bool
-  marks k rs = marks_after [] k rs
+  marks k rs = marks_after k [] rs
 
   -- how many requests don't hit at capacity k
   abbrev pub misses : ℕ → List K → ℕ

@@ -1,5 +1,6 @@
 -- Schedules: the keys that some policy, which may know all requests beforehand, holds before each request and at the end.
-use Rattle.std.specs.Prelude.{◌≡◌, ℕ, ◌≤◌, Bool, true, not, List, [], ◌∷◌, length}
+-- And the competitive bound: the misses of a replay beside those of every schedule. Public clauses cite them.
+use Rattle.std.specs.Prelude.{◌≡◌, ℕ, ◌+◌, ◌-◌, ◌*◌, ◌≤◌, Bool, true, not, List, [], ◌∷◌, length}
 use Rattle.std.specs.List.{list_all, count_by}
 use Rattle.clru.specs.Requests.{holds}
 
@@ -24,3 +25,13 @@ module _ {K : Type 0} (eq : K → K → Bool) where
   -- how many requests find their key not held
   abbrev pub schedule_misses : List (List K) → List K → ℕ
   schedule_misses held rs = count_by not (schedule_marks held rs)
+
+  -- n misses at capacity k: each schedule of h ≤ k keys that starts empty has at least (k - h + 1) / k times as many
+  abbrev pub IsCompetitive : ℕ → List K → ℕ → Type 0
+  IsCompetitive k requests n = (h : ℕ) (schedule : List (List K)) → 1 ≤ h → h ≤ k → IsSchedule h ([] ∷ schedule) requests
+      → (k - h + 1) * n ≤ k * schedule_misses ([] ∷ schedule) requests
+
+  -- the same beside schedules that start with any keys, for up to h more misses
+  abbrev pub IsCompetitiveFromAnyStart : ℕ → List K → ℕ → Type 0
+  IsCompetitiveFromAnyStart k requests n = (h : ℕ) (schedule : List (List K)) → 1 ≤ h → h ≤ k → IsSchedule h schedule requests
+      → (k - h + 1) * n ≤ k * schedule_misses schedule requests + h * (k - h + 1)

@@ -23,7 +23,9 @@ mod weight;
 pub use cache::CLruCache;
 pub use error::{NoMemory, PutError};
 pub use hasher::DefaultState;
-pub use laws::{law_by_place, law_longest_fit};
+pub use laws::{
+    law_by_place, law_growth, law_inclusion, law_longest_fit, law_requests, law_schedules_by_place,
+};
 pub use replays::{Replay, replay};
 pub use std::num::NonZeroUsize;
 pub use weight::{WeightScale, ZeroWeightScale};

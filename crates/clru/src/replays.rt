@@ -3,7 +3,7 @@ ghost use Rattle.std.specs.Prelude.{◌≡◌, ◌≤◌, [], length, is_some, I
 ghost use Rattle.std.specs.Int.NonZero.{non_zero_usize_get};
 ghost use Rattle.std.specs.Map.{lookup};
 ghost use Rattle.clru.specs.Cache.{with_entries};
-ghost use Rattle.clru.specs.Competes.{IsCompetitive};
+ghost use Rattle.clru.specs.Schedule.{IsCompetitive, IsCompetitiveFromAnyStart};
 ghost use Rattle.clru.specs.Entries.{plain_put};
 ghost use Rattle.clru.specs.Memory.{NeedsPlace};
 ghost use Rattle.clru.specs.Requests.{marks, misses};
@@ -21,7 +21,8 @@ use std::num::NonZeroUsize;
 ///
 /// A request is a hit where its key was requested before, and fewer than `capacity` distinct keys since then. The misses
 /// keep the competitive bound: they are at most `capacity / (capacity - h + 1)` times those of every schedule that starts
-/// empty and holds `h` keys, `capacity` or fewer, also of one that knows all the requests beforehand.
+/// empty and holds `h` keys, `capacity` or fewer, also of one that knows all the requests beforehand. Beside a schedule
+/// that starts with keys they are at most `h` more than that.
 ///
 /// Memory is taken before the first request: places for as many entries as there are keys, `capacity` at most, and the
 /// marks. Where either is refused, the keys come back as they were, and nothing else can be refused. Without keys no memory
@@ -35,6 +36,7 @@ pub fn replay<K: Eq + Hash + Drop, S: BuildHasher + Drop, A: Allocator + Copy>(
     ensures marks { IfOk result (λ r. r.marks.items ≡ marks K.eq (non_zero_usize_get capacity) keys.items) }
     ensures misses { IfOk result (λ r. r.misses ≡ misses K.eq (non_zero_usize_get capacity) keys.items) }
     ensures bound { IfOk result (λ r. IsCompetitive K.eq (non_zero_usize_get capacity) keys.items r.misses) }
+    ensures bound_any_start { IfOk result (λ r. IsCompetitiveFromAnyStart K.eq (non_zero_usize_get capacity) keys.items r.misses) }
     ensures given_back { IfErr result (λ left. left.items ≡ keys.items) }
     ensures never_refused { keys.items ≡ [] → IsOk result }
 {

@@ -32,7 +32,7 @@ module _ {X Y : Type 0} (eq : Y → Y → Bool) (view : X → Y) where
       ap (λ n. take n (map view past)) (prefix_len-map (λ y. not (eq (view x) y)) past) ∙ take-map view _ past
 
   -- a request hits as its view does
-  hit-map : (k : ℕ) (past : List X) (x : X) → hit eq k (map view past) (view x) ≡ hit same k past x
+  hit-map : (k : ℕ) (past : List X) (x : X) → hit eq k (view x) (map view past) ≡ hit same k x past
   hit-map k past x =
       ap (λ b. b && nat_lt (distinct eq (since eq (view x) (map view past))) k) (holds-map x past)
       ∙ ap (λ n. holds same x past && nat_lt n k)
@@ -40,11 +40,11 @@ module _ {X Y : Type 0} (eq : Y → Y → Bool) (view : X → Y) where
 
   -- the same after the requests of the past
   marks_after-map : (past : List X) (k : ℕ) (rs : List X)
-      → marks_after eq (map view past) k (map view rs) ≡ marks_after same past k rs
+      → marks_after eq k (map view past) (map view rs) ≡ marks_after same k past rs
   marks_after-map past k [] = refl
   marks_after-map past k (x ∷ rs) =
-      ap (λ b. b ∷ marks_after eq (map view (x ∷ past)) k (map view rs)) (hit-map k past x)
-      ∙ ap (λ bs. hit same k past x ∷ bs) (marks_after-map (x ∷ past) k rs)
+      ap (λ b. b ∷ marks_after eq k (map view (x ∷ past)) (map view rs)) (hit-map k past x)
+      ∙ ap (λ bs. hit same k x past ∷ bs) (marks_after-map (x ∷ past) k rs)
 
   -- and from the first request on
   pub marks-map : (k : ℕ) (rs : List X) → marks eq k (map view rs) ≡ marks same k rs

@@ -1,5 +1,5 @@
 //! What can go wrong, and the exit status of each.
-ghost use Rattle.std.specs.Prelude.{◌≡◌};
+ghost use Rattle.std.specs.Prelude.{◌≡◌, Err, IsOk};
 
 /// Why a run ends without its whole report.
 #[derive(Clone, Copy, Debug, PartialEq, Eq)]
@@ -26,5 +26,19 @@ pub fn status(fault: &Fault) -> u8
         Fault::Memory => 3,
         Fault::Reading => 4,
         Fault::Writing => 5,
+    }
+}
+
+/// The exit status of a run.
+pub fn exit_status(outcome: &Result<(), Fault>) -> u8
+    ensures success { IsOk outcome.now → result ≡ 0 }
+    ensures bad_capacity { outcome.now ≡ Err Fault.BadCapacity → result ≡ 2 }
+    ensures memory { outcome.now ≡ Err Fault.Memory → result ≡ 3 }
+    ensures reading { outcome.now ≡ Err Fault.Reading → result ≡ 4 }
+    ensures writing { outcome.now ≡ Err Fault.Writing → result ≡ 5 }
+{
+    match outcome {
+        Ok(()) => 0,
+        Err(fault) => status(fault),
     }
 }

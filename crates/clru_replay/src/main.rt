@@ -9,15 +9,13 @@ mod output;
 mod program;
 mod report;
 
-use fault::status;
+use fault::exit_status;
 use program::run;
 use std::process::ExitCode;
 
 fn main(rt: HostRuntime) -> ExitCode {
-    match run(rt.alloc(), &mut rt.stdin(), &mut rt.stdout()) {
-        Ok(()) => ExitCode::SUCCESS,
-        Err(fault) => ExitCode::from(status(&fault)),
-    }
+    let outcome = run(rt.alloc(), &mut rt.stdin(), &mut rt.stdout());
+    ExitCode::from(exit_status(&outcome))
 }
 
 #[cfg(test)]

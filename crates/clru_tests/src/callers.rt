@@ -3,6 +3,10 @@ ghost use Rattle.std.specs.Prelude.{◌≡◌, ◌+◌, Some, nat_eq, OnOk, OnEr
 ghost use Rattle.std.specs.Map.{lookup};
 ghost use Rattle.clru.specs.Entries.{size_of};
 
+pub mod calls;
+pub mod puts;
+pub mod runs;
+
 use clru::{CLruCache, DefaultState, PutError, WeightScale};
 
 /// Remembers the size of a page. A look-up then finds it.

@@ -184,6 +184,47 @@ fn a_start_counts_as_fetched_first(rt: HostRuntime) -> Result<(), Fail> {
     Ok(())
 }
 
+/// The two sides of the bound beside a schedule that may start with any keys.
+fn sides_from_any_start(
+    k: usize,
+    misses: usize,
+    h: usize,
+    schedule_misses: usize,
+) -> (usize, usize) {
+    let more = k.saturating_sub(h).saturating_add(1);
+    let saved = h.saturating_mul(more);
+    (
+        more.saturating_mul(misses),
+        k.saturating_mul(schedule_misses).saturating_add(saved),
+    )
+}
+
+#[test]
+fn a_start_saves_a_miss_for_each_of_its_keys(rt: HostRuntime) -> Result<(), Fail> {
+    let rows: [(usize, usize, &[u8], &[u8], usize, usize, (usize, usize)); 4] = [
+        (2, 2, b"ab", b"ab", 2, 0, (2, 2)),
+        (2, 1, b"a", b"ab", 2, 1, (4, 4)),
+        (3, 2, b"ab", b"abc", 3, 1, (6, 7)),
+        (1, 1, b"a", b"a", 1, 0, (1, 1)),
+    ];
+    for (k, h, start, requests, misses, fewest, sides) in rows {
+        let schedule = furthest_next(rt.alloc(), h, start, requests)?;
+        assert_eq!(rt;
+            schedule_misses(h, start, &schedule, requests)?,
+            fewest,
+            "{k} {h}"
+        );
+        assert_eq!(rt; replay_misses(rt.alloc(), k, requests)?, misses, "{k} {h}");
+        assert_eq!(rt;
+            sides_from_any_start(k, misses, h, fewest),
+            sides,
+            "{k} {h}"
+        );
+        assert!(rt; sides.0 <= sides.1, "{k} {h}");
+    }
+    Ok(())
+}
+
 /// A list of requests for the first `letters` letters, drawn from the seed.
 fn drawn(
     alloc: Global,

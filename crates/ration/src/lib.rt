@@ -1,4 +1,4 @@
-//! An allocator for tests: it counts the requests that reach it, and refuses those that it is told to refuse.
+//! An allocator for tests: it counts the requests that reach it and their bytes, and refuses those that it is told to refuse.
 //!
 //! A test lends it, as in `Vec::new(&heap)`. A growth, a `reserve_exact` and a shrink of a `Vec` make one request each: the
 //! trait's own `grow` and `shrink` ask for the new block by `allocate`, and give the old one back by `deallocate`.
@@ -13,8 +13,10 @@ use std::cell::Cell;
 #[derive(Drop)]
 struct Book {
     asked: Cell<u64>,
+    asked_bytes: Cell<u64>,
     given: Cell<u64>,
     returned: Cell<u64>,
+    held_bytes: Cell<u64>,
     /// So many requests pass first,
     passing: Cell<u64>,
     /// and so many after them are refused.
@@ -33,8 +35,10 @@ impl<B: Allocator> Rationed<B> {
     pub fn new(inner: B) -> Rationed<B> {
         let book = Book {
             asked: Cell::new(0),
+            asked_bytes: Cell::new(0),
             given: Cell::new(0),
             returned: Cell::new(0),
+            held_bytes: Cell::new(0),
             passing: Cell::new(0),
             refusing: Cell::new(0),
         };
@@ -63,6 +67,11 @@ impl<B: Allocator> Rationed<B> {
         self.book.asked.get()
     }
 
+    /// The bytes of the requests so far, refused ones included.
+    pub fn asked_bytes(&self) -> u64 {
+        self.book.asked_bytes.get()
+    }
+
     /// The requests so far that got no memory, refused here or by the inner allocator.
     pub fn refused(&self) -> u64 {
         self.book.asked.get().wrapping_sub(self.book.given.get())
@@ -72,11 +81,17 @@ impl<B: Allocator> Rationed<B> {
     pub fn blocks(&self) -> u64 {
         self.book.given.get().wrapping_sub(self.book.returned.get())
     }
+
+    /// The bytes of those blocks.
+    pub fn held_bytes(&self) -> u64 {
+        self.book.held_bytes.get()
+    }
 }
 
-/// Counts a request, and returns whether it is to be refused.
-fn refuses(book: &Book) -> bool {
-    book.asked.set(book.asked.get().wrapping_add(1));
+/// Counts a request of so many bytes, and returns whether it is to be refused.
+fn refuses(book: &Book, size: usize) -> bool {
+    add(&book.asked, 1);
+    add(&book.asked_bytes, size as u64);
     let passing = book.passing.get();
     let refusing = book.refusing.get();
     if passing > 0 {
@@ -90,24 +105,31 @@ fn refuses(book: &Book) -> bool {
     true
 }
 
-fn hands_out(book: &Book) {
-    book.given.set(book.given.get().wrapping_add(1));
+fn hands_out(book: &Book, size: usize) {
+    add(&book.given, 1);
+    add(&book.held_bytes, size as u64);
 }
 
-fn takes_back(book: &Book) {
-    book.returned.set(book.returned.get().wrapping_add(1));
+fn takes_back(book: &Book, size: usize) {
+    add(&book.returned, 1);
+    let held = book.held_bytes.get();
+    book.held_bytes.set(held.wrapping_sub(size as u64));
+}
+
+fn add(count: &Cell<u64>, more: u64) {
+    count.set(count.get().wrapping_add(more));
 }
 
 unsafe impl<B: Allocator> Allocator for Rationed<B> {
     ghost dealloc_token = { λ heap ty ptr. B.dealloc_token heap.inner ty ptr };
 
     fn allocate(&self, size: usize, align: usize) -> Result<*mut u8, AllocError> {
-        if refuses(&self.book) {
+        if refuses(&self.book, size) {
             return Err(AllocError);
         }
         match self.inner.allocate(size, align) {
             Ok(block) => {
-                hands_out(&self.book);
+                hands_out(&self.book, size);
                 Ok(block)
             }
             Err(error) => Err(error),
@@ -115,7 +137,7 @@ unsafe impl<B: Allocator> Allocator for Rationed<B> {
     }
 
     unsafe fn deallocate(&self, ptr: *mut u8, size: usize, align: usize) {
-        takes_back(&self.book);
+        takes_back(&self.book, size);
         self.inner.deallocate(ptr, size, align);
     }
 }

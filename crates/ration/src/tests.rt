@@ -87,3 +87,20 @@ fn refuses_all_from_the_nth_on(rt: HostRuntime) -> Result<(), Fail> {
     assert_eq!(rt; (heap.asked(), heap.refused(), heap.blocks()), (3, 2, 0));
     Ok(())
 }
+
+#[test]
+fn bytes_are_counted(rt: HostRuntime) -> Result<(), Fail> {
+    let heap = Rationed::new(rt.alloc());
+    {
+        let mut v = Vec::with_capacity(&heap, 4)?;
+        v.push(1u64)?;
+        assert_eq!(rt; (heap.asked_bytes(), heap.held_bytes()), (32, 32));
+        v.reserve_exact(7)?;
+        assert_eq!(rt; (heap.asked_bytes(), heap.held_bytes()), (96, 64));
+        heap.refuse_one_after(0);
+        assert!(rt; v.reserve_exact(15).is_err());
+        assert_eq!(rt; (heap.asked_bytes(), heap.held_bytes()), (224, 64));
+    }
+    assert_eq!(rt; (heap.asked_bytes(), heap.held_bytes()), (224, 0));
+    Ok(())
+}

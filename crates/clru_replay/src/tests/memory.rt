@@ -28,6 +28,7 @@ fn each_refused_request_is_want_of_memory(rt: HostRuntime) {
             break;
         }
         assert_eq!(rt; outcome, Err(Fault::Memory), "after {n}");
+        assert_eq!(rt; heap.asked(), n + 1, "nothing is asked again");
         assert!(rt; written.is_empty(), "after {n}");
     }
     assert!(rt; met_none);

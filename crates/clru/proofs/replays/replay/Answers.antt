@@ -1,9 +1,10 @@
-use Rattle.std.proofs.Common.{rules, sym, ◌∙◌, ◌≡◌, ◌+◌, cond, arith, refl}
+use Rattle.std.proofs.Common.{rules, sym, ◌∙◌, ◌≡◌, ◌+◌, cond, arith, refl, ap}
 use Rattle.std.proofs.lemmas.List.{length_push, map-id}
 use Rattle.std.proofs.lemmas.Iterator.Adapters.{YieldsList-from_vec}
 use Rattle.std.proofs.lemmas.Iterator.Consumers.{YieldsList-end}
 use Rattle.std.specs.Int.NonZero.{non_zero_usize_get}
-use Rattle.clru.proofs.Bound.{misses_bound_empty}
+use Rattle.clru.specs.Requests.{misses}
+use Rattle.clru.proofs.Bound.{competitive, competitive_from_any_start}
 use Rattle.clru.proofs.Replaying.{Replays-push}
 use Rattle.clru.proofs.replays.replay.Goals as goal
 use Rattle.clru.proofs.replays.replay.Goals.{then-not-hit, else-not-hit}
@@ -23,12 +24,20 @@ loop-key-preserved g c =
       room = omega (arith, c.push_reserved.ensures.capacity, c.loop-key.invariant.room);
     }
 
-pub returns-clause-bound : goal.returns-clause-bound
-returns-clause-bound g c =
+pub returns-clause-misses : goal.returns-clause-misses
+returns-clause-misses g c =
     let eq = g.K.PartialEq.eq in let keys = c.args.keys.items in
     let gives = YieldsList-from_vec {s = c.into_iter-key-iterator.result} keys (search rules) (search rules) in
     let whole = YieldsList-end gives c.loop-key.yielded c.loop-key.key-iterator c.loop-key.yielded_by c.next.result c.next.new.self
     c.in-None.is c.next.ensures.steps in
     let taken : c.loop-key.yielded ≡ keys = sym (map-id c.loop-key.yielded) ∙ whole.0 in
-    rw (c.loop-key.invariant.replays.misses, taken)
-    (λ h schedule. misses_bound_empty eq g.met.K.Eq.laws h (non_zero_usize_get c.args.capacity) schedule keys)
+    c.loop-key.invariant.replays.misses ∙ ap (misses eq (non_zero_usize_get c.args.capacity)) taken
+
+pub returns-clause-bound : goal.returns-clause-bound
+returns-clause-bound g c =
+    rw (returns-clause-misses g c) (competitive g.K.PartialEq.eq g.met.K.Eq.laws (non_zero_usize_get c.args.capacity) c.args.keys.items)
+
+pub returns-clause-bound_any_start : goal.returns-clause-bound_any_start
+returns-clause-bound_any_start g c =
+    rw (returns-clause-misses g c)
+    (competitive_from_any_start g.K.PartialEq.eq g.met.K.Eq.laws (non_zero_usize_get c.args.capacity) c.args.keys.items)

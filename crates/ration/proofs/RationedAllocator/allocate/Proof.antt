@@ -116,7 +116,7 @@ module _ (Z : Al) {M : Type 1} {𝓤 : Ura M} (𝓛 : Logic 𝓤) (𝓜 : Model 
         let En : Env 𝓤 H = env (here Z).locals l in
         sets ! (addr ! (through ! refl (fld ! refl (stop !)))) refl (tt, tt) $
         shr_dup ! book.the_row book_laws.the_row_laws.shr_laws d c.0 c.1 κ₁ $ move ! (1 ∷ 2 ∷ []) $
-        lends_book bool ! fm refusing κ₁ q₁ c d (and_then ! (get ! refl) (no_more !)) (λ u b. feq_l ! (λ eb.
+        lends_book bool ! fm refusing κ₁ q₁ c d n fn (and_then ! (get ! refl) (and_then ! (get ! refl) (no_more !))) (λ u b. feq_l ! (λ eb.
         lands_as ! (ap only eb) refl (tt, tt) $
         first ! $ branches ! (get ! refl)
         (λ refused. sets ! (agg ! (no_more !)) refl (tt, tt) $
@@ -135,7 +135,7 @@ module _ (Z : Al) {M : Type 1} {𝓤 : Ura M} (𝓛 : Logic 𝓤) (𝓜 : Model 
         exec ! 𝓣.C 𝓣.Λ En (arm_body 0 both) Then $
         sets ! (of_opd ! (get_in ! (vrt ! refl (fld ! refl (stop !))) (in_variant ! 0 0 refl refl (whole !)))) refl (tt, tt) $
         sets ! (addr ! (through ! refl (fld ! refl (stop !)))) refl (tt, tt) $
-        fjoin ! $ move ! (2 ∷ 1 ∷ []) $ lends_book unit ! fm handing κ₁ q₁ c d (and_then ! (get ! refl) (no_more !)) (λ w x. feq_l ! (λ ew.
+        fjoin ! $ move ! (2 ∷ 1 ∷ []) $ lends_book unit ! fm handing κ₁ q₁ c d n fn (and_then ! (get ! refl) (and_then ! (get ! refl) (no_more !))) (λ w x. feq_l ! (λ ew.
         lands_as ! (ap only ew) refl (tt, tt) $
         sets_last ! (agg ! (and_then ! (lit ! tt) (and_then ! (get ! refl) (no_more !)))) refl (Answer-typed true m o) $
         exec ! 𝓣.C 𝓣.Λ En (after 6 (here Z).body) (at_ret En Post) $ sets ! (of_opd ! (get ! refl)) refl (Answer-typed true m o) $

@@ -118,7 +118,7 @@ module _ (Z : Al) {M : Type 1} {𝓤 : Ura M} (𝓛 : Logic 𝓤) (𝓜 : Model 
         enter ! 𝓣.C 𝓣.Λ (here Z) (vs x) _ $
         alloc_all ! (λ l. pass_all ! refl ((tt, tt), ((tt, tt), ((tt, record { fits = fn }), ((tt, record { fits = fa }), tt)))) $
         sets ! (addr ! (through ! refl (fld ! refl (stop !)))) refl (tt, tt) $
-        lends_book unit ! fm taking κ₁ q₁ c d (and_then ! (get ! refl) (no_more !)) (λ u z. feq_l ! (λ eu.
+        lends_book unit ! fm taking κ₁ q₁ c d n fn (and_then ! (get ! refl) (and_then ! (get ! refl) (no_more !))) (λ u z. feq_l ! (λ eu.
         lands_as ! (ap only eu) refl (tt, tt) $ sets ! (addr ! (through ! refl (fld ! refl (stop !)))) refl (tt, tt) $
         -- [the first token; the inner allocator; the second token; the block]
         move ! (3 ∷ []) $ fsplit ! $ move ! (3 ∷ 2 ∷ []) $ join ! $ move ! (2 ∷ 0 ∷ []) $ join ! $ move ! (1 ∷ 0 ∷ []) $ join ! $

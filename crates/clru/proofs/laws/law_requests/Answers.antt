@@ -1,0 +1,12 @@
+use Rattle.clru.proofs.PutRuns.{held_before_marks, puts_compete, puts_compete_from_any_start}
+use Rattle.clru.proofs.laws.law_requests.Goals as goal
+
+pub returns-clause-hits : goal.returns-clause-hits
+returns-clause-hits g c k requests later some = held_before_marks g.K.PartialEq.eq g.met.K.Eq.laws k some requests later
+
+pub returns-clause-bound : goal.returns-clause-bound
+returns-clause-bound g c k requests later some = puts_compete g.K.PartialEq.eq g.met.K.Eq.laws k some requests later
+
+pub returns-clause-bound_any_start : goal.returns-clause-bound_any_start
+returns-clause-bound_any_start g c k requests later some =
+    puts_compete_from_any_start g.K.PartialEq.eq g.met.K.Eq.laws k some requests later

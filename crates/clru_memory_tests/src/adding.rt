@@ -1,0 +1,69 @@
+//! The calls that may add an entry, as one call.
+
+use clru::{CLruCache, DefaultState, NonZeroUsize, PutError, ZeroWeightScale};
+use ration::Rationed;
+use std::alloc::{Allocator, Global};
+use std::cell::Cell;
+use std::hash::Hash;
+use std::mem;
+use std::process::Abort;
+
+/// A cache of numbers over an allocator that refuses.
+pub(crate) type Plain<'a> = CLruCache<
+    u64,
+    u64,
+    DefaultState,
+    ZeroWeightScale,
+    &'a Rationed<Global>,
+>;
+
+/// A call that may add an entry.
+#[derive(Clone, Copy, Debug)]
+pub(crate) enum Adding {
+    Put,
+    PutWithWeight,
+    PutOrModify,
+}
+
+/// All of them.
+pub(crate) const ADDING: [Adding; 3] = [Adding::Put, Adding::PutWithWeight, Adding::PutOrModify];
+
+/// A capacity.
+pub(crate) fn room(n: usize) -> Result<NonZeroUsize, &'static str> {
+    NonZeroUsize::new(n).ok_or("a capacity is no 0")
+}
+
+/// Puts a pair by one of the calls, and returns the old value of its key, or the pair that was refused.
+pub(crate) fn adds<K: Eq + Hash + Drop, V: Drop, A: Allocator + Copy>(
+    cache: &mut CLruCache<K, V, DefaultState, ZeroWeightScale, A>,
+    call: Adding,
+    key: K,
+    value: V,
+) -> Result<Option<V>, (K, V)> {
+    match call {
+        Adding::Put => cache.put(key, value),
+        Adding::PutWithWeight => match cache.put_with_weight(key, value) {
+            Ok(old) => Ok(old),
+            Err(PutError::TooHeavy(key, value)) => Err((key, value)),
+            Err(PutError::NoMemory(key, value)) => Err((key, value)),
+        },
+        Adding::PutOrModify => {
+            let old = Cell::new(None);
+            let modify = |_: &K, held: &mut V, new| old.set(Some(mem::replace(held, new)));
+            match cache.put_or_modify(key, |_, new| new, modify, value) {
+                Ok(_) => Ok(old.into_inner()),
+                Err(back) => Err(back),
+            }
+        }
+    }
+}
+
+/// Asserts that the cache holds the keys below `stored`, each with ten more as its value, the highest first, and takes
+/// them out.
+pub(crate) fn takes_out_those_below(rt: &impl Abort, cache: &mut Plain, stored: u64) {
+    assert_eq!(rt; cache.len() as u64, stored);
+    for key in (0..stored).rev() {
+        assert_eq!(rt; cache.pop_front(), Some((key, key.wrapping_add(10))));
+    }
+    assert!(rt; cache.is_empty());
+}

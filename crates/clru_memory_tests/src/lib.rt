@@ -1,0 +1,17 @@
+//! Tests of the memory that `clru` asks for and gives back, and of the order in which it drops. No clause can speak of them.
+#![tactic(auto)]
+
+#[cfg(test)]
+mod adding;
+#[cfg(test)]
+mod costs;
+#[cfg(test)]
+mod growth;
+#[cfg(test)]
+mod owned;
+#[cfg(test)]
+mod refusals;
+#[cfg(test)]
+mod replays;
+#[cfg(test)]
+mod unasked;

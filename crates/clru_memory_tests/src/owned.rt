@@ -1,0 +1,140 @@
+//! Keys and values that own memory: none of them is forgotten, and none goes too early.
+ghost use Rattle.std.specs.Prelude.{length, string_bytes};
+
+use crate::adding::{ADDING, adds, room};
+use crate::costs::REQUESTS;
+use clru::{CLruCache, DefaultState, WeightScale, ZeroWeightScale, replay};
+use ration::Rationed;
+use std::alloc::{AllocError, Allocator, Global};
+use std::cell::Cell;
+use std::hash::Hash;
+use std::test::Fail;
+
+/// A text with a block of the heap.
+fn text<'a>(
+    heap: &'a Rationed<Global>,
+    letters: &str,
+) -> Result<String<&'a Rationed<Global>>, AllocError> {
+    String::from_str(heap, letters)
+}
+
+/// The blocks of so many entries of two texts each, and of the cache that holds them.
+fn blocks_of(entries: u64) -> u64 {
+    entries.saturating_mul(2).saturating_add(REQUESTS)
+}
+
+#[test]
+fn what_a_put_drops_is_given_back(rt: HostRuntime) -> Result<(), Fail> {
+    for call in ADDING {
+        let heap = Rationed::new(rt.alloc());
+        {
+            let mut cache = CLruCache::new(&heap, room(2)?);
+            for (key, entries) in [("a", 1), ("b", 2), ("c", 2), ("b", 2), ("d", 2)] {
+                let put = adds(&mut cache, call, text(&heap, key)?, text(&heap, "value")?);
+                assert!(rt; put.is_ok(), "{call:?} of {key}");
+                drop(put);
+                assert_eq!(rt; heap.blocks(), blocks_of(entries), "{call:?} of {key}");
+            }
+            drop(cache.pop_front());
+            assert_eq!(rt; heap.blocks(), blocks_of(1), "{call:?}");
+        }
+        assert_eq!(rt; heap.blocks(), 0, "{call:?}");
+    }
+    Ok(())
+}
+
+#[test]
+fn what_is_refused_is_given_back(rt: HostRuntime) -> Result<(), Fail> {
+    for call in ADDING {
+        let heap = Rationed::new(rt.alloc());
+        let mut cache = CLruCache::new(&heap, room(2)?);
+        let (key, value) = (text(&heap, "key")?, text(&heap, "value")?);
+        heap.refuse_after(0);
+        assert!(rt; adds(&mut cache, call, key, value).is_err(), "{call:?}");
+        assert_eq!(rt; heap.blocks(), 0, "{call:?}");
+    }
+    Ok(())
+}
+
+/// A text weighs its number of bytes.
+#[derive(Clone, Copy)]
+struct ByLength;
+
+impl<K, A: Allocator> WeightScale<K, String<A>> for ByLength {
+    ghost weight = { λ _ _ value. length (string_bytes value) };
+
+    fn weight(&self, _key: &K, value: &String<A>) -> usize {
+        value.len()
+    }
+}
+
+#[test]
+fn what_a_weighted_put_drops_is_given_back(rt: HostRuntime) -> Result<(), Fail> {
+    let heap = Rationed::new(rt.alloc());
+    {
+        let mut cache = CLruCache::with_scale(&heap, room(8)?, ByLength);
+        let steps = [
+            ("a", "1", 1, true),
+            ("b", "1", 2, true),
+            ("c", "1", 3, true),
+            ("a", "22", 3, true),
+            ("d", "666666", 1, true),
+            ("d", "88888888", 1, false),
+        ];
+        for (key, value, entries, goes) in steps {
+            let put = cache.put_with_weight(text(&heap, key)?, text(&heap, value)?);
+            assert_eq!(rt; put.is_ok(), goes, "{key} {value}");
+            drop(put);
+            assert_eq!(rt; heap.blocks(), blocks_of(entries), "{key} {value}");
+        }
+    }
+    assert_eq!(rt; heap.blocks(), 0);
+    Ok(())
+}
+
+#[test]
+fn the_keys_of_a_replay_are_given_back(rt: HostRuntime) -> Result<(), Fail> {
+    let heap = Rationed::new(rt.alloc());
+    let mut keys = Vec::new(&heap);
+    for letters in ["a", "b", "c", "b", "a"] {
+        keys.push(text(&heap, letters)?)?;
+    }
+    let answer = replay(&heap, room(2)?, keys, DefaultState).map_err(|_| "the keys came back")?;
+    assert_eq!(rt;
+        (answer.misses, heap.blocks()),
+        (4, 1),
+        "the marks alone are left"
+    );
+    Ok(())
+}
+
+/// Puts or modifies, and returns the blocks that `put_op` sees, or none where it was not called.
+fn blocks_seen<K: Eq + Hash + Drop, V: Drop, A: Allocator + Copy>(
+    heap: &Rationed<Global>,
+    cache: &mut CLruCache<K, V, DefaultState, ZeroWeightScale, A>,
+    key: K,
+    value: V,
+) -> Option<u64> {
+    let seen = Cell::new(None);
+    let put = |_: &K, value: V| {
+        seen.set(Some(heap.blocks()));
+        value
+    };
+    match cache.put_or_modify(key, put, |_, _, _| {}, value) {
+        Ok(_) => seen.get(),
+        Err(_) => None,
+    }
+}
+
+#[test]
+fn put_op_answers_before_the_oldest_entry_goes(rt: HostRuntime) -> Result<(), Fail> {
+    let heap = Rationed::new(rt.alloc());
+    let mut cache = CLruCache::new(&heap, room(2)?);
+    for (key, entries) in [("a", 1), ("b", 2), ("c", 3)] {
+        let (key, value) = (text(&heap, key)?, text(&heap, "value")?);
+        let seen = blocks_seen(&heap, &mut cache, key, value);
+        assert_eq!(rt; seen, Some(blocks_of(entries)), "{entries}");
+    }
+    assert_eq!(rt; heap.blocks(), blocks_of(2));
+    Ok(())
+}

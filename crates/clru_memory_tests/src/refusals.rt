@@ -1,0 +1,143 @@
+//! Memory that is refused: in each call that may want some, each request in turn, until a run meets no refusal.
+
+use crate::adding::{ADDING, Adding, Plain, adds, room, takes_out_those_below};
+use crate::costs::REQUESTS;
+use clru::CLruCache;
+use ration::Rationed;
+use std::alloc::Global;
+use std::cell::Cell;
+use std::process::Abort;
+use std::test::Fail;
+
+/// Adds the keys 0 to 8. Returns how many went in, which are those before the first refusal. A call that is refused met
+/// one refusal and asks for no more.
+fn adds_nine(rt: &impl Abort, heap: &Rationed<Global>, cache: &mut Plain, call: Adding) -> u64 {
+    let mut stored = 0;
+    for key in 0..9u64 {
+        let (asked, refused) = (heap.asked(), heap.refused());
+        match adds(cache, call, key, key + 10) {
+            Ok(old) => {
+                assert_eq!(rt; (old, key, heap.refused()), (None, stored, refused));
+                stored = key + 1;
+            }
+            Err(pair) => {
+                assert_eq!(rt; pair, (key, key + 10));
+                assert_eq!(rt;
+                    heap.refused(),
+                    refused.wrapping_add(1),
+                    "{call:?} of {key}"
+                );
+                assert!(rt;
+                    heap.asked().wrapping_sub(asked) <= REQUESTS,
+                    "{call:?} of {key}"
+                );
+            }
+        }
+        assert_eq!(rt;
+            (cache.len() as u64, cache.weight(), cache.capacity()),
+            (stored, 0, 9)
+        );
+    }
+    stored
+}
+
+#[test]
+fn each_refusal_gives_the_pair_back(rt: HostRuntime) -> Result<(), Fail> {
+    // Three growths: to 4, 8 and 9 places.
+    for call in ADDING {
+        for n in 0..=3 * REQUESTS {
+            let heap = Rationed::new(rt.alloc());
+            {
+                let mut cache = CLruCache::new(&heap, room(9)?);
+                heap.refuse_after(n);
+                let stored = adds_nine(&rt, &heap, &mut cache, call);
+                heap.refuse_none();
+                takes_out_those_below(&rt, &mut cache, stored);
+            }
+            assert_eq!(rt;
+                heap.refused() == 0,
+                n == 3 * REQUESTS,
+                "{call:?} after {n}"
+            );
+            assert_eq!(rt; heap.blocks(), 0, "{call:?} after {n}");
+        }
+    }
+    Ok(())
+}
+
+/// Adds the keys 0 to 8, where request `n` of each call is refused, and again those that met it. Returns them.
+fn refused_keys(
+    rt: &impl Abort,
+    heap: &Rationed<Global>,
+    cache: &mut Plain,
+    call: Adding,
+    n: u64,
+) -> [bool; 9] {
+    let mut met = [false; 9];
+    for key in 0..9usize {
+        let pair = (key as u64, key as u64 + 10);
+        heap.refuse_one_after(n);
+        if adds(cache, call, pair.0, pair.1).is_err() {
+            met[key] = true;
+            heap.refuse_none();
+            assert_eq!(rt;
+                adds(cache, call, pair.0, pair.1),
+                Ok(None),
+                "{call:?} of {key}"
+            );
+        }
+    }
+    met
+}
+
+#[test]
+fn a_refused_put_can_be_made_again(rt: HostRuntime) -> Result<(), Fail> {
+    for call in ADDING {
+        for n in 0..REQUESTS {
+            let heap = Rationed::new(rt.alloc());
+            {
+                let mut cache = CLruCache::new(&heap, room(9)?);
+                let met = refused_keys(&rt, &heap, &mut cache, call, n);
+                heap.refuse_none();
+                for (key, refused) in met.iter().enumerate() {
+                    assert_eq!(rt; *refused, key % 4 == 0, "{call:?} of {key}");
+                }
+                takes_out_those_below(&rt, &mut cache, 9);
+            }
+            assert_eq!(rt; (heap.refused(), heap.blocks()), (3, 0), "{call:?}");
+        }
+    }
+    Ok(())
+}
+
+#[test]
+fn no_closure_is_called_by_a_refused_call(rt: HostRuntime) -> Result<(), Fail> {
+    let heap = Rationed::new(rt.alloc());
+    let (made, modified) = (Cell::new(0u64), Cell::new(0u64));
+    let mut cache = CLruCache::new(&heap, room(2)?);
+    let rows = [
+        (1u64, true, Err((1u64, 10u64)), 0, 0),
+        (1, false, Ok(11), 1, 0),
+        (1, true, Ok(21), 1, 1),
+        (2, true, Ok(12), 2, 1),
+        (3, true, Ok(13), 3, 1),
+    ];
+    for (key, refuses, answer, calls, changes) in rows {
+        heap.refuse_none();
+        if refuses {
+            heap.refuse_after(0);
+        }
+        let put = |key: &u64, more: u64| {
+            made.set(made.get().wrapping_add(1));
+            key.wrapping_add(more)
+        };
+        let modify = |_: &u64, value: &mut u64, more: u64| {
+            modified.set(modified.get().wrapping_add(1));
+            *value = value.wrapping_add(more);
+        };
+        let lent = cache.put_or_modify(key, put, modify, 10);
+        assert_eq!(rt; lent.map(|value| *value), answer, "{key}");
+        assert_eq!(rt; (made.get(), modified.get()), (calls, changes), "{key}");
+    }
+    Ok(())
+}

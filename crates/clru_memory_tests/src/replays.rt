@@ -1,0 +1,88 @@
+//! The memory of a replay.
+
+use crate::adding::room;
+use crate::costs::{PLACE_BYTES, REQUESTS};
+use clru::{DefaultState, replay};
+use ration::Rationed;
+use std::alloc::{AllocError, Global};
+use std::test::Fail;
+
+/// So many keys, which go round ten.
+fn round_of_ten(
+    heap: &Rationed<Global>,
+    count: u64,
+) -> Result<Vec<u64, &Rationed<Global>>, AllocError> {
+    let mut keys = Vec::with_capacity(heap, count as usize)?;
+    for i in 0..count {
+        keys.push(i % 10)?;
+    }
+    Ok(keys)
+}
+
+#[test]
+fn a_replay_asks_for_its_places_and_its_marks(rt: HostRuntime) -> Result<(), Fail> {
+    let rows = [
+        (10, 10u64, 10, 10u64),
+        (10, 20_000, 10, 10),
+        (9, 20_000, 9, 20_000),
+        (20_000, 10, 10, 10),
+        (20_000, 20_000, 20_000, 10),
+        (usize::MAX, 20_000, 20_000, 10),
+    ];
+    for (capacity, count, places, misses) in rows {
+        let heap = Rationed::new(rt.alloc());
+        let keys = round_of_ten(&heap, count)?;
+        let (asked, bytes) = (heap.asked(), heap.asked_bytes());
+        let answer = replay(&heap, room(capacity)?, keys, DefaultState);
+        let answer = answer.map_err(|_| "the keys came back")?;
+        assert_eq!(rt;
+            (answer.marks.len() as u64, answer.misses as u64),
+            (count, misses)
+        );
+        assert_eq!(rt;
+            heap.asked().wrapping_sub(asked),
+            REQUESTS + 1,
+            "{capacity} {count}"
+        );
+        assert_eq!(rt;
+            heap.asked_bytes().wrapping_sub(bytes),
+            places * PLACE_BYTES + count,
+            "{capacity} {count}"
+        );
+        assert_eq!(rt; (heap.blocks(), heap.held_bytes()), (1, count), "the marks");
+    }
+    Ok(())
+}
+
+#[test]
+fn a_replay_gives_the_keys_back(rt: HostRuntime) -> Result<(), Fail> {
+    for n in 0..=REQUESTS {
+        let heap = Rationed::new(rt.alloc());
+        let keys = Vec::from_slice(&heap, &[1u64, 2, 3, 1])?;
+        heap.refuse_after(n);
+        let Err(keys) = replay(&heap, room(2)?, keys, DefaultState) else {
+            return Err("a request was refused".into());
+        };
+        assert_eq!(rt; keys.as_slice(), [1u64, 2, 3, 1].as_slice());
+        assert_eq!(rt;
+            (heap.asked(), heap.refused()),
+            (n + 2, 1),
+            "nothing is asked again"
+        );
+        assert_eq!(rt; heap.blocks(), 1, "the keys alone are left");
+    }
+    Ok(())
+}
+
+#[test]
+fn a_replay_of_no_keys_asks_for_nothing(rt: HostRuntime) -> Result<(), Fail> {
+    let heap = Rationed::new(rt.alloc());
+    heap.refuse_after(0);
+    let keys: Vec<u64, &Rationed<Global>> = Vec::new(&heap);
+    let answer = replay(&heap, room(2)?, keys, DefaultState).map_err(|_| "the keys came back")?;
+    assert_eq!(rt;
+        (answer.marks.len(), answer.misses, heap.asked()),
+        (0, 0, 0)
+    );
+    Ok(())
+}

@@ -1,0 +1,65 @@
+//! Whole lists of requests.
+
+use crate::steps::room;
+use clru::{DefaultState, Replay, replay};
+use std::alloc::Global;
+use std::hash::Hash;
+use std::process::Abort;
+use std::test::Fail;
+
+/// Whether the marks are as the letters say, H for a hit and M for a miss, and the misses as many as the letters M.
+fn is_marked(answer: &Replay, letters: &[u8]) -> bool {
+    let misses = letters.iter().filter(|letter| **letter == b'M').count();
+    let mut pairs = answer.marks.iter().zip(letters.iter());
+    (answer.marks.len(), answer.misses) == (letters.len(), misses)
+        && pairs.all(|(hit, letter)| *hit == (*letter == b'H'))
+}
+
+/// Asserts that a replay of the keys marks each request as the letters say.
+pub(crate) fn marks<K: Eq + Hash + Drop>(
+    rt: &impl Abort,
+    alloc: Global,
+    capacity: usize,
+    keys: Vec<K>,
+    letters: &str,
+) -> Result<(), &'static str> {
+    let Ok(answer) = replay(alloc, room(capacity)?, keys, DefaultState) else {
+        return Err("the keys came back");
+    };
+    assert!(rt; is_marked(&answer, letters.as_bytes()), "of {letters}");
+    Ok(())
+}
+
+#[test]
+fn replay_of_two_keys_misses_four_times(rt: HostRuntime) -> Result<(), Fail> {
+    let keys = Vec::from_array(rt.alloc(), ["a", "b", "c", "a"])?;
+    marks(&rt, rt.alloc(), 2, keys, "MMMM")?;
+    Ok(())
+}
+
+/// The same for a key of each byte.
+fn marks_bytes(
+    rt: &impl Abort,
+    alloc: Global,
+    capacity: usize,
+    keys: &str,
+    letters: &str,
+) -> Result<(), &'static str> {
+    let keys = Vec::from_slice(alloc, keys.as_bytes()).map_err(|_| "no memory for the keys")?;
+    marks(rt, alloc, capacity, keys, letters)
+}
+
+#[test]
+fn replay_marks_each_request(rt: HostRuntime) -> Result<(), Fail> {
+    let rows = [
+        (3, "abca", "MMMH"),
+        (3, "abcadbac", "MMMHMMHM"),
+        (2, "", ""),
+        (1, "aaba", "MHMM"),
+        (usize::MAX, "aba", "MMH"),
+    ];
+    for (capacity, keys, letters) in rows {
+        marks_bytes(&rt, rt.alloc(), capacity, keys, letters)?;
+    }
+    Ok(())
+}

@@ -1,0 +1,28 @@
+//! Weights for tests.
+ghost use Rattle.std.specs.Prelude.{length};
+
+use clru::WeightScale;
+
+/// A text weighs its number of bytes.
+#[derive(Clone, Copy)]
+pub(crate) struct ByLength;
+
+impl<K> WeightScale<K, &'static str> for ByLength {
+    ghost weight = { λ _ _ value. length value.now };
+
+    fn weight(&self, _key: &K, value: &&'static str) -> usize {
+        value.len()
+    }
+}
+
+/// A number weighs itself.
+#[derive(Clone, Copy)]
+pub(crate) struct ByValue;
+
+impl<K> WeightScale<K, usize> for ByValue {
+    ghost weight = { λ _ _ value. value };
+
+    fn weight(&self, _key: &K, value: &usize) -> usize {
+        *value
+    }
+}

@@ -1,0 +1,37 @@
+//! A caller: it counts words.
+
+use crate::steps::{room, takes_out};
+use clru::{CLruCache, NonZeroUsize};
+use std::alloc::{AllocError, Global};
+use std::test::Fail;
+
+/// Counts the words of a text, and keeps the counts of the `capacity` words that came last.
+fn count_words(
+    alloc: Global,
+    capacity: NonZeroUsize,
+    text: &'static str,
+) -> Result<CLruCache<&'static str, u64>, AllocError> {
+    let mut counts = CLruCache::new(alloc, capacity);
+    for word in text.split_whitespace() {
+        let one_more = |_: &_, count: &mut u64, _| *count = count.saturating_add(1);
+        if counts.put_or_modify(word, |_, _| 1, one_more, ()).is_err() {
+            return Err(AllocError);
+        }
+    }
+    Ok(counts)
+}
+
+#[test]
+fn words_are_counted(rt: HostRuntime) -> Result<(), Fail> {
+    let mut counts = count_words(rt.alloc(), room(3)?, "one two two three two three")?;
+    let list = [("three", 2), ("two", 3), ("one", 1)];
+    takes_out(&rt, &mut counts, &list);
+    Ok(())
+}
+
+#[test]
+fn the_word_that_was_seen_longest_ago_is_forgotten(rt: HostRuntime) -> Result<(), Fail> {
+    let mut counts = count_words(rt.alloc(), room(2)?, "one two one three two")?;
+    takes_out(&rt, &mut counts, &[("two", 1), ("three", 1)]);
+    Ok(())
+}

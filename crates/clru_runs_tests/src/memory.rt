@@ -1,0 +1,54 @@
+//! Memory that is refused.
+
+use crate::tables::{Table, room, runs};
+use clru::{CLruCache, PutError};
+use clru_runs::Answer::{Lent, Number, Stored, Value, Weighed};
+use clru_runs::Call::{Len, Peek, PutWithWeight};
+use clru_runs::PlainCall::{self, Any, Put, PutOrModify};
+use clru_runs::perform_all;
+use ration::Rationed;
+use std::test::Fail;
+
+static REFUSED: Table<'static, PlainCall<&'static str, u64>, &'static str, u64> = Table {
+    name: "a_put_that_wants_memory_ends_no_run",
+    capacity: 3,
+    rows: &[
+        (Put("a", 1), Stored(Err(("a", 1)))),
+        (PutOrModify("b", 2), Lent(Err(("b", 2)))),
+        (
+            Any(PutWithWeight("c", 3)),
+            Weighed(Err(PutError::NoMemory("c", 3))),
+        ),
+        (Any(Peek("a")), Value(None)),
+        (Any(Len), Number(0)),
+    ],
+    list: &[],
+};
+
+#[test]
+fn a_put_that_wants_memory_ends_no_run(rt: HostRuntime) -> Result<(), Fail> {
+    let heap = Rationed::new(rt.alloc());
+    let mut cache = CLruCache::new(&heap, room(REFUSED.capacity)?);
+    heap.refuse_after(0);
+    runs(&rt, rt.alloc(), &REFUSED, &mut cache)?;
+    assert_eq!(rt; heap.asked(), 3, "one request for each put");
+    Ok(())
+}
+
+#[test]
+fn the_calls_come_back_where_answers_find_no_memory(rt: HostRuntime) -> Result<(), Fail> {
+    let heap = Rationed::new(rt.alloc());
+    let mut cache = CLruCache::new(rt.alloc(), room(3)?);
+    let calls = vec![in &heap; Put("a", 1), Put("b", 2)]?;
+    heap.refuse_after(0);
+    let Err(calls) = perform_all(&heap, &mut cache, calls) else {
+        return Err(Fail::from("the memory was refused"));
+    };
+    assert_eq!(rt; (heap.asked(), calls.len(), cache.len()), (2, 2, 0));
+    heap.refuse_none();
+    let Ok(answers) = perform_all(&heap, &mut cache, calls) else {
+        return Err(Fail::from("there is memory"));
+    };
+    assert_eq!(rt; (heap.asked(), answers.len(), cache.len()), (3, 2, 2));
+    Ok(())
+}

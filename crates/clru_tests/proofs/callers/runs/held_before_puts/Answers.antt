@@ -1,0 +1,17 @@
+use Rattle.std.proofs.Common.{◌∙◌}
+use Rattle.clru.proofs.PutSteps.{IsPut-plain}
+use Rattle.clru_tests.proofs.GrowingRuns.{Runs-push}
+use Rattle.clru_tests.proofs.callers.runs.held_before_puts.Goals as goal
+
+pub loop-key-preserved : goal.loop-key-preserved
+loop-key-preserved g c =
+    let eq = g.K.PartialEq.eq in let before = c.loop-key.invariant in
+    let put = IsPut-plain eq g.met.K.Eq.laws c.loop-key.cache.capacity c.in-Some.key tt c.loop-key.cache.entries c.put.new.self.entries
+    c.in-Ok-Ok.ensures.entries in
+    record {
+      next = tt;
+      ends = tt;
+      runs = Runs-push eq c.args.cache.now.capacity c.in-Some.key c.contains-before.result before.runs c.contains-before.ensures
+          (rw before.capacity at put) c.in-Ok-Ok.ensures'.items;
+      capacity = c.put.ensures.places.capacity ∙ before.capacity;
+    }
