@@ -1,5 +1,5 @@
 -- What the answer of a look-up says of the entries.
-use Rattle.std.proofs.Common.{◌≡◌, Bool, true, false, List, Option, Some, None, IsTrue, refl, sym, ap, ◌∙◌}
+use Rattle.std.proofs.Common.{◌≡◌, Bool, true, false, List, Option, Some, None, IsTrue, refl, sym, ap}
 use Rattle.std.specs.Borrow.{Bor}
 use Rattle.std.specs.Map.{lookup}
 use Rattle.std.specs.Option.{IfSome, is_some, option_copied}
@@ -8,15 +8,17 @@ use Rattle.clru.specs.Entries.{touch}
 use Rattle.clru_through.specs.Store.{AllFrom}
 use Rattle.clru_through.proofs.Sourced.{AllFrom-lookup, touch-absent}
 
+-- where it answers something, it answers a value
 pub is_there : {V : Type 0} (held : Option V) → is_some held ≡ true → (v : V) × (held ≡ Some v)
 is_there None some = cc
 is_there (Some v) some = (v, refl)
 
+-- where a look-up answers nothing, the key is not held
 pub is_absent : {V : Type 0} (answer : Option (Bor V)) (held : Option V) → option_copied answer ≡ held → is_some answer ≡ false → held ≡ None
 is_absent None held is none = sym is
 is_absent (Some v) held is none = cc
 
--- where x is not held, the cache with the entry of x in front is as it is
+-- where x is not held, bringing its entry to the front leaves the cache as it is
 pub with_entries-touch-absent : {K V W : Type 0} (eq : K → K → Bool) (x : K) (c : Cache K V W) → lookup (eq x) c.entries ≡ None
     → with_entries c (touch eq x c.entries) ≡ c
 with_entries-touch-absent eq x c absent = ap (with_entries c) (touch-absent eq x c.entries absent)

@@ -1,10 +1,8 @@
 -- Entries whose values are the source's, and a key in the lists that a load leaves.
-use Rattle.std.proofs.Common.{◌≡◌, ℕ, ◌-◌, Bool, true, false, cond, List, [], ◌∷◌, Option, Some, None, IsTrue, refl, sym, ap, ◌∙◌}
-use Rattle.std.specs.Cmp.{IsEquivalence}
-use Rattle.std.specs.List.{AllByRecursion}
+use Rattle.std.proofs.Common.{◌≡◌, ℕ, ◌-◌, Bool, true, false, List, [], ◌∷◌, Option, Some, None, IsTrue, refl, ap, ◌∙◌}
 use Rattle.std.specs.Option.{option_map_or}
-use Rattle.std.specs.Map.{lookup, lookup_entry, remove_entry}
-use Rattle.clru.specs.Entries.{fit, touch, weighted_put, without}
+use Rattle.std.specs.Map.{lookup, lookup_entry}
+use Rattle.clru.specs.Entries.{touch, weighted_put, without}
 use Rattle.clru.proofs.Sublists.{All-sublist, sublist_remove_entry, sublist_trans}
 use Rattle.clru.proofs.Weighing.{sublist_fit}
 use Rattle.clru_through.specs.Store.{AllFrom}
@@ -56,10 +54,6 @@ module _ {K V : Type 0} (eq : K → K → Bool) (x : K) where
 
   pub lookup-touch : (es : List (K × V)) (v : V) → lookup (eq x) es ≡ Some v → lookup (eq x) (touch eq x es) ≡ Some v
   lookup-touch es v h = let e = entry_of (eq x) es v h in rw e.looked_up (rw e.passes refl)
-
-  pub lookup-weighted_put : IsEquivalence eq → (weight : K → V → ℕ) (c : ℕ) (v : V) (es : List (K × V))
-      → lookup (eq x) (weighted_put eq weight c x v es) ≡ Some v
-  lookup-weighted_put laws weight c v es = rw (laws.refl x) refl
 
   module _ (value : K → Option V) where
     -- the value of a held key is the source's

@@ -1,6 +1,5 @@
 -- The value that an answer stands for. Public clauses cite it.
 use Rattle.std.specs.Prelude.{Bool, List, Option, Some}
-use Rattle.std.specs.Borrow.{Bor}
 use Rattle.std.specs.Map.{lookup}
 use Rattle.clru_through.specs.declared.answer.Answer.{Answer}
 use Rattle.clru_through.specs.declared.answer.Answer.TheVariants as lent

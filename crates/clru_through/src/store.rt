@@ -23,8 +23,8 @@ pub struct Through<
     W: WeightScale<K, V>,
     A: Allocator + Copy,
 > {
-    pub(crate) cache: CLruCache<K, V, S, W, A>,
-    pub(crate) source: R,
+    cache: CLruCache<K, V, S, W, A>,
+    source: R,
     error: PhantomData<E>,
 }
 
