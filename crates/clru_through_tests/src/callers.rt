@@ -15,7 +15,8 @@ pub fn value_of<E, R: Source<u64, u64, E>, W: WeightScale<u64, u64>>(
 ) -> Result<u64, E>
     ensures value { IfOk result (λ value. R.value store.old.source page ≡ Some value) }
     ensures kept { (k : ℕ) → R.value store.new.source k ≡ R.value store.old.source k }
-    ensures step { (loaded : Result (Loaded ℕ) E) × Loads nat_eq (W.weight store.old.cache.scale) R.fetches store.old page loaded store.new }
+    ensures step { (loaded : Result (Loaded ℕ) E)
+        × Loads nat_eq (W.weight store.old.cache.scale) R.fetches store.old page loaded store.new }
 {
     match store.load(page)? {
         Loaded::Passed(value) => Ok(value),
