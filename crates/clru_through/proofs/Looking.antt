@@ -1,0 +1,31 @@
+-- What the answer of a look-up says of the entries.
+use Rattle.std.proofs.Common.{◌≡◌, Bool, true, false, List, Option, Some, None, IsTrue, refl, sym, ap}
+use Rattle.std.specs.Borrow.{Bor}
+use Rattle.std.specs.Map.{lookup}
+use Rattle.std.specs.Option.{IfSome, is_some, option_copied}
+use Rattle.clru.specs.Cache.{Cache, with_entries}
+use Rattle.clru.specs.Entries.{touch}
+use Rattle.clru_through.specs.Store.{AllFrom}
+use Rattle.clru_through.proofs.Sourced.{AllFrom-lookup, touch-absent}
+
+-- where it answers something, it answers a value
+pub is_there : {V : Type 0} (held : Option V) → is_some held ≡ true → (v : V) × (held ≡ Some v)
+is_there None some = cc
+is_there (Some v) some = (v, refl)
+
+-- where a look-up answers nothing, the key is not held
+pub is_absent : {V : Type 0} (answer : Option (Bor V)) (held : Option V) → option_copied answer ≡ held → is_some answer ≡ false → held ≡ None
+is_absent None held is none = sym is
+is_absent (Some v) held is none = cc
+
+-- where x is not held, bringing its entry to the front leaves the cache as it is
+pub with_entries-touch-absent : {K V W : Type 0} (eq : K → K → Bool) (x : K) (c : Cache K V W) → lookup (eq x) c.entries ≡ None
+    → with_entries c (touch eq x c.entries) ≡ c
+with_entries-touch-absent eq x c absent = ap (with_entries c) (touch-absent eq x c.entries absent)
+
+-- the value that a look-up answers is the source's
+pub IfSome-lookup : {K V : Type 0} (eq : K → K → Bool) (x : K) (value : K → Option V) → ((y : K) → IsTrue (eq x y) → value x ≡ value y)
+    → (es : List (K × V)) → AllFrom value es → (answer : Option (Bor V)) → option_copied answer ≡ lookup (eq x) es
+    → IfSome answer (λ v. value x ≡ Some v.now)
+IfSome-lookup eq x value same es all None is = tt
+IfSome-lookup eq x value same es all (Some v) is = AllFrom-lookup eq x value same es v.now all (sym is)

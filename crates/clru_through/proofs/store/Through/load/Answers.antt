@@ -1,0 +1,32 @@
+use Rattle.std.proofs.Common.{rules, Ok, Err, sym, ◌∙◌, subst}
+use Rattle.std.proofs.lemmas.Result.{err_from_is_err_and}
+use Rattle.std.specs.Map.{lookup}
+use Rattle.clru_through.specs.Steps.{Takes}
+use Rattle.clru_through.proofs.Sourced.{AllFrom-lookup, lookup-touch}
+use Rattle.clru_through.proofs.Looking.{is_there}
+use Rattle.clru_through.proofs.store.Through.load.Goals as goal
+
+pub returns-then-move_to_front_if_held-clause-value : goal.returns-then-move_to_front_if_held-clause-value
+returns-then-move_to_front_if_held-clause-value g c =
+    let eq = g.K.PartialEq.eq in let es = c.self.inside.cache.entries in let source = c.self.inside.source in
+    let step = c.move_to_front_if_held.ensures in let held = is_there (lookup (eq c.args.key) es) (sym step.found ∙ c.if-move_to_front_if_held.true) in
+    rw (step.touches, lookup-touch eq c.args.key es held.0 held.1, ← c.self.view_is)
+    (AllFrom-lookup eq c.args.key (g.R.Source.value source) (g.met.R.Source.same source c.args.key) es held.0 c.self.invariant held.1)
+
+pub returns-in_err-value-clause-step : goal.returns-in_err-value-clause-step
+returns-in_err-value-clause-step g c =
+    let look = c.move_to_front_if_held.ensures in let missed = c.if-move_to_front_if_held.false in
+    let p = err_from_is_err_and c.from_residual.result c.from_residual.ensures.1 in
+    rw (p.1, ← c.self.view_is, look.absent missed)
+    (record { fetched = Err c.in_err-value.field-0.0; fetch = search rules; passes = (p.2, search rules) })
+
+pub returns-clause-step : goal.returns-clause-step
+returns-clause-step g c =
+    let eq = g.K.PartialEq.eq in let look = c.move_to_front_if_held.ensures in
+    let missed = c.if-move_to_front_if_held.false in
+    rw (← c.self.view_is, look.absent missed) (record {
+      fetched = Ok c.in_ok-value.value;
+      fetch = search rules;
+      passes = subst (λ cache. Takes eq (g.W.WeightScale.weight cache.scale) cache c.args.key c.in_ok-value.value c.taken.result c.taken.new.cache)
+          (look.missed missed) c.taken.ensures.taken;
+    })

@@ -1,0 +1,21 @@
+//! What a store answers of a key.
+
+/// The value of a key.
+#[derive(Debug, Drop, PartialEq, Eq)]
+pub enum Answer<'a, V> {
+    /// It is held, and lent.
+    Held(&'a V),
+
+    /// It is not held: it was too heavy, or no memory was found.
+    Passed(V),
+}
+
+/// What became of the value of a key.
+#[derive(Debug, Drop, PartialEq, Eq)]
+pub enum Loaded<V> {
+    /// It is held.
+    Held,
+
+    /// It is not held: it was too heavy, or no memory was found.
+    Passed(V),
+}

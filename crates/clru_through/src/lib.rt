@@ -1,0 +1,16 @@
+//! A read-through store: a source of values, with a cache before it.
+//!
+//! Each value that is held is the source's value for its key. A key that is held is found in the cache, and nothing is
+//! fetched; of another one the value is fetched once, and put into the cache. A value that is too heavy for the cache, or for
+//! which no memory was found, is passed on to the caller.
+//!
+//! The store stands on the contract of the cache: whatever the cache's entries lie in, this crate stays as it is.
+#![tactic(auto)]
+
+mod answer;
+mod source;
+mod store;
+
+pub use answer::{Answer, Loaded};
+pub use source::Source;
+pub use store::Through;

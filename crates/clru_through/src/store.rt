@@ -1,0 +1,96 @@
+//! `Through`, and the calls that read the whole of it. A clause sees a store as its `cache` and its `source`.
+ghost use Rattle.std.specs.Prelude.{◌≡◌, [], length};
+ghost use Rattle.clru.specs.Cache.{IsValid};
+ghost use Rattle.clru.specs.Entries.{weight_of};
+ghost use Rattle.clru_through.specs.Store.{AllFrom, store};
+
+mod load;
+
+use crate::source::Source;
+use clru::{CLruCache, WeightScale};
+use std::alloc::Allocator;
+use std::hash::{BuildHasher, Hash};
+use std::marker::{Model, PhantomData};
+
+/// A source of values, with a cache before it. Each value that is held is the source's value for its key.
+#[derive(Drop)]
+pub struct Through<
+    K: Eq + Hash,
+    V,
+    E,
+    R: Source<K, V, E>,
+    S: BuildHasher,
+    W: WeightScale<K, V>,
+    A: Allocator + Copy,
+> {
+    cache: CLruCache<K, V, S, W, A>,
+    source: R,
+    error: PhantomData<E>,
+}
+
+impl<
+    K: Eq + Hash,
+    V,
+    E,
+    R: Source<K, V, E>,
+    S: BuildHasher,
+    W: WeightScale<K, V>,
+    A: Allocator + Copy,
+> Model for Through<K, V, E, R, S, W, A> {
+    ghost use Rattle.clru.specs.Cache.{cache_code};
+    ghost use Rattle.clru_through.specs.Store.{Store, store, store_code, AllFrom};
+
+    ghost Value = { Store K V W R };
+
+    ghost coded = { store_code (cache_code K.code V.code W.code) R.code };
+
+    ghost view = { λ t. store t.cache t.source };
+
+    ghost invariant = { λ t. AllFrom (R.value t.source) t.cache.entries };
+}
+
+impl<
+    K: Eq + Hash,
+    V,
+    E,
+    R: Source<K, V, E>,
+    S: BuildHasher,
+    W: WeightScale<K, V>,
+    A: Allocator + Copy,
+> Through<K, V, E, R, S, W, A> {
+    /// Creates a store of a source and a cache before it. It takes no memory.
+    #[tactic(auto, unfolding(crate::specs::Store::AllFrom))]
+    pub fn new(cache: CLruCache<K, V, S, W, A>, source: R) -> Self
+        requires { cache.entries ≡ [] }
+        ensures { result ≡ store cache source }
+    {
+        Through {
+            cache,
+            source,
+            error: PhantomData,
+        }
+    }
+
+    /// Returns the number of values that are held.
+    pub fn len(&self) -> usize
+        ensures len { result ≡ length self.now.cache.entries }
+        ensures valid { IsValid K.eq (W.weight self.now.cache.scale) self.now.cache }
+        ensures from_source { AllFrom (R.value self.now.source) self.now.cache.entries }
+    {
+        self.cache.len()
+    }
+
+    /// Returns the total weight of what is held.
+    pub fn weight(&self) -> usize
+        ensures { result ≡ weight_of (W.weight self.now.cache.scale) self.now.cache.entries }
+    {
+        self.cache.weight()
+    }
+
+    /// Returns what the number of held values and their total weight never pass together.
+    pub fn capacity(&self) -> usize
+        ensures { result ≡ self.now.cache.capacity }
+    {
+        self.cache.capacity()
+    }
+}

@@ -1,0 +1,120 @@
+//! The calls that look for a key.
+ghost use Rattle.std.specs.Prelude.{◌≡◌, Option, Some, None, IfOk, IfErr, IfSome, IsFalse, IsSomeAnd, is_some};
+ghost use Rattle.std.specs.Option.{option_copied};
+ghost use Rattle.std.specs.Map.{lookup};
+ghost use Rattle.clru.specs.Cache.{with_entries};
+ghost use Rattle.clru.specs.Entries.{touch};
+ghost use Rattle.clru_through.specs.Given.{answer_value, loaded_value};
+ghost use Rattle.clru_through.specs.Store.{AllFrom};
+ghost use Rattle.clru_through.specs.Steps.{Loads, Takes};
+
+use crate::answer::{Answer, Loaded};
+use crate::source::Source;
+use crate::store::Through;
+use clru::{CLruCache, PutError, WeightScale};
+use std::alloc::Allocator;
+use std::hash::{BuildHasher, Hash};
+
+impl<
+    K: Eq + Hash,
+    V,
+    E,
+    R: Source<K, V, E>,
+    S: BuildHasher,
+    W: WeightScale<K, V>,
+    A: Allocator + Copy,
+> Through<K, V, E, R, S, W, A> {
+    /// Makes the value of the key the most recently used one, and fetches it first if it is not held.
+    ///
+    /// What does not fit beside a fetched value is dropped, the least recently used entry first. A value that weighs as much
+    /// as the capacity or more, and one for which no memory was found, is passed on, and no entry changes; nor does one where
+    /// the fetch fails, whose error comes out. A held key is searched for once, another one twice.
+    #[tactic(auto, using(crate::proofs::Sourced::sourced_by))]
+    pub fn load(&mut self, key: K) -> Result<Loaded<V>, E>
+    where
+        K: Drop,
+        V: Drop,
+        ensures step { Loads K.eq (W.weight self.old.cache.scale) R.fetches self.old key result self.new }
+        ensures value { IfOk result (λ loaded. IsSomeAnd (loaded_value (K.eq key) self.new.cache.entries loaded)
+            (λ v. R.value self.old.source key ≡ Some v)) }
+        ensures refused { IfErr result (λ _. self.new.cache ≡ self.old.cache) }
+        ensures kept { (k : K) → R.value self.new.source k ≡ R.value self.old.source k }
+    {
+        if move_to_front_if_held(&mut self.cache, &key) {
+            return Ok(Loaded::Held);
+        }
+        let value = self.source.fetch(&key)?;
+        Ok(taken(&mut self.cache, key, value))
+    }
+
+    /// Returns the value of the key if it is held. Nothing is fetched, and the order stays as it is.
+    pub fn peek(&self, key: &K) -> Option<&V>
+        ensures held { option_copied result ≡ lookup (K.eq key.now) self.now.cache.entries }
+        ensures value { IfSome result (λ v. R.value self.now.source key.now ≡ Some v.now) }
+    {
+        self.cache.peek(key)
+    }
+}
+
+impl<
+    K: Eq + Hash + Copy,
+    V,
+    E,
+    R: Source<K, V, E>,
+    S: BuildHasher,
+    W: WeightScale<K, V>,
+    A: Allocator + Copy,
+> Through<K, V, E, R, S, W, A> {
+    /// Returns the value of the key, and makes it the most recently used one. It is fetched first if it is not held.
+    ///
+    /// It is a load, which says what the store is afterwards, and a look at what is held then.
+    pub fn get(&mut self, key: K) -> Result<Answer<'_, V>, E>
+    where
+        V: Drop,
+        ensures { IfOk result (λ answer. R.value self.old.source key ≡ Some (answer_value answer)) }
+    {
+        match self.load(key)? {
+            Loaded::Passed(value) => Ok(Answer::Passed(value)),
+            Loaded::Held => match self.peek(&key) {
+                Some(value) => Ok(Answer::Held(value)),
+                None => unreachable!(),
+            },
+        }
+    }
+}
+
+/// Makes the value of the key the most recently used one, and returns whether it is held.
+fn move_to_front_if_held<K: Eq + Hash, V, S: BuildHasher, W: WeightScale<K, V>, A>(
+    cache: &mut CLruCache<K, V, S, W, A>,
+    key: &K,
+) -> bool
+where
+    A: Allocator + Copy,
+    ensures found { result ≡ is_some (lookup (K.eq key.now) cache.old.entries) }
+    ensures touches { cache.new ≡ with_entries cache.old (touch K.eq key.now cache.old.entries) }
+    ensures absent { IsFalse result → lookup (K.eq key.now) cache.old.entries ≡ None }
+    ensures missed { IsFalse result → cache.new ≡ cache.old }
+    ensures sourced { (value : K → Option V) → AllFrom value cache.old.entries → AllFrom value cache.new.entries }
+{
+    cache.get(key).is_some()
+}
+
+/// Puts a fetched value, and returns what became of it.
+fn taken<K: Eq + Hash + Drop, V: Drop, S: BuildHasher, W: WeightScale<K, V>, A>(
+    cache: &mut CLruCache<K, V, S, W, A>,
+    key: K,
+    value: V,
+) -> Loaded<V>
+where
+    A: Allocator + Copy,
+    ensures taken { Takes K.eq (W.weight cache.old.scale) cache.old key value result cache.new }
+    ensures value { loaded_value (K.eq key) cache.new.entries result ≡ Some value }
+    ensures sourced { (gives : K → Option V) → gives key ≡ Some value → AllFrom gives cache.old.entries
+        → AllFrom gives cache.new.entries }
+{
+    match cache.put_with_weight(key, value) {
+        Ok(_) => Loaded::Held,
+        Err(PutError::TooHeavy(_, value)) => Loaded::Passed(value),
+        Err(PutError::NoMemory(_, value)) => Loaded::Passed(value),
+    }
+}

@@ -1,0 +1,120 @@
+//! Memory that is refused: each request in turn, until a run meets no refusal.
+
+use crate::sources::Twice;
+use crate::steps::room;
+use clru::{CLruCache, DefaultState, ZeroWeightScale};
+use clru_through::{Answer, Through};
+use ration::Rationed;
+use std::alloc::Global;
+use std::cell::Cell;
+use std::process::Abort;
+use std::test::Fail;
+
+type Numbers<'a> = Through<
+    u64,
+    u64,
+    u8,
+    Twice<'a>,
+    DefaultState,
+    ZeroWeightScale,
+    &'a Rationed<Global>,
+>;
+
+/// A store of numbers.
+fn numbers<'a>(
+    heap: &'a Rationed<Global>,
+    capacity: usize,
+    fetched: &'a Cell<u64>,
+) -> Result<Numbers<'a>, &'static str> {
+    let cache = CLruCache::new(heap, room(capacity)?);
+    Ok(Through::new(cache, Twice { fetched }))
+}
+
+/// Gets the keys 0 to 8. Returns how many are held, which are those before the first refusal. Each is fetched once.
+fn gets_nine(
+    rt: &impl Abort,
+    heap: &Rationed<Global>,
+    store: &mut Numbers,
+    fetched: &Cell<u64>,
+) -> u64 {
+    let mut held = 0;
+    for key in 0..9u64 {
+        let refused = heap.refused();
+        match store.get(key) {
+            Ok(Answer::Held(value)) => {
+                assert_eq!(rt; (*value, heap.refused()), (2 * key, refused));
+                held = key + 1;
+            }
+            Ok(Answer::Passed(value)) => {
+                assert_eq!(rt; value, 2 * key);
+                assert!(rt; heap.refused() > refused, "a refusal at {key}");
+            }
+            Err(error) => assert_eq!(rt; error, 0, "there is no such error"),
+        }
+        assert_eq!(rt;
+            (store.len() as u64, fetched.get()),
+            (held, key + 1),
+            "at {key}"
+        );
+    }
+    held
+}
+
+#[test]
+fn a_value_without_memory_is_passed_on(rt: HostRuntime) -> Result<(), Fail> {
+    for n in 0..20u64 {
+        let heap = Rationed::new(rt.alloc());
+        let fetched = Cell::new(0);
+        {
+            let mut store = numbers(&heap, 9, &fetched)?;
+            heap.refuse_after(n);
+            let held = gets_nine(&rt, &heap, &mut store, &fetched);
+            for key in 0..9u64 {
+                assert_eq!(rt; store.peek(&key).is_some(), key < held, "{key} of {held}");
+            }
+        }
+        assert_eq!(rt; heap.blocks(), 0);
+        if heap.refused() == 0 {
+            assert!(rt; n > 0, "there was a request to refuse");
+            return Ok(());
+        }
+    }
+    Err("each run met a refusal".into())
+}
+
+#[test]
+fn a_value_is_held_once_there_is_memory(rt: HostRuntime) -> Result<(), Fail> {
+    let heap = Rationed::new(rt.alloc());
+    let fetched = Cell::new(0);
+    let mut store = numbers(&heap, 2, &fetched)?;
+    heap.refuse_after(0);
+    assert_eq!(rt; store.get(3), Ok(Answer::Passed(6)));
+    assert_eq!(rt; (store.len(), fetched.get()), (0, 1));
+    heap.refuse_none();
+    assert_eq!(rt; store.get(3), Ok(Answer::Held(&6)));
+    assert_eq!(rt; (store.len(), fetched.get()), (1, 2));
+    let asked = heap.asked();
+    assert_eq!(rt; store.get(3), Ok(Answer::Held(&6)));
+    assert_eq!(rt;
+        (fetched.get(), heap.asked()),
+        (2, asked),
+        "a hit asks for no memory"
+    );
+    Ok(())
+}
+
+#[test]
+fn a_thousand_values_are_held(rt: HostRuntime) -> Result<(), Fail> {
+    let heap = Rationed::new(rt.alloc());
+    let fetched = Cell::new(0);
+    let mut store = numbers(&heap, 1000, &fetched)?;
+    for key in 0..1000u64 {
+        assert_eq!(rt; store.get(key), Ok(Answer::Held(&(2 * key))));
+    }
+    assert_eq!(rt; (store.len(), fetched.get()), (1000, 1000));
+    for key in 0..1000u64 {
+        assert_eq!(rt; store.get(key), Ok(Answer::Held(&(2 * key))));
+    }
+    assert_eq!(rt; fetched.get(), 1000);
+    Ok(())
+}

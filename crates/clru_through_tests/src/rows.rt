@@ -1,0 +1,89 @@
+//! Worked rows of a store.
+
+use crate::sources::{Failing, Name, Text, one};
+use crate::steps::{Want, room, texts, walks};
+use clru_through::Loaded;
+use std::cell::Cell;
+use std::test::Fail;
+
+/// The key `cc`.
+const TWO_C: Name = Name {
+    letter: b'c',
+    length: 2,
+};
+
+#[test]
+fn a_second_get_fetches_nothing(rt: HostRuntime) -> Result<(), Fail> {
+    let fetched = Cell::new(0);
+    let mut store = texts(rt.alloc(), room(4)?, &fetched, Failing::Never);
+    let rows = [
+        (one(b'a'), Want::Held(b'a', 2), 1, 1, 2),
+        (one(b'a'), Want::Held(b'a', 2), 1, 1, 2),
+        (one(b'b'), Want::Held(b'b', 2), 2, 1, 2),
+        (TWO_C, Want::Passed(b'c', 4), 3, 1, 2),
+    ];
+    walks(&rt, &mut store, &fetched, &rows);
+    assert_eq!(rt; (store.peek(&one(b'a')), store.capacity()), (None, 4));
+    assert!(rt; store.peek(&one(b'b')).is_some());
+    Ok(())
+}
+
+#[test]
+fn a_heavy_value_drops_the_others(rt: HostRuntime) -> Result<(), Fail> {
+    let fetched = Cell::new(0);
+    let mut store = texts(rt.alloc(), room(6)?, &fetched, Failing::Never);
+    let rows = [
+        (one(b'a'), Want::Held(b'a', 2), 1, 1, 2),
+        (one(b'b'), Want::Held(b'b', 2), 2, 2, 4),
+        (one(b'a'), Want::Held(b'a', 2), 2, 2, 4),
+        (TWO_C, Want::Held(b'c', 4), 3, 1, 4),
+        (one(b'b'), Want::Held(b'b', 2), 4, 1, 2),
+    ];
+    walks(&rt, &mut store, &fetched, &rows);
+    Ok(())
+}
+
+#[test]
+fn a_failed_fetch_changes_nothing(rt: HostRuntime) -> Result<(), Fail> {
+    let fetched = Cell::new(0);
+    let mut store = texts(rt.alloc(), room(20)?, &fetched, Failing::At(b'b'));
+    let rows = [
+        (one(b'a'), Want::Held(b'a', 2), 1, 1, 2),
+        (one(b'b'), Want::Failed(7), 2, 1, 2),
+        (one(b'b'), Want::Failed(7), 3, 1, 2),
+        (one(b'a'), Want::Held(b'a', 2), 3, 1, 2),
+    ];
+    walks(&rt, &mut store, &fetched, &rows);
+    Ok(())
+}
+
+#[test]
+fn a_hit_goes_to_the_front(rt: HostRuntime) -> Result<(), Fail> {
+    let fetched = Cell::new(0);
+    let mut store = texts(rt.alloc(), room(6)?, &fetched, Failing::Never);
+    let rows = [
+        (one(b'a'), Want::Held(b'a', 2), 1, 1, 2),
+        (one(b'b'), Want::Held(b'b', 2), 2, 2, 4),
+        (one(b'a'), Want::Held(b'a', 2), 2, 2, 4),
+        (one(b'd'), Want::Held(b'd', 2), 3, 2, 4),
+        (one(b'a'), Want::Held(b'a', 2), 3, 2, 4),
+        (one(b'b'), Want::Held(b'b', 2), 4, 2, 4),
+    ];
+    walks(&rt, &mut store, &fetched, &rows);
+    Ok(())
+}
+
+#[test]
+fn a_load_says_what_became_of_the_value(rt: HostRuntime) -> Result<(), Fail> {
+    let fetched = Cell::new(0);
+    let mut store = texts(rt.alloc(), room(4)?, &fetched, Failing::At(b'b'));
+    assert_eq!(rt; store.load(one(b'a')), Ok(Loaded::Held));
+    assert_eq!(rt; store.load(one(b'b')), Err(7));
+    let passed = Text {
+        letter: b'c',
+        length: 4,
+    };
+    assert_eq!(rt; store.load(TWO_C), Ok(Loaded::Passed(passed)));
+    assert_eq!(rt; (fetched.get(), store.len()), (3, 1));
+    Ok(())
+}
