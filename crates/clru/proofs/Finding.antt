@@ -1,5 +1,5 @@
 -- What a look-up of the entries found, in the words of maps.
-use Rattle.std.proofs.Common.{◌≡◌, ℕ, suc, ◌+◌, ◌-◌, Bool, true, false, List, [], ◌∷◌, length, take, Option, Some, None, is_some, slice_get, refl, sym, ap, ◌∙◌, arith}
+use Rattle.std.proofs.Common.{◌≡◌, ℕ, suc, ◌+◌, ◌-◌, Bool, true, false, List, [], ◌∷◌, length, take, Some, None, is_some, slice_get, refl, sym, ap, ◌∙◌, arith}
 use Rattle.std.specs.Map.{lookup, lookup_entry, remove_entry}
 use Rattle.std.specs.Option.{option_map}
 use Rattle.std.proofs.lemmas.List.Sums.{sum_by-cons}
@@ -80,11 +80,11 @@ module _ {K V : Type 0} (test : K → Bool) where
       let cons : weight_of weight (d ∷ es) ≡ weight d.0 d.1 + weight_of weight es = sum_by-cons (λ (x : K × V). weight x.0 x.1) d es in
       split (test d.0)
       (λ t. let first : Some d ≡ Some e = rw t at h in let same : d ≡ e = cc in
-          rw t (let w : weight e.0 e.1 ≡ weight d.0 d.1 = ap (λ (x : K × V). weight x.0 x.1) (sym same) in omega (arith, cons, w)))
+      rw t (let w : weight e.0 e.1 ≡ weight d.0 d.1 = ap (λ (x : K × V). weight x.0 x.1) (sym same) in omega (arith, cons, w)))
       (λ f. let later = weight_of_found weight es e (rw f at h) in
-          let rest : weight_of weight (d ∷ remove_entry test es) ≡ weight d.0 d.1 + weight_of weight (remove_entry test es) =
-              sum_by-cons (λ (x : K × V). weight x.0 x.1) d (remove_entry test es) in
-          rw f (omega (arith, cons, rest, later)))
+      let rest : weight_of weight (d ∷ remove_entry test es) ≡ weight d.0 d.1 + weight_of weight (remove_entry test es) =
+      sum_by-cons (λ (x : K × V). weight x.0 x.1) d (remove_entry test es) in
+      rw f (omega (arith, cons, rest, later)))
 
   pub weight_of-held : (weight : K → V → ℕ) {es : List (K × V)} → (h : IsHeld es)
       → weight_of weight (remove_entry test es) + weight h.entry.0 h.entry.1 ≡ weight_of weight es

@@ -1,5 +1,5 @@
 -- The first item with another value.
-use Rattle.std.proofs.Common.{◌≡◌, ℕ, ◌≤◌, ◌==◌, Bool, true, false, Option, Some, None, List, [], ◌∷◌, length, refl, sym, ap, ◌∙◌, subst, arith}
+use Rattle.std.proofs.Common.{◌≡◌, ℕ, ◌==◌, Some, List, [], ◌∷◌, length, refl, sym, ap, ◌∙◌, arith}
 use Rattle.std.specs.Option.{option_map}
 use Rattle.clru_list.specs.PlaceList.{with_entries, first_entry, with_first}
 use Rattle.clru.specs.Nodes.{pair_of, pairs_of, with_front, link_at, key_at, home_at, IsIndexed}

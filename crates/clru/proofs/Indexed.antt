@@ -1,5 +1,5 @@
 -- The index over a list of nodes: what keeps it, by the chains and by what stands where.
-use Rattle.std.proofs.Common.{◌≡◌, ℕ, ◌+◌, ◌-◌, ◌<◌, ◌≤◌, ◌==◌, Bool, true, false, cond, Option, Some, None, List, [], ◌∷◌, map, length, replicate, refl, sym, ap, ◌∙◌, subst, arith, inl, inr}
+use Rattle.std.proofs.Common.{◌≡◌, ℕ, ◌-◌, ◌<◌, ◌≤◌, Option, Some, None, List, [], ◌∷◌, length, replicate, refl, sym, ap, ◌∙◌, subst, arith, inl, inr}
 use Rattle.std.proofs.lemmas.Bool.{cases_eq, cases_lt, eq-eqb, ne_eqb}
 use Rattle.std.proofs.lemmas.List.{get_or-replicate, get_or_past, length-replicate}
 use Rattle.std.proofs.lemmas.Map.Entries.{length-keys_of}
@@ -9,11 +9,11 @@ use Rattle.std.specs.Map.{keys_of}
 use Rattle.std.specs.Option.{option_map}
 use Rattle.clru_list.specs.PlaceList.{item_at}
 use Rattle.clru.specs.Chained.{nowhere, put, count, steps_of, of_head, IsCut, IsChained, IsLinked, IsWalk}
-use Rattle.clru.specs.Nodes.{hash_by, head_by, placed_of, link_at, key_at, head_at, steps_at, home_at, IsLive, IsPlace, IsChainedAs, IsChainedBut, HasHome, IsIndexed, IsSame}
+use Rattle.clru.specs.Nodes.{hash_by, head_by, placed_of, link_at, key_at, head_at, steps_at, home_at, IsLive, IsChainedAs, IsChainedBut, HasHome, IsIndexed, IsSame}
 use Rattle.clru.specs.declared.nodes.Item.{Item}
 use Rattle.clru.specs.declared.nodes.Nodes.{Nodes}
 use Rattle.clru.proofs.Chains.{put-same, put-other}
-use Rattle.clru.proofs.Chaining.{single, met_key, key_met, chained_none, chained_same, chained_insert, chained_remove}
+use Rattle.clru.proofs.Chaining.{single, met_key, chained_none, chained_insert, chained_remove}
 use Rattle.clru.proofs.ChainWalks.{walk_start}
 use Rattle.clru.proofs.Cuts.{cut_here}
 use Rattle.clru.proofs.Placed.{same_keys}

@@ -1,10 +1,10 @@
 -- The first and the last place of a list of nodes, and the pairs there.
-use Rattle.std.proofs.Common.{◌≡◌, ℕ, suc, ◌+◌, ◌-◌, ◌<◌, ◌==◌, Option, Some, None, List, [], ◌∷◌, ◌++◌, length, take, refl, sym, ap, ◌∙◌, subst, arith, inl, inr, length-append}
+use Rattle.std.proofs.Common.{◌≡◌, ℕ, ◌-◌, ◌<◌, Option, Some, None, List, [], ◌∷◌, ◌++◌, length, take, refl, sym, ap, ◌∙◌, subst, arith, inl, inr, length-append}
 use Rattle.std.proofs.lemmas.Bool.{cases_eq, eq-eqb, ne_eqb}
 use Rattle.std.proofs.Math.Seq.{take-append_seam}
 use Rattle.std.specs.List.{slice_get}
 use Rattle.std.specs.Option.{option_map}
-use Rattle.clru_list.specs.PlaceList.{item_at, without, first_entry, first_place, last_entry_from, last_place, IsApart}
+use Rattle.clru_list.specs.PlaceList.{item_at, without, first_place, last_entry_from, last_place, IsApart}
 use Rattle.clru.specs.Nodes.{pair_of, pairs_of, IsLive}
 use Rattle.clru.specs.declared.nodes.Item.{Item}
 

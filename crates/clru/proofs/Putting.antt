@@ -1,7 +1,6 @@
 -- What a put does to the entries and the places.
-use Rattle.std.proofs.Common.{◌≡◌, ℕ, ◌+◌, ◌-◌, ◌<◌, ◌≤◌, Bool, true, false, List, [], ◌∷◌, length, take, None, Some, get_or, set, min, IsTrue, inl, inr, refl, sym, ap, ◌∙◌, arith, length-take, take_all}
+use Rattle.std.proofs.Common.{◌≡◌, ℕ, ◌+◌, ◌-◌, ◌<◌, ◌≤◌, Bool, true, false, List, [], ◌∷◌, length, take, None, Some, min, IsTrue, inl, inr, refl, sym, ap, ◌∙◌, arith, length-take, take_all}
 use Rattle.std.specs.Cmp.{IsEquivalence}
-use Rattle.std.specs.List.{remove}
 use Rattle.std.specs.Map.{lookup}
 use Rattle.std.proofs.lemmas.Bool.{cases_lt}
 use Rattle.std.proofs.lemmas.Map.{lookup-none, none_passes_from_lookup}

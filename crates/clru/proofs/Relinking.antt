@@ -1,9 +1,9 @@
 -- Chaining all keys anew: from the last place on, each comes first in the chain of its head.
-use Rattle.std.proofs.Common.{◌≡◌, ℕ, ◌+◌, ◌<◌, ◌≤◌, ◌==◌, nat_le, Bool, true, false, cond, Option, Some, None, IsSome, List, [], ◌∷◌, length, refl, sym, ap, ◌∙◌, subst, arith, inl, inr}
+use Rattle.std.proofs.Common.{◌≡◌, ℕ, ◌+◌, ◌<◌, ◌≤◌, nat_le, cond, Option, Some, None, IsSome, List, refl, sym, ap, ◌∙◌, subst, arith, inl, inr}
 use Rattle.std.proofs.lemmas.Bool.{cases_eq, cases_lt, le-leb, lt-leb}
 use Rattle.std.specs.Option.{option_map}
 use Rattle.clru_list.specs.PlaceList.{PlaceList, item_at, IsValid}
-use Rattle.clru.specs.Chained.{nowhere, put, steps_of, IsChained, IsLinked}
+use Rattle.clru.specs.Chained.{nowhere, steps_of, IsChained, IsLinked}
 use Rattle.clru.specs.Nodes.{link_at, key_at, placed_of}
 use Rattle.clru.specs.declared.nodes.Item.{Item}
 use Rattle.clru.proofs.Chains.{put-same, put-other}

@@ -1,5 +1,5 @@
 -- What a replay keeps from request to request.
-use Rattle.std.proofs.Common.{◌≡◌, ℕ, ◌+◌, ◌-◌, ◌≤◌, min, Bool, true, false, cond, List, [], ◌∷◌, ◌++◌, length, take, reverse, Option, Some, None, is_some, refl, sym, ap, ◌∙◌, arith}
+use Rattle.std.proofs.Common.{◌≡◌, ℕ, ◌+◌, ◌-◌, ◌≤◌, min, Bool, true, false, cond, List, [], ◌∷◌, ◌++◌, length, take, reverse, Option, Some, None, is_some, sym, ap, ◌∙◌, arith}
 use Rattle.std.proofs.lemmas.List.{reverse-append, length_push}
 use Rattle.std.specs.Cmp.{IsEquivalence}
 use Rattle.std.specs.Borrow.{Bor, MutBor}
@@ -10,7 +10,6 @@ use Rattle.clru.specs.Cache.{Cache, with_entries}
 use Rattle.clru.specs.Closures.{PutsOrModifies}
 use Rattle.clru.specs.Entries.{plain_put}
 use Rattle.clru.specs.Requests.{hit, marks, misses}
-use Rattle.clru.proofs.Distinct.{split}
 use Rattle.std.proofs.lemmas.Map.Made.{is_some-lookup}
 use Rattle.clru.proofs.Hits.{Keeps, Keeps_held, Keeps_put}
 use Rattle.clru.proofs.Marks.{marks_push, misses_push}

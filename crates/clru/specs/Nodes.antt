@@ -1,9 +1,9 @@
 -- What the list, the heads and the links of a cache's nodes keep together. No public clause cites this file.
-use Rattle.std.specs.Prelude.{◌≡◌, ℕ, ◌-◌, ◌<◌, ◌≤◌, Bool, true, Option, Some, None, List, [], ◌∷◌, map, length, slice_index_or, bit_and, vec_len}
+use Rattle.std.specs.Prelude.{◌≡◌, ℕ, ◌-◌, ◌<◌, ◌≤◌, Bool, true, Option, Some, None, List, [], ◌∷◌, map, length, slice_index_or, bit_and}
 use Rattle.std.specs.List.{fold}
 use Rattle.std.specs.Option.{option_map, option_map_or}
-use Rattle.clru_list.specs.PlaceList.{PlaceList, item_at}
-use Rattle.clru.specs.Chained.{nowhere, put, steps_of, IsChained, IsLinked}
+use Rattle.clru_list.specs.PlaceList.{item_at}
+use Rattle.clru.specs.Chained.{nowhere, put, steps_of, IsChained}
 use Rattle.clru.specs.declared.nodes.Item.{Item}
 use Rattle.clru.specs.declared.nodes.Nodes.{Nodes}
 

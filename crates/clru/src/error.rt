@@ -1,8 +1,6 @@
 //! What a call that may want memory answers in place of a result.
 
-/// Memory was refused.
-#[derive(Clone, Copy, Debug, PartialEq, Eq)]
-pub struct NoMemory;
+pub use clru_list::NoMemory;
 
 /// Why a weighted put was refused. The pair comes back, and no entry has changed.
 #[derive(Debug, Drop, PartialEq, Eq)]

@@ -63,7 +63,7 @@ impl<K: Eq + Hash, V, S: BuildHasher, A: Allocator + Copy> Nodes<K, V, S, A> {
         ensures empty { IfOk result (λ x. IsEmpty capacity (min reserve capacity) x) }
         ensures indexed { let hash = hash_by S.Hasher.finish S.Hasher.write S.build_hasher K.hash_input in
             IfOk result (λ x. IsIndexed hash x) }
-        ensures nothing_asked { min reserve capacity ≡ 0 → IsOk result }
+        ensures never_refused { min reserve capacity ≡ 0 → IsOk result }
     {
         let places = reserve.min(capacity);
         let Some(size) = heads_for(places) else {

@@ -26,7 +26,8 @@ use std::num::NonZeroUsize;
 ///
 /// Memory is taken before the first request: places for as many entries as there are keys, `capacity` at most, and the
 /// marks. Where either is refused, the keys come back as they were, and nothing else can be refused. Without keys no memory
-/// is asked for. Each request costs a search of the entries held. The cache hashes keys with `hash_builder`.
+/// is asked for. Each request costs a look-up, and a miss at most one more of the key that goes. Keys are hashed with
+/// `hash_builder`.
 pub fn replay<K: Eq + Hash + Drop, S: BuildHasher + Drop, A: Allocator + Copy>(
     alloc: A,
     capacity: NonZeroUsize,

@@ -94,6 +94,6 @@ module _ {T : Type 0} where
     pub fits : length l.entries ≤ l.capacity
     pub held : length l.entries ≤ l.places
 
-  -- there is room for one more entry, and each place is taken: only then is memory asked for
+  -- there is room for one more entry, and each place is taken: only then may a call be refused for memory
   abbrev pub NeedsPlace : PlaceList T → Type 0
   NeedsPlace l = (length l.entries < l.capacity) × (l.places ≡ length l.entries)

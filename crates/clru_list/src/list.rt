@@ -54,7 +54,7 @@ impl<T, A: Allocator + Copy> FixedSizeList<T, A> {
     /// Creates an empty list with memory for `reserve` items, or for `capacity` items where that is less.
     pub fn with_memory(alloc: A, capacity: usize, reserve: usize) -> Result<Self, NoMemory>
         ensures empty { IfOk result (λ l. l ≡ place_list [] capacity (min reserve capacity)) }
-        ensures nothing_asked { min reserve capacity ≡ 0 → IsOk result }
+        ensures never_refused { min reserve capacity ≡ 0 → IsOk result }
         ensures countable { OnOk result (min reserve capacity < 2 ^ 63) }
     {
         let places = reserve.min(capacity);

@@ -17,7 +17,7 @@ pub fn perform_all<C, Q: Perform<C> + Drop, A: Allocator + Copy>(
     ensures run { IfOk result (λ answers. Run Q.step cache.old calls.items answers.items cache.new) }
     ensures refused { IfErr result (λ back. back.items ≡ calls.items) }
     ensures unchanged { OnErr result (cache.new ≡ cache.old) }
-    ensures nothing_asked { calls.items ≡ [] → IsOk result }
+    ensures never_refused { calls.items ≡ [] → IsOk result }
 {
     let Ok(mut answers) = Vec::with_capacity(alloc, calls.len()) else {
         return Err(calls);

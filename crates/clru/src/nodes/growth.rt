@@ -95,7 +95,7 @@ pub(crate) fn empty_heads<A: Allocator + Copy>(
     size: usize,
 ) -> Result<Vec<usize, A>, NoMemory>
     ensures heads { IfOk result (λ v. v.items ≡ replicate size nowhere) }
-    ensures nothing_asked { size ≡ 0 → IsOk result }
+    ensures never_refused { size ≡ 0 → IsOk result }
 {
     if size == 0 {
         return Ok(Vec::new(alloc));

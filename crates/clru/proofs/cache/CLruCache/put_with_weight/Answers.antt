@@ -1,4 +1,4 @@
-use Rattle.std.proofs.Common.{◌≡◌, ◌+◌, ◌-◌, ◌<◌, ◌∷◌, Some, length, refl, sym, ap, ◌∙◌, arith}
+use Rattle.std.proofs.Common.{◌-◌, ◌∷◌, Some, length, refl, sym, ap, ◌∙◌, arith}
 use Rattle.std.specs.NonZero.{non_zero_usize_get}
 use Rattle.std.proofs.lemmas.Bool.{leb-true, le-leb}
 use Rattle.clru.specs.Entries.{size_of, weight_of}
@@ -21,23 +21,46 @@ pub shrink_to-requires-clause-weighs : goal.shrink_to-requires-clause-weighs
 shrink_to-requires-clause-weighs g c =
     let eq = g.K.PartialEq.eq in let w = g.W.WeightScale.weight c.self.inside.scale in let t = c.in-Some.ensures in
     let h = held_at (eq c.args.key) t.pair in let same = held_is (eq c.args.key) h t.pair in
-    omega (arith, weight_of-held (eq c.args.key) w h, ap (λ (x : g.row.K.Denot × g.row.V.Denot). w x.0 x.1) same, c.self.invariant.pairs.weighs, c.weight.ensures,
-    ap (weight_of w) t.pairs)
+    omega (
+      arith,
+      weight_of-held (eq c.args.key) w h,
+      ap (λ (x : g.row.K.Denot × g.row.V.Denot). w x.0 x.1) same,
+      c.self.invariant.pairs.weighs,
+      c.weight.ensures,
+      ap (weight_of w) t.pairs,
+    )
 
 pub shrink_to-requires-clause-small : goal.shrink_to-requires-clause-small
 shrink_to-requires-clause-small g c =
     let eq = g.K.PartialEq.eq in let w = g.W.WeightScale.weight c.self.inside.scale in let t = c.in-Some.ensures in
     let h = held_at (eq c.args.key) t.pair in
-    omega (arith, weight_of-held (eq c.args.key) w h, h.shorter, ap length t.pairs, ap (weight_of w) t.pairs, c.self.invariant.pairs.fits,
-    c.get-capacity.ensures.value, c.get-capacity.type_inv)
+    omega (
+      arith,
+      weight_of-held (eq c.args.key) w h,
+      h.shorter,
+      ap length t.pairs,
+      ap (weight_of w) t.pairs,
+      c.self.invariant.pairs.fits,
+      c.get-capacity.ensures.value,
+      c.get-capacity.type_inv,
+    )
 
 pub push_front-requires-clause-ready : goal.push_front-requires-clause-ready
 push_front-requires-clause-ready g c =
     let eq = g.K.PartialEq.eq in let w = g.W.WeightScale.weight c.self.inside.scale in let t = c.in-Some.ensures in
     let s = c.shrink_to.ensures in let h = held_at (eq c.args.key) t.pair in
     let shorter = length-sublist (sublist_fit w (c.get-capacity.result - 1 - c.weight-weight.result) (pairs_of c.take.new.self.list.entries)) in
-    omega (arith, ap length s.pairs, shorter, ap length t.pairs, h.shorter, c.self.invariant.indexed.held, length-pairs c.self.inside.nodes.list.entries,
-    s.same.places, t.same.places)
+    omega (
+      arith,
+      ap length s.pairs,
+      shorter,
+      ap length t.pairs,
+      h.shorter,
+      c.self.invariant.indexed.held,
+      length-pairs c.self.inside.nodes.list.entries,
+      s.same.places,
+      t.same.places,
+    )
 
 pub push_front-requires-clause-room : goal.push_front-requires-clause-room
 push_front-requires-clause-room g c =
@@ -71,8 +94,15 @@ returns-in-Some-clause-answer g c =
 pub overflow_add-wanted : goal.overflow_add-wanted
 overflow_add-wanted g c =
     let t = c.in_default.ensures in let m = missed_at (g.K.PartialEq.eq c.args.key) t.pair in
-    omega (arith, c.len.ensures, ap length (t.pairs ∙ m.removed), c.self.invariant.pairs.weighs, c.self.invariant.pairs.fits, c.get-capacity.ensures.value,
-    c.get-capacity.type_inv)
+    omega (
+      arith,
+      c.len.ensures,
+      ap length (t.pairs ∙ m.removed),
+      c.self.invariant.pairs.weighs,
+      c.self.invariant.pairs.fits,
+      c.get-capacity.ensures.value,
+      c.get-capacity.type_inv,
+    )
 
 pub invariant_of-self-in_default-make_ready_if : goal.invariant_of-self-in_default-make_ready_if
 invariant_of-self-in_default-make_ready_if g c =
@@ -91,8 +121,16 @@ returns-in_default-make_ready_if-clause-memory g c =
     let o = c.in_default-make_ready_if.ensures in
     rw (← c.self.view_is) (λ _. record {
       absent = m.value;
-      room = omega (arith, leb-true _ _ o.refused.0, c.if-weight-capacity.false, c.get-capacity.ensures.value, c.weight-weight.ensures, c.len.ensures,
-          ap length before, c.self.invariant.pairs.weighs);
+      room = omega (
+        arith,
+        leb-true _ _ o.refused.0,
+        c.if-weight-capacity.false,
+        c.get-capacity.ensures.value,
+        c.weight-weight.ensures,
+        c.len.ensures,
+        ap length before,
+        c.self.invariant.pairs.weighs,
+      );
       taken = omega (arith, o.refused.1, t.same.places, ap length before);
     })
 
@@ -104,8 +142,13 @@ shrink_to-requires-2-clause-weighs g c =
 pub shrink_to-requires-2-clause-small : goal.shrink_to-requires-2-clause-small
 shrink_to-requires-2-clause-small g c =
     let w = g.W.WeightScale.weight c.self.inside.scale in let t = c.in_default.ensures in let m = missed_at (g.K.PartialEq.eq c.args.key) t.pair in
-    omega (arith, ap (size_of w) (c.in-Ok.ensures.keeps.pairs ∙ t.pairs ∙ m.removed), c.self.invariant.pairs.fits, c.get-capacity.ensures.value,
-    c.get-capacity.type_inv)
+    omega (
+      arith,
+      ap (size_of w) (c.in-Ok.ensures.keeps.pairs ∙ t.pairs ∙ m.removed),
+      c.self.invariant.pairs.fits,
+      c.get-capacity.ensures.value,
+      c.get-capacity.type_inv,
+    )
 
 pub push_front-requires-2-clause-ready : goal.push_front-requires-2-clause-ready
 push_front-requires-2-clause-ready g c =
@@ -121,8 +164,17 @@ pub push_front-requires-2-clause-room : goal.push_front-requires-2-clause-room
 push_front-requires-2-clause-room g c =
     let w = g.W.WeightScale.weight c.self.inside.scale in let s = c.shrink_to-2.ensures in
     let small = size_of-fit w (c.get-capacity.result - 1 - c.weight-weight.result) (pairs_of c.make_ready_if.new.self.list.entries) in
-    omega (arith, ap length s.pairs, small, s.same.capacity, c.in-Ok.ensures.keeps.capacity, c.in_default.ensures.same.capacity, c.self.invariant.room,
-    c.get-capacity.ensures.value, c.get-capacity.ensures.nonzero)
+    omega (
+      arith,
+      ap length s.pairs,
+      small,
+      s.same.capacity,
+      c.in-Ok.ensures.keeps.capacity,
+      c.in_default.ensures.same.capacity,
+      c.self.invariant.room,
+      c.get-capacity.ensures.value,
+      c.get-capacity.ensures.nonzero,
+    )
 
 pub overflow_add-self-2 : goal.overflow_add-self-2
 overflow_add-self-2 g c =

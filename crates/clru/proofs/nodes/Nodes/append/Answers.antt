@@ -1,6 +1,6 @@
-use Rattle.std.proofs.Common.{◌≡◌, ℕ, refl}
-use Rattle.clru.specs.Chained.{nowhere, put, of_head, IsCut}
-use Rattle.clru.specs.Nodes.{hash_by, head_at, link_at, key_at, steps_at, home_at, IsPlace}
+use Rattle.std.proofs.Common.{refl}
+use Rattle.clru.specs.Chained.{nowhere}
+use Rattle.clru.specs.Nodes.{hash_by, home_at, IsPlace}
 use Rattle.clru.proofs.Indexed.{walk_of_chain, live_at_cut, live_but, chained_append}
 use Rattle.clru.proofs.nodes.Nodes.append.Goals as goal
 

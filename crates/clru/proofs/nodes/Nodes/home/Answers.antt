@@ -1,6 +1,6 @@
-use Rattle.std.proofs.Common.{◌≡◌, ℕ, Some, length, ◌<◌, arith, sym, ap, ◌∙◌, subst}
+use Rattle.std.proofs.Common.{◌≡◌, Some, length, arith, sym, ap, ◌∙◌, subst}
 use Rattle.clru_list.specs.PlaceList.{item_at}
-use Rattle.clru.specs.Nodes.{hash_by, head_by}
+use Rattle.clru.specs.Nodes.{head_by}
 use Rattle.clru.proofs.Indexed.{head_within}
 use Rattle.clru.proofs.Placed.{none_at_start}
 use Rattle.clru.proofs.PlaceEnds.{some_live}

@@ -1,4 +1,4 @@
-use Rattle.std.proofs.Common.{sym, ◌∙◌}
+use Rattle.std.proofs.Common.{sym}
 use Rattle.clru.specs.Nodes.{head_at, link_at}
 use Rattle.clru.proofs.Placed.{link_at-with_at, placed-with_at, linked_at_place}
 use Rattle.clru.proofs.nodes.Nodes.link.Goals as goal

@@ -1,4 +1,4 @@
-use Rattle.std.proofs.Common.{◌≡◌, ◌≤◌, length, arith, sym, ap, ◌∙◌, subst}
+use Rattle.std.proofs.Common.{length, arith, sym, ap, ◌∙◌, subst}
 use Rattle.clru.specs.Chained.{IsChained}
 use Rattle.clru.specs.Nodes.{hash_by, head_at, link_at, key_at, home_at, pairs_of}
 use Rattle.clru.proofs.Placed.{same_pairs}

@@ -1,5 +1,4 @@
 use Rattle.std.proofs.Common.{◌≡◌, Some, refl, sym, ap, ◌∙◌}
-use Rattle.clru_list.specs.PlaceList.{item_at, without}
 use Rattle.clru.specs.Nodes.{pair_of, pairs_of}
 use Rattle.clru.proofs.PlaceEnds.{last_at, held_last, last_pair, none_at_last}
 use Rattle.clru.proofs.nodes.Nodes.pop_back.Goals as goal

@@ -1,4 +1,4 @@
-use Rattle.std.proofs.Common.{◌≡◌, ◌≤◌, ℕ, Some, None, ◌∷◌, length, arith, refl, sym, ap, ◌∙◌, subst}
+use Rattle.std.proofs.Common.{◌≡◌, Some, None, length, arith, refl, sym, ap, ◌∙◌, subst}
 use Rattle.std.proofs.lemmas.Bool.{eq-eqb}
 use Rattle.clru_list.specs.PlaceList.{item_at, IsApart}
 use Rattle.clru.specs.Chained.{nowhere, put, IsChained}
@@ -6,7 +6,7 @@ use Rattle.clru.specs.Nodes.{hash_by, head_by, head_at, link_at, key_at, home_at
 use Rattle.clru.specs.declared.nodes.Item.{Item}
 use Rattle.clru.proofs.Indexed.{head_within}
 use Rattle.clru.proofs.IndexedMoves.{chained_push}
-use Rattle.clru.proofs.Placed.{none_at_start, same_pairs, length-pairs}
+use Rattle.clru.proofs.Placed.{none_at_start, same_pairs}
 use Rattle.clru.proofs.nodes.Nodes.push_front.Goals as goal
 
 pub append-requires-clause-home : goal.append-requires-clause-home

@@ -1,6 +1,6 @@
-use Rattle.std.proofs.Common.{◌≡◌, ◌≤◌, ℕ, Some, None, length, arith, refl, sym, ap, ◌∙◌, subst}
-use Rattle.clru_list.specs.PlaceList.{item_at, without, with_entries}
-use Rattle.clru.specs.Nodes.{hash_by, key_at, home_at, pair_of, pairs_of, IsIndexed}
+use Rattle.std.proofs.Common.{◌≡◌, Some, None, arith, sym, ap, ◌∙◌, subst}
+use Rattle.clru_list.specs.PlaceList.{without, with_entries}
+use Rattle.clru.specs.Nodes.{hash_by, home_at, pair_of, pairs_of, IsIndexed}
 use Rattle.clru.proofs.IndexedMoves.{chained_drop, indexed_from}
 use Rattle.clru.proofs.Placed.{same_pair, same_pairs, same_without, same_length, length-without}
 use Rattle.clru.proofs.nodes.Nodes.remove.Goals as goal

@@ -1,14 +1,13 @@
-use Rattle.std.proofs.Common.{◌≡◌, ◌≤◌, ◌<◌, ℕ, Some, None, ◌∷◌, length, arith, refl, sym, ap, ◌∙◌, subst}
+use Rattle.std.proofs.Common.{◌≡◌, ◌<◌, Some, None, ◌∷◌, length, arith, refl, sym, ap, ◌∙◌}
 use Rattle.std.proofs.lemmas.Bool.{eq-eqb}
 use Rattle.std.specs.Option.{option_copied_mut}
-use Rattle.clru_list.specs.PlaceList.{item_at, without, with_entries, IsApart}
-use Rattle.clru.specs.Chained.{nowhere, put, IsChained}
-use Rattle.clru.specs.Nodes.{hash_by, head_by, head_at, link_at, key_at, home_at, pair_of, pairs_of, IsIndexed}
+use Rattle.clru_list.specs.PlaceList.{without}
+use Rattle.clru.specs.Nodes.{hash_by, head_by, home_at, pair_of, pairs_of}
 use Rattle.clru.specs.declared.nodes.Item.{Item}
 use Rattle.clru.proofs.Indexed.{head_within}
 use Rattle.clru.proofs.IndexedMoves.{chained_replace, indexed_from}
-use Rattle.clru.proofs.Placed.{same_pair, same_pairs, same_without, same_length, length-pairs, length-without_held}
-use Rattle.clru.proofs.PlaceEnds.{last_at, held_last, last_pair, none_at_last, some_live}
+use Rattle.clru.proofs.Placed.{same_pair, same_pairs, same_without, same_length, length-without_held}
+use Rattle.clru.proofs.PlaceEnds.{last_at, held_last, last_pair, none_at_last}
 use Rattle.clru.proofs.nodes.Nodes.replace_back.Goals as goal
 
 pub unreachable-requires : goal.unreachable-requires

@@ -1,4 +1,4 @@
-use Rattle.std.proofs.Common.{sym, ap, ◌∙◌}
+use Rattle.std.proofs.Common.{sym}
 use Rattle.clru.proofs.FirstItem.{indexed_with_first}
 use Rattle.clru.proofs.nodes.Nodes.set_front.Goals as goal
 

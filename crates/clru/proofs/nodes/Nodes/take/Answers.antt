@@ -1,7 +1,6 @@
-use Rattle.std.proofs.Common.{◌≡◌, ◌≤◌, ℕ, Some, None, length, arith, refl, sym, ap, ◌∙◌, subst, true}
+use Rattle.std.proofs.Common.{◌≡◌, Some, length, arith, sym, ap, ◌∙◌, subst}
 use Rattle.clru_list.specs.PlaceList.{item_at}
-use Rattle.clru.specs.Chained.{nowhere}
-use Rattle.clru.specs.Nodes.{hash_by, head_by, home_at, pairs_of}
+use Rattle.clru.specs.Nodes.{head_by, pairs_of}
 use Rattle.clru.proofs.Indexed.{head_within, same_hash}
 use Rattle.clru.proofs.Placed.{none_at_start}
 use Rattle.clru.proofs.PlaceEnds.{some_live}

@@ -1,7 +1,5 @@
-use Rattle.std.proofs.Common.{◌≡◌, ℕ, refl, ap, sym, ◌∙◌, subst}
-use Rattle.std.specs.Option.{option_map, option_copied}
-use Rattle.clru.specs.Chained.{nowhere, put, of_head, IsCut, IsLinked}
-use Rattle.clru.specs.Nodes.{hash_by, head_at, link_at, key_at, steps_at, home_at, IsPlace}
+use Rattle.std.proofs.Common.{◌≡◌, refl, sym, ◌∙◌}
+use Rattle.clru.specs.Nodes.{hash_by, link_at, key_at, home_at, IsPlace}
 use Rattle.clru.proofs.Chaining.{key_met}
 use Rattle.clru.proofs.Indexed.{walk_of_chain, live_at_cut, live_of_key, chained_unchain}
 use Rattle.clru.proofs.Placed.{same_apart}

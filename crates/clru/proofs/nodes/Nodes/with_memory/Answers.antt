@@ -1,4 +1,4 @@
-use Rattle.std.proofs.Common.{sym, ap, arith, length}
+use Rattle.std.proofs.Common.{ap, arith, length}
 use Rattle.std.proofs.lemmas.List.{length-replicate}
 use Rattle.clru.specs.Chained.{nowhere}
 use Rattle.clru.specs.Nodes.{hash_by}

@@ -94,8 +94,18 @@ returns-then-len-get g c =
         λ w _. let put = pairs_of-with_first i w c.replace_back.new.self.list.entries first ∙ ap (with_front w) replaced in (
           put ∙ put_full eq _ key w m full,
           grows_not _ _ _ (full_needs_none _ full) refl refl (r.same.places ∙ e.same.places)
-              (omega (arith, ap length put, length-take (length es - 1) es, c.self.invariant.indexed.held, length-pairs c.self.inside.nodes.list.entries,
-              r.same.places, e.same.places, full, c.get.ensures.nonzero, c.get.ensures.value)),
+              (omega (
+                arith,
+                ap length put,
+                length-take (length es - 1) es,
+                c.self.invariant.indexed.held,
+                length-pairs c.self.inside.nodes.list.entries,
+                r.same.places,
+                e.same.places,
+                full,
+                c.get.ensures.nonzero,
+                c.get.ensures.value,
+              )),
         ),
         tt,
       ),
@@ -124,7 +134,7 @@ returns-in_default g c =
     let m = missed (eq key) c.if-touch.ensures.held in let before = e.pairs ∙ touch-missed eq key m in
     let fits = c.self.invariant.pairs.fits in
     let free : length (pairs_of c.self.inside.nodes.list.entries) < non_zero_usize_get c.self.inside.capacity =
-        omega (arith, ap length before, c.len.ensures, c.if-len-get.false, c.get.ensures.value, fits) in
+    omega (arith, ap length before, c.len.ensures, c.if-len-get.false, c.get.ensures.value, fits) in
     let same = length-pairs c.self.inside.nodes.list.entries in
     rw (← c.self.view_is) (
       (
@@ -180,7 +190,7 @@ returns g c =
     let m = missed (eq key) c.if-touch.ensures.held in let es = pairs_of c.self.inside.nodes.list.entries in
     let before = e.pairs ∙ touch-missed eq key m in
     let free : length es < non_zero_usize_get c.self.inside.capacity =
-        omega (arith, ap length before, c.len.ensures, c.if-len-get.false, c.get.ensures.value, c.self.invariant.pairs.fits) in
+    omega (arith, ap length before, c.len.ensures, c.if-len-get.false, c.get.ensures.value, c.self.invariant.pairs.fits) in
     let pushed = p.pairs ∙ ap (λ l. (key, v) ∷ l) (o.keeps.pairs ∙ before) in
     let value : i.value ≡ v = ap (λ d. d.1) (first_pair c.push_front.new.self.list.entries i first pushed) in
     rw (← c.self.view_is) (

@@ -41,7 +41,7 @@ returns-then-len-get-clause-entries g c =
     let eq = g.K.PartialEq.eq in let key = c.args.key in let v = c.args.value in let m = missed (eq key) c.if-touch.ensures.held in
     let before = c.touch.ensures.pairs ∙ touch-missed eq key m in
     let full : length (pairs_of c.self.inside.nodes.list.entries) ≡ non_zero_usize_get c.self.inside.capacity =
-        omega (arith, ap length before, c.len.ensures, c.if-len-get.true, c.get.ensures.value) in
+    omega (arith, ap length before, c.len.ensures, c.if-len-get.true, c.get.ensures.value) in
     rw (← c.self.view_is) (c.replace_back.ensures.pairs ∙ ap (λ l. (key, v) ∷ take (length l - 1) l) before ∙ put_full eq _ key v m full)
 
 pub make_ready_if-requires-clause-below : goal.make_ready_if-requires-clause-below
@@ -92,7 +92,7 @@ returns-clause-entries g c =
     let eq = g.K.PartialEq.eq in let key = c.args.key in let v = c.args.value in let m = missed (eq key) c.if-touch.ensures.held in
     let before = c.touch.ensures.pairs ∙ touch-missed eq key m in
     let free : length (pairs_of c.self.inside.nodes.list.entries) < non_zero_usize_get c.self.inside.capacity =
-        omega (arith, ap length before, c.len.ensures, c.if-len-get.false, c.get.ensures.value, c.self.invariant.pairs.fits) in
+    omega (arith, ap length before, c.len.ensures, c.if-len-get.false, c.get.ensures.value, c.self.invariant.pairs.fits) in
     rw (← c.self.view_is) (c.push_front.ensures.pairs ∙ ap (λ l. (key, v) ∷ l) (c.in-Ok.ensures.keeps.pairs ∙ before) ∙ put_free eq _ key v m free)
 
 pub returns-clause-places : goal.returns-clause-places
@@ -101,7 +101,7 @@ returns-clause-places g c =
     let o = c.in-Ok.ensures in let m = missed (eq key) c.if-touch.ensures.held in let before = e.pairs ∙ touch-missed eq key m in
     let fits = c.self.invariant.pairs.fits in let held = c.self.invariant.indexed.held in
     let free : length (pairs_of c.self.inside.nodes.list.entries) < non_zero_usize_get c.self.inside.capacity =
-        omega (arith, ap length before, c.len.ensures, c.if-len-get.false, c.get.ensures.value, fits) in
+    omega (arith, ap length before, c.len.ensures, c.if-len-get.false, c.get.ensures.value, fits) in
     rw (← c.self.view_is) (grows_if_needed _ _ _ (λ _. free) (λ _. refl) m.value
     (omega (arith, held, length-pairs c.self.inside.nodes.list.entries))
     (GrowsIf-along (sym (ap length before)) (sym (e.same.capacity ∙ c.self.invariant.room)) (sym e.same.places) p.same.places o.grows) refl refl
