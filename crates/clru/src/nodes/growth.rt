@@ -1,5 +1,5 @@
 //! Memory for more pairs: places in the list, and heads that go with them.
-ghost use Rattle.std.specs.Prelude.{◌≡◌, ℕ, ◌+◌, ◌<◌, ◌≤◌, Some, length, replicate, IfOk, IfSome, IsOk, OnOk, OnErr, IsTrue};
+ghost use Rattle.std.specs.Prelude.{◌≡◌, ℕ, ◌+◌, ◌<◌, ◌≤◌, ◌^◌, Some, length, replicate, IfOk, IfSome, IfNone, IsOk, OnOk, OnErr, IsTrue};
 ghost use Rattle.clru.specs.Chained.{nowhere};
 ghost use Rattle.clru.specs.Growth.{GrowsIf};
 ghost use Rattle.clru.specs.Nodes.{hash_by, head_at, key_at, placed_of, pairs_of, IsChainedAs, IsIndexed, IsSame, KeepsPairs, KeepsPlaces};
@@ -82,6 +82,7 @@ impl<K: Eq + Hash, V, S: BuildHasher, A: Allocator + Copy> Nodes<K, V, S, A> {
 pub(crate) fn heads_for(places: usize) -> Option<usize>
     ensures twice { IfSome result (λ n. places + places ≤ n) }
     ensures none { places ≡ 0 → result ≡ Some 0 }
+    ensures countable { IfNone result (2 ^ 62 < places) }
 {
     if places == 0 {
         return Some(0);
