@@ -1,0 +1,64 @@
+//! Growths that are refused half way.
+
+use crate::calls::room;
+use clru::{CLruCache, DefaultState, ZeroWeightScale};
+use ration::Rationed;
+use std::alloc::Global;
+use std::process::Abort;
+use std::test::Fail;
+
+/// A cache of numbers over an allocator that refuses.
+type Plain<'a> = CLruCache<u64, u64, DefaultState, ZeroWeightScale, &'a Rationed<Global>>;
+
+/// Puts the keys, each with ten more as its value.
+fn puts(rt: &impl Abort, cache: &mut Plain, first: u64, end: u64) {
+    for key in first..end {
+        assert_eq!(rt; cache.put(key, key.wrapping_add(10)), Ok(None), "{key}");
+    }
+}
+
+/// Asserts that the keys below `held` are found.
+fn finds_those_below(rt: &impl Abort, cache: &Plain, held: u64) {
+    assert_eq!(rt; cache.len() as u64, held);
+    for key in 0..held {
+        assert_eq!(rt; cache.peek(&key).copied(), Some(key.wrapping_add(10)), "{key}");
+    }
+}
+
+/// Takes the keys out, the highest first.
+fn takes_out(rt: &impl Abort, cache: &mut Plain, first: u64, end: u64) {
+    for key in (first..end).rev() {
+        assert_eq!(rt; cache.pop_front(), Some((key, key.wrapping_add(10))));
+    }
+}
+
+/// Fills the places of a cache, refuses one request of the growth, and puts on until the next one.
+fn refuses_a_growth(rt: &impl Abort, heap: &Rationed<Global>, cache: &mut Plain, held: u64, n: u64) {
+    puts(rt, cache, 0, held);
+    let touched = cache.get(&0).is_some();
+    heap.refuse_one_after(n);
+    assert_eq!(rt; cache.put(held, 0), Err((held, 0)), "{held} after {n}");
+    heap.refuse_none();
+    finds_those_below(rt, cache, held);
+    puts(rt, cache, held, 2 * held);
+    finds_those_below(rt, cache, 2 * held);
+    takes_out(rt, cache, held, 2 * held);
+    assert_eq!(rt; cache.pop_front(), Some((0, 10)), "{touched}");
+    takes_out(rt, cache, 1, held);
+    assert!(rt; cache.is_empty());
+}
+
+#[test]
+fn a_refused_growth_leaves_each_key_in_its_place(rt: HostRuntime) -> Result<(), Fail> {
+    for held in [4, 8, 16, 32, 64] {
+        for n in 0..2 {
+            let heap = Rationed::new(rt.alloc());
+            {
+                let mut cache = CLruCache::new(&heap, room(1000)?);
+                refuses_a_growth(&rt, &heap, &mut cache, held, n);
+            }
+            assert_eq!(rt; (heap.refused(), heap.blocks()), (1, 0), "{held} after {n}");
+        }
+    }
+    Ok(())
+}
