@@ -22,7 +22,11 @@ fn answers_alike<K: Eq + Hash + Copy + Debug, V: PartialEq + Copy + Debug>(
         let mut cache = CLruCache::with_hasher(alloc, room(capacity)?, builder);
         for (i, call) in calls.iter().enumerate() {
             let wanted = answer(&mut plain, call);
-            assert_eq!(rt; answer(&mut cache, call), wanted, "{call:?} at {i} with {builder:?}");
+            assert_eq!(rt;
+                answer(&mut cache, call),
+                wanted,
+                "{call:?} at {i} with {builder:?}"
+            );
         }
         for _ in 0..=plain.len() {
             let wanted = plain.pop_front();
@@ -99,7 +103,11 @@ fn replays_mark_alike(rt: HostRuntime) -> Result<(), Fail> {
                 return Err("the keys came back".into());
             };
             assert_eq!(rt; answer.misses, misses, "{letters} with {builder:?}");
-            assert_eq!(rt; answer.marks.as_slice(), plain.marks.as_slice(), "{letters} with {builder:?}");
+            assert_eq!(rt;
+                answer.marks.as_slice(),
+                plain.marks.as_slice(),
+                "{letters} with {builder:?}"
+            );
         }
     }
     Ok(())

@@ -55,7 +55,10 @@ fn replayed(
     let mut keys = Vec::new(alloc);
     for _ in 0..rounds {
         for number in 0..distinct {
-            keys.push(Number { number, compared: &compared })?;
+            keys.push(Number {
+                number,
+                compared: &compared,
+            })?;
         }
     }
     let answer = replay(alloc, room(capacity)?, keys, DefaultState);
@@ -65,7 +68,7 @@ fn replayed(
 
 #[test]
 fn a_replay_compares_few_keys(rt: HostRuntime) -> Result<(), Fail> {
-    // The most comparisons are about twice those of today. A walk over all entries makes half a million.
+    // Twice the comparisons that were counted. A walk over all entries makes half a million.
     let rows = [
         (1000, 1000, 1, 1000, 422),
         (1000, 1000, 10, 1000, 22220),

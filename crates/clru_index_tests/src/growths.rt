@@ -21,7 +21,11 @@ fn puts(rt: &impl Abort, cache: &mut Plain, first: u64, end: u64) {
 fn finds_those_below(rt: &impl Abort, cache: &Plain, held: u64) {
     assert_eq!(rt; cache.len() as u64, held);
     for key in 0..held {
-        assert_eq!(rt; cache.peek(&key).copied(), Some(key.wrapping_add(10)), "{key}");
+        assert_eq!(rt;
+            cache.peek(&key).copied(),
+            Some(key.wrapping_add(10)),
+            "{key}"
+        );
     }
 }
 
@@ -33,16 +37,22 @@ fn takes_out(rt: &impl Abort, cache: &mut Plain, first: u64, end: u64) {
 }
 
 /// Fills the places of a cache, refuses one request of the growth, and puts on until the next one.
-fn refuses_a_growth(rt: &impl Abort, heap: &Rationed<Global>, cache: &mut Plain, held: u64, n: u64) {
+fn refuses_a_growth(
+    rt: &impl Abort,
+    heap: &Rationed<Global>,
+    cache: &mut Plain,
+    held: u64,
+    n: u64,
+) {
     puts(rt, cache, 0, held);
     let touched = cache.get(&0).is_some();
     heap.refuse_one_after(n);
     assert_eq!(rt; cache.put(held, 0), Err((held, 0)), "{held} after {n}");
     heap.refuse_none();
     finds_those_below(rt, cache, held);
-    puts(rt, cache, held, 2 * held);
-    finds_those_below(rt, cache, 2 * held);
-    takes_out(rt, cache, held, 2 * held);
+    puts(rt, cache, held, held.wrapping_mul(2));
+    finds_those_below(rt, cache, held.wrapping_mul(2));
+    takes_out(rt, cache, held, held.wrapping_mul(2));
     assert_eq!(rt; cache.pop_front(), Some((0, 10)), "{touched}");
     takes_out(rt, cache, 1, held);
     assert!(rt; cache.is_empty());
@@ -59,6 +69,29 @@ fn a_refused_growth_leaves_each_key_in_its_place(rt: HostRuntime) -> Result<(), 
             }
             assert_eq!(rt; (heap.refused(), heap.blocks()), (1, 0), "{held} after {n}");
         }
+    }
+    Ok(())
+}
+
+#[test]
+fn places_and_heads_double(rt: HostRuntime) -> Result<(), Fail> {
+    // A place is 48 bytes and a head is 8, with two heads a place, and 2,048 heads for the last 1,000 places.
+    let rows = [
+        (1, 256),
+        (4, 256),
+        (5, 512),
+        (9, 1024),
+        (512, 32_768),
+        (513, 64_384),
+        (1000, 64_384),
+        (1001, 64_384),
+        (3000, 64_384),
+    ];
+    for (end, bytes) in rows {
+        let heap = Rationed::new(rt.alloc());
+        let mut cache = CLruCache::new(&heap, room(1000)?);
+        puts(&rt, &mut cache, 0, end);
+        assert_eq!(rt; heap.held_bytes(), bytes, "{end}");
     }
     Ok(())
 }

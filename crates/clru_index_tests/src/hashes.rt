@@ -49,7 +49,7 @@ fn a_growth_hashes_the_held_keys_again(rt: HostRuntime) -> Result<(), Fail> {
         assert_eq!(rt; cache.put(key, key), Ok(None));
         let grows = [4, 8, 16, 32, 64].contains(&key);
         let again = if grows { key } else { 0 };
-        assert_eq!(rt; hashes.get(), again + 1, "{key}");
+        assert_eq!(rt; hashes.get(), again.wrapping_add(1), "{key}");
     }
     Ok(())
 }
@@ -62,7 +62,12 @@ fn a_replay_hashes_each_key_and_each_that_it_drops(rt: HostRuntime) -> Result<()
         for key in 0..1000u64 {
             keys.push(key)?;
         }
-        let answer = replay(rt.alloc(), room(capacity)?, keys, Counting { hashes: &hashes });
+        let answer = replay(
+            rt.alloc(),
+            room(capacity)?,
+            keys,
+            Counting { hashes: &hashes },
+        );
         assert_eq!(rt; answer.map(|answer| answer.misses), Ok(1000), "{capacity}");
         assert_eq!(rt; hashes.get(), count, "{capacity}");
     }
