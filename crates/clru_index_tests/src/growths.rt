@@ -36,7 +36,7 @@ fn takes_out(rt: &impl Abort, cache: &mut Plain, first: u64, end: u64) {
     }
 }
 
-/// Fills the places of a cache, refuses one request of the growth, and puts on until the next one.
+/// Fills the places of a cache, refuses one request of its growth, and puts on until the places are full again.
 fn refuses_a_growth(
     rt: &impl Abort,
     heap: &Rationed<Global>,
@@ -45,7 +45,7 @@ fn refuses_a_growth(
     n: u64,
 ) {
     puts(rt, cache, 0, held);
-    let touched = cache.get(&0).is_some();
+    assert!(rt; cache.get(&0).is_some(), "{held}");
     heap.refuse_one_after(n);
     assert_eq!(rt; cache.put(held, 0), Err((held, 0)), "{held} after {n}");
     heap.refuse_none();
@@ -53,7 +53,7 @@ fn refuses_a_growth(
     puts(rt, cache, held, held.wrapping_mul(2));
     finds_those_below(rt, cache, held.wrapping_mul(2));
     takes_out(rt, cache, held, held.wrapping_mul(2));
-    assert_eq!(rt; cache.pop_front(), Some((0, 10)), "{touched}");
+    assert_eq!(rt; cache.pop_front(), Some((0, 10)), "{held} after {n}");
     takes_out(rt, cache, 1, held);
     assert!(rt; cache.is_empty());
 }
