@@ -1,7 +1,7 @@
 //! The memory of a replay.
 
 use crate::adding::room;
-use crate::costs::{PLACE_BYTES, REQUESTS};
+use crate::costs::{HEAD_BYTES, PLACE_BYTES, REQUESTS};
 use clru::{DefaultState, replay};
 use ration::Rationed;
 use std::alloc::{AllocError, Global};
@@ -22,14 +22,15 @@ fn round_of_ten(
 #[test]
 fn a_replay_asks_for_its_places_and_its_marks(rt: HostRuntime) -> Result<(), Fail> {
     let rows = [
-        (10, 10u64, 10, 10u64),
-        (10, 20_000, 10, 10),
-        (9, 20_000, 9, 20_000),
-        (20_000, 10, 10, 10),
-        (20_000, 20_000, 20_000, 10),
-        (usize::MAX, 20_000, 20_000, 10),
+        (10, 10u64, 10, 32, 10u64),
+        (10, 20_000, 10, 32, 10),
+        (8, 20_000, 8, 16, 20_000),
+        (9, 20_000, 9, 32, 20_000),
+        (20_000, 10, 10, 32, 10),
+        (20_000, 20_000, 20_000, 65_536, 10),
+        (usize::MAX, 20_000, 20_000, 65_536, 10),
     ];
-    for (capacity, count, places, misses) in rows {
+    for (capacity, count, places, heads, misses) in rows {
         let heap = Rationed::new(rt.alloc());
         let keys = round_of_ten(&heap, count)?;
         let (asked, bytes) = (heap.asked(), heap.asked_bytes());
@@ -46,7 +47,7 @@ fn a_replay_asks_for_its_places_and_its_marks(rt: HostRuntime) -> Result<(), Fai
         );
         assert_eq!(rt;
             heap.asked_bytes().wrapping_sub(bytes),
-            places * PLACE_BYTES + count,
+            places * PLACE_BYTES + heads * HEAD_BYTES + count,
             "{capacity} {count}"
         );
         assert_eq!(rt; (heap.blocks(), heap.held_bytes()), (1, count), "the marks");

@@ -1,0 +1,97 @@
+//! Growths that are refused half way.
+
+use crate::calls::room;
+use clru::{CLruCache, DefaultState, ZeroWeightScale};
+use ration::Rationed;
+use std::alloc::Global;
+use std::process::Abort;
+use std::test::Fail;
+
+/// A cache of numbers over an allocator that refuses.
+type Plain<'a> = CLruCache<u64, u64, DefaultState, ZeroWeightScale, &'a Rationed<Global>>;
+
+/// Puts the keys, each with ten more as its value.
+fn puts(rt: &impl Abort, cache: &mut Plain, first: u64, end: u64) {
+    for key in first..end {
+        assert_eq!(rt; cache.put(key, key.wrapping_add(10)), Ok(None), "{key}");
+    }
+}
+
+/// Asserts that the keys below `held` are found.
+fn finds_those_below(rt: &impl Abort, cache: &Plain, held: u64) {
+    assert_eq!(rt; cache.len() as u64, held);
+    for key in 0..held {
+        assert_eq!(rt;
+            cache.peek(&key).copied(),
+            Some(key.wrapping_add(10)),
+            "{key}"
+        );
+    }
+}
+
+/// Takes the keys out, the highest first.
+fn takes_out(rt: &impl Abort, cache: &mut Plain, first: u64, end: u64) {
+    for key in (first..end).rev() {
+        assert_eq!(rt; cache.pop_front(), Some((key, key.wrapping_add(10))));
+    }
+}
+
+/// Fills the places of a cache, refuses one request of its growth, and puts on until the places are full again.
+fn refuses_a_growth(
+    rt: &impl Abort,
+    heap: &Rationed<Global>,
+    cache: &mut Plain,
+    held: u64,
+    n: u64,
+) {
+    puts(rt, cache, 0, held);
+    assert!(rt; cache.get(&0).is_some(), "{held}");
+    heap.refuse_one_after(n);
+    assert_eq!(rt; cache.put(held, 0), Err((held, 0)), "{held} after {n}");
+    heap.refuse_none();
+    finds_those_below(rt, cache, held);
+    puts(rt, cache, held, held.wrapping_mul(2));
+    finds_those_below(rt, cache, held.wrapping_mul(2));
+    takes_out(rt, cache, held, held.wrapping_mul(2));
+    assert_eq!(rt; cache.pop_front(), Some((0, 10)), "{held} after {n}");
+    takes_out(rt, cache, 1, held);
+    assert!(rt; cache.is_empty());
+}
+
+#[test]
+fn a_refused_growth_leaves_each_key_in_its_place(rt: HostRuntime) -> Result<(), Fail> {
+    for held in [4, 8, 16, 32, 64] {
+        for n in 0..2 {
+            let heap = Rationed::new(rt.alloc());
+            {
+                let mut cache = CLruCache::new(&heap, room(1000)?);
+                refuses_a_growth(&rt, &heap, &mut cache, held, n);
+            }
+            assert_eq!(rt; (heap.refused(), heap.blocks()), (1, 0), "{held} after {n}");
+        }
+    }
+    Ok(())
+}
+
+#[test]
+fn places_and_heads_double(rt: HostRuntime) -> Result<(), Fail> {
+    // A place is 48 bytes and a head is 8, with two heads a place, and 2,048 heads for the last 1,000 places.
+    let rows = [
+        (1, 256),
+        (4, 256),
+        (5, 512),
+        (9, 1024),
+        (512, 32_768),
+        (513, 64_384),
+        (1000, 64_384),
+        (1001, 64_384),
+        (3000, 64_384),
+    ];
+    for (end, bytes) in rows {
+        let heap = Rationed::new(rt.alloc());
+        let mut cache = CLruCache::new(&heap, room(1000)?);
+        puts(&rt, &mut cache, 0, end);
+        assert_eq!(rt; heap.held_bytes(), bytes, "{end}");
+    }
+    Ok(())
+}
