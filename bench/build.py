@@ -15,7 +15,6 @@ CRATE = "clru_bench"
 PROGRAM = "clru_replay"
 PACKAGES = ("lru", "hashlink")
 REGISTRY = Path("/usr/share/cargo/registry")
-HAS_POP = re.compile(r"pub fn pop\b")
 LOCKED = re.compile(r'name = "(.*)"\nversion = "(.*)"')
 
 
@@ -24,7 +23,6 @@ class Built:
     work: Path
     driver: Path
     program: Path
-    has_pop: bool
     names: dict  # by cache, ours first: what its column is headed by
     tools: str
 
@@ -38,7 +36,7 @@ def build_all(bench, work, clru):
     missing = [it for it in PACKAGES if not any(REGISTRY.glob(f"{it}-[0-9]*"))]
     if missing or not shutil.which("cargo"):
         stop(f"install cargo, {', '.join(f'librust-{it}-dev' for it in PACKAGES)}")
-    has_pop = lay_ours(bench, work / "ours")
+    lay_ours(bench, work / "ours")
     print("bench: proving and building our side", file=sys.stderr)
     crates = work / "ours" / "crates"
     call(work, ["rt", "lib"], crates / CRATE)
@@ -49,7 +47,7 @@ def build_all(bench, work, clru):
     driver = work / "peers" / "target" / "release" / "driver"
     program = crates / PROGRAM / "out" / PROGRAM
     tools = f"{first_line('rt', 'version')}; {first_line('rustc', '--version')}"
-    return Built(work, driver, program, has_pop, {"ours": "ours", **names}, tools)
+    return Built(work, driver, program, {"ours": "ours", **names}, tools)
 
 
 def kit_of():
@@ -81,7 +79,7 @@ def replace(source, to):
 
 
 def lay_ours(bench, ours):
-    """Copies the crates that are measured, beside the crate of the workloads. Answers whether the cache has `pop`."""
+    """Copies the crates that are measured, beside the crate of the workloads."""
     top = bench.parent
     rows = [it.partition("#")[0].strip() for it in (top / "crates.txt").read_text().split("\n")]
     uses = {name.strip(): words.split() for name, _, words in (it.partition(":") for it in rows if it)}
@@ -95,14 +93,8 @@ def lay_ours(bench, ours):
     source = ours / "crates" / CRATE / "src"
     shutil.rmtree(source, ignore_errors=True)
     source.mkdir(parents=True)
-    sources = (top / "crates" / "clru" / "src").rglob("*.rt")
-    has_pop = any(HAS_POP.search(it.read_text()) for it in sources)
     for file in (bench / "ours").iterdir():
         shutil.copy2(file, source / file.name.removesuffix(".in"))
-    (source / ("pops_with_pop.rt" if has_pop else "pops_without_pop.rt")).rename(source / "pops.rt")
-    for file in source.glob("pops_with*"):
-        file.unlink()
-    return has_pop
 
 
 def lay_crate(crate, to):

@@ -63,11 +63,11 @@ def add(cells, key, calls, time, counts):
 
 
 def run_stages(cells, given, built, capacity, cache):
-    for line in answer(built, "stages", cache, str(capacity), str(given.calls)).splitlines():
+    text = answer(built, "stages", cache, str(capacity), str(given.calls))
+    text += answer(built, "reserved", cache, str(capacity))
+    for line in text.splitlines():
         stage, *words = line.split()
         calls, time, *counts = map(int, words)
-        if stage == "pop" and cache == "ours" and not built.has_pop:
-            continue
         add(cells, (stage, capacity, cache), calls, time, tuple(counts))
 
 

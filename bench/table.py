@@ -6,6 +6,7 @@ STAGES = {
     "evict": "put, evicting",
     "pop": "pop and put",
     "fill": "fill",
+    "reserved": "fill, reserved",
     "lines": "program, a line",
 }
 
@@ -35,14 +36,12 @@ def print_aligned(rows):
 
 def row(cells, stage, capacity, peers):
     """The times of a stage at a capacity, with the counts, which are the same for each cache."""
-    ours = cells.get((stage, capacity, "ours"))
+    ours = cells[stage, capacity, "ours"]
     theirs = [cells[stage, capacity, it] for it in peers]
     hits, misses, _ = theirs[0].counts
-    return [*shown(ours and ours.best(), [it.best() for it in theirs]), str(hits), str(misses)]
+    return [*shown(ours.best(), [it.best() for it in theirs]), str(hits), str(misses)]
 
 
 def shown(ours, theirs):
     """Our number, each of theirs with its ratio, and the ratio to the lowest of theirs."""
-    if ours is None:
-        return ["-", *(f"{it:.1f} (-)" for it in theirs), "-"]
     return [f"{ours:.1f}", *(f"{it:.1f} ({ours / it:.2f})" for it in theirs), f"{ours / min(theirs):.2f}"]

@@ -1,7 +1,7 @@
 -- Puts into small entry lists, worked out by hand: the definitions compute to them. A value is its own weight.
 use Rattle.std.proofs.Common.{◌≡◌, ℕ, ◌-◌, ◌^◌, ◌%◌, Bool, [], ◌∷◌, refl}
-use Rattle.std.specs.Prelude.{nat_eq}
-use Rattle.clru.specs.Entries.{touch, plain_put, weighted_put, fit, size_of}
+use Rattle.std.specs.Prelude.{nat_eq, Some, None}
+use Rattle.clru.specs.Entries.{touch, plain_put, plain_drop, weighted_put, weighted_drops, fit, size_of}
 
 abbrev pub itself : ℕ → ℕ → ℕ
 itself key value = value
@@ -24,6 +24,16 @@ plain_put_on_a_held_key = refl
 plain_put_into_a_full_list : plain_put {V = ℕ} nat_eq 2 3 30 ((2, 20) ∷ (1, 10) ∷ []) ≡ (3, 30) ∷ (2, 20) ∷ []
 plain_put_into_a_full_list = refl
 
+-- the pair that it drops is the last one, of a full list that does not hold the key
+plain_drop_of_a_full_list : plain_drop {V = ℕ} nat_eq 2 3 ((2, 20) ∷ (1, 10) ∷ []) ≡ Some (1, 10)
+plain_drop_of_a_full_list = refl
+
+plain_drop_on_a_held_key : plain_drop {V = ℕ} last_digit 2 12 ((1, 10) ∷ (2, 20) ∷ []) ≡ None
+plain_drop_on_a_held_key = refl
+
+plain_drop_of_a_free_place : plain_drop {V = ℕ} nat_eq 3 3 ((2, 20) ∷ (1, 10) ∷ []) ≡ None
+plain_drop_of_a_free_place = refl
+
 -- the longest beginning that fits ends before the first pair that does not, though a later one would
 fit_ends_at_the_first_that_does_not : fit itself 6 ((1, 2) ∷ (2, 5) ∷ (3, 0) ∷ []) ≡ (1, 2) ∷ []
 unfolding fit
@@ -33,6 +43,16 @@ fit_ends_at_the_first_that_does_not = refl
 weighted_put_on_a_held_key : weighted_put last_digit itself 8 12 3 ((2, 2) ∷ (3, 1) ∷ (4, 1) ∷ []) ≡ (12, 3) ∷ (3, 1) ∷ (4, 1) ∷ []
 unfolding fit
 weighted_put_on_a_held_key = refl
+
+-- the old pair of the key is not among those that go
+weighted_drops_on_a_held_key : weighted_drops last_digit itself 6 12 3 ((2, 2) ∷ (3, 1) ∷ (4, 1) ∷ []) ≡ (4, 1) ∷ []
+unfolding fit
+weighted_drops_on_a_held_key = refl
+
+-- they go from the back
+weighted_drops_from_the_back : weighted_drops nat_eq itself 10 2 9 ((3, 1) ∷ (1, 3) ∷ []) ≡ (1, 3) ∷ (3, 1) ∷ []
+unfolding fit
+weighted_drops_from_the_back = refl
 
 -- a heavy one drops all others
 weighted_put_of_a_heavy_pair : weighted_put nat_eq itself 10 2 6 ((1, 3) ∷ []) ≡ (2, 6) ∷ []

@@ -1,6 +1,6 @@
 -- What a look-up of the entries found, in the words of maps.
-use Rattle.std.proofs.Common.{◌≡◌, ℕ, suc, ◌+◌, ◌-◌, Bool, true, false, List, [], ◌∷◌, length, take, Some, None, is_some, slice_get, refl, sym, ap, ◌∙◌, arith}
-use Rattle.std.specs.Map.{lookup, lookup_entry, remove_entry}
+use Rattle.std.proofs.Common.{◌≡◌, ℕ, suc, ◌+◌, ◌-◌, Bool, true, false, List, [], ◌∷◌, length, take, Option, Some, None, is_some, slice_get, refl, sym, ap, ◌∙◌, arith}
+use Rattle.std.specs.Map.{lookup, lookup_entry, remove_entry, set_value}
 use Rattle.std.specs.Option.{option_map}
 use Rattle.std.proofs.lemmas.List.Sums.{sum_by-cons}
 use Rattle.clru.specs.Entries.{touch, plain_put, weight_of}
@@ -107,6 +107,11 @@ module _ {K V : Type 0} (eq : K → K → Bool) (x : K) {es : List (K × V)} whe
   pub with_front-touch : (h : IsHeld (eq x) es) → (v : V) → with_front v (touch eq x es) ≡ (h.entry.0, v) ∷ remove_entry (eq x) es
   with_front-touch h v = ap (with_front v) (touch-held h)
 
+  -- which is what is written at x, where it has come first
+  pub with_front-set_value : (h : IsHeld (eq x) es) → (v : V) → with_front v (touch eq x es) ≡ set_value (eq x) (touch eq x es) v
+  with_front-set_value h v = rw (h.looked_up, h.passes) refl
+
   -- the first value of a touched list is the one that is found
-  pub first_touched : IsHeld (eq x) es → option_map (λ (e : K × V). e.1) (slice_get (touch eq x es) 0) ≡ lookup (eq x) es
-  first_touched h = rw (h.looked_up, h.value) refl
+  pub first_touched : {fs : List (K × V)} {o : Option (K × V)} → IsHeld (eq x) es → fs ≡ touch eq x es → o ≡ slice_get fs 0
+      → option_map (λ (e : K × V). e.1) o ≡ lookup (eq x) es
+  first_touched h same first = rw (first, same, h.looked_up, h.value) refl

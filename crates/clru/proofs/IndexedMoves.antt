@@ -1,15 +1,16 @@
 -- Chains under changes of the list: a place that comes, one that goes, and one that moves or is written.
-use Rattle.std.proofs.Common.{◌≡◌, ℕ, ◌≤◌, Option, Some, None, List, ◌∷◌, length, refl, sym, ap, ◌∙◌, arith, inl, inr}
+use Rattle.std.proofs.Common.{◌≡◌, ℕ, ◌==◌, ◌≤◌, Option, Some, None, List, ◌∷◌, length, refl, sym, ap, ◌∙◌, arith, inl, inr}
 use Rattle.std.proofs.lemmas.Bool.{cases_eq, eq-eqb, ne_eqb}
+use Rattle.std.proofs.lemmas.Map.{length-set_value}
 use Rattle.std.specs.Option.{option_map, option_map_or}
-use Rattle.clru_list.specs.PlaceList.{item_at, without, with_entries, IsApart}
+use Rattle.clru_list.specs.PlaceList.{item_at, without, with_at, with_entries, IsApart}
 use Rattle.clru.specs.Chained.{nowhere, put, IsChained}
 use Rattle.clru.specs.Nodes.{link_at, key_at, home_at, IsChainedAs, IsIndexed, IsSame}
 use Rattle.clru.specs.declared.nodes.Item.{Item}
 use Rattle.clru.specs.declared.nodes.Nodes.{Nodes}
 use Rattle.clru.proofs.Chains.{put-same, put-other}
 use Rattle.clru.proofs.Chaining.{chained_same}
-use Rattle.clru.proofs.Placed.{item_at-without, length-without_held}
+use Rattle.clru.proofs.Placed.{item_at-with_at, item_at-without, length-without_held}
 
 module _ {K V : Type 0} (home : K → ℕ) {heads : ℕ → ℕ} where
   -- but for one place, which is in no chain, the items stay where they are
@@ -89,3 +90,20 @@ module _ {K V S A H : Type 0} {hash : S → K → ℕ} {x : Nodes K V S A H} whe
       indexed_from old (record { capacity = refl; placed = refl; builder = refl; places = refl; heads = refl })
       (chained_stays (home_at hash x) x.list.entries ((p, i) ∷ without p x.list.entries) (items_to_front p i x.list.entries apart held) old.chained)
       (omega (arith, length-without_held p x.list.entries i held))
+
+  -- an item that gets another value keeps it
+  pub indexed_written : (p : ℕ) (i : Item K V) (v : V) → IsIndexed hash x → item_at p x.list.entries ≡ Some i
+      → IsIndexed hash (record x { list = with_entries x.list (with_at p (record { chain = i.chain; key = i.key; value = v }) x.list.entries) })
+  indexed_written p i v old held =
+      let es = x.list.entries in let w : Item K V = record { chain = i.chain; key = i.key; value = v } in
+      indexed_from old (record { capacity = refl; placed = refl; builder = refl; places = refl; heads = refl })
+      (chained_same (home_at hash x) old.chained _ _ _ (λ h. refl)
+      (λ q k off is. elim (cases_eq p q) [
+        | inl e ↦ rw (item_at-with_at p q w es i held, eq-eqb p q e, ← e, held) refl
+        | inr n ↦ rw (item_at-with_at p q w es i held, ne_eqb p q n) refl
+      ])
+      (λ q off. elim (cases_eq p q) [
+        | inl e ↦ rw (item_at-with_at p q w es i held, eq-eqb p q e, ← e, held) refl
+        | inr n ↦ rw (item_at-with_at p q w es i held, ne_eqb p q n) refl
+      ]))
+      (omega (arith, length-set_value (λ q. p == q) es w))

@@ -4,7 +4,7 @@ use Rattle.std.proofs.lemmas.Bool.{cases_eq, eq-eqb, ne_eqb}
 use Rattle.std.proofs.Math.Seq.{take-append_seam}
 use Rattle.std.specs.List.{slice_get}
 use Rattle.std.specs.Option.{option_map}
-use Rattle.clru_list.specs.PlaceList.{item_at, without, first_place, last_entry_from, last_place, IsApart}
+use Rattle.clru_list.specs.PlaceList.{item_at, without, first_place, last_entry, last_entry_from, last_place, IsApart}
 use Rattle.clru.specs.Nodes.{pair_of, pairs_of, IsLive}
 use Rattle.clru.specs.declared.nodes.Item.{Item}
 
@@ -86,7 +86,7 @@ end_of : {X : Type 0} (x : X) (front : List X) → slice_get (front ++ x ∷ [])
 end_of x [] = refl
 end_of x (y ∷ ys) = end_of x ys
 
-last_of : {X : Type 0} (x : X) (front : List X)
+pub last_of : {X : Type 0} (x : X) (front : List X)
     → (slice_get (front ++ x ∷ []) (length (front ++ x ∷ []) - 1) ≡ Some x) × (take (length (front ++ x ∷ []) - 1) (front ++ x ∷ []) ≡ front)
 last_of x front =
     let n : length (front ++ x ∷ []) - 1 ≡ length front = omega (arith, length-append front (x ∷ [])) in
@@ -99,3 +99,22 @@ module _ {K V : Type 0} where
   last_pair {p} {es} l =
       let is : pairs_of es ≡ pairs_of l.front ++ pair_of l.item ∷ [] = ap (λ x. pairs_of x) l.split ∙ pairs_last p l.item l.front in
       rw is (last_of (pair_of l.item) (pairs_of l.front))
+
+  last_from_pair : (d : ℕ × Item K V) (es : List (ℕ × Item K V))
+      → option_map (λ (i : Item K V). pair_of i) (option_map (λ (e : ℕ × Item K V). e.1) (last_entry_from (Some d) es))
+      ≡ slice_get (pairs_of (d ∷ es)) (length (pairs_of es))
+  last_from_pair d [] = refl
+  last_from_pair d (e ∷ es) = last_from_pair e es
+
+  -- the last item has the last pair
+  pub last_item_pair : (es : List (ℕ × Item K V)) {o : Option (Item K V)} → o ≡ option_map (λ (e : ℕ × Item K V). e.1) (last_entry es)
+      → option_map (λ (i : Item K V). pair_of i) o ≡ slice_get (pairs_of es) (length (pairs_of es) - 1)
+  last_item_pair [] is = rw is refl
+  last_item_pair (e ∷ es) is = let n : length (pairs_of (e ∷ es)) - 1 ≡ length (pairs_of es) = omega arith in rw (is, n) (last_from_pair e es)
+
+  -- some list has a last item
+  pub no_last_item : (es : List (ℕ × Item K V)) → None ≡ option_map (λ (e : ℕ × Item K V). e.1) (last_entry es) → 0 < length (pairs_of es) → ⊥
+  no_last_item [] is some = omega (arith, some)
+  no_last_item (d ∷ es) is some =
+      let (front, e, split, last) = last_from d es in
+      let no : None ≡ Some e.1 = is ∙ ap (λ (o : Option (ℕ × Item K V)). option_map (λ (x : ℕ × Item K V). x.1) o) last in cc

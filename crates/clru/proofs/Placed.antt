@@ -44,6 +44,13 @@ module _ {T : Type 0} where
         ]
   ]
 
+  pub length-without : (p : ℕ) (es : List (ℕ × T)) → length (without p es) ≤ length es
+  length-without p [] = omega arith
+  length-without p (e ∷ es) = let ih = length-without p es in elim (p == e.0) as (λ b. length (cond b es (e ∷ without p es)) ≤ suc (length es)) [
+    | true ↦ omega arith
+    | false ↦ omega (arith, ih)
+  ]
+
 module _ {K V : Type 0} where
   -- the links once an item is written
   pub link_at-with_at : (p : ℕ) (w : Item K V) (es : List (ℕ × Item K V)) (i : Item K V) → item_at p es ≡ Some i
@@ -104,7 +111,7 @@ module _ {K V : Type 0} where
         | Some j ↦ λ e yes. (j, e, let back : pair_of i ≡ pair_of j = cc in back)
       ]) refl there
 
-  length-placed : (es : List (ℕ × Item K V)) → length (placed_of es) ≡ length es
+  pub length-placed : (es : List (ℕ × Item K V)) → length (placed_of es) ≡ length es
   length-placed [] = refl
   length-placed (e ∷ es) = ap suc (length-placed es)
 
@@ -127,7 +134,7 @@ module _ {K V : Type 0} where
     | Some i ↦ λ e. let no : Some (pair_of i) ≡ None = e in cc
   ]) (pair_at-placed q es ∙ none)
 
-  apart-placed : (es : List (ℕ × Item K V)) → IsApart es → IsApart (placed_of es)
+  pub apart-placed : (es : List (ℕ × Item K V)) → IsApart es → IsApart (placed_of es)
   apart-placed [] apart = apart
   apart-placed (e ∷ es) apart = (none_at-placed e.0 es apart.0, apart-placed es apart.1)
 
@@ -139,18 +146,11 @@ module _ {K V : Type 0} where
   same_apart es fs same apart = apart_from_placed fs (subst (λ l. IsApart l) same (apart-placed es apart))
 
   -- what is left, with its places, is left of the pairs
-  placed-without : (p : ℕ) (es : List (ℕ × Item K V)) → placed_of (without p es) ≡ without p (placed_of es)
+  pub placed-without : (p : ℕ) (es : List (ℕ × Item K V)) → placed_of (without p es) ≡ without p (placed_of es)
   placed-without p [] = refl
   placed-without p (e ∷ es) = elim (cases_eq p e.0) [
     | inl here ↦ rw (eq-eqb p e.0 here) refl
     | inr there ↦ rw (ne_eqb p e.0 there) (ap (λ l. (e.0, (e.1.key, e.1.value)) ∷ l) (placed-without p es))
-  ]
-
-  pub length-without : (p : ℕ) (es : List (ℕ × Item K V)) → length (without p es) ≤ length es
-  length-without p [] = omega arith
-  length-without p (e ∷ es) = let ih = length-without p es in elim (p == e.0) as (λ b. length (cond b es (e ∷ without p es)) ≤ suc (length es)) [
-    | true ↦ omega arith
-    | false ↦ omega (arith, ih)
   ]
 
   pub length-without_held : (p : ℕ) (es : List (ℕ × Item K V)) (i : Item K V) → item_at p es ≡ Some i → suc (length (without p es)) ≡ length es

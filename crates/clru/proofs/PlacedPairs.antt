@@ -7,9 +7,9 @@ use Rattle.std.specs.Cmp.{IsEquivalence}
 use Rattle.std.specs.List.{IsDistinct}
 use Rattle.std.specs.Map.{keys_of, lookup, lookup_entry, remove_entry}
 use Rattle.std.proofs.lemmas.Map.Keys.{IsDistinct-tail}
-use Rattle.clru_list.specs.PlaceList.{item_at, without, IsApart}
+use Rattle.clru_list.specs.PlaceList.{item_at, with_at, without, IsApart}
 use Rattle.clru.specs.Entries.{touch}
-use Rattle.clru.specs.Nodes.{pair_of, pairs_of, IsAt}
+use Rattle.clru.specs.Nodes.{pair_of, pairs_of, item_with, with_value, IsAt}
 use Rattle.clru.specs.declared.nodes.Item.{Item}
 
 module _ {K V : Type 0} (eq : K → K → Bool) (x : K) where
@@ -18,6 +18,7 @@ module _ {K V : Type 0} (eq : K → K → Bool) (x : K) where
     pub entry : lookup_entry (eq x) (pairs_of es) ≡ Some (item.key, item.value)
     pub value : lookup (eq x) (pairs_of es) ≡ Some item.value
     pub removed : remove_entry (eq x) (pairs_of es) ≡ pairs_of (without p es)
+    pub written : (v : V) → with_at p (item_with item v) es ≡ with_value (eq x) v es
 
   none_at : (p : ℕ) (es : List (ℕ × Item K V)) → NonePasses (eq x) (pairs_of es) → IsAt eq x p es → ⊥
   none_at p [] none at = let no = at.held in cc
@@ -42,6 +43,7 @@ module _ {K V : Type 0} (eq : K → K → Bool) (x : K) where
           entry = rw (same, is) refl;
           value = rw (same, is) refl;
           removed = rw (same, eq-eqb p e.0 here) refl;
+          written = λ v. rw (same, eq-eqb p e.0 here) (ap (λ (i : Item K V). (e.0, item_with i v) ∷ es) (sym is));
         }
     | inr there ↦
         let later : IsAt eq x p es = record { item = at.item; held = rw (ne_eqb p e.0 there) at at.held; same = at.same } in
@@ -54,6 +56,7 @@ module _ {K V : Type 0} (eq : K → K → Bool) (x : K) where
           entry = rw apart ih.entry;
           value = rw apart ih.value;
           removed = rw (apart, ne_eqb p e.0 there) (ap (λ l. (e.1.key, e.1.value) ∷ l) ih.removed);
+          written = λ v. rw (apart, ne_eqb p e.0 there) (ap (λ l. e ∷ l) (ih.written v));
         }
   ]
 

@@ -37,7 +37,7 @@ module _ {K V : Type 0} (eq : K → K → Bool) where
 
 module _ {K V : Type 0} (weight : K → V → ℕ) (none : (x : K) (v : V) → weight x v ≡ 0) where
   -- at weight zero the number of entries alone decides what fits
-  fit-weightless : (c : ℕ) (es : List (K × V)) → fit weight c es ≡ take c es
+  pub fit-weightless : (c : ℕ) (es : List (K × V)) → fit weight c es ≡ take c es
   unfolding fit
   fit-weightless zero [] = refl
   fit-weightless (suc c) [] = refl

@@ -1,12 +1,13 @@
 -- What a put does to the entries and the places.
-use Rattle.std.proofs.Common.{◌≡◌, ℕ, ◌+◌, ◌-◌, ◌<◌, ◌≤◌, Bool, true, false, List, [], ◌∷◌, length, take, None, Some, min, IsTrue, inl, inr, refl, sym, ap, ◌∙◌, arith, length-take, take_all}
+use Rattle.std.proofs.Common.{◌≡◌, ℕ, ◌+◌, ◌-◌, ◌<◌, ◌≤◌, Bool, true, false, List, [], ◌∷◌, length, take, None, Some, min, IsTrue, inl, inr, slice_get, refl, sym, ap, ◌∙◌, arith, length-take, take_all}
 use Rattle.std.specs.Cmp.{IsEquivalence}
 use Rattle.std.specs.Map.{lookup}
 use Rattle.std.proofs.lemmas.Bool.{cases_lt}
 use Rattle.std.proofs.lemmas.Map.{lookup-none, none_passes_from_lookup}
+use Rattle.std.proofs.lemmas.Option.{slice_get_past}
 use Rattle.std.proofs.lemmas.List.Sums.{sum_by-cons}
 use Rattle.clru.specs.Cache.{Cache}
-use Rattle.clru.specs.Entries.{weight_of, plain_put}
+use Rattle.clru.specs.Entries.{weight_of, plain_put, plain_drop}
 use Rattle.clru.specs.Fields.{IsKept}
 use Rattle.clru.specs.Growth.{GrowsIf}
 use Rattle.clru.specs.Memory.{GrowsOnlyIf, NeedsMemory}
@@ -96,3 +97,11 @@ module _ {K V : Type 0} (eq : K → K → Bool) where
   -- and where no entry had to go
   pub put_free : {es : List (K × V)} (c : ℕ) (x : K) (v : V) → IsMissed (eq x) es → length es < c → (x, v) ∷ es ≡ plain_put eq c x v es
   put_free {es} c x v m free = ap (λ l. (x, v) ∷ l) (sym (take_all (c - 1) es (omega arith))) ∙ sym (plain_put-missed eq x m c v)
+
+  -- the pair that goes there
+  pub drop_full : {es : List (K × V)} (c : ℕ) (x : K) → IsMissed (eq x) es → length es ≡ c → slice_get es (length es - 1) ≡ plain_drop eq c x es
+  drop_full {es} c x m full = rw m.value (ap (λ n. slice_get es (n - 1)) full)
+
+  -- and none here
+  pub drop_free : {es : List (K × V)} (c : ℕ) (x : K) → IsMissed (eq x) es → length es < c → None ≡ plain_drop eq c x es
+  drop_free {es} c x m free = rw m.value (sym (slice_get_past es (c - 1) (omega arith)))

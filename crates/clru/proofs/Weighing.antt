@@ -6,7 +6,7 @@ use Rattle.std.proofs.lemmas.Bool.{cases_lt}
 use Rattle.clru.specs.Entries.{weight_of, size_of, fit}
 use Rattle.clru.specs.Fields.{IsKept}
 use Rattle.clru.proofs.Fitting.{fit_is_longest}
-use Rattle.clru.proofs.Keeping.{IsKept-put}
+use Rattle.clru.proofs.Keeping.{IsKept-sublist, IsKept-put}
 use Rattle.clru.proofs.Putting.{lookup-sublist}
 use Rattle.clru.proofs.Sublists.{IsSublist, sublist_front, sublist_trans, length-sublist}
 
@@ -40,6 +40,15 @@ module _ {K V : Type 0} (weight : K → V → ℕ) where
       let room = c - 1 - weight x v in
       IsKept-put weight left x (x, v) laws old (sublist_trans s (sublist_fit room fs))
       (lookup-sublist (eq x) (sublist_fit room fs) absent) (laws.refl x) w (omega (arith, size_of-fit room fs))
+
+  -- what fits another capacity is kept under it
+  pub IsKept-fit : {eq : K → K → Bool} {es : List (K × V)} {kept c : ℕ} (d left : ℕ) → IsKept eq weight es kept c
+      → left ≡ weight_of weight (fit weight d es) → IsKept eq weight (fit weight d es) left d
+  IsKept-fit {es = es} d left old w = record {
+    distinct = (IsKept-sublist weight left old (sublist_fit d es) w).distinct;
+    weighs = w;
+    fits = size_of-fit d es;
+  }
 
   -- the list that the put leaves, by the room as the code has it
   pub weighted_front : {x : K} {v : V} {items rest fs : List (K × V)} (room c : ℕ) → room ≡ c - 1 - weight x v → rest ≡ fs

@@ -1,5 +1,5 @@
 -- The closure calls of put-or-modify. Public clauses cite them.
-use Rattle.std.specs.Prelude.{◌≡◌, Option, Some, None}
+use Rattle.std.specs.Prelude.{◌≡◌, Option, Some, None, Result, Ok, Err, List}
 use Rattle.std.specs.Borrow.{Bor, MutBor}
 use Rattle.std.specs.Fn.{Mut, Takes, Called}
 
@@ -38,3 +38,17 @@ module _ {P M K V T : Type 0} (p : Mut P (Bor K × (T × Unit {0})) V)
   abbrev pub PutsOrModifies : Option (K × V) → P → M → K → T → V → Type 0
   PutsOrModifies None put modify x t v = (put' : P) × CallsAtKey p put x t v put'
   PutsOrModifies (Some e) put modify x t v = (modify' : M) × CallsAtEntry m modify e.0 e.1 t tt v modify'
+
+-- the same for operations that may fail, where the one that is called succeeds or answers an error
+module _ {P M K V T E : Type 0} (p : Mut P (Bor K × (T × Unit {0})) (Result V E))
+    (m : Mut M (Bor K × (MutBor V × (T × Unit {0}))) (Result (Unit {0}) E × (MutBor V × Unit {0}))) where
+  abbrev pub TryPutsOrModifies : Option (K × V) → P → M → K → T → V → Type 0
+  TryPutsOrModifies None put modify x t v = (put' : P) × CallsAtKey p put x t (Ok v) put'
+  TryPutsOrModifies (Some e) put modify x t v = (modify' : M) × CallsAtEntry m modify e.0 e.1 t (Ok tt) v modify'
+
+  -- it answers the error f: the entries stay where that is the put operation, and else have what the modify operation wrote
+  abbrev pub FailsToPutOrModify : Option (K × V) → P → M → K → T → E → (before : List (K × V)) → (V → List (K × V)) → (after : List (K × V)) → Type 0
+  FailsToPutOrModify None put modify x t f before written after =
+      ((put' : P) × CallsAtKey p put x t (Err f) put') × (after ≡ before)
+  FailsToPutOrModify (Some e) put modify x t f before written after =
+      (v : V) × (modify' : M) × CallsAtEntry m modify e.0 e.1 t (Err f) v modify' × (after ≡ written v)

@@ -1,9 +1,9 @@
 -- Entry lists: pairs of a key and a value, the most recently used first, the keys pairwise not the same. Public clauses cite
 -- them.
-use Rattle.std.specs.Prelude.{◌≡◌, ℕ, ◌+◌, ◌-◌, ◌≤◌, nat_le, Bool, cond, List, [], ◌∷◌, ◌++◌, length, take}
+use Rattle.std.specs.Prelude.{◌≡◌, ℕ, zero, suc, ◌+◌, ◌-◌, ◌≤◌, nat_le, Bool, cond, Option, None, is_some, List, [], ◌∷◌, ◌++◌, length, take, drop, reverse, slice_get}
 use Rattle.std.specs.List.{sum_by}
 use Rattle.std.specs.Option.{option_map_or}
-use Rattle.std.specs.Map.{lookup_entry, remove_entry}
+use Rattle.std.specs.Map.{lookup, lookup_entry, remove_entry}
 
 module _ {K V : Type 0} where
   module _ (eq : K → K → Bool) where
@@ -19,6 +19,16 @@ module _ {K V : Type 0} where
     abbrev pub plain_put : ℕ → K → V → List (K × V) → List (K × V)
     plain_put c x v es = option_map_or (λ e. (e.0, v) ∷ without x es) (lookup_entry (eq x) es) ((x, v) ∷ take (c - 1) es)
 
+    -- the pair that a plain put of x drops: the last one, where x is not held and the list has c pairs
+    abbrev pub plain_drop : ℕ → K → List (K × V) → Option (K × V)
+    plain_drop c x es = cond (is_some (lookup (eq x) es)) None (slice_get es (c - 1))
+
+  -- the pairs with another value at a place, which is counted from 0
+  abbrev pub with_value_at : ℕ → V → List (K × V) → List (K × V)
+  with_value_at i v [] = []
+  with_value_at zero v (e ∷ es) = (e.0, v) ∷ es
+  with_value_at (suc i) v (e ∷ es) = e ∷ with_value_at i v es
+
   module _ (weight : K → V → ℕ) where
     -- the sum of the pairs' weights
     abbrev pub weight_of : List (K × V) → ℕ
@@ -33,6 +43,10 @@ module _ {K V : Type 0} where
     fit c [] = []
     fit c (e ∷ es) = cond (nat_le (1 + weight e.0 e.1) c) (e ∷ fit (c - (1 + weight e.0 e.1)) es) []
 
+    -- what comes after it
+    abbrev pub past_fit : ℕ → List (K × V) → List (K × V)
+    past_fit c es = drop (length (fit c es)) es
+
     -- p is a beginning of the list, its size is at most c, and no longer one has that
     pub record IsLongestFit (c : ℕ) (es p : List (K × V)) : Type 0 where
       pub rest : List (K × V)
@@ -43,3 +57,7 @@ module _ {K V : Type 0} where
   -- a weighted put under the capacity c: the new pair with the new key, before what of the others fits beside it
   abbrev pub weighted_put : (K → K → Bool) → (K → V → ℕ) → ℕ → K → V → List (K × V) → List (K × V)
   weighted_put eq weight c x v es = (x, v) ∷ fit weight (c - 1 - weight x v) (without eq x es)
+
+  -- the pairs that it drops, the last one first
+  abbrev pub weighted_drops : (K → K → Bool) → (K → V → ℕ) → ℕ → K → V → List (K × V) → List (K × V)
+  weighted_drops eq weight c x v es = reverse (past_fit weight (c - 1 - weight x v) (without eq x es))

@@ -1,10 +1,16 @@
 -- The statements of the laws. Public clauses cite them.
-use Rattle.std.specs.Prelude.{◌≡◌, ◌↔◌, ℕ, ◌≤◌, Bool, true, false, not, Some, List, [], ◌∷◌, ◌++◌, length, reverse}
+use Rattle.std.specs.Prelude.{◌≡◌, ◌↔◌, ℕ, ◌≤◌, Bool, true, false, not, Option, Some, List, [], ◌∷◌, ◌++◌, length, reverse}
+use Rattle.std.specs.Fn.{Mut}
 use Rattle.std.specs.List.{slice_get, count_by}
+use Rattle.std.specs.Map.{lookup}
+use Rattle.std.specs.Option.{option_to_list}
 use Rattle.clru.specs.ByPlace.{IsCountOf, IsFirstAt, IsHitAt, IsScheduleAt, IsScheduleMissAt}
-use Rattle.clru.specs.Entries.{fit, IsLongestFit}
+use Rattle.clru.specs.Cache.{Cache, IsValid}
+use Rattle.clru.specs.Drops.{HandsOutTo}
+use Rattle.clru.specs.Entries.{fit, IsLongestFit, plain_drop, weighted_drops}
 use Rattle.clru.specs.Requests.{distinct, marks, misses}
 use Rattle.clru.specs.Runs.{Call, after_all, AreTaken, IsPutRun, held_before}
+use Rattle.clru.specs.declared.cache.answer.Put.{Put}
 use Rattle.clru.specs.Schedule.{IsSchedule, schedule_marks, schedule_misses, IsCompetitive, IsCompetitiveFromAnyStart}
 
 module _ {K : Type 0} (eq : K → K → Bool) where
@@ -77,3 +83,25 @@ module _ {K : Type 0} (eq : K → K → Bool) (V : Type 0) where
   abbrev pub PutsCompeteFromAnyStart : Type 0
   PutsCompeteFromAnyStart = (k : ℕ) (requests : List K) (later : List (List (K × V))) → 1 ≤ k → IsPutRun eq k ([] ∷ later) requests
       → IsCompetitiveFromAnyStart eq k requests (count_by not (held_before eq ([] ∷ later) requests))
+
+module _ {K V F : Type 0} (eq : K → K → Bool) (g : Mut F (K × (V × Unit {0})) (Unit {0})) where
+  -- what the contracts tell of a plain put and a weighted put at weight zero, of one pair into one cache, where both are taken:
+  -- the plain one answers `put`, the weighted one answers `old` and leaves the closure f as f'
+  pub record IsPutBothWays {W : Type 0} (weight : K → V → ℕ) (c : Cache K V W) (x : K) (v : V) (put : Put K V) (f : F) (old : Option V) (f' : F) : Type 0 where
+    pub weightless : (y : K) (w : V) → weight y w ≡ 0
+    pub valid : IsValid eq weight c
+    pub replaced : put.replaced ≡ lookup (eq x) c.entries
+    pub dropped : put.dropped ≡ plain_drop eq c.capacity x c.entries
+    pub answer : old ≡ lookup (eq x) c.entries
+    pub handed_out : HandsOutTo g f (weighted_drops eq weight c.capacity x v c.entries) f'
+
+  module _ (W : Type 0) where
+    -- what the plain put replaced is what the weighted put answers
+    abbrev pub ReplacedIsAnswered : Type 0
+    ReplacedIsAnswered = (weight : K → V → ℕ) (c : Cache K V W) (x : K) (v : V) (put : Put K V) (f : F) (old : Option V) (f' : F)
+        → IsPutBothWays weight c x v put f old f' → put.replaced ≡ old
+
+    -- the weighted put calls the closure exactly on the pair that the plain put answers as dropped
+    abbrev pub DroppedIsHandedOut : Type 0
+    DroppedIsHandedOut = (weight : K → V → ℕ) (c : Cache K V W) (x : K) (v : V) (put : Put K V) (f : F) (old : Option V) (f' : F)
+        → IsPutBothWays weight c x v put f old f' → HandsOutTo g f (option_to_list put.dropped) f'

@@ -1,7 +1,8 @@
 -- What a cache ends as, once a reference into it has ended. Public clauses cite it.
-use Rattle.std.specs.Prelude.{◌≡◌, List, Result, ⊤}
-use Rattle.std.specs.Borrow.{Fml, RattleType, MutBor, LendsSoOk, follows_so}
+use Rattle.std.specs.Prelude.{◌≡◌, List, Option, Result, IfErr, ⊤}
+use Rattle.std.specs.Borrow.{Fml, RattleType, MutBor, LendsIf, LendsSoOk, follows_so}
 use Rattle.std.specs.HashMap.Lent.{HashMembers}
+use Rattle.std.specs.Map.{set_value}
 use Rattle.std.specs.declared.alloc.Allocator as alloc
 use Rattle.std.specs.declared.hash.Hasher as hasher
 use Rattle.std.specs.declared.hash.BuildHasher as builder
@@ -23,6 +24,10 @@ module _ (K V S W A H : RattleType) (key : HashMembers K.Denot) (build : builder
     abbrev pub ends_with : List (K.Denot × V.Denot) → Fml
     ends_with es = follows_so cache_row cache_row c.ghost_name none (λ _ _. ⊤) (λ n. n ≡ with_entries c.now es)
 
+    -- it has the entries es with the last value written through r at x, and at `None` the entries es as they are
+    abbrev pub lends_value : K.Denot → List (K.Denot × V.Denot) → Option (MutBor V.Denot) → Fml
+    lends_value x es r = LendsIf cache_row V c r (λ w. with_entries c.now (set_value (key.eq x) es w)) (with_entries c.now es)
+
     -- it has in front, at x, the last value written through r, as after a plain put, and at `Err` its entries stay; its
     -- places grow only if x needs one
     abbrev pub lends_put : {E : Type 0} → K.Denot → Result (MutBor V.Denot) E → Fml
@@ -30,3 +35,10 @@ module _ (K V S W A H : RattleType) (key : HashMembers K.Denot) (build : builder
         (λ n w. (n.entries ≡ plain_put key.eq c.now.capacity x w c.now.entries)
         × GrowsOnlyIf (NeedsPlace key.eq c.now x) c.now n)
         (λ n. (n.entries ≡ c.now.entries) × GrowsOnlyIf (NeedsPlace key.eq c.now x) c.now n)
+
+    -- the same, where its entries are of `es` at `Err`
+    abbrev pub lends_try : {E : Type 0} → K.Denot → Result (MutBor V.Denot) E → (E → List (K.Denot × V.Denot) → Type 0) → Fml
+    lends_try x r es = LendsSoOk cache_row V c r
+        (λ n w. (n.entries ≡ plain_put key.eq c.now.capacity x w c.now.entries)
+        × GrowsOnlyIf (NeedsPlace key.eq c.now x) c.now n)
+        (λ n. IfErr r (λ e. es e n.entries) × GrowsOnlyIf (NeedsPlace key.eq c.now x) c.now n)

@@ -2,9 +2,15 @@ pub mod ByPlace
 pub mod Cache
 pub mod Chained
 pub mod Closures
+pub mod Collecting
+pub mod Config
+pub mod Drops
 pub mod Entries
+pub mod Errors
 pub mod Fields
 pub mod Growth
+pub mod GuardLends
+pub mod Guards
 pub mod Laws
 pub mod Lends
 pub mod Memory
@@ -12,5 +18,8 @@ pub mod Nodes
 pub mod NodesLends
 pub mod Refusals
 pub mod Requests
+pub mod Retains
 pub mod Runs
 pub mod Schedule
+pub mod WalkLends
+pub mod Walks

@@ -1,5 +1,5 @@
 -- What the list, the heads and the links of a cache's nodes keep together. No public clause cites this file.
-use Rattle.std.specs.Prelude.{◌≡◌, ℕ, ◌-◌, ◌<◌, ◌≤◌, Bool, true, Option, Some, None, List, [], ◌∷◌, map, length, slice_index_or, bit_and}
+use Rattle.std.specs.Prelude.{◌≡◌, ℕ, zero, suc, ◌-◌, ◌<◌, ◌≤◌, Bool, true, cond, Option, Some, None, List, [], ◌∷◌, map, length, slice_index_or, bit_and}
 use Rattle.std.specs.List.{fold}
 use Rattle.std.specs.Option.{option_map, option_map_or}
 use Rattle.clru_list.specs.PlaceList.{item_at}
@@ -32,6 +32,15 @@ module _ {K V : Type 0} where
   with_front v [] = []
   with_front v (e ∷ es) = (e.0, v) ∷ es
 
+  -- the item with another value
+  abbrev pub item_with : Item K V → V → Item K V
+  item_with i v = record { chain = i.chain; key = i.key; value = v }
+
+  -- the items with another value at the first key that passes
+  abbrev pub with_value : (K → Bool) → V → List (ℕ × Item K V) → List (ℕ × Item K V)
+  with_value test v [] = []
+  with_value test v (e ∷ es) = cond (test e.1.key) ((e.0, item_with e.1 v) ∷ es) (e ∷ with_value test v es)
+
   abbrev pub link_at : List (ℕ × Item K V) → ℕ → ℕ
   link_at es q = option_map_or (λ i. i.chain) (item_at q es) nowhere
 
@@ -51,6 +60,12 @@ module _ {K V : Type 0} where
     pub item : Item K V
     pub held : item_at p es ≡ Some item
     pub same : eq x item.key ≡ true
+
+-- the entries with another item at a number
+abbrev pub with_item_at : {X : Type 0} → ℕ → X → List (ℕ × X) → List (ℕ × X)
+with_item_at k x [] = []
+with_item_at zero x (e ∷ es) = (e.0, x) ∷ es
+with_item_at (suc k) x (e ∷ es) = e ∷ with_item_at k x es
 
 -- the first place of a head's chain
 abbrev pub head_at : List ℕ → ℕ → ℕ

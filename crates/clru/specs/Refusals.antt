@@ -1,7 +1,9 @@
--- The refusals of a weighted put. Public clauses cite it.
+-- The refusals of a weighted put, and of a put whose closures may fail. Public clauses cite it.
 use Rattle.std.specs.Prelude.{Result, Ok, Err, ⊤}
 use Rattle.clru.specs.declared.error.PutError.{PutError}
 use Rattle.clru.specs.declared.error.PutError.TheVariants.{TooHeavy, NoMemory}
+use Rattle.clru.specs.declared.error.TryPutError.{TryPutError}
+use Rattle.clru.specs.declared.error.TryPutError.TheVariants as try
 
 module _ {K V : Type 0} where
   -- the pair that a refusal hands back
@@ -19,3 +21,14 @@ module _ {K V : Type 0} where
     WantsMemory (Ok value) = ⊥
     WantsMemory (Err (TooHeavy x v)) = ⊥
     WantsMemory (Err (NoMemory x v)) = ⊤
+
+module _ {K T E : Type 0} where
+  -- P of the key and the data, where memory was refused
+  abbrev pub IfNoMemory : TryPutError K T E → (K × T → Type 0) → Type 0
+  IfNoMemory (try.NoMemory x t) P = P (x, t)
+  IfNoMemory (try.Failed f) P = ⊤
+
+  -- P where memory was refused, and Q of the error of a closure
+  abbrev pub MatchTryPutError : TryPutError K T E → Type 0 → (E → Type 0) → Type 0
+  MatchTryPutError (try.NoMemory x t) P Q = P
+  MatchTryPutError (try.Failed f) P Q = Q f

@@ -4,21 +4,46 @@ ghost use Rattle.std.specs.Prelude.{◌≡◌, ◌+◌, ◌↔◌, [], length, I
 ghost use Rattle.clru.specs.Cache.{IsValid};
 ghost use Rattle.clru.specs.Entries.{size_of, weight_of};
 
+mod answer;
+mod ends;
+mod extend;
 mod get;
 mod modify;
 mod new;
 mod put;
 mod remove;
+mod resize;
+mod retain;
+mod walk;
 
 use crate::hasher::DefaultState;
 use crate::nodes::Nodes;
 use crate::weight::{WeightScale, ZeroWeightScale};
+pub use answer::Put;
 use std::alloc::{Allocator, Global};
 use std::hash::{BuildHasher, Hash};
 use std::marker::Model;
 use std::num::NonZeroUsize;
 
 /// A weighted LRU cache: the number of its entries and their total weight never pass the capacity together.
+///
+/// A cache of pages:
+///
+/// ```rust
+/// pub fn remember(
+///     sizes: &mut CLruCache<u64, u64>,
+///     page: u64,
+///     size: u64,
+/// ) -> Result<Option<(u64, u64)>, (u64, u64)>
+///     ensures stored { OnOk result (lookup (nat_eq page) sizes.new.entries ≡ Some size) }
+///     ensures kept { OnErr result (sizes.new.entries ≡ sizes.old.entries) }
+/// {
+///     match sizes.put(page, size) {
+///         Ok(put) => Ok(put.dropped),
+///         Err(pair) => Err(pair),
+///     }
+/// }
+/// ```
 #[derive(Drop)]
 pub struct CLruCache<
     K: Eq + Hash,

@@ -1,9 +1,19 @@
 //! What a call that may want memory answers in place of a result.
+ghost use Rattle.std.specs.Prelude.{Some};
+ghost use Rattle.clru.specs.Errors.{put_error_debug, put_error_text, try_put_error_debug, try_put_error_text};
 
 pub use clru_list::NoMemory;
+use std::error::Error;
+use std::fmt;
 
 /// Why a weighted put was refused. The pair comes back, and no entry has changed.
-#[derive(Debug, Drop, PartialEq, Eq)]
+///
+/// It is an error, which `?` passes up:
+///
+/// ```rust
+/// sizes.put_with_weight(page, size, |_, _| {})?;
+/// ```
+#[derive(Drop, PartialEq, Eq)]
 pub enum PutError<K, V> {
     /// The pair weighs as much as the capacity, or more.
     TooHeavy(K, V),
@@ -11,3 +21,62 @@ pub enum PutError<K, V> {
     /// Memory for one more entry was refused.
     NoMemory(K, V),
 }
+
+// No key and no value is printed, so that each type of them makes an error.
+impl<K, V> fmt::Debug for PutError<K, V> {
+    ghost debug_output = { λ e. Some (put_error_debug e) };
+
+    fn fmt<W: fmt::Write>(&self, f: &mut fmt::Formatter<W>) -> fmt::Result {
+        match self {
+            PutError::TooHeavy(..) => f.write_str("TooHeavy(..)"),
+            PutError::NoMemory(..) => f.write_str("NoMemory(..)"),
+        }
+    }
+}
+
+impl<K, V> fmt::Display for PutError<K, V> {
+    ghost output = { λ e. Some (put_error_text e) };
+
+    fn fmt<W: fmt::Write>(&self, f: &mut fmt::Formatter<W>) -> fmt::Result {
+        match self {
+            PutError::TooHeavy(..) => f.write_str("the pair is too heavy for the cache"),
+            PutError::NoMemory(..) => f.write_str("out of memory"),
+        }
+    }
+}
+
+impl<K: Drop, V: Drop> Error for PutError<K, V> {}
+
+/// Why a put was refused whose closures may fail.
+#[derive(Drop, PartialEq, Eq)]
+pub enum TryPutError<K, T, E> {
+    /// Memory for one more entry was refused. Key and data come back, no closure was called, and no entry has changed.
+    NoMemory(K, T),
+
+    /// The closure that was called answered this error.
+    Failed(E),
+}
+
+impl<K, T, E> fmt::Debug for TryPutError<K, T, E> {
+    ghost debug_output = { λ e. Some (try_put_error_debug e) };
+
+    fn fmt<W: fmt::Write>(&self, f: &mut fmt::Formatter<W>) -> fmt::Result {
+        match self {
+            TryPutError::NoMemory(..) => f.write_str("NoMemory(..)"),
+            TryPutError::Failed(_) => f.write_str("Failed(..)"),
+        }
+    }
+}
+
+impl<K, T, E> fmt::Display for TryPutError<K, T, E> {
+    ghost output = { λ e. Some (try_put_error_text e) };
+
+    fn fmt<W: fmt::Write>(&self, f: &mut fmt::Formatter<W>) -> fmt::Result {
+        match self {
+            TryPutError::NoMemory(..) => f.write_str("out of memory"),
+            TryPutError::Failed(_) => f.write_str("the closure failed"),
+        }
+    }
+}
+
+impl<K: Drop, T: Drop, E: Drop> Error for TryPutError<K, T, E> {}

@@ -6,6 +6,17 @@ use std::hash::{BuildHasher, FoldHasher};
 /// Builds std's `FoldHasher` with its fixed seed, so that each run of a program hashes alike.
 ///
 /// For keys that an attacker picks, give a maker that takes a hash builder a `RandomState`.
+///
+/// ```rust
+/// pub fn for_keys_of_others(
+///     rt: &impl RandomSource,
+///     alloc: Global,
+///     capacity: NonZeroUsize,
+/// ) -> io::Result<CLruCache<u64, u64, RandomState>> {
+///     let seed = RandomState::new(rt)?;
+///     Ok(CLruCache::with_hasher(alloc, capacity, seed))
+/// }
+/// ```
 #[derive(Clone, Copy, Default)]
 pub struct DefaultState;
 

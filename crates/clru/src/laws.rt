@@ -5,6 +5,7 @@ ghost use Rattle.clru.specs.Laws.{HitsGrow, MissesFall};
 ghost use Rattle.clru.specs.Laws.{LesserBeginsGreater};
 ghost use Rattle.clru.specs.Laws.{PutsHit, PutsCompete, PutsCompeteFromAnyStart};
 ghost use Rattle.clru.specs.Laws.{FitIsLongest, OnlyFitIsLongest};
+ghost use Rattle.clru.specs.Laws.{ReplacedIsAnswered, DroppedIsHandedOut};
 
 /// Does nothing at run time. Its contract says that the hits, misses and numbers of distinct keys that the other contracts
 /// cite, which are defined by computing, are those that a sentence about places describes.
@@ -55,4 +56,13 @@ pub fn law_requests<K: Eq, V>()
 pub fn law_longest_fit<K, V>()
     ensures longest { FitIsLongest K V }
     ensures only { OnlyFitIsLongest K V }
+{}
+
+/// Does nothing at run time. Its contract says how the two puts of a pair compare at weight zero: what a plain put replaced is
+/// what a weighted put into the same cache answers, and `on_drop` is called exactly on what the plain put dropped.
+///
+/// Neither of the two is refused.
+pub fn law_dropped<K: Eq, V, W, F: FnMut(K, V)>()
+    ensures replaced { ReplacedIsAnswered K.eq F.FnMut W }
+    ensures dropped { DroppedIsHandedOut K.eq F.FnMut W }
 {}

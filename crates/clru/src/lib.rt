@@ -12,19 +12,28 @@
 #![tactic(auto)]
 
 mod cache;
+mod config;
+mod entry;
 mod error;
 mod hasher;
+mod iter;
 mod laws;
 mod nodes;
 mod replays;
 mod shrink;
 mod weight;
 
-pub use cache::CLruCache;
-pub use error::{NoMemory, PutError};
+pub use cache::{CLruCache, Put};
+pub use config::CLruCacheConfig;
+pub use entry::EntryMut;
+pub use error::{NoMemory, PutError, TryPutError};
 pub use hasher::DefaultState;
+pub use iter::CLruCacheIter;
+pub use iter::cursor::CLruCacheIterMut;
+pub use iter::owned::CLruCacheIntoIter;
 pub use laws::{
-    law_by_place, law_growth, law_inclusion, law_longest_fit, law_requests, law_schedules_by_place,
+    law_by_place, law_dropped, law_growth, law_inclusion, law_longest_fit, law_requests,
+    law_schedules_by_place,
 };
 pub use replays::{Replay, replay};
 pub use std::num::NonZeroUsize;

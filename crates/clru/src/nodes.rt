@@ -2,21 +2,25 @@
 //!
 //! Each key has a head, which its hash picks, and the places of the keys of one head are linked to a chain. The clauses
 //! below this module name places, heads and links; those that the cache calls speak of the pairs alone.
-ghost use Rattle.std.specs.Prelude.{◌≡◌, min, length, None, IfOk, IsOk, IfSome, IfNone, option_copied};
+ghost use Rattle.std.specs.Prelude.{◌≡◌, ◌<◌, ◌^◌, min, length, None, IfOk, IfErr, IsOk, OnOk, IfSome, IfNone, option_copied};
 ghost use Rattle.std.specs.List.{IsDistinct};
 ghost use Rattle.std.specs.Map.{keys_of, lookup, lookup_entry};
 ghost use Rattle.clru_list.specs.PlaceList.{IsValid};
 ghost use Rattle.clru.specs.Nodes.{hash_by, pairs_of, key_at, IsAt, IsChainedAs, IsIndexed, IsEmpty};
 
 use crate::nodes::growth::{empty_heads, heads_for};
-use clru_list::{FixedSizeList, NoMemory};
+use clru_list::FixedSizeList;
 use std::alloc::Allocator;
 use std::hash::{BuildHasher, Hash};
 
 mod chains;
+mod clear;
 mod front;
 mod growth;
 mod moves;
+mod resize;
+mod retain;
+mod walk;
 
 /// A pair, with the next place of its chain.
 #[derive(Drop)]
@@ -51,27 +55,32 @@ impl<K: Eq + Hash, V, S: BuildHasher, A: Allocator + Copy> Nodes<K, V, S, A> {
         }
     }
 
-    /// Creates nodes for at most `capacity` pairs, with memory for `reserve`, or for `capacity` where that is less.
+    /// Creates nodes for at most `capacity` pairs, with memory for `reserve`, or for `capacity` where that is less. Where
+    /// memory is refused, the hash builder comes back.
     pub(crate) fn with_memory(
         alloc: A,
         capacity: usize,
         hash_builder: S,
         reserve: usize,
-    ) -> Result<Self, NoMemory>
-    where
-        S: Drop,
+    ) -> Result<Self, S>
         ensures empty { IfOk result (λ x. IsEmpty capacity (min reserve capacity) x) }
         ensures indexed { let hash = hash_by S.Hasher.finish S.Hasher.write S.build_hasher K.hash_input in
             IfOk result (λ x. IsIndexed hash x) }
+        ensures given_back { IfErr result (λ back. back ≡ hash_builder) }
         ensures never_refused { min reserve capacity ≡ 0 → IsOk result }
+        ensures countable { OnOk result (min reserve capacity < 2 ^ 63) }
     {
         let places = reserve.min(capacity);
         let Some(size) = heads_for(places) else {
-            return Err(NoMemory);
+            return Err(hash_builder);
         };
-        let heads = empty_heads(alloc, size)?;
+        let Ok(heads) = empty_heads(alloc, size) else {
+            return Err(hash_builder);
+        };
         // Last, since a list may be let go only where its items may.
-        let list = FixedSizeList::with_memory(alloc, capacity, places)?;
+        let Ok(list) = FixedSizeList::with_memory(alloc, capacity, places) else {
+            return Err(hash_builder);
+        };
         Ok(Nodes {
             list,
             heads,

@@ -11,6 +11,7 @@ ghost use Rattle.clru.specs.Requests.{marks, misses};
 mod answer;
 
 use crate::cache::CLruCache;
+use crate::config::CLruCacheConfig;
 use crate::weight::ZeroWeightScale;
 pub use answer::Replay;
 use std::alloc::Allocator;
@@ -28,6 +29,22 @@ use std::num::NonZeroUsize;
 /// marks. Where either is refused, the keys come back as they were, and nothing else can be refused. Without keys no memory
 /// is asked for. Each request costs a look-up, and a miss at most one more of the key that goes. Keys are hashed with
 /// `hash_builder`.
+///
+/// A choice of a capacity looks at the misses:
+///
+/// ```rust
+/// pub fn misses_at(
+///     alloc: Global,
+///     capacity: NonZeroUsize,
+///     requests: &[u64],
+/// ) -> Result<usize, AllocError> {
+///     let keys = Vec::from_slice(alloc, requests)?;
+///     match replay(alloc, capacity, keys, DefaultState) {
+///         Ok(answer) => Ok(answer.misses),
+///         Err(_) => Err(AllocError),
+///     }
+/// }
+/// ```
 pub fn replay<K: Eq + Hash + Drop, S: BuildHasher + Drop, A: Allocator + Copy>(
     alloc: A,
     capacity: NonZeroUsize,
@@ -41,7 +58,10 @@ pub fn replay<K: Eq + Hash + Drop, S: BuildHasher + Drop, A: Allocator + Copy>(
     ensures given_back { IfErr result (λ left. left.items ≡ keys.items) }
     ensures never_refused { keys.items ≡ [] → IsOk result }
 {
-    let Ok(mut cache) = CLruCache::with_places(alloc, capacity, hash_builder, keys.len()) else {
+    let config = CLruCacheConfig::new(capacity)
+        .with_hasher(hash_builder)
+        .with_memory(keys.len());
+    let Ok(mut cache) = CLruCache::with_config(alloc, config) else {
         return Err(keys);
     };
     let Ok(mut marks) = Vec::with_capacity(alloc, keys.len()) else {

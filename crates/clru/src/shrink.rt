@@ -1,6 +1,7 @@
 //! Dropping the pairs that don't fit.
-ghost use Rattle.std.specs.Prelude.{◌≡◌, ◌<◌, ◌^◌};
-ghost use Rattle.clru.specs.Entries.{fit, weight_of, size_of};
+ghost use Rattle.std.specs.Prelude.{◌≡◌, ◌<◌, ◌^◌, reverse};
+ghost use Rattle.clru.specs.Drops.{HandsOutTo, TakesEach};
+ghost use Rattle.clru.specs.Entries.{fit, past_fit, weight_of, size_of};
 ghost use Rattle.clru.specs.Nodes.{hash_by, pairs_of, IsIndexed, IsSame};
 
 use crate::nodes::Nodes;
@@ -24,9 +25,35 @@ pub(crate) fn shrink_to<
     ensures indexed { let hash = hash_by S.Hasher.finish S.Hasher.write S.build_hasher K.hash_input in IsIndexed hash nodes.new }
     ensures same { IsSame nodes.old nodes.new }
 {
+    shrink_handing_to(nodes, total_weight, scale, room, &mut |_, _| {});
+}
+
+/// Takes pairs from the back, until the number of pairs and their weight are at most `room`, and hands each of them out.
+pub(crate) fn shrink_handing_to<
+    K: Eq + Hash,
+    V,
+    S: BuildHasher,
+    W: WeightScale<K, V>,
+    A: Allocator + Copy,
+    F: FnMut(K, V),
+>(nodes: &mut Nodes<K, V, S, A>, total_weight: &mut usize, scale: &W, room: usize, on_drop: &mut F)
+    requires indexed { let hash = hash_by S.Hasher.finish S.Hasher.write S.build_hasher K.hash_input in IsIndexed hash nodes.old }
+    requires weighs { total_weight.old ≡ weight_of (W.weight scale.now) (pairs_of nodes.old.list.entries) }
+    requires small { size_of (W.weight scale.now) (pairs_of nodes.old.list.entries) < 2 ^ 64 }
+    requires callable { TakesEach F.FnMut on_drop.old (reverse (past_fit (W.weight scale.now) room (pairs_of nodes.old.list.entries))) }
+    ensures pairs { pairs_of nodes.new.list.entries ≡ fit (W.weight scale.now) room (pairs_of nodes.old.list.entries) }
+    ensures weighs { total_weight.new ≡ weight_of (W.weight scale.now) (pairs_of nodes.new.list.entries) }
+    ensures indexed { let hash = hash_by S.Hasher.finish S.Hasher.write S.build_hasher K.hash_input in IsIndexed hash nodes.new }
+    ensures same { IsSame nodes.old nodes.new }
+    ensures handed_out { let gone = reverse (past_fit (W.weight scale.now) room (pairs_of nodes.old.list.entries)) in
+        HandsOutTo F.FnMut on_drop.old gone on_drop.new }
+{
     while nodes.len() + *total_weight > room {
         match nodes.pop_back() {
-            Some((key, value)) => *total_weight -= scale.weight(&key, &value),
+            Some((key, value)) => {
+                *total_weight -= scale.weight(&key, &value);
+                on_drop(key, value);
+            }
             None => unreachable!(),
         }
     }

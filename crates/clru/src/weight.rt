@@ -2,6 +2,21 @@
 ghost use Rattle.std.specs.Prelude.{◌≡◌, ℕ};
 
 /// A scale of key and value pairs.
+///
+/// A scale by length:
+///
+/// ```rust
+/// #[derive(Clone, Copy, Drop)]
+/// pub struct ByLength;
+///
+/// impl<K> WeightScale<K, Vec<u8>> for ByLength {
+///     ghost weight = { λ _ _ bytes. length bytes.items };
+///
+///     fn weight(&self, _key: &K, bytes: &Vec<u8>) -> usize {
+///         bytes.len()
+///     }
+/// }
+/// ```
 pub trait WeightScale<K, V> {
     // A function of the scale, the key and the value: what a pair weighs does not change while it is held.
     ghost weight: { Self → K → V → ℕ };

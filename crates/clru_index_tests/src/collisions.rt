@@ -1,10 +1,13 @@
 //! Keys whose hashes are all alike: each answer is that of a cache whose hashes differ.
 
 use crate::builders::CONSTANTS;
-use crate::calls::Call::{self, Contains, Get, Peek, PopFront, Put, PutOrModify, PutWithWeight};
+use crate::calls::Call::{
+    self, Clear, Contains, Get, Peek, Pop, PopBack, PopFront, Put, PutOrModify, PutWithWeight,
+    Resize, Retain, RetainMut,
+};
 use crate::calls::{answer, room};
 use clru::{CLruCache, DefaultState, replay};
-use std::alloc::Global;
+use std::alloc::{AllocError, Global};
 use std::fmt::Debug;
 use std::hash::Hash;
 use std::process::Abort;
@@ -64,9 +67,9 @@ fn puts_and_reads_answer_alike(rt: HostRuntime) -> Result<(), Fail> {
     Ok(())
 }
 
-#[test]
-fn test_pop_front(rt: HostRuntime) -> Result<(), Fail> {
-    let mut calls = Vec::new(rt.alloc());
+/// Puts 225 keys, and gets some of them.
+fn two_hundred(alloc: Global) -> Result<Vec<Call<u32, char>>, AllocError> {
+    let mut calls = Vec::new(alloc);
     for (letter, first) in [('A', 0), ('B', 100), ('C', 200)] {
         for n in 0..75u32 {
             calls.push(Put(first + n, letter))?;
@@ -76,10 +79,73 @@ fn test_pop_front(rt: HostRuntime) -> Result<(), Fail> {
         calls.push(Get(key))?;
     }
     calls.push(Get(25))?;
+    Ok(calls)
+}
+
+#[test]
+fn test_pop_front(rt: HostRuntime) -> Result<(), Fail> {
+    let mut calls = two_hundred(rt.alloc())?;
     for _ in 0..200u32 {
         calls.push(PopFront)?;
     }
     answers_alike(&rt, rt.alloc(), 200, calls.as_slice())
+}
+
+#[test]
+fn test_pop_back(rt: HostRuntime) -> Result<(), Fail> {
+    let mut calls = two_hundred(rt.alloc())?;
+    for _ in 0..201u32 {
+        calls.push(PopBack)?;
+    }
+    answers_alike(&rt, rt.alloc(), 200, calls.as_slice())
+}
+
+static REMOVALS: [Call<&'static str, u32>; 20] = [
+    Put("a", 1),
+    Put("b", 2),
+    Put("c", 3),
+    Put("d", 4),
+    Put("e", 5),
+    Pop("c"),
+    Pop("c"),
+    Put("f", 6),
+    Get("d"),
+    Retain("b"),
+    PopBack,
+    PutWithWeight("g", 7),
+    RetainMut("f", 9),
+    Peek("g"),
+    Contains("f"),
+    Put("f", 10),
+    Clear,
+    Put("a", 11),
+    Put("h", 12),
+    Contains("g"),
+];
+
+#[test]
+fn removals_answer_alike(rt: HostRuntime) -> Result<(), Fail> {
+    for capacity in 1..6 {
+        answers_alike(&rt, rt.alloc(), capacity, REMOVALS.as_slice())?;
+    }
+    Ok(())
+}
+
+#[test]
+fn resizes_after_freed_places_answer_alike(rt: HostRuntime) -> Result<(), Fail> {
+    let mut calls = Vec::new(rt.alloc());
+    for key in 1..5u32 {
+        calls.push(Put(key, 'a'))?;
+    }
+    for (gone, capacity) in [(2, 8), (3, 8), (9, 2), (4, 2), (7, 1), (8, usize::MAX)] {
+        calls.push(Pop(gone))?;
+        calls.push(Resize(capacity))?;
+        for key in 5..9u32 {
+            calls.push(Put(key, 'b'))?;
+            calls.push(Peek(4))?;
+        }
+    }
+    answers_alike(&rt, rt.alloc(), 4, calls.as_slice())
 }
 
 #[test]

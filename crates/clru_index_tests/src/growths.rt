@@ -13,7 +13,8 @@ type Plain<'a> = CLruCache<u64, u64, DefaultState, ZeroWeightScale, &'a Rationed
 /// Puts the keys, each with ten more as its value.
 fn puts(rt: &impl Abort, cache: &mut Plain, first: u64, end: u64) {
     for key in first..end {
-        assert_eq!(rt; cache.put(key, key.wrapping_add(10)), Ok(None), "{key}");
+        let put = cache.put(key, key.wrapping_add(10));
+        assert_eq!(rt; put.map(|put| put.replaced), Ok(None), "{key}");
     }
 }
 

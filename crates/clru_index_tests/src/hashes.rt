@@ -2,7 +2,7 @@
 
 use crate::builders::Counting;
 use crate::calls::Call::{self, Contains, Get, Peek, PopFront, Put, PutOrModify, PutWithWeight};
-use crate::calls::{answer, room};
+use crate::calls::{ADDED, answer, room};
 use clru::{CLruCache, replay};
 use std::cell::Cell;
 use std::test::Fail;
@@ -46,7 +46,7 @@ fn a_growth_hashes_the_held_keys_again(rt: HostRuntime) -> Result<(), Fail> {
     let mut cache = CLruCache::with_hasher(rt.alloc(), room(100)?, builder);
     for key in 0..100u64 {
         hashes.set(0);
-        assert_eq!(rt; cache.put(key, key), Ok(None));
+        assert_eq!(rt; cache.put(key, key), Ok(ADDED));
         let grows = [4, 8, 16, 32, 64].contains(&key);
         let again = if grows { key } else { 0 };
         assert_eq!(rt; hashes.get(), again.wrapping_add(1), "{key}");

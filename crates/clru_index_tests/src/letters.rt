@@ -45,7 +45,9 @@ fn a_held_letter_is_found_in_either_case(rt: HostRuntime) -> Result<(), Fail> {
     for builder in CONSTANTS {
         let mut cache = CLruCache::with_hasher(rt.alloc(), room(2)?, builder);
         for (letter, value, old) in [(b'A', 1, None), (b'b', 2, None), (b'a', 3, Some(1))] {
-            assert_eq!(rt; cache.put(Letter(letter), value), Ok(old), "{builder:?}");
+            let put = cache.put(Letter(letter), value)?;
+            assert_eq!(rt; put.replaced, old, "{builder:?}");
+            assert!(rt; put.dropped.is_none(), "{builder:?}");
         }
         assert_eq!(rt; cache.get(&Letter(b'B')).copied(), Some(2), "{builder:?}");
         for (letter, value) in [(b'b', 2), (b'A', 3)] {

@@ -15,3 +15,5 @@ mod growths;
 mod hashes;
 #[cfg(test)]
 mod letters;
+#[cfg(test)]
+mod reserves;

@@ -3,8 +3,10 @@ pub mod CursorSteps
 pub mod EntryLists
 pub mod Holding
 pub mod NodeLemmas
+pub mod Numbers
 pub mod Paths
 pub mod PlaceLemmas
+pub mod Pointing
 pub mod Puts
 pub mod Retaining
 pub mod Rings

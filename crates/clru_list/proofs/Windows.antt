@@ -19,7 +19,7 @@ module _ {T : Type 0} where
   item_at-entry (d ∷ es) zero e apart at = let same : d ≡ e = cc in rw (same, eq-eqb e.0 e.0 refl) refl
   item_at-entry (d ∷ es) (suc k) e apart at = let h = item_at-entry es k e apart.1 at in rw (differs d es e.0 e.1 apart.0 h) h
 
-  first_place-get : (es : List (ℕ × T)) → first_place es ≡ slice_get (keys_of es) 0
+  pub first_place-get : (es : List (ℕ × T)) → first_place es ≡ slice_get (keys_of es) 0
   first_place-get [] = refl
   first_place-get (e ∷ es) = refl
 
@@ -29,7 +29,7 @@ module _ {T : Type 0} where
   place_after-entry (d ∷ es) (suc k) e apart at =
       rw (differs d es e.0 e.1 apart.0 (item_at-entry es k e apart.1 at)) (place_after-entry es k e apart.1 at)
 
-  place_before_from-entry : (before : Option ℕ) (es : List (ℕ × T)) (k : ℕ) (e : ℕ × T) → IsApart es → slice_get es (suc k) ≡ Some e
+  pub place_before_from-entry : (before : Option ℕ) (es : List (ℕ × T)) (k : ℕ) (e : ℕ × T) → IsApart es → slice_get es (suc k) ≡ Some e
       → place_before_from before e.0 es ≡ slice_get (keys_of es) k
   place_before_from-entry before [] k e apart at = cc
   place_before_from-entry before (d ∷ []) k e apart at = cc
@@ -49,7 +49,7 @@ module _ {T : Type 0} where
   pub last_entry-push : (es : List (ℕ × T)) (e : ℕ × T) → last_entry (es ++ e ∷ []) ≡ Some e
   last_entry-push es e = last_entry_from-push None es e
 
-  last_place-get : (es : List (ℕ × T)) → 0 < length es → last_place es ≡ slice_get (keys_of es) (0 + length es - 1)
+  pub last_place-get : (es : List (ℕ × T)) → 0 < length es → last_place es ≡ slice_get (keys_of es) (0 + length es - 1)
   last_place-get [] some = absurd (omega arith)
   last_place-get (e ∷ es) some = let at : 0 + suc (length es) - 1 ≡ length es = omega arith in
       ap (option_map (λ (d : ℕ × T). d.0)) (last_entry_from-get None e es) ∙ sym (slice_get-map (λ (d : ℕ × T). d.0) (e ∷ es) (length es))
@@ -102,12 +102,12 @@ module _ {T : Type 0} where
       ∙ ap (λ d. take n (drop done es) ++ d ∷ []) (get_or-drop done es n e ∙ get_or_from_slice_get es (done + n) e e (ap (slice_get es) (sym place) ∙ at))
       ∙ ap (λ k. take k (drop done es) ++ e ∷ []) less
 
-  entry_at : (es : List (ℕ × T)) (k : ℕ) → k < length es → (e : ℕ × T) × (slice_get es k ≡ Some e)
+  pub entry_at : (es : List (ℕ × T)) (k : ℕ) → k < length es → (e : ℕ × T) × (slice_get es k ≡ Some e)
   entry_at [] k within = absurd (omega arith)
   entry_at (e ∷ es) zero within = (e, refl)
   entry_at (e ∷ es) (suc k) within = entry_at es k (omega arith)
 
-  place_at : (es : List (ℕ × T)) (k : ℕ) (e : ℕ × T) → slice_get es k ≡ Some e → slice_get (keys_of es) k ≡ Some e.0
+  pub place_at : (es : List (ℕ × T)) (k : ℕ) (e : ℕ × T) → slice_get es k ≡ Some e → slice_get (keys_of es) k ≡ Some e.0
   place_at es k e at = slice_get-map (λ (d : ℕ × T). d.0) es k ∙ ap (option_map (λ (d : ℕ × T). d.0)) at
 
   pub front_entry : (es : List (ℕ × T)) (done left : ℕ) (front back : Option ℕ) → IsApart es → IsWindow (keys_of es) done left front back → 0 < left

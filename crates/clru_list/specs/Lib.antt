@@ -1,4 +1,6 @@
 pub mod Cursors
+pub mod Errors
+pub mod Fingers
 pub mod Lends
 pub mod Links
 pub mod PlaceList

@@ -1,11 +1,34 @@
 //! What a call that may want memory answers in place of a result.
+ghost use Rattle.std.specs.Prelude.{Some, codes};
+ghost use Rattle.clru_list.specs.Errors.{push_error_debug, push_error_text};
+
+use std::alloc::AllocError;
+use std::error::Error;
+use std::fmt;
 
 /// Memory was refused.
 #[derive(Clone, Copy, Debug, PartialEq, Eq)]
 pub struct NoMemory;
 
+impl fmt::Display for NoMemory {
+    ghost output = { λ _. Some (codes "out of memory") };
+
+    fn fmt<W: fmt::Write>(&self, f: &mut fmt::Formatter<W>) -> fmt::Result {
+        f.write_str("out of memory")
+    }
+}
+
+impl Error for NoMemory {}
+
+/// So that `?` passes it up beside std's own refusals of memory.
+impl From<NoMemory> for AllocError {
+    fn from(_refused: NoMemory) -> AllocError {
+        AllocError
+    }
+}
+
 /// Why a push was refused. The item comes back, and the list is as it was.
-#[derive(Debug, Drop, PartialEq, Eq)]
+#[derive(Drop, PartialEq, Eq)]
 pub enum PushError<T> {
     /// The length is at the capacity.
     Full(T),
@@ -13,3 +36,28 @@ pub enum PushError<T> {
     /// Memory for one more item was refused.
     NoMemory(T),
 }
+
+// No item is printed, so that each type of item makes an error.
+impl<T> fmt::Debug for PushError<T> {
+    ghost debug_output = { λ e. Some (push_error_debug e) };
+
+    fn fmt<W: fmt::Write>(&self, f: &mut fmt::Formatter<W>) -> fmt::Result {
+        match self {
+            PushError::Full(_) => f.write_str("Full(..)"),
+            PushError::NoMemory(_) => f.write_str("NoMemory(..)"),
+        }
+    }
+}
+
+impl<T> fmt::Display for PushError<T> {
+    ghost output = { λ e. Some (push_error_text e) };
+
+    fn fmt<W: fmt::Write>(&self, f: &mut fmt::Formatter<W>) -> fmt::Result {
+        match self {
+            PushError::Full(_) => f.write_str("the list is full"),
+            PushError::NoMemory(_) => f.write_str("out of memory"),
+        }
+    }
+}
+
+impl<T: Drop> Error for PushError<T> {}

@@ -12,6 +12,7 @@
 mod chain;
 mod cursor;
 mod error;
+mod fingers;
 mod iter;
 mod list;
 
@@ -20,5 +21,7 @@ mod list;
 pub use chain::{Chain, Node};
 pub use cursor::FixedSizeListIterMut;
 pub use error::{NoMemory, PushError};
+#[doc(hidden)]
+pub use fingers::{Finger, Fingers};
 pub use iter::FixedSizeListIter;
 pub use list::FixedSizeList;

@@ -8,9 +8,11 @@ ghost use Rattle.clru_list.specs.PlaceList.{place_list, item_at, first_entry, la
 
 use crate::chain::{Chain, NOWHERE, Node};
 use crate::error::NoMemory;
+use crate::fingers::Fingers;
 use std::alloc::{Allocator, Global};
 use std::marker::Model;
 
+mod number;
 mod order;
 mod push;
 mod remove;
@@ -26,11 +28,14 @@ pub struct FixedSizeList<T, A: Allocator + Copy = Global> {
     pub(crate) capacity: usize,
     // No more than the vector's capacity, and not that number itself: a growth that was refused changes nothing.
     pub(crate) places: usize,
+    pub(crate) fingers: Fingers,
 }
 
 impl<T, A: Allocator + Copy> Model for FixedSizeList<T, A> {
     ghost use Rattle.std.specs.Prelude.{ℕ, List, vec_capacity};
     ghost use Rattle.clru_list.specs.PlaceList.{PlaceList, place_list, place_list_code};
+    ghost use Rattle.std.specs.Map.{keys_of};
+    ghost use Rattle.clru_list.specs.Fingers.{IsPointed};
     ghost use Rattle.clru_list.specs.Links.{links_of, walk, IsSound};
 
     ghost Value = { PlaceList T };
@@ -39,8 +44,8 @@ impl<T, A: Allocator + Copy> Model for FixedSizeList<T, A> {
 
     ghost view = { λ l. place_list (walk (links_of l.chain) l.chain.front l.len) l.capacity l.places };
 
-    ghost invariant = { λ l. (es : List (ℕ × T))
-        × IsSound (links_of l.chain) l.len l.capacity l.places (vec_capacity l.chain.nodes) es };
+    ghost invariant = { λ l. ((es : List (ℕ × T)) × IsSound (links_of l.chain) l.len l.capacity l.places (vec_capacity l.chain.nodes) es)
+        × IsPointed (keys_of (walk (links_of l.chain) l.chain.front l.len)) l.fingers };
 }
 
 impl<T, A: Allocator + Copy> FixedSizeList<T, A> {
@@ -74,6 +79,7 @@ impl<T, A: Allocator + Copy> FixedSizeList<T, A> {
             len: 0,
             capacity,
             places,
+            fingers: Fingers::none(),
         }
     }
 

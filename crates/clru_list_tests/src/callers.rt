@@ -2,6 +2,8 @@
 ghost use Rattle.std.specs.Prelude.{◌≡◌, ◌+◌, ◌/◌, ◌^◌, ◌<◌, ◌∷◌, ◌++◌, [], map, IfOk};
 ghost use Rattle.clru_list.specs.PlaceList.{with_entries};
 
+pub mod errors;
+
 use clru_list::{FixedSizeList, PushError};
 use std::alloc::Allocator;
 

@@ -1,6 +1,6 @@
 //! The calls that may add an entry, as one call.
 
-use clru::{CLruCache, DefaultState, NonZeroUsize, PutError, ZeroWeightScale};
+use clru::{CLruCache, DefaultState, NonZeroUsize, Put, PutError, TryPutError, ZeroWeightScale};
 use ration::Rationed;
 use std::alloc::{Allocator, Global};
 use std::cell::Cell;
@@ -23,10 +23,26 @@ pub(crate) enum Adding {
     Put,
     PutWithWeight,
     PutOrModify,
+    TryPutOrModify,
 }
 
 /// All of them.
-pub(crate) const ADDING: [Adding; 3] = [Adding::Put, Adding::PutWithWeight, Adding::PutOrModify];
+pub(crate) const ADDING: [Adding; 4] = [
+    Adding::Put,
+    Adding::PutWithWeight,
+    Adding::PutOrModify,
+    Adding::TryPutOrModify,
+];
+
+/// The answer of a plain put that replaces and drops nothing.
+pub(crate) const ADDED: Put<u64, u64> = Put {
+    replaced: None,
+    dropped: None,
+};
+
+/// The error of closures that do not fail.
+#[derive(Drop)]
+enum Never {}
 
 /// A capacity.
 pub(crate) fn room(n: usize) -> Result<NonZeroUsize, &'static str> {
@@ -41,8 +57,11 @@ pub(crate) fn adds<K: Eq + Hash + Drop, V: Drop, A: Allocator + Copy>(
     value: V,
 ) -> Result<Option<V>, (K, V)> {
     match call {
-        Adding::Put => cache.put(key, value),
-        Adding::PutWithWeight => match cache.put_with_weight(key, value) {
+        Adding::Put => match cache.put(key, value) {
+            Ok(put) => Ok(put.replaced),
+            Err(pair) => Err(pair),
+        },
+        Adding::PutWithWeight => match cache.put_with_weight(key, value, |_, _| {}) {
             Ok(old) => Ok(old),
             Err(PutError::TooHeavy(key, value)) => Err((key, value)),
             Err(PutError::NoMemory(key, value)) => Err((key, value)),
@@ -53,6 +72,20 @@ pub(crate) fn adds<K: Eq + Hash + Drop, V: Drop, A: Allocator + Copy>(
             match cache.put_or_modify(key, |_, new| new, modify, value) {
                 Ok(_) => Ok(old.into_inner()),
                 Err(back) => Err(back),
+            }
+        }
+        Adding::TryPutOrModify => {
+            let old = Cell::new(None);
+            let modify = |_: &K, held: &mut V, new| {
+                old.set(Some(mem::replace(held, new)));
+                Ok(())
+            };
+            match cache.try_put_or_modify(key, |_, new| Ok::<V, Never>(new), modify, value) {
+                Ok(_) => Ok(old.into_inner()),
+                Err(refusal) => match refusal {
+                    TryPutError::NoMemory(key, value) => Err((key, value)),
+                    TryPutError::Failed(never) => match never {},
+                },
             }
         }
     }

@@ -6,12 +6,22 @@ mod adding;
 #[cfg(test)]
 mod costs;
 #[cfg(test)]
+mod extends;
+#[cfg(test)]
 mod growth;
+#[cfg(test)]
+mod lends;
+#[cfg(test)]
+mod makers;
 #[cfg(test)]
 mod owned;
 #[cfg(test)]
 mod refusals;
 #[cfg(test)]
+mod removals;
+#[cfg(test)]
 mod replays;
 #[cfg(test)]
 mod unasked;
+#[cfg(test)]
+mod walks;

@@ -3,7 +3,7 @@ ghost use Rattle.std.specs.Prelude.{length, string_bytes};
 
 use crate::adding::{ADDING, adds, room};
 use crate::costs::REQUESTS;
-use clru::{CLruCache, DefaultState, WeightScale, ZeroWeightScale, replay};
+use clru::{CLruCache, DefaultState, PutError, WeightScale, ZeroWeightScale, replay};
 use ration::Rationed;
 use std::alloc::{AllocError, Allocator, Global};
 use std::cell::Cell;
@@ -11,7 +11,7 @@ use std::hash::Hash;
 use std::test::Fail;
 
 /// A text with a block of the heap.
-fn text<'a>(
+pub(crate) fn text<'a>(
     heap: &'a Rationed<Global>,
     letters: &str,
 ) -> Result<String<&'a Rationed<Global>>, AllocError> {
@@ -19,7 +19,7 @@ fn text<'a>(
 }
 
 /// The blocks of so many entries of two texts each, and of the cache that holds them.
-fn blocks_of(entries: u64) -> u64 {
+pub(crate) fn blocks_of(entries: u64) -> u64 {
     entries.saturating_mul(2).saturating_add(REQUESTS)
 }
 
@@ -82,9 +82,88 @@ fn what_a_weighted_put_drops_is_given_back(rt: HostRuntime) -> Result<(), Fail> 
             ("d", "88888888", 1, false),
         ];
         for (key, value, entries, goes) in steps {
-            let put = cache.put_with_weight(text(&heap, key)?, text(&heap, value)?);
+            let put = cache.put_with_weight(text(&heap, key)?, text(&heap, value)?, |_, _| {});
             assert_eq!(rt; put.is_ok(), goes, "{key} {value}");
             drop(put);
+            assert_eq!(rt; heap.blocks(), blocks_of(entries), "{key} {value}");
+        }
+    }
+    assert_eq!(rt; heap.blocks(), 0);
+    Ok(())
+}
+
+#[test]
+fn a_pair_that_a_put_drops_is_held_by_its_answer_alone(rt: HostRuntime) -> Result<(), Fail> {
+    let heap = Rationed::new(rt.alloc());
+    {
+        let mut cache = CLruCache::new(&heap, room(2)?);
+        // The entries after each put, and the texts that its answer holds.
+        let rows = [
+            ("a", 1, 0),
+            ("b", 2, 0),
+            ("c", 2, 2),
+            ("b", 2, 1),
+            ("d", 2, 2),
+        ];
+        for (key, entries, texts) in rows {
+            let put = cache.put(text(&heap, key)?, text(&heap, "value")?);
+            assert_eq!(rt;
+                heap.blocks(),
+                blocks_of(entries).saturating_add(texts),
+                "{key}"
+            );
+            drop(put);
+            assert_eq!(rt; heap.blocks(), blocks_of(entries), "{key}");
+        }
+    }
+    assert_eq!(rt; heap.blocks(), 0);
+    Ok(())
+}
+
+/// Makes a weighted put, and adds what it hands out to `gone`.
+fn puts<K: Eq + Hash + Drop, V: Drop, W: WeightScale<K, V>, A: Allocator + Copy>(
+    cache: &mut CLruCache<K, V, DefaultState, W, A>,
+    key: K,
+    value: V,
+    gone: &mut Vec<(K, V)>,
+) -> Result<Option<V>, PutError<K, V>> {
+    cache.put_with_weight(key, value, |key, value| keeps(gone, (key, value)))
+}
+
+/// Adds an item, and lets it go where there is no memory.
+fn keeps<T: Drop>(items: &mut Vec<T>, item: T) {
+    let _ = items.push(item);
+}
+
+#[test]
+fn a_pair_that_a_weighted_put_drops_is_held_by_its_taker_alone(
+    rt: HostRuntime,
+) -> Result<(), Fail> {
+    let heap = Rationed::new(rt.alloc());
+    {
+        let mut cache = CLruCache::with_scale(&heap, room(8)?, ByLength);
+        // The entries after each put, and the pairs that it hands out.
+        let rows = [
+            ("a", "1", 1, 0),
+            ("b", "1", 2, 0),
+            ("c", "1", 3, 0),
+            ("a", "22", 3, 0),
+            ("d", "4444", 2, 2),
+            ("d", "666666", 1, 1),
+            ("d", "88888888", 1, 0),
+        ];
+        for (key, value, entries, pairs) in rows {
+            let mut gone = Vec::new(rt.alloc());
+            let put = puts(
+                &mut cache,
+                text(&heap, key)?,
+                text(&heap, value)?,
+                &mut gone,
+            );
+            drop(put);
+            assert_eq!(rt; gone.len() as u64, pairs, "{key} {value}");
+            assert_eq!(rt; heap.blocks(), blocks_of(entries + pairs), "{key} {value}");
+            drop(gone);
             assert_eq!(rt; heap.blocks(), blocks_of(entries), "{key} {value}");
         }
     }

@@ -1,6 +1,6 @@
 //! Calls that ask for no memory.
 
-use crate::adding::{ADDING, Adding, Plain, adds, room, takes_out_those_below};
+use crate::adding::{ADDED, ADDING, Adding, Plain, adds, room, takes_out_those_below};
 use clru::{CLruCache, DefaultState, PutError, WeightScale};
 use ration::Rationed;
 use std::alloc::Global;
@@ -33,7 +33,7 @@ fn makers_ask_for_nothing(rt: HostRuntime) -> Result<(), Fail> {
     assert_eq!(rt; (with_scale.capacity(), heap.asked()), (3, 0));
     let mut with_hasher = CLruCache::with_hasher(&heap, size, hasher);
     assert_eq!(rt; (with_hasher.capacity(), heap.asked()), (3, 0));
-    assert_eq!(rt; with_hasher.put(1u64, 2u64), Ok(None));
+    assert_eq!(rt; with_hasher.put(1u64, 2u64), Ok(ADDED));
     Ok(())
 }
 
@@ -63,7 +63,7 @@ fn reads_and_pop_front_ask_for_nothing(rt: HostRuntime) -> Result<(), Fail> {
     let heap = Rationed::new(rt.alloc());
     let mut cache = CLruCache::new(&heap, room(3)?);
     for key in 0..3u64 {
-        assert_eq!(rt; cache.put(key, key + 10), Ok(None));
+        assert_eq!(rt; cache.put(key, key + 10), Ok(ADDED));
     }
     let asked = heap.asked();
     heap.refuse_after(0);
@@ -112,17 +112,27 @@ fn a_weighted_put_that_drops_another_asks_for_nothing(rt: HostRuntime) -> Result
     let heap = Rationed::new(rt.alloc());
     let mut cache: Weighted = CLruCache::with_scale(&heap, room(20)?, Each(1));
     for key in 0..10u64 {
-        assert_eq!(rt; cache.put_with_weight(key, key), Ok(None), "{key}");
+        assert_eq!(rt;
+            cache.put_with_weight(key, key, |_, _| {}),
+            Ok(None),
+            "{key}"
+        );
     }
     let asked = heap.asked();
     heap.refuse_after(0);
-    // A held key, and two in place of the oldest.
-    for (key, old) in [(9, Some(9)), (10, None), (11, None)] {
-        assert_eq!(rt; cache.put_with_weight(key, key), Ok(old), "{key}");
+    // A held key, and two in place of the oldest, which are handed out.
+    for (key, old, gone) in [
+        (9, Some(9), None),
+        (10, None, Some((0, 0))),
+        (11, None, Some((1, 1))),
+    ] {
+        let mut last = None;
+        let put = cache.put_with_weight(key, key, |key, value| last = Some((key, value)));
+        assert_eq!(rt; (put, last), (Ok(old), gone), "{key}");
     }
     assert_eq!(rt; cache.pop_front(), Some((11, 11)));
     assert_eq!(rt;
-        cache.put_with_weight(12, 12),
+        cache.put_with_weight(12, 12, |_, _| {}),
         Ok(None),
         "into the free place"
     );
@@ -137,7 +147,10 @@ fn a_weighted_put_that_drops_another_asks_for_nothing(rt: HostRuntime) -> Result
 fn a_pair_that_is_too_heavy_asks_for_nothing(rt: HostRuntime) -> Result<(), Fail> {
     let heap = Rationed::new(rt.alloc());
     let mut cache: Weighted = CLruCache::with_scale(&heap, room(3)?, Each(3));
-    assert_eq!(rt; cache.put_with_weight(1, 2), Err(PutError::TooHeavy(1, 2)));
+    assert_eq!(rt;
+        cache.put_with_weight(1, 2, |_, _| {}),
+        Err(PutError::TooHeavy(1, 2))
+    );
     assert_eq!(rt; (cache.len(), cache.weight(), heap.asked()), (0, 0, 0));
     Ok(())
 }

@@ -1,5 +1,9 @@
 //! What can go wrong, and the exit status of each.
-ghost use Rattle.std.specs.Prelude.{◌≡◌, Err, IsOk};
+ghost use Rattle.std.specs.Prelude.{◌≡◌, Err, IsOk, Some};
+ghost use Rattle.clru_replay.specs.Faults.{fault_text};
+
+use std::error::Error;
+use std::fmt;
 
 /// Why a run ends without its whole report.
 #[derive(Clone, Copy, Debug, PartialEq, Eq)]
@@ -13,6 +17,21 @@ pub enum Fault {
     /// A write answered an error or took nothing, or the flush failed.
     Writing,
 }
+
+impl fmt::Display for Fault {
+    ghost output = { λ fault. Some (fault_text fault) };
+
+    fn fmt<W: fmt::Write>(&self, f: &mut fmt::Formatter<W>) -> fmt::Result {
+        match self {
+            Fault::BadCapacity => f.write_str("the first line is no capacity"),
+            Fault::Memory => f.write_str("out of memory"),
+            Fault::Reading => f.write_str("a read failed"),
+            Fault::Writing => f.write_str("a write failed"),
+        }
+    }
+}
+
+impl Error for Fault {}
 
 /// The exit status of a fault.
 pub fn status(fault: &Fault) -> u8

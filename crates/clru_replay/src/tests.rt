@@ -1,8 +1,10 @@
 // What the program answers for worked inputs.
+mod devices;
 mod fakes;
 mod faults;
 mod large;
 mod memory;
+mod million;
 
 use crate::fault::{Fault, exit_status, status};
 use crate::program::run;

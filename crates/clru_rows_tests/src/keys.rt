@@ -6,8 +6,8 @@ ghost use Rattle.std.specs.Ordering.{on};
 ghost use Rattle.std.specs.Cmp.Rules.{comparing, hashing};
 ghost use Rattle.std.proofs.Common.{rules};
 
+use crate::lists::room;
 use crate::replays::marks;
-use crate::steps::room;
 use clru::CLruCache;
 use std::hash::{Hash, Hasher};
 use std::test::Fail;
@@ -43,8 +43,8 @@ impl Hash for Letter {
 #[test]
 fn a_put_keeps_the_stored_key(rt: HostRuntime) -> Result<(), Fail> {
     let mut cache = CLruCache::new(rt.alloc(), room(2)?);
-    assert_eq!(rt; cache.put(Letter(b'A'), 1)?, None);
-    assert_eq!(rt; cache.put(Letter(b'a'), 2)?, Some(1));
+    assert_eq!(rt; cache.put(Letter(b'A'), 1)?.replaced, None);
+    assert_eq!(rt; cache.put(Letter(b'a'), 2)?.replaced, Some(1));
     let front = cache.pop_front().map(|(key, value)| (key.0, value));
     assert_eq!(rt; (front, cache.len()), (Some((b'A', 2)), 0));
     Ok(())
@@ -54,7 +54,7 @@ fn a_put_keeps_the_stored_key(rt: HostRuntime) -> Result<(), Fail> {
 fn a_weighted_put_takes_the_new_key(rt: HostRuntime) -> Result<(), Fail> {
     let mut cache = CLruCache::new(rt.alloc(), room(2)?);
     for (letter, value, old) in [(b'A', 1, None), (b'a', 2, Some(1))] {
-        let put = cache.put_with_weight(Letter(letter), value);
+        let put = cache.put_with_weight(Letter(letter), value, |_, _| {});
         assert_eq!(rt; put.map_err(|_| "refused")?, old, "{letter}");
     }
     let front = cache.pop_front().map(|(key, value)| (key.0, value));

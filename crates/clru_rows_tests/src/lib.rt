@@ -1,19 +1,28 @@
-//! Worked rows: calls of `clru` in order, with the answers and the lists that they are known to have.
+//! Worked rows with keys, scales and closures of their own, with the answers and the lists that they are known to have.
+//! Rows that are calls alone are tables of `clru_runs_tests`.
 #![tactic(auto)]
 
 #[cfg(test)]
+mod collects;
+#[cfg(test)]
+mod drops;
+#[cfg(test)]
 mod keys;
+#[cfg(test)]
+mod lists;
 #[cfg(test)]
 mod lookups;
 #[cfg(test)]
+mod non_clone;
+#[cfg(test)]
 mod puts;
+#[cfg(test)]
+mod removals;
 #[cfg(test)]
 mod replays;
 #[cfg(test)]
 mod scales;
 #[cfg(test)]
-mod steps;
-#[cfg(test)]
-mod weights;
+mod walks;
 #[cfg(test)]
 mod words;

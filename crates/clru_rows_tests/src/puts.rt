@@ -1,71 +1,8 @@
-//! Puts into caches whose capacity limits the number of entries.
+//! Puts whose closures make or change the value.
 
-use crate::steps::Step::{Get, Put, PutWithWeight, Size};
-use crate::steps::{room, runs, takes_out};
-use clru::CLruCache;
+use crate::lists::{holds, room};
+use clru::{CLruCache, TryPutError};
 use std::test::Fail;
-
-#[test]
-fn a_put_of_a_held_key_answers_the_old_value(rt: HostRuntime) -> Result<(), Fail> {
-    let steps = [
-        Put("apple", 3, None),
-        Put("banana", 2, None),
-        Get("apple", Some(3)),
-        Get("banana", Some(2)),
-        Get("pear", None),
-        Put("banana", 4, Some(2)),
-        Put("pear", 5, None),
-        Get("pear", Some(5)),
-        Get("banana", Some(4)),
-        Get("apple", None),
-    ];
-    let mut cache = CLruCache::new(rt.alloc(), room(2)?);
-    runs(&rt, &mut cache, &steps, &[("banana", 4), ("pear", 5)]);
-    Ok(())
-}
-
-#[test]
-fn test_insert_update(rt: HostRuntime) -> Result<(), Fail> {
-    let steps = [
-        Put("apple", "red", None),
-        Put("apple", "green", Some("red")),
-        Size(1, 0, true),
-        Get("apple", Some("green")),
-    ];
-    let mut cache = CLruCache::new(rt.alloc(), room(1)?);
-    runs(&rt, &mut cache, &steps, &[("apple", "green")]);
-    Ok(())
-}
-
-#[test]
-fn test_insert_removes_oldest(rt: HostRuntime) -> Result<(), Fail> {
-    let steps = [
-        Put("apple", "red", None),
-        Put("banana", "yellow", None),
-        Put("pear", "green", None),
-        Get("apple", None),
-        Get("banana", Some("yellow")),
-        Get("pear", Some("green")),
-        // An apple was dropped before, so there is no old value.
-        Put("apple", "green", None),
-        Put("tomato", "red", None),
-        Get("pear", None),
-        Get("apple", Some("green")),
-        Get("tomato", Some("red")),
-    ];
-    let mut cache = CLruCache::new(rt.alloc(), room(2)?);
-    let list = [("tomato", "red"), ("apple", "green")];
-    runs(&rt, &mut cache, &steps, &list);
-    Ok(())
-}
-
-#[test]
-fn capacity_one_without_weights(rt: HostRuntime) -> Result<(), Fail> {
-    let steps = [PutWithWeight("a", 1, None), PutWithWeight("b", 2, None)];
-    let mut cache = CLruCache::new(rt.alloc(), room(1)?);
-    runs(&rt, &mut cache, &steps, &[("b", 2)]);
-    Ok(())
-}
 
 /// What a first put makes of a key: its length, and the base where there is one.
 fn with_length(key: &&'static str, base: Option<usize>) -> usize {
@@ -96,7 +33,7 @@ fn test_put_or_modify(rt: HostRuntime) -> Result<(), Fail> {
         assert_eq!(rt; *lent, value, "{key}");
         assert_eq!(rt; cache.len(), len, "{key}");
     }
-    takes_out(&rt, &mut cache, &[("b", 5), ("a", 2)]);
+    holds(&rt, &cache, &[("b", 5), ("a", 2)]);
     Ok(())
 }
 
@@ -104,9 +41,56 @@ fn test_put_or_modify(rt: HostRuntime) -> Result<(), Fail> {
 fn a_lent_value_can_be_written(rt: HostRuntime) -> Result<(), Fail> {
     let mut cache = CLruCache::new(rt.alloc(), room(2)?);
     for (key, value) in [("a", 1), ("b", 2)] {
-        assert_eq!(rt; cache.put(key, value)?, None, "{key}");
+        assert_eq!(rt; cache.put(key, value)?.replaced, None, "{key}");
     }
     *cache.put_or_modify("a", |_, new| new, |_, value, new| *value = new, 7)? = 8;
-    takes_out(&rt, &mut cache, &[("a", 8), ("b", 2)]);
+    holds(&rt, &cache, &[("a", 8), ("b", 2)]);
+    Ok(())
+}
+
+/// Odd data is the error.
+fn even(data: u64) -> Result<u64, u64> {
+    if data % 2 == 1 { Err(data) } else { Ok(data) }
+}
+
+/// Writes what is even, and nothing else.
+fn writes_even(_key: &&'static str, value: &mut u64, data: u64) -> Result<(), u64> {
+    *value = even(data)?;
+    Ok(())
+}
+
+#[test]
+fn test_try_put_or_modify(rt: HostRuntime) -> Result<(), Fail> {
+    let mut cache = CLruCache::new(rt.alloc(), room(2)?);
+    let steps = [
+        ("a", 2, Ok(2)),
+        ("b", 4, Ok(4)),
+        ("a", 3, Err(TryPutError::Failed(3))),
+        ("c", 3, Err(TryPutError::Failed(3))),
+    ];
+    for (key, data, answer) in steps {
+        let lent = cache.try_put_or_modify(key, |_, data| even(data), writes_even, data);
+        assert_eq!(rt; lent.map(|value| *value), answer, "{key}");
+    }
+    holds(&rt, &cache, &[("a", 2), ("b", 4)]);
+    Ok(())
+}
+
+#[test]
+fn an_entry_that_is_lent_shows_its_key_and_its_value(rt: HostRuntime) -> Result<(), Fail> {
+    let mut cache = CLruCache::new(rt.alloc(), room(2)?);
+    assert!(rt; cache.front_mut().is_none());
+    for (key, value) in [("a", 1), ("b", 2)] {
+        assert_eq!(rt; cache.put(key, value)?.replaced, None, "{key}");
+    }
+    if let Some(mut first) = cache.front_mut() {
+        assert_eq!(rt; (*first.key(), *first), ("b", 2));
+        *first = 3;
+        assert_eq!(rt; *first, 3);
+    }
+    let last = cache.back_mut().ok_or("an entry is there")?;
+    assert_eq!(rt; (*last.key(), *last), ("a", 1));
+    *last.into_mut() = 4;
+    holds(&rt, &cache, &[("b", 3), ("a", 4)]);
     Ok(())
 }

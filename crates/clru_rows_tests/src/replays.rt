@@ -1,6 +1,6 @@
 //! Whole lists of requests.
 
-use crate::steps::room;
+use crate::lists::room;
 use clru::{DefaultState, Replay, replay};
 use std::alloc::Global;
 use std::hash::Hash;

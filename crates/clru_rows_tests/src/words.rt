@@ -1,6 +1,6 @@
 //! A caller: it counts words.
 
-use crate::steps::{room, takes_out};
+use crate::lists::{holds, room};
 use clru::{CLruCache, NonZeroUsize};
 use std::alloc::{AllocError, Global};
 use std::test::Fail;
@@ -25,13 +25,13 @@ fn count_words(
 fn words_are_counted(rt: HostRuntime) -> Result<(), Fail> {
     let mut counts = count_words(rt.alloc(), room(3)?, "one two two three two three")?;
     let list = [("three", 2), ("two", 3), ("one", 1)];
-    takes_out(&rt, &mut counts, &list);
+    holds(&rt, &counts, &list);
     Ok(())
 }
 
 #[test]
 fn the_word_that_was_seen_longest_ago_is_forgotten(rt: HostRuntime) -> Result<(), Fail> {
     let mut counts = count_words(rt.alloc(), room(2)?, "one two one three two")?;
-    takes_out(&rt, &mut counts, &[("two", 1), ("three", 1)]);
+    holds(&rt, &counts, &[("two", 1), ("three", 1)]);
     Ok(())
 }

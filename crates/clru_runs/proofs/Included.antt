@@ -2,12 +2,12 @@
 use Rattle.std.proofs.Common.{◌≡◌, ℕ, ◌<◌, ◌≤◌, lt-ltb, Bool, List, [], ◌∷◌, ◌++◌, map, Ok, refl, sym, ap, ◌∙◌}
 use Rattle.clru.specs.Cache.{Cache}
 use Rattle.clru.specs.Runs as model
-use Rattle.clru.specs.Runs.{put_with_weight, pop_front, clear, peek, contains, after, after_all, IsTaken, AreTaken}
+use Rattle.clru.specs.Runs.{put_with_weight, pop, pop_front, pop_back, clear, peek, contains, after, after_all, IsTaken, AreTaken}
 use Rattle.clru.proofs.Inclusion.{after_all_begins}
 use Rattle.clru_runs.specs.declared.call.Answer.{Answer}
 use Rattle.clru_runs.specs.declared.call.Answer.TheVariants.{Weighed}
 use Rattle.clru_runs.specs.declared.call.Call.{Call}
-use Rattle.clru_runs.specs.declared.call.Call.TheVariants.{PutWithWeight, Peek, Contains, PopFront}
+use Rattle.clru_runs.specs.declared.call.Call.TheVariants.{PutWithWeight, Peek, Contains, Pop, PopFront, PopBack, Clear}
 use Rattle.clru_runs.specs.IncludedRun.{KeepsInclusion, EachKeepsInclusion}
 use Rattle.clru_runs.specs.Run.{Run}
 use Rattle.clru_runs.specs.Step.{Step}
@@ -16,7 +16,10 @@ module _ {K V : Type 0} where
   -- the call as `law_inclusion` has it; of the others, of which it does not speak, nothing is said
   abbrev model_call : Call K V → model.Call K V
   model_call (PutWithWeight x v) = put_with_weight x v
+  model_call (Pop x) = pop x
   model_call PopFront = pop_front
+  model_call PopBack = pop_back
+  model_call Clear = clear
   model_call (Peek x) = peek x
   model_call (Contains x) = contains x
   model_call call = clear
@@ -41,6 +44,9 @@ module _ {K V W : Type 0} (eq : K → K → Bool) (weight : W → K → V → �
         capacity = accepts.1.places.capacity;
         scale = accepts.1.places.scale;
       }
+  call_of_step (Pop x) answer old new keeps step = rw step.1 (record { entries = refl; taken = tt; capacity = refl; scale = refl })
+  call_of_step PopBack answer old new keeps step = rw step.1 (record { entries = refl; taken = tt; capacity = refl; scale = refl })
+  call_of_step Clear answer old new keeps step = rw step.1 (record { entries = refl; taken = tt; capacity = refl; scale = refl })
   call_of_step PopFront answer old new keeps step = rw step.1 (record { entries = refl; taken = tt; capacity = refl; scale = refl })
   call_of_step (Peek x) answer old new keeps step = rw step.1 (record { entries = refl; taken = tt; capacity = refl; scale = refl })
   call_of_step (Contains x) answer old new keeps step = rw step.1 (record { entries = refl; taken = tt; capacity = refl; scale = refl })

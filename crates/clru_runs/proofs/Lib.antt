@@ -1,4 +1,7 @@
+pub mod Attempting
+pub mod Extending
 pub mod Included
 pub mod Lending
 pub mod PutRunning
+pub mod Retained
 pub mod Running

@@ -6,10 +6,11 @@ use Rattle.clru.specs.Entries.{plain_put}
 use Rattle.clru.specs.Runs.{IsPut, IsPutRun, PutsNext}
 use Rattle.clru.proofs.PutSteps.{IsPut-plain, IsPut-weightless, length-put}
 use Rattle.clru_runs.specs.declared.call.Answer.{Answer}
-use Rattle.clru_runs.specs.declared.call.Answer.TheVariants.{Stored, Weighed, Lent}
+use Rattle.clru_runs.specs.declared.call.Answer.TheVariants.{Stored, Weighed, Lent, Tried}
+use Rattle.clru_runs.specs.declared.call.Attempt.TheVariants.{Store}
 use Rattle.clru_runs.specs.declared.call.Call.TheVariants.{PutWithWeight}
 use Rattle.clru_runs.specs.declared.call.PlainCall.{PlainCall}
-use Rattle.clru_runs.specs.declared.call.PlainCall.TheVariants.{Put, PutOrModify, Any}
+use Rattle.clru_runs.specs.declared.call.PlainCall.TheVariants.{Put, PutOrModify, TryPutOrModify, Any}
 use Rattle.clru_runs.specs.PutRun.{PutsKey, PutEach, entries_of}
 use Rattle.clru_runs.specs.Run.{Run}
 use Rattle.clru_runs.specs.Step.{PlainStep}
@@ -43,6 +44,10 @@ module _ {K V W : Type 0} (eq : K → K → Bool) (laws : IsEquivalence eq) wher
       let accepts = rw same at step.2 in
       rw is (plain_step y v old new accepts.entries accepts.places.capacity)
   put_step x (PutOrModify y v) (Lent (Ok value)) old new short is step =
+      let same : step.0 ≡ Ok value = cc in
+      let accepts = rw same at step.2 in
+      rw is (plain_step y v old new accepts.entries accepts.places.capacity)
+  put_step x (TryPutOrModify y (Store v)) (Tried (Ok value)) old new short is step =
       let same : step.0 ≡ Ok value = cc in
       let accepts = rw same at step.2 in
       rw is (plain_step y v old new accepts.entries accepts.places.capacity)

@@ -4,7 +4,7 @@ use Rattle.clru.specs.Cache.{Cache}
 use Rattle.clru_runs.specs.declared.call.Answer.{Answer}
 use Rattle.clru_runs.specs.declared.call.Answer.TheVariants.{Weighed}
 use Rattle.clru_runs.specs.declared.call.Call.{Call}
-use Rattle.clru_runs.specs.declared.call.Call.TheVariants.{PutWithWeight, Peek, Contains, PopFront}
+use Rattle.clru_runs.specs.declared.call.Call.TheVariants.{PutWithWeight, Peek, Contains, Pop, PopFront, PopBack, Clear}
 use Rattle.clru_runs.specs.Run.{Run}
 use Rattle.clru_runs.specs.Step.{Step}
 
@@ -12,7 +12,10 @@ module _ {K V : Type 0} where
   -- a put by weight that is not refused, a removal, or a read that moves no entry
   abbrev pub KeepsInclusion : Call K V → Answer K V → Type 0
   KeepsInclusion (PutWithWeight x v) (Weighed (Ok old)) = ⊤
+  KeepsInclusion (Pop x) answer = ⊤
   KeepsInclusion PopFront answer = ⊤
+  KeepsInclusion PopBack answer = ⊤
+  KeepsInclusion Clear answer = ⊤
   KeepsInclusion (Peek x) answer = ⊤
   KeepsInclusion (Contains x) answer = ⊤
   KeepsInclusion call answer = ⊥

@@ -1,3 +1,4 @@
+pub mod Attempts
 pub mod IncludedRun
 pub mod PutRun
 pub mod Run

@@ -6,10 +6,11 @@ use Rattle.clru.specs.Requests.{marks}
 use Rattle.clru.specs.Runs.{IsPutRun, held_before}
 use Rattle.clru.specs.Schedule.{IsCompetitive, IsCompetitiveFromAnyStart}
 use Rattle.clru_runs.specs.declared.call.Answer.{Answer}
-use Rattle.clru_runs.specs.declared.call.Answer.TheVariants.{Stored, Weighed, Lent}
+use Rattle.clru_runs.specs.declared.call.Answer.TheVariants.{Stored, Weighed, Lent, Tried}
+use Rattle.clru_runs.specs.declared.call.Attempt.TheVariants.{Store}
 use Rattle.clru_runs.specs.declared.call.Call.TheVariants.{PutWithWeight}
 use Rattle.clru_runs.specs.declared.call.PlainCall.{PlainCall}
-use Rattle.clru_runs.specs.declared.call.PlainCall.TheVariants.{Put, PutOrModify, Any}
+use Rattle.clru_runs.specs.declared.call.PlainCall.TheVariants.{Put, PutOrModify, TryPutOrModify, Any}
 use Rattle.clru_runs.specs.Run.{Run}
 use Rattle.clru_runs.specs.Step.{PlainStep}
 
@@ -18,6 +19,7 @@ module _ {K V : Type 0} where
   abbrev pub PutsKey : K → PlainCall K V → Answer K V → Type 0
   PutsKey x (Put y v) (Stored (Ok old)) = x ≡ y
   PutsKey x (PutOrModify y v) (Lent (Ok value)) = x ≡ y
+  PutsKey x (TryPutOrModify y (Store v)) (Tried (Ok value)) = x ≡ y
   PutsKey x (Any (PutWithWeight y v)) (Weighed (Ok old)) = x ≡ y
   PutsKey x call answer = ⊥
 

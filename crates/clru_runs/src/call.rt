@@ -1,6 +1,7 @@
 //! The calls of a cache and what they answer, as values.
+ghost use Rattle.std.specs.Prelude.{◌≡◌, ◌+◌, ◌<◌, ◌^◌, Some};
 
-use clru::PutError;
+use clru::{Put, PutError, TryPutError};
 
 /// A call of a cache, by any scale.
 #[derive(Clone, Debug, Drop)]
@@ -14,7 +15,18 @@ pub enum Call<K, V> {
     Capacity,
     IsEmpty,
     IsFull,
+    Pop(K),
+    Front,
+    Back,
     PopFront,
+    PopBack,
+    Clear,
+
+    /// To that capacity, or to 1 where it is 0.
+    Resize(usize),
+
+    /// Keeps the entries of the other keys.
+    Retain(K),
 }
 
 /// A call of a cache whose pairs weigh nothing.
@@ -25,24 +37,95 @@ pub enum PlainCall<K, V> {
     /// A new key gets the value, and so does a held one.
     PutOrModify(K, V),
 
+    /// The same by closures that may fail.
+    TryPutOrModify(K, Attempt<V>),
+
+    /// The value is written to the one that is lent.
+    GetMut(K, V),
+    PeekMut(K, V),
+    FrontMut(V),
+    BackMut(V),
+
+    /// Keeps the entries of the other keys, and writes the value to each.
+    RetainMut(K, V),
+
     /// A call that each cache has.
     Any(Call<K, V>),
+}
+
+/// A call of a cache whose pairs weigh nothing, where one may hand over a list of pairs. It owns memory, as the calls above
+/// do not, so that they can stand in a `static`.
+#[derive(Clone, Debug, Drop)]
+pub enum ListCall<K, V> {
+    /// Puts of the pairs in turn.
+    Extend(Vec<(K, V)>),
+
+    /// A call that takes no list.
+    Plain(PlainCall<K, V>),
+}
+
+/// What the closures of a put-or-modify do that may fail.
+#[derive(Clone, Copy, Debug, PartialEq)]
+pub enum Attempt<V> {
+    /// The one that is called stores the value.
+    Store(V),
+
+    /// It fails. That for a held key has written the value first, where there is one.
+    Fail(Option<V>),
 }
 
 /// What a call answered, with the values that it lent copied out.
 #[derive(Debug, Drop, PartialEq)]
 pub enum Answer<K, V> {
-    /// Of a plain put: the old value of the key, or the pair that was refused.
-    Stored(Result<Option<V>, (K, V)>),
+    /// Of a plain put: the old value of the key and the pair that was dropped, or the pair that was refused.
+    Stored(Result<Put<K, V>, (K, V)>),
 
-    /// Of a weighted put: the old value of the key, or the pair that was refused, and why.
-    Weighed(Result<Option<V>, PutError<K, V>>),
+    /// Of a weighted put: the old value of the key and what was handed out, or the pair that was refused, and why.
+    Weighed(Result<Weighing<K, V>, PutError<K, V>>),
 
     /// Of a put-or-modify: the value that it lent, or the pair that was refused.
     Lent(Result<V, (K, V)>),
 
+    /// Of puts of pairs in turn: the pair that was refused, if one was.
+    Extended(Result<(), (K, V)>),
+
+    /// Of a put-or-modify that may fail: the value that it lent, or why it was refused.
+    Tried(Result<V, TryPutError<K, Attempt<V>, ()>>),
+
+    /// Of a look-up, and of an end: the value there, which was the old one where another was written.
     Value(Option<V>),
     Pair(Option<(K, V)>),
     Number(usize),
     Flag(bool),
+
+    /// Of a call that answers nothing.
+    Done,
+}
+
+/// What a weighted put did that was not refused.
+///
+/// No memory is taken for the pairs that it dropped, so of these there are the number and the last one: the put takes them
+/// from the back, one after the other.
+#[derive(Debug, Drop, PartialEq)]
+pub struct Weighing<K, V> {
+    /// The old value of the key, where it was held.
+    pub replaced: Option<V>,
+
+    /// How many pairs were handed out.
+    pub dropped: usize,
+
+    /// The pair that was handed out last.
+    pub last: Option<(K, V)>,
+}
+
+impl<K: Drop, V: Drop> Weighing<K, V> {
+    /// Notes one more pair that was handed out.
+    pub(crate) fn take(&mut self, key: K, value: V)
+        requires { self.old.dropped + 1 < 2 ^ 64 }
+        ensures dropped { self.new.dropped ≡ self.old.dropped + 1 }
+        ensures last { self.new.last ≡ Some (key, value) }
+    {
+        self.dropped += 1;
+        self.last = Some((key, value));
+    }
 }

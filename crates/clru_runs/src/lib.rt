@@ -7,15 +7,17 @@
 //! A value is copied out of the cache, so `V` is `Copy`: a clone may want memory, and would be one more way to fail. A key
 //! is moved in and needs `Drop`.
 //!
-//! One more call is a variant of `Call` or of `PlainCall`, its arm in `perform.rt`, and its line in `Step` or `PlainStep`.
+//! One more call is a variant of `Call`, `PlainCall` or `ListCall`, its arm in `perform.rt`, and its line in `Step`,
+//! `PlainStep` or `ListStep`.
 #![tactic(auto)]
 
 mod call;
 mod laws;
+mod lends;
 mod perform;
 mod run;
 
-pub use call::{Answer, Call, PlainCall};
+pub use call::{Answer, Attempt, Call, ListCall, PlainCall, Weighing};
 pub use laws::{law_included_runs, law_put_runs};
 pub use perform::Perform;
 pub use run::perform_all;

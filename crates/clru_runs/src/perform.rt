@@ -1,9 +1,11 @@
 //! One call, made.
+ghost use Rattle.std.specs.Prelude.{◌≡◌, ◌+◌, ◌<◌, ◌^◌, Some, not};
 ghost use Rattle.clru.specs.Cache.{IsValid};
-ghost use Rattle.clru_runs.specs.Step.{Step, PlainStep};
+ghost use Rattle.clru_runs.specs.Step.{Step, PlainStep, ListStep};
 
-use crate::call::{Answer, Call, PlainCall};
-use clru::{CLruCache, WeightScale, ZeroWeightScale};
+use crate::call::{Answer, Call, ListCall, PlainCall, Weighing};
+use crate::lends::{back, back_mut, front, front_mut, get_mut, peek_mut, try_put_or_modify};
+use clru::{CLruCache, NonZeroUsize, WeightScale, ZeroWeightScale};
 use std::alloc::Allocator;
 use std::hash::{BuildHasher, Hash};
 
@@ -54,6 +56,24 @@ where
     }
 }
 
+impl<K: Eq + Hash + Drop, V: Copy, S: BuildHasher, A> Perform<
+    CLruCache<K, V, S, ZeroWeightScale, A>,
+> for ListCall<K, V>
+where
+    A: Allocator + Copy,
+{
+    type Answer = Answer<K, V>;
+
+    ghost step = { λ old call answer new. ListStep K.eq old call answer new × IsValid K.eq (λ _ _. 0) new };
+
+    fn perform(self, cache: &mut CLruCache<K, V, S, ZeroWeightScale, A>) -> Answer<K, V> {
+        match self {
+            ListCall::Extend(pairs) => extend(cache, pairs),
+            ListCall::Plain(call) => call.perform(cache),
+        }
+    }
+}
+
 fn make<K: Eq + Hash + Drop, V: Copy, S: BuildHasher, W: WeightScale<K, V>, A: Allocator + Copy>(
     call: Call<K, V>,
     cache: &mut CLruCache<K, V, S, W, A>,
@@ -70,7 +90,20 @@ fn make<K: Eq + Hash + Drop, V: Copy, S: BuildHasher, W: WeightScale<K, V>, A: A
         Call::Capacity => Answer::Number(cache.capacity()),
         Call::IsEmpty => Answer::Flag(cache.is_empty()),
         Call::IsFull => Answer::Flag(cache.is_full()),
+        Call::Pop(key) => Answer::Value(cache.pop(&key)),
+        Call::Front => Answer::Value(front(cache)),
+        Call::Back => Answer::Value(back(cache)),
         Call::PopFront => Answer::Pair(cache.pop_front()),
+        Call::PopBack => Answer::Pair(cache.pop_back()),
+        Call::Clear => {
+            cache.clear();
+            Answer::Done
+        }
+        Call::Resize(capacity) => {
+            cache.resize(NonZeroUsize::new(capacity).unwrap_or(NonZeroUsize::MIN));
+            Answer::Done
+        }
+        Call::Retain(key) => retain(cache, key),
     }
 }
 
@@ -83,6 +116,12 @@ fn make_plain<K: Eq + Hash + Drop, V: Copy, S: BuildHasher, A: Allocator + Copy>
     match call {
         PlainCall::Put(key, value) => put(cache, key, value),
         PlainCall::PutOrModify(key, value) => put_or_modify(cache, key, value),
+        PlainCall::RetainMut(key, value) => retain_mut(cache, key, value),
+        PlainCall::TryPutOrModify(key, attempt) => try_put_or_modify(cache, key, attempt),
+        PlainCall::GetMut(key, value) => get_mut(cache, key, value),
+        PlainCall::PeekMut(key, value) => peek_mut(cache, key, value),
+        PlainCall::FrontMut(value) => front_mut(cache, value),
+        PlainCall::BackMut(value) => back_mut(cache, value),
         PlainCall::Any(call) => make(call, cache),
     }
 }
@@ -96,7 +135,27 @@ fn put_with_weight<
 >(cache: &mut CLruCache<K, V, S, W, A>, key: K, value: V) -> Answer<K, V>
     ensures { Step K.eq W.weight cache.old (Call.PutWithWeight key value) result cache.new }
 {
-    Answer::Weighed(cache.put_with_weight(key, value))
+    // It tells that the entries can be counted.
+    let _len = cache.len();
+    let mut weighing = Weighing {
+        replaced: None,
+        dropped: 0,
+        last: None,
+    };
+    let mut note = |key, value|
+        requires { weighing.dropped + 1 < 2 ^ 64 }
+        ensures dropped { weighing.exit.dropped ≡ weighing.entry.dropped + 1 }
+        ensures last { weighing.exit.last ≡ Some (key, value) }
+    {
+        weighing.take(key, value);
+    };
+    match cache.put_with_weight_handing_to(key, value, &mut note) {
+        Ok(replaced) => {
+            weighing.replaced = replaced;
+            Answer::Weighed(Ok(weighing))
+        }
+        Err(refusal) => Answer::Weighed(Err(refusal)),
+    }
 }
 
 fn put<K: Eq + Hash + Drop, V: Copy, S: BuildHasher, A: Allocator + Copy>(
@@ -120,4 +179,48 @@ fn put_or_modify<K: Eq + Hash + Drop, V: Copy, S: BuildHasher, A: Allocator + Co
         Ok(lent) => Answer::Lent(Ok(*lent)),
         Err(back) => Answer::Lent(Err(back)),
     }
+}
+
+fn extend<K: Eq + Hash + Drop, V: Copy, S: BuildHasher, A: Allocator + Copy>(
+    cache: &mut CLruCache<K, V, S, ZeroWeightScale, A>,
+    pairs: Vec<(K, V)>,
+) -> Answer<K, V>
+    ensures step { ListStep K.eq cache.old (ListCall.Extend pairs) result cache.new }
+    ensures valid { IsValid K.eq (λ _ _. 0) cache.new }
+{
+    let answer = Answer::Extended(cache.extend(pairs));
+    let _len = cache.len();
+    answer
+}
+
+fn retain<K: Eq + Hash + Drop, V: Copy, S: BuildHasher, W: WeightScale<K, V>, A: Allocator + Copy>(
+    cache: &mut CLruCache<K, V, S, W, A>,
+    key: K,
+) -> Answer<K, V>
+    ensures { Step K.eq W.weight cache.old (Call.Retain key) result cache.new }
+{
+    cache.retain(
+        |held: &K, _: &V| -> bool
+            ensures { result ≡ not (K.eq held.now key) }
+        { *held != key },
+    );
+    Answer::Done
+}
+
+fn retain_mut<K: Eq + Hash + Drop, V: Copy, S: BuildHasher, A: Allocator + Copy>(
+    cache: &mut CLruCache<K, V, S, ZeroWeightScale, A>,
+    key: K,
+    value: V,
+) -> Answer<K, V>
+    ensures { PlainStep K.eq cache.old (PlainCall.RetainMut key value) result cache.new }
+{
+    cache.retain_mut(
+        |held: &K, old: &mut V| -> bool
+            ensures { (result ≡ not (K.eq held.now key)) × (old.new ≡ value) }
+        {
+            *old = value;
+            *held != key
+        },
+    );
+    Answer::Done
 }

@@ -2,9 +2,9 @@
 
 use crate::pairs::Pairs;
 use crate::scales::ByValue;
-use crate::tables::room;
+use crate::tables::{holds, room};
 use clru::CLruCache;
-use clru_runs::{Call, Perform, PlainCall};
+use clru_runs::{Attempt, Call, Perform, PlainCall};
 use std::test::Fail;
 
 /// Numbers that look drawn: a linear congruential generator, of which the upper bits are used.
@@ -23,24 +23,48 @@ impl Draws {
 
     fn call(&mut self) -> Call<usize, usize> {
         let key = self.below(9);
-        match self.below(16) {
-            0..=4 => Call::PutWithWeight(key, self.below(6)),
-            5..=7 => Call::Get(key),
-            8 => Call::Peek(key),
-            9 => Call::Contains(key),
-            10 => Call::Len,
-            11 => Call::Weight,
-            12 => Call::Capacity,
-            13 => Call::IsEmpty,
-            14 => Call::IsFull,
-            _ => Call::PopFront,
+        match self.below(26) {
+            0..=7 => Call::PutWithWeight(key, self.below(6)),
+            8..=11 => Call::Get(key),
+            12 => Call::Peek(key),
+            13 => Call::Contains(key),
+            14 => Call::Len,
+            15 => Call::Weight,
+            16 => Call::Capacity,
+            17 => Call::IsEmpty,
+            18 => Call::IsFull,
+            19 => Call::PopFront,
+            20 => Call::PopBack,
+            21 => Call::Pop(key),
+            22 => Call::Retain(key),
+            23 => Call::Front,
+            24 => Call::Back,
+            _ => self.rare(),
+        }
+    }
+
+    /// A call that takes out many entries, or lets many in.
+    fn rare(&mut self) -> Call<usize, usize> {
+        match self.below(4) {
+            0 => Call::Clear,
+            1 => Call::Resize(usize::MAX),
+            _ => Call::Resize(self.below(14)),
         }
     }
 
     fn plain_call(&mut self) -> PlainCall<usize, usize> {
-        match self.below(4) {
-            0 => PlainCall::Put(self.below(9), self.below(6)),
-            1 => PlainCall::PutOrModify(self.below(9), self.below(6)),
+        let (key, value) = (self.below(9), self.below(6));
+        match self.below(16) {
+            0 | 1 => PlainCall::Put(key, value),
+            2 | 3 => PlainCall::PutOrModify(key, value),
+            4 => PlainCall::RetainMut(key, value),
+            5 => PlainCall::TryPutOrModify(key, Attempt::Store(value)),
+            6 => PlainCall::TryPutOrModify(key, Attempt::Fail(Some(value))),
+            7 => PlainCall::TryPutOrModify(key, Attempt::Fail(None)),
+            8 => PlainCall::GetMut(key, value),
+            9 => PlainCall::PeekMut(key, value),
+            10 => PlainCall::FrontMut(value),
+            11 => PlainCall::BackMut(value),
             _ => PlainCall::Any(self.call()),
         }
     }
@@ -61,10 +85,7 @@ fn drawn_calls_by_weight(rt: HostRuntime) -> Result<(), Fail> {
             let answer = pairs.perform(&call)?;
             assert_eq!(rt; call.perform(&mut cache), answer, "call {n} at {capacity}");
         }
-        for pair in pairs.list {
-            assert_eq!(rt; cache.pop_front(), Some(pair), "at {capacity}");
-        }
-        assert!(rt; cache.is_empty());
+        holds(&rt, &cache, &pairs.list, "drawn calls");
     }
     Ok(())
 }
@@ -84,10 +105,7 @@ fn drawn_calls_by_number(rt: HostRuntime) -> Result<(), Fail> {
             let answer = pairs.perform_plain(&call)?;
             assert_eq!(rt; call.perform(&mut cache), answer, "call {n} at {capacity}");
         }
-        for pair in pairs.list {
-            assert_eq!(rt; cache.pop_front(), Some(pair), "at {capacity}");
-        }
-        assert!(rt; cache.is_empty());
+        holds(&rt, &cache, &pairs.list, "drawn calls");
     }
     Ok(())
 }

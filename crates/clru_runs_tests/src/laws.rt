@@ -4,9 +4,10 @@
 use crate::scales::{ByLength, ByValue};
 use crate::tables::{Table, room, runs};
 use clru::{CLruCache, PutError, ZeroWeightScale};
-use clru_runs::Answer::{Flag, Lent, Pair, Stored, Value, Weighed};
+use clru_runs::Answer::{Flag, Lent, Pair, Tried, Value, Weighed};
+use clru_runs::Attempt::Store;
 use clru_runs::Call::{self, Contains, Get, Peek, PopFront, PutWithWeight};
-use clru_runs::PlainCall::{self, Any, Put, PutOrModify};
+use clru_runs::PlainCall::{self, Any, Put, PutOrModify, TryPutOrModify};
 use clru_runs::{law_included_runs, law_put_runs};
 use std::test::Fail;
 
@@ -17,11 +18,11 @@ static NUMBERS: &[Of<usize>] = &[
         name: "the lesser",
         capacity: 4,
         rows: &[
-            (PutWithWeight("a", 0), Weighed(Ok(None))),
+            (PutWithWeight("a", 0), weighed!(None, 0, None)),
             (PopFront, Pair(Some(("a", 0)))),
-            (PutWithWeight("b", 1), Weighed(Ok(None))),
-            (PutWithWeight("a", 1), Weighed(Ok(None))),
-            (PutWithWeight("c", 1), Weighed(Ok(None))),
+            (PutWithWeight("b", 1), weighed!(None, 0, None)),
+            (PutWithWeight("a", 1), weighed!(None, 0, None)),
+            (PutWithWeight("c", 1), weighed!(None, 1, Some(("b", 1)))),
             (Peek("b"), Value(None)),
             (Contains("a"), Flag(true)),
         ],
@@ -31,11 +32,11 @@ static NUMBERS: &[Of<usize>] = &[
         name: "the greater",
         capacity: 9,
         rows: &[
-            (PutWithWeight("a", 0), Weighed(Ok(None))),
+            (PutWithWeight("a", 0), weighed!(None, 0, None)),
             (PopFront, Pair(Some(("a", 0)))),
-            (PutWithWeight("b", 1), Weighed(Ok(None))),
-            (PutWithWeight("a", 1), Weighed(Ok(None))),
-            (PutWithWeight("c", 1), Weighed(Ok(None))),
+            (PutWithWeight("b", 1), weighed!(None, 0, None)),
+            (PutWithWeight("a", 1), weighed!(None, 0, None)),
+            (PutWithWeight("c", 1), weighed!(None, 0, None)),
             (Peek("b"), Value(Some(1))),
             (Contains("a"), Flag(true)),
         ],
@@ -48,7 +49,7 @@ static TEXTS: &[Of<&'static str>] = &[
         name: "the lesser refuses a put",
         capacity: 2,
         rows: &[
-            (PutWithWeight("y", ""), Weighed(Ok(None))),
+            (PutWithWeight("y", ""), weighed!(None, 0, None)),
             (
                 PutWithWeight("x", "aa"),
                 Weighed(Err(PutError::TooHeavy("x", "aa"))),
@@ -60,8 +61,8 @@ static TEXTS: &[Of<&'static str>] = &[
         name: "the greater takes it",
         capacity: 4,
         rows: &[
-            (PutWithWeight("y", ""), Weighed(Ok(None))),
-            (PutWithWeight("x", "aa"), Weighed(Ok(None))),
+            (PutWithWeight("y", ""), weighed!(None, 0, None)),
+            (PutWithWeight("x", "aa"), weighed!(None, 0, None)),
         ],
         list: &[("x", "aa"), ("y", "")],
     },
@@ -72,8 +73,8 @@ static WEIGHTLESS: &[Of<usize>] = &[
         name: "the lesser gets nothing",
         capacity: 1,
         rows: &[
-            (PutWithWeight("a", 1), Weighed(Ok(None))),
-            (PutWithWeight("b", 2), Weighed(Ok(None))),
+            (PutWithWeight("a", 1), weighed!(None, 0, None)),
+            (PutWithWeight("b", 2), weighed!(None, 1, Some(("a", 1)))),
             (Get("a"), Value(None)),
         ],
         list: &[("b", 2)],
@@ -82,8 +83,8 @@ static WEIGHTLESS: &[Of<usize>] = &[
         name: "the greater moves an entry",
         capacity: 2,
         rows: &[
-            (PutWithWeight("a", 1), Weighed(Ok(None))),
-            (PutWithWeight("b", 2), Weighed(Ok(None))),
+            (PutWithWeight("a", 1), weighed!(None, 0, None)),
+            (PutWithWeight("b", 2), weighed!(None, 0, None)),
             (Get("a"), Value(Some(1))),
         ],
         list: &[("a", 1), ("b", 2)],
@@ -94,12 +95,12 @@ static PUTS: Table<'static, PlainCall<&'static str, usize>, &'static str, usize>
     name: "puts in any form hold what a replay hits",
     capacity: 2,
     rows: &[
-        (Put("a", 1), Stored(Ok(None))),
-        (Any(PutWithWeight("b", 2)), Weighed(Ok(None))),
+        (Put("a", 1), stored!(None, None)),
+        (Any(PutWithWeight("b", 2)), weighed!(None, 0, None)),
         (Any(Contains("c")), Flag(false)),
         (PutOrModify("c", 3), Lent(Ok(3))),
-        (Put("a", 4), Stored(Ok(None))),
-        (Put("c", 5), Stored(Ok(Some(3)))),
+        (TryPutOrModify("a", Store(4)), Tried(Ok(4))),
+        (Put("c", 5), stored!(Some(3), None)),
     ],
     list: &[("c", 5), ("a", 4)],
 };

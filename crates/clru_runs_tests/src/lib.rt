@@ -1,16 +1,52 @@
 //! Tests of `clru_runs`: worked lists of calls, drawn ones beside a plain list of pairs, and memory that is refused.
 #![tactic(auto)]
 
+/// The answer of a plain put: what it replaced, and what it dropped.
+#[cfg(test)]
+macro_rules! stored {
+    ($replaced:expr, $dropped:expr) => {
+        clru_runs::Answer::Stored(Ok(clru::Put {
+            replaced: $replaced,
+            dropped: $dropped,
+        }))
+    };
+}
+
+/// The answer of a weighted put: what it replaced, how many pairs it dropped, and the last of them.
+#[cfg(test)]
+macro_rules! weighed {
+    ($replaced:expr, $dropped:expr, $last:expr) => {
+        clru_runs::Answer::Weighed(Ok(clru_runs::Weighing {
+            replaced: $replaced,
+            dropped: $dropped,
+            last: $last,
+        }))
+    };
+}
+
+pub mod callers;
 #[cfg(test)]
 mod drawn;
 #[cfg(test)]
+mod ends;
+#[cfg(test)]
+mod extends;
+#[cfg(test)]
+mod lawful;
+#[cfg(test)]
 mod laws;
+#[cfg(test)]
+mod lends;
 #[cfg(test)]
 mod memory;
 #[cfg(test)]
 mod pairs;
 #[cfg(test)]
 mod plain;
+#[cfg(test)]
+mod removals;
+#[cfg(test)]
+mod resizes;
 #[cfg(test)]
 mod scales;
 #[cfg(test)]

@@ -1,8 +1,9 @@
 //! A list of pairs that answers the calls of a cache, with no index and no running total.
 
-use clru::PutError;
-use clru_runs::{Answer, Call, PlainCall};
+use clru::{Put, PutError, TryPutError};
+use clru_runs::{Answer, Attempt, Call, PlainCall, Weighing};
 use std::alloc::AllocError;
+use std::mem;
 
 /// The pairs in order, and whether each weighs its value or nothing.
 #[derive(Drop)]
@@ -32,15 +33,61 @@ impl Pairs {
     }
 
     /// Takes out the old pair of the key, puts the new one to the front, and drops pairs from the back until all fits.
-    fn put(&mut self, key: usize, value: usize) -> Result<Option<usize>, AllocError> {
-        let old = self.take(key);
+    fn put(&mut self, key: usize, value: usize) -> Result<Weighing<usize, usize>, AllocError> {
+        let replaced = self.take(key);
         self.list.insert(0, (key, value))?;
+        let (dropped, last) = self.shrink();
+        Ok(Weighing {
+            replaced,
+            dropped,
+            last,
+        })
+    }
+
+    /// Drops pairs from the back until all fits, and answers how many, and the last of them.
+    fn shrink(&mut self) -> (usize, Option<(usize, usize)>) {
+        let (mut dropped, mut last) = (0usize, None);
         for _ in 0..self.list.len() {
             if self.list.len().saturating_add(self.weight()) > self.capacity {
-                self.list.pop();
+                last = self.list.pop();
+                dropped = dropped.saturating_add(1);
             }
         }
-        Ok(old)
+        (dropped, last)
+    }
+
+    /// Takes out what is of the key, and writes the value to the others, where one is given.
+    fn retain(&mut self, key: usize, value: Option<usize>) {
+        let _gone = self.take(key);
+        for pair in self.list.iter_mut() {
+            pair.1 = value.unwrap_or(pair.1);
+        }
+    }
+
+    /// Writes a value to the pair at a place, and returns the old one.
+    fn writes(&mut self, at: Option<usize>, value: usize) -> Option<usize> {
+        let pair = self.list.get_mut(at?)?;
+        Some(mem::replace(&mut pair.1, value))
+    }
+
+    /// Stores a value, or fails, once the pair of a held key has come first and was written, where that is said.
+    fn tries(
+        &mut self,
+        key: usize,
+        attempt: Attempt<usize>,
+    ) -> Result<Result<usize, TryPutError<usize, Attempt<usize>, ()>>, AllocError> {
+        match attempt {
+            Attempt::Store(value) => {
+                let _old = self.put(key, value)?;
+                Ok(Ok(value))
+            }
+            Attempt::Fail(left) => {
+                if let Some(old) = self.value(key) {
+                    let _old = self.put(key, left.unwrap_or(old))?;
+                }
+                Ok(Err(TryPutError::Failed(())))
+            }
+        }
     }
 
     pub(crate) fn perform(
@@ -68,8 +115,25 @@ impl Pairs {
             Call::IsFull => {
                 Answer::Flag(self.list.len().saturating_add(self.weight()) == self.capacity)
             }
+            Call::Front => Answer::Value(self.list.first().map(|pair| pair.1)),
+            Call::Back => Answer::Value(self.list.last().map(|pair| pair.1)),
             Call::PopFront if self.list.is_empty() => Answer::Pair(None),
             Call::PopFront => Answer::Pair(Some(self.list.remove(0))),
+            Call::Pop(key) => Answer::Value(self.take(*key)),
+            Call::PopBack => Answer::Pair(self.list.pop()),
+            Call::Clear => {
+                self.list.clear();
+                Answer::Done
+            }
+            Call::Resize(capacity) => {
+                self.capacity = (*capacity).max(1);
+                let _gone = self.shrink();
+                Answer::Done
+            }
+            Call::Retain(key) => {
+                self.retain(*key, None);
+                Answer::Done
+            }
         };
         Ok(answer)
     }
@@ -79,10 +143,37 @@ impl Pairs {
         call: &PlainCall<usize, usize>,
     ) -> Result<Answer<usize, usize>, AllocError> {
         match call {
-            PlainCall::Put(key, value) => Ok(Answer::Stored(Ok(self.put(*key, *value)?))),
+            PlainCall::Put(key, value) => {
+                let put = self.put(*key, *value)?;
+                Ok(Answer::Stored(Ok(Put {
+                    replaced: put.replaced,
+                    dropped: put.last,
+                })))
+            }
             PlainCall::PutOrModify(key, value) => {
                 let _old = self.put(*key, *value)?;
                 Ok(Answer::Lent(Ok(*value)))
+            }
+            PlainCall::TryPutOrModify(key, attempt) => Ok(Answer::Tried(self.tries(*key, *attempt)?)),
+            PlainCall::GetMut(key, value) => {
+                let old = self.value(*key);
+                if old.is_some() {
+                    let _old = self.put(*key, *value)?;
+                }
+                Ok(Answer::Value(old))
+            }
+            PlainCall::PeekMut(key, value) => {
+                let at = self.list.iter().position(|pair| pair.0 == *key);
+                Ok(Answer::Value(self.writes(at, *value)))
+            }
+            PlainCall::FrontMut(value) => Ok(Answer::Value(self.writes(Some(0), *value))),
+            PlainCall::BackMut(value) => {
+                let last = self.list.len().checked_sub(1);
+                Ok(Answer::Value(self.writes(last, *value)))
+            }
+            PlainCall::RetainMut(key, value) => {
+                self.retain(*key, Some(*value));
+                Ok(Answer::Done)
             }
             PlainCall::Any(call) => self.perform(call),
         }

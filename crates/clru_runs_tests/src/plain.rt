@@ -2,8 +2,10 @@
 
 use crate::tables::{Table, room, runs};
 use clru::CLruCache;
-use clru_runs::Answer::{Flag, Lent, Number, Pair, Stored, Value};
-use clru_runs::Call::{Capacity, Contains, Get, IsEmpty, IsFull, Len, Peek, PopFront, Weight};
+use clru_runs::Answer::{Flag, Lent, Number, Pair, Value};
+use clru_runs::Call::{
+    Capacity, Contains, Get, IsEmpty, IsFull, Len, Peek, PopFront, PutWithWeight, Weight,
+};
 use clru_runs::PlainCall::{self, Any, Put, PutOrModify};
 use std::alloc::Global;
 use std::fmt::Debug;
@@ -14,7 +16,7 @@ use std::test::Fail;
 type Of<V> = Table<'static, PlainCall<&'static str, V>, &'static str, V>;
 
 /// Runs each of the tables.
-fn run_all<K: Eq + Hash + Copy + Debug, V: PartialEq + Copy + Debug>(
+pub(crate) fn run_all<K: Eq + Hash + Copy + Debug, V: PartialEq + Copy + Debug>(
     rt: &impl Abort,
     alloc: Global,
     tables: &[Table<PlainCall<K, V>, K, V>],
@@ -32,8 +34,8 @@ static TEXTS: &[Of<&'static str>] = &[
         capacity: 2,
         rows: &[
             (Any(IsEmpty), Flag(true)),
-            (Put("apple", "red"), Stored(Ok(None))),
-            (Put("banana", "yellow"), Stored(Ok(None))),
+            (Put("apple", "red"), stored!(None, None)),
+            (Put("banana", "yellow"), stored!(None, None)),
             (Any(Capacity), Number(2)),
             (Any(Len), Number(2)),
             (Any(Weight), Number(0)),
@@ -48,9 +50,10 @@ static TEXTS: &[Of<&'static str>] = &[
         name: "test_insert_update",
         capacity: 1,
         rows: &[
-            (Put("apple", "red"), Stored(Ok(None))),
-            (Put("apple", "green"), Stored(Ok(Some("red")))),
+            (Put("apple", "red"), stored!(None, None)),
+            (Put("apple", "green"), stored!(Some("red"), None)),
             (Any(Len), Number(1)),
+            (Any(IsFull), Flag(true)),
             (Any(Get("apple")), Value(Some("green"))),
         ],
         list: &[("apple", "green")],
@@ -59,14 +62,17 @@ static TEXTS: &[Of<&'static str>] = &[
         name: "test_insert_removes_oldest",
         capacity: 2,
         rows: &[
-            (Put("apple", "red"), Stored(Ok(None))),
-            (Put("banana", "yellow"), Stored(Ok(None))),
-            (Put("pear", "green"), Stored(Ok(None))),
+            (Put("apple", "red"), stored!(None, None)),
+            (Put("banana", "yellow"), stored!(None, None)),
+            (Put("pear", "green"), stored!(None, Some(("apple", "red")))),
             (Any(Get("apple")), Value(None)),
             (Any(Get("banana")), Value(Some("yellow"))),
             (Any(Get("pear")), Value(Some("green"))),
-            (Put("apple", "green"), Stored(Ok(None))),
-            (Put("tomato", "red"), Stored(Ok(None))),
+            (
+                Put("apple", "green"),
+                stored!(None, Some(("banana", "yellow"))),
+            ),
+            (Put("tomato", "red"), stored!(None, Some(("pear", "green")))),
             (Any(Get("pear")), Value(None)),
             (Any(Get("apple")), Value(Some("green"))),
             (Any(Get("tomato")), Value(Some("red"))),
@@ -77,11 +83,11 @@ static TEXTS: &[Of<&'static str>] = &[
         name: "test_peek",
         capacity: 2,
         rows: &[
-            (Put("apple", "red"), Stored(Ok(None))),
-            (Put("banana", "yellow"), Stored(Ok(None))),
+            (Put("apple", "red"), stored!(None, None)),
+            (Put("banana", "yellow"), stored!(None, None)),
             (Any(Peek("banana")), Value(Some("yellow"))),
             (Any(Peek("apple")), Value(Some("red"))),
-            (Put("pear", "green"), Stored(Ok(None))),
+            (Put("pear", "green"), stored!(None, Some(("apple", "red")))),
             (Any(Peek("apple")), Value(None)),
             (Any(Peek("banana")), Value(Some("yellow"))),
             (Any(Peek("pear")), Value(Some("green"))),
@@ -92,14 +98,30 @@ static TEXTS: &[Of<&'static str>] = &[
         name: "test_contains",
         capacity: 2,
         rows: &[
-            (Put("apple", "red"), Stored(Ok(None))),
-            (Put("banana", "yellow"), Stored(Ok(None))),
-            (Put("pear", "green"), Stored(Ok(None))),
+            (Put("apple", "red"), stored!(None, None)),
+            (Put("banana", "yellow"), stored!(None, None)),
+            (Any(Contains("apple")), Flag(true)),
+            (Put("pear", "green"), stored!(None, Some(("apple", "red")))),
             (Any(Contains("apple")), Flag(false)),
             (Any(Contains("banana")), Flag(true)),
             (Any(Contains("pear")), Flag(true)),
         ],
         list: &[("pear", "green"), ("banana", "yellow")],
+    },
+    Table {
+        name: "a_get_moves_its_entry_to_the_front",
+        capacity: 2,
+        rows: &[
+            (Put("apple", "red"), stored!(None, None)),
+            (Put("banana", "yellow"), stored!(None, None)),
+            (Any(Peek("apple")), Value(Some("red"))),
+            (Any(Contains("apple")), Flag(true)),
+            (Any(PopFront), Pair(Some(("banana", "yellow")))),
+            (Put("pear", "green"), stored!(None, None)),
+            (Any(Get("apple")), Value(Some("red"))),
+            (Any(Get("banana")), Value(None)),
+        ],
+        list: &[("apple", "red"), ("pear", "green")],
     },
 ];
 
@@ -113,13 +135,13 @@ static NUMBERS: &[Of<u64>] = &[
         name: "a_put_of_a_held_key_answers_the_old_value",
         capacity: 2,
         rows: &[
-            (Put("apple", 3), Stored(Ok(None))),
-            (Put("banana", 2), Stored(Ok(None))),
+            (Put("apple", 3), stored!(None, None)),
+            (Put("banana", 2), stored!(None, None)),
             (Any(Get("apple")), Value(Some(3))),
             (Any(Get("banana")), Value(Some(2))),
             (Any(Get("pear")), Value(None)),
-            (Put("banana", 4), Stored(Ok(Some(2)))),
-            (Put("pear", 5), Stored(Ok(None))),
+            (Put("banana", 4), stored!(Some(2), None)),
+            (Put("pear", 5), stored!(None, Some(("apple", 3)))),
             (Any(Get("pear")), Value(Some(5))),
             (Any(Get("banana")), Value(Some(4))),
             (Any(Get("apple")), Value(None)),
@@ -130,9 +152,9 @@ static NUMBERS: &[Of<u64>] = &[
         name: "a_get_moves_its_entry_and_a_peek_does_not",
         capacity: 3,
         rows: &[
-            (Put("a", 1), Stored(Ok(None))),
-            (Put("b", 2), Stored(Ok(None))),
-            (Put("c", 3), Stored(Ok(None))),
+            (Put("a", 1), stored!(None, None)),
+            (Put("b", 2), stored!(None, None)),
+            (Put("c", 3), stored!(None, None)),
             (Any(Get("a")), Value(Some(1))),
             (Any(Peek("b")), Value(Some(2))),
         ],
@@ -142,8 +164,8 @@ static NUMBERS: &[Of<u64>] = &[
         name: "the_front_of_an_empty_cache_is_none",
         capacity: 2,
         rows: &[
-            (Put("a", 1), Stored(Ok(None))),
-            (Put("b", 2), Stored(Ok(None))),
+            (Put("a", 1), stored!(None, None)),
+            (Put("b", 2), stored!(None, None)),
             (Any(PopFront), Pair(Some(("b", 2)))),
             (Any(PopFront), Pair(Some(("a", 1)))),
             (Any(PopFront), Pair(None)),
@@ -158,50 +180,27 @@ static NUMBERS: &[Of<u64>] = &[
             (PutOrModify("a", 1), Lent(Ok(1))),
             (PutOrModify("b", 4), Lent(Ok(4))),
             (PutOrModify("a", 2), Lent(Ok(2))),
-            (Put("b", 5), Stored(Ok(Some(4)))),
+            (Put("b", 5), stored!(Some(4), None)),
             (PutOrModify("c", 3), Lent(Ok(3))),
         ],
         list: &[("c", 3), ("b", 5)],
+    },
+    Table {
+        name: "capacity_one_without_weights",
+        capacity: 1,
+        rows: &[
+            (Any(PutWithWeight("a", 1)), weighed!(None, 0, None)),
+            (
+                Any(PutWithWeight("b", 2)),
+                weighed!(None, 1, Some(("a", 1))),
+            ),
+            (Any(PutWithWeight("b", 3)), weighed!(Some(2), 0, None)),
+        ],
+        list: &[("b", 3)],
     },
 ];
 
 #[test]
 fn numbers(rt: HostRuntime) -> Result<(), Fail> {
     run_all(&rt, rt.alloc(), NUMBERS)
-}
-
-#[test]
-fn test_pop_front(rt: HostRuntime) -> Result<(), Fail> {
-    let mut rows = Vec::new(rt.alloc());
-    for (letter, first) in [('A', 0), ('B', 100), ('C', 200)] {
-        for n in 0..75u32 {
-            rows.push((Put(first + n, letter), Stored(Ok(None))))?;
-        }
-    }
-    rows.push((Any(Len), Number(200)))?;
-    for key in (100..175).rev() {
-        rows.push((Any(Get(key)), Value(Some('B'))))?;
-    }
-    rows.push((Any(Get(25)), Value(Some('A'))))?;
-    rows.push((Any(PopFront), Pair(Some((25, 'A')))))?;
-    for key in 100..175 {
-        rows.push((Any(PopFront), Pair(Some((key, 'B')))))?;
-    }
-    for key in (200..275).rev() {
-        rows.push((Any(PopFront), Pair(Some((key, 'C')))))?;
-    }
-    for key in (26..75).rev() {
-        rows.push((Any(PopFront), Pair(Some((key, 'A')))))?;
-    }
-    for _ in 0..50u32 {
-        rows.push((Any(PopFront), Pair(None)))?;
-    }
-    let table = Table {
-        name: "test_pop_front",
-        capacity: 200,
-        rows: rows.as_slice(),
-        list: &[],
-    };
-    let mut cache = CLruCache::new(rt.alloc(), room(table.capacity)?);
-    runs(&rt, rt.alloc(), &table, &mut cache)
 }

@@ -24,7 +24,7 @@ pub(crate) fn room(n: usize) -> Result<NonZeroUsize, &'static str> {
     NonZeroUsize::new(n).ok_or("a capacity is no 0")
 }
 
-/// Makes the calls of the table, asserts their answers, and takes the entries out.
+/// Makes the calls of the table, and asserts their answers and the entries at the end.
 pub(crate) fn runs<K, V, W, A, Q>(
     rt: &impl Abort,
     alloc: Global,
@@ -46,9 +46,25 @@ where
     for (given, (call, answer)) in answers.into_iter().zip(table.rows) {
         assert!(rt; given == *answer, "{call:?} of {}", table.name);
     }
-    for pair in table.list {
-        assert_eq!(rt; cache.pop_front(), Some(*pair), "of {}", table.name);
-    }
-    assert!(rt; cache.is_empty(), "{}", table.name);
+    holds(rt, cache, table.list, table.name);
     Ok(())
+}
+
+/// Asserts that the cache holds the pairs of `list` and no other, the most recently used first.
+pub(crate) fn holds<K, V, W, A>(
+    rt: &impl Abort,
+    cache: &CLruCache<K, V, DefaultState, W, A>,
+    list: &[(K, V)],
+    name: &str,
+)
+where
+    K: Eq + Hash + Copy + Debug,
+    V: PartialEq + Copy + Debug,
+    W: WeightScale<K, V>,
+    A: Allocator + Copy,
+{
+    assert_eq!(rt; cache.len(), list.len(), "of {name}");
+    for ((key, value), pair) in cache.iter().zip(list) {
+        assert_eq!(rt; (*key, *value), *pair, "of {name}");
+    }
 }

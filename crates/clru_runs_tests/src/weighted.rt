@@ -4,7 +4,9 @@ use crate::scales::{ByLength, ByValue};
 use crate::tables::{Table, room, runs};
 use clru::{CLruCache, PutError};
 use clru_runs::Answer::{Flag, Number, Value, Weighed};
-use clru_runs::Call::{self, Capacity, Get, IsEmpty, IsFull, Len, Peek, PutWithWeight, Weight};
+use clru_runs::Call::{
+    self, Capacity, Contains, Get, IsEmpty, IsFull, Len, Peek, PutWithWeight, Weight,
+};
 use std::test::Fail;
 
 type Of<V> = Table<'static, Call<&'static str, V>, &'static str, V>;
@@ -15,8 +17,8 @@ static TEXTS: &[Of<&'static str>] = &[
         capacity: 11,
         rows: &[
             (IsEmpty, Flag(true)),
-            (PutWithWeight("apple", "red"), Weighed(Ok(None))),
-            (PutWithWeight("banana", "yellow"), Weighed(Ok(None))),
+            (PutWithWeight("apple", "red"), weighed!(None, 0, None)),
+            (PutWithWeight("banana", "yellow"), weighed!(None, 0, None)),
             (Capacity, Number(11)),
             (Len, Number(2)),
             (Weight, Number(9)),
@@ -31,8 +33,11 @@ static TEXTS: &[Of<&'static str>] = &[
         name: "test_weighted_insert_update",
         capacity: 6,
         rows: &[
-            (PutWithWeight("apple", "red"), Weighed(Ok(None))),
-            (PutWithWeight("apple", "green"), Weighed(Ok(Some("red")))),
+            (PutWithWeight("apple", "red"), weighed!(None, 0, None)),
+            (
+                PutWithWeight("apple", "green"),
+                weighed!(Some("red"), 0, None),
+            ),
             (Len, Number(1)),
             (
                 PutWithWeight("apple", "purple"),
@@ -48,17 +53,24 @@ static TEXTS: &[Of<&'static str>] = &[
         name: "test_weighted_insert_removes_oldest",
         capacity: 16,
         rows: &[
-            (PutWithWeight("apple", "red"), Weighed(Ok(None))),
-            (PutWithWeight("banana", "yellow"), Weighed(Ok(None))),
-            (PutWithWeight("pear", "green"), Weighed(Ok(None))),
+            (PutWithWeight("apple", "red"), weighed!(None, 0, None)),
+            (PutWithWeight("banana", "yellow"), weighed!(None, 0, None)),
+            (
+                PutWithWeight("pear", "green"),
+                weighed!(None, 1, Some(("apple", "red"))),
+            ),
             (Len, Number(2)),
             (Weight, Number(11)),
             (IsFull, Flag(false)),
             (Get("apple"), Value(None)),
             (Get("banana"), Value(Some("yellow"))),
             (Get("pear"), Value(Some("green"))),
-            (PutWithWeight("apple", "green"), Weighed(Ok(None))),
-            (PutWithWeight("tomato", "red"), Weighed(Ok(None))),
+            (
+                PutWithWeight("apple", "green"),
+                weighed!(None, 1, Some(("banana", "yellow"))),
+            ),
+            (Contains("banana"), Flag(false)),
+            (PutWithWeight("tomato", "red"), weighed!(None, 0, None)),
             (Len, Number(3)),
             (Weight, Number(13)),
             (IsFull, Flag(true)),
@@ -69,10 +81,14 @@ static TEXTS: &[Of<&'static str>] = &[
         name: "a_put_drops_what_does_not_fit_beside_it",
         capacity: 10,
         rows: &[
-            (PutWithWeight("apple", "red"), Weighed(Ok(None))),
-            (PutWithWeight("banana", "yellow"), Weighed(Ok(None))),
+            (PutWithWeight("apple", "red"), weighed!(None, 0, None)),
+            (
+                PutWithWeight("banana", "yellow"),
+                weighed!(None, 1, Some(("apple", "red"))),
+            ),
             (Len, Number(1)),
             (Weight, Number(6)),
+            (IsFull, Flag(false)),
         ],
         list: &[("banana", "yellow")],
     },
@@ -95,10 +111,10 @@ static TEXTS: &[Of<&'static str>] = &[
         name: "test_weighted_iter",
         capacity: 8,
         rows: &[
-            (PutWithWeight("1", "a"), Weighed(Ok(None))),
-            (PutWithWeight("2", "b"), Weighed(Ok(None))),
-            (PutWithWeight("3", "c"), Weighed(Ok(None))),
-            (PutWithWeight("4", "d"), Weighed(Ok(None))),
+            (PutWithWeight("1", "a"), weighed!(None, 0, None)),
+            (PutWithWeight("2", "b"), weighed!(None, 0, None)),
+            (PutWithWeight("3", "c"), weighed!(None, 0, None)),
+            (PutWithWeight("4", "d"), weighed!(None, 0, None)),
             (Len, Number(4)),
             (Weight, Number(4)),
             (IsFull, Flag(true)),
@@ -109,9 +125,9 @@ static TEXTS: &[Of<&'static str>] = &[
         name: "less_capacity_keeps_a_prefix, the larger one",
         capacity: 8,
         rows: &[
-            (PutWithWeight("1", "a"), Weighed(Ok(None))),
-            (PutWithWeight("2", "b"), Weighed(Ok(None))),
-            (PutWithWeight("3", "c"), Weighed(Ok(None))),
+            (PutWithWeight("1", "a"), weighed!(None, 0, None)),
+            (PutWithWeight("2", "b"), weighed!(None, 0, None)),
+            (PutWithWeight("3", "c"), weighed!(None, 0, None)),
         ],
         list: &[("3", "c"), ("2", "b"), ("1", "a")],
     },
@@ -119,9 +135,9 @@ static TEXTS: &[Of<&'static str>] = &[
         name: "less_capacity_keeps_a_prefix, the smaller one",
         capacity: 4,
         rows: &[
-            (PutWithWeight("1", "a"), Weighed(Ok(None))),
-            (PutWithWeight("2", "b"), Weighed(Ok(None))),
-            (PutWithWeight("3", "c"), Weighed(Ok(None))),
+            (PutWithWeight("1", "a"), weighed!(None, 0, None)),
+            (PutWithWeight("2", "b"), weighed!(None, 0, None)),
+            (PutWithWeight("3", "c"), weighed!(None, 1, Some(("1", "a")))),
         ],
         list: &[("3", "c"), ("2", "b")],
     },
@@ -129,14 +145,30 @@ static TEXTS: &[Of<&'static str>] = &[
         name: "a_replaced_value_drops_nothing_else",
         capacity: 8,
         rows: &[
-            (PutWithWeight("y", "b"), Weighed(Ok(None))),
-            (PutWithWeight("z", "c"), Weighed(Ok(None))),
-            (PutWithWeight("x", "aa"), Weighed(Ok(None))),
-            (PutWithWeight("x", "aaa"), Weighed(Ok(Some("aa")))),
+            (PutWithWeight("y", "b"), weighed!(None, 0, None)),
+            (PutWithWeight("z", "c"), weighed!(None, 0, None)),
+            (PutWithWeight("x", "aa"), weighed!(None, 0, None)),
+            (PutWithWeight("x", "aaa"), weighed!(Some("aa"), 0, None)),
             (Weight, Number(5)),
             (IsFull, Flag(true)),
         ],
         list: &[("x", "aaa"), ("z", "c"), ("y", "b")],
+    },
+    Table {
+        name: "capacity_one_holds_what_weighs_nothing",
+        capacity: 1,
+        rows: &[
+            (
+                PutWithWeight("x", "b"),
+                Weighed(Err(PutError::TooHeavy("x", "b"))),
+            ),
+            (Len, Number(0)),
+            (PutWithWeight("x", ""), weighed!(None, 0, None)),
+            (Len, Number(1)),
+            (Weight, Number(0)),
+            (IsFull, Flag(true)),
+        ],
+        list: &[("x", "")],
     },
 ];
 
@@ -155,10 +187,13 @@ static NUMBERS: &[Of<usize>] = &[Table {
     name: "weights_near_the_largest_number",
     capacity: MOST,
     rows: &[
-        (PutWithWeight("a", MOST - 3), Weighed(Ok(None))),
-        (PutWithWeight("b", MOST - 3), Weighed(Ok(None))),
+        (PutWithWeight("a", MOST - 3), weighed!(None, 0, None)),
+        (
+            PutWithWeight("b", MOST - 3),
+            weighed!(None, 1, Some(("a", MOST - 3))),
+        ),
         (Len, Number(1)),
-        (PutWithWeight("c", 1), Weighed(Ok(None))),
+        (PutWithWeight("c", 1), weighed!(None, 0, None)),
         (Weight, Number(MOST - 2)),
         (IsFull, Flag(true)),
         (
@@ -166,7 +201,14 @@ static NUMBERS: &[Of<usize>] = &[Table {
             Weighed(Err(PutError::TooHeavy("d", MOST))),
         ),
         (Len, Number(2)),
-        (PutWithWeight("d", MOST - 1), Weighed(Ok(None))),
+        (Get("a"), Value(None)),
+        (Get("b"), Value(Some(MOST - 3))),
+        (Get("c"), Value(Some(1))),
+        (Get("d"), Value(None)),
+        (
+            PutWithWeight("d", MOST - 1),
+            weighed!(None, 2, Some(("c", 1))),
+        ),
         (Weight, Number(MOST - 1)),
         (IsFull, Flag(true)),
     ],

@@ -1,1 +1,2 @@
+mod Failing
 pub mod GrowingRuns

@@ -4,8 +4,15 @@ ghost use Rattle.std.specs.Map.{lookup};
 ghost use Rattle.clru.specs.Entries.{size_of};
 
 pub mod calls;
+pub mod drops;
+pub mod errors;
+pub mod lends;
+pub mod lookups;
+pub mod makers;
 pub mod puts;
+pub mod removals;
 pub mod runs;
+pub mod walks;
 
 use clru::{CLruCache, DefaultState, PutError, WeightScale};
 
@@ -29,7 +36,7 @@ pub fn remember_by_weight<W: WeightScale<u64, u64>>(
     ensures stored { OnOk result (lookup (nat_eq page) sizes.new.entries ≡ Some size) }
     ensures kept { OnErr result (sizes.new.entries ≡ sizes.old.entries) }
 {
-    match sizes.put_with_weight(page, size) {
+    match sizes.put_with_weight(page, size, |_, _| {}) {
         Ok(_) => Ok(()),
         Err(refusal) => Err(refusal),
     }
@@ -75,6 +82,50 @@ mod tests {
         );
         assert_eq!(rt; remember_by_weight(&mut cache, 5, 80), Ok(()));
         assert_eq!(rt; (cache.peek(&5).copied(), room_left(&cache)), (Some(80), 0));
+        Ok(())
+    }
+
+    #[test]
+    fn callers_know_what_was_dropped(rt: HostRuntime) -> Result<(), Fail> {
+        let mut pages = CLruCache::new(rt.alloc(), NonZeroUsize::MIN);
+        let mut disk = [0; 3];
+        for (page, contents, lost) in [
+            (1, 10, None),
+            (1, 11, None),
+            (2, 20, Some(1)),
+            (9, 90, Some(2)),
+        ] {
+            assert_eq!(rt;
+                drops::write_back(&mut pages, &mut disk, page, contents),
+                Ok(lost)
+            );
+        }
+        assert_eq!(rt;
+            drops::write_back(&mut pages, &mut disk, 0, 5),
+            Ok(Some(9)),
+            "not on the disk"
+        );
+        assert_eq!(rt; disk, [0, 11, 20]);
+        let mut sizes = CLruCache::new(rt.alloc(), NonZeroUsize::MIN);
+        for (page, number) in [(1, 0), (2, 1), (2, 0)] {
+            assert_eq!(rt;
+                drops::number_forgotten(&mut sizes, page, 70),
+                Ok(number),
+                "{page}"
+            );
+        }
+        Ok(())
+    }
+
+    #[test]
+    fn callers_know_of_the_other_pages(rt: HostRuntime) -> Result<(), Fail> {
+        let mut sizes = CLruCache::new(rt.alloc(), NonZeroUsize::MIN);
+        assert_eq!(rt; lookups::remember_one_more(&mut sizes, 1, 10), Ok(true));
+        assert_eq!(rt; lookups::remember_one_more(&mut sizes, 2, 20), Ok(false));
+        assert_eq!(rt; lookups::remember_beside(&mut sizes, 2, 21), Ok(true));
+        assert_eq!(rt; lookups::look_at_both(&mut sizes, &1, &2), Some(21));
+        assert_eq!(rt; lookups::look_and_count(&mut sizes, &2), 1);
+        assert_eq!(rt; lookups::forget(&mut sizes, &2), 0);
         Ok(())
     }
 }

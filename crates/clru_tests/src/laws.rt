@@ -3,8 +3,8 @@
 use crate::callers::{calls, puts, runs};
 use crate::lists::room;
 use clru::{
-    CLruCache, law_by_place, law_growth, law_inclusion, law_longest_fit, law_requests,
-    law_schedules_by_place,
+    CLruCache, ZeroWeightScale, law_by_place, law_dropped, law_growth, law_inclusion,
+    law_longest_fit, law_requests, law_schedules_by_place,
 };
 use std::test::Fail;
 
@@ -16,6 +16,12 @@ fn laws_do_nothing() {
     law_inclusion::<u64, &'static str>();
     law_longest_fit::<u64, &'static str>();
     law_requests::<&'static str, u64>();
+    law_of_drops(&|_, _| {});
+}
+
+/// `law_dropped` for the type of a closure.
+fn law_of_drops<F: FnMut(u64, u64)>(_on_drop: &F) {
+    law_dropped::<u64, u64, ZeroWeightScale, F>();
 }
 
 #[test]

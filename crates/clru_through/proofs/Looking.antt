@@ -1,8 +1,9 @@
 -- What the answer of a look-up says of the entries.
-use Rattle.std.proofs.Common.{◌≡◌, Bool, true, false, List, Option, Some, None, IsTrue, refl, sym, ap}
+use Rattle.std.proofs.Common.{◌≡◌, Bool, true, false, List, [], ◌∷◌, Option, Some, None, IsTrue, slice_get, refl, sym, ap, subst}
 use Rattle.std.specs.Borrow.{Bor}
 use Rattle.std.specs.Map.{lookup}
-use Rattle.std.specs.Option.{IfSome, is_some, option_copied}
+use Rattle.std.specs.Map.Iter.{deref_pair}
+use Rattle.std.specs.Option.{IfSome, is_some, option_copied, option_map}
 use Rattle.clru.specs.Cache.{Cache, with_entries}
 use Rattle.clru.specs.Entries.{touch}
 use Rattle.clru_through.specs.Store.{AllFrom}
@@ -29,3 +30,12 @@ pub IfSome-lookup : {K V : Type 0} (eq : K → K → Bool) (x : K) (value : K �
     → IfSome answer (λ v. value x ≡ Some v.now)
 IfSome-lookup eq x value same es all None is = tt
 IfSome-lookup eq x value same es all (Some v) is = AllFrom-lookup eq x value same es v.now all (sym is)
+
+-- the first pair has the source's value
+pub IfSome-first : {K V : Type 0} (value : K → Option V) (es : List (K × V)) → AllFrom value es → (answer : Option (Bor K × Bor V))
+    → option_map deref_pair answer ≡ slice_get es 0 → IfSome answer (λ e. value e.0.now ≡ Some e.1.now)
+unfolding AllFrom
+IfSome-first value es all None is = tt
+IfSome-first value [] all (Some e) is = cc
+IfSome-first {K = K} {V = V} value (d ∷ es) all (Some e) is =
+    let same : (e.0.now, e.1.now) ≡ d = cc in subst (λ (p : K × V). value p.0 ≡ Some p.1) (sym same) all.0

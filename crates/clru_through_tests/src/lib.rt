@@ -3,6 +3,8 @@
 
 pub mod callers;
 #[cfg(test)]
+mod costs;
+#[cfg(test)]
 mod failures;
 #[cfg(test)]
 mod memory;

@@ -25,6 +25,10 @@ fn a_second_get_fetches_nothing(rt: HostRuntime) -> Result<(), Fail> {
     walks(&rt, &mut store, &fetched, &rows);
     assert_eq!(rt; (store.peek(&one(b'a')), store.capacity()), (None, 4));
     assert!(rt; store.peek(&one(b'b')).is_some());
+    assert_eq!(rt;
+        store.front().map(|(name, text)| (*name, text.length)),
+        Some((one(b'b'), 2))
+    );
     Ok(())
 }
 

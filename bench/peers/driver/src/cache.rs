@@ -6,6 +6,15 @@ use std::hash::Hash;
 /// The calls of a cache that the stages make. Each answers as a map would.
 pub trait Cache<K, V> {
     fn with_capacity(capacity: usize) -> Self;
+
+    /// With memory for as many entries as the capacity, where there is a call for that.
+    fn with_memory(capacity: usize) -> Self
+    where
+        Self: Sized,
+    {
+        Self::with_capacity(capacity)
+    }
+
     fn get(&mut self, key: &K) -> Option<&V>;
     fn put(&mut self, key: K, value: V) -> Option<V>;
     fn pop(&mut self, key: &K) -> Option<V>;
@@ -68,6 +77,12 @@ impl<K: Eq + Hash, V> Cache<K, V> for Clru<K, V> {
     fn with_capacity(capacity: usize) -> Self {
         let capacity = std::num::NonZeroUsize::new(capacity).expect("a capacity above 0");
         Clru::with_hasher(capacity, FoldState)
+    }
+
+    fn with_memory(capacity: usize) -> Self {
+        let size = std::num::NonZeroUsize::new(capacity).expect("a capacity above 0");
+        let config = clru::CLruCacheConfig::new(size).with_hasher(FoldState);
+        Clru::with_config(config.with_memory(capacity))
     }
 
     fn get(&mut self, key: &K) -> Option<&V> {

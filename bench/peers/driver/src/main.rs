@@ -1,7 +1,7 @@
 //! One measurement in one process, so that no cache meets the heap that another one left.
 //!
 //! `stages CACHE CAPACITY CALLS` prints a line for each stage: its name, the calls, nanoseconds, hits, misses and the sum
-//! of the values found. `memory CACHE CAPACITY` prints the growth of the resident memory by a fill, in bytes.
+//! of the values found. `reserved CACHE CAPACITY` prints such a line of a fill of reserved memory. `memory CACHE CAPACITY` prints the growth of the resident memory by a fill, in bytes.
 //! `hashes` tests that all hash alike. `lines CACHE` is the program that replays the lines of standard input. `input CAPACITY LINES` prints such an input.
 
 mod cache;
@@ -21,7 +21,7 @@ use cache::{Cache, Hashlink, Lru};
 use replay::{replay, timed};
 use std::env;
 use std::process::exit;
-use tally::Found;
+use tally::{print_line, Found};
 use workload::{first_keys, Workload};
 
 fn main() {
@@ -29,12 +29,13 @@ fn main() {
     let words: Vec<&str> = words.iter().map(String::as_str).collect();
     match words[..] {
         ["stages", cache, capacity, calls] => print_stages(cache, number(capacity), number(calls)),
+        ["reserved", cache, capacity] => print_reserved(cache, number(capacity)),
         ["memory", cache, capacity] => print_memory(cache, number(capacity)),
         ["hashes"] if ours::hashes_alike() => {}
         ["hashes"] => stop("our cache hashes otherwise"),
         ["lines", cache] => replay_lines(cache),
         ["input", capacity, count] => lines::print_input(number(capacity), number(count)),
-        _ => stop("give stages, memory, lines or input, and what it takes"),
+        _ => stop("give stages, reserved, memory, lines or input, and what it takes"),
     }
 }
 
@@ -56,6 +57,19 @@ fn stages_of<R: Cache<u64, bool>, S: Cache<u64, u64>>(workload: &Workload) -> Fo
         replay: timed::<R>(workload.capacity, &workload.requests),
         steps: stages::run::<S>(workload),
     }
+}
+
+fn print_reserved(cache: &str, capacity: usize) {
+    let keys = first_keys(capacity);
+    let tally = match cache {
+        "ours" => ours::fill_reserved(capacity, &keys),
+        "lru" => stages::fill_reserved::<Lru<_, _>>(capacity, &keys),
+        "hashlink" => stages::fill_reserved::<Hashlink<_, _>>(capacity, &keys),
+        #[cfg(feature = "clru")]
+        "clru" => stages::fill_reserved::<Clru<_, _>>(capacity, &keys),
+        _ => stop("no such cache"),
+    };
+    print_line("reserved", keys.len(), &tally);
 }
 
 fn print_memory(cache: &str, capacity: usize) {

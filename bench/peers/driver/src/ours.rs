@@ -10,6 +10,7 @@ extern "C" {
     fn clru_bench_hash_of_bytes(bytes: *const u8, count: usize) -> u64;
     fn clru_bench_replay(capacity: usize, keys: *const u64, count: usize, out: *mut Tally);
     fn clru_bench_fill(capacity: usize, keys: *const u64, count: usize) -> usize;
+    fn clru_bench_fill_reserved(capacity: usize, keys: *const u64, count: usize, out: *mut Tally);
     fn clru_bench_steps(
         capacity: usize,
         fills: *const u64,
@@ -57,6 +58,13 @@ pub fn stages(workload: &Workload) -> Found {
 pub fn fill(capacity: usize, keys: &[u64]) -> usize {
     // The pointer goes with the length of its slice.
     unsafe { clru_bench_fill(capacity, keys.as_ptr(), keys.len()) }
+}
+
+pub fn fill_reserved(capacity: usize, keys: &[u64]) -> Tally {
+    let mut tally = Tally::default();
+    // The pointer goes with the length of its slice, and nothing else reads the tally.
+    unsafe { clru_bench_fill_reserved(capacity, keys.as_ptr(), keys.len(), &mut tally) };
+    tally
 }
 
 /// Whether our cache and the driver hash alike: numbers, and bytes of each length up to 64.

@@ -30,6 +30,12 @@ pub fn fill<C: Cache<u64, u64>>(capacity: usize, keys: &[u64]) -> usize {
     cache.len()
 }
 
+/// Fills a new cache that has its memory.
+pub fn fill_reserved<C: Cache<u64, u64>>(capacity: usize, keys: &[u64]) -> Tally {
+    let mut cache = C::with_memory(capacity);
+    put_all(&mut cache, keys)
+}
+
 fn look_for_all<C: Cache<u64, u64>>(cache: &mut C, workload: &Workload) -> Tally {
     get_all(cache, &workload.pops);
     put_all(cache, &workload.fills[..workload.fills.len() / 2]);

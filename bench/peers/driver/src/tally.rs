@@ -62,7 +62,7 @@ impl Found {
     }
 }
 
-fn print_line(name: &str, calls: usize, tally: &Tally) {
+pub fn print_line(name: &str, calls: usize, tally: &Tally) {
     println!(
         "{} {} {} {} {} {}",
         name, calls, tally.nanoseconds, tally.hits, tally.misses, tally.sum

@@ -2,11 +2,13 @@
 ghost use Rattle.std.specs.Prelude.{◌≡◌, is_some, option_copied};
 ghost use Rattle.std.specs.Borrow.{sem};
 ghost use Rattle.std.specs.Map.{lookup};
+ghost use Rattle.std.specs.Option.{option_copied_mut};
 ghost use Rattle.clru.specs.Entries.{touch};
-ghost use Rattle.clru.specs.Lends.{ends_with};
+ghost use Rattle.clru.specs.Lends.{ends_with, lends_value};
+ghost use Rattle.clru.specs.contracts.weight.ZeroWeightScale.{the_row as zero_scale_row};
 
 use crate::cache::CLruCache;
-use crate::weight::WeightScale;
+use crate::weight::{WeightScale, ZeroWeightScale};
 use std::alloc::Allocator;
 use std::hash::{BuildHasher, Hash};
 
@@ -15,6 +17,14 @@ where
     A: Allocator + Copy,
 {
     /// Returns the value of the key, and makes its entry the most recently used.
+    ///
+    /// A look-up of a `String` key builds the key first: only keys are compared and hashed, so that each clause has one
+    /// equality and one hash.
+    ///
+    /// ```rust
+    /// let key = page.to_string(alloc)?;
+    /// Ok(looks.get(&key).copied())
+    /// ```
     pub fn get(&mut self, key: &K) -> Option<&V>
         ensures* touches { sem 𝓛 (ends_with K.row V.row S.row W.row A.row S.Hasher.row K.Hash S.BuildHasher S.Hasher.Hasher
             W.WeightScale A.Allocator self.entry (touch K.eq key.now self.old.entries)) }
@@ -22,7 +32,7 @@ where
     {
         let hash = self.nodes.hash(key);
         if self.nodes.touch(hash, key) {
-            return self.nodes.front();
+            return Some(self.nodes.front()?.1);
         }
         None
     }
@@ -39,5 +49,33 @@ where
         ensures { result ≡ is_some (lookup (K.eq key.now) self.now.entries) }
     {
         self.peek(key).is_some()
+    }
+}
+
+impl<K: Eq + Hash, V, S: BuildHasher, A: Allocator + Copy> CLruCache<K, V, S, ZeroWeightScale, A> {
+    /// Lends the value of the key for writing, and makes its entry the most recently used.
+    pub fn get_mut(&mut self, key: &K) -> Option<&mut V>
+        ensures* lends { sem 𝓛 (lends_value K.row V.row S.row zero_scale_row A.row S.Hasher.row K.Hash S.BuildHasher
+            S.Hasher.Hasher ⟦<ZeroWeightScale as WeightScale<K, V>>⟧ A.Allocator self.entry key.now
+            (touch K.eq key.now self.old.entries) result) }
+        ensures value { option_copied_mut result ≡ lookup (K.eq key.now) self.old.entries }
+    {
+        let hash = self.nodes.hash(key);
+        if !self.nodes.touch(hash, key) {
+            return None;
+        }
+        Some(&mut self.nodes.front_item().value)
+    }
+
+    /// Lends the value of the key for writing, and leaves the order as it is.
+    pub fn peek_mut(&mut self, key: &K) -> Option<&mut V>
+        ensures* lends { sem 𝓛 (lends_value K.row V.row S.row zero_scale_row A.row S.Hasher.row K.Hash S.BuildHasher
+            S.Hasher.Hasher ⟦<ZeroWeightScale as WeightScale<K, V>>⟧ A.Allocator self.entry key.now
+            self.old.entries result) }
+        ensures value { option_copied_mut result ≡ lookup (K.eq key.now) self.old.entries }
+    {
+        let hash = self.nodes.hash(key);
+        let value = self.nodes.get_mut(hash, key)?;
+        Some(value)
     }
 }

@@ -2,12 +2,15 @@
 ghost use Rattle.std.specs.Prelude.{◌≡◌, None, Some, IfOk, IfErr, IsErr};
 ghost use Rattle.std.specs.Borrow.{sem};
 ghost use Rattle.std.specs.Map.{lookup_entry};
-ghost use Rattle.clru.specs.Closures.{TakesKey, TakesEntry, PutsOrModifies};
-ghost use Rattle.clru.specs.Lends.{lends_put};
+ghost use Rattle.clru.specs.Closures.{TakesKey, TakesEntry, PutsOrModifies, TryPutsOrModifies, FailsToPutOrModify};
+ghost use Rattle.clru.specs.Entries.{plain_put};
+ghost use Rattle.clru.specs.Lends.{lends_put, lends_try};
 ghost use Rattle.clru.specs.Memory.{NeedsPlace};
+ghost use Rattle.clru.specs.Refusals.{IfNoMemory, MatchTryPutError};
 ghost use Rattle.clru.specs.contracts.weight.ZeroWeightScale.{the_row as zero_scale_row};
 
 use crate::cache::CLruCache;
+use crate::error::TryPutError;
 use crate::weight::{WeightScale, ZeroWeightScale};
 use std::alloc::Allocator;
 use std::hash::{BuildHasher, Hash};
@@ -44,16 +47,64 @@ impl<K: Eq + Hash, V, S: BuildHasher, A: Allocator + Copy> CLruCache<K, V, S, Ze
             modify_op(&item.key, &mut item.value, data);
             return Ok(&mut item.value);
         }
-        if self.nodes.len() == self.capacity.get() {
-            let value = put_op(&key, data);
-            let _ = self.nodes.replace_back(hash, key, value);
-            return Ok(&mut self.nodes.front_item().value);
-        }
-        let Ok(()) = self.nodes.make_ready_if(true) else {
+        let wanted = self.nodes.len() < self.capacity.get();
+        let Ok(()) = self.nodes.make_ready_if(wanted) else {
             return Err((key, data));
         };
         let value = put_op(&key, data);
-        self.nodes.push_front(hash, key, value);
+        self.nodes.put_front(hash, key, value);
+        Ok(&mut self.nodes.front_item().value)
+    }
+
+    /// Does the same with closures that may fail, and answers the error of the one that was called.
+    ///
+    /// Where `put_op` fails no entry has changed, and none has gone from a full cache. Where `modify_op` fails its entry is
+    /// the most recently used, with what it has written. Places for which memory was found stay.
+    pub fn try_put_or_modify<
+        T,
+        E,
+        P: FnMut(&K, T) -> Result<V, E>,
+        M: FnMut(&K, &mut V, T) -> Result<(), E>,
+    >(
+        &mut self,
+        key: K,
+        mut put_op: P,
+        mut modify_op: M,
+        data: T,
+    ) -> Result<&mut V, TryPutError<K, T, E>>
+    where
+        K: Drop,
+        V: Drop,
+        requires put { lookup_entry (K.eq key) self.old.entries ≡ None → TakesKey P.FnMut put_op key «data» }
+        requires modify { (k : K) (v : V) → lookup_entry (K.eq key) self.old.entries ≡ Some (k, v)
+            → TakesEntry M.FnMut modify_op k v «data» }
+        ensures* lends { let held = lookup_entry (K.eq key) self.old.entries in let before = self.old.entries in
+            sem 𝓛 (lends_try K.row V.row S.row zero_scale_row A.row S.Hasher.row K.Hash S.BuildHasher
+            S.Hasher.Hasher ⟦<ZeroWeightScale as WeightScale<K, V>>⟧ A.Allocator self.entry key result
+            (λ e after. MatchTryPutError e (after ≡ before) (λ f. FailsToPutOrModify P.FnMut M.FnMut held put_op modify_op key «data» f
+            before (λ v. plain_put K.eq self.old.capacity key v before) after))) }
+        ensures called { IfOk result (λ x.
+            TryPutsOrModifies P.FnMut M.FnMut (lookup_entry (K.eq key) self.old.entries) put_op modify_op key «data» x.now) }
+        ensures refused { IfErr result (λ e. IfNoMemory e (λ back. back ≡ (key, «data»))) }
+        ensures memory { IfErr result (λ e. IfNoMemory e (λ _. NeedsPlace K.eq self.old key)) }
+    {
+        let hash = self.nodes.hash(&key);
+        if self.nodes.touch(hash, &key) {
+            let item = self.nodes.front_item();
+            if let Err(error) = modify_op(&item.key, &mut item.value, data) {
+                return Err(TryPutError::Failed(error));
+            }
+            return Ok(&mut item.value);
+        }
+        let wanted = self.nodes.len() < self.capacity.get();
+        let Ok(()) = self.nodes.make_ready_if(wanted) else {
+            return Err(TryPutError::NoMemory(key, data));
+        };
+        let value = match put_op(&key, data) {
+            Ok(value) => value,
+            Err(error) => return Err(TryPutError::Failed(error)),
+        };
+        self.nodes.put_front(hash, key, value);
         Ok(&mut self.nodes.front_item().value)
     }
 }

@@ -1,10 +1,11 @@
 //! The makers.
-ghost use Rattle.std.specs.Prelude.{◌≡◌, [], min, IfOk, IsOk};
+ghost use Rattle.std.specs.Prelude.{◌≡◌, ◌<◌, ◌^◌, [], min, IfOk, IfErr, IsOk, OnOk};
 ghost use Rattle.std.specs.Int.NonZero.{non_zero_usize_get};
 ghost use Rattle.clru.specs.Cache.{cache};
 ghost use Rattle.clru.specs.Nodes.{hash_by, IsEmpty, IsIndexed};
 
 use crate::cache::CLruCache;
+use crate::config::CLruCacheConfig;
 use crate::error::NoMemory;
 use crate::hasher::DefaultState;
 use crate::nodes::Nodes;
@@ -15,10 +16,30 @@ use std::num::NonZeroUsize;
 
 impl<K: Eq + Hash, V, A: Allocator + Copy> CLruCache<K, V, DefaultState, ZeroWeightScale, A> {
     /// Creates a cache that holds at most `capacity` entries. It takes no memory.
+    ///
+    /// The allocator may be a reference, as to a heap of a fixed size from the kit, which then bounds the bytes:
+    ///
+    /// ```rust
+    /// let heap = LocalHeap::new(rt.alloc(), 4096)?;
+    /// let mut squares = CLruCache::new(&heap, NonZeroUsize::MAX);
+    /// ```
     pub fn new(alloc: A, capacity: NonZeroUsize) -> Self
         ensures { result ≡ cache [] (non_zero_usize_get capacity) (record {}) 0 }
     {
         CLruCache::with_hasher(alloc, capacity, DefaultState)
+    }
+
+    /// Creates a cache that holds at most `capacity` entries, with memory for `reserve` of them, or for all where `capacity`
+    /// is less. Without a reserve it takes no memory.
+    pub fn with_memory(alloc: A, capacity: NonZeroUsize, reserve: usize) -> Result<Self, NoMemory>
+        ensures empty { let size = non_zero_usize_get capacity in IfOk result (λ c. c ≡ cache [] size (record {}) (min reserve size)) }
+        ensures never_refused { reserve ≡ 0 → IsOk result }
+        ensures countable { OnOk result (min reserve (non_zero_usize_get capacity) < 2 ^ 63) }
+    {
+        match Nodes::with_memory(alloc, capacity.get(), DefaultState, reserve) {
+            Ok(nodes) => Ok(CLruCache::empty(nodes, capacity, ZeroWeightScale)),
+            Err(_) => Err(NoMemory),
+        }
     }
 }
 
@@ -32,24 +53,6 @@ impl<K: Eq + Hash, V, S: BuildHasher, A: Allocator + Copy> CLruCache<K, V, S, Ze
             capacity,
             ZeroWeightScale,
         )
-    }
-
-    /// Creates a cache with memory for `reserve` entries, or for `capacity` entries where that is less.
-    pub(crate) fn with_places(
-        alloc: A,
-        capacity: NonZeroUsize,
-        hash_builder: S,
-        reserve: usize,
-    ) -> Result<Self, NoMemory>
-    where
-        S: Drop,
-        ensures empty { let size = non_zero_usize_get capacity in IfOk result (λ c. c ≡ cache [] size (record {}) (min reserve size)) }
-        ensures never_refused { reserve ≡ 0 → IsOk result }
-    {
-        let Ok(nodes) = Nodes::with_memory(alloc, capacity.get(), hash_builder, reserve) else {
-            return Err(NoMemory);
-        };
-        Ok(CLruCache::empty(nodes, capacity, ZeroWeightScale))
     }
 }
 
@@ -73,6 +76,37 @@ impl<K: Eq + Hash, V, S: BuildHasher, W: WeightScale<K, V>, A> CLruCache<K, V, S
 where
     A: Allocator + Copy,
 {
+    /// Creates a cache from its configuration: the capacity, the hash builder and the scale are the configured ones, and
+    /// there is memory for as many entries as its reserve says, or for `capacity` entries where that is less. Without a
+    /// reserve it takes no memory. Where memory is refused, the configuration comes back as it was.
+    pub fn with_config(
+        alloc: A,
+        config: CLruCacheConfig<K, V, S, W>,
+    ) -> Result<Self, CLruCacheConfig<K, V, S, W>>
+        ensures empty { IfOk result (λ c. c ≡ cache [] config.capacity config.scale (min config.reserve config.capacity)) }
+        ensures refused { IfErr result (λ back. back ≡ config) }
+        ensures never_refused { config.reserve ≡ 0 → IsOk result }
+        ensures countable { OnOk result (min config.reserve config.capacity < 2 ^ 63) }
+    {
+        let CLruCacheConfig {
+            capacity,
+            hash_builder,
+            reserve,
+            scale,
+            pairs,
+        } = config;
+        match Nodes::with_memory(alloc, capacity.get(), hash_builder, reserve) {
+            Ok(nodes) => Ok(CLruCache::empty(nodes, capacity, scale)),
+            Err(hash_builder) => Err(CLruCacheConfig {
+                capacity,
+                hash_builder,
+                reserve,
+                scale,
+                pairs,
+            }),
+        }
+    }
+
     fn empty(nodes: Nodes<K, V, S, A>, capacity: NonZeroUsize, scale: W) -> Self
         requires none { IsEmpty (non_zero_usize_get capacity) nodes.places nodes }
         requires indexed { let hash = hash_by S.Hasher.finish S.Hasher.write S.build_hasher K.hash_input in IsIndexed hash nodes }

@@ -1,13 +1,15 @@
 //! The calls that put a pair into the cache.
-ghost use Rattle.std.specs.Prelude.{◌≡◌, ◌≤◌, ◌↔◌, is_ok, IfOk, IfErr, IsErr, if◌then◌else◌};
+ghost use Rattle.std.specs.Prelude.{◌≡◌, ◌<◌, ◌≤◌, ◌↔◌, is_ok, IfOk, IfErr, OnOk, OnErr, IsErr, if◌then◌else◌};
 ghost use Rattle.std.specs.Map.{lookup};
-ghost use Rattle.clru.specs.Entries.{plain_put, weighted_put};
+ghost use Rattle.clru.specs.Drops.{HandsOutTo, TakesEach};
+ghost use Rattle.clru.specs.Entries.{plain_put, plain_drop, weighted_put, weighted_drops};
 ghost use Rattle.clru.specs.Memory.{NeedsPlace, NeedsPlaceFor, GrowsOnlyIf};
 ghost use Rattle.clru.specs.Refusals.{pair_of, IsTooHeavy, WantsMemory};
 
 use crate::cache::CLruCache;
+use crate::cache::answer::Put;
 use crate::error::PutError;
-use crate::shrink::shrink_to;
+use crate::shrink::shrink_handing_to;
 use crate::weight::{WeightScale, ZeroWeightScale};
 use std::alloc::Allocator;
 use std::hash::{BuildHasher, Hash};
@@ -16,16 +18,24 @@ impl<K: Eq + Hash, V, S: BuildHasher, W: WeightScale<K, V>, A> CLruCache<K, V, S
 where
     A: Allocator + Copy,
 {
-    /// Puts a pair into the cache, and returns the old value of its key. The pair is then the most recently used, under
-    /// the new key.
+    /// Puts a pair into the cache, hands out what it drops, and returns the old value of its key. The pair is then the most
+    /// recently used, under the new key.
     ///
-    /// Whatever does not fit beside it is dropped, the least recently used entry first, and nothing else. A pair that
-    /// weighs as much as the capacity or more is refused as too heavy, whether its key is held or not. A refused pair
-    /// comes back. The cost grows with the number of entries that are dropped.
-    pub fn put_with_weight(&mut self, key: K, value: V) -> Result<Option<V>, PutError<K, V>>
+    /// Whatever does not fit beside it is dropped, and nothing else: `on_drop` takes each of these pairs, the least recently
+    /// used one first. The old entry of the key is not among them: its value is the answer. A pair that weighs as much as
+    /// the capacity or more is refused as too heavy, whether its key is held or not. A refused pair comes back, and
+    /// `on_drop` is not called. The cost grows with the number of entries that are dropped, and no memory is taken for
+    /// handing them out.
+    pub fn put_with_weight<F: FnMut(K, V)>(
+        &mut self,
+        key: K,
+        value: V,
+        mut on_drop: F,
+    ) -> Result<Option<V>, PutError<K, V>>
     where
         K: Drop,
-        V: Drop,
+        requires callable { W.weight self.old.scale key value < self.old.capacity
+            → TakesEach F.FnMut on_drop (weighted_drops K.eq (W.weight self.old.scale) self.old.capacity key value self.old.entries) }
         ensures answer { IfOk result (λ old. old ≡ lookup (K.eq key) self.old.entries) }
         ensures entries { self.new.entries ≡ (if is_ok result
             then weighted_put K.eq (W.weight self.old.scale) self.old.capacity key value self.old.entries else self.old.entries) }
@@ -33,6 +43,34 @@ where
         ensures too_heavy { IsTooHeavy result ↔ (self.old.capacity ≤ W.weight self.old.scale key value) }
         ensures memory { WantsMemory result → NeedsPlaceFor K.eq (W.weight self.old.scale) self.old key value }
         ensures places { GrowsOnlyIf (NeedsPlaceFor K.eq (W.weight self.old.scale) self.old key value) self.old self.new }
+        ensures handed_out { OnOk result ((last : F) × HandsOutTo F.FnMut on_drop
+            (weighted_drops K.eq (W.weight self.old.scale) self.old.capacity key value self.old.entries) last) }
+    {
+        self.put_with_weight_handing_to(key, value, &mut on_drop)
+    }
+
+    /// `put_with_weight` for a closure that is lent. Its contract says what the closure ends as: a caller learns from what
+    /// it captured which pairs were dropped, which a closure passed by value can't tell.
+    pub fn put_with_weight_handing_to<F: FnMut(K, V)>(
+        &mut self,
+        key: K,
+        value: V,
+        on_drop: &mut F,
+    ) -> Result<Option<V>, PutError<K, V>>
+    where
+        K: Drop,
+        requires callable { W.weight self.old.scale key value < self.old.capacity
+            → TakesEach F.FnMut on_drop.old (weighted_drops K.eq (W.weight self.old.scale) self.old.capacity key value self.old.entries) }
+        ensures answer { IfOk result (λ old. old ≡ lookup (K.eq key) self.old.entries) }
+        ensures entries { self.new.entries ≡ (if is_ok result
+            then weighted_put K.eq (W.weight self.old.scale) self.old.capacity key value self.old.entries else self.old.entries) }
+        ensures refused { IfErr result (λ refusal. pair_of refusal ≡ (key, value)) }
+        ensures too_heavy { IsTooHeavy result ↔ (self.old.capacity ≤ W.weight self.old.scale key value) }
+        ensures memory { WantsMemory result → NeedsPlaceFor K.eq (W.weight self.old.scale) self.old key value }
+        ensures places { GrowsOnlyIf (NeedsPlaceFor K.eq (W.weight self.old.scale) self.old key value) self.old self.new }
+        ensures handed_out { OnOk result (HandsOutTo F.FnMut on_drop.old
+            (weighted_drops K.eq (W.weight self.old.scale) self.old.capacity key value self.old.entries) on_drop.new) }
+        ensures not_called { OnErr result (on_drop.new ≡ on_drop.old) }
     {
         let weight = self.scale.weight(&key, &value);
         let capacity = self.capacity.get();
@@ -44,7 +82,13 @@ where
         let hash = self.nodes.hash(&key);
         if let Some((old_key, old_value)) = self.nodes.take(hash, &key) {
             self.total_weight -= self.scale.weight(&old_key, &old_value);
-            shrink_to(&mut self.nodes, &mut self.total_weight, &self.scale, room);
+            shrink_handing_to(
+                &mut self.nodes,
+                &mut self.total_weight,
+                &self.scale,
+                room,
+                on_drop,
+            );
             self.nodes.push_front(hash, key, value);
             self.total_weight += weight;
             return Ok(Some(old_value));
@@ -53,7 +97,13 @@ where
         let Ok(()) = self.nodes.make_ready_if(wanted) else {
             return Err(PutError::NoMemory(key, value));
         };
-        shrink_to(&mut self.nodes, &mut self.total_weight, &self.scale, room);
+        shrink_handing_to(
+            &mut self.nodes,
+            &mut self.total_weight,
+            &self.scale,
+            room,
+            on_drop,
+        );
         self.nodes.push_front(hash, key, value);
         self.total_weight += weight;
         Ok(None)
@@ -61,15 +111,15 @@ where
 }
 
 impl<K: Eq + Hash, V, S: BuildHasher, A: Allocator + Copy> CLruCache<K, V, S, ZeroWeightScale, A> {
-    /// Puts a pair into the cache, and returns the old value of its key. Its entry is then the most recently used; a held
-    /// key stays as it was stored.
+    /// Puts a pair into the cache, and returns the old value of its key, and the pair that it drops. Its entry is then the
+    /// most recently used; a held key stays as it was stored.
     ///
     /// A new entry drops the least recently used one of a full cache. Where memory is refused, the pair comes back.
-    pub fn put(&mut self, key: K, value: V) -> Result<Option<V>, (K, V)>
+    pub fn put(&mut self, key: K, value: V) -> Result<Put<K, V>, (K, V)>
     where
         K: Drop,
-        V: Drop,
-        ensures answer { IfOk result (λ old. old ≡ lookup (K.eq key) self.old.entries) }
+        ensures replaced { IfOk result (λ put. put.replaced ≡ lookup (K.eq key) self.old.entries) }
+        ensures dropped { IfOk result (λ put. put.dropped ≡ plain_drop K.eq self.old.capacity key self.old.entries) }
         ensures entries { self.new.entries
             ≡ (if is_ok result then plain_put K.eq self.old.capacity key value self.old.entries else self.old.entries) }
         ensures refused { IfErr result (λ pair. pair ≡ (key, value)) }
@@ -78,16 +128,26 @@ impl<K: Eq + Hash, V, S: BuildHasher, A: Allocator + Copy> CLruCache<K, V, S, Ze
     {
         let hash = self.nodes.hash(&key);
         if self.nodes.touch(hash, &key) {
-            return Ok(Some(self.nodes.set_front(value)));
+            let replaced = Some(self.nodes.set_front(value));
+            return Ok(Put {
+                replaced,
+                dropped: None,
+            });
         }
         if self.nodes.len() == self.capacity.get() {
-            let _ = self.nodes.replace_back(hash, key, value);
-            return Ok(None);
+            let dropped = Some(self.nodes.replace_back(hash, key, value));
+            return Ok(Put {
+                replaced: None,
+                dropped,
+            });
         }
         let Ok(()) = self.nodes.make_ready_if(true) else {
             return Err((key, value));
         };
         self.nodes.push_front(hash, key, value);
-        Ok(None)
+        Ok(Put {
+            replaced: None,
+            dropped: None,
+        })
     }
 }

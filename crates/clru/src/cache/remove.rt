@@ -1,6 +1,8 @@
 //! The calls that take an entry out. They ask for no memory, and the places stay.
-ghost use Rattle.std.specs.Prelude.{◌≡◌, drop, slice_get};
+ghost use Rattle.std.specs.Prelude.{◌≡◌, ◌-◌, [], drop, length, slice_get, take};
+ghost use Rattle.std.specs.Map.{lookup};
 ghost use Rattle.clru.specs.Cache.{with_entries};
+ghost use Rattle.clru.specs.Entries.{without};
 
 use crate::cache::CLruCache;
 use crate::weight::WeightScale;
@@ -11,6 +13,18 @@ impl<K: Eq + Hash, V, S: BuildHasher, W: WeightScale<K, V>, A> CLruCache<K, V, S
 where
     A: Allocator + Copy,
 {
+    /// Removes the entry of the key and returns its value. Its place stays ready.
+    pub fn pop(&mut self, key: &K) -> Option<V>
+    where
+        K: Drop,
+        ensures value { result ≡ lookup (K.eq key.now) self.old.entries }
+        ensures entries { self.new ≡ with_entries self.old (without K.eq key.now self.old.entries) }
+    {
+        let (stored, value) = self.nodes.take(self.nodes.hash(key), key)?;
+        self.total_weight -= self.scale.weight(&stored, &value);
+        Some(value)
+    }
+
     /// Removes the most recently used entry and returns it. Its place stays ready.
     pub fn pop_front(&mut self) -> Option<(K, V)>
         ensures value { result ≡ slice_get self.old.entries 0 }
@@ -19,5 +33,26 @@ where
         let (key, value) = self.nodes.pop_front()?;
         self.total_weight -= self.scale.weight(&key, &value);
         Some((key, value))
+    }
+
+    /// Removes the least recently used entry and returns it. Its place stays ready.
+    pub fn pop_back(&mut self) -> Option<(K, V)>
+        ensures value { result ≡ slice_get self.old.entries (length self.old.entries - 1) }
+        ensures entries { self.new ≡ with_entries self.old (take (length self.old.entries - 1) self.old.entries) }
+    {
+        let (oldest, value) = self.nodes.pop_back()?;
+        self.total_weight -= self.scale.weight(&oldest, &value);
+        Some((oldest, value))
+    }
+
+    /// Removes all entries. Their places stay ready.
+    pub fn clear(&mut self)
+    where
+        K: Drop,
+        V: Drop,
+        ensures { self.new ≡ with_entries self.old [] }
+    {
+        self.nodes.clear();
+        self.total_weight = 0;
     }
 }

@@ -1,10 +1,13 @@
-//! The first pair, which a touch has put there.
-ghost use Rattle.std.specs.Prelude.{◌≡◌, ◌<◌, Some, length, slice_get, option_copied};
+//! The first and the last pair, and the value of a key for writing.
+ghost use Rattle.std.specs.Prelude.{◌≡◌, ◌-◌, ◌<◌, Some, length, slice_get};
 ghost use Rattle.std.specs.Borrow.{sem};
-ghost use Rattle.std.specs.Option.{option_map};
-ghost use Rattle.clru_list.specs.PlaceList.{first_entry};
+ghost use Rattle.std.specs.List.{IsDistinct};
+ghost use Rattle.std.specs.Map.{keys_of, lookup};
+ghost use Rattle.std.specs.Map.Iter.{deref_pair};
+ghost use Rattle.std.specs.Option.{option_copied_mut, option_map};
+ghost use Rattle.clru_list.specs.PlaceList.{first_entry, last_entry};
 ghost use Rattle.clru.specs.Nodes.{hash_by, pairs_of, with_front, IsIndexed, IsSame};
-ghost use Rattle.clru.specs.NodesLends.{lends_front};
+ghost use Rattle.clru.specs.NodesLends.{lends_front, lends_back, lends_value};
 
 use crate::nodes::{Item, Nodes};
 use std::alloc::Allocator;
@@ -12,12 +15,23 @@ use std::hash::{BuildHasher, Hash};
 use std::mem;
 
 impl<K: Eq + Hash, V, S: BuildHasher, A: Allocator + Copy> Nodes<K, V, S, A> {
-    /// Returns the value of the first pair.
-    pub(crate) fn front(&self) -> Option<&V>
-        ensures { option_copied result ≡ option_map (λ e. e.1) (slice_get (pairs_of self.now.list.entries) 0) }
+    /// Returns the first pair.
+    pub(crate) fn front(&self) -> Option<(&K, &V)>
+        ensures { option_map deref_pair result ≡ slice_get (pairs_of self.now.list.entries) 0 }
     {
         match self.list.front() {
-            Some(item) => Some(&item.value),
+            Some(item) => Some((&item.key, &item.value)),
+            None => None,
+        }
+    }
+
+    /// Returns the last pair.
+    pub(crate) fn back(&self) -> Option<(&K, &V)>
+        ensures { option_map deref_pair result
+            ≡ slice_get (pairs_of self.now.list.entries) (length (pairs_of self.now.list.entries) - 1) }
+    {
+        match self.list.back() {
+            Some(item) => Some((&item.key, &item.value)),
             None => None,
         }
     }
@@ -30,6 +44,33 @@ impl<K: Eq + Hash, V, S: BuildHasher, A: Allocator + Copy> Nodes<K, V, S, A> {
     {
         match self.list.front_mut() {
             Some(item) => item,
+            None => unreachable!(),
+        }
+    }
+
+    /// Returns the last item for writing.
+    pub(crate) fn back_item(&mut self) -> &mut Item<K, V>
+        requires { 0 < length (pairs_of self.old.list.entries) }
+        ensures* lends { sem 𝓛 (lends_back K.row V.row S.row A.row S.Hasher.row A.Allocator self.entry result) }
+        ensures last { option_map (λ e. e.1) (last_entry self.old.list.entries) ≡ Some result.now }
+    {
+        match self.list.back_mut() {
+            Some(item) => item,
+            None => unreachable!(),
+        }
+    }
+
+    /// Returns the value of the key, whose hash is given, for writing. Its pair stays where it is.
+    pub(crate) fn get_mut(&mut self, hash: u64, key: &K) -> Option<&mut V>
+        requires hash { hash ≡ hash_by S.Hasher.finish S.Hasher.write S.build_hasher K.hash_input self.old.hash_builder key.now }
+        requires indexed { let hash = hash_by S.Hasher.finish S.Hasher.write S.build_hasher K.hash_input in IsIndexed hash self.old }
+        requires distinct { IsDistinct K.eq (keys_of (pairs_of self.old.list.entries)) }
+        ensures* lends { sem 𝓛 (lends_value K.row V.row S.row A.row S.Hasher.row A.Allocator self.entry (K.eq key.now) result) }
+        ensures value { option_copied_mut result ≡ lookup (K.eq key.now) (pairs_of self.old.list.entries) }
+    {
+        let place = self.find(hash, key)?;
+        match self.list.get_mut(place) {
+            Some(item) => Some(&mut item.value),
             None => unreachable!(),
         }
     }

@@ -5,7 +5,7 @@ ghost use Rattle.std.specs.Map.{keys_of, lookup, lookup_entry};
 ghost use Rattle.clru_list.specs.PlaceList.{without};
 ghost use Rattle.clru.specs.Entries.{touch};
 ghost use Rattle.clru.specs.Entries as entries;
-ghost use Rattle.clru.specs.Nodes.{hash_by, pairs_of, HasHome, IsLive, IsIndexed, IsSame, IsTaken};
+ghost use Rattle.clru.specs.Nodes.{hash_by, pairs_of, placed_of, HasHome, IsLive, IsIndexed, IsSame, IsTaken};
 
 use crate::nodes::chains::NOWHERE;
 use crate::nodes::{Item, Nodes};
@@ -123,8 +123,29 @@ impl<K: Eq + Hash, V, S: BuildHasher, A: Allocator + Copy> Nodes<K, V, S, A> {
         (old.key, old.value)
     }
 
+    /// Puts a pair with a new key, whose hash is given, to the front. Where the list is full, the last pair goes and gives
+    /// its place; else a place is ready.
+    pub(crate) fn put_front(&mut self, hash: u64, key: K, value: V)
+    where
+        K: Drop,
+        V: Drop,
+        requires hash { hash ≡ hash_by S.Hasher.finish S.Hasher.write S.build_hasher K.hash_input self.old.hash_builder key }
+        requires indexed { let hash = hash_by S.Hasher.finish S.Hasher.write S.build_hasher K.hash_input in IsIndexed hash self.old }
+        requires ready { length (pairs_of self.old.list.entries) < self.old.list.capacity → length (pairs_of self.old.list.entries) < self.old.places }
+        requires some { 0 < self.old.list.capacity }
+        ensures pairs { pairs_of self.new.list.entries ≡ (key, value) ∷ take (self.old.list.capacity - 1) (pairs_of self.old.list.entries) }
+        ensures indexed { let hash = hash_by S.Hasher.finish S.Hasher.write S.build_hasher K.hash_input in IsIndexed hash self.new }
+        ensures same { IsSame self.old self.new }
+    {
+        if self.list.is_full() {
+            let _ = self.replace_back(hash, key, value);
+        } else {
+            self.push_front(hash, key, value);
+        }
+    }
+
     /// The head of the key at a place.
-    fn home(&self, place: usize) -> usize
+    pub(crate) fn home(&self, place: usize) -> usize
         requires place { IsLive self.now.list.entries place }
         requires headed { length self.now.list.entries ≤ length self.now.heads.items }
         ensures { let hash = hash_by S.Hasher.finish S.Hasher.write S.build_hasher K.hash_input in HasHome hash result place self.now }
@@ -136,11 +157,12 @@ impl<K: Eq + Hash, V, S: BuildHasher, A: Allocator + Copy> Nodes<K, V, S, A> {
     }
 
     /// Takes out the pair at a place, where the head of its key is given.
-    fn remove(&mut self, head: usize, place: usize) -> (K, V)
+    pub(crate) fn remove(&mut self, head: usize, place: usize) -> (K, V)
         requires home { let hash = hash_by S.Hasher.finish S.Hasher.write S.build_hasher K.hash_input in HasHome hash head place self.old }
         requires indexed { let hash = hash_by S.Hasher.finish S.Hasher.write S.build_hasher K.hash_input in IsIndexed hash self.old }
         ensures pair { IsTaken result place self.old.list.entries }
         ensures pairs { pairs_of self.new.list.entries ≡ pairs_of (without place self.old.list.entries) }
+        ensures placed { placed_of self.new.list.entries ≡ without place (placed_of self.old.list.entries) }
         ensures indexed { let hash = hash_by S.Hasher.finish S.Hasher.write S.build_hasher K.hash_input in IsIndexed hash self.new }
         ensures same { IsSame self.old self.new }
     {

@@ -72,5 +72,6 @@ impl<T, A: Allocator + Copy> FixedSizeList<T, A> {
         self.chain.unlink(place);
         let front = self.chain.front;
         self.chain.link(NOWHERE, place, front);
+        self.fingers.clear();
     }
 }

@@ -48,6 +48,7 @@ impl<T, A: Allocator + Copy> FixedSizeList<T, A> {
         let front = self.chain.front;
         self.chain.link(NOWHERE, place, front);
         self.len += 1;
+        self.fingers.clear();
         Ok(place)
     }
 
@@ -66,6 +67,7 @@ impl<T, A: Allocator + Copy> FixedSizeList<T, A> {
         let back = self.chain.back;
         self.chain.link(back, place, NOWHERE);
         self.len += 1;
+        self.fingers.clear();
         Ok(place)
     }
 

@@ -18,6 +18,7 @@ impl<T, A: Allocator + Copy> FixedSizeList<T, A> {
         self.chain.unlink(place);
         self.chain.release(place);
         self.len -= 1;
+        self.fingers.clear();
         Some(item)
     }
 
@@ -43,5 +44,6 @@ impl<T, A: Allocator + Copy> FixedSizeList<T, A> {
         self.chain.back = NOWHERE;
         self.chain.free = NOWHERE;
         self.len = 0;
+        self.fingers.clear();
     }
 }

@@ -2,7 +2,7 @@
 ghost use Rattle.std.specs.Prelude.{OnOk};
 ghost use Rattle.clru.specs.Runs.{IsPut};
 
-use clru::{CLruCache, PutError};
+use clru::{CLruCache, PutError, TryPutError};
 use std::hash::Hash;
 
 /// Puts a pair.
@@ -14,7 +14,7 @@ pub fn put<K: Eq + Hash + Drop, V: Drop>(
     ensures step { OnOk result (IsPut K.eq cache.old.capacity key cache.old.entries cache.new.entries) }
 {
     match cache.put(key, value) {
-        Ok(old) => Ok(old),
+        Ok(put) => Ok(put.replaced),
         Err(pair) => Err(pair),
     }
 }
@@ -29,7 +29,7 @@ pub fn put_with_weight<K: Eq + Hash + Drop, V: Drop>(
 {
     // It tells that the entries are no more than the capacity.
     let _ = cache.len();
-    match cache.put_with_weight(key, value) {
+    match cache.put_with_weight(key, value, |_, _| {}) {
         Ok(old) => Ok(old),
         Err(refusal) => Err(refusal),
     }
@@ -50,5 +50,26 @@ pub fn put_or_modify<K: Eq + Hash + Drop, V: Drop>(
             Ok(())
         }
         Err(back) => Err(back),
+    }
+}
+
+/// Puts a value, whether the key is held or not, by closures that might fail and don't.
+pub fn try_put_or_modify<K: Eq + Hash + Drop, V: Drop>(
+    cache: &mut CLruCache<K, V>,
+    key: K,
+    value: V,
+) -> Result<(), TryPutError<K, V, ()>>
+    ensures step { OnOk result (IsPut K.eq cache.old.capacity key cache.old.entries cache.new.entries) }
+{
+    let write = |_: &K, held: &mut V, value| {
+        *held = value;
+        Ok(())
+    };
+    match cache.try_put_or_modify(key, |_, value| Ok(value), write, value) {
+        Ok(held) => {
+            let _ = &*held;
+            Ok(())
+        }
+        Err(refusal) => Err(refusal),
     }
 }

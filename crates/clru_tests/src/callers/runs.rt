@@ -25,9 +25,9 @@ pub fn held_before_puts<K: Eq + Hash + Drop>(
     let mut held = Vec::new(alloc);
     for key in keys {
         let before = cache.contains(&key);
-        let (Ok(_), Ok(())) = (cache.put(key, ()), held.push(before)) else {
+        if cache.put(key, ()).is_err() || held.push(before).is_err() {
             return None;
-        };
+        }
     }
     Some(held)
 }

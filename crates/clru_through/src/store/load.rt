@@ -1,7 +1,8 @@
 //! The calls that look for a key.
-ghost use Rattle.std.specs.Prelude.{◌≡◌, Option, Some, None, IfOk, IfErr, IfSome, IsFalse, IsSomeAnd, is_some};
-ghost use Rattle.std.specs.Option.{option_copied};
+ghost use Rattle.std.specs.Prelude.{◌≡◌, Option, Some, None, slice_get, IfOk, IfErr, IfSome, IsFalse, IsSomeAnd, is_some};
+ghost use Rattle.std.specs.Option.{option_copied, option_map};
 ghost use Rattle.std.specs.Map.{lookup};
+ghost use Rattle.std.specs.Map.Iter.{deref_pair};
 ghost use Rattle.clru.specs.Cache.{with_entries};
 ghost use Rattle.clru.specs.Entries.{touch};
 ghost use Rattle.clru_through.specs.Given.{answer_value, loaded_value};
@@ -47,39 +48,39 @@ impl<
         Ok(taken(&mut self.cache, key, value))
     }
 
+    /// Returns the value of the key, and makes it the most recently used one. It is fetched first if it is not held.
+    ///
+    /// It is a load, which says what the store is afterwards, and a look at its front.
+    pub fn get(&mut self, key: K) -> Result<Answer<'_, V>, E>
+    where
+        K: Drop,
+        V: Drop,
+        ensures { IfOk result (λ answer. R.value self.old.source key ≡ Some (answer_value answer)) }
+    {
+        match self.load(key)? {
+            Loaded::Passed(value) => Ok(Answer::Passed(value)),
+            Loaded::Held => match self.front() {
+                Some((_, value)) => Ok(Answer::Held(value)),
+                None => unreachable!(),
+            },
+        }
+    }
+
+    /// Returns the most recently used key with its value, which after a load that answered `Held` are those of its key.
+    /// Nothing is fetched, and the order stays as it is.
+    pub fn front(&self) -> Option<(&K, &V)>
+        ensures entry { option_map deref_pair result ≡ slice_get self.now.cache.entries 0 }
+        ensures value { IfSome result (λ e. R.value self.now.source e.0.now ≡ Some e.1.now) }
+    {
+        self.cache.front()
+    }
+
     /// Returns the value of the key if it is held. Nothing is fetched, and the order stays as it is.
     pub fn peek(&self, key: &K) -> Option<&V>
         ensures held { option_copied result ≡ lookup (K.eq key.now) self.now.cache.entries }
         ensures value { IfSome result (λ v. R.value self.now.source key.now ≡ Some v.now) }
     {
         self.cache.peek(key)
-    }
-}
-
-impl<
-    K: Eq + Hash + Copy,
-    V,
-    E,
-    R: Source<K, V, E>,
-    S: BuildHasher,
-    W: WeightScale<K, V>,
-    A: Allocator + Copy,
-> Through<K, V, E, R, S, W, A> {
-    /// Returns the value of the key, and makes it the most recently used one. It is fetched first if it is not held.
-    ///
-    /// It is a load, which says what the store is afterwards, and a look at what is held then.
-    pub fn get(&mut self, key: K) -> Result<Answer<'_, V>, E>
-    where
-        V: Drop,
-        ensures { IfOk result (λ answer. R.value self.old.source key ≡ Some (answer_value answer)) }
-    {
-        match self.load(key)? {
-            Loaded::Passed(value) => Ok(Answer::Passed(value)),
-            Loaded::Held => match self.peek(&key) {
-                Some(value) => Ok(Answer::Held(value)),
-                None => unreachable!(),
-            },
-        }
     }
 }
 
@@ -112,7 +113,7 @@ where
     ensures sourced { (gives : K → Option V) → gives key ≡ Some value → AllFrom gives cache.old.entries
         → AllFrom gives cache.new.entries }
 {
-    match cache.put_with_weight(key, value) {
+    match cache.put_with_weight(key, value, |_, _| {}) {
         Ok(_) => Loaded::Held,
         Err(PutError::TooHeavy(_, value)) => Loaded::Passed(value),
         Err(PutError::NoMemory(_, value)) => Loaded::Passed(value),

@@ -1,4 +1,4 @@
-use Rattle.std.proofs.Common.{rules, sym, ◌∙◌, ◌≡◌, ◌+◌, cond, min, [], length, arith, refl, ap, subst}
+use Rattle.std.proofs.Common.{rules, sym, ◌∙◌, ◌≡◌, ◌+◌, cond, [], length, arith, refl, ap, subst}
 use Rattle.std.proofs.lemmas.List.{length_push, map-id}
 use Rattle.std.proofs.lemmas.Iterator.Adapters.{YieldsList-from_vec}
 use Rattle.std.proofs.lemmas.Iterator.Consumers.{YieldsList-end}
@@ -47,6 +47,9 @@ pub loop-key-init : goal.loop-key-init
 loop-key-init g c =
     let eq = g.K.PartialEq.eq in let k = non_zero_usize_get c.args.capacity in
     let len : c.len.result ≡ length c.args.keys.items = omega (arith, c.len.ensures, c.args.keys.ok.0) in
+    let config = c.with_memory-config.result in
+    let capacity : config.capacity ≡ k = rw (c.with_memory-config.ensures, c.with_hasher.ensures, c.new.ensures) refl in
+    let reserve : config.reserve ≡ c.len.result = rw c.with_memory-config.ensures refl in
     record {
       next = tt;
       ends = tt;
@@ -55,8 +58,8 @@ loop-key-init g c =
             marks = search rules;
             misses = search rules;
             keeps = Keeps_none eq k;
-            capacity = refl;
-            places = ap (λ n. min n k) len;
+            capacity = capacity;
+            places = rw (reserve, capacity, len) refl;
             covered = omega arith;
             fewer = omega arith;
           });

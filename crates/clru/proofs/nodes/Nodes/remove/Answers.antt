@@ -1,8 +1,8 @@
 use Rattle.std.proofs.Common.{◌≡◌, Some, None, arith, sym, ap, ◌∙◌, subst}
 use Rattle.clru_list.specs.PlaceList.{without, with_entries}
-use Rattle.clru.specs.Nodes.{hash_by, home_at, pair_of, pairs_of, IsIndexed}
+use Rattle.clru.specs.Nodes.{hash_by, home_at, pair_of, placed_of, pairs_of, IsIndexed}
 use Rattle.clru.proofs.IndexedMoves.{chained_drop, indexed_from}
-use Rattle.clru.proofs.Placed.{same_pair, same_pairs, same_without, same_length, length-without}
+use Rattle.clru.proofs.Placed.{same_pair, same_pairs, same_without, placed-without, same_length, length-without}
 use Rattle.clru.proofs.nodes.Nodes.remove.Goals as goal
 
 pub unreachable-requires : goal.unreachable-requires
@@ -22,6 +22,11 @@ pub returns-clause-pairs : goal.returns-clause-pairs
 returns-clause-pairs g c =
     let u = c.unchain.new.self.list.entries in let es = c.args.self.now.list.entries in let p = c.args.place in
     ap (λ l. pairs_of l.entries) c.in-Some.ensures.entries ∙ same_pairs (without p u) (without p es) (same_without p u es c.unchain.ensures.pairs)
+
+pub returns-clause-placed : goal.returns-clause-placed
+returns-clause-placed g c =
+    let u = c.unchain.new.self.list.entries in let es = c.args.self.now.list.entries in let p = c.args.place in
+    ap (λ l. placed_of l.entries) c.in-Some.ensures.entries ∙ same_without p u es c.unchain.ensures.pairs ∙ placed-without p es
 
 pub returns-clause-indexed : goal.returns-clause-indexed
 returns-clause-indexed g c =

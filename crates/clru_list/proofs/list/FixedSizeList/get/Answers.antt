@@ -2,7 +2,7 @@ use Rattle.clru_list.proofs.Views.{seen_item, seen_valid}
 use Rattle.clru_list.proofs.list.FixedSizeList.get.Goals as goal
 
 pub returns-clause-value : goal.returns-clause-value
-returns-clause-value g c = cc (c.item.ensures, seen_item _ _ _ _ _ c.self.invariant _ c.self.view_is c.args.place)
+returns-clause-value g c = cc (c.item.ensures, seen_item _ _ _ _ _ c.self.invariant.0 _ c.self.view_is c.args.place)
 
 pub returns-clause-valid : goal.returns-clause-valid
-returns-clause-valid g c = seen_valid _ _ _ _ _ c.self.invariant _ c.self.view_is
+returns-clause-valid g c = seen_valid _ _ _ _ _ c.self.invariant.0 _ c.self.view_is

@@ -9,8 +9,8 @@ nothing (e ∷ es) h = absurd (omega arith)
 
 pub returns-clause-empty : goal.returns-clause-empty
 returns-clause-empty g c =
-    let len = seen_length _ _ _ _ _ c.self.invariant _ c.self.view_is in
+    let len = seen_length _ _ _ _ _ c.self.invariant.0 _ c.self.view_is in
     (λ h. nothing _ (omega (arith, len, eqb-true _ _ h)), λ h. eq-eqb _ _ (omega (arith, len, ap length h)))
 
 pub returns-clause-valid : goal.returns-clause-valid
-returns-clause-valid g c = seen_valid _ _ _ _ _ c.self.invariant _ c.self.view_is
+returns-clause-valid g c = seen_valid _ _ _ _ _ c.self.invariant.0 _ c.self.view_is

@@ -3,53 +3,52 @@ use Rattle.clru_list.proofs.NodeLemmas.{links_of-moved}
 use Rattle.clru_list.proofs.Soundness.{view-is, valid_view}
 use Rattle.clru_list.proofs.Steps.{sound-grow}
 use Rattle.clru_list.proofs.Views.{seen, seen_length, seen_valid, sound-at}
+use Rattle.clru_list.proofs.Pointing.{pointed-still}
 use Rattle.clru_list.proofs.list.FixedSizeList.make_ready.Goals as goal
 
 pub returns-then-self-clause-valid : goal.returns-then-self-clause-valid
-returns-then-self-clause-valid g c = seen_valid _ _ _ _ _ c.self.invariant _ c.self.view_is
+returns-then-self-clause-valid g c = seen_valid _ _ _ _ _ c.self.invariant.0 _ c.self.view_is
 
 pub returns-then-self-2-clause-ready : goal.returns-then-self-2-clause-ready
 returns-then-self-2-clause-ready g c = λ _.
-    omega (arith, c.if-self-2.true, seen_length _ _ _ _ _ c.self.invariant _ c.self.view_is, ap (λ l. l.places) (seen _ _ _ _ _ c.self.invariant _ c.self.view_is))
+    omega (arith, c.if-self-2.true, seen_length _ _ _ _ _ c.self.invariant.0 _ c.self.view_is, ap (λ l. l.places) (seen _ _ _ _ _ c.self.invariant.0 _ c.self.view_is))
 
 pub returns-then-self-2-clause-valid : goal.returns-then-self-2-clause-valid
-returns-then-self-2-clause-valid g c = seen_valid _ _ _ _ _ c.self.invariant _ c.self.view_is
+returns-then-self-2-clause-valid g c = seen_valid _ _ _ _ _ c.self.invariant.0 _ c.self.view_is
 
 abbrev pub invariant_of-self : goal.invariant_of-self
 invariant_of-self g c =
-    let e = c.reserve_exact.ensures in let i = c.self.invariant in (
-      i.0,
-      sound-at _ _ _ _ _ _ _ _ (links_of-moved c.self.inside.chain c.reserve_exact.new.self e.items e.len) refl
-          (sound-grow _ _ _ _ _ i c.self.inside.places _ (omega arith) (omega (arith, i.1.reserved, e.capacity)) c.reserve_exact.new.self.small),
-    )
+    let e = c.reserve_exact.ensures in let i = c.self.invariant.0 in
+    let new = sound-at _ _ _ _ _ _ _ _ (links_of-moved c.self.inside.chain c.reserve_exact.new.self e.items e.len) refl
+    (sound-grow _ _ _ _ _ i c.self.inside.places _ (omega arith) (omega (arith, i.1.reserved, e.capacity)) c.reserve_exact.new.self.small) in
+    ((i.0, new), pointed-still _ _ _ _ _ _ _ _ _ _ _ _ _ i.1 new refl c.self.invariant.1)
 
 pub returns-in_default-clause-refused : goal.returns-in_default-clause-refused
 returns-in_default-clause-refused g c =
-    let i = c.self.invariant.1 in let sees = seen _ _ _ _ _ c.self.invariant _ c.self.view_is in let len = seen_length _ _ _ _ _ c.self.invariant _ c.self.view_is in (
+    let i = c.self.invariant.0.1 in let sees = seen _ _ _ _ _ c.self.invariant.0 _ c.self.view_is in let len = seen_length _ _ _ _ _ c.self.invariant.0 _ c.self.view_is in (
       (omega (arith, i.fits, c.if-self.false, len, ap (λ l. l.capacity) sees), omega (arith, c.if-self-2.false, i.counted, i.held.total, i.within, len, ap (λ l. l.places) sees)),
-      view-is _ _ _ _ _ _ (invariant_of-self g c).1 ∙ sym sees,
+      view-is _ _ _ _ _ _ (invariant_of-self g c).0.1 ∙ sym sees,
     )
 
 pub returns-in_default-clause-valid : goal.returns-in_default-clause-valid
-returns-in_default-clause-valid g c = valid_view _ _ _ _ _ _ (invariant_of-self g c).1
+returns-in_default-clause-valid g c = valid_view _ _ _ _ _ _ (invariant_of-self g c).0.1
 
 abbrev pub invariant_of-self-2 : goal.invariant_of-self-2
 invariant_of-self-2 g c =
-    let e = c.reserve_exact.ensures in let i = c.self.invariant in (
-      i.0,
-      sound-at _ _ _ _ _ _ _ _ (links_of-moved c.self.inside.chain c.reserve_exact.new.self e.items e.len) refl
-          (sound-grow _ _ _ _ _ i c.grown-places.result _ (omega (arith, c.grown-places.ensures, c.if-self.false, c.if-self-2.false, i.1.fits))
-          (omega (arith, c.in-Ok.ensures.ok, e.len, c.len.ensures, i.1.within, c.grown-places.ensures)) c.reserve_exact.new.self.small),
-    )
+    let e = c.reserve_exact.ensures in let i = c.self.invariant.0 in
+    let new = sound-at _ _ _ _ _ _ _ _ (links_of-moved c.self.inside.chain c.reserve_exact.new.self e.items e.len) refl
+    (sound-grow _ _ _ _ _ i c.grown-places.result _ (omega (arith, c.grown-places.ensures, c.if-self.false, c.if-self-2.false, i.1.fits))
+    (omega (arith, c.in-Ok.ensures.ok, e.len, c.len.ensures, i.1.within, c.grown-places.ensures)) c.reserve_exact.new.self.small) in
+    ((i.0, new), pointed-still _ _ _ _ _ _ _ _ _ _ _ _ _ i.1 new refl c.self.invariant.1)
 
 pub returns-clause-ready : goal.returns-clause-ready
 returns-clause-ready g c = λ lt.
-    let i = c.self.invariant.1 in let sees = seen _ _ _ _ _ c.self.invariant _ c.self.view_is in
-    omega (arith, c.grown-places.ensures, i.held.total, i.within, i.counted, seen_length _ _ _ _ _ c.self.invariant _ c.self.view_is, ap (λ l. l.capacity) sees, c.if-self.false, c.if-self-2.false)
+    let i = c.self.invariant.0.1 in let sees = seen _ _ _ _ _ c.self.invariant.0 _ c.self.view_is in
+    omega (arith, c.grown-places.ensures, i.held.total, i.within, i.counted, seen_length _ _ _ _ _ c.self.invariant.0 _ c.self.view_is, ap (λ l. l.capacity) sees, c.if-self.false, c.if-self-2.false)
 
 pub returns-clause-places : goal.returns-clause-places
 returns-clause-places g c =
-    let i = c.self.invariant.1 in let sees = seen _ _ _ _ _ c.self.invariant _ c.self.view_is in let len = seen_length _ _ _ _ _ c.self.invariant _ c.self.view_is in
+    let i = c.self.invariant.0.1 in let sees = seen _ _ _ _ _ c.self.invariant.0 _ c.self.view_is in let len = seen_length _ _ _ _ _ c.self.invariant.0 _ c.self.view_is in
     record {
       capacity = sym (ap (λ l. l.capacity) sees);
       never_falls = omega (arith, c.grown-places.ensures, ap (λ l. l.places) sees, c.if-self.false, c.if-self-2.false, i.fits);
@@ -58,4 +57,4 @@ returns-clause-places g c =
     }
 
 pub returns-clause-valid : goal.returns-clause-valid
-returns-clause-valid g c = valid_view _ _ _ _ _ _ (invariant_of-self-2 g c).1
+returns-clause-valid g c = valid_view _ _ _ _ _ _ (invariant_of-self-2 g c).0.1

@@ -1,4 +1,4 @@
-use Rattle.clru.proofs.PutSteps.{IsPut-plain}
+use Rattle.clru.proofs.CallerLemmas.{IsPut-plain}
 use Rattle.clru_tests.proofs.callers.puts.put.Goals as goal
 
 pub returns-in-Ok : goal.returns-in-Ok

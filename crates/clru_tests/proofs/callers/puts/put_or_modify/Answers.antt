@@ -1,5 +1,5 @@
 use Rattle.std.proofs.Common.{IsOk, refl}
-use Rattle.clru.proofs.PutSteps.{IsPut-plain}
+use Rattle.clru.proofs.CallerLemmas.{IsPut-plain}
 use Rattle.clru_tests.proofs.callers.puts.put_or_modify.Goals as goal
 
 pub returns-in-Ok : goal.returns-in-Ok

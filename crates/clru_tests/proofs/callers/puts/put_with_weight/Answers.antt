@@ -1,5 +1,5 @@
 use Rattle.std.proofs.Common.{arith, refl}
-use Rattle.clru.proofs.PutSteps.{IsPut-weightless}
+use Rattle.clru.proofs.CallerLemmas.{IsPut-weightless}
 use Rattle.clru_tests.proofs.callers.puts.put_with_weight.Goals as goal
 
 pub returns-in-Ok : goal.returns-in-Ok

@@ -1,10 +1,10 @@
-use Rattle.std.proofs.Common.{◌≡◌, ◌-◌, ◌<◌, ◌∷◌, length, take, refl, sym, ap, ◌∙◌, arith, take_all}
+use Rattle.std.proofs.Common.{◌≡◌, ◌-◌, ◌<◌, ◌∷◌, length, take, slice_get, refl, sym, ap, ◌∙◌, arith, take_all}
 use Rattle.std.specs.NonZero.{non_zero_usize_get}
 use Rattle.clru.specs.Nodes.{pairs_of, with_front}
 use Rattle.clru.proofs.Finding.{held, missed, touch-missed, with_front-touch, plain_put-held, first_touched}
 use Rattle.clru.proofs.Keeping.{IsKept-front, IsCache-from}
 use Rattle.clru.proofs.Placed.{length-pairs}
-use Rattle.clru.proofs.Putting.{GrowsIf-along, grows_if_needed, IsKept-new, put_full, put_free}
+use Rattle.clru.proofs.Putting.{GrowsIf-along, grows_if_needed, IsKept-new, put_full, put_free, drop_full, drop_free}
 use Rattle.clru.proofs.cache.put.CLruCache+K+V+S+ZeroWeightScale+A.put.Goals as goal
 
 pub invariant_of-self : goal.invariant_of-self
@@ -14,10 +14,10 @@ invariant_of-self g c =
     IsCache-from (λ k v. 0) c.self.invariant (s.pairs ∙ ap (with_front c.args.value) e.pairs ∙ with_front-touch eq key h c.args.value)
     (IsKept-front (λ k v. 0) key c.args.value g.met.K.Eq.laws c.self.invariant.pairs h refl) s.indexed (s.same.capacity ∙ e.same.capacity)
 
-pub returns-then-touch-clause-answer : goal.returns-then-touch-clause-answer
-returns-then-touch-clause-answer g c =
+pub returns-then-touch-clause-replaced : goal.returns-then-touch-clause-replaced
+returns-then-touch-clause-replaced g c =
     let eq = g.K.PartialEq.eq in let key = c.args.key in
-    rw (← c.self.view_is) (c.set_front.ensures.value ∙ rw c.touch.ensures.pairs (first_touched eq key (held (eq key) c.if-touch.ensures.held)))
+    rw (← c.self.view_is) (c.set_front.ensures.value ∙ first_touched eq key (held (eq key) c.if-touch.ensures.held) c.touch.ensures.pairs refl)
 
 pub returns-then-touch-clause-entries : goal.returns-then-touch-clause-entries
 returns-then-touch-clause-entries g c =
@@ -43,6 +43,14 @@ returns-then-len-get-clause-entries g c =
     let full : length (pairs_of c.self.inside.nodes.list.entries) ≡ non_zero_usize_get c.self.inside.capacity =
     omega (arith, ap length before, c.len.ensures, c.if-len-get.true, c.get.ensures.value) in
     rw (← c.self.view_is) (c.replace_back.ensures.pairs ∙ ap (λ l. (key, v) ∷ take (length l - 1) l) before ∙ put_full eq _ key v m full)
+
+pub returns-then-len-get-clause-dropped : goal.returns-then-len-get-clause-dropped
+returns-then-len-get-clause-dropped g c =
+    let eq = g.K.PartialEq.eq in let key = c.args.key in let m = missed (eq key) c.if-touch.ensures.held in
+    let before = c.touch.ensures.pairs ∙ touch-missed eq key m in
+    let full : length (pairs_of c.self.inside.nodes.list.entries) ≡ non_zero_usize_get c.self.inside.capacity =
+    omega (arith, ap length before, c.len.ensures, c.if-len-get.true, c.get.ensures.value) in
+    rw (← c.self.view_is) (c.replace_back.ensures.pair ∙ ap (λ l. slice_get l (length l - 1)) before ∙ drop_full eq _ key m full)
 
 pub make_ready_if-requires-clause-below : goal.make_ready_if-requires-clause-below
 make_ready_if-requires-clause-below g c =
@@ -94,6 +102,14 @@ returns-clause-entries g c =
     let free : length (pairs_of c.self.inside.nodes.list.entries) < non_zero_usize_get c.self.inside.capacity =
     omega (arith, ap length before, c.len.ensures, c.if-len-get.false, c.get.ensures.value, c.self.invariant.pairs.fits) in
     rw (← c.self.view_is) (c.push_front.ensures.pairs ∙ ap (λ l. (key, v) ∷ l) (c.in-Ok.ensures.keeps.pairs ∙ before) ∙ put_free eq _ key v m free)
+
+pub returns-clause-dropped : goal.returns-clause-dropped
+returns-clause-dropped g c =
+    let eq = g.K.PartialEq.eq in let key = c.args.key in let m = missed (eq key) c.if-touch.ensures.held in
+    let before = c.touch.ensures.pairs ∙ touch-missed eq key m in
+    let free : length (pairs_of c.self.inside.nodes.list.entries) < non_zero_usize_get c.self.inside.capacity =
+    omega (arith, ap length before, c.len.ensures, c.if-len-get.false, c.get.ensures.value, c.self.invariant.pairs.fits) in
+    rw (← c.self.view_is) (drop_free eq _ key m free)
 
 pub returns-clause-places : goal.returns-clause-places
 returns-clause-places g c =

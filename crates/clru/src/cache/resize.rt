@@ -1,0 +1,38 @@
+//! A change of the capacity.
+ghost use Rattle.std.specs.Prelude.{◌≡◌};
+ghost use Rattle.std.specs.Int.NonZero.{non_zero_usize_get};
+ghost use Rattle.clru.specs.Cache.{cache};
+ghost use Rattle.clru.specs.Entries.{fit};
+
+use crate::cache::CLruCache;
+use crate::shrink::shrink_to;
+use crate::weight::WeightScale;
+use std::alloc::Allocator;
+use std::hash::{BuildHasher, Hash};
+use std::num::NonZeroUsize;
+
+impl<K: Eq + Hash, V, S: BuildHasher, W: WeightScale<K, V>, A> CLruCache<K, V, S, W, A>
+where
+    A: Allocator + Copy,
+{
+    /// Sets the capacity, and drops what does not fit it, the least recently used entry first and nothing else.
+    ///
+    /// It takes no memory and gives none back: the places stay, also where they are more than the new capacity. The cost
+    /// grows with the number of entries that are dropped.
+    pub fn resize(&mut self, capacity: NonZeroUsize)
+    where
+        K: Drop,
+        V: Drop,
+        ensures { let size = non_zero_usize_get capacity in
+            self.new ≡ cache (fit (W.weight self.old.scale) size self.old.entries) size self.old.scale self.old.places }
+    {
+        shrink_to(
+            &mut self.nodes,
+            &mut self.total_weight,
+            &self.scale,
+            capacity.get(),
+        );
+        self.nodes.resize(capacity.get());
+        self.capacity = capacity;
+    }
+}

@@ -1,0 +1,24 @@
+//! The cursor over the entries of a cache, which lends one value at a time for writing.
+pub(crate) mod steps;
+
+use crate::cache::CLruCache;
+use crate::hasher::DefaultState;
+use crate::weight::ZeroWeightScale;
+use std::alloc::{Allocator, Global};
+use std::hash::{BuildHasher, Hash};
+
+/// A cursor over a cache. It has entries left, at first all of them, and passes them one by one from either end. What is
+/// written to a value that it lends is in the cache from then on; keys and order stay.
+#[derive(Drop)]
+pub struct CLruCacheIterMut<
+    'a,
+    K: Eq + Hash,
+    V,
+    S: BuildHasher = DefaultState,
+    A: Allocator + Copy = Global,
+> {
+    pub(crate) cache: &'a mut CLruCache<K, V, S, ZeroWeightScale, A>,
+    // The entries from the one number up to the other are left.
+    pub(crate) done: usize,
+    pub(crate) end: usize,
+}

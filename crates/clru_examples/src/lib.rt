@@ -1,0 +1,12 @@
+//! The examples of the docs. A test runs each, and `tools/quotes` compares what the docs quote with the text here.
+#![tactic(auto)]
+
+pub mod budget;
+pub mod guard;
+pub mod hasher;
+pub mod own;
+pub mod pages;
+pub mod replays;
+pub mod scale;
+pub mod seed;
+pub mod texts;

@@ -1,0 +1,49 @@
+//! A cache with a scale and a hash builder of one's own.
+ghost use Rattle.std.specs.Prelude.{◌≡◌, ◌≤◌, ◌↔◌, Some, nat_eq, length, OnOk, OnErr};
+ghost use Rattle.std.specs.Map.{lookup};
+ghost use Rattle.clru.specs.Refusals.{IsTooHeavy};
+
+use crate::hasher::FnvState;
+use crate::scale::ByLength;
+use clru::{CLruCache, PutError};
+
+/// Pages, within a number of bytes.
+pub type Pages = CLruCache<u64, Vec<u8>, FnvState, ByLength>;
+
+/// Holds a page. A look-up then finds it; one that is as long as the capacity, or longer, is refused.
+pub fn hold(pages: &mut Pages, page: u64, bytes: Vec<u8>) -> Result<(), PutError<u64, Vec<u8>>>
+    ensures held { OnOk result (lookup (nat_eq page) pages.new.entries ≡ Some bytes) }
+    ensures kept { OnErr result (pages.new.entries ≡ pages.old.entries) }
+    ensures too_long { IsTooHeavy result ↔ (pages.old.capacity ≤ length bytes.items) }
+{
+    match pages.put_with_weight(page, bytes, |_, _| {}) {
+        Ok(_) => Ok(()),
+        Err(refusal) => Err(refusal),
+    }
+}
+
+#[cfg(test)]
+mod tests {
+    use super::*;
+    use clru::{CLruCacheConfig, NonZeroUsize};
+    use std::test::Fail;
+
+    #[test]
+    fn pages_are_held_within_a_number_of_bytes(rt: HostRuntime) -> Result<(), Fail> {
+        let room = NonZeroUsize::new(10).ok_or("a capacity is no 0")?;
+        let config = CLruCacheConfig::new(room)
+            .with_hasher(FnvState)
+            .with_scale(ByLength);
+        let Ok(mut pages): Result<Pages, _> = CLruCache::with_config(rt.alloc(), config) else {
+            return Err("no memory was to be asked for")?;
+        };
+        for page in [1, 2, 3] {
+            let bytes = Vec::from_slice(rt.alloc(), b"four")?;
+            assert!(rt; hold(&mut pages, page, bytes).is_ok());
+        }
+        let bytes = Vec::from_slice(rt.alloc(), b"ten bytes.")?;
+        assert!(rt; hold(&mut pages, 4, bytes).is_err());
+        assert_eq!(rt; (pages.len(), pages.contains(&1)), (2, false));
+        Ok(())
+    }
+}

@@ -1,0 +1,39 @@
+//! A cache of pages.
+ghost use Rattle.std.specs.Prelude.{◌≡◌, Some, nat_eq, OnOk, OnErr};
+ghost use Rattle.std.specs.Map.{lookup};
+
+use clru::CLruCache;
+
+/// Remembers the size of a page, and answers what was forgotten for it. A look-up then finds the size.
+pub fn remember(
+    sizes: &mut CLruCache<u64, u64>,
+    page: u64,
+    size: u64,
+) -> Result<Option<(u64, u64)>, (u64, u64)>
+    ensures stored { OnOk result (lookup (nat_eq page) sizes.new.entries ≡ Some size) }
+    ensures kept { OnErr result (sizes.new.entries ≡ sizes.old.entries) }
+{
+    match sizes.put(page, size) {
+        Ok(put) => Ok(put.dropped),
+        Err(pair) => Err(pair),
+    }
+}
+
+#[cfg(test)]
+mod tests {
+    use super::*;
+    use clru::NonZeroUsize;
+    use std::test::Fail;
+
+    #[test]
+    fn the_page_looked_at_last_stays(rt: HostRuntime) -> Result<(), Fail> {
+        let room = NonZeroUsize::new(2).ok_or("a capacity is no 0")?;
+        let mut sizes = CLruCache::new(rt.alloc(), room);
+        assert_eq!(rt; remember(&mut sizes, 1, 10), Ok(None));
+        assert_eq!(rt; remember(&mut sizes, 2, 20), Ok(None));
+        assert_eq!(rt; sizes.get(&1).copied(), Some(10));
+        assert_eq!(rt; remember(&mut sizes, 3, 30), Ok(Some((2, 20))));
+        assert_eq!(rt; sizes.peek(&2).copied(), None);
+        Ok(())
+    }
+}

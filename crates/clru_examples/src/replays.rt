@@ -1,0 +1,36 @@
+//! A choice of a capacity.
+
+use clru::{DefaultState, NonZeroUsize, replay};
+use std::alloc::{AllocError, Global};
+
+/// The misses of a cache of the capacity, which starts empty and is sent the requests.
+pub fn misses_at(
+    alloc: Global,
+    capacity: NonZeroUsize,
+    requests: &[u64],
+) -> Result<usize, AllocError> {
+    let keys = Vec::from_slice(alloc, requests)?;
+    match replay(alloc, capacity, keys, DefaultState) {
+        Ok(answer) => Ok(answer.misses),
+        Err(_) => Err(AllocError),
+    }
+}
+
+#[cfg(test)]
+mod tests {
+    use super::*;
+    use std::test::Fail;
+
+    #[test]
+    fn a_greater_capacity_misses_less(rt: HostRuntime) -> Result<(), Fail> {
+        for (capacity, misses) in [(1, 6), (2, 6), (3, 3)] {
+            let room = NonZeroUsize::new(capacity).ok_or("a capacity is no 0")?;
+            assert_eq!(rt;
+                misses_at(rt.alloc(), room, &[1, 2, 3, 1, 2, 3])?,
+                misses,
+                "{capacity}"
+            );
+        }
+        Ok(())
+    }
+}

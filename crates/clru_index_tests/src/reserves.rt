@@ -1,0 +1,73 @@
+//! A reserve of two places, where each later request for memory is refused.
+
+use crate::builders::CONSTANTS;
+use crate::calls::room;
+use clru::{CLruCache, CLruCacheConfig, DefaultState, ZeroWeightScale};
+use ration::Rationed;
+use std::alloc::Global;
+use std::hash::BuildHasher;
+use std::process::Abort;
+use std::test::Fail;
+
+/// A cache over an allocator that refuses.
+type Over<'a, S> = CLruCache<u64, u64, S, ZeroWeightScale, &'a Rationed<Global>>;
+
+/// Puts a key that is not held, with ten times itself, and returns whether it went in.
+fn goes_in<S: BuildHasher>(rt: &impl Abort, cache: &mut Over<S>, key: u64) -> bool {
+    match cache.put(key, key.wrapping_mul(10)) {
+        Ok(put) => {
+            assert_eq!(rt; (put.replaced, put.dropped), (None, None));
+            true
+        }
+        Err(pair) => {
+            assert_eq!(rt; pair, (key, key.wrapping_mul(10)));
+            false
+        }
+    }
+}
+
+/// Two keys go in, the third where a place is free again.
+fn holds_two<S: BuildHasher>(rt: &impl Abort, heap: &Rationed<Global>, cache: &mut Over<S>) {
+    heap.refuse_after(0);
+    for (key, stored) in [(1, true), (2, true), (3, false)] {
+        assert_eq!(rt; goes_in(rt, cache, key), stored, "{key}");
+    }
+    assert_eq!(rt; cache.pop(&1), Some(10));
+    assert!(rt; goes_in(rt, cache, 3));
+    let mut held = cache.iter().map(|(key, value)| (*key, *value));
+    assert_eq!(rt;
+        (held.next(), held.next(), held.next()),
+        (Some((3, 30)), Some((2, 20)), None)
+    );
+    heap.refuse_none();
+}
+
+#[test]
+fn a_reserve_of_two_holds_two(rt: HostRuntime) -> Result<(), Fail> {
+    let heap = Rationed::new(rt.alloc());
+    let made = CLruCache::<u64, u64, DefaultState, ZeroWeightScale, _>::with_memory(
+        &heap,
+        room(4)?,
+        2,
+    );
+    let Ok(mut cache) = made else {
+        return Err("there is memory".into());
+    };
+    holds_two(&rt, &heap, &mut cache);
+    Ok(())
+}
+
+#[test]
+fn a_reserve_of_two_holds_two_where_the_hashes_are_alike(rt: HostRuntime) -> Result<(), Fail> {
+    for builder in CONSTANTS {
+        let heap = Rationed::new(rt.alloc());
+        let config = CLruCacheConfig::new(room(4)?)
+            .with_hasher(builder)
+            .with_memory(2);
+        let Ok(mut cache) = CLruCache::with_config(&heap, config) else {
+            return Err("there is memory".into());
+        };
+        holds_two(&rt, &heap, &mut cache);
+    }
+    Ok(())
+}

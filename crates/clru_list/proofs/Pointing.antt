@@ -1,0 +1,24 @@
+-- What keeps the fingers of a list at their places.
+use Rattle.std.proofs.Common.{◌≡◌, ℕ, List, Some, None, Option, IfSome, slice_get, sym, ap, ◌∙◌, subst}
+use Rattle.std.specs.Map.{keys_of}
+use Rattle.clru_list.specs.Fingers.{IsFinger, IsPointed}
+use Rattle.clru_list.specs.Links.{Links, nowhere, walk, IsSound}
+use Rattle.clru_list.specs.declared.fingers.Finger.{Finger}
+use Rattle.clru_list.specs.declared.fingers.Fingers.{Fingers}
+use Rattle.clru_list.proofs.Soundness.{walk-is}
+
+-- a list without fingers
+pub pointed-none : (places : List ℕ) (f : Fingers) → f.up ≡ None → f.down ≡ None → IsPointed places f
+pointed-none places f up down = record {
+  up = subst (λ (o : Option Finger). IsFinger places o) (sym up) tt;
+  down = subst (λ (o : Option Finger). IsFinger places o) (sym down) tt;
+}
+
+-- a list whose places stay
+pub pointed-still : {T : Type 0} (l m : Links T) (len capacity places room len' capacity' places' room' : ℕ) (es fs : List (ℕ × T)) (f : Fingers)
+    → IsSound l len capacity places room es → IsSound m len' capacity' places' room' fs → keys_of fs ≡ keys_of es
+    → IsPointed (keys_of (walk l (l.next nowhere) len)) f → IsPointed (keys_of (walk m (m.next nowhere) len')) f
+pointed-still l m len capacity places room len' capacity' places' room' es fs f old new same pointed =
+    subst (λ ps. IsPointed ps f)
+    (ap (λ e. keys_of e) (walk-is l len capacity places room es old) ∙ sym same ∙ sym (ap (λ e. keys_of e) (walk-is m len' capacity' places' room' fs new)))
+    pointed

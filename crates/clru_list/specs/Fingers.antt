@@ -1,0 +1,13 @@
+-- Private: where walks by number stand. No public clause cites it.
+use Rattle.std.specs.Prelude.{◌≡◌, ℕ, List, Option, Some, IfSome, slice_get}
+use Rattle.clru_list.specs.declared.fingers.Finger.{Finger}
+use Rattle.clru_list.specs.declared.fingers.Fingers.{Fingers}
+
+-- the finger is at the place of its number
+abbrev pub IsFinger : List ℕ → Option Finger → Type 0
+IsFinger places finger = IfSome finger (λ f. slice_get places f.number ≡ Some f.place)
+
+-- both are
+pub record IsPointed (places : List ℕ) (fingers : Fingers) : Type 0 where
+  pub up : IsFinger places fingers.up
+  pub down : IsFinger places fingers.down

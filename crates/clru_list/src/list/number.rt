@@ -1,0 +1,84 @@
+//! The places by number, for walks that hold the list for writing.
+ghost use Rattle.std.specs.Prelude.{◌≡◌, ◌<◌, length, slice_get};
+ghost use Rattle.std.specs.Map.{keys_of};
+ghost use Rattle.clru_list.specs.PlaceList.{IsValid};
+
+use crate::fingers::{pointed, pointing};
+use crate::list::FixedSizeList;
+use std::alloc::Allocator;
+
+impl<T, A: Allocator + Copy> FixedSizeList<T, A> {
+    /// Returns the place of the entry with a number, counted from the front.
+    ///
+    /// A walk that asks for one number after another, upwards from 0, takes the same short time for each: the list keeps
+    /// where it stands until the order changes. Any other number costs a walk from the front.
+    pub fn place_at(&mut self, number: usize) -> Option<usize>
+        ensures place { result ≡ slice_get (keys_of self.old.entries) number }
+        ensures same { self.new ≡ self.old }
+        ensures valid { IsValid self.new }
+    {
+        let place = self.place_up(number)?;
+        let next = self.next_idx(place);
+        self.fingers.up = pointing(number + 1, next);
+        Some(place)
+    }
+
+    /// Does the same for a walk downwards, from the last number.
+    pub fn place_at_back(&mut self, number: usize) -> Option<usize>
+        ensures place { result ≡ slice_get (keys_of self.old.entries) number }
+        ensures same { self.new ≡ self.old }
+        ensures valid { IsValid self.new }
+    {
+        let place = self.place_down(number)?;
+        let before = self.prev_idx(place);
+        self.fingers.down = pointing(number.saturating_sub(1), before);
+        Some(place)
+    }
+
+    fn place_up(&self, number: usize) -> Option<usize>
+        ensures place { result ≡ slice_get (keys_of self.now.entries) number }
+        ensures valid { IsValid self.now }
+    {
+        if let Some(place) = pointed(self.fingers.up, number) {
+            return Some(place);
+        }
+        self.walk_up(number)
+    }
+
+    fn place_down(&self, number: usize) -> Option<usize>
+        ensures place { result ≡ slice_get (keys_of self.now.entries) number }
+        ensures valid { IsValid self.now }
+    {
+        if let Some(place) = pointed(self.fingers.down, number) {
+            return Some(place);
+        }
+        self.walk_down(number)
+    }
+
+    fn walk_up(&self, number: usize) -> Option<usize>
+        ensures { result ≡ slice_get (keys_of self.now.entries) number }
+    {
+        let mut place = self.front_idx()?;
+        let mut at = 0;
+        while at < number {
+            place = self.next_idx(place)?;
+            at += 1;
+        }
+        Some(place)
+    }
+
+    fn walk_down(&self, number: usize) -> Option<usize>
+        ensures { result ≡ slice_get (keys_of self.now.entries) number }
+    {
+        if number >= self.len() {
+            return None;
+        }
+        let mut place = self.back_idx()?;
+        let mut at = self.len() - 1;
+        while number < at {
+            place = self.prev_idx(place)?;
+            at -= 1;
+        }
+        Some(place)
+    }
+}

@@ -1,0 +1,188 @@
+//! The memory of `extend` and of `from_iter`: their puts ask for it one by one, and the first refusal ends them.
+
+use crate::adding::{Plain, room, takes_out_those_below};
+use crate::costs::REQUESTS;
+use crate::owned::text;
+use clru::{CLruCache, DefaultState, NoMemory};
+use ration::Rationed;
+use std::alloc::{AllocError, Global};
+use std::cell::Cell;
+use std::test::Fail;
+
+/// Extends by the keys from `first` to before `end`, each with ten more as its value, and counts those that are drawn.
+fn extends(cache: &mut Plain, first: u64, end: u64, drawn: &Cell<u64>) -> Result<(), (u64, u64)> {
+    cache.extend((first..end).map(|key| {
+        drawn.set(drawn.get().wrapping_add(1));
+        (key, key.wrapping_add(10))
+    }))
+}
+
+/// How many of nine keys go in where the memory is refused after so many requests: three growths, to 4, 8 and 9 places or more.
+fn stored_after(requests: u64) -> u64 {
+    (requests / REQUESTS).saturating_mul(4).min(9)
+}
+
+#[test]
+fn each_refusal_ends_an_extend(rt: HostRuntime) -> Result<(), Fail> {
+    for n in 0..=3 * REQUESTS {
+        let heap = Rationed::new(rt.alloc());
+        {
+            let (stored, drawn) = (stored_after(n), Cell::new(0));
+            let mut cache = CLruCache::new(&heap, room(9)?);
+            heap.refuse_after(n);
+            let refused = extends(&mut cache, 0, 9, &drawn);
+            if n == 3 * REQUESTS {
+                assert_eq!(rt; (refused, drawn.get(), heap.refused()), (Ok(()), 9, 0));
+            } else {
+                assert_eq!(rt;
+                    refused,
+                    Err((stored, stored.wrapping_add(10))),
+                    "after {n}"
+                );
+                assert_eq!(rt;
+                    (drawn.get(), heap.asked(), heap.refused()),
+                    (stored.wrapping_add(1), n + 1, 1),
+                    "after {n}: none behind it is drawn, and nothing is asked again"
+                );
+            }
+            heap.refuse_none();
+            assert_eq!(rt; extends(&mut cache, stored, 9, &drawn), Ok(()), "after {n}");
+            for key in 0..9u64 {
+                assert!(rt; cache.contains(&key), "{key} after {n}");
+            }
+            takes_out_those_below(&rt, &mut cache, 9);
+        }
+        assert_eq!(rt; heap.blocks(), 0, "after {n}");
+    }
+    Ok(())
+}
+
+/// Collects the keys below `end`, each with ten more as its value, and counts those that are drawn.
+fn collects<'a>(
+    heap: &'a Rationed<Global>,
+    end: u64,
+    drawn: &Cell<u64>,
+) -> Result<Plain<'a>, NoMemory> {
+    CLruCache::from_iter(
+        heap,
+        DefaultState,
+        (0..end).map(|key| {
+            drawn.set(drawn.get().wrapping_add(1));
+            (key, key.wrapping_add(10))
+        }),
+    )
+}
+
+#[test]
+fn each_refusal_ends_a_from_iter(rt: HostRuntime) -> Result<(), Fail> {
+    for n in 0..=3 * REQUESTS {
+        let heap = Rationed::new(rt.alloc());
+        heap.refuse_after(n);
+        let drawn = Cell::new(0);
+        match collects(&heap, 9, &drawn) {
+            Ok(mut cache) => {
+                assert_eq!(rt; (n, drawn.get(), heap.refused()), (3 * REQUESTS, 9, 0));
+                assert_eq!(rt; (cache.capacity(), heap.asked()), (9, n));
+                takes_out_those_below(&rt, &mut cache, 9);
+            }
+            Err(NoMemory) => {
+                assert_eq!(rt;
+                    (drawn.get(), heap.asked(), heap.refused()),
+                    (stored_after(n).wrapping_add(1), n + 1, 1),
+                    "after {n}: none behind it is drawn, and nothing is asked again"
+                );
+            }
+        }
+        assert_eq!(rt; heap.blocks(), 0, "after {n}");
+    }
+    Ok(())
+}
+
+#[test]
+fn a_thousand_items_go_in(rt: HostRuntime) -> Result<(), Fail> {
+    let heap = Rationed::new(rt.alloc());
+    let drawn = Cell::new(0);
+    let mut cache = CLruCache::new(&heap, room(1000)?);
+    assert_eq!(rt; extends(&mut cache, 0, 1000, &drawn), Ok(()));
+    // The places are 4, 8 and so on to 512, and then 1,000, or 1,024 where the capacity comes last.
+    assert_eq!(rt; (cache.len(), heap.asked()), (1000, 9 * REQUESTS));
+    let cache = collects(&heap, 1000, &drawn)?;
+    assert_eq!(rt;
+        (cache.len(), cache.capacity(), heap.asked()),
+        (1000, 1000, 18 * REQUESTS)
+    );
+    Ok(())
+}
+
+#[test]
+fn an_extend_with_free_places_asks_for_nothing(rt: HostRuntime) -> Result<(), Fail> {
+    let heap = Rationed::new(rt.alloc());
+    let drawn = Cell::new(0);
+    let mut cache = CLruCache::with_memory(&heap, room(3)?, 3)?;
+    heap.refuse_after(0);
+    // Free places, held keys, and then entries to drop.
+    for (first, end) in [(0, 0), (0, 3), (0, 3), (2, 9)] {
+        assert_eq!(rt;
+            extends(&mut cache, first, end, &drawn),
+            Ok(()),
+            "{first} to {end}"
+        );
+        assert_eq!(rt; heap.asked(), REQUESTS, "{first} to {end}");
+    }
+    for key in [8, 7, 6u64] {
+        assert_eq!(rt; cache.pop_front(), Some((key, key + 10)));
+    }
+    Ok(())
+}
+
+type Text<'a> = String<&'a Rationed<Global>>;
+
+/// Pairs of two texts each, in a vector: their blocks are two for each pair, and one.
+fn texts<'a>(
+    heap: &'a Rationed<Global>,
+    letters: &[&str],
+) -> Result<Vec<(Text<'a>, Text<'a>), &'a Rationed<Global>>, AllocError> {
+    let mut pairs = Vec::with_capacity(heap, letters.len())?;
+    for letter in letters {
+        pairs.push((text(heap, letter)?, text(heap, "value")?))?;
+    }
+    Ok(pairs)
+}
+
+#[test]
+fn a_refused_extend_forgets_no_item(rt: HostRuntime) -> Result<(), Fail> {
+    for n in 0..=2 * REQUESTS {
+        let heap = Rationed::new(rt.alloc());
+        let pairs = texts(&heap, &["a", "b", "c", "b", "d", "e", "f"])?;
+        {
+            let mut cache = CLruCache::new(&heap, room(9)?);
+            heap.refuse_after(n);
+            let refused = cache.extend(pairs);
+            assert_eq!(rt; refused.is_ok(), n == 2 * REQUESTS, "after {n}");
+            drop(refused);
+            // What is held, two texts each, and the cache's own blocks: a list may have grown where its heads did not.
+            let own = n.min(REQUESTS);
+            assert_eq!(rt;
+                heap.blocks(),
+                (cache.len() as u64).wrapping_mul(2).wrapping_add(own),
+                "after {n}"
+            );
+        }
+        assert_eq!(rt; heap.blocks(), 0, "after {n}");
+    }
+    Ok(())
+}
+
+#[test]
+fn a_refused_from_iter_forgets_no_item(rt: HostRuntime) -> Result<(), Fail> {
+    for n in 0..=2 * REQUESTS {
+        let heap = Rationed::new(rt.alloc());
+        let pairs = texts(&heap, &["a", "b", "c", "b", "d", "e", "f"])?;
+        heap.refuse_after(n);
+        let made = CLruCache::from_iter(&heap, DefaultState, pairs);
+        assert_eq!(rt; made.is_ok(), n == 2 * REQUESTS, "after {n}");
+        drop(made);
+        assert_eq!(rt; heap.blocks(), 0, "after {n}");
+    }
+    Ok(())
+}

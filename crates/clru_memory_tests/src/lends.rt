@@ -1,0 +1,131 @@
+//! Calls that lend an entry ask for nothing, and closures that fail forget nothing.
+
+use crate::adding::{Plain, room};
+use crate::costs::REQUESTS;
+use crate::owned::{blocks_of, text};
+use clru::{CLruCache, DefaultState, TryPutError, ZeroWeightScale};
+use ration::Rationed;
+use std::alloc::{AllocError, Allocator, Global};
+use std::cell::Cell;
+use std::hash::Hash;
+use std::process::Abort;
+use std::test::Fail;
+
+/// Writes 7 through what a call lends, and answers the requests so far.
+fn writes(heap: &Rationed<Global>, lent: Option<&mut u64>) -> Option<u64> {
+    *lent? = 7;
+    Some(heap.asked())
+}
+
+#[test]
+fn lending_calls_ask_for_nothing(rt: HostRuntime) -> Result<(), Fail> {
+    let heap = Rationed::new(rt.alloc());
+    // Each place is taken, and one more would be room for an entry.
+    let mut cache: Plain = CLruCache::new(&heap, room(5)?);
+    for key in 0..4u64 {
+        assert!(rt; cache.put(key, key + 10).is_ok());
+    }
+    heap.refuse_after(0);
+    let asked = Some(heap.asked());
+    assert_eq!(rt; writes(&heap, cache.get_mut(&0)), asked);
+    assert_eq!(rt; writes(&heap, cache.peek_mut(&1)), asked);
+    assert_eq!(rt;
+        writes(&heap, cache.front_mut().map(|entry| entry.into_mut())),
+        asked
+    );
+    assert_eq!(rt;
+        writes(&heap, cache.back_mut().map(|entry| entry.into_mut())),
+        asked
+    );
+    assert_eq!(rt; cache.front(), Some((&0, &7)));
+    assert_eq!(rt; cache.back(), Some((&1, &7)));
+    assert_eq!(rt; (heap.asked(), heap.refused()), (asked.unwrap_or(0), 0));
+    Ok(())
+}
+
+#[test]
+fn no_closure_is_called_by_a_refused_try(rt: HostRuntime) -> Result<(), Fail> {
+    let heap = Rationed::new(rt.alloc());
+    let calls = Cell::new(0u64);
+    let mut cache = CLruCache::new(&heap, room(2)?);
+    let rows = [
+        (1u64, true, Err(TryPutError::NoMemory(1u64, 10u64)), 0),
+        (1, false, Err(TryPutError::Failed(1)), 1),
+        (1, true, Err(TryPutError::Failed(1)), 2),
+        (2, true, Ok(12), 3),
+        (4, true, Ok(14), 4),
+        (3, true, Err(TryPutError::Failed(3)), 5),
+        (2, true, Ok(22), 6),
+    ];
+    for (key, refuses, answer, made) in rows {
+        heap.refuse_none();
+        if refuses {
+            heap.refuse_after(0);
+        }
+        let put = |key: &u64, more: u64| {
+            calls.set(calls.get().wrapping_add(1));
+            if *key % 2 == 1 {
+                Err(*key)
+            } else {
+                Ok(key.wrapping_add(more))
+            }
+        };
+        let modify = |_: &u64, value: &mut u64, more: u64| {
+            calls.set(calls.get().wrapping_add(1));
+            *value = value.wrapping_add(more);
+            Ok(())
+        };
+        let lent = cache.try_put_or_modify(key, put, modify, 10);
+        assert_eq!(rt; lent.map(|value| *value), answer, "{key}");
+        assert_eq!(rt; calls.get(), made, "{key}");
+    }
+    Ok(())
+}
+
+/// Puts or modifies by closures that fail, and returns the blocks that the one sees that is called.
+fn fails<K: Eq + Hash + Drop, V: Drop, A: Allocator + Copy>(
+    heap: &Rationed<Global>,
+    cache: &mut CLruCache<K, V, DefaultState, ZeroWeightScale, A>,
+    key: K,
+    value: V,
+) -> Option<u64> {
+    let modify = |_: &K, held: &mut V, value| {
+        *held = value;
+        Err(heap.blocks())
+    };
+    match cache.try_put_or_modify(key, |_, _| Err(heap.blocks()), modify, value) {
+        Err(TryPutError::Failed(blocks)) => Some(blocks),
+        _ => None,
+    }
+}
+
+#[test]
+fn closures_that_fail_forget_nothing(rt: HostRuntime) -> Result<(), Fail> {
+    let heap = Rationed::new(rt.alloc());
+    {
+        let mut cache = CLruCache::new(&heap, room(2)?);
+        // The first finds memory for places, which stay; of a full cache nothing goes, before the closure or after it.
+        let (key, value) = (text(&heap, "a")?, text(&heap, "value")?);
+        assert_eq!(rt; fails(&heap, &mut cache, key, value), Some(blocks_of(1)));
+        assert_eq!(rt; (cache.len(), heap.blocks()), (0, REQUESTS));
+        heap.refuse_after(4);
+        for key in ["a", "b"] {
+            assert!(rt; cache.put(text(&heap, key)?, text(&heap, "value")?).is_ok());
+        }
+        heap.refuse_none();
+        // A closure sees the texts that were passed in, less an old value that it has written over.
+        for (letter, texts) in [("c", 2), ("a", 1), ("b", 1)] {
+            let (key, value) = (text(&heap, letter)?, text(&heap, "another")?);
+            let seen = fails(&heap, &mut cache, key, value);
+            assert_eq!(rt; seen, Some(blocks_of(2).saturating_add(texts)), "{letter}");
+            assert_eq!(rt; heap.blocks(), blocks_of(2), "{letter}");
+        }
+        let last = text(&heap, "b")?;
+        match cache.front() {
+            Some((key, _)) => assert!(rt; *key == last),
+            None => assert!(rt; false, "an entry is in front"),
+        }
+    }
+    assert_eq!(rt; heap.blocks(), 0);
+    Ok(())
+}

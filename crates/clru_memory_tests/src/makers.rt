@@ -1,0 +1,152 @@
+//! Makers that find memory for their entries, and those that are refused.
+
+use crate::adding::{Plain, room};
+use crate::costs::{HEAD_BYTES, PLACE_BYTES, REQUESTS};
+use clru::{CLruCache, CLruCacheConfig, NoMemory, NonZeroUsize};
+use ration::Rationed;
+use std::alloc::Global;
+use std::process::Abort;
+use std::test::Fail;
+
+/// A maker that takes a reserve.
+#[derive(Clone, Copy, Debug)]
+enum Maker {
+    WithMemory,
+    WithConfig,
+}
+
+const MAKERS: [Maker; 2] = [Maker::WithMemory, Maker::WithConfig];
+
+/// Makes a cache with a reserve. A refused configuration is let go.
+fn makes<'a>(
+    heap: &'a Rationed<Global>,
+    maker: Maker,
+    capacity: NonZeroUsize,
+    reserve: usize,
+) -> Result<Plain<'a>, NoMemory> {
+    match maker {
+        Maker::WithMemory => CLruCache::with_memory(heap, capacity, reserve),
+        Maker::WithConfig => {
+            // The reserve that is set last holds.
+            let config = CLruCacheConfig::new(capacity)
+                .with_memory(9)
+                .with_memory(reserve);
+            CLruCache::with_config(heap, config).map_err(|_| NoMemory)
+        }
+    }
+}
+
+/// How many new keys go in before one is refused or the first one goes, where each request is refused.
+fn free_places(heap: &Rationed<Global>, cache: &mut Plain) -> u64 {
+    heap.refuse_after(0);
+    let mut put = 0;
+    for key in 0..2000u64 {
+        if cache.len() == cache.capacity() || cache.put(key, key).is_err() {
+            return put;
+        }
+        put = key + 1;
+    }
+    put
+}
+
+#[test]
+fn a_reserve_is_asked_for_exactly(rt: HostRuntime) -> Result<(), Fail> {
+    let rows = [
+        (3, 0, 0, 0),
+        (1, 1, 1, 2),
+        (3, 9, 3, 8),
+        (3, 2, 2, 4),
+        (4, 2, 2, 4),
+        (usize::MAX, 5, 5, 16),
+        (1000, 1000, 1000, 2048),
+        (1000, usize::MAX, 1000, 2048),
+    ];
+    for maker in MAKERS {
+        for (capacity, reserve, places, heads) in rows {
+            let heap = Rationed::new(rt.alloc());
+            {
+                let mut cache = makes(&heap, maker, room(capacity)?, reserve)?;
+                assert_eq!(rt;
+                    (heap.asked(), heap.asked_bytes()),
+                    (
+                        if places == 0 { 0 } else { REQUESTS },
+                        places * PLACE_BYTES + heads * HEAD_BYTES
+                    ),
+                    "{maker:?} {capacity} {reserve}"
+                );
+                assert_eq!(rt;
+                    free_places(&heap, &mut cache),
+                    places,
+                    "{maker:?} {capacity} {reserve}"
+                );
+            }
+            assert_eq!(rt; heap.blocks(), 0, "{maker:?} {capacity} {reserve}");
+        }
+    }
+    Ok(())
+}
+
+#[test]
+fn each_refusal_leaves_no_block(rt: HostRuntime) -> Result<(), Fail> {
+    for maker in MAKERS {
+        for n in 0..=REQUESTS {
+            let heap = Rationed::new(rt.alloc());
+            heap.refuse_after(n);
+            let made = makes(&heap, maker, room(4)?, 3).is_ok();
+            assert_eq!(rt; made, n == REQUESTS, "{maker:?} after {n}");
+            assert_eq!(rt;
+                (heap.asked(), heap.refused() == 0),
+                (REQUESTS.min(n + 1), made),
+                "{maker:?} after {n}: nothing is asked again"
+            );
+            assert_eq!(rt; heap.blocks(), 0, "{maker:?} after {n}");
+        }
+    }
+    Ok(())
+}
+
+#[test]
+fn a_reserve_that_can_not_be_counted_asks_for_nothing(rt: HostRuntime) -> Result<(), Fail> {
+    for maker in MAKERS {
+        let heap = Rationed::new(rt.alloc());
+        let made = makes(&heap, maker, room(usize::MAX)?, usize::MAX);
+        assert!(rt; made.is_err(), "{maker:?}");
+        assert_eq!(rt; (heap.asked(), heap.blocks()), (0, 0), "{maker:?}");
+    }
+    Ok(())
+}
+
+/// Makes a cache of a configuration that was refused, as it is or with another reserve, and counts its free places.
+fn makes_again(
+    rt: &impl Abort,
+    heap: &Rationed<Global>,
+    config: CLruCacheConfig<u64, u64>,
+    places: u64,
+) {
+    heap.refuse_none();
+    match CLruCache::with_config(heap, config) {
+        Ok(mut cache) => assert_eq!(rt; free_places(heap, &mut cache), places),
+        Err(_) => assert!(rt; false, "there is memory for {places}"),
+    }
+}
+
+#[test]
+fn a_refused_configuration_comes_back_as_it_was(rt: HostRuntime) -> Result<(), Fail> {
+    for n in 0..REQUESTS {
+        let heap = Rationed::new(rt.alloc());
+        for (reserve, places) in [(None, 3), (Some(2), 2), (Some(0), 0)] {
+            let config = CLruCacheConfig::new(room(4)?).with_memory(3);
+            heap.refuse_after(n);
+            let Err(config) = CLruCache::with_config(&heap, config) else {
+                return Err("a request was refused".into());
+            };
+            let config = match reserve {
+                None => config,
+                Some(reserve) => config.with_memory(reserve),
+            };
+            makes_again(&rt, &heap, config, places);
+        }
+        assert_eq!(rt; heap.blocks(), 0, "after {n}");
+    }
+    Ok(())
+}

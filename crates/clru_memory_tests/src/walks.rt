@@ -1,0 +1,102 @@
+//! Walks ask for no memory, and what an iterator did not hand out goes with it.
+
+use crate::adding::{Plain, room};
+use crate::costs::REQUESTS;
+use crate::owned::text;
+use clru::CLruCache;
+use ration::Rationed;
+use std::test::Fail;
+
+#[test]
+fn walks_ask_for_nothing(rt: HostRuntime) -> Result<(), Fail> {
+    let heap = Rationed::new(rt.alloc());
+    let mut cache: Plain = CLruCache::new(&heap, room(3)?);
+    for key in 0..3u64 {
+        assert!(rt; cache.put(key, key).is_ok());
+    }
+    let asked = heap.asked();
+    let iter = cache.iter();
+    let mut copy = iter.clone()?;
+    let mut sum = 0u64;
+    for (key, value) in iter {
+        sum = sum.wrapping_add(*key).wrapping_add(*value);
+    }
+    for (_, value) in &cache {
+        sum = sum.wrapping_add(*value);
+    }
+    assert_eq!(rt; (sum, copy.next_back().map(|pair| *pair.0)), (9, Some(0)));
+    let mut cursor = cache.iter_mut();
+    for _ in 0..3 {
+        let Some(value) = cursor.next() else {
+            break;
+        };
+        *value = value.wrapping_add(1);
+        if let Some(value) = cursor.next_back() {
+            *value = value.wrapping_add(2);
+        }
+    }
+    assert_eq!(rt; heap.asked(), asked);
+    let mut owned = cache.into_iter();
+    assert_eq!(rt;
+        (owned.next(), owned.next_back()),
+        (Some((2, 3)), Some((0, 2)))
+    );
+    assert_eq!(rt;
+        (owned.len(), owned.next(), owned.next()),
+        (1, Some((1, 2)), None)
+    );
+    assert_eq!(rt; heap.asked(), asked);
+    Ok(())
+}
+
+#[test]
+fn a_half_walked_iterator_forgets_nothing(rt: HostRuntime) -> Result<(), Fail> {
+    for handed in 0..4u64 {
+        let heap = Rationed::new(rt.alloc());
+        {
+            let mut cache = CLruCache::new(&heap, room(4)?);
+            for key in ["a", "b", "c", "d"] {
+                let put = cache.put(text(&heap, key)?, text(&heap, "value")?);
+                assert!(rt; put.is_ok(), "{key}");
+            }
+            let mut iter = cache.into_iter();
+            for step in 0..handed {
+                let pair = if step % 2 == 0 {
+                    iter.next()
+                } else {
+                    iter.next_back()
+                };
+                let held = 4u64.saturating_sub(step).saturating_mul(2);
+                assert_eq!(rt;
+                    (pair.is_some(), heap.blocks()),
+                    (true, held.saturating_add(REQUESTS)),
+                    "{step} of {handed}"
+                );
+            }
+        }
+        assert_eq!(rt; heap.blocks(), 0, "{handed}");
+    }
+    Ok(())
+}
+
+#[test]
+fn what_a_cursor_replaces_is_given_back(rt: HostRuntime) -> Result<(), Fail> {
+    let heap = Rationed::new(rt.alloc());
+    {
+        let mut cache = CLruCache::new(&heap, room(2)?);
+        for key in ["a", "b"] {
+            let put = cache.put(text(&heap, key)?, text(&heap, "value")?);
+            assert!(rt; put.is_ok(), "{key}");
+        }
+        let mut cursor = cache.iter_mut();
+        for _ in 0..2 {
+            let Some(value) = cursor.next() else {
+                break;
+            };
+            *value = text(&heap, "another")?;
+        }
+        assert_eq!(rt; heap.blocks(), REQUESTS.saturating_add(4));
+    }
+    assert_eq!(rt; heap.blocks(), 0);
+    Ok(())
+}

@@ -1,0 +1,62 @@
+//! Caches that are made of their items.
+
+use crate::lists::holds;
+use clru::{CLruCache, DefaultState};
+use std::test::Fail;
+
+type Pair = (&'static str, u64);
+
+/// Items, the capacity that they make, whether the cache is full, and its entries.
+struct Row {
+    items: &'static [Pair],
+    capacity: usize,
+    full: bool,
+    list: &'static [Pair],
+}
+
+static ROWS: &[Row] = &[
+    Row {
+        items: &[("a", 1), ("b", 2), ("c", 3), ("d", 4), ("e", 5)],
+        capacity: 5,
+        full: true,
+        list: &[("e", 5), ("d", 4), ("c", 3), ("b", 2), ("a", 1)],
+    },
+    Row {
+        items: &[],
+        capacity: 1,
+        full: false,
+        list: &[],
+    },
+    // Two of the three items are of one key.
+    Row {
+        items: &[("a", 1), ("b", 2), ("a", 3)],
+        capacity: 2,
+        full: true,
+        list: &[("a", 3), ("b", 2)],
+    },
+];
+
+#[test]
+fn test_from_iterator(rt: HostRuntime) -> Result<(), Fail> {
+    for (i, row) in ROWS.iter().enumerate() {
+        let items = Vec::from_slice(rt.alloc(), row.items)?;
+        let mut cache = CLruCache::from_iter(rt.alloc(), DefaultState, items)?;
+        assert_eq!(rt;
+            (cache.len(), cache.capacity(), cache.is_full()),
+            (row.list.len(), row.capacity, row.full),
+            "row {i}"
+        );
+        holds(&rt, &cache, row.list);
+    }
+    Ok(())
+}
+
+#[test]
+fn a_collected_cache_drops_its_oldest_entry(rt: HostRuntime) -> Result<(), Fail> {
+    let items = Vec::from_array(rt.alloc(), [("a", 1), ("b", 2)])?;
+    let mut cache = CLruCache::from_iter(rt.alloc(), DefaultState, items)?;
+    let more = Vec::from_array(rt.alloc(), [("c", 3)])?;
+    assert_eq!(rt; cache.extend(more), Ok(()));
+    holds(&rt, &cache, &[("c", 3), ("b", 2)]);
+    Ok(())
+}

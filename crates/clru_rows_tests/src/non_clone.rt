@@ -1,0 +1,219 @@
+//! Keys that have no `Clone`: no call asks for one.
+
+use crate::lists::room;
+use crate::non_clone::Step::{
+    Clear, Contains, Extend, Get, Modify, Peek, Pop, PopBack, PopFront, Put, Resize, Retain,
+    TryModify, Write,
+};
+use clru::CLruCache;
+use std::alloc::{AllocError, Global};
+use std::test::Fail;
+
+/// A text that can't be cloned.
+#[derive(Debug, Drop, PartialEq, Eq, Hash)]
+struct NonCloneKey(String);
+
+fn key(alloc: Global, letter: &str) -> Result<NonCloneKey, AllocError> {
+    Ok(NonCloneKey(String::from_str(alloc, letter)?))
+}
+
+/// A call, and its answer.
+enum Step {
+    Put(&'static str, u64, Option<u64>),
+    Get(&'static str, Option<u64>),
+    Peek(&'static str, Option<u64>),
+    /// Writes a value, by `get_mut` or by `peek_mut`.
+    Write(&'static str, u64, bool),
+    Contains(&'static str, bool),
+    Pop(&'static str, Option<u64>),
+    PopFront(&'static str, u64),
+    PopBack(&'static str, u64),
+    /// Keeps the values above a number.
+    Retain(u64),
+    Clear,
+    Resize(usize),
+    /// Puts 100 under a new key, and adds 1 to the value of a held one.
+    Modify(&'static str, u64),
+    Extend(&'static str, u64),
+    /// Puts 200 under a new key, and adds 1 to the value of a held one, by closures that might fail.
+    TryModify(&'static str, u64),
+}
+
+fn writes(
+    alloc: Global,
+    cache: &mut CLruCache<NonCloneKey, u64>,
+    letter: &str,
+    value: u64,
+    moves: bool,
+) -> Result<bool, AllocError> {
+    let key = key(alloc, letter)?;
+    let lent = if moves {
+        cache.get_mut(&key)
+    } else {
+        cache.peek_mut(&key)
+    };
+    match lent {
+        Some(held) => {
+            *held = value;
+            Ok(true)
+        }
+        None => Ok(false),
+    }
+}
+
+/// Puts a value, and returns the old one, or nothing where memory is refused.
+fn puts(
+    cache: &mut CLruCache<NonCloneKey, u64>,
+    key: NonCloneKey,
+    value: u64,
+) -> Option<Option<u64>> {
+    match cache.put(key, value) {
+        Ok(put) => Some(put.replaced),
+        Err(_) => None,
+    }
+}
+
+/// Puts 100 under a new key or adds 1 to the value of a held one, and returns that value.
+fn modifies(cache: &mut CLruCache<NonCloneKey, u64>, key: NonCloneKey) -> Option<u64> {
+    let modify = |_: &_, value: &mut u64, _| *value = value.saturating_add(1);
+    match cache.put_or_modify(key, |_, _| 100, modify, ()) {
+        Ok(lent) => Some(*lent),
+        Err(back) => {
+            drop(back);
+            None
+        }
+    }
+}
+
+/// The same with 200, by closures that might fail.
+fn tries(cache: &mut CLruCache<NonCloneKey, u64>, key: NonCloneKey) -> Option<u64> {
+    let modify = |_: &_, value: &mut u64, _| match value.checked_add(1) {
+        Some(more) => {
+            *value = more;
+            Ok(())
+        }
+        None => Err(()),
+    };
+    match cache.try_put_or_modify(key, |_, _| Ok(200), modify, ()) {
+        Ok(lent) => Some(*lent),
+        Err(refusal) => {
+            drop(refusal);
+            None
+        }
+    }
+}
+
+/// Makes a call that adds or changes an entry, and returns whether its answer is the one that is wanted.
+fn is_right(
+    alloc: Global,
+    cache: &mut CLruCache<NonCloneKey, u64>,
+    step: &Step,
+) -> Result<bool, AllocError> {
+    let right = match step {
+        Put(letter, value, old) => puts(cache, key(alloc, letter)?, *value) == Some(*old),
+        Write(letter, value, moves) => writes(alloc, cache, letter, *value, *moves)?,
+        Modify(letter, value) => modifies(cache, key(alloc, letter)?) == Some(*value),
+        TryModify(letter, value) => tries(cache, key(alloc, letter)?) == Some(*value),
+        Extend(letter, value) => {
+            let key = key(alloc, letter)?;
+            match Vec::from_array(alloc, [(key, *value)]) {
+                Ok(pairs) => cache.extend(pairs).is_ok(),
+                Err(_) => false,
+            }
+        }
+        _ => takes_or_reads(alloc, cache, step)?,
+    };
+    Ok(right)
+}
+
+/// The same for the other calls.
+fn takes_or_reads(
+    alloc: Global,
+    cache: &mut CLruCache<NonCloneKey, u64>,
+    step: &Step,
+) -> Result<bool, AllocError> {
+    let right = match step {
+        Get(letter, value) => cache.get(&key(alloc, letter)?).copied() == *value,
+        Peek(letter, value) => cache.peek(&key(alloc, letter)?).copied() == *value,
+        Contains(letter, held) => cache.contains(&key(alloc, letter)?) == *held,
+        Pop(letter, value) => cache.pop(&key(alloc, letter)?) == *value,
+        PopFront(letter, value) => cache.pop_front() == Some((key(alloc, letter)?, *value)),
+        PopBack(letter, value) => cache.pop_back() == Some((key(alloc, letter)?, *value)),
+        Retain(above) => {
+            cache.retain(|_, value| *value > *above);
+            true
+        }
+        Clear => {
+            cache.clear();
+            cache.is_empty()
+        }
+        Resize(capacity) => match room(*capacity) {
+            Ok(size) => {
+                cache.resize(size);
+                cache.capacity() == *capacity
+            }
+            Err(_) => false,
+        },
+        _ => false,
+    };
+    Ok(right)
+}
+
+static STEPS: &[Step] = &[
+    Put("a", 1, None),
+    Put("b", 2, None),
+    Put("c", 3, None),
+    Get("a", Some(1)),
+    Get("b", Some(2)),
+    Get("c", Some(3)),
+    Put("a", 10, Some(1)),
+    Get("a", Some(10)),
+    Put("d", 4, None),
+    Get("b", None),
+    Get("d", Some(4)),
+    Peek("a", Some(10)),
+    Write("c", 30, true),
+    Get("c", Some(30)),
+    Write("d", 40, false),
+    Peek("d", Some(40)),
+    Contains("a", true),
+    Contains("z", false),
+    Pop("a", Some(10)),
+    Put("e", 5, None),
+    PopFront("e", 5),
+    PopBack("d", 40),
+    Put("f", 6, None),
+    Put("g", 7, None),
+    Retain(6),
+    Get("f", None),
+    Get("g", Some(7)),
+    Get("c", Some(30)),
+    Clear,
+    Put("h", 8, None),
+    Put("i", 9, None),
+    Put("j", 10, None),
+    Resize(2),
+    Get("h", None),
+    Get("j", Some(10)),
+    Clear,
+    Resize(3),
+    Extend("j", 1),
+    Pop("j", Some(1)),
+    Modify("k", 100),
+    Modify("k", 101),
+    TryModify("l", 200),
+];
+
+#[test]
+fn test_non_clone_key(rt: HostRuntime) -> Result<(), Fail> {
+    let mut cache = CLruCache::new(rt.alloc(), room(3)?);
+    for (i, step) in STEPS.iter().enumerate() {
+        assert!(rt; is_right(rt.alloc(), &mut cache, step)?, "step {i}");
+    }
+    for (letter, value) in [("l", 200), ("k", 101)] {
+        let pair = (key(rt.alloc(), letter)?, value);
+        assert_eq!(rt; cache.pop_front(), Some(pair), "{letter}");
+    }
+    assert!(rt; cache.is_empty());
+    Ok(())
+}

@@ -1,0 +1,89 @@
+//! Retains with closures of their own: what each is called on, and in which order.
+
+use crate::lists::{holds, room};
+use crate::scales::ByLength;
+use clru::CLruCache;
+use std::test::Fail;
+
+/// The keys a to e with 1 to 5, in this order.
+const LETTERS: [(&str, u32); 5] = [("a", 1), ("b", 2), ("c", 3), ("d", 4), ("e", 5)];
+
+#[test]
+fn test_retain(rt: HostRuntime) -> Result<(), Fail> {
+    let mut cache = CLruCache::new(rt.alloc(), room(5)?);
+    for (key, value) in LETTERS {
+        assert_eq!(rt; cache.put(key, value)?.replaced, None);
+    }
+    cache.retain_mut(|key, value| {
+        *value = value.saturating_add(1);
+        *key != "b" && *key != "d"
+    });
+    assert_eq!(rt; (cache.len(), cache.contains(&"b")), (3, false));
+    cache.retain(|_, _| true);
+    assert_eq!(rt; cache.len(), 3);
+    assert_eq!(rt; cache.peek(&"c").copied(), Some(4));
+    for (key, value) in LETTERS {
+        assert_eq!(rt; cache.put(key, value)?.dropped, None);
+    }
+    cache.retain(|_, value| *value < 3);
+    holds(&rt, &cache, &[("b", 2), ("a", 1)]);
+    assert_eq!(rt; cache.put("a", 1)?.replaced, Some(1));
+    cache.retain(|_, _| false);
+    assert_eq!(rt; (cache.len(), cache.contains(&"a")), (0, false));
+    Ok(())
+}
+
+#[test]
+fn values_that_a_retain_writes_stay(rt: HostRuntime) -> Result<(), Fail> {
+    let mut cache = CLruCache::new(rt.alloc(), room(5)?);
+    for (key, value) in LETTERS {
+        assert_eq!(rt; cache.put(key, value)?.replaced, None);
+    }
+    cache.retain_mut(|key, value| {
+        *value = value.saturating_add(1);
+        *key != "b" && *key != "d"
+    });
+    holds(&rt, &cache, &[("e", 6), ("c", 4), ("a", 2)]);
+    Ok(())
+}
+
+#[test]
+fn a_retain_goes_from_the_front_to_the_back_once(rt: HostRuntime) -> Result<(), Fail> {
+    for written in [false, true] {
+        let mut cache = CLruCache::new(rt.alloc(), room(3)?);
+        for (key, value) in [("a", 1), ("b", 2), ("c", 3)] {
+            assert_eq!(rt; cache.put(key, value)?.replaced, None);
+        }
+        let mut called = Vec::new(rt.alloc());
+        let mut calls = 0u32;
+        if written {
+            cache.retain_mut(|key, _| {
+                let _ = called.push(*key);
+                calls = calls.wrapping_add(1);
+                calls % 2 == 1
+            });
+        } else {
+            cache.retain(|key, _| {
+                let _ = called.push(*key);
+                calls = calls.wrapping_add(1);
+                calls % 2 == 1
+            });
+        }
+        assert_eq!(rt; (called.as_slice(), calls), (["c", "b", "a"].as_slice(), 3));
+        holds(&rt, &cache, &[("c", 3), ("a", 1)]);
+    }
+    Ok(())
+}
+
+#[test]
+fn the_weight_follows_a_retain(rt: HostRuntime) -> Result<(), Fail> {
+    let mut cache = CLruCache::with_scale(rt.alloc(), room(20)?, ByLength);
+    for (key, value) in [(1, "a"), (2, "bbbb"), (3, "cc"), (4, "dddd")] {
+        assert_eq!(rt; cache.put_with_weight(key, value, |_, _| {}), Ok(None));
+    }
+    assert_eq!(rt; cache.weight(), 11);
+    cache.retain(|_, value| value.len() < 4);
+    assert_eq!(rt; (cache.len(), cache.weight()), (2, 3));
+    holds(&rt, &cache, &[(3, "cc"), (1, "a")]);
+    Ok(())
+}

@@ -1,0 +1,375 @@
+//! Walks over a cache: by an iterator, by value and by a cursor.
+
+use crate::lists::room;
+use crate::scales::ByLength;
+use crate::walks::End::{Back, Front};
+use clru::{CLruCache, CLruCacheIter};
+use std::alloc::Global;
+use std::fmt::Debug;
+use std::process::Abort;
+use std::test::Fail;
+
+/// From which end a walk goes on.
+#[derive(Clone, Copy, Debug)]
+enum End {
+    Front,
+    Back,
+}
+
+/// A walk, step by step: each with the pair that it gives.
+struct Walk<K: 'static, V: 'static> {
+    name: &'static str,
+    capacity: usize,
+    pairs: &'static [(K, V)],
+    steps: &'static [(End, Option<(K, V)>)],
+}
+
+const ABC: &[(&str, usize)] = &[("a", 1), ("b", 2), ("c", 3)];
+
+static WALKS: &[Walk<&str, usize>] = &[
+    Walk {
+        name: "test_iter_forwards",
+        capacity: 3,
+        pairs: ABC,
+        steps: &[
+            (Front, Some(("c", 3))),
+            (Front, Some(("b", 2))),
+            (Front, Some(("a", 1))),
+            (Front, None),
+        ],
+    },
+    Walk {
+        name: "test_iter_backwards",
+        capacity: 3,
+        pairs: ABC,
+        steps: &[
+            (Back, Some(("a", 1))),
+            (Back, Some(("b", 2))),
+            (Back, Some(("c", 3))),
+            (Back, None),
+        ],
+    },
+    Walk {
+        name: "test_iter_forwards_and_backwards",
+        capacity: 3,
+        pairs: ABC,
+        steps: &[
+            (Front, Some(("c", 3))),
+            (Back, Some(("a", 1))),
+            (Front, Some(("b", 2))),
+            (Back, None),
+            (Front, None),
+        ],
+    },
+    Walk {
+        name: "test_iter_clone",
+        capacity: 3,
+        pairs: &[("a", 1), ("b", 2)],
+        steps: &[
+            (Front, Some(("b", 2))),
+            (Front, Some(("a", 1))),
+            (Front, None),
+        ],
+    },
+    Walk {
+        name: "test_into_iter",
+        capacity: 5,
+        pairs: &[("a", 1), ("b", 2), ("c", 3), ("d", 4), ("e", 5)],
+        steps: &[
+            (Front, Some(("e", 5))),
+            (Front, Some(("d", 4))),
+            (Front, Some(("c", 3))),
+            (Front, Some(("b", 2))),
+            (Front, Some(("a", 1))),
+            (Front, None),
+        ],
+    },
+    Walk {
+        name: "an empty cache",
+        capacity: 1,
+        pairs: &[],
+        steps: &[(Back, None), (Front, None)],
+    },
+];
+
+const WEIGHED: &[(usize, &str)] = &[(1, "a"), (2, "b"), (3, "c")];
+
+static WEIGHTED_WALKS: &[Walk<usize, &str>] = &[
+    Walk {
+        name: "test_weighted_iter",
+        capacity: 8,
+        pairs: &[(1, "a"), (2, "b"), (3, "c"), (4, "d")],
+        steps: &[],
+    },
+    Walk {
+        name: "test_weighted_iter_forwards",
+        capacity: 8,
+        pairs: WEIGHED,
+        steps: &[
+            (Front, Some((3, "c"))),
+            (Front, Some((2, "b"))),
+            (Front, Some((1, "a"))),
+            (Front, None),
+        ],
+    },
+    Walk {
+        name: "test_weighted_iter_backwards",
+        capacity: 8,
+        pairs: WEIGHED,
+        steps: &[
+            (Back, Some((1, "a"))),
+            (Back, Some((2, "b"))),
+            (Back, Some((3, "c"))),
+            (Back, None),
+        ],
+    },
+    Walk {
+        name: "test_weighted_iter_forwards_and_backwards",
+        capacity: 8,
+        pairs: WEIGHED,
+        steps: &[
+            (Front, Some((3, "c"))),
+            (Back, Some((1, "a"))),
+            (Front, Some((2, "b"))),
+            (Back, None),
+        ],
+    },
+    Walk {
+        name: "test_weighted_into_iter",
+        capacity: 10,
+        pairs: &[(1, "a"), (2, "b"), (3, "c"), (4, "d"), (5, "e")],
+        steps: &[
+            (Front, Some((5, "e"))),
+            (Front, Some((4, "d"))),
+            (Front, Some((3, "c"))),
+            (Front, Some((2, "b"))),
+            (Front, Some((1, "a"))),
+            (Front, None),
+        ],
+    },
+];
+
+/// Takes the steps of a walk by an iterator, and asserts how many pairs are left, before each of them and after.
+fn walks<K: PartialEq + Copy + Debug, V: PartialEq + Copy + Debug>(
+    rt: &impl Abort,
+    mut iter: CLruCacheIter<'_, K, V>,
+    walk: &Walk<K, V>,
+) {
+    let mut left = walk.pairs.len();
+    for (end, pair) in walk.steps {
+        let hint = iter.size_hint();
+        assert_eq!(rt;
+            (iter.len(), hint),
+            (left, (left, Some(left))),
+            "{}",
+            walk.name
+        );
+        let given = match end {
+            Front => iter.next(),
+            Back => iter.next_back(),
+        };
+        let given = given.map(|(key, value)| (*key, *value));
+        assert_eq!(rt; given, *pair, "{end:?} of {}", walk.name);
+        left = left.saturating_sub(1);
+        assert_eq!(rt; iter.len(), left, "{}", walk.name);
+    }
+}
+
+/// The cache of a walk.
+fn made(
+    alloc: Global,
+    walk: &Walk<&'static str, usize>,
+) -> Result<CLruCache<&'static str, usize>, Fail> {
+    let mut cache = CLruCache::new(alloc, room(walk.capacity)?);
+    for (key, value) in walk.pairs {
+        cache.put(*key, *value)?;
+    }
+    Ok(cache)
+}
+
+#[test]
+fn an_iterator_gives_each_pair_once(rt: HostRuntime) -> Result<(), Fail> {
+    for walk in WALKS {
+        let cache = made(rt.alloc(), walk)?;
+        let iter = cache.iter();
+        let copy = iter.clone()?;
+        walks(&rt, iter, walk);
+        walks(&rt, copy, walk);
+        walks(&rt, (&cache).into_iter(), walk);
+    }
+    Ok(())
+}
+
+#[test]
+fn an_iterator_of_a_weighted_cache_gives_each_pair_once(rt: HostRuntime) -> Result<(), Fail> {
+    for walk in WEIGHTED_WALKS {
+        let mut cache = CLruCache::with_scale(rt.alloc(), room(walk.capacity)?, ByLength);
+        for (key, value) in walk.pairs {
+            cache.put_with_weight(*key, *value, |_, _| {})?;
+        }
+        let number = walk.pairs.len();
+        assert_eq!(rt;
+            (cache.len(), cache.weight()),
+            (number, number),
+            "{}",
+            walk.name
+        );
+        walks(&rt, cache.iter(), walk);
+    }
+    Ok(())
+}
+
+#[test]
+fn a_cache_is_walked_by_value(rt: HostRuntime) -> Result<(), Fail> {
+    for walk in WALKS {
+        let mut left = walk.pairs.len();
+        let mut iter = made(rt.alloc(), walk)?.into_iter();
+        for (end, pair) in walk.steps {
+            let hint = iter.size_hint();
+            assert_eq!(rt;
+                (iter.len(), hint),
+                (left, (left, Some(left))),
+                "{}",
+                walk.name
+            );
+            let given = match end {
+                Front => iter.next(),
+                Back => iter.next_back(),
+            };
+            assert_eq!(rt; given, *pair, "{end:?} of {}", walk.name);
+            left = left.saturating_sub(1);
+        }
+        assert_eq!(rt; iter.len(), left, "{}", walk.name);
+    }
+    Ok(())
+}
+
+#[test]
+fn a_cursor_passes_each_entry_once(rt: HostRuntime) -> Result<(), Fail> {
+    for walk in WALKS {
+        let mut left = walk.pairs.len();
+        let mut cache = made(rt.alloc(), walk)?;
+        let mut cursor = cache.iter_mut();
+        for (end, pair) in walk.steps {
+            assert_eq!(rt; cursor.len(), left, "{}", walk.name);
+            let value = match end {
+                Front => cursor.next(),
+                Back => cursor.next_back(),
+            };
+            let value = value.map(|value| *value);
+            assert_eq!(rt; value, pair.map(|pair| pair.1), "{end:?} of {}", walk.name);
+            left = left.saturating_sub(1);
+        }
+        assert_eq!(rt; cursor.len(), left, "{}", walk.name);
+    }
+    Ok(())
+}
+
+#[test]
+fn a_cursor_takes_one_from_each_value(rt: HostRuntime) -> Result<(), Fail> {
+    for walk in WALKS {
+        let mut cache = made(rt.alloc(), walk)?;
+        let mut cursor = cache.iter_mut();
+        for _ in walk.pairs {
+            let Some(value) = cursor.next() else {
+                break;
+            };
+            *value = value.saturating_sub(1);
+        }
+        for ((key, value), old) in cache.into_iter().zip(walk.pairs.iter().rev()) {
+            assert_eq!(rt;
+                (key, value),
+                (old.0, old.1.saturating_sub(1)),
+                "{}",
+                walk.name
+            );
+        }
+    }
+    Ok(())
+}
+
+#[test]
+fn what_a_cursor_wrote_from_both_ends_is_held(rt: HostRuntime) -> Result<(), Fail> {
+    let Some(walk) = WALKS.first() else {
+        return Ok(());
+    };
+    let mut cache = made(rt.alloc(), walk)?;
+    {
+        let mut cursor = cache.iter_mut();
+        if cursor.len() > 0 {
+            let (key, value) = cursor.next_entry();
+            assert_eq!(rt; (*key, *value), ("c", 3));
+            *value = 30;
+        }
+        if cursor.len() > 0 {
+            let (key, value) = cursor.next_entry_back();
+            assert_eq!(rt; (*key, *value), ("a", 1));
+            *value = 10;
+        }
+    }
+    for ((key, value), want) in cache.iter().zip([("c", 30), ("b", 2), ("a", 10)]) {
+        assert_eq!(rt; (*key, *value), want);
+    }
+    let mut iter = cache.into_iter();
+    let given = (iter.next_back(), iter.next(), iter.next());
+    assert_eq!(rt; given, (Some(("a", 10)), Some(("c", 30)), Some(("b", 2))));
+    assert_eq!(rt; (iter.next(), iter.next_back()), (None, None));
+    Ok(())
+}
+
+#[test]
+fn a_cursor_writes_to_a_cache_that_was_touched(rt: HostRuntime) -> Result<(), Fail> {
+    let Some(walk) = WALKS.first() else {
+        return Ok(());
+    };
+    let mut cache = made(rt.alloc(), walk)?;
+    // The cursor's places are those of the order of its time.
+    for _ in 0..2 {
+        let mut cursor = cache.iter_mut();
+        let first = cursor.next().map(|value| *value);
+        assert_eq!(rt;
+            (first, cursor.next_back().map(|value| *value)),
+            (Some(3), Some(1))
+        );
+        assert_eq!(rt; cache.get(&"b").copied(), Some(2));
+        assert_eq!(rt; cache.get(&"c").copied(), Some(3));
+    }
+    assert_eq!(rt;
+        (cache.get(&"a").copied(), cache.peek(&"b").copied()),
+        (Some(1), Some(2))
+    );
+    let mut cursor = cache.iter_mut();
+    for _ in 0..3 {
+        let Some(value) = cursor.next_back() else {
+            break;
+        };
+        *value = value.saturating_sub(1);
+    }
+    for ((key, value), want) in cache.iter().zip([("a", 0), ("c", 2), ("b", 1)]) {
+        assert_eq!(rt; (*key, *value), want);
+    }
+    Ok(())
+}
+
+/// A step from an end of the list at each entry would take minutes.
+#[test]
+fn a_cursor_steps_alike_however_many_entries_there_are(rt: HostRuntime) -> Result<(), Fail> {
+    let number = 200_000;
+    let mut cache = CLruCache::new(rt.alloc(), room(number)?);
+    for key in 0..number {
+        cache.put(key, 1u64)?;
+    }
+    let mut sum = 0u64;
+    let mut cursor = cache.iter_mut();
+    for _ in 0..number {
+        let Some(value) = cursor.next() else {
+            break;
+        };
+        sum = sum.wrapping_add(*value);
+        if let Some(value) = cursor.next_back() {
+            sum = sum.wrapping_add(*value);
+        }
+    }
+    assert_eq!(rt; sum, number as u64);
+    Ok(())
+}

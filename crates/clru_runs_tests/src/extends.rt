@@ -1,0 +1,105 @@
+//! Tables of lists of pairs that a cache is extended by.
+
+use crate::tables::{Table, room, runs};
+use clru::{CLruCache, PutError};
+use clru_runs::Answer::{self, Extended, Flag, Lent, Weighed};
+use clru_runs::Call::{IsFull, PutWithWeight};
+use clru_runs::ListCall::{self, Extend, Plain};
+use clru_runs::PlainCall::{Any, PutOrModify};
+use ration::Rationed;
+use std::test::Fail;
+
+type Pair = (&'static str, u64);
+
+/// Lists that an empty cache is extended by in turn, whether it is full then, and its entries.
+struct Row {
+    name: &'static str,
+    capacity: usize,
+    lists: &'static [&'static [Pair]],
+    full: bool,
+    list: &'static [Pair],
+}
+
+static ROWS: &[Row] = &[
+    Row {
+        name: "test_extend",
+        capacity: 5,
+        lists: &[&[("a", 1), ("b", 2)], &[("c", 3), ("d", 4), ("e", 5)]],
+        full: true,
+        list: &[("e", 5), ("d", 4), ("c", 3), ("b", 2), ("a", 1)],
+    },
+    Row {
+        name: "what_is_past_the_capacity_goes",
+        capacity: 2,
+        lists: &[&[("a", 1), ("b", 2), ("c", 3)]],
+        full: true,
+        list: &[("c", 3), ("b", 2)],
+    },
+    Row {
+        name: "no_pairs_change_nothing",
+        capacity: 2,
+        lists: &[&[], &[("a", 1)], &[]],
+        full: false,
+        list: &[("a", 1)],
+    },
+    Row {
+        name: "a_held_key_comes_first_with_its_new_value",
+        capacity: 3,
+        lists: &[&[("a", 1), ("b", 2)], &[("a", 3)]],
+        full: false,
+        list: &[("a", 3), ("b", 2)],
+    },
+    Row {
+        name: "a_key_may_come_twice",
+        capacity: 3,
+        lists: &[&[("a", 1), ("b", 2), ("a", 3)]],
+        full: false,
+        list: &[("a", 3), ("b", 2)],
+    },
+];
+
+#[test]
+fn pairs_are_put_in_turn(rt: HostRuntime) -> Result<(), Fail> {
+    for row in ROWS {
+        let mut calls = Vec::new(rt.alloc());
+        for pairs in row.lists {
+            calls.push((
+                Extend(Vec::from_slice(rt.alloc(), pairs)?),
+                Extended(Ok(())),
+            ))?;
+        }
+        calls.push((Plain(Any(IsFull)), Flag(row.full)))?;
+        let table = Table {
+            name: row.name,
+            capacity: row.capacity,
+            rows: calls.as_slice(),
+            list: row.list,
+        };
+        let mut cache = CLruCache::new(rt.alloc(), room(row.capacity)?);
+        runs(&rt, rt.alloc(), &table, &mut cache)?;
+    }
+    Ok(())
+}
+
+#[test]
+fn a_refused_put_ends_it(rt: HostRuntime) -> Result<(), Fail> {
+    let heap = Rationed::new(rt.alloc());
+    let mut cache = CLruCache::with_memory(&heap, room(5)?, 2)?;
+    heap.refuse_after(0);
+    let pairs = Vec::from_array(rt.alloc(), [("a", 1), ("b", 2), ("c", 3), ("d", 4)])?;
+    let rows: [(ListCall<_, _>, Answer<_, _>); 3] = [
+        (Extend(pairs), Extended(Err(("c", 3)))),
+        (Plain(PutOrModify("e", 9)), Lent(Err(("e", 9)))),
+        (
+            Plain(Any(PutWithWeight("e", 9))),
+            Weighed(Err(PutError::NoMemory("e", 9))),
+        ),
+    ];
+    let table = Table {
+        name: "a_refused_put_ends_it",
+        capacity: 5,
+        rows: rows.as_slice(),
+        list: &[("b", 2), ("a", 1)],
+    };
+    runs(&rt, rt.alloc(), &table, &mut cache)
+}
