@@ -34,10 +34,7 @@ static TEXTS: &[Of<&'static str>] = &[
             (PeekMut("banana", "yellow"), Value(Some("yellow"))),
             (PeekMut("apple", "red"), Value(Some("red"))),
             (PeekMut("pear", "green"), Value(None)),
-            (
-                Put("pear", "green"),
-                stored!(None, Some(("apple", "red"))),
-            ),
+            (Put("pear", "green"), stored!(None, Some(("apple", "red")))),
             (PeekMut("apple", "red"), Value(None)),
             (PeekMut("banana", "yellow"), Value(Some("yellow"))),
             (PeekMut("pear", "green"), Value(Some("green"))),

@@ -154,7 +154,9 @@ impl Pairs {
                 let _old = self.put(*key, *value)?;
                 Ok(Answer::Lent(Ok(*value)))
             }
-            PlainCall::TryPutOrModify(key, attempt) => Ok(Answer::Tried(self.tries(*key, *attempt)?)),
+            PlainCall::TryPutOrModify(key, attempt) => Ok(Answer::Tried(self.tries(
+                *key, *attempt,
+            )?)),
             PlainCall::GetMut(key, value) => {
                 let old = self.value(*key);
                 if old.is_some() {
