@@ -1,7 +1,7 @@
 //! What puts hand out.
 
 use crate::lists::{holds, room};
-use crate::scales::{ByLength, ByValue};
+use clru_fixtures::scales::{ByLength, ByValue};
 use clru::{CLruCache, DefaultState, PutError, WeightScale};
 use std::alloc::Global;
 use std::fmt::Debug;

@@ -21,8 +21,6 @@ mod removals;
 #[cfg(test)]
 mod replays;
 #[cfg(test)]
-mod scales;
-#[cfg(test)]
 mod walks;
 #[cfg(test)]
 mod words;

@@ -1,7 +1,7 @@
 //! Retains with closures of their own: what each is called on, and in which order.
 
 use crate::lists::{holds, room};
-use crate::scales::ByLength;
+use clru_fixtures::scales::ByLength;
 use clru::CLruCache;
 use std::test::Fail;
 

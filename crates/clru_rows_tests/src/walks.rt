@@ -1,7 +1,7 @@
 //! Walks over a cache: by an iterator, by value and by a cursor.
 
 use crate::lists::room;
-use crate::scales::ByLength;
+use clru_fixtures::scales::ByLength;
 use crate::walks::End::{Back, Front};
 use clru::{CLruCache, CLruCacheIter};
 use std::alloc::Global;

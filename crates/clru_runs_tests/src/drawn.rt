@@ -1,111 +1,135 @@
-//! Drawn calls, beside the list of pairs that answers them too.
+//! Long drawn runs: calls of many caches beside the list of pairs that answers them too, with memory refused at drawn requests.
 
+use crate::calls::{Drawn, Draws};
 use crate::pairs::Pairs;
-use crate::scales::ByValue;
-use crate::tables::{holds, room};
-use clru::CLruCache;
-use clru_runs::{Attempt, Call, Perform, PlainCall};
+use clru::{CLruCache, CLruCacheConfig, DefaultState, WeightScale, ZeroWeightScale};
+use clru_fixtures::builders::CONSTANTS;
+use clru_fixtures::scales::ByValue;
+use clru_fixtures::sizes::room;
+use clru_runs::{Answer, Call, Perform, PlainCall};
+use ration::Rationed;
+use std::alloc::Global;
+use std::fmt::Debug;
+use std::hash::BuildHasher;
+use std::process::Abort;
 use std::test::Fail;
 
-/// Numbers that look drawn: a linear congruential generator, of which the upper bits are used.
-#[derive(Drop)]
-struct Draws(u64);
+/// A cache of numbers over an allocator that refuses.
+type Refusing<'a, S, W> = CLruCache<usize, usize, S, W, &'a Rationed<Global>>;
 
-impl Draws {
-    /// A number below n, and 0 at n = 0.
-    fn below(&mut self, n: usize) -> usize {
-        self.0 = self
-            .0
-            .wrapping_mul(6364136223846793005)
-            .wrapping_add(1442695040888963407);
-        ((self.0 >> 33) as usize).checked_rem(n).unwrap_or(0)
-    }
-
-    fn call(&mut self) -> Call<usize, usize> {
-        let key = self.below(9);
-        match self.below(26) {
-            0..=7 => Call::PutWithWeight(key, self.below(6)),
-            8..=11 => Call::Get(key),
-            12 => Call::Peek(key),
-            13 => Call::Contains(key),
-            14 => Call::Len,
-            15 => Call::Weight,
-            16 => Call::Capacity,
-            17 => Call::IsEmpty,
-            18 => Call::IsFull,
-            19 => Call::PopFront,
-            20 => Call::PopBack,
-            21 => Call::Pop(key),
-            22 => Call::Retain(key),
-            23 => Call::Front,
-            24 => Call::Back,
-            _ => self.rare(),
-        }
-    }
-
-    /// A call that takes out many entries, or lets many in.
-    fn rare(&mut self) -> Call<usize, usize> {
-        match self.below(4) {
-            0 => Call::Clear,
-            1 => Call::Resize(usize::MAX),
-            _ => Call::Resize(self.below(14)),
-        }
-    }
-
-    fn plain_call(&mut self) -> PlainCall<usize, usize> {
-        let (key, value) = (self.below(9), self.below(6));
-        match self.below(16) {
-            0 | 1 => PlainCall::Put(key, value),
-            2 | 3 => PlainCall::PutOrModify(key, value),
-            4 => PlainCall::RetainMut(key, value),
-            5 => PlainCall::TryPutOrModify(key, Attempt::Store(value)),
-            6 => PlainCall::TryPutOrModify(key, Attempt::Fail(Some(value))),
-            7 => PlainCall::TryPutOrModify(key, Attempt::Fail(None)),
-            8 => PlainCall::GetMut(key, value),
-            9 => PlainCall::PeekMut(key, value),
-            10 => PlainCall::FrontMut(value),
-            11 => PlainCall::BackMut(value),
-            _ => PlainCall::Any(self.call()),
-        }
+/// Asserts that the cache holds the pairs of the list: from the front, from the back, and by their keys.
+fn is_whole<S: BuildHasher, W: WeightScale<usize, usize>>(
+    rt: &impl Abort,
+    cache: &Refusing<S, W>,
+    pairs: &Pairs,
+) {
+    assert_eq!(rt;
+        (cache.len(), cache.weight(), cache.capacity()),
+        (pairs.list.len(), pairs.weight(), pairs.capacity)
+    );
+    let ends = cache.iter().zip(cache.iter().rev());
+    let wanted = pairs.list.iter().zip(pairs.list.iter().rev());
+    for ((front, back), (first, last)) in ends.zip(wanted) {
+        assert_eq!(rt; ((*front.0, *front.1), (*back.0, *back.1)), (*first, *last));
+        assert_eq!(rt; cache.peek(&first.0).copied(), Some(first.1));
     }
 }
 
-#[test]
-fn drawn_calls_by_weight(rt: HostRuntime) -> Result<(), Fail> {
-    let mut draws = Draws(1);
-    for capacity in [1, 2, 3, 5, 8, 13, 40] {
-        let mut cache = CLruCache::with_scale(rt.alloc(), room(capacity)?, ByValue);
-        let mut pairs = Pairs {
-            list: Vec::new(rt.alloc()),
-            capacity,
-            weighs: true,
-        };
-        for n in 0..1000u32 {
-            let call = draws.call();
-            let answer = pairs.perform(&call)?;
-            assert_eq!(rt; call.perform(&mut cache), answer, "call {n} at {capacity}");
+/// Makes 500 drawn calls. Each is answered as by the list, or by the refusal of its put where a request is refused.
+fn lives<'a, S, W, Q>(
+    rt: &impl Abort,
+    heap: &Rationed<Global>,
+    draws: &mut Draws,
+    cache: &mut Refusing<'a, S, W>,
+    pairs: &mut Pairs,
+) -> Result<(), Fail>
+where
+    S: BuildHasher,
+    W: WeightScale<usize, usize>,
+    Q: Drawn + Clone + Debug + Perform<Refusing<'a, S, W>, Answer = Answer<usize, usize>>,
+{
+    for _ in 0..500u32 {
+        let call = Q::draw(draws);
+        match draws.below(6) {
+            0..=3 => heap.refuse_after(0),
+            4 => heap.refuse_one_after(1),
+            _ => heap.refuse_none(),
         }
-        holds(&rt, &cache, &pairs.list, "drawn calls");
+        let refused = heap.refused();
+        let given = call.clone()?.perform(cache);
+        if heap.refused() == refused {
+            assert!(rt; given == call.answer(pairs)?, "{call:?}");
+        } else {
+            assert!(rt; Some(given) == call.refusal(), "{call:?}");
+        }
+        is_whole(rt, cache, pairs);
+    }
+    Ok(())
+}
+
+/// Makes 67 caches with drawn capacities and reserves, and drawn calls of each.
+fn live<'a, S, W, Q>(
+    rt: &impl Abort,
+    alloc: Global,
+    heap: &'a Rationed<Global>,
+    draws: &mut Draws,
+    builder: S,
+    scale: W,
+) -> Result<(), Fail>
+where
+    S: BuildHasher + Copy,
+    W: WeightScale<usize, usize> + Copy,
+    Q: Drawn + Clone + Debug + Perform<Refusing<'a, S, W>, Answer = Answer<usize, usize>>,
+{
+    for _ in 0..67u32 {
+        let capacity = draws.capacity();
+        let config = CLruCacheConfig::new(room(capacity)?).with_memory(draws.below(9));
+        let config = config.with_hasher(builder).with_scale(scale);
+        heap.refuse_none();
+        let Ok(mut cache) = CLruCache::with_config(heap, config) else {
+            return Err(Fail::from("the memory is not refused"));
+        };
+        let mut pairs = Pairs {
+            list: Vec::new(alloc),
+            capacity,
+            weighs: Q::weighs(),
+        };
+        lives::<S, W, Q>(rt, heap, draws, &mut cache, &mut pairs)?;
+        drop(cache);
+        assert_eq!(rt; heap.blocks(), 0);
     }
     Ok(())
 }
 
 #[test]
-fn drawn_calls_by_number(rt: HostRuntime) -> Result<(), Fail> {
-    let mut draws = Draws(2);
-    for capacity in [1, 2, 3, 5, 8, 13] {
-        let mut cache = CLruCache::new(rt.alloc(), room(capacity)?);
-        let mut pairs = Pairs {
-            list: Vec::new(rt.alloc()),
-            capacity,
-            weighs: false,
-        };
-        for n in 0..1000u32 {
-            let call = draws.plain_call();
-            let answer = pairs.perform_plain(&call)?;
-            assert_eq!(rt; call.perform(&mut cache), answer, "call {n} at {capacity}");
-        }
-        holds(&rt, &cache, &pairs.list, "drawn calls");
+fn drawn_calls_by_weight(rt: HostRuntime) -> Result<(), Fail> {
+    let (heap, mut draws) = (Rationed::new(rt.alloc()), Draws(1));
+    live::<_, _, Call<_, _>>(&rt, rt.alloc(), &heap, &mut draws, DefaultState, ByValue)?;
+    for builder in CONSTANTS {
+        live::<_, _, Call<_, _>>(&rt, rt.alloc(), &heap, &mut draws, builder, ByValue)?;
     }
+    assert!(rt;
+        heap.refused() > 1000,
+        "{} of {}",
+        heap.refused(),
+        heap.asked()
+    );
+    Ok(())
+}
+
+#[test]
+fn drawn_calls_by_number(rt: HostRuntime) -> Result<(), Fail> {
+    let (heap, mut draws) = (Rationed::new(rt.alloc()), Draws(2));
+    let zero = ZeroWeightScale;
+    live::<_, _, PlainCall<_, _>>(&rt, rt.alloc(), &heap, &mut draws, DefaultState, zero)?;
+    for builder in CONSTANTS {
+        live::<_, _, PlainCall<_, _>>(&rt, rt.alloc(), &heap, &mut draws, builder, zero)?;
+    }
+    assert!(rt;
+        heap.refused() > 1000,
+        "{} of {}",
+        heap.refused(),
+        heap.asked()
+    );
     Ok(())
 }

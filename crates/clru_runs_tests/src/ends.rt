@@ -1,7 +1,6 @@
 //! Two hundred entries, taken out from the front and from the back.
 
-use crate::tables::{Table, room, runs};
-use clru::CLruCache;
+use crate::tables::{Table, run_all};
 use clru_runs::Answer::{self, Number, Pair, Value};
 use clru_runs::Call::{Get, Len, PopBack, PopFront};
 use clru_runs::PlainCall::{self, Any, Put};
@@ -41,8 +40,7 @@ fn empties(
         rows,
         list: &[],
     };
-    let mut cache = CLruCache::new(alloc, room(table.capacity)?);
-    runs(rt, alloc, &table, &mut cache)
+    run_all(rt, alloc, [table].as_slice())
 }
 
 #[test]

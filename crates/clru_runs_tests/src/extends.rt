@@ -1,7 +1,9 @@
 //! Tables of lists of pairs that a cache is extended by.
 
-use crate::tables::{Table, room, runs};
+use crate::tables::{Table, runs};
 use clru::{CLruCache, PutError};
+use clru_fixtures::builders::CONSTANTS;
+use clru_fixtures::sizes::room;
 use clru_runs::Answer::{self, Extended, Flag, Lent, Weighed};
 use clru_runs::Call::{IsFull, PutWithWeight};
 use clru_runs::ListCall::{self, Extend, Plain};
@@ -75,8 +77,17 @@ fn pairs_are_put_in_turn(rt: HostRuntime) -> Result<(), Fail> {
             rows: calls.as_slice(),
             list: row.list,
         };
-        let mut cache = CLruCache::new(rt.alloc(), room(row.capacity)?);
-        runs(&rt, rt.alloc(), &table, &mut cache)?;
+        let size = room(row.capacity)?;
+        runs(
+            &rt,
+            rt.alloc(),
+            &table,
+            &mut CLruCache::new(rt.alloc(), size),
+        )?;
+        for builder in CONSTANTS {
+            let mut cache = CLruCache::with_hasher(rt.alloc(), size, builder);
+            runs(&rt, rt.alloc(), &table, &mut cache)?;
+        }
     }
     Ok(())
 }

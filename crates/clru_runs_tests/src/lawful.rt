@@ -1,8 +1,8 @@
 //! Calls through the callers that learn the laws of runs.
 
 use crate::callers::{perform_at_both, perform_puts};
-use crate::tables::room;
 use clru::CLruCache;
+use clru_fixtures::sizes::room;
 use clru_runs::Answer::{Lent, Pair};
 use clru_runs::Call::{self, PopBack, PutWithWeight};
 use clru_runs::PlainCall::{Put, PutOrModify};

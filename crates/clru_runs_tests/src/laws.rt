@@ -1,9 +1,10 @@
 //! What the laws of runs speak of. Tables in pairs have the same calls of a lesser cache and of a greater one: where no put
 //! is refused and no `get` is among them, the lesser ends with the first entries of the greater, and else it may not.
 
-use crate::scales::{ByLength, ByValue};
-use crate::tables::{Table, room, runs};
+use crate::tables::{Table, runs, weigh_all};
 use clru::{CLruCache, PutError, ZeroWeightScale};
+use clru_fixtures::scales::{ByLength, ByValue};
+use clru_fixtures::sizes::room;
 use clru_runs::Answer::{Flag, Lent, Pair, Tried, Value, Weighed};
 use clru_runs::Attempt::Store;
 use clru_runs::Call::{self, Contains, Get, Peek, PopFront, PutWithWeight};
@@ -115,27 +116,15 @@ fn puts_in_any_form_hold_what_a_replay_hits(rt: HostRuntime) -> Result<(), Fail>
 #[test]
 fn the_lesser_ends_with_the_first_entries_of_the_greater(rt: HostRuntime) -> Result<(), Fail> {
     law_included_runs::<&'static str, usize, ByValue>();
-    for table in NUMBERS {
-        let mut cache = CLruCache::with_scale(rt.alloc(), room(table.capacity)?, ByValue);
-        runs(&rt, rt.alloc(), table, &mut cache)?;
-    }
-    Ok(())
+    weigh_all(&rt, rt.alloc(), NUMBERS, ByValue)
 }
 
 #[test]
 fn a_put_that_one_cache_refuses_ends_the_inclusion(rt: HostRuntime) -> Result<(), Fail> {
-    for table in TEXTS {
-        let mut cache = CLruCache::with_scale(rt.alloc(), room(table.capacity)?, ByLength);
-        runs(&rt, rt.alloc(), table, &mut cache)?;
-    }
-    Ok(())
+    weigh_all(&rt, rt.alloc(), TEXTS, ByLength)
 }
 
 #[test]
 fn a_get_ends_the_inclusion(rt: HostRuntime) -> Result<(), Fail> {
-    for table in WEIGHTLESS {
-        let mut cache = CLruCache::new(rt.alloc(), room(table.capacity)?);
-        runs(&rt, rt.alloc(), table, &mut cache)?;
-    }
-    Ok(())
+    weigh_all(&rt, rt.alloc(), WEIGHTLESS, ZeroWeightScale)
 }

@@ -1,7 +1,6 @@
 //! Tables of calls that lend an entry, and of puts whose closures may fail.
 
-use crate::plain::run_all;
-use crate::tables::Table;
+use crate::tables::{Table, run_all};
 use clru::TryPutError;
 use clru_runs::Answer::{Flag, Number, Pair, Tried, Value};
 use clru_runs::Attempt::{Fail as Fails, Store};

@@ -26,6 +26,8 @@ macro_rules! weighed {
 
 pub mod callers;
 #[cfg(test)]
+mod calls;
+#[cfg(test)]
 mod drawn;
 #[cfg(test)]
 mod ends;
@@ -47,8 +49,6 @@ mod plain;
 mod removals;
 #[cfg(test)]
 mod resizes;
-#[cfg(test)]
-mod scales;
 #[cfg(test)]
 mod tables;
 #[cfg(test)]

@@ -1,7 +1,8 @@
 //! Memory that is refused.
 
-use crate::tables::{Table, room, runs};
+use crate::tables::{Table, runs};
 use clru::{CLruCache, PutError};
+use clru_fixtures::sizes::room;
 use clru_runs::Answer::{Lent, Number, Stored, Value, Weighed};
 use clru_runs::Call::{Len, Peek, PutWithWeight};
 use clru_runs::PlainCall::{self, Any, Put, PutOrModify};

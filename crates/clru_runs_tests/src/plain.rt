@@ -1,32 +1,14 @@
 //! Tables of caches whose capacity limits the number of their entries.
 
-use crate::tables::{Table, room, runs};
-use clru::CLruCache;
+use crate::tables::{Table, run_all};
 use clru_runs::Answer::{Flag, Lent, Number, Pair, Value};
 use clru_runs::Call::{
     Capacity, Contains, Get, IsEmpty, IsFull, Len, Peek, PopFront, PutWithWeight, Weight,
 };
 use clru_runs::PlainCall::{self, Any, Put, PutOrModify};
-use std::alloc::Global;
-use std::fmt::Debug;
-use std::hash::Hash;
-use std::process::Abort;
 use std::test::Fail;
 
 type Of<V> = Table<'static, PlainCall<&'static str, V>, &'static str, V>;
-
-/// Runs each of the tables.
-pub(crate) fn run_all<K: Eq + Hash + Copy + Debug, V: PartialEq + Copy + Debug>(
-    rt: &impl Abort,
-    alloc: Global,
-    tables: &[Table<PlainCall<K, V>, K, V>],
-) -> Result<(), Fail> {
-    for table in tables {
-        let mut cache = CLruCache::new(alloc, room(table.capacity)?);
-        runs(rt, alloc, table, &mut cache)?;
-    }
-    Ok(())
-}
 
 static TEXTS: &[Of<&'static str>] = &[
     Table {

@@ -1,9 +1,7 @@
 //! Tables of calls that take entries out.
 
-use crate::plain::run_all;
-use crate::scales::ByLength;
-use crate::tables::{Table, room, runs};
-use clru::CLruCache;
+use crate::tables::{Table, run_all, weigh_all};
+use clru_fixtures::scales::ByLength;
 use clru_runs::Answer::{Done, Number, Pair, Value};
 use clru_runs::Call::{self, Clear, Get, Len, Peek, Pop, PopBack, PopFront, Retain, Weight};
 use clru_runs::PlainCall::{self, Any, Put, RetainMut};
@@ -157,9 +155,5 @@ fn texts_are_taken_out(rt: HostRuntime) -> Result<(), Fail> {
 
 #[test]
 fn weights_are_taken_out(rt: HostRuntime) -> Result<(), Fail> {
-    for table in WEIGHTED {
-        let mut cache = CLruCache::with_scale(rt.alloc(), room(table.capacity)?, ByLength);
-        runs(&rt, rt.alloc(), table, &mut cache)?;
-    }
-    Ok(())
+    weigh_all(&rt, rt.alloc(), WEIGHTED, ByLength)
 }

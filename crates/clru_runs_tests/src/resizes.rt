@@ -1,9 +1,8 @@
 //! Tables of calls that change the capacity.
 
-use crate::plain::run_all;
-use crate::scales::ByValue;
-use crate::tables::{Table, room, runs};
-use clru::{CLruCache, PutError};
+use crate::tables::{Table, run_all, weigh_all};
+use clru::PutError;
+use clru_fixtures::scales::ByValue;
 use clru_runs::Answer::{Done, Flag, Number, Value, Weighed};
 use clru_runs::Call::{self, Capacity, Get, IsFull, Len, Peek, Pop, PutWithWeight, Resize, Weight};
 use clru_runs::PlainCall::{self, Any, Put};
@@ -216,9 +215,5 @@ fn plain_capacities_change(rt: HostRuntime) -> Result<(), Fail> {
 
 #[test]
 fn weighted_capacities_change(rt: HostRuntime) -> Result<(), Fail> {
-    for table in WEIGHTED {
-        let mut cache = CLruCache::with_scale(rt.alloc(), room(table.capacity)?, ByValue);
-        runs(&rt, rt.alloc(), table, &mut cache)?;
-    }
-    Ok(())
+    weigh_all(&rt, rt.alloc(), WEIGHTED, ByValue)
 }

@@ -1,10 +1,12 @@
 //! Tables: calls with their answers, and the entries at the end.
 
-use clru::{CLruCache, DefaultState, NonZeroUsize, WeightScale};
-use clru_runs::{Answer, Perform, perform_all};
+use clru::{CLruCache, CLruCacheConfig, WeightScale};
+use clru_fixtures::builders::CONSTANTS;
+use clru_fixtures::sizes::room;
+use clru_runs::{Answer, Call, Perform, PlainCall, perform_all};
 use std::alloc::{Allocator, Global};
 use std::fmt::Debug;
-use std::hash::Hash;
+use std::hash::{BuildHasher, Hash};
 use std::process::Abort;
 use std::test::Fail;
 
@@ -19,24 +21,20 @@ pub(crate) struct Table<'a, Q, K, V> {
     pub(crate) list: &'a [(K, V)],
 }
 
-/// A capacity.
-pub(crate) fn room(n: usize) -> Result<NonZeroUsize, &'static str> {
-    NonZeroUsize::new(n).ok_or("a capacity is no 0")
-}
-
 /// Makes the calls of the table, and asserts their answers and the entries at the end.
-pub(crate) fn runs<K, V, W, A, Q>(
+pub(crate) fn runs<K, V, S, W, A, Q>(
     rt: &impl Abort,
     alloc: Global,
     table: &Table<Q, K, V>,
-    cache: &mut CLruCache<K, V, DefaultState, W, A>,
+    cache: &mut CLruCache<K, V, S, W, A>,
 ) -> Result<(), Fail>
 where
     K: Eq + Hash + Copy + Debug,
     V: PartialEq + Copy + Debug,
+    S: BuildHasher,
     W: WeightScale<K, V>,
     A: Allocator + Copy,
-    Q: Perform<CLruCache<K, V, DefaultState, W, A>, Answer = Answer<K, V>> + Clone + Debug + Drop,
+    Q: Perform<CLruCache<K, V, S, W, A>, Answer = Answer<K, V>> + Clone + Debug + Drop,
 {
     let mut calls = Vec::new(alloc);
     for (call, _) in table.rows {
@@ -50,16 +48,65 @@ where
     Ok(())
 }
 
-/// Asserts that the cache holds the pairs of `list` and no other, the most recently used first.
-pub(crate) fn holds<K, V, W, A>(
+/// Runs each table on a cache without weights, with the default builder and with those that give all keys one hash.
+pub(crate) fn run_all<K: Eq + Hash + Copy + Debug, V: PartialEq + Copy + Debug>(
     rt: &impl Abort,
-    cache: &CLruCache<K, V, DefaultState, W, A>,
+    alloc: Global,
+    tables: &[Table<PlainCall<K, V>, K, V>],
+) -> Result<(), Fail> {
+    for table in tables {
+        let size = room(table.capacity)?;
+        runs(rt, alloc, table, &mut CLruCache::new(alloc, size))?;
+        for builder in CONSTANTS {
+            let mut cache = CLruCache::with_hasher(alloc, size, builder);
+            runs(rt, alloc, table, &mut cache)?;
+        }
+    }
+    Ok(())
+}
+
+/// The same on a cache with a scale.
+pub(crate) fn weigh_all<K, V, W>(
+    rt: &impl Abort,
+    alloc: Global,
+    tables: &[Table<Call<K, V>, K, V>],
+    scale: W,
+) -> Result<(), Fail>
+where
+    K: Eq + Hash + Copy + Debug,
+    V: PartialEq + Copy + Debug,
+    W: WeightScale<K, V> + Copy,
+{
+    for table in tables {
+        let size = room(table.capacity)?;
+        runs(
+            rt,
+            alloc,
+            table,
+            &mut CLruCache::with_scale(alloc, size, scale),
+        )?;
+        for builder in CONSTANTS {
+            let config = CLruCacheConfig::new(size).with_hasher(builder);
+            let Ok(mut cache) = CLruCache::with_config(alloc, config.with_scale(scale)) else {
+                return Err(Fail::from("no reserve is asked for"));
+            };
+            runs(rt, alloc, table, &mut cache)?;
+        }
+    }
+    Ok(())
+}
+
+/// Asserts that the cache holds the pairs of `list` and no other, the most recently used first.
+pub(crate) fn holds<K, V, S, W, A>(
+    rt: &impl Abort,
+    cache: &CLruCache<K, V, S, W, A>,
     list: &[(K, V)],
     name: &str,
 )
 where
     K: Eq + Hash + Copy + Debug,
     V: PartialEq + Copy + Debug,
+    S: BuildHasher,
     W: WeightScale<K, V>,
     A: Allocator + Copy,
 {

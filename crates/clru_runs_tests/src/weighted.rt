@@ -1,8 +1,8 @@
 //! Tables of caches with a scale.
 
-use crate::scales::{ByLength, ByValue};
-use crate::tables::{Table, room, runs};
-use clru::{CLruCache, PutError};
+use crate::tables::{Table, weigh_all};
+use clru::PutError;
+use clru_fixtures::scales::{ByLength, ByValue};
 use clru_runs::Answer::{Flag, Number, Value, Weighed};
 use clru_runs::Call::{
     self, Capacity, Contains, Get, IsEmpty, IsFull, Len, Peek, PutWithWeight, Weight,
@@ -174,11 +174,7 @@ static TEXTS: &[Of<&'static str>] = &[
 
 #[test]
 fn texts_by_length(rt: HostRuntime) -> Result<(), Fail> {
-    for table in TEXTS {
-        let mut cache = CLruCache::with_scale(rt.alloc(), room(table.capacity)?, ByLength);
-        runs(&rt, rt.alloc(), table, &mut cache)?;
-    }
-    Ok(())
+    weigh_all(&rt, rt.alloc(), TEXTS, ByLength)
 }
 
 const MOST: usize = usize::MAX;
@@ -217,9 +213,5 @@ static NUMBERS: &[Of<usize>] = &[Table {
 
 #[test]
 fn numbers_by_value(rt: HostRuntime) -> Result<(), Fail> {
-    for table in NUMBERS {
-        let mut cache = CLruCache::with_scale(rt.alloc(), room(table.capacity)?, ByValue);
-        runs(&rt, rt.alloc(), table, &mut cache)?;
-    }
-    Ok(())
+    weigh_all(&rt, rt.alloc(), NUMBERS, ByValue)
 }

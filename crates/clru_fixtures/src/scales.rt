@@ -1,11 +1,11 @@
-//! Weights for tests.
+//! Weights.
 ghost use Rattle.std.specs.Prelude.{length};
 
 use clru::WeightScale;
 
 /// A text weighs its number of bytes.
 #[derive(Clone, Copy)]
-pub(crate) struct ByLength;
+pub struct ByLength;
 
 impl<K> WeightScale<K, &'static str> for ByLength {
     ghost weight = { λ _ _ value. length value.now };
@@ -17,7 +17,7 @@ impl<K> WeightScale<K, &'static str> for ByLength {
 
 /// A number weighs itself.
 #[derive(Clone, Copy)]
-pub(crate) struct ByValue;
+pub struct ByValue;
 
 impl<K> WeightScale<K, usize> for ByValue {
     ghost weight = { λ _ _ value. value };
