@@ -1,5 +1,5 @@
 -- A step from the back of a list.
-use Rattle.std.proofs.Common.{◌≡◌, ◌-◌, List, [], ◌∷◌, ◌++◌, length, take, Option, Some, None, slice_get, refl, sym, ap, ◌∙◌}
+use Rattle.std.proofs.Common.{◌≡◌, ◌-◌, List, [], ◌∷◌, ◌++◌, length, take, Option, Some, None, slice_get, sym, ap, ◌∙◌}
 use Rattle.std.specs.Iterator.{YieldsLast}
 use Rattle.clru.proofs.Fitting.{split_last, no_last}
 

@@ -1,8 +1,8 @@
-//! Hash builders for tests.
+//! A hash builder that counts.
 ghost use Rattle.std.specs.Hash.FoldHasher.{initial};
 
 use std::cell::Cell;
-use std::hash::{BuildHasher, FoldHasher, Hasher};
+use std::hash::{BuildHasher, FoldHasher};
 
 /// Hashes as a cache does where no builder is given, and counts the hashes.
 #[derive(Clone, Copy)]
@@ -18,34 +18,5 @@ impl<'a> BuildHasher for Counting<'a> {
     fn build_hasher(&self) -> FoldHasher {
         self.hashes.set(self.hashes.get().wrapping_add(1));
         FoldHasher::default()
-    }
-}
-
-/// Gives each key the same hash.
-#[derive(Clone, Copy, Debug)]
-pub(crate) struct Constant(pub(crate) u64);
-
-/// The first and the last hash.
-pub(crate) const CONSTANTS: [Constant; 2] = [Constant(0), Constant(u64::MAX)];
-
-impl Hasher for Constant {
-    ghost write = { λ h _. h };
-
-    ghost finish = { λ h. h.0 };
-
-    fn finish(&self) -> u64 {
-        self.0
-    }
-
-    fn write(&mut self, _bytes: &[u8]) {}
-}
-
-impl BuildHasher for Constant {
-    type Hasher = Constant;
-
-    ghost build_hasher = { λ s. s };
-
-    fn build_hasher(&self) -> Constant {
-        *self
     }
 }

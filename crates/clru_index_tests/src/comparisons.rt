@@ -5,8 +5,8 @@ ghost use Rattle.std.specs.Ordering.{on};
 ghost use Rattle.std.specs.Cmp.Rules.{comparing, hashing};
 ghost use Rattle.std.proofs.Common.{rules};
 
-use crate::calls::room;
 use clru::{DefaultState, replay};
+use clru_fixtures::sizes::room;
 use std::alloc::Global;
 use std::cell::Cell;
 use std::hash::{Hash, Hasher};

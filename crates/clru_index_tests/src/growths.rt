@@ -1,7 +1,7 @@
 //! Growths that are refused half way.
 
-use crate::calls::room;
 use clru::{CLruCache, DefaultState, ZeroWeightScale};
+use clru_fixtures::sizes::room;
 use ration::Rationed;
 use std::alloc::Global;
 use std::process::Abort;

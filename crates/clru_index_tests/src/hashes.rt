@@ -1,28 +1,30 @@
 //! How often a cache hashes keys.
 
 use crate::builders::Counting;
-use crate::calls::Call::{self, Contains, Get, Peek, PopFront, Put, PutOrModify, PutWithWeight};
-use crate::calls::{ADDED, answer, room};
 use clru::{CLruCache, replay};
+use clru_fixtures::sizes::room;
+use clru_runs::Call::{Contains, Get, Peek, PopFront, PutWithWeight};
+use clru_runs::Perform;
+use clru_runs::PlainCall::{self, Any, Put, PutOrModify};
 use std::cell::Cell;
 use std::test::Fail;
 
-static REQUESTS: [(Call<u64, u64>, u64); 14] = [
-    (Get(0), 1),
+static REQUESTS: [(PlainCall<u64, u64>, u64); 14] = [
+    (Any(Get(0)), 1),
     (Put(0, 1), 1),
-    (PutWithWeight(1, 1), 1),
+    (Any(PutWithWeight(1, 1)), 1),
     (PutOrModify(2, 1), 1),
-    (Get(0), 1),
-    (Peek(1), 1),
-    (Contains(9), 1),
+    (Any(Get(0)), 1),
+    (Any(Peek(1)), 1),
+    (Any(Contains(9)), 1),
     (Put(0, 2), 1),
-    (PutWithWeight(1, 2), 1),
+    (Any(PutWithWeight(1, 2)), 1),
     (PutOrModify(2, 2), 1),
     // The key, and the one that it drops.
     (Put(3, 1), 2),
-    (PutWithWeight(4, 1), 2),
+    (Any(PutWithWeight(4, 1)), 2),
     (PutOrModify(5, 1), 2),
-    (PopFront, 1),
+    (Any(PopFront), 1),
 ];
 
 #[test]
@@ -32,7 +34,7 @@ fn a_request_hashes_its_key_and_the_one_it_drops(rt: HostRuntime) -> Result<(), 
     let mut cache = CLruCache::with_hasher(rt.alloc(), room(3)?, builder);
     for (call, count) in REQUESTS.iter() {
         hashes.set(0);
-        let _ = answer(&mut cache, call);
+        let _answer = call.clone()?.perform(&mut cache);
         assert_eq!(rt; hashes.get(), *count, "{call:?}");
     }
     assert_eq!(rt; cache.len(), 2);
@@ -46,7 +48,7 @@ fn a_growth_hashes_the_held_keys_again(rt: HostRuntime) -> Result<(), Fail> {
     let mut cache = CLruCache::with_hasher(rt.alloc(), room(100)?, builder);
     for key in 0..100u64 {
         hashes.set(0);
-        assert_eq!(rt; cache.put(key, key), Ok(ADDED));
+        assert_eq!(rt; cache.put(key, key)?.replaced, None);
         let grows = [4, 8, 16, 32, 64].contains(&key);
         let again = if grows { key } else { 0 };
         assert_eq!(rt; hashes.get(), again.wrapping_add(1), "{key}");

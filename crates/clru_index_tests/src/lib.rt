@@ -1,19 +1,13 @@
-//! Tests of the hash index under a cache: what it costs, and keys whose hashes are all alike. No clause speaks of cost.
+//! Tests of the hash index under a cache: what it costs, of which no clause speaks, and its part of a reserve and of a growth.
 #![tactic(auto)]
 
 #[cfg(test)]
 mod builders;
-#[cfg(test)]
-mod calls;
-#[cfg(test)]
-mod collisions;
 #[cfg(test)]
 mod comparisons;
 #[cfg(test)]
 mod growths;
 #[cfg(test)]
 mod hashes;
-#[cfg(test)]
-mod letters;
 #[cfg(test)]
 mod reserves;

@@ -1,8 +1,8 @@
 //! A reserve of two places, where each later request for memory is refused.
 
-use crate::builders::CONSTANTS;
-use crate::calls::room;
 use clru::{CLruCache, CLruCacheConfig, DefaultState, ZeroWeightScale};
+use clru_fixtures::builders::CONSTANTS;
+use clru_fixtures::sizes::room;
 use ration::Rationed;
 use std::alloc::Global;
 use std::hash::BuildHasher;

@@ -1,5 +1,5 @@
 -- What keeps the fingers of a list at their places.
-use Rattle.std.proofs.Common.{◌≡◌, ℕ, List, Some, None, Option, IfSome, slice_get, sym, ap, ◌∙◌, subst}
+use Rattle.std.proofs.Common.{◌≡◌, ℕ, List, None, Option, sym, ap, ◌∙◌, subst}
 use Rattle.std.specs.Map.{keys_of}
 use Rattle.clru_list.specs.Fingers.{IsFinger, IsPointed}
 use Rattle.clru_list.specs.Links.{Links, nowhere, walk, IsSound}

@@ -1,7 +1,10 @@
 //! Caches that are made of their items.
 
 use crate::lists::holds;
-use clru::{CLruCache, DefaultState};
+use clru::CLruCache;
+use std::alloc::Global;
+use std::hash::BuildHasher;
+use std::process::Abort;
 use std::test::Fail;
 
 type Pair = (&'static str, u64);
@@ -36,27 +39,41 @@ static ROWS: &[Row] = &[
     },
 ];
 
-#[test]
-fn test_from_iterator(rt: HostRuntime) -> Result<(), Fail> {
+/// Caches of the items of each row.
+fn collects<S: BuildHasher + Copy>(rt: &impl Abort, alloc: Global, builder: S) -> Result<(), Fail> {
     for (i, row) in ROWS.iter().enumerate() {
-        let items = Vec::from_slice(rt.alloc(), row.items)?;
-        let mut cache = CLruCache::from_iter(rt.alloc(), DefaultState, items)?;
+        let items = Vec::from_slice(alloc, row.items)?;
+        let mut cache = CLruCache::from_iter(alloc, builder, items)?;
         assert_eq!(rt;
             (cache.len(), cache.capacity(), cache.is_full()),
             (row.list.len(), row.capacity, row.full),
             "row {i}"
         );
-        holds(&rt, &cache, row.list);
+        holds(rt, &cache, row.list);
     }
     Ok(())
 }
 
 #[test]
-fn a_collected_cache_drops_its_oldest_entry(rt: HostRuntime) -> Result<(), Fail> {
-    let items = Vec::from_array(rt.alloc(), [("a", 1), ("b", 2)])?;
-    let mut cache = CLruCache::from_iter(rt.alloc(), DefaultState, items)?;
-    let more = Vec::from_array(rt.alloc(), [("c", 3)])?;
+fn test_from_iterator(rt: HostRuntime) -> Result<(), Fail> {
+    with_each_builder!(rt, collects)
+}
+
+/// A collected cache that is extended.
+fn collects_and_extends<S: BuildHasher + Copy>(
+    rt: &impl Abort,
+    alloc: Global,
+    builder: S,
+) -> Result<(), Fail> {
+    let items = Vec::from_array(alloc, [("a", 1), ("b", 2)])?;
+    let mut cache = CLruCache::from_iter(alloc, builder, items)?;
+    let more = Vec::from_array(alloc, [("c", 3)])?;
     assert_eq!(rt; cache.extend(more), Ok(()));
-    holds(&rt, &cache, &[("c", 3), ("b", 2)]);
+    holds(rt, &cache, &[("c", 3), ("b", 2)]);
     Ok(())
+}
+
+#[test]
+fn a_collected_cache_drops_its_oldest_entry(rt: HostRuntime) -> Result<(), Fail> {
+    with_each_builder!(rt, collects_and_extends)
 }

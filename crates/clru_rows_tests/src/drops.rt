@@ -1,11 +1,12 @@
 //! What puts hand out.
 
-use crate::lists::{holds, room};
+use crate::lists::{holds, scaled};
+use clru::{CLruCache, PutError, WeightScale};
 use clru_fixtures::scales::{ByLength, ByValue};
-use clru::{CLruCache, DefaultState, PutError, WeightScale};
+use clru_fixtures::sizes::room;
 use std::alloc::Global;
 use std::fmt::Debug;
-use std::hash::Hash;
+use std::hash::{BuildHasher, Hash};
 use std::process::Abort;
 use std::test::Fail;
 
@@ -92,8 +93,8 @@ static NUMBERS: &[Row<'static, &'static str, usize>] = &[Row {
 }];
 
 /// Makes a weighted put, and adds what it hands out to `gone`.
-fn puts<K: Eq + Hash + Copy, V: Copy, W: WeightScale<K, V>>(
-    cache: &mut CLruCache<K, V, DefaultState, W>,
+fn puts<K: Eq + Hash + Copy, V: Copy, S: BuildHasher, W: WeightScale<K, V>>(
+    cache: &mut CLruCache<K, V, S, W>,
     key: K,
     value: V,
     gone: &mut Vec<(K, V)>,
@@ -104,12 +105,18 @@ fn puts<K: Eq + Hash + Copy, V: Copy, W: WeightScale<K, V>>(
 }
 
 /// Makes the puts of a row, and asserts their answers and what they hand out.
-fn hands_out<K: Eq + Hash + Copy + Debug, V: PartialEq + Copy + Debug, W: WeightScale<K, V>>(
+fn hands_out<K, V, S, W>(
     rt: &impl Abort,
     alloc: Global,
-    cache: &mut CLruCache<K, V, DefaultState, W>,
+    cache: &mut CLruCache<K, V, S, W>,
     row: &Row<K, V>,
-) {
+)
+where
+    K: Eq + Hash + Copy + Debug,
+    V: PartialEq + Copy + Debug,
+    S: BuildHasher,
+    W: WeightScale<K, V>,
+{
     for (key, value, answer, pairs) in row.puts {
         let mut gone = Vec::new(alloc);
         let put = puts(cache, *key, *value, &mut gone);
@@ -122,23 +129,36 @@ fn hands_out<K: Eq + Hash + Copy + Debug, V: PartialEq + Copy + Debug, W: Weight
     holds(rt, cache, row.list);
 }
 
-#[test]
-fn weighted_puts_hand_out_the_oldest_first(rt: HostRuntime) -> Result<(), Fail> {
+/// The puts of each row.
+fn hands_out_each<S: BuildHasher + Copy>(
+    rt: &impl Abort,
+    alloc: Global,
+    builder: S,
+) -> Result<(), Fail> {
     for row in TEXTS {
-        let mut cache = CLruCache::with_scale(rt.alloc(), room(row.capacity)?, ByLength);
-        hands_out(&rt, rt.alloc(), &mut cache, row);
+        let mut cache = scaled(alloc, row.capacity, builder, ByLength)?;
+        hands_out(rt, alloc, &mut cache, row);
     }
     for row in NUMBERS {
-        let mut cache = CLruCache::with_scale(rt.alloc(), room(row.capacity)?, ByValue);
-        hands_out(&rt, rt.alloc(), &mut cache, row);
+        let mut cache = scaled(alloc, row.capacity, builder, ByValue)?;
+        hands_out(rt, alloc, &mut cache, row);
     }
     Ok(())
 }
 
 #[test]
-fn the_two_puts_agree_at_weight_zero(rt: HostRuntime) -> Result<(), Fail> {
-    let mut plain = CLruCache::new(rt.alloc(), room(2)?);
-    let mut weighted = CLruCache::new(rt.alloc(), room(2)?);
+fn weighted_puts_hand_out_the_oldest_first(rt: HostRuntime) -> Result<(), Fail> {
+    with_each_builder!(rt, hands_out_each)
+}
+
+/// One list of pairs, put plainly and by weight.
+fn puts_in_both_forms<S: BuildHasher + Copy>(
+    rt: &impl Abort,
+    alloc: Global,
+    builder: S,
+) -> Result<(), Fail> {
+    let mut plain = CLruCache::with_hasher(alloc, room(2)?, builder);
+    let mut weighted = CLruCache::with_hasher(alloc, room(2)?, builder);
     for (key, value) in [("a", 1), ("b", 2), ("c", 3), ("b", 4), ("a", 5), ("a", 6)] {
         let mut gone = None;
         let put = plain.put(key, value)?;
@@ -149,7 +169,12 @@ fn the_two_puts_agree_at_weight_zero(rt: HostRuntime) -> Result<(), Fail> {
             "{key} {value}"
         );
     }
-    holds(&rt, &plain, &[("a", 6), ("b", 4)]);
-    holds(&rt, &weighted, &[("a", 6), ("b", 4)]);
+    holds(rt, &plain, &[("a", 6), ("b", 4)]);
+    holds(rt, &weighted, &[("a", 6), ("b", 4)]);
     Ok(())
+}
+
+#[test]
+fn the_two_puts_agree_at_weight_zero(rt: HostRuntime) -> Result<(), Fail> {
+    with_each_builder!(rt, puts_in_both_forms)
 }

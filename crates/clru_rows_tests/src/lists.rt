@@ -1,14 +1,12 @@
 //! What the rows share.
 
-use clru::{CLruCache, CLruCacheConfig, DefaultState, NonZeroUsize, WeightScale};
+use clru::{CLruCache, CLruCacheConfig, WeightScale};
+use clru_fixtures::sizes::room;
+use std::alloc::Global;
 use std::fmt::Debug;
 use std::hash::{BuildHasher, Hash};
 use std::process::Abort;
-
-/// A capacity.
-pub(crate) fn room(n: usize) -> Result<NonZeroUsize, &'static str> {
-    NonZeroUsize::new(n).ok_or("a capacity is no 0")
-}
+use std::test::Fail;
 
 /// Asserts that the cache holds the pairs of `list` and no other, the most recently used first.
 pub(crate) fn holds<K, V, S, W>(rt: &impl Abort, cache: &CLruCache<K, V, S, W>, list: &[(K, V)])
@@ -21,5 +19,19 @@ where
     assert_eq!(rt; cache.len(), list.len(), "of {list:?}");
     for ((key, value), pair) in cache.iter().zip(list) {
         assert_eq!(rt; (*key, *value), *pair, "of {list:?}");
+    }
+}
+
+/// An empty cache with a scale.
+pub(crate) fn scaled<K: Eq + Hash, V, S: BuildHasher + Copy, W: WeightScale<K, V> + Copy>(
+    alloc: Global,
+    capacity: usize,
+    builder: S,
+    scale: W,
+) -> Result<CLruCache<K, V, S, W>, Fail> {
+    let config = CLruCacheConfig::new(room(capacity)?).with_hasher(builder);
+    match CLruCache::with_config(alloc, config.with_scale(scale)) {
+        Ok(cache) => Ok(cache),
+        Err(_) => Err(Fail::from("no reserve is asked for")),
     }
 }

@@ -1,28 +1,48 @@
 //! Look-ups with keys that own memory, and with another hash builder.
 
-use crate::lists::room;
 use clru::CLruCache;
-use std::hash::{BuildHasherDefault, FoldHasher};
+use clru_fixtures::sizes::room;
+use std::alloc::Global;
+use std::hash::{BuildHasher, BuildHasherDefault, FoldHasher};
+use std::process::Abort;
 use std::test::Fail;
 
-#[test]
-fn test_get_with_borrow(rt: HostRuntime) -> Result<(), Fail> {
-    let mut cache = CLruCache::new(rt.alloc(), room(2)?);
-    let key = String::from_str(rt.alloc(), "apple")?;
+/// A look-up by a key that was made anew.
+fn gets_by_an_equal_key<S: BuildHasher + Copy>(
+    rt: &impl Abort,
+    alloc: Global,
+    builder: S,
+) -> Result<(), Fail> {
+    let mut cache = CLruCache::with_hasher(alloc, room(2)?, builder);
+    let key = String::from_str(alloc, "apple")?;
     assert_eq!(rt; cache.put(key, "red")?.replaced, None);
-    let key = String::from_str(rt.alloc(), "apple")?;
+    let key = String::from_str(alloc, "apple")?;
     assert_eq!(rt; cache.get(&key).copied(), Some("red"));
     Ok(())
 }
 
 #[test]
-fn test_get_mut_with_borrow(rt: HostRuntime) -> Result<(), Fail> {
-    let mut cache = CLruCache::new(rt.alloc(), room(2)?);
-    let key = String::from_str(rt.alloc(), "apple")?;
+fn test_get_with_borrow(rt: HostRuntime) -> Result<(), Fail> {
+    with_each_builder!(rt, gets_by_an_equal_key)
+}
+
+/// The same for writing.
+fn gets_mut_by_an_equal_key<S: BuildHasher + Copy>(
+    rt: &impl Abort,
+    alloc: Global,
+    builder: S,
+) -> Result<(), Fail> {
+    let mut cache = CLruCache::with_hasher(alloc, room(2)?, builder);
+    let key = String::from_str(alloc, "apple")?;
     assert_eq!(rt; cache.put(key, "red")?.replaced, None);
-    let key = String::from_str(rt.alloc(), "apple")?;
+    let key = String::from_str(alloc, "apple")?;
     assert_eq!(rt; cache.get_mut(&key).map(|value| *value), Some("red"));
     Ok(())
+}
+
+#[test]
+fn test_get_mut_with_borrow(rt: HostRuntime) -> Result<(), Fail> {
+    with_each_builder!(rt, gets_mut_by_an_equal_key)
 }
 
 #[test]

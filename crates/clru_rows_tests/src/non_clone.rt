@@ -1,12 +1,14 @@
 //! Keys that have no `Clone`: no call asks for one.
 
-use crate::lists::room;
 use crate::non_clone::Step::{
     Clear, Contains, Extend, Get, Modify, Peek, Pop, PopBack, PopFront, Put, Resize, Retain,
     TryModify, Write,
 };
 use clru::CLruCache;
+use clru_fixtures::sizes::room;
 use std::alloc::{AllocError, Global};
+use std::hash::BuildHasher;
+use std::process::Abort;
 use std::test::Fail;
 
 /// A text that can't be cloned.
@@ -39,9 +41,9 @@ enum Step {
     TryModify(&'static str, u64),
 }
 
-fn writes(
+fn writes<S: BuildHasher>(
     alloc: Global,
-    cache: &mut CLruCache<NonCloneKey, u64>,
+    cache: &mut CLruCache<NonCloneKey, u64, S>,
     letter: &str,
     value: u64,
     moves: bool,
@@ -62,8 +64,8 @@ fn writes(
 }
 
 /// Puts a value, and returns the old one, or nothing where memory is refused.
-fn puts(
-    cache: &mut CLruCache<NonCloneKey, u64>,
+fn puts<S: BuildHasher>(
+    cache: &mut CLruCache<NonCloneKey, u64, S>,
     key: NonCloneKey,
     value: u64,
 ) -> Option<Option<u64>> {
@@ -74,7 +76,10 @@ fn puts(
 }
 
 /// Puts 100 under a new key or adds 1 to the value of a held one, and returns that value.
-fn modifies(cache: &mut CLruCache<NonCloneKey, u64>, key: NonCloneKey) -> Option<u64> {
+fn modifies<S: BuildHasher>(
+    cache: &mut CLruCache<NonCloneKey, u64, S>,
+    key: NonCloneKey,
+) -> Option<u64> {
     let modify = |_: &_, value: &mut u64, _| *value = value.saturating_add(1);
     match cache.put_or_modify(key, |_, _| 100, modify, ()) {
         Ok(lent) => Some(*lent),
@@ -86,7 +91,10 @@ fn modifies(cache: &mut CLruCache<NonCloneKey, u64>, key: NonCloneKey) -> Option
 }
 
 /// The same with 200, by closures that might fail.
-fn tries(cache: &mut CLruCache<NonCloneKey, u64>, key: NonCloneKey) -> Option<u64> {
+fn tries<S: BuildHasher>(
+    cache: &mut CLruCache<NonCloneKey, u64, S>,
+    key: NonCloneKey,
+) -> Option<u64> {
     let modify = |_: &_, value: &mut u64, _| match value.checked_add(1) {
         Some(more) => {
             *value = more;
@@ -104,9 +112,9 @@ fn tries(cache: &mut CLruCache<NonCloneKey, u64>, key: NonCloneKey) -> Option<u6
 }
 
 /// Makes a call that adds or changes an entry, and returns whether its answer is the one that is wanted.
-fn is_right(
+fn is_right<S: BuildHasher>(
     alloc: Global,
-    cache: &mut CLruCache<NonCloneKey, u64>,
+    cache: &mut CLruCache<NonCloneKey, u64, S>,
     step: &Step,
 ) -> Result<bool, AllocError> {
     let right = match step {
@@ -127,9 +135,9 @@ fn is_right(
 }
 
 /// The same for the other calls.
-fn takes_or_reads(
+fn takes_or_reads<S: BuildHasher>(
     alloc: Global,
-    cache: &mut CLruCache<NonCloneKey, u64>,
+    cache: &mut CLruCache<NonCloneKey, u64, S>,
     step: &Step,
 ) -> Result<bool, AllocError> {
     let right = match step {
@@ -204,16 +212,21 @@ static STEPS: &[Step] = &[
     TryModify("l", 200),
 ];
 
-#[test]
-fn test_non_clone_key(rt: HostRuntime) -> Result<(), Fail> {
-    let mut cache = CLruCache::new(rt.alloc(), room(3)?);
+/// Takes all steps, and then all entries out.
+fn steps<S: BuildHasher + Copy>(rt: &impl Abort, alloc: Global, builder: S) -> Result<(), Fail> {
+    let mut cache = CLruCache::with_hasher(alloc, room(3)?, builder);
     for (i, step) in STEPS.iter().enumerate() {
-        assert!(rt; is_right(rt.alloc(), &mut cache, step)?, "step {i}");
+        assert!(rt; is_right(alloc, &mut cache, step)?, "step {i}");
     }
     for (letter, value) in [("l", 200), ("k", 101)] {
-        let pair = (key(rt.alloc(), letter)?, value);
+        let pair = (key(alloc, letter)?, value);
         assert_eq!(rt; cache.pop_front(), Some(pair), "{letter}");
     }
     assert!(rt; cache.is_empty());
     Ok(())
+}
+
+#[test]
+fn test_non_clone_key(rt: HostRuntime) -> Result<(), Fail> {
+    with_each_builder!(rt, steps)
 }

@@ -1,7 +1,11 @@
 //! Puts whose closures make or change the value.
 
-use crate::lists::{holds, room};
+use crate::lists::holds;
 use clru::{CLruCache, TryPutError};
+use clru_fixtures::sizes::room;
+use std::alloc::Global;
+use std::hash::BuildHasher;
+use std::process::Abort;
 use std::test::Fail;
 
 /// What a first put makes of a key: its length, and the base where there is one.
@@ -19,9 +23,13 @@ fn doubled_or_halved(key: &&'static str, value: &mut usize, base: Option<usize>)
     *value = value.saturating_add(base.unwrap_or(0));
 }
 
-#[test]
-fn test_put_or_modify(rt: HostRuntime) -> Result<(), Fail> {
-    let mut cache = CLruCache::new(rt.alloc(), room(2)?);
+/// Lengths that are stored and then doubled or halved.
+fn puts_or_modifies<S: BuildHasher + Copy>(
+    rt: &impl Abort,
+    alloc: Global,
+    builder: S,
+) -> Result<(), Fail> {
+    let mut cache = CLruCache::with_hasher(alloc, room(2)?, builder);
     let steps = [
         ("a", None, 1, 1),
         ("b", Some(3), 4, 2),
@@ -33,19 +41,33 @@ fn test_put_or_modify(rt: HostRuntime) -> Result<(), Fail> {
         assert_eq!(rt; *lent, value, "{key}");
         assert_eq!(rt; cache.len(), len, "{key}");
     }
-    holds(&rt, &cache, &[("b", 5), ("a", 2)]);
+    holds(rt, &cache, &[("b", 5), ("a", 2)]);
+    Ok(())
+}
+
+#[test]
+fn test_put_or_modify(rt: HostRuntime) -> Result<(), Fail> {
+    with_each_builder!(rt, puts_or_modifies)
+}
+
+/// A value that is written after it was modified.
+fn writes_what_is_lent<S: BuildHasher + Copy>(
+    rt: &impl Abort,
+    alloc: Global,
+    builder: S,
+) -> Result<(), Fail> {
+    let mut cache = CLruCache::with_hasher(alloc, room(2)?, builder);
+    for (key, value) in [("a", 1), ("b", 2)] {
+        assert_eq!(rt; cache.put(key, value)?.replaced, None, "{key}");
+    }
+    *cache.put_or_modify("a", |_, new| new, |_, value, new| *value = new, 7)? = 8;
+    holds(rt, &cache, &[("a", 8), ("b", 2)]);
     Ok(())
 }
 
 #[test]
 fn a_lent_value_can_be_written(rt: HostRuntime) -> Result<(), Fail> {
-    let mut cache = CLruCache::new(rt.alloc(), room(2)?);
-    for (key, value) in [("a", 1), ("b", 2)] {
-        assert_eq!(rt; cache.put(key, value)?.replaced, None, "{key}");
-    }
-    *cache.put_or_modify("a", |_, new| new, |_, value, new| *value = new, 7)? = 8;
-    holds(&rt, &cache, &[("a", 8), ("b", 2)]);
-    Ok(())
+    with_each_builder!(rt, writes_what_is_lent)
 }
 
 /// Odd data is the error.
@@ -59,9 +81,13 @@ fn writes_even(_key: &&'static str, value: &mut u64, data: u64) -> Result<(), u6
     Ok(())
 }
 
-#[test]
-fn test_try_put_or_modify(rt: HostRuntime) -> Result<(), Fail> {
-    let mut cache = CLruCache::new(rt.alloc(), room(2)?);
+/// Closures that fail at odd data.
+fn tries_to_put_or_modify<S: BuildHasher + Copy>(
+    rt: &impl Abort,
+    alloc: Global,
+    builder: S,
+) -> Result<(), Fail> {
+    let mut cache = CLruCache::with_hasher(alloc, room(2)?, builder);
     let steps = [
         ("a", 2, Ok(2)),
         ("b", 4, Ok(4)),
@@ -72,13 +98,22 @@ fn test_try_put_or_modify(rt: HostRuntime) -> Result<(), Fail> {
         let lent = cache.try_put_or_modify(key, |_, data| even(data), writes_even, data);
         assert_eq!(rt; lent.map(|value| *value), answer, "{key}");
     }
-    holds(&rt, &cache, &[("a", 2), ("b", 4)]);
+    holds(rt, &cache, &[("a", 2), ("b", 4)]);
     Ok(())
 }
 
 #[test]
-fn an_entry_that_is_lent_shows_its_key_and_its_value(rt: HostRuntime) -> Result<(), Fail> {
-    let mut cache = CLruCache::new(rt.alloc(), room(2)?);
+fn test_try_put_or_modify(rt: HostRuntime) -> Result<(), Fail> {
+    with_each_builder!(rt, tries_to_put_or_modify)
+}
+
+/// The entries at both ends, read and written.
+fn lends_both_ends<S: BuildHasher + Copy>(
+    rt: &impl Abort,
+    alloc: Global,
+    builder: S,
+) -> Result<(), Fail> {
+    let mut cache = CLruCache::with_hasher(alloc, room(2)?, builder);
     assert!(rt; cache.front_mut().is_none());
     for (key, value) in [("a", 1), ("b", 2)] {
         assert_eq!(rt; cache.put(key, value)?.replaced, None, "{key}");
@@ -91,6 +126,11 @@ fn an_entry_that_is_lent_shows_its_key_and_its_value(rt: HostRuntime) -> Result<
     let last = cache.back_mut().ok_or("an entry is there")?;
     assert_eq!(rt; (*last.key(), *last), ("a", 1));
     *last.into_mut() = 4;
-    holds(&rt, &cache, &[("b", 3), ("a", 4)]);
+    holds(rt, &cache, &[("b", 3), ("a", 4)]);
     Ok(())
+}
+
+#[test]
+fn an_entry_that_is_lent_shows_its_key_and_its_value(rt: HostRuntime) -> Result<(), Fail> {
+    with_each_builder!(rt, lends_both_ends)
 }

@@ -1,16 +1,20 @@
 //! Retains with closures of their own: what each is called on, and in which order.
 
-use crate::lists::{holds, room};
-use clru_fixtures::scales::ByLength;
+use crate::lists::{holds, scaled};
 use clru::CLruCache;
+use clru_fixtures::scales::ByLength;
+use clru_fixtures::sizes::room;
+use std::alloc::Global;
+use std::hash::BuildHasher;
+use std::process::Abort;
 use std::test::Fail;
 
 /// The keys a to e with 1 to 5, in this order.
 const LETTERS: [(&str, u32); 5] = [("a", 1), ("b", 2), ("c", 3), ("d", 4), ("e", 5)];
 
-#[test]
-fn test_retain(rt: HostRuntime) -> Result<(), Fail> {
-    let mut cache = CLruCache::new(rt.alloc(), room(5)?);
+/// Retains by key and by value, and puts between them.
+fn retains<S: BuildHasher + Copy>(rt: &impl Abort, alloc: Global, builder: S) -> Result<(), Fail> {
+    let mut cache = CLruCache::with_hasher(alloc, room(5)?, builder);
     for (key, value) in LETTERS {
         assert_eq!(rt; cache.put(key, value)?.replaced, None);
     }
@@ -26,7 +30,7 @@ fn test_retain(rt: HostRuntime) -> Result<(), Fail> {
         assert_eq!(rt; cache.put(key, value)?.dropped, None);
     }
     cache.retain(|_, value| *value < 3);
-    holds(&rt, &cache, &[("b", 2), ("a", 1)]);
+    holds(rt, &cache, &[("b", 2), ("a", 1)]);
     assert_eq!(rt; cache.put("a", 1)?.replaced, Some(1));
     cache.retain(|_, _| false);
     assert_eq!(rt; (cache.len(), cache.contains(&"a")), (0, false));
@@ -34,8 +38,17 @@ fn test_retain(rt: HostRuntime) -> Result<(), Fail> {
 }
 
 #[test]
-fn values_that_a_retain_writes_stay(rt: HostRuntime) -> Result<(), Fail> {
-    let mut cache = CLruCache::new(rt.alloc(), room(5)?);
+fn test_retain(rt: HostRuntime) -> Result<(), Fail> {
+    with_each_builder!(rt, retains)
+}
+
+/// A retain that adds one to each value.
+fn retains_what_it_writes<S: BuildHasher + Copy>(
+    rt: &impl Abort,
+    alloc: Global,
+    builder: S,
+) -> Result<(), Fail> {
+    let mut cache = CLruCache::with_hasher(alloc, room(5)?, builder);
     for (key, value) in LETTERS {
         assert_eq!(rt; cache.put(key, value)?.replaced, None);
     }
@@ -43,18 +56,27 @@ fn values_that_a_retain_writes_stay(rt: HostRuntime) -> Result<(), Fail> {
         *value = value.saturating_add(1);
         *key != "b" && *key != "d"
     });
-    holds(&rt, &cache, &[("e", 6), ("c", 4), ("a", 2)]);
+    holds(rt, &cache, &[("e", 6), ("c", 4), ("a", 2)]);
     Ok(())
 }
 
 #[test]
-fn a_retain_goes_from_the_front_to_the_back_once(rt: HostRuntime) -> Result<(), Fail> {
+fn values_that_a_retain_writes_stay(rt: HostRuntime) -> Result<(), Fail> {
+    with_each_builder!(rt, retains_what_it_writes)
+}
+
+/// Retains that note the keys they are called on.
+fn retains_every_second<S: BuildHasher + Copy>(
+    rt: &impl Abort,
+    alloc: Global,
+    builder: S,
+) -> Result<(), Fail> {
     for written in [false, true] {
-        let mut cache = CLruCache::new(rt.alloc(), room(3)?);
+        let mut cache = CLruCache::with_hasher(alloc, room(3)?, builder);
         for (key, value) in [("a", 1), ("b", 2), ("c", 3)] {
             assert_eq!(rt; cache.put(key, value)?.replaced, None);
         }
-        let mut called = Vec::new(rt.alloc());
+        let mut called = Vec::new(alloc);
         let mut calls = 0u32;
         if written {
             cache.retain_mut(|key, _| {
@@ -70,20 +92,34 @@ fn a_retain_goes_from_the_front_to_the_back_once(rt: HostRuntime) -> Result<(), 
             });
         }
         assert_eq!(rt; (called.as_slice(), calls), (["c", "b", "a"].as_slice(), 3));
-        holds(&rt, &cache, &[("c", 3), ("a", 1)]);
+        holds(rt, &cache, &[("c", 3), ("a", 1)]);
     }
     Ok(())
 }
 
 #[test]
-fn the_weight_follows_a_retain(rt: HostRuntime) -> Result<(), Fail> {
-    let mut cache = CLruCache::with_scale(rt.alloc(), room(20)?, ByLength);
+fn a_retain_goes_from_the_front_to_the_back_once(rt: HostRuntime) -> Result<(), Fail> {
+    with_each_builder!(rt, retains_every_second)
+}
+
+/// A retain of a cache with a scale.
+fn retains_by_weight<S: BuildHasher + Copy>(
+    rt: &impl Abort,
+    alloc: Global,
+    builder: S,
+) -> Result<(), Fail> {
+    let mut cache = scaled(alloc, 20, builder, ByLength)?;
     for (key, value) in [(1, "a"), (2, "bbbb"), (3, "cc"), (4, "dddd")] {
         assert_eq!(rt; cache.put_with_weight(key, value, |_, _| {}), Ok(None));
     }
     assert_eq!(rt; cache.weight(), 11);
     cache.retain(|_, value| value.len() < 4);
     assert_eq!(rt; (cache.len(), cache.weight()), (2, 3));
-    holds(&rt, &cache, &[(3, "cc"), (1, "a")]);
+    holds(rt, &cache, &[(3, "cc"), (1, "a")]);
     Ok(())
+}
+
+#[test]
+fn the_weight_follows_a_retain(rt: HostRuntime) -> Result<(), Fail> {
+    with_each_builder!(rt, retains_by_weight)
 }

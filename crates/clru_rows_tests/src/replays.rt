@@ -1,9 +1,9 @@
 //! Whole lists of requests.
 
-use crate::lists::room;
-use clru::{DefaultState, Replay, replay};
+use clru::{Replay, replay};
+use clru_fixtures::sizes::room;
 use std::alloc::Global;
-use std::hash::Hash;
+use std::hash::{BuildHasher, Hash};
 use std::process::Abort;
 use std::test::Fail;
 
@@ -16,41 +16,43 @@ fn is_marked(answer: &Replay, letters: &[u8]) -> bool {
 }
 
 /// Asserts that a replay of the keys marks each request as the letters say.
-pub(crate) fn marks<K: Eq + Hash + Drop>(
+pub(crate) fn marks<K: Eq + Hash + Drop, S: BuildHasher + Copy>(
     rt: &impl Abort,
     alloc: Global,
     capacity: usize,
     keys: Vec<K>,
+    builder: S,
     letters: &str,
 ) -> Result<(), &'static str> {
-    let Ok(answer) = replay(alloc, room(capacity)?, keys, DefaultState) else {
+    let Ok(answer) = replay(alloc, room(capacity)?, keys, builder) else {
         return Err("the keys came back");
     };
     assert!(rt; is_marked(&answer, letters.as_bytes()), "of {letters}");
     Ok(())
 }
 
-#[test]
-fn replay_of_two_keys_misses_four_times(rt: HostRuntime) -> Result<(), Fail> {
-    let keys = Vec::from_array(rt.alloc(), ["a", "b", "c", "a"])?;
-    marks(&rt, rt.alloc(), 2, keys, "MMMM")?;
+/// A replay of texts.
+fn replays_texts<S: BuildHasher + Copy>(
+    rt: &impl Abort,
+    alloc: Global,
+    builder: S,
+) -> Result<(), Fail> {
+    let keys = Vec::from_array(alloc, ["a", "b", "c", "a"])?;
+    marks(rt, alloc, 2, keys, builder, "MMMM")?;
     Ok(())
 }
 
-/// The same for a key of each byte.
-fn marks_bytes(
-    rt: &impl Abort,
-    alloc: Global,
-    capacity: usize,
-    keys: &str,
-    letters: &str,
-) -> Result<(), &'static str> {
-    let keys = Vec::from_slice(alloc, keys.as_bytes()).map_err(|_| "no memory for the keys")?;
-    marks(rt, alloc, capacity, keys, letters)
+#[test]
+fn replay_of_two_keys_misses_four_times(rt: HostRuntime) -> Result<(), Fail> {
+    with_each_builder!(rt, replays_texts)
 }
 
-#[test]
-fn replay_marks_each_request(rt: HostRuntime) -> Result<(), Fail> {
+/// Replays of letters.
+fn replays_letters<S: BuildHasher + Copy>(
+    rt: &impl Abort,
+    alloc: Global,
+    builder: S,
+) -> Result<(), Fail> {
     let rows = [
         (3, "abca", "MMMH"),
         (3, "abcadbac", "MMMHMMHM"),
@@ -59,7 +61,13 @@ fn replay_marks_each_request(rt: HostRuntime) -> Result<(), Fail> {
         (usize::MAX, "aba", "MMH"),
     ];
     for (capacity, keys, letters) in rows {
-        marks_bytes(&rt, rt.alloc(), capacity, keys, letters)?;
+        let keys = Vec::from_slice(alloc, keys.as_bytes())?;
+        marks(rt, alloc, capacity, keys, builder, letters)?;
     }
     Ok(())
+}
+
+#[test]
+fn replay_marks_each_request(rt: HostRuntime) -> Result<(), Fail> {
+    with_each_builder!(rt, replays_letters)
 }

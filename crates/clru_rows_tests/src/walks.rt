@@ -1,11 +1,13 @@
 //! Walks over a cache: by an iterator, by value and by a cursor.
 
-use crate::lists::room;
-use clru_fixtures::scales::ByLength;
+use crate::lists::scaled;
 use crate::walks::End::{Back, Front};
 use clru::{CLruCache, CLruCacheIter};
+use clru_fixtures::scales::ByLength;
+use clru_fixtures::sizes::room;
 use std::alloc::Global;
 use std::fmt::Debug;
+use std::hash::BuildHasher;
 use std::process::Abort;
 use std::test::Fail;
 
@@ -176,34 +178,44 @@ fn walks<K: PartialEq + Copy + Debug, V: PartialEq + Copy + Debug>(
 }
 
 /// The cache of a walk.
-fn made(
+fn made<S: BuildHasher + Copy>(
     alloc: Global,
     walk: &Walk<&'static str, usize>,
-) -> Result<CLruCache<&'static str, usize>, Fail> {
-    let mut cache = CLruCache::new(alloc, room(walk.capacity)?);
+    builder: S,
+) -> Result<CLruCache<&'static str, usize, S>, Fail> {
+    let mut cache = CLruCache::with_hasher(alloc, room(walk.capacity)?, builder);
     for (key, value) in walk.pairs {
         cache.put(*key, *value)?;
     }
     Ok(cache)
 }
 
-#[test]
-fn an_iterator_gives_each_pair_once(rt: HostRuntime) -> Result<(), Fail> {
+/// Each walk by an iterator, by its copy, and by that of a reference.
+fn iterates<S: BuildHasher + Copy>(rt: &impl Abort, alloc: Global, builder: S) -> Result<(), Fail> {
     for walk in WALKS {
-        let cache = made(rt.alloc(), walk)?;
+        let cache = made(alloc, walk, builder)?;
         let iter = cache.iter();
         let copy = iter.clone()?;
-        walks(&rt, iter, walk);
-        walks(&rt, copy, walk);
-        walks(&rt, (&cache).into_iter(), walk);
+        walks(rt, iter, walk);
+        walks(rt, copy, walk);
+        walks(rt, (&cache).into_iter(), walk);
     }
     Ok(())
 }
 
 #[test]
-fn an_iterator_of_a_weighted_cache_gives_each_pair_once(rt: HostRuntime) -> Result<(), Fail> {
+fn an_iterator_gives_each_pair_once(rt: HostRuntime) -> Result<(), Fail> {
+    with_each_builder!(rt, iterates)
+}
+
+/// The same of a cache with a scale.
+fn iterates_by_weight<S: BuildHasher + Copy>(
+    rt: &impl Abort,
+    alloc: Global,
+    builder: S,
+) -> Result<(), Fail> {
     for walk in WEIGHTED_WALKS {
-        let mut cache = CLruCache::with_scale(rt.alloc(), room(walk.capacity)?, ByLength);
+        let mut cache = scaled(alloc, walk.capacity, builder, ByLength)?;
         for (key, value) in walk.pairs {
             cache.put_with_weight(*key, *value, |_, _| {})?;
         }
@@ -214,16 +226,25 @@ fn an_iterator_of_a_weighted_cache_gives_each_pair_once(rt: HostRuntime) -> Resu
             "{}",
             walk.name
         );
-        walks(&rt, cache.iter(), walk);
+        walks(rt, cache.iter(), walk);
     }
     Ok(())
 }
 
 #[test]
-fn a_cache_is_walked_by_value(rt: HostRuntime) -> Result<(), Fail> {
+fn an_iterator_of_a_weighted_cache_gives_each_pair_once(rt: HostRuntime) -> Result<(), Fail> {
+    with_each_builder!(rt, iterates_by_weight)
+}
+
+/// The same by value.
+fn iterates_by_value<S: BuildHasher + Copy>(
+    rt: &impl Abort,
+    alloc: Global,
+    builder: S,
+) -> Result<(), Fail> {
     for walk in WALKS {
         let mut left = walk.pairs.len();
-        let mut iter = made(rt.alloc(), walk)?.into_iter();
+        let mut iter = made(alloc, walk, builder)?.into_iter();
         for (end, pair) in walk.steps {
             let hint = iter.size_hint();
             assert_eq!(rt;
@@ -245,10 +266,15 @@ fn a_cache_is_walked_by_value(rt: HostRuntime) -> Result<(), Fail> {
 }
 
 #[test]
-fn a_cursor_passes_each_entry_once(rt: HostRuntime) -> Result<(), Fail> {
+fn a_cache_is_walked_by_value(rt: HostRuntime) -> Result<(), Fail> {
+    with_each_builder!(rt, iterates_by_value)
+}
+
+/// The same by a cursor.
+fn passes<S: BuildHasher + Copy>(rt: &impl Abort, alloc: Global, builder: S) -> Result<(), Fail> {
     for walk in WALKS {
         let mut left = walk.pairs.len();
-        let mut cache = made(rt.alloc(), walk)?;
+        let mut cache = made(alloc, walk, builder)?;
         let mut cursor = cache.iter_mut();
         for (end, pair) in walk.steps {
             assert_eq!(rt; cursor.len(), left, "{}", walk.name);
@@ -266,9 +292,18 @@ fn a_cursor_passes_each_entry_once(rt: HostRuntime) -> Result<(), Fail> {
 }
 
 #[test]
-fn a_cursor_takes_one_from_each_value(rt: HostRuntime) -> Result<(), Fail> {
+fn a_cursor_passes_each_entry_once(rt: HostRuntime) -> Result<(), Fail> {
+    with_each_builder!(rt, passes)
+}
+
+/// A cursor that writes each value.
+fn takes_one_from_each<S: BuildHasher + Copy>(
+    rt: &impl Abort,
+    alloc: Global,
+    builder: S,
+) -> Result<(), Fail> {
     for walk in WALKS {
-        let mut cache = made(rt.alloc(), walk)?;
+        let mut cache = made(alloc, walk, builder)?;
         let mut cursor = cache.iter_mut();
         for _ in walk.pairs {
             let Some(value) = cursor.next() else {
@@ -289,11 +324,20 @@ fn a_cursor_takes_one_from_each_value(rt: HostRuntime) -> Result<(), Fail> {
 }
 
 #[test]
-fn what_a_cursor_wrote_from_both_ends_is_held(rt: HostRuntime) -> Result<(), Fail> {
+fn a_cursor_takes_one_from_each_value(rt: HostRuntime) -> Result<(), Fail> {
+    with_each_builder!(rt, takes_one_from_each)
+}
+
+/// A cursor that writes at both ends.
+fn writes_from_both_ends<S: BuildHasher + Copy>(
+    rt: &impl Abort,
+    alloc: Global,
+    builder: S,
+) -> Result<(), Fail> {
     let Some(walk) = WALKS.first() else {
         return Ok(());
     };
-    let mut cache = made(rt.alloc(), walk)?;
+    let mut cache = made(alloc, walk, builder)?;
     {
         let mut cursor = cache.iter_mut();
         if cursor.len() > 0 {
@@ -318,11 +362,20 @@ fn what_a_cursor_wrote_from_both_ends_is_held(rt: HostRuntime) -> Result<(), Fai
 }
 
 #[test]
-fn a_cursor_writes_to_a_cache_that_was_touched(rt: HostRuntime) -> Result<(), Fail> {
+fn what_a_cursor_wrote_from_both_ends_is_held(rt: HostRuntime) -> Result<(), Fail> {
+    with_each_builder!(rt, writes_from_both_ends)
+}
+
+/// Cursors between look-ups.
+fn writes_after_a_touch<S: BuildHasher + Copy>(
+    rt: &impl Abort,
+    alloc: Global,
+    builder: S,
+) -> Result<(), Fail> {
     let Some(walk) = WALKS.first() else {
         return Ok(());
     };
-    let mut cache = made(rt.alloc(), walk)?;
+    let mut cache = made(alloc, walk, builder)?;
     // The cursor's places are those of the order of its time.
     for _ in 0..2 {
         let mut cursor = cache.iter_mut();
@@ -349,6 +402,11 @@ fn a_cursor_writes_to_a_cache_that_was_touched(rt: HostRuntime) -> Result<(), Fa
         assert_eq!(rt; (*key, *value), want);
     }
     Ok(())
+}
+
+#[test]
+fn a_cursor_writes_to_a_cache_that_was_touched(rt: HostRuntime) -> Result<(), Fail> {
+    with_each_builder!(rt, writes_after_a_touch)
 }
 
 /// A step from an end of the list at each entry would take minutes.

@@ -1,7 +1,8 @@
 //! A caller: it counts words.
 
-use crate::lists::{holds, room};
+use crate::lists::holds;
 use clru::{CLruCache, NonZeroUsize};
+use clru_fixtures::sizes::room;
 use std::alloc::{AllocError, Global};
 use std::test::Fail;
 

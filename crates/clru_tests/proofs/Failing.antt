@@ -1,5 +1,5 @@
 -- A put that can't succeed is a look-up: its put operation always fails, and its modify operation writes nothing.
-use Rattle.std.proofs.Common.{◌≡◌, Bool, false, Option, Some, None, is_some, Result, Ok, Err, List, refl, sym, ap, ◌∙◌}
+use Rattle.std.proofs.Common.{◌≡◌, Bool, Some, None, is_some, Result, Ok, Err, List, refl, sym, ap, ◌∙◌}
 use Rattle.std.specs.Borrow.{Bor, MutBor}
 use Rattle.std.specs.Fn.{Mut, Called}
 use Rattle.std.specs.Map.{lookup, lookup_entry}

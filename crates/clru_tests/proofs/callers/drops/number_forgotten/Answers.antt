@@ -1,4 +1,4 @@
-use Rattle.std.proofs.Common.{rules, ◌≡◌, nat_eq, length, ◌+◌, ◌<◌, ◌≤◌, List, [], ◌∷◌, ◌++◌, refl, arith, ap, length-append}
+use Rattle.std.proofs.Common.{rules, ◌≡◌, nat_eq, length, ◌+◌, ◌<◌, [], ◌∷◌, refl, arith, ap, length-append}
 use Rattle.clru.specs.Entries.{weighted_drops}
 use Rattle.clru.proofs.CallerLemmas.{handed_keeps, takes_each, length-weighted_drops}
 use Rattle.clru_tests.specs.contracts.callers.drops.fn.number_forgotten.put_with_weight_handing_to as closure

@@ -1,4 +1,4 @@
-use Rattle.std.proofs.Common.{rules, ◌≡◌, nat_eq, length, refl, ap, ◌∙◌, arith}
+use Rattle.std.proofs.Common.{rules, nat_eq, length, refl, ap, ◌∙◌, arith}
 use Rattle.std.specs.Map.{lookup}
 use Rattle.std.specs.Cmp.{nat_eq_equiv}
 use Rattle.clru.proofs.CallerLemmas.{length-without, lookup-removed}

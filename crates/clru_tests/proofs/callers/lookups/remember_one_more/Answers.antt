@@ -1,4 +1,4 @@
-use Rattle.std.proofs.Common.{rules, ◌≡◌, ◌≤◌, nat_eq, length, arith}
+use Rattle.std.proofs.Common.{rules, ◌≤◌, nat_eq, length, arith}
 use Rattle.clru.proofs.CallerLemmas.{length-plain_put}
 use Rattle.clru_tests.proofs.callers.lookups.remember_one_more.Goals as goal
 

@@ -1,4 +1,4 @@
-use Rattle.std.proofs.Common.{◌≡◌, ◌-◌, Some, slice_get, refl, sym, ap, ◌∙◌, arith}
+use Rattle.std.proofs.Common.{◌≡◌, ◌-◌, slice_get, refl, sym, ap, ◌∙◌, arith}
 use Rattle.clru.specs.Walks.{cache_with, last_number}
 use Rattle.clru.proofs.CursorSteps.{passes_back, last-left}
 use Rattle.clru.proofs.iter.cursor.CLruCacheIterMut.next_entry_back.Goals as goal
