@@ -5,8 +5,8 @@ ghost use Rattle.std.specs.Map.{lookup};
 use clru::{CLruCache, NonZeroUsize};
 use std::hash::Hash;
 
-/// Forgets the pages that are not larger than the size.
-pub fn forget_smaller(sizes: &mut CLruCache<u64, u64>, size: u64)
+/// Keeps the pages that are larger than the size.
+pub fn keep_larger(sizes: &mut CLruCache<u64, u64>, size: u64)
     ensures { sizes.new.entries ≡ filter (λ e. nat_lt size e.1) sizes.old.entries }
 {
     sizes.retain(
