@@ -34,6 +34,8 @@ mod ends;
 #[cfg(test)]
 mod extends;
 #[cfg(test)]
+mod fails;
+#[cfg(test)]
 mod lawful;
 #[cfg(test)]
 mod laws;
