@@ -3,6 +3,7 @@ ghost use Rattle.std.specs.Prelude.{length};
 
 use crate::adding::{Plain, counts, room};
 use crate::makers::free_places;
+use crate::owned::puts;
 use crate::whole::is_whole;
 use clru::{
     CLruCache, CLruCacheConfig, DefaultState, NoMemory, Put, PutError, TryPutError, WeightScale,
@@ -252,9 +253,7 @@ fn a_weighted_put_without_a_place_gives_its_pair_back(rt: HostRuntime) -> Result
         let asked = heap.asked();
         let mut gone = Vec::new(rt.alloc());
         let (key, value) = row.pair;
-        let answer = cache.put_with_weight(key, value, |key, value| {
-            let _ = gone.push((key, value));
-        });
+        let answer = puts(&mut cache, key, value, &mut gone);
         assert!(rt; answer == row.answer, "{key}");
         assert_eq!(rt; gone.as_slice(), row.handed_out, "{key}");
         assert_eq!(rt;
