@@ -1,104 +1,142 @@
 //! Memory that is refused: in each call that may want some, each request in turn, until a run meets no refusal.
 
+use crate::entries::has;
 use clru_list::{FixedSizeList, NoMemory, PushError};
 use ration::Rationed;
-use std::alloc::Global;
+use std::alloc::{AllocError, Allocator, Global};
 use std::process::Abort;
 use std::test::Fail;
 
 type Numbers<'a> = FixedSizeList<u64, &'a Rationed<Global>>;
 
-/// Asserts that the list holds the numbers below `stored`, the highest first, and takes them out.
-fn takes_out_those_below(rt: &impl Abort, list: &mut Numbers, stored: u64) {
-    assert_eq!(rt; list.len() as u64, stored);
-    for number in (0..stored).rev() {
-        assert_eq!(rt; list.pop_front(), Some(number));
-    }
-    assert!(rt; list.is_empty());
+/// An end of a list that a push puts to.
+#[derive(Clone, Copy, Debug)]
+enum End {
+    Front,
+    Back,
 }
 
-/// Pushes the numbers 0 to 8 to the front. Returns how many went in, which are those before the first refusal.
-fn pushes(rt: &impl Abort, heap: &Rationed<Global>, list: &mut Numbers) -> u64 {
-    let mut stored = 0;
-    for number in 0..9u64 {
-        let before = heap.refused();
-        let places = list.places();
-        match list.push_front(number) {
-            Ok(place) => {
-                assert_eq!(rt; (list.front_idx(), number), (Some(place), stored));
-                stored = number + 1;
-            }
-            Err(refusal) => {
-                assert_eq!(rt; refusal, PushError::NoMemory(number));
-                assert_eq!(rt; list.places(), places);
-                assert!(rt; heap.refused() > before, "a refusal of {number}");
-            }
+const ENDS: [End; 2] = [End::Front, End::Back];
+
+/// Pushes a number, and keeps its entry where it went in. Returns whether it was refused. A push asks once where each
+/// place is taken, and else not at all; a refusal comes of a request, and leaves all as it was.
+fn pushes<A: Allocator + Copy>(
+    rt: &impl Abort,
+    heap: &Rationed<Global>,
+    list: &mut Numbers,
+    entries: &mut Vec<(usize, u64), A>,
+    end: End,
+    number: u64,
+) -> Result<bool, AllocError> {
+    let (asked, refused) = (heap.asked(), heap.refused());
+    let (len, places) = (list.len(), list.places());
+    let (pushed, at) = match end {
+        End::Front => (list.push_front(number), 0),
+        End::Back => (list.push_back(number), entries.len()),
+    };
+    let is_refused = pushed.is_err();
+    match pushed {
+        Ok(place) => entries.insert(at, (place, number))?,
+        Err(refusal) => {
+            assert_eq!(rt;
+                (refusal, list.places()),
+                (PushError::NoMemory(number), places)
+            );
         }
-        assert_eq!(rt; (list.len() as u64, list.capacity()), (stored, 9));
     }
-    stored
+    assert_eq!(rt;
+        (
+            heap.asked().wrapping_sub(asked),
+            heap.refused().wrapping_sub(refused)
+        ),
+        ((len == places) as u64, is_refused as u64),
+        "{number} to the {end:?}"
+    );
+    assert_eq!(rt; list.capacity(), 9);
+    has(rt, list, entries.as_slice());
+    Ok(is_refused)
 }
 
 #[test]
-fn push_front_gives_the_item_back(rt: HostRuntime) -> Result<(), Fail> {
-    for n in 0..20u64 {
+fn each_refused_push_gives_the_item_back(rt: HostRuntime) -> Result<(), Fail> {
+    // Three growths: to 4, 8 and 9 places.
+    for end in ENDS {
+        for n in 0..=3u64 {
+            let heap = Rationed::new(rt.alloc());
+            {
+                let mut list = FixedSizeList::new(&heap, 9);
+                let mut entries = Vec::new(rt.alloc());
+                heap.refuse_after(n);
+                for number in 0..9u64 {
+                    pushes(&rt, &heap, &mut list, &mut entries, end, number)?;
+                }
+                assert_eq!(rt;
+                    (list.len() as u64, heap.refused() == 0),
+                    ((n * 4).min(9), n == 3),
+                    "{end:?} after {n}"
+                );
+            }
+            assert_eq!(rt; heap.blocks(), 0, "{end:?} after {n}");
+        }
+    }
+    Ok(())
+}
+
+#[test]
+fn a_refused_push_can_be_made_again(rt: HostRuntime) -> Result<(), Fail> {
+    for end in ENDS {
         let heap = Rationed::new(rt.alloc());
         {
             let mut list = FixedSizeList::new(&heap, 9);
-            heap.refuse_after(n);
-            let stored = pushes(&rt, &heap, &mut list);
-            heap.refuse_none();
-            takes_out_those_below(&rt, &mut list, stored);
-        }
-        assert_eq!(rt; heap.blocks(), 0);
-        if heap.refused() == 0 {
-            assert!(rt; n > 0, "there was a request to refuse");
-            return Ok(());
-        }
-    }
-    Err("each run met a refusal".into())
-}
-
-#[test]
-fn a_refused_push_back_can_be_made_again(rt: HostRuntime) -> Result<(), Fail> {
-    let heap = Rationed::new(rt.alloc());
-    {
-        let mut list = FixedSizeList::new(&heap, 9);
-        for number in (0..9u64).rev() {
-            heap.refuse_one_after(0);
-            let before = heap.refused();
-            if let Err(refusal) = list.push_back(number) {
-                assert_eq!(rt; refusal, PushError::NoMemory(number));
-                assert!(rt; heap.refused() > before, "a refusal of {number}");
-                assert_eq!(rt; list.push_back(number).is_ok(), true);
+            let mut entries = Vec::new(rt.alloc());
+            for number in 0..9u64 {
+                heap.refuse_one_after(0);
+                if pushes(&rt, &heap, &mut list, &mut entries, end, number)? {
+                    let again = pushes(&rt, &heap, &mut list, &mut entries, end, number)?;
+                    assert!(rt; !again, "{number} to the {end:?}");
+                }
             }
+            assert_eq!(rt; (list.len(), heap.refused()), (9, 3), "{end:?}");
         }
-        takes_out_those_below(&rt, &mut list, 9);
+        assert_eq!(rt; heap.blocks(), 0, "{end:?}");
     }
-    assert!(rt; heap.refused() > 0);
-    assert_eq!(rt; heap.blocks(), 0);
     Ok(())
 }
 
 #[test]
 fn make_ready_changes_nothing_where_it_is_refused(rt: HostRuntime) -> Result<(), Fail> {
-    for n in 0..20u64 {
+    // The items that are held, and the places before the call and after it.
+    for (held, before, after) in [(0u64, 0, 4), (4, 4, 8), (8, 8, 9)] {
         let heap = Rationed::new(rt.alloc());
         {
-            let mut list: Numbers = FixedSizeList::new(&heap, 9);
-            heap.refuse_after(n);
-            let ready = list.make_ready();
-            if heap.refused() == 0 {
-                assert_eq!(rt; (ready, list.len()), (Ok(()), 0));
-                assert!(rt; n > 0, "there was a request to refuse");
-                assert!(rt; list.places() > 0);
-                return Ok(());
+            let mut list = FixedSizeList::new(&heap, 9);
+            let mut entries = Vec::new(rt.alloc());
+            for number in 0..held {
+                pushes(&rt, &heap, &mut list, &mut entries, End::Back, number)?;
             }
-            assert_eq!(rt; (ready, list.places(), list.len()), (Err(NoMemory), 0, 0));
+            let asked = heap.asked();
+            for (n, ready, places) in [
+                (0, Err(NoMemory), before),
+                (1, Ok(()), after),
+                (0, Ok(()), after),
+            ] {
+                heap.refuse_after(n);
+                assert_eq!(rt;
+                    (list.make_ready(), list.places()),
+                    (ready, places),
+                    "of {held}"
+                );
+                has(&rt, &list, entries.as_slice());
+            }
+            assert_eq!(rt;
+                (heap.asked().wrapping_sub(asked), heap.refused()),
+                (2, 1),
+                "of {held}: a ready list asks for nothing"
+            );
         }
-        assert_eq!(rt; heap.blocks(), 0);
+        assert_eq!(rt; heap.blocks(), 0, "of {held}");
     }
-    Err("each run met a refusal".into())
+    Ok(())
 }
 
 #[test]
@@ -113,7 +151,9 @@ fn the_maker_gives_its_block_back(rt: HostRuntime) -> Result<(), Fail> {
                 assert!(rt; n > 0, "there was a request to refuse");
                 return Ok(());
             }
-            Err(NoMemory) => assert_eq!(rt; (heap.refused(), heap.blocks()), (1, 0)),
+            Err(NoMemory) => {
+                assert_eq!(rt; (heap.asked(), heap.refused(), heap.blocks()), (1, 1, 0));
+            }
         }
     }
     Err("each run met a refusal".into())

@@ -46,6 +46,10 @@ fn a_growth_asks_once_and_no_other_call_does(rt: HostRuntime) -> Result<(), Fail
     assert_eq!(rt; (list.len(), list.places(), heap.asked()), (4, 4, 1));
     heap.refuse_after(0);
     let back = list.back_idx().ok_or("there is an item")?;
+    assert_eq!(rt;
+        (list.place_at(0), list.place_at_back(3)),
+        (list.front_idx(), Some(back))
+    );
     assert_eq!(rt; list.move_front(back).copied(), Some(0));
     assert_eq!(rt; list.remove(back), Some(0));
     assert!(rt; list.push_back(0).is_ok(), "a free place");

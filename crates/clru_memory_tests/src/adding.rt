@@ -22,14 +22,16 @@ pub(crate) type Plain<'a> = CLruCache<
 pub(crate) enum Adding {
     Put,
     PutWithWeight,
+    PutWithWeightHandingTo,
     PutOrModify,
     TryPutOrModify,
 }
 
 /// All of them.
-pub(crate) const ADDING: [Adding; 4] = [
+pub(crate) const ADDING: [Adding; 5] = [
     Adding::Put,
     Adding::PutWithWeight,
+    Adding::PutWithWeightHandingTo,
     Adding::PutOrModify,
     Adding::TryPutOrModify,
 ];
@@ -49,6 +51,11 @@ pub(crate) fn room(n: usize) -> Result<NonZeroUsize, &'static str> {
     NonZeroUsize::new(n).ok_or("a capacity is no 0")
 }
 
+/// Counts one more.
+pub(crate) fn counts(count: &Cell<u64>) {
+    count.set(count.get().wrapping_add(1));
+}
+
 /// Puts a pair by one of the calls, and returns the old value of its key, or the pair that was refused.
 pub(crate) fn adds<K: Eq + Hash + Drop, V: Drop, A: Allocator + Copy>(
     cache: &mut CLruCache<K, V, DefaultState, ZeroWeightScale, A>,
@@ -56,31 +63,54 @@ pub(crate) fn adds<K: Eq + Hash + Drop, V: Drop, A: Allocator + Copy>(
     key: K,
     value: V,
 ) -> Result<Option<V>, (K, V)> {
+    adds_counting(cache, call, key, value, &Cell::new(0))
+}
+
+/// Does the same, and counts the calls of its closures.
+pub(crate) fn adds_counting<K: Eq + Hash + Drop, V: Drop, A: Allocator + Copy>(
+    cache: &mut CLruCache<K, V, DefaultState, ZeroWeightScale, A>,
+    call: Adding,
+    key: K,
+    value: V,
+    called: &Cell<u64>,
+) -> Result<Option<V>, (K, V)> {
     match call {
         Adding::Put => match cache.put(key, value) {
             Ok(put) => Ok(put.replaced),
             Err(pair) => Err(pair),
         },
-        Adding::PutWithWeight => match cache.put_with_weight(key, value, |_, _| {}) {
-            Ok(old) => Ok(old),
-            Err(PutError::TooHeavy(key, value)) => Err((key, value)),
-            Err(PutError::NoMemory(key, value)) => Err((key, value)),
-        },
+        Adding::PutWithWeight => weighed(cache.put_with_weight(key, value, |_, _| counts(called))),
+        Adding::PutWithWeightHandingTo => {
+            let mut on_drop = |_, _| counts(called);
+            weighed(cache.put_with_weight_handing_to(key, value, &mut on_drop))
+        }
         Adding::PutOrModify => {
             let old = Cell::new(None);
-            let modify = |_: &K, held: &mut V, new| old.set(Some(mem::replace(held, new)));
-            match cache.put_or_modify(key, |_, new| new, modify, value) {
+            let put = |_: &K, new| {
+                counts(called);
+                new
+            };
+            let modify = |_: &K, held: &mut V, new| {
+                counts(called);
+                old.set(Some(mem::replace(held, new)));
+            };
+            match cache.put_or_modify(key, put, modify, value) {
                 Ok(_) => Ok(old.into_inner()),
                 Err(back) => Err(back),
             }
         }
         Adding::TryPutOrModify => {
             let old = Cell::new(None);
+            let put = |_: &K, new| {
+                counts(called);
+                Ok::<V, Never>(new)
+            };
             let modify = |_: &K, held: &mut V, new| {
+                counts(called);
                 old.set(Some(mem::replace(held, new)));
                 Ok(())
             };
-            match cache.try_put_or_modify(key, |_, new| Ok::<V, Never>(new), modify, value) {
+            match cache.try_put_or_modify(key, put, modify, value) {
                 Ok(_) => Ok(old.into_inner()),
                 Err(refusal) => match refusal {
                     TryPutError::NoMemory(key, value) => Err((key, value)),
@@ -88,6 +118,23 @@ pub(crate) fn adds<K: Eq + Hash + Drop, V: Drop, A: Allocator + Copy>(
                 },
             }
         }
+    }
+}
+
+/// The answer of a weighted put, with a pair that comes back whatever refused it.
+fn weighed<K: Drop, V: Drop>(put: Result<Option<V>, PutError<K, V>>) -> Result<Option<V>, (K, V)> {
+    match put {
+        Ok(old) => Ok(old),
+        Err(PutError::TooHeavy(key, value)) => Err((key, value)),
+        Err(PutError::NoMemory(key, value)) => Err((key, value)),
+    }
+}
+
+/// How often a call that stores a new pair and drops none calls a closure.
+pub(crate) fn closures_of(call: Adding) -> u64 {
+    match call {
+        Adding::PutOrModify | Adding::TryPutOrModify => 1,
+        Adding::Put | Adding::PutWithWeight | Adding::PutWithWeightHandingTo => 0,
     }
 }
 

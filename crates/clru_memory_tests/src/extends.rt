@@ -3,6 +3,7 @@
 use crate::adding::{Plain, room, takes_out_those_below};
 use crate::costs::REQUESTS;
 use crate::owned::text;
+use crate::whole::holds_those_below;
 use clru::{CLruCache, DefaultState, NoMemory};
 use ration::Rationed;
 use std::alloc::{AllocError, Global};
@@ -45,11 +46,10 @@ fn each_refusal_ends_an_extend(rt: HostRuntime) -> Result<(), Fail> {
                     "after {n}: none behind it is drawn, and nothing is asked again"
                 );
             }
+            holds_those_below(&rt, &cache, stored);
             heap.refuse_none();
             assert_eq!(rt; extends(&mut cache, stored, 9, &drawn), Ok(()), "after {n}");
-            for key in 0..9u64 {
-                assert!(rt; cache.contains(&key), "{key} after {n}");
-            }
+            holds_those_below(&rt, &cache, 9);
             takes_out_those_below(&rt, &mut cache, 9);
         }
         assert_eq!(rt; heap.blocks(), 0, "after {n}");
@@ -83,6 +83,7 @@ fn each_refusal_ends_a_from_iter(rt: HostRuntime) -> Result<(), Fail> {
             Ok(mut cache) => {
                 assert_eq!(rt; (n, drawn.get(), heap.refused()), (3 * REQUESTS, 9, 0));
                 assert_eq!(rt; (cache.capacity(), heap.asked()), (9, n));
+                holds_those_below(&rt, &cache, 9);
                 takes_out_those_below(&rt, &mut cache, 9);
             }
             Err(NoMemory) => {

@@ -3,6 +3,7 @@
 use crate::adding::{Plain, room};
 use crate::costs::REQUESTS;
 use crate::owned::{blocks_of, text};
+use crate::whole::is_whole;
 use clru::{CLruCache, DefaultState, TryPutError, ZeroWeightScale};
 use ration::Rationed;
 use std::alloc::{AllocError, Allocator, Global};
@@ -49,15 +50,21 @@ fn no_closure_is_called_by_a_refused_try(rt: HostRuntime) -> Result<(), Fail> {
     let calls = Cell::new(0u64);
     let mut cache = CLruCache::new(&heap, room(2)?);
     let rows = [
-        (1u64, true, Err(TryPutError::NoMemory(1u64, 10u64)), 0),
-        (1, false, Err(TryPutError::Failed(1)), 1),
-        (1, true, Err(TryPutError::Failed(1)), 2),
-        (2, true, Ok(12), 3),
-        (4, true, Ok(14), 4),
-        (3, true, Err(TryPutError::Failed(3)), 5),
-        (2, true, Ok(22), 6),
+        (
+            1u64,
+            true,
+            Err(TryPutError::NoMemory(1u64, 10u64)),
+            0,
+            &[] as &[(u64, u64)],
+        ),
+        (1, false, Err(TryPutError::Failed(1)), 1, &[]),
+        (1, true, Err(TryPutError::Failed(1)), 2, &[]),
+        (2, true, Ok(12), 3, &[(2, 12)]),
+        (4, true, Ok(14), 4, &[(4, 14), (2, 12)]),
+        (3, true, Err(TryPutError::Failed(3)), 5, &[(4, 14), (2, 12)]),
+        (2, true, Ok(22), 6, &[(2, 22), (4, 14)]),
     ];
-    for (key, refuses, answer, made) in rows {
+    for (key, refuses, answer, made, list) in rows {
         heap.refuse_none();
         if refuses {
             heap.refuse_after(0);
@@ -78,6 +85,7 @@ fn no_closure_is_called_by_a_refused_try(rt: HostRuntime) -> Result<(), Fail> {
         let lent = cache.try_put_or_modify(key, put, modify, 10);
         assert_eq!(rt; lent.map(|value| *value), answer, "{key}");
         assert_eq!(rt; calls.get(), made, "{key}");
+        is_whole(&rt, &cache, list);
     }
     Ok(())
 }

@@ -22,6 +22,10 @@ mod removals;
 #[cfg(test)]
 mod replays;
 #[cfg(test)]
+mod rows;
+#[cfg(test)]
 mod unasked;
 #[cfg(test)]
 mod walks;
+#[cfg(test)]
+mod whole;

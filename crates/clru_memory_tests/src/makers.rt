@@ -37,7 +37,7 @@ fn makes<'a>(
 }
 
 /// How many new keys go in before one is refused or the first one goes, where each request is refused.
-fn free_places(heap: &Rationed<Global>, cache: &mut Plain) -> u64 {
+pub(crate) fn free_places(heap: &Rationed<Global>, cache: &mut Plain) -> u64 {
     heap.refuse_after(0);
     let mut put = 0;
     for key in 0..2000u64 {
@@ -101,17 +101,6 @@ fn each_refusal_leaves_no_block(rt: HostRuntime) -> Result<(), Fail> {
             );
             assert_eq!(rt; heap.blocks(), 0, "{maker:?} after {n}");
         }
-    }
-    Ok(())
-}
-
-#[test]
-fn a_reserve_that_can_not_be_counted_asks_for_nothing(rt: HostRuntime) -> Result<(), Fail> {
-    for maker in MAKERS {
-        let heap = Rationed::new(rt.alloc());
-        let made = makes(&heap, maker, room(usize::MAX)?, usize::MAX);
-        assert!(rt; made.is_err(), "{maker:?}");
-        assert_eq!(rt; (heap.asked(), heap.blocks()), (0, 0), "{maker:?}");
     }
     Ok(())
 }

@@ -121,7 +121,7 @@ fn a_pair_that_a_put_drops_is_held_by_its_answer_alone(rt: HostRuntime) -> Resul
 }
 
 /// Makes a weighted put, and adds what it hands out to `gone`.
-fn puts<K: Eq + Hash + Drop, V: Drop, W: WeightScale<K, V>, A: Allocator + Copy>(
+pub(crate) fn puts<K: Eq + Hash + Drop, V: Drop, W: WeightScale<K, V>, A: Allocator + Copy>(
     cache: &mut CLruCache<K, V, DefaultState, W, A>,
     key: K,
     value: V,

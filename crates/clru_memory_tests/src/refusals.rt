@@ -1,7 +1,10 @@
 //! Memory that is refused: in each call that may want some, each request in turn, until a run meets no refusal.
 
-use crate::adding::{ADDING, Adding, Plain, adds, room, takes_out_those_below};
+use crate::adding::{
+    ADDING, Adding, Plain, adds, adds_counting, closures_of, room, takes_out_those_below,
+};
 use crate::costs::REQUESTS;
+use crate::whole::{holds_those_below, is_whole};
 use clru::CLruCache;
 use ration::Rationed;
 use std::alloc::Global;
@@ -10,12 +13,12 @@ use std::process::Abort;
 use std::test::Fail;
 
 /// Adds the keys 0 to 8. Returns how many went in, which are those before the first refusal. A call that is refused met
-/// one refusal and asks for no more.
+/// one refusal, asks for no more and calls no closure. After each the cache is whole.
 fn adds_nine(rt: &impl Abort, heap: &Rationed<Global>, cache: &mut Plain, call: Adding) -> u64 {
-    let mut stored = 0;
+    let (mut stored, called) = (0u64, Cell::new(0));
     for key in 0..9u64 {
         let (asked, refused) = (heap.asked(), heap.refused());
-        match adds(cache, call, key, key + 10) {
+        match adds_counting(cache, call, key, key + 10, &called) {
             Ok(old) => {
                 assert_eq!(rt; (old, key, heap.refused()), (None, stored, refused));
                 stored = key + 1;
@@ -34,9 +37,10 @@ fn adds_nine(rt: &impl Abort, heap: &Rationed<Global>, cache: &mut Plain, call: 
             }
         }
         assert_eq!(rt;
-            (cache.len() as u64, cache.weight(), cache.capacity()),
-            (stored, 0, 9)
+            (called.get(), cache.weight(), cache.capacity()),
+            (stored.wrapping_mul(closures_of(call)), 0, 9)
         );
+        holds_those_below(rt, cache, stored);
     }
     stored
 }
@@ -79,6 +83,7 @@ fn refused_keys(
         heap.refuse_one_after(n);
         if adds(cache, call, pair.0, pair.1).is_err() {
             met[key] = true;
+            holds_those_below(rt, cache, pair.0);
             heap.refuse_none();
             assert_eq!(rt;
                 adds(cache, call, pair.0, pair.1),
@@ -116,13 +121,13 @@ fn no_closure_is_called_by_a_refused_call(rt: HostRuntime) -> Result<(), Fail> {
     let (made, modified) = (Cell::new(0u64), Cell::new(0u64));
     let mut cache = CLruCache::new(&heap, room(2)?);
     let rows = [
-        (1u64, true, Err((1u64, 10u64)), 0, 0),
-        (1, false, Ok(11), 1, 0),
-        (1, true, Ok(21), 1, 1),
-        (2, true, Ok(12), 2, 1),
-        (3, true, Ok(13), 3, 1),
+        (1u64, true, Err((1u64, 10u64)), 0, 0, &[] as &[(u64, u64)]),
+        (1, false, Ok(11), 1, 0, &[(1, 11)]),
+        (1, true, Ok(21), 1, 1, &[(1, 21)]),
+        (2, true, Ok(12), 2, 1, &[(2, 12), (1, 21)]),
+        (3, true, Ok(13), 3, 1, &[(3, 13), (2, 12)]),
     ];
-    for (key, refuses, answer, calls, changes) in rows {
+    for (key, refuses, answer, calls, changes, list) in rows {
         heap.refuse_none();
         if refuses {
             heap.refuse_after(0);
@@ -138,6 +143,7 @@ fn no_closure_is_called_by_a_refused_call(rt: HostRuntime) -> Result<(), Fail> {
         let lent = cache.put_or_modify(key, put, modify, 10);
         assert_eq!(rt; lent.map(|value| *value), answer, "{key}");
         assert_eq!(rt; (made.get(), modified.get()), (calls, changes), "{key}");
+        is_whole(&rt, &cache, list);
     }
     Ok(())
 }

@@ -57,20 +57,26 @@ fn a_replay_asks_for_its_places_and_its_marks(rt: HostRuntime) -> Result<(), Fai
 
 #[test]
 fn a_replay_gives_the_keys_back(rt: HostRuntime) -> Result<(), Fail> {
-    for n in 0..=REQUESTS {
+    for n in 0..=REQUESTS + 1 {
         let heap = Rationed::new(rt.alloc());
         let keys = Vec::from_slice(&heap, &[1u64, 2, 3, 1])?;
         heap.refuse_after(n);
-        let Err(keys) = replay(&heap, room(2)?, keys, DefaultState) else {
-            return Err("a request was refused".into());
-        };
-        assert_eq!(rt; keys.as_slice(), [1u64, 2, 3, 1].as_slice());
-        assert_eq!(rt;
-            (heap.asked(), heap.refused()),
-            (n + 2, 1),
-            "nothing is asked again"
-        );
-        assert_eq!(rt; heap.blocks(), 1, "the keys alone are left");
+        match replay(&heap, room(2)?, keys, DefaultState) {
+            Ok(answer) => {
+                assert_eq!(rt; (n, heap.refused()), (REQUESTS + 1, 0));
+                assert_eq!(rt; (answer.marks.len(), answer.misses), (4, 4));
+            }
+            Err(keys) => {
+                assert_eq!(rt; keys.as_slice(), [1u64, 2, 3, 1].as_slice());
+                assert_eq!(rt;
+                    (heap.asked(), heap.refused()),
+                    (n + 2, 1),
+                    "nothing is asked again"
+                );
+                assert_eq!(rt; heap.blocks(), 1, "the keys alone are left");
+            }
+        }
+        assert_eq!(rt; heap.blocks(), 0, "after {n}");
     }
     Ok(())
 }

@@ -1,14 +1,13 @@
 //! Tables of lists of pairs that a cache is extended by.
 
 use crate::tables::{Table, runs};
-use clru::{CLruCache, PutError};
+use clru::CLruCache;
 use clru_fixtures::builders::CONSTANTS;
 use clru_fixtures::sizes::room;
-use clru_runs::Answer::{self, Extended, Flag, Lent, Weighed};
-use clru_runs::Call::{IsFull, PutWithWeight};
-use clru_runs::ListCall::{self, Extend, Plain};
-use clru_runs::PlainCall::{Any, PutOrModify};
-use ration::Rationed;
+use clru_runs::Answer::{Extended, Flag};
+use clru_runs::Call::IsFull;
+use clru_runs::ListCall::{Extend, Plain};
+use clru_runs::PlainCall::Any;
 use std::test::Fail;
 
 type Pair = (&'static str, u64);
@@ -90,27 +89,4 @@ fn pairs_are_put_in_turn(rt: HostRuntime) -> Result<(), Fail> {
         }
     }
     Ok(())
-}
-
-#[test]
-fn a_refused_put_ends_it(rt: HostRuntime) -> Result<(), Fail> {
-    let heap = Rationed::new(rt.alloc());
-    let mut cache = CLruCache::with_memory(&heap, room(5)?, 2)?;
-    heap.refuse_after(0);
-    let pairs = Vec::from_array(rt.alloc(), [("a", 1), ("b", 2), ("c", 3), ("d", 4)])?;
-    let rows: [(ListCall<_, _>, Answer<_, _>); 3] = [
-        (Extend(pairs), Extended(Err(("c", 3)))),
-        (Plain(PutOrModify("e", 9)), Lent(Err(("e", 9)))),
-        (
-            Plain(Any(PutWithWeight("e", 9))),
-            Weighed(Err(PutError::NoMemory("e", 9))),
-        ),
-    ];
-    let table = Table {
-        name: "a_refused_put_ends_it",
-        capacity: 5,
-        rows: rows.as_slice(),
-        list: &[("b", 2), ("a", 1)],
-    };
-    runs(&rt, rt.alloc(), &table, &mut cache)
 }
