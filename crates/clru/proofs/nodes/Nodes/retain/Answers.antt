@@ -1,4 +1,4 @@
-use Rattle.std.proofs.Common.{Some, true, false, refl, sym, ap, ◌∙◌, arith}
+use Rattle.std.proofs.Common.{true, false, refl, sym, ap, ◌∙◌, arith}
 use Rattle.clru.specs.Entries.{weight_of}
 use Rattle.clru.specs.Retains.{CalledAtShownPair, TakesShownPair}
 use Rattle.clru_list.specs.PlaceList.{place_list, without}

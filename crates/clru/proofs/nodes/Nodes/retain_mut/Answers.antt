@@ -1,6 +1,6 @@
-use Rattle.std.proofs.Common.{◌≡◌, Some, None, true, false, refl, sym, ◌∙◌}
+use Rattle.std.proofs.Common.{◌≡◌, Some, true, false, refl, sym, ◌∙◌}
 use Rattle.std.specs.Map.Calls.{CalledAtPair, TakesPair}
-use Rattle.clru_list.specs.PlaceList.{place_list, item_at, with_at}
+use Rattle.clru_list.specs.PlaceList.{place_list, item_at}
 use Rattle.std.proofs.lemmas.Bool.{eq-eqb}
 use Rattle.clru.specs.declared.nodes.Item.{Item}
 use Rattle.clru.proofs.Placed.{item_at-with_at}

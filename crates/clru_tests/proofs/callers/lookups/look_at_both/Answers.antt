@@ -1,5 +1,4 @@
 use Rattle.std.proofs.Common.{rules}
-use Rattle.std.specs.Map.{lookup}
 use Rattle.std.specs.Cmp.{nat_eq_equiv}
 use Rattle.clru.proofs.CallerLemmas.{lookup-touch}
 use Rattle.clru_tests.proofs.callers.lookups.look_at_both.Goals as goal
