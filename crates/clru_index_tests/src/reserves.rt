@@ -26,19 +26,25 @@ fn goes_in<S: BuildHasher>(rt: &impl Abort, cache: &mut Over<S>, key: u64) -> bo
     }
 }
 
+/// Asserts that the cache holds these two keys and no other, each with ten times itself.
+fn is_held<S: BuildHasher>(rt: &impl Abort, cache: &Over<S>, keys: [u64; 2]) {
+    let mut held = cache.iter();
+    for key in keys {
+        assert_eq!(rt; held.next(), Some((&key, &key.wrapping_mul(10))), "{key}");
+    }
+    assert_eq!(rt; held.next(), None);
+}
+
 /// Two keys go in, the third where a place is free again.
 fn holds_two<S: BuildHasher>(rt: &impl Abort, heap: &Rationed<Global>, cache: &mut Over<S>) {
     heap.refuse_after(0);
     for (key, stored) in [(1, true), (2, true), (3, false)] {
         assert_eq!(rt; goes_in(rt, cache, key), stored, "{key}");
     }
+    is_held(rt, cache, [2, 1]);
     assert_eq!(rt; cache.pop(&1), Some(10));
     assert!(rt; goes_in(rt, cache, 3));
-    let mut held = cache.iter().map(|(key, value)| (*key, *value));
-    assert_eq!(rt;
-        (held.next(), held.next(), held.next()),
-        (Some((3, 30)), Some((2, 20)), None)
-    );
+    is_held(rt, cache, [3, 2]);
     heap.refuse_none();
 }
 

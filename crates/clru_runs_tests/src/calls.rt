@@ -5,6 +5,9 @@ use clru::{PutError, TryPutError};
 use clru_runs::{Answer, Attempt, Call, PlainCall};
 use std::alloc::AllocError;
 
+/// The keys are the numbers below it.
+pub(crate) const KEYS: usize = 16;
+
 /// Numbers that look drawn: a linear congruential generator, of which the upper bits are used.
 #[derive(Drop)]
 pub(crate) struct Draws(pub(crate) u64);
@@ -50,7 +53,7 @@ impl Drawn for Call<usize, usize> {
     }
 
     fn draw(draws: &mut Draws) -> Self {
-        let key = draws.below(16);
+        let key = draws.below(KEYS);
         match draws.below(30) {
             0..=12 => Call::PutWithWeight(key, draws.below(6)),
             13..=15 => Call::Get(key),
@@ -99,7 +102,7 @@ impl Drawn for PlainCall<usize, usize> {
     }
 
     fn draw(draws: &mut Draws) -> Self {
-        let (key, value) = (draws.below(16), draws.below(6));
+        let (key, value) = (draws.below(KEYS), draws.below(6));
         match draws.below(18) {
             0..=3 => PlainCall::Put(key, value),
             4 | 5 => PlainCall::PutOrModify(key, value),

@@ -1,6 +1,6 @@
 //! Long drawn runs: calls of many caches beside the list of pairs that answers them too, with memory refused at drawn requests.
 
-use crate::calls::{Drawn, Draws};
+use crate::calls::{Drawn, Draws, KEYS};
 use crate::pairs::Pairs;
 use clru::{CLruCache, CLruCacheConfig, DefaultState, WeightScale, ZeroWeightScale};
 use clru_fixtures::builders::CONSTANTS;
@@ -17,7 +17,7 @@ use std::test::Fail;
 /// A cache of numbers over an allocator that refuses.
 type Refusing<'a, S, W> = CLruCache<usize, usize, S, W, &'a Rationed<Global>>;
 
-/// Asserts that the cache holds the pairs of the list: from the front, from the back, and by their keys.
+/// Asserts that the cache holds the pairs of the list and no other: from the front, from the back, and by a look-up of each key.
 fn is_whole<S: BuildHasher, W: WeightScale<usize, usize>>(
     rt: &impl Abort,
     cache: &Refusing<S, W>,
@@ -27,15 +27,19 @@ fn is_whole<S: BuildHasher, W: WeightScale<usize, usize>>(
         (cache.len(), cache.weight(), cache.capacity()),
         (pairs.list.len(), pairs.weight(), pairs.capacity)
     );
-    let ends = cache.iter().zip(cache.iter().rev());
-    let wanted = pairs.list.iter().zip(pairs.list.iter().rev());
-    for ((front, back), (first, last)) in ends.zip(wanted) {
-        assert_eq!(rt; ((*front.0, *front.1), (*back.0, *back.1)), (*first, *last));
-        assert_eq!(rt; cache.peek(&first.0).copied(), Some(first.1));
+    let (mut forward, mut backward) = (cache.iter(), cache.iter());
+    for (first, last) in pairs.list.iter().zip(pairs.list.iter().rev()) {
+        assert_eq!(rt; forward.next(), Some((&first.0, &first.1)));
+        assert_eq!(rt; backward.next_back(), Some((&last.0, &last.1)));
+    }
+    assert_eq!(rt; (forward.next(), backward.next_back()), (None, None));
+    for key in 0..KEYS {
+        assert_eq!(rt; cache.peek(&key).copied(), pairs.value(key), "{key}");
     }
 }
 
 /// Makes 500 drawn calls. Each is answered as by the list, or by the refusal of its put where a request is refused.
+/// After such a one, and after each eighth, the cache is whole.
 fn lives<'a, S, W, Q>(
     rt: &impl Abort,
     heap: &Rationed<Global>,
@@ -48,7 +52,7 @@ where
     W: WeightScale<usize, usize>,
     Q: Drawn + Clone + Debug + Perform<Refusing<'a, S, W>, Answer = Answer<usize, usize>>,
 {
-    for _ in 0..500u32 {
+    for n in 0..500u32 {
         let call = Q::draw(draws);
         match draws.below(6) {
             0..=3 => heap.refuse_after(0),
@@ -57,12 +61,15 @@ where
         }
         let refused = heap.refused();
         let given = call.clone()?.perform(cache);
-        if heap.refused() == refused {
-            assert!(rt; given == call.answer(pairs)?, "{call:?}");
-        } else {
+        let met = heap.refused() != refused;
+        if met {
             assert!(rt; Some(given) == call.refusal(), "{call:?}");
+        } else {
+            assert!(rt; given == call.answer(pairs)?, "{call:?}");
         }
-        is_whole(rt, cache, pairs);
+        if met || n % 8 == 0 {
+            is_whole(rt, cache, pairs);
+        }
     }
     Ok(())
 }

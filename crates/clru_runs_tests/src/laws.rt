@@ -1,10 +1,9 @@
 //! What the laws of runs speak of. Tables in pairs have the same calls of a lesser cache and of a greater one: where no put
 //! is refused and no `get` is among them, the lesser ends with the first entries of the greater, and else it may not.
 
-use crate::tables::{Table, runs, weigh_all};
-use clru::{CLruCache, PutError, ZeroWeightScale};
+use crate::tables::{Table, run_all, weigh_all};
+use clru::{PutError, ZeroWeightScale};
 use clru_fixtures::scales::{ByLength, ByValue};
-use clru_fixtures::sizes::room;
 use clru_runs::Answer::{Flag, Lent, Pair, Tried, Value, Weighed};
 use clru_runs::Attempt::Store;
 use clru_runs::Call::{self, Contains, Get, Peek, PopFront, PutWithWeight};
@@ -92,7 +91,7 @@ static WEIGHTLESS: &[Of<usize>] = &[
     },
 ];
 
-static PUTS: Table<'static, PlainCall<&'static str, usize>, &'static str, usize> = Table {
+static PUTS: &[Table<'static, PlainCall<&'static str, usize>, &'static str, usize>] = &[Table {
     name: "puts in any form hold what a replay hits",
     capacity: 2,
     rows: &[
@@ -104,13 +103,12 @@ static PUTS: Table<'static, PlainCall<&'static str, usize>, &'static str, usize>
         (Put("c", 5), stored!(Some(3), None)),
     ],
     list: &[("c", 5), ("a", 4)],
-};
+}];
 
 #[test]
 fn puts_in_any_form_hold_what_a_replay_hits(rt: HostRuntime) -> Result<(), Fail> {
     law_put_runs::<&'static str, usize, ZeroWeightScale>();
-    let mut cache = CLruCache::new(rt.alloc(), room(PUTS.capacity)?);
-    runs(&rt, rt.alloc(), &PUTS, &mut cache)
+    run_all(&rt, rt.alloc(), PUTS)
 }
 
 #[test]

@@ -22,7 +22,8 @@ impl Pairs {
         sum
     }
 
-    fn value(&self, key: usize) -> Option<usize> {
+    /// The value of a key.
+    pub(crate) fn value(&self, key: usize) -> Option<usize> {
         let at = self.list.iter().position(|pair| pair.0 == key)?;
         Some(self.list[at].1)
     }
@@ -90,22 +91,9 @@ impl Pairs {
         }
     }
 
-    pub(crate) fn perform(
-        &mut self,
-        call: &Call<usize, usize>,
-    ) -> Result<Answer<usize, usize>, AllocError> {
-        let answer = match call {
-            Call::PutWithWeight(key, value) if self.weighs && *value >= self.capacity => {
-                Answer::Weighed(Err(PutError::TooHeavy(*key, *value)))
-            }
-            Call::PutWithWeight(key, value) => Answer::Weighed(Ok(self.put(*key, *value)?)),
-            Call::Get(key) => {
-                let value = self.value(*key);
-                if let Some(value) = value {
-                    let _old = self.put(*key, value)?;
-                }
-                Answer::Value(value)
-            }
+    /// The answer of a call that reads alone.
+    fn reads(&self, call: &Call<usize, usize>) -> Answer<usize, usize> {
+        match call {
             Call::Peek(key) => Answer::Value(self.value(*key)),
             Call::Contains(key) => Answer::Flag(self.value(*key).is_some()),
             Call::Len => Answer::Number(self.list.len()),
@@ -117,27 +105,54 @@ impl Pairs {
             }
             Call::Front => Answer::Value(self.list.first().map(|pair| pair.1)),
             Call::Back => Answer::Value(self.list.last().map(|pair| pair.1)),
-            Call::PopFront if self.list.is_empty() => Answer::Pair(None),
-            Call::PopFront => Answer::Pair(Some(self.list.remove(0))),
-            Call::Pop(key) => Answer::Value(self.take(*key)),
-            Call::PopBack => Answer::Pair(self.list.pop()),
-            Call::Clear => {
-                self.list.clear();
-                Answer::Done
+            _ => Answer::Done,
+        }
+    }
+
+    /// Makes a call of a cache with any scale.
+    pub(crate) fn perform(
+        &mut self,
+        call: &Call<usize, usize>,
+    ) -> Result<Answer<usize, usize>, AllocError> {
+        match call {
+            Call::PutWithWeight(key, value) if self.weighs && *value >= self.capacity => {
+                return Ok(Answer::Weighed(Err(PutError::TooHeavy(*key, *value))));
             }
+            Call::PutWithWeight(key, value) => {
+                return Ok(Answer::Weighed(Ok(self.put(*key, *value)?)));
+            }
+            Call::Get(key) => {
+                let value = self.value(*key);
+                if let Some(value) = value {
+                    let _old = self.put(*key, value)?;
+                }
+                return Ok(Answer::Value(value));
+            }
+            Call::PopFront if self.list.is_empty() => return Ok(Answer::Pair(None)),
+            Call::PopFront => return Ok(Answer::Pair(Some(self.list.remove(0)))),
+            Call::Pop(key) => return Ok(Answer::Value(self.take(*key))),
+            Call::PopBack => return Ok(Answer::Pair(self.list.pop())),
+            Call::Clear => self.list.clear(),
             Call::Resize(capacity) => {
                 self.capacity = (*capacity).max(1);
                 let _gone = self.shrink();
-                Answer::Done
             }
-            Call::Retain(key) => {
-                self.retain(*key, None);
-                Answer::Done
-            }
-        };
-        Ok(answer)
+            Call::Retain(key) => self.retain(*key, None),
+            _ => {}
+        }
+        Ok(self.reads(call))
     }
 
+    /// Writes a value to the pair of a held key, which then comes first, and answers the old one.
+    fn gets_mut(&mut self, key: usize, value: usize) -> Result<Option<usize>, AllocError> {
+        let old = self.value(key);
+        if old.is_some() {
+            let _old = self.put(key, value)?;
+        }
+        Ok(old)
+    }
+
+    /// Makes a call of a cache without weights.
     pub(crate) fn perform_plain(
         &mut self,
         call: &PlainCall<usize, usize>,
@@ -157,13 +172,7 @@ impl Pairs {
             PlainCall::TryPutOrModify(key, attempt) => Ok(Answer::Tried(self.tries(
                 *key, *attempt,
             )?)),
-            PlainCall::GetMut(key, value) => {
-                let old = self.value(*key);
-                if old.is_some() {
-                    let _old = self.put(*key, *value)?;
-                }
-                Ok(Answer::Value(old))
-            }
+            PlainCall::GetMut(key, value) => Ok(Answer::Value(self.gets_mut(*key, *value)?)),
             PlainCall::PeekMut(key, value) => {
                 let at = self.list.iter().position(|pair| pair.0 == *key);
                 Ok(Answer::Value(self.writes(at, *value)))

@@ -4,7 +4,9 @@ use crate::tables::{Table, run_all, weigh_all};
 use clru::PutError;
 use clru_fixtures::scales::ByValue;
 use clru_runs::Answer::{Done, Flag, Number, Value, Weighed};
-use clru_runs::Call::{self, Capacity, Get, IsFull, Len, Peek, Pop, PutWithWeight, Resize, Weight};
+use clru_runs::Call::{
+    self, Back, Capacity, Front, Get, IsFull, Len, Peek, Pop, PutWithWeight, Resize, Weight,
+};
 use clru_runs::PlainCall::{self, Any, Put};
 use std::test::Fail;
 
@@ -95,12 +97,24 @@ static PLAIN: &[Plain] = &[
             (Any(Pop(2)), Value(Some("b"))),
             (Any(Pop(3)), Value(Some("c"))),
             (Any(Resize(8)), Done),
+            (Any(Capacity), Number(8)),
+            (Any(Len), Number(2)),
+            (Any(Front), Value(Some("d"))),
+            (Any(Back), Value(Some("a"))),
             (Any(Resize(8)), Done),
+            (Any(Capacity), Number(8)),
+            (Any(Len), Number(2)),
+            (Any(Front), Value(Some("d"))),
+            (Any(Back), Value(Some("a"))),
             (Put(5, "e"), stored!(None, None)),
             (Put(6, "f"), stored!(None, None)),
+            (Any(Len), Number(4)),
+            (Any(Back), Value(Some("a"))),
             (Any(Pop(5)), Value(Some("e"))),
             (Any(Resize(2)), Done),
             (Any(Len), Number(2)),
+            (Any(Front), Value(Some("f"))),
+            (Any(Back), Value(Some("d"))),
             (Put(7, "g"), stored!(None, Some((4, "d")))),
             (Any(Peek(4)), Value(None)),
             (Any(Peek(1)), Value(None)),
@@ -151,8 +165,11 @@ static WEIGHTED: &[Weighted] = &[
             (PutWithWeight("d", 1), weighed!(None, 0, None)),
             (IsFull, Flag(true)),
             (Resize(4), Done),
+            (Capacity, Number(4)),
             (Len, Number(2)),
             (IsFull, Flag(true)),
+            (Peek("d"), Value(Some(1))),
+            (Peek("c"), Value(Some(1))),
             (Get("d"), Value(Some(1))),
             (Resize(3), Done),
             (Weight, Number(1)),

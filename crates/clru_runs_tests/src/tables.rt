@@ -41,6 +41,7 @@ where
         calls.push(call.clone()?)?;
     }
     let answers = perform_all(alloc, cache, calls)?;
+    assert_eq!(rt; answers.len(), table.rows.len(), "of {}", table.name);
     for (given, (call, answer)) in answers.into_iter().zip(table.rows) {
         assert!(rt; given == *answer, "{call:?} of {}", table.name);
     }
@@ -111,7 +112,9 @@ where
     A: Allocator + Copy,
 {
     assert_eq!(rt; cache.len(), list.len(), "of {name}");
-    for ((key, value), pair) in cache.iter().zip(list) {
-        assert_eq!(rt; (*key, *value), *pair, "of {name}");
+    let mut walk = cache.iter();
+    for (key, value) in list {
+        assert_eq!(rt; walk.next(), Some((key, value)), "of {name}");
     }
+    assert_eq!(rt; walk.next(), None, "of {name}");
 }
