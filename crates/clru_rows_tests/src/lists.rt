@@ -17,9 +17,11 @@ where
     W: WeightScale<K, V>,
 {
     assert_eq!(rt; cache.len(), list.len(), "of {list:?}");
-    for ((key, value), pair) in cache.iter().zip(list) {
-        assert_eq!(rt; (*key, *value), *pair, "of {list:?}");
+    let mut walk = cache.iter();
+    for (key, value) in list {
+        assert_eq!(rt; walk.next(), Some((key, value)), "of {list:?}");
     }
+    assert_eq!(rt; walk.next(), None, "of {list:?}");
 }
 
 /// An empty cache with a scale.

@@ -167,62 +167,74 @@ fn takes_or_reads<S: BuildHasher>(
     Ok(right)
 }
 
-static STEPS: &[Step] = &[
-    Put("a", 1, None),
-    Put("b", 2, None),
-    Put("c", 3, None),
-    Get("a", Some(1)),
-    Get("b", Some(2)),
-    Get("c", Some(3)),
-    Put("a", 10, Some(1)),
-    Get("a", Some(10)),
-    Put("d", 4, None),
-    Get("b", None),
-    Get("d", Some(4)),
-    Peek("a", Some(10)),
-    Write("c", 30, true),
-    Get("c", Some(30)),
-    Write("d", 40, false),
-    Peek("d", Some(40)),
-    Contains("a", true),
-    Contains("z", false),
-    Pop("a", Some(10)),
-    Put("e", 5, None),
-    PopFront("e", 5),
-    PopBack("d", 40),
-    Put("f", 6, None),
-    Put("g", 7, None),
-    Retain(6),
-    Get("f", None),
-    Get("g", Some(7)),
-    Get("c", Some(30)),
-    Clear,
-    Put("h", 8, None),
-    Put("i", 9, None),
-    Put("j", 10, None),
-    Resize(2),
-    Get("h", None),
-    Get("j", Some(10)),
-    Clear,
-    Resize(3),
-    Extend("j", 1),
-    Pop("j", Some(1)),
-    Modify("k", 100),
-    Modify("k", 101),
-    TryModify("l", 200),
+/// The calls in order, each with the entries after it, the most recently used first.
+static STEPS: &[(Step, &[(&str, u64)])] = &[
+    (Put("a", 1, None), &[("a", 1)]),
+    (Put("b", 2, None), &[("b", 2), ("a", 1)]),
+    (Put("c", 3, None), &[("c", 3), ("b", 2), ("a", 1)]),
+    (Get("a", Some(1)), &[("a", 1), ("c", 3), ("b", 2)]),
+    (Get("b", Some(2)), &[("b", 2), ("a", 1), ("c", 3)]),
+    (Get("c", Some(3)), &[("c", 3), ("b", 2), ("a", 1)]),
+    (Put("a", 10, Some(1)), &[("a", 10), ("c", 3), ("b", 2)]),
+    (Get("a", Some(10)), &[("a", 10), ("c", 3), ("b", 2)]),
+    (Put("d", 4, None), &[("d", 4), ("a", 10), ("c", 3)]),
+    (Get("b", None), &[("d", 4), ("a", 10), ("c", 3)]),
+    (Get("d", Some(4)), &[("d", 4), ("a", 10), ("c", 3)]),
+    (Peek("a", Some(10)), &[("d", 4), ("a", 10), ("c", 3)]),
+    (Write("c", 30, true), &[("c", 30), ("d", 4), ("a", 10)]),
+    (Get("c", Some(30)), &[("c", 30), ("d", 4), ("a", 10)]),
+    (Write("d", 40, false), &[("c", 30), ("d", 40), ("a", 10)]),
+    (Peek("d", Some(40)), &[("c", 30), ("d", 40), ("a", 10)]),
+    (Contains("a", true), &[("c", 30), ("d", 40), ("a", 10)]),
+    (Contains("z", false), &[("c", 30), ("d", 40), ("a", 10)]),
+    (Pop("a", Some(10)), &[("c", 30), ("d", 40)]),
+    (Put("e", 5, None), &[("e", 5), ("c", 30), ("d", 40)]),
+    (PopFront("e", 5), &[("c", 30), ("d", 40)]),
+    (PopBack("d", 40), &[("c", 30)]),
+    (Put("f", 6, None), &[("f", 6), ("c", 30)]),
+    (Put("g", 7, None), &[("g", 7), ("f", 6), ("c", 30)]),
+    (Retain(6), &[("g", 7), ("c", 30)]),
+    (Get("f", None), &[("g", 7), ("c", 30)]),
+    (Get("g", Some(7)), &[("g", 7), ("c", 30)]),
+    (Get("c", Some(30)), &[("c", 30), ("g", 7)]),
+    (Clear, &[]),
+    (Put("h", 8, None), &[("h", 8)]),
+    (Put("i", 9, None), &[("i", 9), ("h", 8)]),
+    (Put("j", 10, None), &[("j", 10), ("i", 9), ("h", 8)]),
+    (Resize(2), &[("j", 10), ("i", 9)]),
+    (Get("h", None), &[("j", 10), ("i", 9)]),
+    (Get("j", Some(10)), &[("j", 10), ("i", 9)]),
+    (Clear, &[]),
+    (Resize(3), &[]),
+    (Extend("j", 1), &[("j", 1)]),
+    (Pop("j", Some(1)), &[]),
+    (Modify("k", 100), &[("k", 100)]),
+    (Modify("k", 101), &[("k", 101)]),
+    (TryModify("l", 200), &[("l", 200), ("k", 101)]),
 ];
 
-/// Takes all steps, and then all entries out.
+/// Whether the cache holds the pairs of the list and no other, the most recently used first.
+fn is_list<S: BuildHasher>(cache: &CLruCache<NonCloneKey, u64, S>, list: &[(&str, u64)]) -> bool {
+    let mut walk = cache.iter();
+    for (letter, value) in list {
+        let same = match walk.next() {
+            Some((key, held)) => key.0.as_str() == *letter && held == value,
+            None => false,
+        };
+        if !same {
+            return false;
+        }
+    }
+    walk.next().is_none()
+}
+
+/// Takes all steps.
 fn steps<S: BuildHasher + Copy>(rt: &impl Abort, alloc: Global, builder: S) -> Result<(), Fail> {
     let mut cache = CLruCache::with_hasher(alloc, room(3)?, builder);
-    for (i, step) in STEPS.iter().enumerate() {
+    for (i, (step, list)) in STEPS.iter().enumerate() {
         assert!(rt; is_right(alloc, &mut cache, step)?, "step {i}");
+        assert!(rt; is_list(&cache, list), "the list after step {i}");
     }
-    for (letter, value) in [("l", 200), ("k", 101)] {
-        let pair = (key(alloc, letter)?, value);
-        assert_eq!(rt; cache.pop_front(), Some(pair), "{letter}");
-    }
-    assert!(rt; cache.is_empty());
     Ok(())
 }
 

@@ -107,6 +107,31 @@ fn test_try_put_or_modify(rt: HostRuntime) -> Result<(), Fail> {
     with_each_builder!(rt, tries_to_put_or_modify)
 }
 
+/// A closure that writes before it fails.
+fn fails_after_a_write<S: BuildHasher + Copy>(
+    rt: &impl Abort,
+    alloc: Global,
+    builder: S,
+) -> Result<(), Fail> {
+    let mut cache = CLruCache::with_hasher(alloc, room(2)?, builder);
+    for (key, value) in [("a", 2), ("b", 4)] {
+        assert_eq!(rt; cache.put(key, value)?.replaced, None, "{key}");
+    }
+    let modify = |_: &_, value: &mut u64, data| {
+        *value = data;
+        Err(7)
+    };
+    let lent = cache.try_put_or_modify("a", |_, data| Ok(data), modify, 9u64);
+    assert_eq!(rt; lent.map(|value| *value), Err(TryPutError::Failed(7)));
+    holds(rt, &cache, &[("a", 9), ("b", 4)]);
+    Ok(())
+}
+
+#[test]
+fn what_a_closure_wrote_before_it_failed_stays(rt: HostRuntime) -> Result<(), Fail> {
+    with_each_builder!(rt, fails_after_a_write)
+}
+
 /// The entries at both ends, read and written.
 fn lends_both_ends<S: BuildHasher + Copy>(
     rt: &impl Abort,

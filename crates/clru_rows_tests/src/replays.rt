@@ -31,19 +31,27 @@ pub(crate) fn marks<K: Eq + Hash + Drop, S: BuildHasher + Copy>(
     Ok(())
 }
 
-/// A replay of texts.
+/// Replays of texts: the empty one is a key, and so is one that ends in a carriage return.
 fn replays_texts<S: BuildHasher + Copy>(
     rt: &impl Abort,
     alloc: Global,
     builder: S,
 ) -> Result<(), Fail> {
-    let keys = Vec::from_array(alloc, ["a", "b", "c", "a"])?;
-    marks(rt, alloc, 2, keys, builder, "MMMM")?;
+    let rows: [(usize, &[&str], &str); 4] = [
+        (2, &["a", "b", "c", "a"], "MMMM"),
+        (7, &["x", "x"], "MH"),
+        (2, &["", ""], "MH"),
+        (1, &["\0", "\0", "\0\r"], "MHM"),
+    ];
+    for (capacity, keys, letters) in rows {
+        let keys = Vec::from_slice(alloc, keys)?;
+        marks(rt, alloc, capacity, keys, builder, letters)?;
+    }
     Ok(())
 }
 
 #[test]
-fn replay_of_two_keys_misses_four_times(rt: HostRuntime) -> Result<(), Fail> {
+fn replay_marks_each_text(rt: HostRuntime) -> Result<(), Fail> {
     with_each_builder!(rt, replays_texts)
 }
 
@@ -68,6 +76,6 @@ fn replays_letters<S: BuildHasher + Copy>(
 }
 
 #[test]
-fn replay_marks_each_request(rt: HostRuntime) -> Result<(), Fail> {
+fn replay_marks_each_letter(rt: HostRuntime) -> Result<(), Fail> {
     with_each_builder!(rt, replays_letters)
 }

@@ -1,13 +1,13 @@
 //! Walks over a cache: by an iterator, by value and by a cursor.
 
-use crate::lists::scaled;
+use crate::lists::{holds, scaled};
 use crate::walks::End::{Back, Front};
-use clru::{CLruCache, CLruCacheIter};
+use clru::{CLruCache, CLruCacheIntoIter, CLruCacheIter, WeightScale};
 use clru_fixtures::scales::ByLength;
 use clru_fixtures::sizes::room;
 use std::alloc::Global;
 use std::fmt::Debug;
-use std::hash::BuildHasher;
+use std::hash::{BuildHasher, Hash};
 use std::process::Abort;
 use std::test::Fail;
 
@@ -208,6 +208,19 @@ fn an_iterator_gives_each_pair_once(rt: HostRuntime) -> Result<(), Fail> {
     with_each_builder!(rt, iterates)
 }
 
+/// The cache of a walk, with a scale.
+fn weighed<S: BuildHasher + Copy>(
+    alloc: Global,
+    walk: &Walk<usize, &'static str>,
+    builder: S,
+) -> Result<CLruCache<usize, &'static str, S, ByLength>, Fail> {
+    let mut cache = scaled(alloc, walk.capacity, builder, ByLength)?;
+    for (key, value) in walk.pairs {
+        cache.put_with_weight(*key, *value, |_, _| {})?;
+    }
+    Ok(cache)
+}
+
 /// The same of a cache with a scale.
 fn iterates_by_weight<S: BuildHasher + Copy>(
     rt: &impl Abort,
@@ -215,10 +228,7 @@ fn iterates_by_weight<S: BuildHasher + Copy>(
     builder: S,
 ) -> Result<(), Fail> {
     for walk in WEIGHTED_WALKS {
-        let mut cache = scaled(alloc, walk.capacity, builder, ByLength)?;
-        for (key, value) in walk.pairs {
-            cache.put_with_weight(*key, *value, |_, _| {})?;
-        }
+        let cache = weighed(alloc, walk, builder)?;
         let number = walk.pairs.len();
         assert_eq!(rt;
             (cache.len(), cache.weight()),
@@ -236,31 +246,48 @@ fn an_iterator_of_a_weighted_cache_gives_each_pair_once(rt: HostRuntime) -> Resu
     with_each_builder!(rt, iterates_by_weight)
 }
 
-/// The same by value.
+/// Takes the steps of a walk by value, and asserts how many pairs are left, before each of them and after.
+fn walks_by_value<K, V, S, W>(
+    rt: &impl Abort,
+    mut iter: CLruCacheIntoIter<K, V, S, W>,
+    walk: &Walk<K, V>,
+)
+where
+    K: Eq + Hash + Copy + Debug,
+    V: PartialEq + Copy + Debug,
+    S: BuildHasher + Copy,
+    W: WeightScale<K, V> + Copy,
+{
+    let mut left = walk.pairs.len();
+    for (end, pair) in walk.steps {
+        let hint = iter.size_hint();
+        assert_eq!(rt;
+            (iter.len(), hint),
+            (left, (left, Some(left))),
+            "{}",
+            walk.name
+        );
+        let given = match end {
+            Front => iter.next(),
+            Back => iter.next_back(),
+        };
+        assert_eq!(rt; given, *pair, "{end:?} of {}", walk.name);
+        left = left.saturating_sub(1);
+    }
+    assert_eq!(rt; iter.len(), left, "{}", walk.name);
+}
+
+/// Each walk by value, of a cache with a scale and without.
 fn iterates_by_value<S: BuildHasher + Copy>(
     rt: &impl Abort,
     alloc: Global,
     builder: S,
 ) -> Result<(), Fail> {
     for walk in WALKS {
-        let mut left = walk.pairs.len();
-        let mut iter = made(alloc, walk, builder)?.into_iter();
-        for (end, pair) in walk.steps {
-            let hint = iter.size_hint();
-            assert_eq!(rt;
-                (iter.len(), hint),
-                (left, (left, Some(left))),
-                "{}",
-                walk.name
-            );
-            let given = match end {
-                Front => iter.next(),
-                Back => iter.next_back(),
-            };
-            assert_eq!(rt; given, *pair, "{end:?} of {}", walk.name);
-            left = left.saturating_sub(1);
-        }
-        assert_eq!(rt; iter.len(), left, "{}", walk.name);
+        walks_by_value(rt, made(alloc, walk, builder)?.into_iter(), walk);
+    }
+    for walk in WEIGHTED_WALKS {
+        walks_by_value(rt, weighed(alloc, walk, builder)?.into_iter(), walk);
     }
     Ok(())
 }
@@ -270,7 +297,7 @@ fn a_cache_is_walked_by_value(rt: HostRuntime) -> Result<(), Fail> {
     with_each_builder!(rt, iterates_by_value)
 }
 
-/// The same by a cursor.
+/// Each walk by a cursor.
 fn passes<S: BuildHasher + Copy>(rt: &impl Abort, alloc: Global, builder: S) -> Result<(), Fail> {
     for walk in WALKS {
         let mut left = walk.pairs.len();
@@ -311,14 +338,12 @@ fn takes_one_from_each<S: BuildHasher + Copy>(
             };
             *value = value.saturating_sub(1);
         }
-        for ((key, value), old) in cache.into_iter().zip(walk.pairs.iter().rev()) {
-            assert_eq!(rt;
-                (key, value),
-                (old.0, old.1.saturating_sub(1)),
-                "{}",
-                walk.name
-            );
+        let mut held = cache.into_iter();
+        for (key, value) in walk.pairs.iter().rev() {
+            let wanted = Some((*key, value.saturating_sub(1)));
+            assert_eq!(rt; held.next(), wanted, "{}", walk.name);
         }
+        assert_eq!(rt; held.next(), None, "{}", walk.name);
     }
     Ok(())
 }
@@ -351,9 +376,7 @@ fn writes_from_both_ends<S: BuildHasher + Copy>(
             *value = 10;
         }
     }
-    for ((key, value), want) in cache.iter().zip([("c", 30), ("b", 2), ("a", 10)]) {
-        assert_eq!(rt; (*key, *value), want);
-    }
+    holds(rt, &cache, &[("c", 30), ("b", 2), ("a", 10)]);
     let mut iter = cache.into_iter();
     let given = (iter.next_back(), iter.next(), iter.next());
     assert_eq!(rt; given, (Some(("a", 10)), Some(("c", 30)), Some(("b", 2))));
@@ -398,9 +421,7 @@ fn writes_after_a_touch<S: BuildHasher + Copy>(
         };
         *value = value.saturating_sub(1);
     }
-    for ((key, value), want) in cache.iter().zip([("a", 0), ("c", 2), ("b", 1)]) {
-        assert_eq!(rt; (*key, *value), want);
-    }
+    holds(rt, &cache, &[("a", 0), ("c", 2), ("b", 1)]);
     Ok(())
 }
 
