@@ -2,6 +2,19 @@
 //! scales and capacities.
 #![tactic(auto)]
 
+/// Makes a check, a function of runtime, allocator and builder, with the default builder and with those that give all keys one
+/// hash, and answers `Ok(())` where each did.
+#[macro_export]
+macro_rules! with_each_builder {
+    ($rt:ident, $check:ident) => {{
+        $check(&$rt, $rt.alloc(), clru::DefaultState)?;
+        for builder in $crate::builders::CONSTANTS {
+            $check(&$rt, $rt.alloc(), builder)?;
+        }
+        Ok(())
+    }};
+}
+
 pub mod builders;
 pub mod letters;
 pub mod scales;

@@ -84,40 +84,56 @@ pub(crate) fn adds_counting<K: Eq + Hash + Drop, V: Drop, A: Allocator + Copy>(
             let mut on_drop = |_, _| counts(called);
             weighed(cache.put_with_weight_handing_to(key, value, &mut on_drop))
         }
-        Adding::PutOrModify => {
-            let old = Cell::new(None);
-            let put = |_: &K, new| {
-                counts(called);
-                new
-            };
-            let modify = |_: &K, held: &mut V, new| {
-                counts(called);
-                old.set(Some(mem::replace(held, new)));
-            };
-            match cache.put_or_modify(key, put, modify, value) {
-                Ok(_) => Ok(old.into_inner()),
-                Err(back) => Err(back),
-            }
-        }
-        Adding::TryPutOrModify => {
-            let old = Cell::new(None);
-            let put = |_: &K, new| {
-                counts(called);
-                Ok::<V, Never>(new)
-            };
-            let modify = |_: &K, held: &mut V, new| {
-                counts(called);
-                old.set(Some(mem::replace(held, new)));
-                Ok(())
-            };
-            match cache.try_put_or_modify(key, put, modify, value) {
-                Ok(_) => Ok(old.into_inner()),
-                Err(refusal) => match refusal {
-                    TryPutError::NoMemory(key, value) => Err((key, value)),
-                    TryPutError::Failed(never) => match never {},
-                },
-            }
-        }
+        Adding::PutOrModify => modifies(cache, key, value, called),
+        Adding::TryPutOrModify => tries(cache, key, value, called),
+    }
+}
+
+/// Puts the value or writes it over that of a held key, and counts the calls of the closures.
+fn modifies<K: Eq + Hash + Drop, V: Drop, A: Allocator + Copy>(
+    cache: &mut CLruCache<K, V, DefaultState, ZeroWeightScale, A>,
+    key: K,
+    value: V,
+    called: &Cell<u64>,
+) -> Result<Option<V>, (K, V)> {
+    let old = Cell::new(None);
+    let put = |_: &K, new| {
+        counts(called);
+        new
+    };
+    let modify = |_: &K, held: &mut V, new| {
+        counts(called);
+        old.set(Some(mem::replace(held, new)));
+    };
+    match cache.put_or_modify(key, put, modify, value) {
+        Ok(_) => Ok(old.into_inner()),
+        Err(back) => Err(back),
+    }
+}
+
+/// Does the same by the try form.
+fn tries<K: Eq + Hash + Drop, V: Drop, A: Allocator + Copy>(
+    cache: &mut CLruCache<K, V, DefaultState, ZeroWeightScale, A>,
+    key: K,
+    value: V,
+    called: &Cell<u64>,
+) -> Result<Option<V>, (K, V)> {
+    let old = Cell::new(None);
+    let put = |_: &K, new| {
+        counts(called);
+        Ok::<V, Never>(new)
+    };
+    let modify = |_: &K, held: &mut V, new| {
+        counts(called);
+        old.set(Some(mem::replace(held, new)));
+        Ok(())
+    };
+    match cache.try_put_or_modify(key, put, modify, value) {
+        Ok(_) => Ok(old.into_inner()),
+        Err(refusal) => match refusal {
+            TryPutError::NoMemory(key, value) => Err((key, value)),
+            TryPutError::Failed(never) => match never {},
+        },
     }
 }
 

@@ -1,6 +1,6 @@
 //! Calls that lend an entry ask for nothing, and closures that fail forget nothing.
 
-use crate::adding::{Plain, room};
+use crate::adding::{Plain, counts, room};
 use crate::costs::REQUESTS;
 use crate::owned::{blocks_of, text};
 use crate::whole::is_whole;
@@ -44,6 +44,15 @@ fn lending_calls_ask_for_nothing(rt: HostRuntime) -> Result<(), Fail> {
     Ok(())
 }
 
+/// The sum, or the key as an error where it is odd.
+fn if_even(key: u64, more: u64) -> Result<u64, u64> {
+    if key % 2 == 1 {
+        Err(key)
+    } else {
+        Ok(key.wrapping_add(more))
+    }
+}
+
 #[test]
 fn no_closure_is_called_by_a_refused_try(rt: HostRuntime) -> Result<(), Fail> {
     let heap = Rationed::new(rt.alloc());
@@ -70,15 +79,11 @@ fn no_closure_is_called_by_a_refused_try(rt: HostRuntime) -> Result<(), Fail> {
             heap.refuse_after(0);
         }
         let put = |key: &u64, more: u64| {
-            calls.set(calls.get().wrapping_add(1));
-            if *key % 2 == 1 {
-                Err(*key)
-            } else {
-                Ok(key.wrapping_add(more))
-            }
+            counts(&calls);
+            if_even(*key, more)
         };
         let modify = |_: &u64, value: &mut u64, more: u64| {
-            calls.set(calls.get().wrapping_add(1));
+            counts(&calls);
             *value = value.wrapping_add(more);
             Ok(())
         };

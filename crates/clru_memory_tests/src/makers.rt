@@ -2,9 +2,10 @@
 
 use crate::adding::{Plain, room};
 use crate::costs::{HEAD_BYTES, PLACE_BYTES, REQUESTS};
-use clru::{CLruCache, CLruCacheConfig, NoMemory, NonZeroUsize};
+use clru::{CLruCache, CLruCacheConfig, NoMemory, NonZeroUsize, ZeroWeightScale};
 use ration::Rationed;
 use std::alloc::Global;
+use std::hash::BuildHasher;
 use std::process::Abort;
 use std::test::Fail;
 
@@ -37,7 +38,10 @@ fn makes<'a>(
 }
 
 /// How many new keys go in before one is refused or the first one goes, where each request is refused.
-pub(crate) fn free_places(heap: &Rationed<Global>, cache: &mut Plain) -> u64 {
+pub(crate) fn free_places<S: BuildHasher>(
+    heap: &Rationed<Global>,
+    cache: &mut CLruCache<u64, u64, S, ZeroWeightScale, &Rationed<Global>>,
+) -> u64 {
     heap.refuse_after(0);
     let mut put = 0;
     for key in 0..2000u64 {
@@ -114,7 +118,10 @@ fn makes_again(
 ) {
     heap.refuse_none();
     match CLruCache::with_config(heap, config) {
-        Ok(mut cache) => assert_eq!(rt; free_places(heap, &mut cache), places),
+        Ok(mut cache) => assert_eq!(rt;
+            (cache.capacity(), free_places(heap, &mut cache)),
+            (4, places)
+        ),
         Err(_) => assert!(rt; false, "there is memory for {places}"),
     }
 }

@@ -7,7 +7,7 @@ use clru::{CLruCache, DefaultState, PutError, WeightScale, ZeroWeightScale, repl
 use ration::Rationed;
 use std::alloc::{AllocError, Allocator, Global};
 use std::cell::Cell;
-use std::hash::Hash;
+use std::hash::{BuildHasher, Hash};
 use std::test::Fail;
 
 /// A text with a block of the heap.
@@ -121,12 +121,19 @@ fn a_pair_that_a_put_drops_is_held_by_its_answer_alone(rt: HostRuntime) -> Resul
 }
 
 /// Makes a weighted put, and adds what it hands out to `gone`.
-pub(crate) fn puts<K: Eq + Hash + Drop, V: Drop, W: WeightScale<K, V>, A: Allocator + Copy>(
-    cache: &mut CLruCache<K, V, DefaultState, W, A>,
+pub(crate) fn puts<K, V, S, W, A>(
+    cache: &mut CLruCache<K, V, S, W, A>,
     key: K,
     value: V,
     gone: &mut Vec<(K, V)>,
-) -> Result<Option<V>, PutError<K, V>> {
+) -> Result<Option<V>, PutError<K, V>>
+where
+    K: Eq + Hash + Drop,
+    V: Drop,
+    S: BuildHasher,
+    W: WeightScale<K, V>,
+    A: Allocator + Copy,
+{
     cache.put_with_weight(key, value, |key, value| keeps(gone, (key, value)))
 }
 

@@ -4,25 +4,20 @@ use crate::adding::{Plain, counts, room};
 use crate::makers::free_places;
 use crate::owned::puts;
 use crate::whole::is_whole;
-use clru::{
-    CLruCache, CLruCacheConfig, DefaultState, NoMemory, Put, PutError, TryPutError, ZeroWeightScale,
-};
+use clru::{CLruCache, CLruCacheConfig, NoMemory, Put, PutError, TryPutError, ZeroWeightScale};
 use clru_fixtures::scales::ByLength;
+use clru_fixtures::with_each_builder;
 use ration::Rationed;
 use std::alloc::Global;
 use std::cell::Cell;
+use std::hash::BuildHasher;
+use std::process::Abort;
 use std::test::Fail;
 
 type Pair = (&'static str, u64);
 
 /// A cache of numbers by text, over an allocator that refuses.
-type Numbers<'a> = CLruCache<
-    &'static str,
-    u64,
-    DefaultState,
-    ZeroWeightScale,
-    &'a Rationed<Global>,
->;
+type Numbers<'a, S> = CLruCache<&'static str, u64, S, ZeroWeightScale, &'a Rationed<Global>>;
 
 /// A call. Its closures store the data.
 #[derive(Clone, Copy, Debug)]
@@ -113,7 +108,7 @@ static ROWS: &[Row] = &[
 ];
 
 /// Makes a call, and counts the calls of its closures, but for that of a retain.
-fn makes(cache: &mut Numbers, call: Call, called: &Cell<u64>) -> Answer {
+fn makes<S: BuildHasher>(cache: &mut Numbers<S>, call: Call, called: &Cell<u64>) -> Answer {
     let put = |_: &&str, data: u64| {
         counts(called);
         data
@@ -150,12 +145,18 @@ fn makes(cache: &mut Numbers, call: Call, called: &Cell<u64>) -> Answer {
     }
 }
 
-#[test]
-fn what_is_refused_leaves_a_cache_as_it_was(rt: HostRuntime) -> Result<(), Fail> {
+/// The calls of each row.
+fn stays_as_it_was<S: BuildHasher + Copy>(
+    rt: &impl Abort,
+    alloc: Global,
+    builder: S,
+) -> Result<(), Fail> {
     for row in ROWS {
-        let heap = Rationed::new(rt.alloc());
+        let heap = Rationed::new(alloc);
         let called = Cell::new(0);
-        let mut cache = CLruCache::with_memory(&heap, room(row.capacity)?, row.reserve)?;
+        let config = CLruCacheConfig::new(room(row.capacity)?).with_hasher(builder);
+        let made = CLruCache::with_config(&heap, config.with_memory(row.reserve));
+        let mut cache = made.map_err(|_| "there is memory")?;
         heap.refuse_after(0);
         for (call, answer, requests, list) in row.steps {
             let asked = heap.asked();
@@ -167,10 +168,15 @@ fn what_is_refused_leaves_a_cache_as_it_was(rt: HostRuntime) -> Result<(), Fail>
                 "{call:?} of {}",
                 row.name
             );
-            is_whole(&rt, &cache, list);
+            is_whole(rt, &cache, list);
         }
     }
     Ok(())
+}
+
+#[test]
+fn what_is_refused_leaves_a_cache_as_it_was(rt: HostRuntime) -> Result<(), Fail> {
+    with_each_builder!(rt, stays_as_it_was)
 }
 
 type Text = (u64, &'static str);
@@ -225,10 +231,15 @@ static WEIGHINGS: &[Weighing] = &[
     },
 ];
 
-#[test]
-fn a_weighted_put_without_a_place_gives_its_pair_back(rt: HostRuntime) -> Result<(), Fail> {
-    let heap = Rationed::new(rt.alloc());
+/// The weighted puts in turn.
+fn weighs_without_a_place<S: BuildHasher + Copy>(
+    rt: &impl Abort,
+    alloc: Global,
+    builder: S,
+) -> Result<(), Fail> {
+    let heap = Rationed::new(alloc);
     let config = CLruCacheConfig::new(room(8)?)
+        .with_hasher(builder)
         .with_scale(ByLength)
         .with_memory(2);
     let mut cache = CLruCache::with_config(&heap, config).map_err(|_| "there is memory")?;
@@ -238,7 +249,7 @@ fn a_weighted_put_without_a_place_gives_its_pair_back(rt: HostRuntime) -> Result
     heap.refuse_after(0);
     for row in WEIGHINGS {
         let asked = heap.asked();
-        let mut gone = Vec::new(rt.alloc());
+        let mut gone = Vec::new(alloc);
         let (key, value) = row.pair;
         let answer = puts(&mut cache, key, value, &mut gone);
         assert!(rt; answer == row.answer, "{key}");
@@ -252,28 +263,40 @@ fn a_weighted_put_without_a_place_gives_its_pair_back(rt: HostRuntime) -> Result
             (row.requests, row.weight, row.full),
             "{key}"
         );
-        is_whole(&rt, &cache, row.list);
+        is_whole(rt, &cache, row.list);
     }
     Ok(())
 }
 
 #[test]
-fn more_places_than_can_be_counted_are_refused_unasked(rt: HostRuntime) -> Result<(), Fail> {
-    let heap = Rationed::new(rt.alloc());
+fn a_weighted_put_without_a_place_gives_its_pair_back(rt: HostRuntime) -> Result<(), Fail> {
+    with_each_builder!(rt, weighs_without_a_place)
+}
+
+/// A reserve of the greatest number, and then of three.
+fn counts_no_further<S: BuildHasher + Copy>(
+    rt: &impl Abort,
+    alloc: Global,
+    builder: S,
+) -> Result<(), Fail> {
+    let heap = Rationed::new(alloc);
     let most = room(usize::MAX)?;
     let made: Result<Plain, NoMemory> = CLruCache::with_memory(&heap, most, usize::MAX);
     assert_eq!(rt; made.err(), Some(NoMemory));
-    let config = CLruCacheConfig::new(most).with_memory(usize::MAX);
-    let made: Result<Plain, _> = CLruCache::with_config(&heap, config);
-    let Err(config) = made else {
+    let config: CLruCacheConfig<u64, u64, S> = CLruCacheConfig::new(most).with_hasher(builder);
+    let Err(config) = CLruCache::with_config(&heap, config.with_memory(usize::MAX)) else {
         return Err("the places can not be counted".into());
     };
     assert_eq!(rt; (heap.asked(), heap.blocks()), (0, 0));
-    let mut cache: Plain = match CLruCache::with_config(&heap, config.with_memory(3)) {
-        Ok(cache) => cache,
-        Err(_) => return Err("there is memory for three".into()),
+    let Ok(mut cache) = CLruCache::with_config(&heap, config.with_memory(3)) else {
+        return Err("there is memory for three".into());
     };
     assert_eq!(rt; (cache.len(), cache.capacity()), (0, usize::MAX));
     assert_eq!(rt; free_places(&heap, &mut cache), 3);
     Ok(())
+}
+
+#[test]
+fn more_places_than_can_be_counted_are_refused_unasked(rt: HostRuntime) -> Result<(), Fail> {
+    with_each_builder!(rt, counts_no_further)
 }

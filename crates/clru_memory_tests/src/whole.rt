@@ -1,22 +1,23 @@
 //! Caches that are whole: both walks and the look-ups answer the same.
 
 use crate::adding::Plain;
-use clru::{CLruCache, DefaultState, WeightScale};
+use clru::{CLruCache, WeightScale};
 use std::alloc::Allocator;
 use std::fmt::Debug;
-use std::hash::Hash;
+use std::hash::{BuildHasher, Hash};
 use std::process::Abort;
 
 /// Asserts that the cache holds these pairs and no other, the most recently used first: by a walk from each end, and by a
 /// look-up of each key.
-pub(crate) fn is_whole<K, V, W, A>(
+pub(crate) fn is_whole<K, V, S, W, A>(
     rt: &impl Abort,
-    cache: &CLruCache<K, V, DefaultState, W, A>,
+    cache: &CLruCache<K, V, S, W, A>,
     list: &[(K, V)],
 )
 where
     K: Eq + Hash + Copy + Debug,
     V: PartialEq + Copy + Debug,
+    S: BuildHasher,
     W: WeightScale<K, V>,
     A: Allocator + Copy,
 {

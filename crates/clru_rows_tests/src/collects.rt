@@ -2,6 +2,7 @@
 
 use crate::lists::holds;
 use clru::CLruCache;
+use clru_fixtures::with_each_builder;
 use std::alloc::Global;
 use std::hash::BuildHasher;
 use std::process::Abort;

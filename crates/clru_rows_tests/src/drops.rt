@@ -4,6 +4,7 @@ use crate::lists::{holds, scaled};
 use clru::{CLruCache, PutError, WeightScale};
 use clru_fixtures::scales::{ByLength, ByValue};
 use clru_fixtures::sizes::room;
+use clru_fixtures::with_each_builder;
 use std::alloc::Global;
 use std::fmt::Debug;
 use std::hash::{BuildHasher, Hash};

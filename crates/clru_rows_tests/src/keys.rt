@@ -4,6 +4,7 @@ use crate::replays::marks;
 use clru::CLruCache;
 use clru_fixtures::letters::Letter;
 use clru_fixtures::sizes::room;
+use clru_fixtures::with_each_builder;
 use std::alloc::Global;
 use std::hash::BuildHasher;
 use std::process::Abort;

@@ -2,18 +2,6 @@
 //! the default builder and under those that give all keys one hash. Rows that are calls alone are tables of `clru_runs_tests`.
 #![tactic(auto)]
 
-/// Checks with the default builder, and with those that give all keys one hash.
-#[cfg(test)]
-macro_rules! with_each_builder {
-    ($rt:ident, $check:ident) => {{
-        $check(&$rt, $rt.alloc(), clru::DefaultState)?;
-        for builder in clru_fixtures::builders::CONSTANTS {
-            $check(&$rt, $rt.alloc(), builder)?;
-        }
-        Ok(())
-    }};
-}
-
 #[cfg(test)]
 mod collects;
 #[cfg(test)]

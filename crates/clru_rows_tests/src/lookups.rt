@@ -2,6 +2,7 @@
 
 use clru::CLruCache;
 use clru_fixtures::sizes::room;
+use clru_fixtures::with_each_builder;
 use std::alloc::Global;
 use std::hash::{BuildHasher, BuildHasherDefault, FoldHasher};
 use std::process::Abort;

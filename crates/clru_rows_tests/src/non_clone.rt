@@ -6,6 +6,7 @@ use crate::non_clone::Step::{
 };
 use clru::CLruCache;
 use clru_fixtures::sizes::room;
+use clru_fixtures::with_each_builder;
 use std::alloc::{AllocError, Global};
 use std::hash::BuildHasher;
 use std::process::Abort;

@@ -3,6 +3,7 @@
 use crate::lists::holds;
 use clru::{CLruCache, TryPutError};
 use clru_fixtures::sizes::room;
+use clru_fixtures::with_each_builder;
 use std::alloc::Global;
 use std::hash::BuildHasher;
 use std::process::Abort;

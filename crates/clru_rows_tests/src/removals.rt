@@ -4,6 +4,7 @@ use crate::lists::{holds, scaled};
 use clru::CLruCache;
 use clru_fixtures::scales::ByLength;
 use clru_fixtures::sizes::room;
+use clru_fixtures::with_each_builder;
 use std::alloc::Global;
 use std::hash::BuildHasher;
 use std::process::Abort;

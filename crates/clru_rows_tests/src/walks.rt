@@ -5,6 +5,7 @@ use crate::walks::End::{Back, Front};
 use clru::{CLruCache, CLruCacheIntoIter, CLruCacheIter, WeightScale};
 use clru_fixtures::scales::ByLength;
 use clru_fixtures::sizes::room;
+use clru_fixtures::with_each_builder;
 use std::alloc::Global;
 use std::fmt::Debug;
 use std::hash::{BuildHasher, Hash};

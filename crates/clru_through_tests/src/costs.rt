@@ -2,8 +2,8 @@
 ghost use Rattle.std.specs.Hash.FoldHasher.{initial};
 
 use crate::sources::{ByLength, Doubler, Failing, one};
-use crate::steps::room;
 use clru::{CLruCache, CLruCacheConfig};
+use clru_fixtures::sizes::room;
 use clru_through::Through;
 use std::cell::Cell;
 use std::hash::{BuildHasher, FoldHasher};

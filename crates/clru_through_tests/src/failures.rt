@@ -1,14 +1,21 @@
 //! A source that fails at each of its calls in turn.
 
 use crate::sources::{Failing, one};
-use crate::steps::{Texts, Want, gets, room, texts};
+use crate::steps::{Texts, Want, gets, texts};
+use clru_fixtures::with_each_builder;
+use std::alloc::Global;
 use std::cell::Cell;
+use std::hash::BuildHasher;
 use std::process::Abort;
 use std::test::Fail;
 
 /// Gets a few keys, two of them twice, each until its fetch succeeds. Returns how many fetches failed. A failure leaves what
 /// is held, and a key that is held is not fetched.
-fn fetches_again(rt: &impl Abort, store: &mut Texts, fetched: &Cell<u64>) -> u64 {
+fn fetches_again<S: BuildHasher>(
+    rt: &impl Abort,
+    store: &mut Texts<S>,
+    fetched: &Cell<u64>,
+) -> u64 {
     let mut failed = 0;
     for (letter, held, fetches) in [
         (b'a', 1, 1),
@@ -36,15 +43,24 @@ fn fetches_again(rt: &impl Abort, store: &mut Texts, fetched: &Cell<u64>) -> u64
     failed
 }
 
-#[test]
-fn each_fetch_fails_in_turn(rt: HostRuntime) -> Result<(), Fail> {
+/// A store whose source fails at one call, for each of them.
+fn fails_in_turn<S: BuildHasher + Copy>(
+    rt: &impl Abort,
+    alloc: Global,
+    builder: S,
+) -> Result<(), Fail> {
     for n in 0..9u64 {
         let fetched = Cell::new(0);
-        let mut store = texts(rt.alloc(), room(20)?, &fetched, Failing::After(n));
-        if fetches_again(&rt, &mut store, &fetched) == 0 {
+        let mut store = texts(alloc, 20, builder, &fetched, Failing::After(n))?;
+        if fetches_again(rt, &mut store, &fetched) == 0 {
             assert_eq!(rt; n, 3, "there are three fetches");
             return Ok(());
         }
     }
     Err("each run met a failure".into())
+}
+
+#[test]
+fn each_fetch_fails_in_turn(rt: HostRuntime) -> Result<(), Fail> {
+    with_each_builder!(rt, fails_in_turn)
 }

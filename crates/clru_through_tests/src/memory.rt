@@ -1,8 +1,8 @@
 //! Memory that is refused: each request in turn, until a run meets no refusal.
 
 use crate::sources::Twice;
-use crate::steps::room;
 use clru::{CLruCache, DefaultState, ZeroWeightScale};
+use clru_fixtures::sizes::room;
 use clru_through::{Answer, Through};
 use ration::Rationed;
 use std::alloc::Global;

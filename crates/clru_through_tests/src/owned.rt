@@ -3,8 +3,8 @@ ghost use Rattle.std.specs.Prelude.{ℕ, List, Some, length, replicate, ⊤};
 ghost use Rattle.std.specs.Cmp.Rules.{comparing};
 ghost use Rattle.std.proofs.Common.{rules};
 
-use crate::steps::room;
 use clru::{CLruCache, WeightScale};
+use clru_fixtures::sizes::room;
 use clru_through::{Loaded, Source, Through};
 use ration::Rationed;
 use std::alloc::{AllocError, Global};

@@ -1,9 +1,13 @@
 //! Worked rows of a store.
 
 use crate::sources::{Failing, Name, Text, one};
-use crate::steps::{Want, room, texts, walks};
+use crate::steps::{Want, texts, walks};
+use clru_fixtures::with_each_builder;
 use clru_through::Loaded;
+use std::alloc::Global;
 use std::cell::Cell;
+use std::hash::BuildHasher;
+use std::process::Abort;
 use std::test::Fail;
 
 /// The key `cc`.
@@ -12,17 +16,21 @@ const TWO_C: Name = Name {
     length: 2,
 };
 
-#[test]
-fn a_second_get_fetches_nothing(rt: HostRuntime) -> Result<(), Fail> {
+/// A key got twice, and one whose value is too heavy.
+fn gets_twice<S: BuildHasher + Copy>(
+    rt: &impl Abort,
+    alloc: Global,
+    builder: S,
+) -> Result<(), Fail> {
     let fetched = Cell::new(0);
-    let mut store = texts(rt.alloc(), room(4)?, &fetched, Failing::Never);
+    let mut store = texts(alloc, 4, builder, &fetched, Failing::Never)?;
     let rows = [
         (one(b'a'), Want::Held(b'a', 2), 1, 1, 2),
         (one(b'a'), Want::Held(b'a', 2), 1, 1, 2),
         (one(b'b'), Want::Held(b'b', 2), 2, 1, 2),
         (TWO_C, Want::Passed(b'c', 4), 3, 1, 2),
     ];
-    walks(&rt, &mut store, &fetched, &rows);
+    walks(rt, &mut store, &fetched, &rows);
     assert_eq!(rt; (store.peek(&one(b'a')), store.capacity()), (None, 4));
     assert!(rt; store.peek(&one(b'b')).is_some());
     assert_eq!(rt;
@@ -33,9 +41,18 @@ fn a_second_get_fetches_nothing(rt: HostRuntime) -> Result<(), Fail> {
 }
 
 #[test]
-fn a_heavy_value_drops_the_others(rt: HostRuntime) -> Result<(), Fail> {
+fn a_second_get_fetches_nothing(rt: HostRuntime) -> Result<(), Fail> {
+    with_each_builder!(rt, gets_twice)
+}
+
+/// A value that leaves no room for others.
+fn drops_the_others<S: BuildHasher + Copy>(
+    rt: &impl Abort,
+    alloc: Global,
+    builder: S,
+) -> Result<(), Fail> {
     let fetched = Cell::new(0);
-    let mut store = texts(rt.alloc(), room(6)?, &fetched, Failing::Never);
+    let mut store = texts(alloc, 6, builder, &fetched, Failing::Never)?;
     let rows = [
         (one(b'a'), Want::Held(b'a', 2), 1, 1, 2),
         (one(b'b'), Want::Held(b'b', 2), 2, 2, 4),
@@ -43,28 +60,42 @@ fn a_heavy_value_drops_the_others(rt: HostRuntime) -> Result<(), Fail> {
         (TWO_C, Want::Held(b'c', 4), 3, 1, 4),
         (one(b'b'), Want::Held(b'b', 2), 4, 1, 2),
     ];
-    walks(&rt, &mut store, &fetched, &rows);
+    walks(rt, &mut store, &fetched, &rows);
     Ok(())
 }
 
 #[test]
-fn a_failed_fetch_changes_nothing(rt: HostRuntime) -> Result<(), Fail> {
+fn a_heavy_value_drops_the_others(rt: HostRuntime) -> Result<(), Fail> {
+    with_each_builder!(rt, drops_the_others)
+}
+
+/// A source that fails at a key.
+fn fails_to_fetch<S: BuildHasher + Copy>(
+    rt: &impl Abort,
+    alloc: Global,
+    builder: S,
+) -> Result<(), Fail> {
     let fetched = Cell::new(0);
-    let mut store = texts(rt.alloc(), room(20)?, &fetched, Failing::At(b'b'));
+    let mut store = texts(alloc, 20, builder, &fetched, Failing::At(b'b'))?;
     let rows = [
         (one(b'a'), Want::Held(b'a', 2), 1, 1, 2),
         (one(b'b'), Want::Failed(7), 2, 1, 2),
         (one(b'b'), Want::Failed(7), 3, 1, 2),
         (one(b'a'), Want::Held(b'a', 2), 3, 1, 2),
     ];
-    walks(&rt, &mut store, &fetched, &rows);
+    walks(rt, &mut store, &fetched, &rows);
     Ok(())
 }
 
 #[test]
-fn a_hit_goes_to_the_front(rt: HostRuntime) -> Result<(), Fail> {
+fn a_failed_fetch_changes_nothing(rt: HostRuntime) -> Result<(), Fail> {
+    with_each_builder!(rt, fails_to_fetch)
+}
+
+/// Hits between loads.
+fn touches<S: BuildHasher + Copy>(rt: &impl Abort, alloc: Global, builder: S) -> Result<(), Fail> {
     let fetched = Cell::new(0);
-    let mut store = texts(rt.alloc(), room(6)?, &fetched, Failing::Never);
+    let mut store = texts(alloc, 6, builder, &fetched, Failing::Never)?;
     let rows = [
         (one(b'a'), Want::Held(b'a', 2), 1, 1, 2),
         (one(b'b'), Want::Held(b'b', 2), 2, 2, 4),
@@ -73,14 +104,19 @@ fn a_hit_goes_to_the_front(rt: HostRuntime) -> Result<(), Fail> {
         (one(b'a'), Want::Held(b'a', 2), 3, 2, 4),
         (one(b'b'), Want::Held(b'b', 2), 4, 2, 4),
     ];
-    walks(&rt, &mut store, &fetched, &rows);
+    walks(rt, &mut store, &fetched, &rows);
     Ok(())
 }
 
 #[test]
-fn a_load_says_what_became_of_the_value(rt: HostRuntime) -> Result<(), Fail> {
+fn a_hit_goes_to_the_front(rt: HostRuntime) -> Result<(), Fail> {
+    with_each_builder!(rt, touches)
+}
+
+/// A load that holds, one that fails, and one that passes on.
+fn loads<S: BuildHasher + Copy>(rt: &impl Abort, alloc: Global, builder: S) -> Result<(), Fail> {
     let fetched = Cell::new(0);
-    let mut store = texts(rt.alloc(), room(4)?, &fetched, Failing::At(b'b'));
+    let mut store = texts(alloc, 4, builder, &fetched, Failing::At(b'b'))?;
     assert_eq!(rt; store.load(one(b'a')), Ok(Loaded::Held));
     assert_eq!(rt; store.load(one(b'b')), Err(7));
     let passed = Text {
@@ -90,4 +126,9 @@ fn a_load_says_what_became_of_the_value(rt: HostRuntime) -> Result<(), Fail> {
     assert_eq!(rt; store.load(TWO_C), Ok(Loaded::Passed(passed)));
     assert_eq!(rt; (fetched.get(), store.len()), (3, 1));
     Ok(())
+}
+
+#[test]
+fn a_load_says_what_became_of_the_value(rt: HostRuntime) -> Result<(), Fail> {
+    with_each_builder!(rt, loads)
 }

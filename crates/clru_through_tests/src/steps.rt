@@ -1,14 +1,17 @@
 //! Requests of a store as a table.
 
 use crate::sources::{ByLength, Doubler, Failing, Name, Text};
-use clru::{CLruCache, DefaultState, NonZeroUsize};
+use clru::{CLruCache, CLruCacheConfig};
+use clru_fixtures::sizes::room;
 use clru_through::{Answer, Through};
 use std::alloc::Global;
 use std::cell::Cell;
+use std::hash::BuildHasher;
 use std::process::Abort;
+use std::test::Fail;
 
 /// A store of texts.
-pub(crate) type Texts<'a> = Through<Name, Text, u8, Doubler<'a>, DefaultState, ByLength, Global>;
+pub(crate) type Texts<'a, S> = Through<Name, Text, u8, Doubler<'a>, S, ByLength, Global>;
 
 /// What is wanted of a get.
 #[derive(Clone, Copy, Debug, PartialEq, Eq)]
@@ -26,24 +29,23 @@ pub(crate) enum Want {
 /// A get of a key; the answer; the fetches so far; how many values are held after it, and their weight.
 pub(crate) type Step = (Name, Want, u64, usize, usize);
 
-/// A capacity.
-pub(crate) fn room(n: usize) -> Result<NonZeroUsize, &'static str> {
-    NonZeroUsize::new(n).ok_or("a capacity is no 0")
-}
-
 /// A store of texts.
-pub(crate) fn texts<'a>(
+pub(crate) fn texts<'a, S: BuildHasher + Copy>(
     alloc: Global,
-    capacity: NonZeroUsize,
+    capacity: usize,
+    builder: S,
     fetched: &'a Cell<u64>,
     failing: Failing,
-) -> Texts<'a> {
-    let cache = CLruCache::with_scale(alloc, capacity, ByLength);
-    Through::new(cache, Doubler { fetched, failing })
+) -> Result<Texts<'a, S>, Fail> {
+    let config = CLruCacheConfig::new(room(capacity)?).with_hasher(builder);
+    let Ok(cache) = CLruCache::with_config(alloc, config.with_scale(ByLength)) else {
+        return Err(Fail::from("no reserve is asked for"));
+    };
+    Ok(Through::new(cache, Doubler { fetched, failing }))
 }
 
 /// Gets the key, and answers what came of it.
-pub(crate) fn gets(store: &mut Texts, name: Name) -> Want {
+pub(crate) fn gets<S: BuildHasher>(store: &mut Texts<S>, name: Name) -> Want {
     match store.get(name) {
         Ok(Answer::Held(text)) => Want::Held(text.letter, text.length),
         Ok(Answer::Passed(text)) => Want::Passed(text.letter, text.length),
@@ -52,7 +54,12 @@ pub(crate) fn gets(store: &mut Texts, name: Name) -> Want {
 }
 
 /// Walks the rows.
-pub(crate) fn walks(rt: &impl Abort, store: &mut Texts, fetched: &Cell<u64>, rows: &[Step]) {
+pub(crate) fn walks<S: BuildHasher>(
+    rt: &impl Abort,
+    store: &mut Texts<S>,
+    fetched: &Cell<u64>,
+    rows: &[Step],
+) {
     for (name, want, fetches, len, weight) in rows {
         let got = gets(store, *name);
         assert_eq!(rt;
