@@ -1,5 +1,6 @@
 //! A reserve of two places, where each later request for memory is refused.
 
+use assertions::assert_eq;
 use clru::{CLruCache, CLruCacheConfig, DefaultState, ZeroWeightScale};
 use clru_fixtures::builders::CONSTANTS;
 use clru_fixtures::sizes::room;
@@ -30,7 +31,7 @@ fn goes_in<S: BuildHasher>(rt: &impl Abort, cache: &mut Over<S>, key: u64) -> bo
 fn is_held<S: BuildHasher>(rt: &impl Abort, cache: &Over<S>, keys: [u64; 2]) {
     let mut held = cache.iter();
     for key in keys {
-        assert_eq!(rt; held.next(), Some((&key, &key.wrapping_mul(10))), "{key}");
+        assert_eq!(rt; held.next(), Some((&key, &key.wrapping_mul(10))), key);
     }
     assert_eq!(rt; held.next(), None);
 }
@@ -39,7 +40,7 @@ fn is_held<S: BuildHasher>(rt: &impl Abort, cache: &Over<S>, keys: [u64; 2]) {
 fn holds_two<S: BuildHasher>(rt: &impl Abort, heap: &Rationed<Global>, cache: &mut Over<S>) {
     heap.refuse_after(0);
     for (key, stored) in [(1, true), (2, true), (3, false)] {
-        assert_eq!(rt; goes_in(rt, cache, key), stored, "{key}");
+        assert_eq!(rt; goes_in(rt, cache, key), stored, key);
     }
     is_held(rt, cache, [2, 1]);
     assert_eq!(rt; cache.pop(&1), Some(10));

@@ -1,5 +1,6 @@
 //! What the tests of lists share.
 
+use assertions::assert_eq;
 use clru_list::FixedSizeList;
 use std::alloc::Allocator;
 use std::fmt::Debug;
@@ -14,16 +15,12 @@ pub(crate) fn has<T: PartialEq + Copy + Debug, A: Allocator + Copy>(
     assert_eq!(rt; list.len(), entries.len());
     let mut forward = list.iter();
     for (place, item) in entries {
-        assert_eq!(rt; forward.next(), Some((*place, item)), "of {entries:?}");
+        assert_eq!(rt; forward.next(), Some((*place, item)), entries);
     }
     assert_eq!(rt; forward.next(), None);
     let mut backward = list.iter();
     for (place, item) in entries.iter().rev() {
-        assert_eq!(rt;
-            backward.next_back(),
-            Some((*place, item)),
-            "of {entries:?}"
-        );
+        assert_eq!(rt; backward.next_back(), Some((*place, item)), entries);
     }
     assert_eq!(rt; backward.next_back(), None);
     follows_the_places(rt, list, entries);

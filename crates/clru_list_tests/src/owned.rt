@@ -1,5 +1,6 @@
 //! Items that own memory: none of it is left once they are gone.
 
+use assertions::assert_eq;
 use clru_list::{FixedSizeList, PushError};
 use ration::Rationed;
 use std::alloc::{AllocError, Global};

@@ -1,6 +1,7 @@
 //! Memory that is refused: in each call that may want some, each request in turn, until a run meets no refusal.
 
 use crate::entries::has;
+use assertions::assert_eq;
 use clru_list::{FixedSizeList, NoMemory, PushError};
 use ration::Rationed;
 use std::alloc::{AllocError, Allocator, Global};
@@ -50,7 +51,7 @@ fn pushes<A: Allocator + Copy>(
             heap.refused().wrapping_sub(refused)
         ),
         ((len == places) as u64, is_refused as u64),
-        "{number} to the {end:?}"
+        (number, end)
     );
     assert_eq!(rt; list.capacity(), 9);
     has(rt, list, entries.as_slice());
@@ -73,10 +74,10 @@ fn each_refused_push_gives_the_item_back(rt: HostRuntime) -> Result<(), Fail> {
                 assert_eq!(rt;
                     (list.len() as u64, heap.refused() == 0),
                     ((n * 4).min(9), n == 3),
-                    "{end:?} after {n}"
+                    (end, n)
                 );
             }
-            assert_eq!(rt; heap.blocks(), 0, "{end:?} after {n}");
+            assert_eq!(rt; heap.blocks(), 0, (end, n));
         }
     }
     Ok(())
@@ -96,9 +97,9 @@ fn a_refused_push_can_be_made_again(rt: HostRuntime) -> Result<(), Fail> {
                     assert!(rt; !again, "{number} to the {end:?}");
                 }
             }
-            assert_eq!(rt; (list.len(), heap.refused()), (9, 3), "{end:?}");
+            assert_eq!(rt; (list.len(), heap.refused()), (9, 3), end);
         }
-        assert_eq!(rt; heap.blocks(), 0, "{end:?}");
+        assert_eq!(rt; heap.blocks(), 0, end);
     }
     Ok(())
 }
@@ -121,20 +122,16 @@ fn make_ready_changes_nothing_where_it_is_refused(rt: HostRuntime) -> Result<(),
                 (0, Ok(()), after),
             ] {
                 heap.refuse_after(n);
-                assert_eq!(rt;
-                    (list.make_ready(), list.places()),
-                    (ready, places),
-                    "of {held}"
-                );
+                assert_eq!(rt; (list.make_ready(), list.places()), (ready, places), held);
                 has(&rt, &list, entries.as_slice());
             }
             assert_eq!(rt;
                 (heap.asked().wrapping_sub(asked), heap.refused()),
                 (2, 1),
-                "of {held}: a ready list asks for nothing"
+                (held, "a ready list asks for nothing")
             );
         }
-        assert_eq!(rt; heap.blocks(), 0, "of {held}");
+        assert_eq!(rt; heap.blocks(), 0, held);
     }
     Ok(())
 }

@@ -1,6 +1,7 @@
 //! The requests for memory, counted.
 
 use crate::callers::halve;
+use assertions::assert_eq;
 use clru_list::FixedSizeList;
 use ration::Rationed;
 use std::test::Fail;
@@ -10,11 +11,7 @@ fn makers_ask_for_what_they_reserve_at_once(rt: HostRuntime) {
     for (reserve, asked) in [(0, 0), (1, 1), (5, 1), (9, 1), (usize::MAX, 1)] {
         let heap = Rationed::new(rt.alloc());
         let list: Result<FixedSizeList<u64, &_>, _> = FixedSizeList::with_memory(&heap, 9, reserve);
-        assert_eq!(rt;
-            (list.is_ok(), heap.asked()),
-            (true, asked),
-            "a reserve of {reserve}"
-        );
+        assert_eq!(rt; (list.is_ok(), heap.asked()), (true, asked), reserve);
         drop(list);
         assert_eq!(rt; heap.blocks(), 0);
     }

@@ -1,6 +1,7 @@
 //! Worked rows, and the carried test of the list.
 
 use crate::entries::has;
+use assertions::assert_eq;
 use clru_list::{FixedSizeList, NoMemory, PushError};
 use ration::Rationed;
 use std::alloc::Allocator;
@@ -38,7 +39,9 @@ fn places_stay_through_each_call(rt: HostRuntime) -> Result<(), Fail> {
     has(&rt, &list, &[(r, 3), (p, 7)]);
     assert_eq!(rt; list.move_front(p).copied(), Some(7));
     has(&rt, &list, &[(p, 7), (r, 3)]);
-    list.resize(2);
+    if list.len() <= 2 {
+        list.resize(2);
+    }
     assert_eq!(rt; (list.is_full(), list.capacity()), (true, 2));
     has(&rt, &list, &[(p, 7), (r, 3)]);
     assert_eq!(rt; list.push_back(9), Err(PushError::Full(9)));

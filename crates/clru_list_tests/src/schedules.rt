@@ -1,6 +1,7 @@
 //! A long run of calls in a drawn order, beside a vector that does the same.
 
 use crate::entries::has;
+use assertions::assert_eq;
 use clru_list::FixedSizeList;
 use std::alloc::{Allocator, Global};
 use std::process::Abort;
@@ -64,14 +65,10 @@ fn visit<A: Allocator + Copy>(
     let at = (number % len as u64) as usize;
     let (place, item) = twins.entries.remove(at);
     if removes {
-        assert_eq!(rt; twins.list.remove(place), Some(item), "at {place}");
+        assert_eq!(rt; twins.list.remove(place), Some(item), place);
         assert_eq!(rt; twins.list.get(place), None);
     } else {
-        assert_eq!(rt;
-            twins.list.move_front(place).copied(),
-            Some(item),
-            "at {place}"
-        );
+        assert_eq!(rt; twins.list.move_front(place).copied(), Some(item), place);
         let inserted = twins.entries.insert(0, (place, item));
         inserted.map_err(|_| "no memory for an entry")?;
     }

@@ -1,6 +1,7 @@
 //! The walks over a list, at a concrete type.
 
 use crate::callers::{halve, halve_backwards, halve_by_both_ends, push_and_lift};
+use assertions::assert_eq;
 use clru_list::FixedSizeList;
 use std::alloc::{AllocError, Global};
 use std::test::Fail;
@@ -35,8 +36,12 @@ fn a_walk_gives_each_entry_once_from_both_ends(rt: HostRuntime) -> Result<(), Fa
     assert_eq!(rt; walk.next_back().map(|(_, item)| *item), Some(30));
     assert_eq!(rt; walk.next().map(|(_, item)| *item), Some(20));
     assert_eq!(rt;
-        (walk.next(), walk.next_back(), walk.len()),
-        (None, None, 0)
+        (
+            walk.next().is_none(),
+            walk.next_back().is_none(),
+            walk.len()
+        ),
+        (true, true, 0)
     );
     assert_eq!(rt;
         (copy.len(), copy.next_back().map(|(_, item)| *item)),
@@ -117,11 +122,7 @@ fn a_number_has_its_place_from_either_end(rt: HostRuntime) -> Result<(), Fail> {
     // Upwards, downwards, out of order, the same number again, and past the end.
     for number in [0, 1, 2, 3, 4, 3, 2, 1, 0, 2, 2, 0, 3, usize::MAX, 1] {
         let place = places.as_slice().get(number).copied();
-        assert_eq!(rt;
-            places_by_number(&mut list, number),
-            [place, place],
-            "number {number}"
-        );
+        assert_eq!(rt; places_by_number(&mut list, number), [place, place], number);
     }
     Ok(())
 }

@@ -1,6 +1,7 @@
 //! The calls that may add an entry, as one call.
 
-use clru::{CLruCache, DefaultState, NonZeroUsize, Put, PutError, TryPutError, ZeroWeightScale};
+use assertions::assert_eq;
+use clru::{CLruCache, DefaultState, Put, PutError, TryPutError, ZeroWeightScale};
 use ration::Rationed;
 use std::alloc::{Allocator, Global};
 use std::cell::Cell;
@@ -45,11 +46,6 @@ pub(crate) const ADDED: Put<u64, u64> = Put {
 /// The error of closures that do not fail.
 #[derive(Drop)]
 enum Never {}
-
-/// A capacity.
-pub(crate) fn room(n: usize) -> Result<NonZeroUsize, &'static str> {
-    NonZeroUsize::new(n).ok_or("a capacity is no 0")
-}
 
 /// Counts one more.
 pub(crate) fn counts(count: &Cell<u64>) {

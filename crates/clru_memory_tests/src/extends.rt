@@ -1,10 +1,12 @@
 //! The memory of `extend` and of `from_iter`: their puts ask for it one by one, and the first refusal ends them.
 
-use crate::adding::{Plain, room, takes_out_those_below};
+use crate::adding::{Plain, takes_out_those_below};
 use crate::costs::REQUESTS;
 use crate::owned::text;
 use crate::whole::holds_those_below;
+use assertions::assert_eq;
 use clru::{CLruCache, DefaultState, NoMemory};
+use clru_fixtures::sizes::room;
 use ration::Rationed;
 use std::alloc::{AllocError, Global};
 use std::cell::Cell;
@@ -35,24 +37,20 @@ fn each_refusal_ends_an_extend(rt: HostRuntime) -> Result<(), Fail> {
             if n == 3 * REQUESTS {
                 assert_eq!(rt; (refused, drawn.get(), heap.refused()), (Ok(()), 9, 0));
             } else {
-                assert_eq!(rt;
-                    refused,
-                    Err((stored, stored.wrapping_add(10))),
-                    "after {n}"
-                );
+                assert_eq!(rt; refused, Err((stored, stored.wrapping_add(10))), n);
                 assert_eq!(rt;
                     (drawn.get(), heap.asked(), heap.refused()),
                     (stored.wrapping_add(1), n + 1, 1),
-                    "after {n}: none behind it is drawn, and nothing is asked again"
+                    (n, "none behind it is drawn, and nothing is asked again")
                 );
             }
             holds_those_below(&rt, &cache, stored);
             heap.refuse_none();
-            assert_eq!(rt; extends(&mut cache, stored, 9, &drawn), Ok(()), "after {n}");
+            assert_eq!(rt; extends(&mut cache, stored, 9, &drawn), Ok(()), n);
             holds_those_below(&rt, &cache, 9);
             takes_out_those_below(&rt, &mut cache, 9);
         }
-        assert_eq!(rt; heap.blocks(), 0, "after {n}");
+        assert_eq!(rt; heap.blocks(), 0, n);
     }
     Ok(())
 }
@@ -90,11 +88,11 @@ fn each_refusal_ends_a_from_iter(rt: HostRuntime) -> Result<(), Fail> {
                 assert_eq!(rt;
                     (drawn.get(), heap.asked(), heap.refused()),
                     (stored_after(n).wrapping_add(1), n + 1, 1),
-                    "after {n}: none behind it is drawn, and nothing is asked again"
+                    (n, "none behind it is drawn, and nothing is asked again")
                 );
             }
         }
-        assert_eq!(rt; heap.blocks(), 0, "after {n}");
+        assert_eq!(rt; heap.blocks(), 0, n);
     }
     Ok(())
 }
@@ -126,9 +124,9 @@ fn an_extend_with_free_places_asks_for_nothing(rt: HostRuntime) -> Result<(), Fa
         assert_eq!(rt;
             extends(&mut cache, first, end, &drawn),
             Ok(()),
-            "{first} to {end}"
+            (first, end)
         );
-        assert_eq!(rt; heap.asked(), REQUESTS, "{first} to {end}");
+        assert_eq!(rt; heap.asked(), REQUESTS, (first, end));
     }
     for key in [8, 7, 6u64] {
         assert_eq!(rt; cache.pop_front(), Some((key, key + 10)));
@@ -159,17 +157,17 @@ fn a_refused_extend_forgets_no_item(rt: HostRuntime) -> Result<(), Fail> {
             let mut cache = CLruCache::new(&heap, room(9)?);
             heap.refuse_after(n);
             let refused = cache.extend(pairs);
-            assert_eq!(rt; refused.is_ok(), n == 2 * REQUESTS, "after {n}");
+            assert_eq!(rt; refused.is_ok(), n == 2 * REQUESTS, n);
             drop(refused);
             // What is held, two texts each, and the cache's own blocks: a list may have grown where its heads did not.
             let own = n.min(REQUESTS);
             assert_eq!(rt;
                 heap.blocks(),
                 (cache.len() as u64).wrapping_mul(2).wrapping_add(own),
-                "after {n}"
+                n
             );
         }
-        assert_eq!(rt; heap.blocks(), 0, "after {n}");
+        assert_eq!(rt; heap.blocks(), 0, n);
     }
     Ok(())
 }
@@ -181,9 +179,9 @@ fn a_refused_from_iter_forgets_no_item(rt: HostRuntime) -> Result<(), Fail> {
         let pairs = texts(&heap, &["a", "b", "c", "b", "d", "e", "f"])?;
         heap.refuse_after(n);
         let made = CLruCache::from_iter(&heap, DefaultState, pairs);
-        assert_eq!(rt; made.is_ok(), n == 2 * REQUESTS, "after {n}");
+        assert_eq!(rt; made.is_ok(), n == 2 * REQUESTS, n);
         drop(made);
-        assert_eq!(rt; heap.blocks(), 0, "after {n}");
+        assert_eq!(rt; heap.blocks(), 0, n);
     }
     Ok(())
 }

@@ -1,10 +1,12 @@
 //! Calls that lend an entry ask for nothing, and closures that fail forget nothing.
 
-use crate::adding::{Plain, counts, room};
+use crate::adding::{Plain, counts};
 use crate::costs::REQUESTS;
 use crate::owned::{blocks_of, text};
 use crate::whole::is_whole;
+use assertions::assert_eq;
 use clru::{CLruCache, DefaultState, TryPutError, ZeroWeightScale};
+use clru_fixtures::sizes::room;
 use ration::Rationed;
 use std::alloc::{AllocError, Allocator, Global};
 use std::cell::Cell;
@@ -88,8 +90,8 @@ fn no_closure_is_called_by_a_refused_try(rt: HostRuntime) -> Result<(), Fail> {
             Ok(())
         };
         let lent = cache.try_put_or_modify(key, put, modify, 10);
-        assert_eq!(rt; lent.map(|value| *value), answer, "{key}");
-        assert_eq!(rt; calls.get(), made, "{key}");
+        assert_eq!(rt; lent.map(|value| *value), answer, key);
+        assert_eq!(rt; calls.get(), made, key);
         is_whole(&rt, &cache, list);
     }
     Ok(())
@@ -130,8 +132,8 @@ fn closures_that_fail_forget_nothing(rt: HostRuntime) -> Result<(), Fail> {
         for (letter, texts) in [("c", 2), ("a", 1), ("b", 1)] {
             let (key, value) = (text(&heap, letter)?, text(&heap, "another")?);
             let seen = fails(&heap, &mut cache, key, value);
-            assert_eq!(rt; seen, Some(blocks_of(2).saturating_add(texts)), "{letter}");
-            assert_eq!(rt; heap.blocks(), blocks_of(2), "{letter}");
+            assert_eq!(rt; seen, Some(blocks_of(2).saturating_add(texts)), letter);
+            assert_eq!(rt; heap.blocks(), blocks_of(2), letter);
         }
         let last = text(&heap, "b")?;
         match cache.front() {

@@ -4,6 +4,8 @@
 #[cfg(test)]
 mod adding;
 #[cfg(test)]
+mod asserts;
+#[cfg(test)]
 mod costs;
 #[cfg(test)]
 mod extends;

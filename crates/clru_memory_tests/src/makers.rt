@@ -1,8 +1,10 @@
 //! Makers that find memory for their entries, and those that are refused.
 
-use crate::adding::{Plain, room};
+use crate::adding::Plain;
 use crate::costs::{HEAD_BYTES, PLACE_BYTES, REQUESTS};
+use assertions::assert_eq;
 use clru::{CLruCache, CLruCacheConfig, NoMemory, NonZeroUsize, ZeroWeightScale};
+use clru_fixtures::sizes::room;
 use ration::Rationed;
 use std::alloc::Global;
 use std::hash::BuildHasher;
@@ -76,15 +78,15 @@ fn a_reserve_is_asked_for_exactly(rt: HostRuntime) -> Result<(), Fail> {
                         if places == 0 { 0 } else { REQUESTS },
                         places * PLACE_BYTES + heads * HEAD_BYTES
                     ),
-                    "{maker:?} {capacity} {reserve}"
+                    (maker, capacity, reserve)
                 );
                 assert_eq!(rt;
                     free_places(&heap, &mut cache),
                     places,
-                    "{maker:?} {capacity} {reserve}"
+                    (maker, capacity, reserve)
                 );
             }
-            assert_eq!(rt; heap.blocks(), 0, "{maker:?} {capacity} {reserve}");
+            assert_eq!(rt; heap.blocks(), 0, (maker, capacity, reserve));
         }
     }
     Ok(())
@@ -97,13 +99,13 @@ fn each_refusal_leaves_no_block(rt: HostRuntime) -> Result<(), Fail> {
             let heap = Rationed::new(rt.alloc());
             heap.refuse_after(n);
             let made = makes(&heap, maker, room(4)?, 3).is_ok();
-            assert_eq!(rt; made, n == REQUESTS, "{maker:?} after {n}");
+            assert_eq!(rt; made, n == REQUESTS, (maker, n));
             assert_eq!(rt;
                 (heap.asked(), heap.refused() == 0),
                 (REQUESTS.min(n + 1), made),
-                "{maker:?} after {n}: nothing is asked again"
+                (maker, n, "nothing is asked again")
             );
-            assert_eq!(rt; heap.blocks(), 0, "{maker:?} after {n}");
+            assert_eq!(rt; heap.blocks(), 0, (maker, n));
         }
     }
     Ok(())
@@ -142,7 +144,7 @@ fn a_refused_configuration_comes_back_as_it_was(rt: HostRuntime) -> Result<(), F
             };
             makes_again(&rt, &heap, config, places);
         }
-        assert_eq!(rt; heap.blocks(), 0, "after {n}");
+        assert_eq!(rt; heap.blocks(), 0, n);
     }
     Ok(())
 }

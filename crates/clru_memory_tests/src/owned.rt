@@ -1,9 +1,11 @@
 //! Keys and values that own memory: none of them is forgotten, and none goes too early.
 ghost use Rattle.std.specs.Prelude.{length, string_bytes};
 
-use crate::adding::{ADDING, adds, room};
+use crate::adding::{ADDING, adds};
 use crate::costs::REQUESTS;
+use assertions::assert_eq;
 use clru::{CLruCache, DefaultState, PutError, WeightScale, ZeroWeightScale, replay};
+use clru_fixtures::sizes::room;
 use ration::Rationed;
 use std::alloc::{AllocError, Allocator, Global};
 use std::cell::Cell;
@@ -33,12 +35,12 @@ fn what_a_put_drops_is_given_back(rt: HostRuntime) -> Result<(), Fail> {
                 let put = adds(&mut cache, call, text(&heap, key)?, text(&heap, "value")?);
                 assert!(rt; put.is_ok(), "{call:?} of {key}");
                 drop(put);
-                assert_eq!(rt; heap.blocks(), blocks_of(entries), "{call:?} of {key}");
+                assert_eq!(rt; heap.blocks(), blocks_of(entries), (call, key));
             }
             drop(cache.pop_front());
-            assert_eq!(rt; heap.blocks(), blocks_of(1), "{call:?}");
+            assert_eq!(rt; heap.blocks(), blocks_of(1), call);
         }
-        assert_eq!(rt; heap.blocks(), 0, "{call:?}");
+        assert_eq!(rt; heap.blocks(), 0, call);
     }
     Ok(())
 }
@@ -51,7 +53,7 @@ fn what_is_refused_is_given_back(rt: HostRuntime) -> Result<(), Fail> {
         let (key, value) = (text(&heap, "key")?, text(&heap, "value")?);
         heap.refuse_after(0);
         assert!(rt; adds(&mut cache, call, key, value).is_err(), "{call:?}");
-        assert_eq!(rt; heap.blocks(), 0, "{call:?}");
+        assert_eq!(rt; heap.blocks(), 0, call);
     }
     Ok(())
 }
@@ -83,9 +85,9 @@ fn what_a_weighted_put_drops_is_given_back(rt: HostRuntime) -> Result<(), Fail> 
         ];
         for (key, value, entries, goes) in steps {
             let put = cache.put_with_weight(text(&heap, key)?, text(&heap, value)?, |_, _| {});
-            assert_eq!(rt; put.is_ok(), goes, "{key} {value}");
+            assert_eq!(rt; put.is_ok(), goes, (key, value));
             drop(put);
-            assert_eq!(rt; heap.blocks(), blocks_of(entries), "{key} {value}");
+            assert_eq!(rt; heap.blocks(), blocks_of(entries), (key, value));
         }
     }
     assert_eq!(rt; heap.blocks(), 0);
@@ -110,10 +112,10 @@ fn a_pair_that_a_put_drops_is_held_by_its_answer_alone(rt: HostRuntime) -> Resul
             assert_eq!(rt;
                 heap.blocks(),
                 blocks_of(entries).saturating_add(texts),
-                "{key}"
+                key
             );
             drop(put);
-            assert_eq!(rt; heap.blocks(), blocks_of(entries), "{key}");
+            assert_eq!(rt; heap.blocks(), blocks_of(entries), key);
         }
     }
     assert_eq!(rt; heap.blocks(), 0);
@@ -168,10 +170,10 @@ fn a_pair_that_a_weighted_put_drops_is_held_by_its_taker_alone(
                 &mut gone,
             );
             drop(put);
-            assert_eq!(rt; gone.len() as u64, pairs, "{key} {value}");
-            assert_eq!(rt; heap.blocks(), blocks_of(entries + pairs), "{key} {value}");
+            assert_eq!(rt; gone.len() as u64, pairs, (key, value));
+            assert_eq!(rt; heap.blocks(), blocks_of(entries + pairs), (key, value));
             drop(gone);
-            assert_eq!(rt; heap.blocks(), blocks_of(entries), "{key} {value}");
+            assert_eq!(rt; heap.blocks(), blocks_of(entries), (key, value));
         }
     }
     assert_eq!(rt; heap.blocks(), 0);
@@ -219,7 +221,7 @@ fn put_op_answers_before_the_oldest_entry_goes(rt: HostRuntime) -> Result<(), Fa
     for (key, entries) in [("a", 1), ("b", 2), ("c", 3)] {
         let (key, value) = (text(&heap, key)?, text(&heap, "value")?);
         let seen = blocks_seen(&heap, &mut cache, key, value);
-        assert_eq!(rt; seen, Some(blocks_of(entries)), "{entries}");
+        assert_eq!(rt; seen, Some(blocks_of(entries)), entries);
     }
     assert_eq!(rt; heap.blocks(), blocks_of(2));
     Ok(())

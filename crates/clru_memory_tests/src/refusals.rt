@@ -1,11 +1,13 @@
 //! Memory that is refused: in each call that may want some, each request in turn, until a run meets no refusal.
 
 use crate::adding::{
-    ADDING, Adding, Plain, adds, adds_counting, closures_of, room, takes_out_those_below,
+    ADDING, Adding, Plain, adds, adds_counting, closures_of, takes_out_those_below,
 };
 use crate::costs::REQUESTS;
 use crate::whole::{holds_those_below, is_whole};
+use assertions::assert_eq;
 use clru::CLruCache;
+use clru_fixtures::sizes::room;
 use ration::Rationed;
 use std::alloc::Global;
 use std::cell::Cell;
@@ -25,11 +27,7 @@ fn adds_nine(rt: &impl Abort, heap: &Rationed<Global>, cache: &mut Plain, call: 
             }
             Err(pair) => {
                 assert_eq!(rt; pair, (key, key + 10));
-                assert_eq!(rt;
-                    heap.refused(),
-                    refused.wrapping_add(1),
-                    "{call:?} of {key}"
-                );
+                assert_eq!(rt; heap.refused(), refused.wrapping_add(1), (call, key));
                 assert!(rt;
                     heap.asked().wrapping_sub(asked) <= REQUESTS,
                     "{call:?} of {key}"
@@ -58,12 +56,8 @@ fn each_refusal_gives_the_pair_back(rt: HostRuntime) -> Result<(), Fail> {
                 heap.refuse_none();
                 takes_out_those_below(&rt, &mut cache, stored);
             }
-            assert_eq!(rt;
-                heap.refused() == 0,
-                n == 3 * REQUESTS,
-                "{call:?} after {n}"
-            );
-            assert_eq!(rt; heap.blocks(), 0, "{call:?} after {n}");
+            assert_eq!(rt; heap.refused() == 0, n == 3 * REQUESTS, (call, n));
+            assert_eq!(rt; heap.blocks(), 0, (call, n));
         }
     }
     Ok(())
@@ -85,11 +79,7 @@ fn refused_keys(
             met[key] = true;
             holds_those_below(rt, cache, pair.0);
             heap.refuse_none();
-            assert_eq!(rt;
-                adds(cache, call, pair.0, pair.1),
-                Ok(None),
-                "{call:?} of {key}"
-            );
+            assert_eq!(rt; adds(cache, call, pair.0, pair.1), Ok(None), (call, key));
         }
     }
     met
@@ -105,11 +95,11 @@ fn a_refused_put_can_be_made_again(rt: HostRuntime) -> Result<(), Fail> {
                 let met = refused_keys(&rt, &heap, &mut cache, call, n);
                 heap.refuse_none();
                 for (key, refused) in met.iter().enumerate() {
-                    assert_eq!(rt; *refused, key % 4 == 0, "{call:?} of {key}");
+                    assert_eq!(rt; *refused, key % 4 == 0, (call, key));
                 }
                 takes_out_those_below(&rt, &mut cache, 9);
             }
-            assert_eq!(rt; (heap.refused(), heap.blocks()), (3, 0), "{call:?}");
+            assert_eq!(rt; (heap.refused(), heap.blocks()), (3, 0), call);
         }
     }
     Ok(())
@@ -141,8 +131,8 @@ fn no_closure_is_called_by_a_refused_call(rt: HostRuntime) -> Result<(), Fail> {
             *value = value.wrapping_add(more);
         };
         let lent = cache.put_or_modify(key, put, modify, 10);
-        assert_eq!(rt; lent.map(|value| *value), answer, "{key}");
-        assert_eq!(rt; (made.get(), modified.get()), (calls, changes), "{key}");
+        assert_eq!(rt; lent.map(|value| *value), answer, key);
+        assert_eq!(rt; (made.get(), modified.get()), (calls, changes), key);
         is_whole(&rt, &cache, list);
     }
     Ok(())

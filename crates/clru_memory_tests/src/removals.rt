@@ -1,9 +1,11 @@
 //! Calls that take entries out or change the capacity: they ask for no memory, forget nothing, and the places stay.
 
-use crate::adding::{ADDED, Plain, room};
+use crate::adding::{ADDED, Plain};
 use crate::costs::REQUESTS;
 use crate::owned::text;
+use assertions::assert_eq;
 use clru::CLruCache;
+use clru_fixtures::sizes::room;
 use ration::Rationed;
 use std::alloc::Global;
 use std::process::Abort;
@@ -58,7 +60,7 @@ fn takes(cache: &mut Plain, call: Taking) -> Result<(), &'static str> {
 fn filled<'a>(heap: &'a Rationed<Global>, rt: &impl Abort) -> Result<Plain<'a>, &'static str> {
     let mut cache = CLruCache::new(heap, room(9)?);
     for key in 0..9u64 {
-        assert_eq!(rt; cache.put(key, key), Ok(ADDED), "{key}");
+        assert_eq!(rt; cache.put(key, key), Ok(ADDED), key);
     }
     Ok(cache)
 }
@@ -71,13 +73,13 @@ fn taking_out_asks_for_nothing_and_leaves_the_places(rt: HostRuntime) -> Result<
         let asked = heap.asked();
         heap.refuse_after(0);
         takes(&mut cache, call)?;
-        assert_eq!(rt; (cache.len(), heap.asked()), (left, asked), "{call:?}");
+        assert_eq!(rt; (cache.len(), heap.asked()), (left, asked), call);
         // As many new entries as there were are put into the places.
         cache.resize(room(9)?);
         for key in 100..109u64 {
             assert!(rt; cache.put(key, key).is_ok(), "{key} after {call:?}");
         }
-        assert_eq!(rt; (cache.len(), heap.asked()), (9, asked), "{call:?}");
+        assert_eq!(rt; (cache.len(), heap.asked()), (9, asked), call);
     }
     Ok(())
 }
@@ -140,9 +142,9 @@ fn what_is_taken_out_is_given_back(rt: HostRuntime) -> Result<(), Fail> {
             }
             takes_texts(&heap, &mut cache, call)?;
             let texts = (cache.len() as u64).wrapping_mul(2);
-            assert_eq!(rt; heap.blocks(), texts.wrapping_add(REQUESTS), "{call:?}");
+            assert_eq!(rt; heap.blocks(), texts.wrapping_add(REQUESTS), call);
         }
-        assert_eq!(rt; heap.blocks(), 0, "{call:?}");
+        assert_eq!(rt; heap.blocks(), 0, call);
     }
     Ok(())
 }

@@ -1,8 +1,9 @@
 //! The memory of a replay.
 
-use crate::adding::room;
 use crate::costs::{HEAD_BYTES, PLACE_BYTES, REQUESTS};
+use assertions::assert_eq;
 use clru::{DefaultState, replay};
+use clru_fixtures::sizes::room;
 use ration::Rationed;
 use std::alloc::{AllocError, Global};
 use std::test::Fail;
@@ -43,12 +44,12 @@ fn a_replay_asks_for_its_places_and_its_marks(rt: HostRuntime) -> Result<(), Fai
         assert_eq!(rt;
             heap.asked().wrapping_sub(asked),
             REQUESTS + 1,
-            "{capacity} {count}"
+            (capacity, count)
         );
         assert_eq!(rt;
             heap.asked_bytes().wrapping_sub(bytes),
             places * PLACE_BYTES + heads * HEAD_BYTES + count,
-            "{capacity} {count}"
+            (capacity, count)
         );
         assert_eq!(rt; (heap.blocks(), heap.held_bytes()), (1, count), "the marks");
     }
@@ -76,7 +77,7 @@ fn a_replay_gives_the_keys_back(rt: HostRuntime) -> Result<(), Fail> {
                 assert_eq!(rt; heap.blocks(), 1, "the keys alone are left");
             }
         }
-        assert_eq!(rt; heap.blocks(), 0, "after {n}");
+        assert_eq!(rt; heap.blocks(), 0, n);
     }
     Ok(())
 }

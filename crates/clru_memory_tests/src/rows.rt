@@ -1,11 +1,13 @@
 //! Worked rows: what a cache does once all later requests for memory are refused.
 
-use crate::adding::{Plain, counts, room};
+use crate::adding::{Plain, counts};
 use crate::makers::free_places;
 use crate::owned::puts;
 use crate::whole::is_whole;
+use assertions::assert_eq;
 use clru::{CLruCache, CLruCacheConfig, NoMemory, Put, PutError, TryPutError, ZeroWeightScale};
 use clru_fixtures::scales::ByLength;
+use clru_fixtures::sizes::room;
 use clru_fixtures::with_each_builder;
 use ration::Rationed;
 use std::alloc::Global;
@@ -165,8 +167,7 @@ fn stays_as_it_was<S: BuildHasher + Copy>(
             assert_eq!(rt;
                 (heap.asked().wrapping_sub(asked), called.get()),
                 (*requests, 0),
-                "{call:?} of {}",
-                row.name
+                (call, row.name)
             );
             is_whole(rt, &cache, list);
         }
@@ -253,7 +254,7 @@ fn weighs_without_a_place<S: BuildHasher + Copy>(
         let (key, value) = row.pair;
         let answer = puts(&mut cache, key, value, &mut gone);
         assert!(rt; answer == row.answer, "{key}");
-        assert_eq!(rt; gone.as_slice(), row.handed_out, "{key}");
+        assert_eq!(rt; gone.as_slice(), row.handed_out, key);
         assert_eq!(rt;
             (
                 heap.asked().wrapping_sub(asked),
@@ -261,7 +262,7 @@ fn weighs_without_a_place<S: BuildHasher + Copy>(
                 cache.is_full()
             ),
             (row.requests, row.weight, row.full),
-            "{key}"
+            key
         );
         is_whole(rt, &cache, row.list);
     }

@@ -1,7 +1,9 @@
 //! Calls that ask for no memory.
 
-use crate::adding::{ADDED, ADDING, Adding, Plain, adds, room, takes_out_those_below};
+use crate::adding::{ADDED, ADDING, Adding, Plain, adds, takes_out_those_below};
+use assertions::assert_eq;
 use clru::{CLruCache, DefaultState, PutError, WeightScale};
+use clru_fixtures::sizes::room;
 use ration::Rationed;
 use std::alloc::Global;
 use std::hash::{BuildHasherDefault, FoldHasher};
@@ -69,7 +71,7 @@ fn reads_and_pop_front_ask_for_nothing(rt: HostRuntime) -> Result<(), Fail> {
     heap.refuse_after(0);
     for (call, right, count) in reads(&heap, &mut cache) {
         assert!(rt; right, "{call}");
-        assert_eq!(rt; count, asked, "{call}");
+        assert_eq!(rt; count, asked, call);
     }
     Ok(())
 }
@@ -77,11 +79,7 @@ fn reads_and_pop_front_ask_for_nothing(rt: HostRuntime) -> Result<(), Fail> {
 /// Adds the keys 0 to 8, each of which is new.
 fn adds_nine(rt: &impl Abort, cache: &mut Plain, call: Adding) {
     for key in 0..9u64 {
-        assert_eq!(rt;
-            adds(cache, call, key, key + 10),
-            Ok(None),
-            "{call:?} of {key}"
-        );
+        assert_eq!(rt; adds(cache, call, key, key + 10), Ok(None), (call, key));
     }
 }
 
@@ -102,7 +100,7 @@ fn a_free_place_is_used_without_a_request(rt: HostRuntime) -> Result<(), Fail> {
             "in place of the oldest"
         );
         assert!(rt; !cache.contains(&0));
-        assert_eq!(rt; (cache.len(), heap.asked()), (9, asked), "{call:?}");
+        assert_eq!(rt; (cache.len(), heap.asked()), (9, asked), call);
     }
     Ok(())
 }
@@ -112,11 +110,7 @@ fn a_weighted_put_that_drops_another_asks_for_nothing(rt: HostRuntime) -> Result
     let heap = Rationed::new(rt.alloc());
     let mut cache: Weighted = CLruCache::with_scale(&heap, room(20)?, Each(1));
     for key in 0..10u64 {
-        assert_eq!(rt;
-            cache.put_with_weight(key, key, |_, _| {}),
-            Ok(None),
-            "{key}"
-        );
+        assert_eq!(rt; cache.put_with_weight(key, key, |_, _| {}), Ok(None), key);
     }
     let asked = heap.asked();
     heap.refuse_after(0);
@@ -128,7 +122,7 @@ fn a_weighted_put_that_drops_another_asks_for_nothing(rt: HostRuntime) -> Result
     ] {
         let mut last = None;
         let put = cache.put_with_weight(key, key, |key, value| last = Some((key, value)));
-        assert_eq!(rt; (put, last), (Ok(old), gone), "{key}");
+        assert_eq!(rt; (put, last), (Ok(old), gone), key);
     }
     assert_eq!(rt; cache.pop_front(), Some((11, 11)));
     assert_eq!(rt;

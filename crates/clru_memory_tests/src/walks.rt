@@ -1,9 +1,11 @@
 //! Walks ask for no memory, and what an iterator did not hand out goes with it.
 
-use crate::adding::{Plain, room};
+use crate::adding::Plain;
 use crate::costs::REQUESTS;
 use crate::owned::text;
+use assertions::assert_eq;
 use clru::CLruCache;
+use clru_fixtures::sizes::room;
 use ration::Rationed;
 use std::test::Fail;
 
@@ -70,11 +72,11 @@ fn a_half_walked_iterator_forgets_nothing(rt: HostRuntime) -> Result<(), Fail> {
                 assert_eq!(rt;
                     (pair.is_some(), heap.blocks()),
                     (true, held.saturating_add(REQUESTS)),
-                    "{step} of {handed}"
+                    (step, handed)
                 );
             }
         }
-        assert_eq!(rt; heap.blocks(), 0, "{handed}");
+        assert_eq!(rt; heap.blocks(), 0, handed);
     }
     Ok(())
 }

@@ -1,6 +1,7 @@
 //! Caches that are whole: both walks and the look-ups answer the same.
 
 use crate::adding::Plain;
+use assertions::assert_eq;
 use clru::{CLruCache, WeightScale};
 use std::alloc::Allocator;
 use std::fmt::Debug;
@@ -21,19 +22,19 @@ where
     W: WeightScale<K, V>,
     A: Allocator + Copy,
 {
-    assert_eq!(rt; cache.len(), list.len(), "{list:?}");
+    assert_eq!(rt; cache.len(), list.len(), list);
     let mut forward = cache.iter();
     for (key, value) in list {
-        assert_eq!(rt; forward.next(), Some((key, value)), "{list:?}");
+        assert_eq!(rt; forward.next(), Some((key, value)), list);
         assert_eq!(rt;
             (cache.peek(key), cache.contains(key)),
             (Some(value), true),
-            "{list:?}"
+            list
         );
     }
     let mut backward = cache.iter();
     for (key, value) in list.iter().rev() {
-        assert_eq!(rt; backward.next_back(), Some((key, value)), "{list:?}");
+        assert_eq!(rt; backward.next_back(), Some((key, value)), list);
     }
     assert_eq!(rt; (forward.next(), backward.next_back()), (None, None));
 }

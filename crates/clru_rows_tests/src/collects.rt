@@ -1,6 +1,7 @@
 //! Caches that are made of their items.
 
 use crate::lists::holds;
+use assertions::assert_eq;
 use clru::CLruCache;
 use clru_fixtures::with_each_builder;
 use std::alloc::Global;
@@ -48,7 +49,7 @@ fn collects<S: BuildHasher + Copy>(rt: &impl Abort, alloc: Global, builder: S) -
         assert_eq!(rt;
             (cache.len(), cache.capacity(), cache.is_full()),
             (row.list.len(), row.capacity, row.full),
-            "row {i}"
+            i
         );
         holds(rt, &cache, row.list);
     }

@@ -1,6 +1,7 @@
 //! What puts hand out.
 
 use crate::lists::{holds, scaled};
+use assertions::assert_eq;
 use clru::{CLruCache, PutError, WeightScale};
 use clru_fixtures::scales::{ByLength, ByValue};
 use clru_fixtures::sizes::room;
@@ -122,7 +123,7 @@ where
         let mut gone = Vec::new(alloc);
         let put = puts(cache, *key, *value, &mut gone);
         assert!(rt; put.map_err(|_| ()) == *answer, "{key:?} of {}", row.name);
-        assert_eq!(rt; gone.len(), pairs.len(), "{key:?} of {}", row.name);
+        assert_eq!(rt; gone.len(), pairs.len(), (key, row.name));
         for (given, wanted) in gone.into_iter().zip(*pairs) {
             assert!(rt; given == *wanted, "{key:?} of {}", row.name);
         }
@@ -167,7 +168,7 @@ fn puts_in_both_forms<S: BuildHasher + Copy>(
         assert_eq!(rt;
             (answer, gone),
             (Ok(put.replaced), put.dropped),
-            "{key} {value}"
+            (key, value)
         );
     }
     holds(rt, &plain, &[("a", 6), ("b", 4)]);

@@ -1,6 +1,7 @@
 //! Keys that are equal without being the same: letters, without regard to ASCII case.
 
 use crate::replays::marks;
+use assertions::assert_eq;
 use clru::CLruCache;
 use clru_fixtures::letters::Letter;
 use clru_fixtures::sizes::room;
@@ -38,7 +39,7 @@ fn weighs_both_cases<S: BuildHasher + Copy>(
     let mut cache = CLruCache::with_hasher(alloc, room(2)?, builder);
     for (letter, value, old) in [(b'A', 1, None), (b'a', 2, Some(1))] {
         let put = cache.put_with_weight(Letter(letter), value, |_, _| {});
-        assert_eq!(rt; put.map_err(|_| "refused")?, old, "{letter}");
+        assert_eq!(rt; put.map_err(|_| "refused")?, old, letter);
     }
     let front = cache.pop_front().map(|(key, value)| (key.0, value));
     assert_eq!(rt; (front, cache.len()), (Some((b'a', 2)), 0));

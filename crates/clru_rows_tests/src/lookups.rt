@@ -1,5 +1,6 @@
 //! Look-ups with keys that own memory, and with another hash builder.
 
+use assertions::assert_eq;
 use clru::CLruCache;
 use clru_fixtures::sizes::room;
 use clru_fixtures::with_each_builder;

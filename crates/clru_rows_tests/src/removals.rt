@@ -1,6 +1,7 @@
 //! Retains with closures of their own: what each is called on, and in which order.
 
 use crate::lists::{holds, scaled};
+use assertions::assert_eq;
 use clru::CLruCache;
 use clru_fixtures::scales::ByLength;
 use clru_fixtures::sizes::room;

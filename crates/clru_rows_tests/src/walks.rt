@@ -2,6 +2,7 @@
 
 use crate::lists::{holds, scaled};
 use crate::walks::End::{Back, Front};
+use assertions::assert_eq;
 use clru::{CLruCache, CLruCacheIntoIter, CLruCacheIter, WeightScale};
 use clru_fixtures::scales::ByLength;
 use clru_fixtures::sizes::room;
@@ -161,20 +162,15 @@ fn walks<K: PartialEq + Copy + Debug, V: PartialEq + Copy + Debug>(
     let mut left = walk.pairs.len();
     for (end, pair) in walk.steps {
         let hint = iter.size_hint();
-        assert_eq!(rt;
-            (iter.len(), hint),
-            (left, (left, Some(left))),
-            "{}",
-            walk.name
-        );
+        assert_eq!(rt; (iter.len(), hint), (left, (left, Some(left))), walk.name);
         let given = match end {
             Front => iter.next(),
             Back => iter.next_back(),
         };
         let given = given.map(|(key, value)| (*key, *value));
-        assert_eq!(rt; given, *pair, "{end:?} of {}", walk.name);
+        assert_eq!(rt; given, *pair, (end, walk.name));
         left = left.saturating_sub(1);
-        assert_eq!(rt; iter.len(), left, "{}", walk.name);
+        assert_eq!(rt; iter.len(), left, walk.name);
     }
 }
 
@@ -231,12 +227,7 @@ fn iterates_by_weight<S: BuildHasher + Copy>(
     for walk in WEIGHTED_WALKS {
         let cache = weighed(alloc, walk, builder)?;
         let number = walk.pairs.len();
-        assert_eq!(rt;
-            (cache.len(), cache.weight()),
-            (number, number),
-            "{}",
-            walk.name
-        );
+        assert_eq!(rt; (cache.len(), cache.weight()), (number, number), walk.name);
         walks(rt, cache.iter(), walk);
     }
     Ok(())
@@ -262,20 +253,15 @@ where
     let mut left = walk.pairs.len();
     for (end, pair) in walk.steps {
         let hint = iter.size_hint();
-        assert_eq!(rt;
-            (iter.len(), hint),
-            (left, (left, Some(left))),
-            "{}",
-            walk.name
-        );
+        assert_eq!(rt; (iter.len(), hint), (left, (left, Some(left))), walk.name);
         let given = match end {
             Front => iter.next(),
             Back => iter.next_back(),
         };
-        assert_eq!(rt; given, *pair, "{end:?} of {}", walk.name);
+        assert_eq!(rt; given, *pair, (end, walk.name));
         left = left.saturating_sub(1);
     }
-    assert_eq!(rt; iter.len(), left, "{}", walk.name);
+    assert_eq!(rt; iter.len(), left, walk.name);
 }
 
 /// Each walk by value, of a cache with a scale and without.
@@ -305,16 +291,16 @@ fn passes<S: BuildHasher + Copy>(rt: &impl Abort, alloc: Global, builder: S) -> 
         let mut cache = made(alloc, walk, builder)?;
         let mut cursor = cache.iter_mut();
         for (end, pair) in walk.steps {
-            assert_eq!(rt; cursor.len(), left, "{}", walk.name);
+            assert_eq!(rt; cursor.len(), left, walk.name);
             let value = match end {
                 Front => cursor.next(),
                 Back => cursor.next_back(),
             };
             let value = value.map(|value| *value);
-            assert_eq!(rt; value, pair.map(|pair| pair.1), "{end:?} of {}", walk.name);
+            assert_eq!(rt; value, pair.map(|pair| pair.1), (end, walk.name));
             left = left.saturating_sub(1);
         }
-        assert_eq!(rt; cursor.len(), left, "{}", walk.name);
+        assert_eq!(rt; cursor.len(), left, walk.name);
     }
     Ok(())
 }
@@ -342,9 +328,9 @@ fn takes_one_from_each<S: BuildHasher + Copy>(
         let mut held = cache.into_iter();
         for (key, value) in walk.pairs.iter().rev() {
             let wanted = Some((*key, value.saturating_sub(1)));
-            assert_eq!(rt; held.next(), wanted, "{}", walk.name);
+            assert_eq!(rt; held.next(), wanted, walk.name);
         }
-        assert_eq!(rt; held.next(), None, "{}", walk.name);
+        assert_eq!(rt; held.next(), None, walk.name);
     }
     Ok(())
 }

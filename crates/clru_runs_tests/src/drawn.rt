@@ -2,6 +2,7 @@
 
 use crate::calls::{Drawn, Draws, KEYS};
 use crate::pairs::Pairs;
+use assertions::assert_eq;
 use clru::{CLruCache, CLruCacheConfig, DefaultState, WeightScale, ZeroWeightScale};
 use clru_fixtures::builders::CONSTANTS;
 use clru_fixtures::scales::ByValue;
@@ -34,7 +35,7 @@ fn is_whole<S: BuildHasher, W: WeightScale<usize, usize>>(
     }
     assert_eq!(rt; (forward.next(), backward.next_back()), (None, None));
     for key in 0..KEYS {
-        assert_eq!(rt; cache.peek(&key).copied(), pairs.value(key), "{key}");
+        assert_eq!(rt; cache.peek(&key).copied(), pairs.value(key), key);
     }
 }
 

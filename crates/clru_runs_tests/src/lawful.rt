@@ -1,6 +1,7 @@
 //! Calls through the callers that learn the laws of runs.
 
 use crate::callers::{perform_at_both, perform_puts};
+use assertions::assert_eq;
 use clru::CLruCache;
 use clru_fixtures::sizes::room;
 use clru_runs::Answer::{Lent, Pair};

@@ -24,6 +24,8 @@ macro_rules! weighed {
     };
 }
 
+#[cfg(test)]
+mod asserts;
 pub mod callers;
 #[cfg(test)]
 mod calls;

@@ -1,6 +1,7 @@
 //! Memory that is refused.
 
 use crate::tables::{Table, runs};
+use assertions::assert_eq;
 use clru::{CLruCache, PutError};
 use clru_fixtures::sizes::room;
 use clru_runs::Answer::{Lent, Number, Stored, Value, Weighed};

@@ -65,6 +65,7 @@ pub fn room_left<W: WeightScale<u64, u64>>(cache: &CLruCache<u64, u64, DefaultSt
 #[cfg(test)]
 mod tests {
     use super::*;
+    use assertions::assert_eq;
     use clru::NonZeroUsize;
     use std::test::Fail;
 
@@ -111,7 +112,7 @@ mod tests {
             assert_eq!(rt;
                 drops::number_forgotten(&mut sizes, page, 70),
                 Ok(number),
-                "{page}"
+                page
             );
         }
         Ok(())

@@ -2,6 +2,7 @@
 
 use crate::callers::{calls, puts, runs};
 use crate::lists::room;
+use assertions::assert_eq;
 use clru::{
     CLruCache, ZeroWeightScale, law_by_place, law_dropped, law_growth, law_inclusion,
     law_longest_fit, law_requests, law_schedules_by_place,

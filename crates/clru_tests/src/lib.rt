@@ -1,6 +1,8 @@
 //! Tests of `clru` by its public calls alone. A crate with tests is proved twice, so they stand in one of their own.
 #![tactic(auto)]
 
+#[cfg(test)]
+mod asserts;
 pub mod callers;
 #[cfg(test)]
 mod laws;

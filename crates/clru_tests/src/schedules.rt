@@ -2,6 +2,7 @@
 //! know all requests beforehand.
 
 use crate::lists::room;
+use assertions::assert_eq;
 use clru::{DefaultState, replay};
 use std::alloc::{AllocError, Global};
 use std::convert::AsSlice;
@@ -164,9 +165,9 @@ fn the_furthest_next_request_is_dropped(rt: HostRuntime) -> Result<(), Fail> {
         assert_eq!(rt;
             schedule_misses(h, b"", &schedule, requests)?,
             fewest,
-            "{k} {h}"
+            (k, h)
         );
-        assert_eq!(rt; replay_misses(rt.alloc(), k, requests)?, misses, "{k} {h}");
+        assert_eq!(rt; replay_misses(rt.alloc(), k, requests)?, misses, (k, h));
         assert!(rt; keeps_the_bound(k, misses, h, fewest), "{k} {h}");
     }
     Ok(())
@@ -178,7 +179,7 @@ fn a_start_counts_as_fetched_first(rt: HostRuntime) -> Result<(), Fail> {
     let lists = ["xy", "xya", "yab", "yab", "yab"];
     assert_eq!(rt; schedule.len(), lists.len());
     for (held, list) in schedule.iter().zip(lists.iter()) {
-        assert_eq!(rt; held.as_slice(), list.as_bytes(), "{list}");
+        assert_eq!(rt; held.as_slice(), list.as_bytes(), list);
     }
     assert_eq!(rt; schedule_misses(3, b"xy", &schedule, b"abya")?, 2);
     Ok(())
@@ -212,14 +213,10 @@ fn a_start_saves_a_miss_for_each_of_its_keys(rt: HostRuntime) -> Result<(), Fail
         assert_eq!(rt;
             schedule_misses(h, start, &schedule, requests)?,
             fewest,
-            "{k} {h}"
+            (k, h)
         );
-        assert_eq!(rt; replay_misses(rt.alloc(), k, requests)?, misses, "{k} {h}");
-        assert_eq!(rt;
-            sides_from_any_start(k, misses, h, fewest),
-            sides,
-            "{k} {h}"
-        );
+        assert_eq!(rt; replay_misses(rt.alloc(), k, requests)?, misses, (k, h));
+        assert_eq!(rt; sides_from_any_start(k, misses, h, fewest), sides, (k, h));
         assert!(rt; sides.0 <= sides.1, "{k} {h}");
     }
     Ok(())
@@ -271,11 +268,7 @@ fn drawn_requests_keep_the_bound(rt: HostRuntime) -> Result<(), Fail> {
             for list in 0..12 {
                 let requests = drawn(rt.alloc(), &mut seed, letters, length)?;
                 let pairs = pairs_within_the_bound(rt.alloc(), &requests)?;
-                assert_eq!(rt;
-                    pairs,
-                    15,
-                    "{letters} letters, {length} requests, list {list}"
-                );
+                assert_eq!(rt; pairs, 15, (letters, length, list));
                 cases = cases.saturating_add(pairs);
             }
         }

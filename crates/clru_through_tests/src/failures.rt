@@ -2,6 +2,7 @@
 
 use crate::sources::{Failing, one};
 use crate::steps::{Texts, Want, gets, texts};
+use assertions::assert_eq;
 use clru_fixtures::with_each_builder;
 use std::alloc::Global;
 use std::cell::Cell;
@@ -37,7 +38,7 @@ fn fetches_again<S: BuildHasher>(
         assert_eq!(rt;
             (store.len(), fetched.get()),
             (held, fetches + extra),
-            "at {letter}"
+            letter
         );
     }
     failed

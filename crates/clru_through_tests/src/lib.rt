@@ -1,6 +1,8 @@
 //! Tests of `clru_through` by its public calls alone, and callers that are proved over its contracts.
 #![tactic(auto)]
 
+#[cfg(test)]
+mod asserts;
 pub mod callers;
 #[cfg(test)]
 mod costs;

@@ -1,6 +1,7 @@
 //! Memory that is refused: each request in turn, until a run meets no refusal.
 
 use crate::sources::Twice;
+use assertions::assert_eq;
 use clru::{CLruCache, DefaultState, ZeroWeightScale};
 use clru_fixtures::sizes::room;
 use clru_through::{Answer, Through};
@@ -51,11 +52,7 @@ fn gets_nine(
             }
             Err(error) => assert_eq!(rt; error, 0, "there is no such error"),
         }
-        assert_eq!(rt;
-            (store.len() as u64, fetched.get()),
-            (held, key + 1),
-            "at {key}"
-        );
+        assert_eq!(rt; (store.len() as u64, fetched.get()), (held, key + 1), key);
     }
     held
 }
@@ -70,7 +67,7 @@ fn a_value_without_memory_is_passed_on(rt: HostRuntime) -> Result<(), Fail> {
             heap.refuse_after(n);
             let held = gets_nine(&rt, &heap, &mut store, &fetched);
             for key in 0..9u64 {
-                assert_eq!(rt; store.peek(&key).is_some(), key < held, "{key} of {held}");
+                assert_eq!(rt; store.peek(&key).is_some(), key < held, (key, held));
             }
         }
         assert_eq!(rt; heap.blocks(), 0);

@@ -3,6 +3,7 @@ ghost use Rattle.std.specs.Prelude.{ℕ, List, Some, length, replicate, ⊤};
 ghost use Rattle.std.specs.Cmp.Rules.{comparing};
 ghost use Rattle.std.proofs.Common.{rules};
 
+use assertions::assert_eq;
 use clru::{CLruCache, WeightScale};
 use clru_fixtures::sizes::room;
 use clru_through::{Loaded, Source, Through};
@@ -87,7 +88,7 @@ fn no_key_and_no_value_is_lost(rt: HostRuntime) -> Result<(), Fail> {
     for (capacity, all_passed) in [(3, 6), (8, 0), (20, 0)] {
         let heap = Rationed::new(rt.alloc());
         assert_eq!(rt; loads(&rt, &heap, capacity)?, (all_passed, 0));
-        assert_eq!(rt; heap.blocks(), 0, "at {capacity}");
+        assert_eq!(rt; heap.blocks(), 0, capacity);
     }
     Ok(())
 }
@@ -101,7 +102,7 @@ fn nothing_is_lost_where_memory_is_refused(rt: HostRuntime) -> Result<(), Fail> 
         assert_eq!(rt;
             (passed.saturating_add(failed), heap.blocks()),
             (heap.refused(), 0),
-            "at {n}"
+            n
         );
         if heap.refused() == 0 {
             assert!(rt; n > 0, "there was a request to refuse");

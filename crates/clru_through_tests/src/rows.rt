@@ -2,6 +2,7 @@
 
 use crate::sources::{Failing, Name, Text, one};
 use crate::steps::{Want, texts, walks};
+use assertions::assert_eq;
 use clru_fixtures::with_each_builder;
 use clru_through::Loaded;
 use std::alloc::Global;

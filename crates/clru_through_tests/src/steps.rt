@@ -1,6 +1,7 @@
 //! Requests of a store as a table.
 
 use crate::sources::{ByLength, Doubler, Failing, Name, Text};
+use assertions::assert_eq;
 use clru::{CLruCache, CLruCacheConfig};
 use clru_fixtures::sizes::room;
 use clru_through::{Answer, Through};
@@ -65,7 +66,7 @@ pub(crate) fn walks<S: BuildHasher>(
         assert_eq!(rt;
             (got, fetched.get(), store.len(), store.weight()),
             (*want, *fetches, *len, *weight),
-            "{name:?}"
+            name
         );
     }
 }

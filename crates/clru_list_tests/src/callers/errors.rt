@@ -25,6 +25,7 @@ pub fn message<T>(alloc: Global, why: &PushError<T>) -> Result<String, AllocErro
 #[cfg(test)]
 mod tests {
     use super::*;
+    use assertions::assert_eq;
     use clru_list::NoMemory;
     use std::error::Error;
     use std::test::Fail;

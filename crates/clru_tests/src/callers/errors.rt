@@ -92,6 +92,7 @@ pub fn message<K, V>(alloc: Global, why: &PutError<K, V>) -> Result<String, Allo
 #[cfg(test)]
 mod tests {
     use super::*;
+    use assertions::assert_eq;
     use clru::NonZeroUsize;
     use std::test::Fail;
 

@@ -49,6 +49,7 @@ pub fn look_for(sizes: &mut CLruCache<u64, u64>, page: u64) -> Option<u64>
 #[cfg(test)]
 mod tests {
     use super::*;
+    use assertions::assert_eq;
     use clru::NonZeroUsize;
     use std::test::Fail;
 

@@ -80,6 +80,7 @@ pub fn three_looks<S: BuildHasher + Drop>(
 #[cfg(test)]
 mod tests {
     use super::*;
+    use assertions::assert_eq;
     use clru::{DefaultState, ZeroWeightScale};
     use std::test::Fail;
 

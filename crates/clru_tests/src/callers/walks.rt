@@ -77,6 +77,7 @@ pub fn oldest(sizes: CLruCache<u64, u64>) -> Option<(u64, u64)>
 #[cfg(test)]
 mod tests {
     use super::*;
+    use assertions::assert_eq;
     use clru::NonZeroUsize;
     use std::test::Fail;
 
