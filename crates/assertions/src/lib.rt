@@ -5,7 +5,7 @@
 /// Asserts that two values are equal, as std's macro does, where a third value, if any, tells of what. The crate has
 /// `Asserts` in its module `asserts`, with what `define_asserts!` writes.
 #[macro_export]
-macro_rules! assert_eq {
+macro_rules! equal {
     ($rt:expr; $left:expr, $right:expr $(,)?) => {
         crate::asserts::Asserts::equal(&$rt, $left, $right)
     };
@@ -14,7 +14,7 @@ macro_rules! assert_eq {
     };
 }
 
-/// Writes what `assert_eq!` calls. It may end the process, so it stands under `#[cfg(test)]` alone.
+/// Writes what `equal!` calls. It may end the process, so it stands under `#[cfg(test)]` alone.
 #[macro_export]
 macro_rules! define_asserts {
     ($name:ident) => {

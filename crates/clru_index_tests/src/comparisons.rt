@@ -5,7 +5,7 @@ ghost use Rattle.std.specs.Ordering.{on};
 ghost use Rattle.std.specs.Cmp.Rules.{comparing, hashing};
 ghost use Rattle.std.proofs.Common.{rules};
 
-use assertions::assert_eq;
+use assertions::equal;
 use clru::{DefaultState, replay};
 use clru_fixtures::sizes::room;
 use std::alloc::Global;
@@ -77,7 +77,7 @@ fn a_replay_compares_few_keys(rt: HostRuntime) -> Result<(), Fail> {
     ];
     for (capacity, distinct, rounds, misses, most) in rows {
         let (compared, missed) = replayed(rt.alloc(), capacity, distinct, rounds)?;
-        assert_eq!(rt; missed, misses, (capacity, rounds));
+        equal!(rt; missed, misses, (capacity, rounds));
         assert!(rt; compared <= most, "{compared} with {capacity} {rounds}");
     }
     Ok(())

@@ -1,6 +1,6 @@
 //! Growths that are refused half way.
 
-use assertions::assert_eq;
+use assertions::equal;
 use clru::{CLruCache, DefaultState, ZeroWeightScale};
 use clru_fixtures::sizes::room;
 use ration::Rationed;
@@ -15,22 +15,22 @@ type Plain<'a> = CLruCache<u64, u64, DefaultState, ZeroWeightScale, &'a Rationed
 fn puts(rt: &impl Abort, cache: &mut Plain, first: u64, end: u64) {
     for key in first..end {
         let put = cache.put(key, key.wrapping_add(10));
-        assert_eq!(rt; put.map(|put| put.replaced), Ok(None), key);
+        equal!(rt; put.map(|put| put.replaced), Ok(None), key);
     }
 }
 
 /// Asserts that the keys below `held` are found.
 fn finds_those_below(rt: &impl Abort, cache: &Plain, held: u64) {
-    assert_eq!(rt; cache.len() as u64, held);
+    equal!(rt; cache.len() as u64, held);
     for key in 0..held {
-        assert_eq!(rt; cache.peek(&key).copied(), Some(key.wrapping_add(10)), key);
+        equal!(rt; cache.peek(&key).copied(), Some(key.wrapping_add(10)), key);
     }
 }
 
 /// Takes the keys out, the highest first.
 fn takes_out(rt: &impl Abort, cache: &mut Plain, first: u64, end: u64) {
     for key in (first..end).rev() {
-        assert_eq!(rt; cache.pop_front(), Some((key, key.wrapping_add(10))));
+        equal!(rt; cache.pop_front(), Some((key, key.wrapping_add(10))));
     }
 }
 
@@ -45,13 +45,13 @@ fn refuses_a_growth(
     puts(rt, cache, 0, held);
     assert!(rt; cache.get(&0).is_some(), "{held}");
     heap.refuse_one_after(n);
-    assert_eq!(rt; cache.put(held, 0), Err((held, 0)), (held, n));
+    equal!(rt; cache.put(held, 0), Err((held, 0)), (held, n));
     heap.refuse_none();
     finds_those_below(rt, cache, held);
     puts(rt, cache, held, held.wrapping_mul(2));
     finds_those_below(rt, cache, held.wrapping_mul(2));
     takes_out(rt, cache, held, held.wrapping_mul(2));
-    assert_eq!(rt; cache.pop_front(), Some((0, 10)), (held, n));
+    equal!(rt; cache.pop_front(), Some((0, 10)), (held, n));
     takes_out(rt, cache, 1, held);
     assert!(rt; cache.is_empty());
 }
@@ -65,7 +65,7 @@ fn a_refused_growth_leaves_each_key_in_its_place(rt: HostRuntime) -> Result<(), 
                 let mut cache = CLruCache::new(&heap, room(1000)?);
                 refuses_a_growth(&rt, &heap, &mut cache, held, n);
             }
-            assert_eq!(rt; (heap.refused(), heap.blocks()), (1, 0), (held, n));
+            equal!(rt; (heap.refused(), heap.blocks()), (1, 0), (held, n));
         }
     }
     Ok(())
@@ -89,7 +89,7 @@ fn places_and_heads_double(rt: HostRuntime) -> Result<(), Fail> {
         let heap = Rationed::new(rt.alloc());
         let mut cache = CLruCache::new(&heap, room(1000)?);
         puts(&rt, &mut cache, 0, end);
-        assert_eq!(rt; heap.held_bytes(), bytes, end);
+        equal!(rt; heap.held_bytes(), bytes, end);
     }
     Ok(())
 }

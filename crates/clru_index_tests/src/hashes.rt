@@ -1,7 +1,7 @@
 //! How often a cache hashes keys.
 
 use crate::builders::Counting;
-use assertions::assert_eq;
+use assertions::equal;
 use clru::{CLruCache, replay};
 use clru_fixtures::sizes::room;
 use clru_runs::Call::{Contains, Get, Peek, PopFront, PutWithWeight};
@@ -36,9 +36,9 @@ fn a_request_hashes_its_key_and_the_one_it_drops(rt: HostRuntime) -> Result<(), 
     for (call, count) in REQUESTS.iter() {
         hashes.set(0);
         let _answer = call.clone()?.perform(&mut cache);
-        assert_eq!(rt; hashes.get(), *count, call);
+        equal!(rt; hashes.get(), *count, call);
     }
-    assert_eq!(rt; cache.len(), 2);
+    equal!(rt; cache.len(), 2);
     Ok(())
 }
 
@@ -49,10 +49,10 @@ fn a_growth_hashes_the_held_keys_again(rt: HostRuntime) -> Result<(), Fail> {
     let mut cache = CLruCache::with_hasher(rt.alloc(), room(100)?, builder);
     for key in 0..100u64 {
         hashes.set(0);
-        assert_eq!(rt; cache.put(key, key)?.replaced, None);
+        equal!(rt; cache.put(key, key)?.replaced, None);
         let grows = [4, 8, 16, 32, 64].contains(&key);
         let again = if grows { key } else { 0 };
-        assert_eq!(rt; hashes.get(), again.wrapping_add(1), key);
+        equal!(rt; hashes.get(), again.wrapping_add(1), key);
     }
     Ok(())
 }
@@ -71,8 +71,8 @@ fn a_replay_hashes_each_key_and_each_that_it_drops(rt: HostRuntime) -> Result<()
             keys,
             Counting { hashes: &hashes },
         );
-        assert_eq!(rt; answer.map(|answer| answer.misses), Ok(1000), capacity);
-        assert_eq!(rt; hashes.get(), count, capacity);
+        equal!(rt; answer.map(|answer| answer.misses), Ok(1000), capacity);
+        equal!(rt; hashes.get(), count, capacity);
     }
     Ok(())
 }

@@ -1,6 +1,6 @@
 //! A reserve of two places, where each later request for memory is refused.
 
-use assertions::assert_eq;
+use assertions::equal;
 use clru::{CLruCache, CLruCacheConfig, DefaultState, ZeroWeightScale};
 use clru_fixtures::builders::CONSTANTS;
 use clru_fixtures::sizes::room;
@@ -17,11 +17,11 @@ type Over<'a, S> = CLruCache<u64, u64, S, ZeroWeightScale, &'a Rationed<Global>>
 fn goes_in<S: BuildHasher>(rt: &impl Abort, cache: &mut Over<S>, key: u64) -> bool {
     match cache.put(key, key.wrapping_mul(10)) {
         Ok(put) => {
-            assert_eq!(rt; (put.replaced, put.dropped), (None, None));
+            equal!(rt; (put.replaced, put.dropped), (None, None));
             true
         }
         Err(pair) => {
-            assert_eq!(rt; pair, (key, key.wrapping_mul(10)));
+            equal!(rt; pair, (key, key.wrapping_mul(10)));
             false
         }
     }
@@ -31,19 +31,19 @@ fn goes_in<S: BuildHasher>(rt: &impl Abort, cache: &mut Over<S>, key: u64) -> bo
 fn is_held<S: BuildHasher>(rt: &impl Abort, cache: &Over<S>, keys: [u64; 2]) {
     let mut held = cache.iter();
     for key in keys {
-        assert_eq!(rt; held.next(), Some((&key, &key.wrapping_mul(10))), key);
+        equal!(rt; held.next(), Some((&key, &key.wrapping_mul(10))), key);
     }
-    assert_eq!(rt; held.next(), None);
+    equal!(rt; held.next(), None);
 }
 
 /// Two keys go in, the third where a place is free again.
 fn holds_two<S: BuildHasher>(rt: &impl Abort, heap: &Rationed<Global>, cache: &mut Over<S>) {
     heap.refuse_after(0);
     for (key, stored) in [(1, true), (2, true), (3, false)] {
-        assert_eq!(rt; goes_in(rt, cache, key), stored, key);
+        equal!(rt; goes_in(rt, cache, key), stored, key);
     }
     is_held(rt, cache, [2, 1]);
-    assert_eq!(rt; cache.pop(&1), Some(10));
+    equal!(rt; cache.pop(&1), Some(10));
     assert!(rt; goes_in(rt, cache, 3));
     is_held(rt, cache, [3, 2]);
     heap.refuse_none();

@@ -1,6 +1,6 @@
 //! The assertions of this crate.
 
-/// What `assert_eq!` calls.
+/// What `equal!` calls.
 pub(crate) struct Asserts;
 
 assertions::define_asserts!(Asserts);

@@ -1,6 +1,6 @@
 //! What the tests of lists share.
 
-use assertions::assert_eq;
+use assertions::equal;
 use clru_list::FixedSizeList;
 use std::alloc::Allocator;
 use std::fmt::Debug;
@@ -12,17 +12,17 @@ pub(crate) fn has<T: PartialEq + Copy + Debug, A: Allocator + Copy>(
     list: &FixedSizeList<T, A>,
     entries: &[(usize, T)],
 ) {
-    assert_eq!(rt; list.len(), entries.len());
+    equal!(rt; list.len(), entries.len());
     let mut forward = list.iter();
     for (place, item) in entries {
-        assert_eq!(rt; forward.next(), Some((*place, item)), entries);
+        equal!(rt; forward.next(), Some((*place, item)), entries);
     }
-    assert_eq!(rt; forward.next(), None);
+    equal!(rt; forward.next(), None);
     let mut backward = list.iter();
     for (place, item) in entries.iter().rev() {
-        assert_eq!(rt; backward.next_back(), Some((*place, item)), entries);
+        equal!(rt; backward.next_back(), Some((*place, item)), entries);
     }
-    assert_eq!(rt; backward.next_back(), None);
+    equal!(rt; backward.next_back(), None);
     follows_the_places(rt, list, entries);
 }
 
@@ -35,10 +35,10 @@ fn follows_the_places<T: PartialEq + Copy + Debug, A: Allocator + Copy>(
     let mut at = list.front_idx();
     let mut before = None;
     for (place, item) in entries {
-        assert_eq!(rt; (at, list.prev_idx(*place)), (Some(*place), before));
-        assert_eq!(rt; list.get(*place), Some(item));
+        equal!(rt; (at, list.prev_idx(*place)), (Some(*place), before));
+        equal!(rt; list.get(*place), Some(item));
         before = at;
         at = list.next_idx(*place);
     }
-    assert_eq!(rt; (at, list.back_idx()), (None, before));
+    equal!(rt; (at, list.back_idx()), (None, before));
 }

@@ -1,6 +1,6 @@
 //! Items that own memory: none of it is left once they are gone.
 
-use assertions::assert_eq;
+use assertions::equal;
 use clru_list::{FixedSizeList, PushError};
 use ration::Rationed;
 use std::alloc::{AllocError, Global};
@@ -32,9 +32,9 @@ fn filled(
 fn a_list_drops_its_items(rt: HostRuntime) -> Result<(), Fail> {
     let heap = Rationed::new(rt.alloc());
     let list = filled(&heap, 5)?;
-    assert_eq!(rt; heap.blocks(), 6);
+    equal!(rt; heap.blocks(), 6);
     drop(list);
-    assert_eq!(rt; heap.blocks(), 0);
+    equal!(rt; heap.blocks(), 0);
     Ok(())
 }
 
@@ -42,19 +42,19 @@ fn a_list_drops_its_items(rt: HostRuntime) -> Result<(), Fail> {
 fn items_that_go_are_dropped(rt: HostRuntime) -> Result<(), Fail> {
     let heap = Rationed::new(rt.alloc());
     let mut list = filled(&heap, 8)?;
-    assert_eq!(rt; heap.blocks(), 9);
+    equal!(rt; heap.blocks(), 9);
     list.retain(|_, item| item.first().copied() != Some(3));
     list.retain_mut(|_, item| item.first().copied() != Some(4));
-    assert_eq!(rt; (list.len(), heap.blocks()), (6, 7));
+    equal!(rt; (list.len(), heap.blocks()), (6, 7));
     list.pop_front();
     if let Some(place) = list.back_idx() {
         list.remove(place);
     }
-    assert_eq!(rt; (list.len(), heap.blocks()), (4, 5));
+    equal!(rt; (list.len(), heap.blocks()), (4, 5));
     list.clear();
-    assert_eq!(rt; (list.len(), heap.blocks()), (0, 1));
+    equal!(rt; (list.len(), heap.blocks()), (0, 1));
     drop(list);
-    assert_eq!(rt; heap.blocks(), 0);
+    equal!(rt; heap.blocks(), 0);
     Ok(())
 }
 
@@ -69,14 +69,14 @@ fn replaced_and_refused_items_are_dropped(rt: HostRuntime) -> Result<(), Fail> {
     if let Some(old) = list.back_mut() {
         *old = Vec::new(&heap);
     }
-    assert_eq!(rt; heap.blocks(), 8);
+    equal!(rt; heap.blocks(), 8);
     let more = item(&heap, 9)?;
     match list.push_back(more) {
-        Err(PushError::Full(item)) => assert_eq!(rt; item.as_slice(), [9u64].as_slice()),
+        Err(PushError::Full(item)) => equal!(rt; item.as_slice(), [9u64].as_slice()),
         _ => return Err("the list is full".into()),
     }
-    assert_eq!(rt; heap.blocks(), 8);
+    equal!(rt; heap.blocks(), 8);
     drop(list);
-    assert_eq!(rt; heap.blocks(), 0);
+    equal!(rt; heap.blocks(), 0);
     Ok(())
 }

@@ -1,7 +1,7 @@
 //! Memory that is refused: in each call that may want some, each request in turn, until a run meets no refusal.
 
 use crate::entries::has;
-use assertions::assert_eq;
+use assertions::equal;
 use clru_list::{FixedSizeList, NoMemory, PushError};
 use ration::Rationed;
 use std::alloc::{AllocError, Allocator, Global};
@@ -39,13 +39,13 @@ fn pushes<A: Allocator + Copy>(
     match pushed {
         Ok(place) => entries.insert(at, (place, number))?,
         Err(refusal) => {
-            assert_eq!(rt;
+            equal!(rt;
                 (refusal, list.places()),
                 (PushError::NoMemory(number), places)
             );
         }
     }
-    assert_eq!(rt;
+    equal!(rt;
         (
             heap.asked().wrapping_sub(asked),
             heap.refused().wrapping_sub(refused)
@@ -53,7 +53,7 @@ fn pushes<A: Allocator + Copy>(
         ((len == places) as u64, is_refused as u64),
         (number, end)
     );
-    assert_eq!(rt; list.capacity(), 9);
+    equal!(rt; list.capacity(), 9);
     has(rt, list, entries.as_slice());
     Ok(is_refused)
 }
@@ -71,13 +71,13 @@ fn each_refused_push_gives_the_item_back(rt: HostRuntime) -> Result<(), Fail> {
                 for number in 0..9u64 {
                     pushes(&rt, &heap, &mut list, &mut entries, end, number)?;
                 }
-                assert_eq!(rt;
+                equal!(rt;
                     (list.len() as u64, heap.refused() == 0),
                     ((n * 4).min(9), n == 3),
                     (end, n)
                 );
             }
-            assert_eq!(rt; heap.blocks(), 0, (end, n));
+            equal!(rt; heap.blocks(), 0, (end, n));
         }
     }
     Ok(())
@@ -97,9 +97,9 @@ fn a_refused_push_can_be_made_again(rt: HostRuntime) -> Result<(), Fail> {
                     assert!(rt; !again, "{number} to the {end:?}");
                 }
             }
-            assert_eq!(rt; (list.len(), heap.refused()), (9, 3), end);
+            equal!(rt; (list.len(), heap.refused()), (9, 3), end);
         }
-        assert_eq!(rt; heap.blocks(), 0, end);
+        equal!(rt; heap.blocks(), 0, end);
     }
     Ok(())
 }
@@ -122,16 +122,16 @@ fn make_ready_changes_nothing_where_it_is_refused(rt: HostRuntime) -> Result<(),
                 (0, Ok(()), after),
             ] {
                 heap.refuse_after(n);
-                assert_eq!(rt; (list.make_ready(), list.places()), (ready, places), held);
+                equal!(rt; (list.make_ready(), list.places()), (ready, places), held);
                 has(&rt, &list, entries.as_slice());
             }
-            assert_eq!(rt;
+            equal!(rt;
                 (heap.asked().wrapping_sub(asked), heap.refused()),
                 (2, 1),
                 (held, "a ready list asks for nothing")
             );
         }
-        assert_eq!(rt; heap.blocks(), 0, held);
+        equal!(rt; heap.blocks(), 0, held);
     }
     Ok(())
 }
@@ -144,12 +144,12 @@ fn the_maker_gives_its_block_back(rt: HostRuntime) -> Result<(), Fail> {
         let made: Result<Numbers, NoMemory> = FixedSizeList::with_memory(&heap, 9, 5);
         match made {
             Ok(list) => {
-                assert_eq!(rt; (list.places(), heap.refused()), (5, 0));
+                equal!(rt; (list.places(), heap.refused()), (5, 0));
                 assert!(rt; n > 0, "there was a request to refuse");
                 return Ok(());
             }
             Err(NoMemory) => {
-                assert_eq!(rt; (heap.asked(), heap.refused(), heap.blocks()), (1, 1, 0));
+                equal!(rt; (heap.asked(), heap.refused(), heap.blocks()), (1, 1, 0));
             }
         }
     }

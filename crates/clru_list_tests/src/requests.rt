@@ -1,7 +1,7 @@
 //! The requests for memory, counted.
 
 use crate::callers::halve;
-use assertions::assert_eq;
+use assertions::equal;
 use clru_list::FixedSizeList;
 use ration::Rationed;
 use std::test::Fail;
@@ -11,9 +11,9 @@ fn makers_ask_for_what_they_reserve_at_once(rt: HostRuntime) {
     for (reserve, asked) in [(0, 0), (1, 1), (5, 1), (9, 1), (usize::MAX, 1)] {
         let heap = Rationed::new(rt.alloc());
         let list: Result<FixedSizeList<u64, &_>, _> = FixedSizeList::with_memory(&heap, 9, reserve);
-        assert_eq!(rt; (list.is_ok(), heap.asked()), (true, asked), reserve);
+        equal!(rt; (list.is_ok(), heap.asked()), (true, asked), reserve);
         drop(list);
-        assert_eq!(rt; heap.blocks(), 0);
+        equal!(rt; heap.blocks(), 0);
     }
 }
 
@@ -25,10 +25,10 @@ fn a_list_of_1000_grows_nine_times(rt: HostRuntime) -> Result<(), Fail> {
         for item in 0..1000u64 {
             assert!(rt; list.push_back(item).is_ok(), "the push of {item}");
         }
-        assert_eq!(rt; (list.len(), list.places(), heap.asked()), (1000, 1000, 9));
-        assert_eq!(rt; (heap.refused(), heap.blocks()), (0, 1));
+        equal!(rt; (list.len(), list.places(), heap.asked()), (1000, 1000, 9));
+        equal!(rt; (heap.refused(), heap.blocks()), (0, 1));
     }
-    assert_eq!(rt; heap.blocks(), 0);
+    equal!(rt; heap.blocks(), 0);
     Ok(())
 }
 
@@ -36,28 +36,28 @@ fn a_list_of_1000_grows_nine_times(rt: HostRuntime) -> Result<(), Fail> {
 fn a_growth_asks_once_and_no_other_call_does(rt: HostRuntime) -> Result<(), Fail> {
     let heap = Rationed::new(rt.alloc());
     let mut list = FixedSizeList::new(&heap, 9);
-    assert_eq!(rt; (list.make_ready(), heap.asked()), (Ok(()), 1));
+    equal!(rt; (list.make_ready(), heap.asked()), (Ok(()), 1));
     for item in 0..4u64 {
         assert!(rt; list.push_front(item).is_ok());
     }
-    assert_eq!(rt; (list.len(), list.places(), heap.asked()), (4, 4, 1));
+    equal!(rt; (list.len(), list.places(), heap.asked()), (4, 4, 1));
     heap.refuse_after(0);
     let back = list.back_idx().ok_or("there is an item")?;
-    assert_eq!(rt;
+    equal!(rt;
         (list.place_at(0), list.place_at_back(3)),
         (list.front_idx(), Some(back))
     );
-    assert_eq!(rt; list.move_front(back).copied(), Some(0));
-    assert_eq!(rt; list.remove(back), Some(0));
+    equal!(rt; list.move_front(back).copied(), Some(0));
+    equal!(rt; list.remove(back), Some(0));
     assert!(rt; list.push_back(0).is_ok(), "a free place");
     halve(&mut list);
-    assert_eq!(rt; list.iter().count(), 4);
+    equal!(rt; list.iter().count(), 4);
     list.retain(|_, item| *item > 0);
     list.retain_mut(|_, item| *item > 0);
-    assert_eq!(rt; list.pop_front(), Some(1));
+    equal!(rt; list.pop_front(), Some(1));
     list.clear();
     list.resize(20);
-    assert_eq!(rt;
+    equal!(rt;
         (list.len(), list.places(), heap.asked(), heap.refused()),
         (0, 4, 1, 0)
     );

@@ -1,7 +1,7 @@
 //! Worked rows, and the carried test of the list.
 
 use crate::entries::has;
-use assertions::assert_eq;
+use assertions::equal;
 use clru_list::{FixedSizeList, NoMemory, PushError};
 use ration::Rationed;
 use std::alloc::Allocator;
@@ -19,9 +19,9 @@ where
 #[test]
 fn a_list_of_capacity_0_is_full(rt: HostRuntime) {
     let mut list = FixedSizeList::new(rt.alloc(), 0);
-    assert_eq!(rt; list.push_front(1u64), Err(PushError::Full(1)));
-    assert_eq!(rt; list.push_back(1), Err(PushError::Full(1)));
-    assert_eq!(rt;
+    equal!(rt; list.push_front(1u64), Err(PushError::Full(1)));
+    equal!(rt; list.push_back(1), Err(PushError::Full(1)));
+    equal!(rt;
         (list.is_empty(), list.is_full(), list.capacity()),
         (true, true, 0)
     );
@@ -34,17 +34,17 @@ fn places_stay_through_each_call(rt: HostRuntime) -> Result<(), Fail> {
     let q = place_of(list.push_front(5))?;
     let r = place_of(list.push_front(3))?;
     has(&rt, &list, &[(r, 3), (q, 5), (p, 7)]);
-    assert_eq!(rt; (p == q, q == r, r == p), (false, false, false));
-    assert_eq!(rt; (list.remove(q), list.remove(q)), (Some(5), None));
+    equal!(rt; (p == q, q == r, r == p), (false, false, false));
+    equal!(rt; (list.remove(q), list.remove(q)), (Some(5), None));
     has(&rt, &list, &[(r, 3), (p, 7)]);
-    assert_eq!(rt; list.move_front(p).copied(), Some(7));
+    equal!(rt; list.move_front(p).copied(), Some(7));
     has(&rt, &list, &[(p, 7), (r, 3)]);
     if list.len() <= 2 {
         list.resize(2);
     }
-    assert_eq!(rt; (list.is_full(), list.capacity()), (true, 2));
+    equal!(rt; (list.is_full(), list.capacity()), (true, 2));
     has(&rt, &list, &[(p, 7), (r, 3)]);
-    assert_eq!(rt; list.push_back(9), Err(PushError::Full(9)));
+    equal!(rt; list.push_back(9), Err(PushError::Full(9)));
     has(&rt, &list, &[(p, 7), (r, 3)]);
     Ok(())
 }
@@ -57,13 +57,13 @@ fn a_free_place_is_used_again(rt: HostRuntime) -> Result<(), Fail> {
         heap.refuse_after(0);
         let one = place_of(list.push_front(1u64))?;
         let two = place_of(list.push_front(2))?;
-        assert_eq!(rt; list.push_back(3), Err(PushError::NoMemory(3)));
+        equal!(rt; list.push_back(3), Err(PushError::NoMemory(3)));
         has(&rt, &list, &[(two, 2), (one, 1)]);
-        assert_eq!(rt; list.pop_front(), Some(2));
+        equal!(rt; list.pop_front(), Some(2));
         let three = place_of(list.push_back(3))?;
         has(&rt, &list, &[(one, 1), (three, 3)]);
     }
-    assert_eq!(rt; heap.blocks(), 0);
+    equal!(rt; heap.blocks(), 0);
     Ok(())
 }
 
@@ -74,7 +74,7 @@ fn a_list_grows_by_its_pushes(rt: HostRuntime) -> Result<(), Fail> {
     let two = place_of(list.push_back(2))?;
     has(&rt, &list, &[(one, 1), (two, 2)]);
     let mut fresh: FixedSizeList<u64> = FixedSizeList::new(rt.alloc(), 2);
-    assert_eq!(rt; (fresh.make_ready(), fresh.len()), (Ok(()), 0));
+    equal!(rt; (fresh.make_ready(), fresh.len()), (Ok(()), 0));
     assert!(rt; fresh.places() > 0);
     Ok(())
 }
@@ -86,7 +86,7 @@ fn a_reserve_of_the_greatest_number_is_refused(rt: HostRuntime) {
         usize::MAX,
         usize::MAX,
     );
-    assert_eq!(rt; made.err(), Some(NoMemory));
+    equal!(rt; made.err(), Some(NoMemory));
 }
 
 /// Asserts what the ends show, read or lent for writing.
@@ -96,15 +96,15 @@ fn ends<A: Allocator + Copy>(
     front: Option<u64>,
     back: Option<u64>,
 ) {
-    assert_eq!(rt;
+    equal!(rt;
         (list.front().copied(), list.front_mut().copied()),
         (front, front)
     );
-    assert_eq!(rt;
+    equal!(rt;
         (list.back().copied(), list.back_mut().copied()),
         (back, back)
     );
-    assert_eq!(rt; list.is_empty(), front.is_none());
+    equal!(rt; list.is_empty(), front.is_none());
 }
 
 #[test]

@@ -1,7 +1,7 @@
 //! A long run of calls in a drawn order, beside a vector that does the same.
 
 use crate::entries::has;
-use assertions::assert_eq;
+use assertions::equal;
 use clru_list::FixedSizeList;
 use std::alloc::{Allocator, Global};
 use std::process::Abort;
@@ -59,16 +59,16 @@ fn visit<A: Allocator + Copy>(
 ) -> Result<(), &'static str> {
     let len = twins.entries.len();
     if len == 0 {
-        assert_eq!(rt; twins.list.pop_front(), None);
+        equal!(rt; twins.list.pop_front(), None);
         return Ok(());
     }
     let at = (number % len as u64) as usize;
     let (place, item) = twins.entries.remove(at);
     if removes {
-        assert_eq!(rt; twins.list.remove(place), Some(item), place);
-        assert_eq!(rt; twins.list.get(place), None);
+        equal!(rt; twins.list.remove(place), Some(item), place);
+        equal!(rt; twins.list.get(place), None);
     } else {
-        assert_eq!(rt; twins.list.move_front(place).copied(), Some(item), place);
+        equal!(rt; twins.list.move_front(place).copied(), Some(item), place);
         let inserted = twins.entries.insert(0, (place, item));
         inserted.map_err(|_| "no memory for an entry")?;
     }
@@ -91,7 +91,7 @@ fn run(rt: &impl Abort, alloc: Global, steps: u64) -> Result<(), &'static str> {
             4 | 5 => visit(rt, &mut twins, false, number)?,
             _ => visit(rt, &mut twins, true, number)?,
         }
-        assert_eq!(rt; twins.list.len(), twins.entries.len());
+        equal!(rt; twins.list.len(), twins.entries.len());
         if step % 100 == 0 {
             has(rt, &twins.list, &twins.entries);
         }

@@ -1,7 +1,7 @@
 //! The walks over a list, at a concrete type.
 
 use crate::callers::{halve, halve_backwards, halve_by_both_ends, push_and_lift};
-use assertions::assert_eq;
+use assertions::equal;
 use clru_list::FixedSizeList;
 use std::alloc::{AllocError, Global};
 use std::test::Fail;
@@ -30,12 +30,12 @@ fn items(alloc: Global, list: &FixedSizeList<u64>) -> Result<Vec<u64>, AllocErro
 fn a_walk_gives_each_entry_once_from_both_ends(rt: HostRuntime) -> Result<(), Fail> {
     let list = tens(rt.alloc(), 3)?;
     let mut walk = list.iter();
-    assert_eq!(rt; (walk.len(), walk.size_hint()), (3, (3, Some(3))));
-    assert_eq!(rt; walk.next().map(|(_, item)| *item), Some(10));
+    equal!(rt; (walk.len(), walk.size_hint()), (3, (3, Some(3))));
+    equal!(rt; walk.next().map(|(_, item)| *item), Some(10));
     let mut copy = walk.clone()?;
-    assert_eq!(rt; walk.next_back().map(|(_, item)| *item), Some(30));
-    assert_eq!(rt; walk.next().map(|(_, item)| *item), Some(20));
-    assert_eq!(rt;
+    equal!(rt; walk.next_back().map(|(_, item)| *item), Some(30));
+    equal!(rt; walk.next().map(|(_, item)| *item), Some(20));
+    equal!(rt;
         (
             walk.next().is_none(),
             walk.next_back().is_none(),
@@ -43,7 +43,7 @@ fn a_walk_gives_each_entry_once_from_both_ends(rt: HostRuntime) -> Result<(), Fa
         ),
         (true, true, 0)
     );
-    assert_eq!(rt;
+    equal!(rt;
         (copy.len(), copy.next_back().map(|(_, item)| *item)),
         (2, Some(30))
     );
@@ -58,18 +58,18 @@ fn a_cursor_names_the_place_that_it_lends(rt: HostRuntime) -> Result<(), Fail> {
     if cursor.len() > 0 {
         let (place, item) = cursor.next_entry();
         *item = 1;
-        assert_eq!(rt; Some(place), front);
+        equal!(rt; Some(place), front);
     }
     let mut cursor = list.iter_mut();
     if cursor.len() > 0 {
         let (place, item) = cursor.next_entry_back();
         *item = 3;
-        assert_eq!(rt; Some(place), back);
+        equal!(rt; Some(place), back);
         if let Some(item) = list.get_mut(place) {
             *item = 4;
         }
     }
-    assert_eq!(rt;
+    equal!(rt;
         items(rt.alloc(), &list)?.as_slice(),
         [1u64, 20, 4].as_slice()
     );
@@ -82,12 +82,12 @@ fn callers_write_each_item(rt: HostRuntime) -> Result<(), Fail> {
         let mut list = tens(rt.alloc(), n)?;
         halve(&mut list);
         halve_by_both_ends(&mut list);
-        assert_eq!(rt; halve_backwards(&mut list), list.front_idx());
+        equal!(rt; halve_backwards(&mut list), list.front_idx());
         let mut want = Vec::new(rt.alloc());
         for half in 1..=n {
             want.push(half * 10 / 8)?;
         }
-        assert_eq!(rt; items(rt.alloc(), &list)?.as_slice(), want.as_slice());
+        equal!(rt; items(rt.alloc(), &list)?.as_slice(), want.as_slice());
     }
     Ok(())
 }
@@ -96,11 +96,11 @@ fn callers_write_each_item(rt: HostRuntime) -> Result<(), Fail> {
 fn callers_move_an_item_by_its_place(rt: HostRuntime) -> Result<(), Fail> {
     let mut list = tens(rt.alloc(), 2)?;
     let (place, behind) = push_and_lift(&mut list, 5, 6).map_err(|_| "a push is refused")?;
-    assert_eq!(rt;
+    equal!(rt;
         items(rt.alloc(), &list)?.as_slice(),
         [6u64, 10, 20, 6].as_slice()
     );
-    assert_eq!(rt;
+    equal!(rt;
         (list.front_idx(), list.back_idx()),
         (Some(place), Some(behind))
     );
@@ -122,7 +122,7 @@ fn a_number_has_its_place_from_either_end(rt: HostRuntime) -> Result<(), Fail> {
     // Upwards, downwards, out of order, the same number again, and past the end.
     for number in [0, 1, 2, 3, 4, 3, 2, 1, 0, 2, 2, 0, 3, usize::MAX, 1] {
         let place = places.as_slice().get(number).copied();
-        assert_eq!(rt; places_by_number(&mut list, number), [place, place], number);
+        equal!(rt; places_by_number(&mut list, number), [place, place], number);
     }
     Ok(())
 }

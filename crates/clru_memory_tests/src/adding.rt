@@ -1,6 +1,6 @@
 //! The calls that may add an entry, as one call.
 
-use assertions::assert_eq;
+use assertions::equal;
 use clru::{CLruCache, DefaultState, Put, PutError, TryPutError, ZeroWeightScale};
 use ration::Rationed;
 use std::alloc::{Allocator, Global};
@@ -153,9 +153,9 @@ pub(crate) fn closures_of(call: Adding) -> u64 {
 /// Asserts that the cache holds the keys below `stored`, each with ten more as its value, the highest first, and takes
 /// them out.
 pub(crate) fn takes_out_those_below(rt: &impl Abort, cache: &mut Plain, stored: u64) {
-    assert_eq!(rt; cache.len() as u64, stored);
+    equal!(rt; cache.len() as u64, stored);
     for key in (0..stored).rev() {
-        assert_eq!(rt; cache.pop_front(), Some((key, key.wrapping_add(10))));
+        equal!(rt; cache.pop_front(), Some((key, key.wrapping_add(10))));
     }
     assert!(rt; cache.is_empty());
 }

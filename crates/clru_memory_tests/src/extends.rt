@@ -4,7 +4,7 @@ use crate::adding::{Plain, takes_out_those_below};
 use crate::costs::REQUESTS;
 use crate::owned::text;
 use crate::whole::holds_those_below;
-use assertions::assert_eq;
+use assertions::equal;
 use clru::{CLruCache, DefaultState, NoMemory};
 use clru_fixtures::sizes::room;
 use ration::Rationed;
@@ -35,10 +35,10 @@ fn each_refusal_ends_an_extend(rt: HostRuntime) -> Result<(), Fail> {
             heap.refuse_after(n);
             let refused = extends(&mut cache, 0, 9, &drawn);
             if n == 3 * REQUESTS {
-                assert_eq!(rt; (refused, drawn.get(), heap.refused()), (Ok(()), 9, 0));
+                equal!(rt; (refused, drawn.get(), heap.refused()), (Ok(()), 9, 0));
             } else {
-                assert_eq!(rt; refused, Err((stored, stored.wrapping_add(10))), n);
-                assert_eq!(rt;
+                equal!(rt; refused, Err((stored, stored.wrapping_add(10))), n);
+                equal!(rt;
                     (drawn.get(), heap.asked(), heap.refused()),
                     (stored.wrapping_add(1), n + 1, 1),
                     (n, "none behind it is drawn, and nothing is asked again")
@@ -46,11 +46,11 @@ fn each_refusal_ends_an_extend(rt: HostRuntime) -> Result<(), Fail> {
             }
             holds_those_below(&rt, &cache, stored);
             heap.refuse_none();
-            assert_eq!(rt; extends(&mut cache, stored, 9, &drawn), Ok(()), n);
+            equal!(rt; extends(&mut cache, stored, 9, &drawn), Ok(()), n);
             holds_those_below(&rt, &cache, 9);
             takes_out_those_below(&rt, &mut cache, 9);
         }
-        assert_eq!(rt; heap.blocks(), 0, n);
+        equal!(rt; heap.blocks(), 0, n);
     }
     Ok(())
 }
@@ -79,20 +79,20 @@ fn each_refusal_ends_a_from_iter(rt: HostRuntime) -> Result<(), Fail> {
         let drawn = Cell::new(0);
         match collects(&heap, 9, &drawn) {
             Ok(mut cache) => {
-                assert_eq!(rt; (n, drawn.get(), heap.refused()), (3 * REQUESTS, 9, 0));
-                assert_eq!(rt; (cache.capacity(), heap.asked()), (9, n));
+                equal!(rt; (n, drawn.get(), heap.refused()), (3 * REQUESTS, 9, 0));
+                equal!(rt; (cache.capacity(), heap.asked()), (9, n));
                 holds_those_below(&rt, &cache, 9);
                 takes_out_those_below(&rt, &mut cache, 9);
             }
             Err(NoMemory) => {
-                assert_eq!(rt;
+                equal!(rt;
                     (drawn.get(), heap.asked(), heap.refused()),
                     (stored_after(n).wrapping_add(1), n + 1, 1),
                     (n, "none behind it is drawn, and nothing is asked again")
                 );
             }
         }
-        assert_eq!(rt; heap.blocks(), 0, n);
+        equal!(rt; heap.blocks(), 0, n);
     }
     Ok(())
 }
@@ -102,11 +102,11 @@ fn a_thousand_items_go_in(rt: HostRuntime) -> Result<(), Fail> {
     let heap = Rationed::new(rt.alloc());
     let drawn = Cell::new(0);
     let mut cache = CLruCache::new(&heap, room(1000)?);
-    assert_eq!(rt; extends(&mut cache, 0, 1000, &drawn), Ok(()));
+    equal!(rt; extends(&mut cache, 0, 1000, &drawn), Ok(()));
     // The places are 4, 8 and so on to 512, and then 1,000, or 1,024 where the capacity comes last.
-    assert_eq!(rt; (cache.len(), heap.asked()), (1000, 9 * REQUESTS));
+    equal!(rt; (cache.len(), heap.asked()), (1000, 9 * REQUESTS));
     let cache = collects(&heap, 1000, &drawn)?;
-    assert_eq!(rt;
+    equal!(rt;
         (cache.len(), cache.capacity(), heap.asked()),
         (1000, 1000, 18 * REQUESTS)
     );
@@ -121,15 +121,15 @@ fn an_extend_with_free_places_asks_for_nothing(rt: HostRuntime) -> Result<(), Fa
     heap.refuse_after(0);
     // Free places, held keys, and then entries to drop.
     for (first, end) in [(0, 0), (0, 3), (0, 3), (2, 9)] {
-        assert_eq!(rt;
+        equal!(rt;
             extends(&mut cache, first, end, &drawn),
             Ok(()),
             (first, end)
         );
-        assert_eq!(rt; heap.asked(), REQUESTS, (first, end));
+        equal!(rt; heap.asked(), REQUESTS, (first, end));
     }
     for key in [8, 7, 6u64] {
-        assert_eq!(rt; cache.pop_front(), Some((key, key + 10)));
+        equal!(rt; cache.pop_front(), Some((key, key + 10)));
     }
     Ok(())
 }
@@ -157,17 +157,17 @@ fn a_refused_extend_forgets_no_item(rt: HostRuntime) -> Result<(), Fail> {
             let mut cache = CLruCache::new(&heap, room(9)?);
             heap.refuse_after(n);
             let refused = cache.extend(pairs);
-            assert_eq!(rt; refused.is_ok(), n == 2 * REQUESTS, n);
+            equal!(rt; refused.is_ok(), n == 2 * REQUESTS, n);
             drop(refused);
             // What is held, two texts each, and the cache's own blocks: a list may have grown where its heads did not.
             let own = n.min(REQUESTS);
-            assert_eq!(rt;
+            equal!(rt;
                 heap.blocks(),
                 (cache.len() as u64).wrapping_mul(2).wrapping_add(own),
                 n
             );
         }
-        assert_eq!(rt; heap.blocks(), 0, n);
+        equal!(rt; heap.blocks(), 0, n);
     }
     Ok(())
 }
@@ -179,9 +179,9 @@ fn a_refused_from_iter_forgets_no_item(rt: HostRuntime) -> Result<(), Fail> {
         let pairs = texts(&heap, &["a", "b", "c", "b", "d", "e", "f"])?;
         heap.refuse_after(n);
         let made = CLruCache::from_iter(&heap, DefaultState, pairs);
-        assert_eq!(rt; made.is_ok(), n == 2 * REQUESTS, n);
+        equal!(rt; made.is_ok(), n == 2 * REQUESTS, n);
         drop(made);
-        assert_eq!(rt; heap.blocks(), 0, n);
+        equal!(rt; heap.blocks(), 0, n);
     }
     Ok(())
 }

@@ -2,7 +2,7 @@
 
 use crate::adding::{ADDING, adds};
 use crate::costs::REQUESTS;
-use assertions::assert_eq;
+use assertions::equal;
 use clru::CLruCache;
 use clru_fixtures::sizes::room;
 use ration::Rationed;
@@ -15,12 +15,12 @@ fn a_thousand_entries_go_in_one_by_one(rt: HostRuntime) -> Result<(), Fail> {
         {
             let mut cache = CLruCache::new(&heap, room(1000)?);
             for key in 0..1000u64 {
-                assert_eq!(rt; adds(&mut cache, call, key, key), Ok(None), (call, key));
+                equal!(rt; adds(&mut cache, call, key, key), Ok(None), (call, key));
             }
             // The places are 4, 8 and so on to 512, and then 1,000.
-            assert_eq!(rt; (cache.len(), heap.asked()), (1000, 9 * REQUESTS), call);
+            equal!(rt; (cache.len(), heap.asked()), (1000, 9 * REQUESTS), call);
         }
-        assert_eq!(rt; heap.blocks(), 0, call);
+        equal!(rt; heap.blocks(), 0, call);
     }
     Ok(())
 }

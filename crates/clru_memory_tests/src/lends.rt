@@ -4,7 +4,7 @@ use crate::adding::{Plain, counts};
 use crate::costs::REQUESTS;
 use crate::owned::{blocks_of, text};
 use crate::whole::is_whole;
-use assertions::assert_eq;
+use assertions::equal;
 use clru::{CLruCache, DefaultState, TryPutError, ZeroWeightScale};
 use clru_fixtures::sizes::room;
 use ration::Rationed;
@@ -30,19 +30,19 @@ fn lending_calls_ask_for_nothing(rt: HostRuntime) -> Result<(), Fail> {
     }
     heap.refuse_after(0);
     let asked = Some(heap.asked());
-    assert_eq!(rt; writes(&heap, cache.get_mut(&0)), asked);
-    assert_eq!(rt; writes(&heap, cache.peek_mut(&1)), asked);
-    assert_eq!(rt;
+    equal!(rt; writes(&heap, cache.get_mut(&0)), asked);
+    equal!(rt; writes(&heap, cache.peek_mut(&1)), asked);
+    equal!(rt;
         writes(&heap, cache.front_mut().map(|entry| entry.into_mut())),
         asked
     );
-    assert_eq!(rt;
+    equal!(rt;
         writes(&heap, cache.back_mut().map(|entry| entry.into_mut())),
         asked
     );
-    assert_eq!(rt; cache.front(), Some((&0, &7)));
-    assert_eq!(rt; cache.back(), Some((&1, &7)));
-    assert_eq!(rt; (heap.asked(), heap.refused()), (asked.unwrap_or(0), 0));
+    equal!(rt; cache.front(), Some((&0, &7)));
+    equal!(rt; cache.back(), Some((&1, &7)));
+    equal!(rt; (heap.asked(), heap.refused()), (asked.unwrap_or(0), 0));
     Ok(())
 }
 
@@ -90,8 +90,8 @@ fn no_closure_is_called_by_a_refused_try(rt: HostRuntime) -> Result<(), Fail> {
             Ok(())
         };
         let lent = cache.try_put_or_modify(key, put, modify, 10);
-        assert_eq!(rt; lent.map(|value| *value), answer, key);
-        assert_eq!(rt; calls.get(), made, key);
+        equal!(rt; lent.map(|value| *value), answer, key);
+        equal!(rt; calls.get(), made, key);
         is_whole(&rt, &cache, list);
     }
     Ok(())
@@ -121,8 +121,8 @@ fn closures_that_fail_forget_nothing(rt: HostRuntime) -> Result<(), Fail> {
         let mut cache = CLruCache::new(&heap, room(2)?);
         // The first finds memory for places, which stay; of a full cache nothing goes, before the closure or after it.
         let (key, value) = (text(&heap, "a")?, text(&heap, "value")?);
-        assert_eq!(rt; fails(&heap, &mut cache, key, value), Some(blocks_of(1)));
-        assert_eq!(rt; (cache.len(), heap.blocks()), (0, REQUESTS));
+        equal!(rt; fails(&heap, &mut cache, key, value), Some(blocks_of(1)));
+        equal!(rt; (cache.len(), heap.blocks()), (0, REQUESTS));
         heap.refuse_after(4);
         for key in ["a", "b"] {
             assert!(rt; cache.put(text(&heap, key)?, text(&heap, "value")?).is_ok());
@@ -132,8 +132,8 @@ fn closures_that_fail_forget_nothing(rt: HostRuntime) -> Result<(), Fail> {
         for (letter, texts) in [("c", 2), ("a", 1), ("b", 1)] {
             let (key, value) = (text(&heap, letter)?, text(&heap, "another")?);
             let seen = fails(&heap, &mut cache, key, value);
-            assert_eq!(rt; seen, Some(blocks_of(2).saturating_add(texts)), letter);
-            assert_eq!(rt; heap.blocks(), blocks_of(2), letter);
+            equal!(rt; seen, Some(blocks_of(2).saturating_add(texts)), letter);
+            equal!(rt; heap.blocks(), blocks_of(2), letter);
         }
         let last = text(&heap, "b")?;
         match cache.front() {
@@ -141,6 +141,6 @@ fn closures_that_fail_forget_nothing(rt: HostRuntime) -> Result<(), Fail> {
             None => assert!(rt; false, "an entry is in front"),
         }
     }
-    assert_eq!(rt; heap.blocks(), 0);
+    equal!(rt; heap.blocks(), 0);
     Ok(())
 }

@@ -2,7 +2,7 @@
 
 use crate::adding::Plain;
 use crate::costs::{HEAD_BYTES, PLACE_BYTES, REQUESTS};
-use assertions::assert_eq;
+use assertions::equal;
 use clru::{CLruCache, CLruCacheConfig, NoMemory, NonZeroUsize, ZeroWeightScale};
 use clru_fixtures::sizes::room;
 use ration::Rationed;
@@ -72,7 +72,7 @@ fn a_reserve_is_asked_for_exactly(rt: HostRuntime) -> Result<(), Fail> {
             let heap = Rationed::new(rt.alloc());
             {
                 let mut cache = makes(&heap, maker, room(capacity)?, reserve)?;
-                assert_eq!(rt;
+                equal!(rt;
                     (heap.asked(), heap.asked_bytes()),
                     (
                         if places == 0 { 0 } else { REQUESTS },
@@ -80,13 +80,13 @@ fn a_reserve_is_asked_for_exactly(rt: HostRuntime) -> Result<(), Fail> {
                     ),
                     (maker, capacity, reserve)
                 );
-                assert_eq!(rt;
+                equal!(rt;
                     free_places(&heap, &mut cache),
                     places,
                     (maker, capacity, reserve)
                 );
             }
-            assert_eq!(rt; heap.blocks(), 0, (maker, capacity, reserve));
+            equal!(rt; heap.blocks(), 0, (maker, capacity, reserve));
         }
     }
     Ok(())
@@ -99,13 +99,13 @@ fn each_refusal_leaves_no_block(rt: HostRuntime) -> Result<(), Fail> {
             let heap = Rationed::new(rt.alloc());
             heap.refuse_after(n);
             let made = makes(&heap, maker, room(4)?, 3).is_ok();
-            assert_eq!(rt; made, n == REQUESTS, (maker, n));
-            assert_eq!(rt;
+            equal!(rt; made, n == REQUESTS, (maker, n));
+            equal!(rt;
                 (heap.asked(), heap.refused() == 0),
                 (REQUESTS.min(n + 1), made),
                 (maker, n, "nothing is asked again")
             );
-            assert_eq!(rt; heap.blocks(), 0, (maker, n));
+            equal!(rt; heap.blocks(), 0, (maker, n));
         }
     }
     Ok(())
@@ -120,7 +120,7 @@ fn makes_again(
 ) {
     heap.refuse_none();
     match CLruCache::with_config(heap, config) {
-        Ok(mut cache) => assert_eq!(rt;
+        Ok(mut cache) => equal!(rt;
             (cache.capacity(), free_places(heap, &mut cache)),
             (4, places)
         ),
@@ -144,7 +144,7 @@ fn a_refused_configuration_comes_back_as_it_was(rt: HostRuntime) -> Result<(), F
             };
             makes_again(&rt, &heap, config, places);
         }
-        assert_eq!(rt; heap.blocks(), 0, n);
+        equal!(rt; heap.blocks(), 0, n);
     }
     Ok(())
 }

@@ -3,7 +3,7 @@ ghost use Rattle.std.specs.Prelude.{length, string_bytes};
 
 use crate::adding::{ADDING, adds};
 use crate::costs::REQUESTS;
-use assertions::assert_eq;
+use assertions::equal;
 use clru::{CLruCache, DefaultState, PutError, WeightScale, ZeroWeightScale, replay};
 use clru_fixtures::sizes::room;
 use ration::Rationed;
@@ -35,12 +35,12 @@ fn what_a_put_drops_is_given_back(rt: HostRuntime) -> Result<(), Fail> {
                 let put = adds(&mut cache, call, text(&heap, key)?, text(&heap, "value")?);
                 assert!(rt; put.is_ok(), "{call:?} of {key}");
                 drop(put);
-                assert_eq!(rt; heap.blocks(), blocks_of(entries), (call, key));
+                equal!(rt; heap.blocks(), blocks_of(entries), (call, key));
             }
             drop(cache.pop_front());
-            assert_eq!(rt; heap.blocks(), blocks_of(1), call);
+            equal!(rt; heap.blocks(), blocks_of(1), call);
         }
-        assert_eq!(rt; heap.blocks(), 0, call);
+        equal!(rt; heap.blocks(), 0, call);
     }
     Ok(())
 }
@@ -53,7 +53,7 @@ fn what_is_refused_is_given_back(rt: HostRuntime) -> Result<(), Fail> {
         let (key, value) = (text(&heap, "key")?, text(&heap, "value")?);
         heap.refuse_after(0);
         assert!(rt; adds(&mut cache, call, key, value).is_err(), "{call:?}");
-        assert_eq!(rt; heap.blocks(), 0, call);
+        equal!(rt; heap.blocks(), 0, call);
     }
     Ok(())
 }
@@ -85,12 +85,12 @@ fn what_a_weighted_put_drops_is_given_back(rt: HostRuntime) -> Result<(), Fail> 
         ];
         for (key, value, entries, goes) in steps {
             let put = cache.put_with_weight(text(&heap, key)?, text(&heap, value)?, |_, _| {});
-            assert_eq!(rt; put.is_ok(), goes, (key, value));
+            equal!(rt; put.is_ok(), goes, (key, value));
             drop(put);
-            assert_eq!(rt; heap.blocks(), blocks_of(entries), (key, value));
+            equal!(rt; heap.blocks(), blocks_of(entries), (key, value));
         }
     }
-    assert_eq!(rt; heap.blocks(), 0);
+    equal!(rt; heap.blocks(), 0);
     Ok(())
 }
 
@@ -109,16 +109,16 @@ fn a_pair_that_a_put_drops_is_held_by_its_answer_alone(rt: HostRuntime) -> Resul
         ];
         for (key, entries, texts) in rows {
             let put = cache.put(text(&heap, key)?, text(&heap, "value")?);
-            assert_eq!(rt;
+            equal!(rt;
                 heap.blocks(),
                 blocks_of(entries).saturating_add(texts),
                 key
             );
             drop(put);
-            assert_eq!(rt; heap.blocks(), blocks_of(entries), key);
+            equal!(rt; heap.blocks(), blocks_of(entries), key);
         }
     }
-    assert_eq!(rt; heap.blocks(), 0);
+    equal!(rt; heap.blocks(), 0);
     Ok(())
 }
 
@@ -170,13 +170,13 @@ fn a_pair_that_a_weighted_put_drops_is_held_by_its_taker_alone(
                 &mut gone,
             );
             drop(put);
-            assert_eq!(rt; gone.len() as u64, pairs, (key, value));
-            assert_eq!(rt; heap.blocks(), blocks_of(entries + pairs), (key, value));
+            equal!(rt; gone.len() as u64, pairs, (key, value));
+            equal!(rt; heap.blocks(), blocks_of(entries + pairs), (key, value));
             drop(gone);
-            assert_eq!(rt; heap.blocks(), blocks_of(entries), (key, value));
+            equal!(rt; heap.blocks(), blocks_of(entries), (key, value));
         }
     }
-    assert_eq!(rt; heap.blocks(), 0);
+    equal!(rt; heap.blocks(), 0);
     Ok(())
 }
 
@@ -188,7 +188,7 @@ fn the_keys_of_a_replay_are_given_back(rt: HostRuntime) -> Result<(), Fail> {
         keys.push(text(&heap, letters)?)?;
     }
     let answer = replay(&heap, room(2)?, keys, DefaultState).map_err(|_| "the keys came back")?;
-    assert_eq!(rt;
+    equal!(rt;
         (answer.misses, heap.blocks()),
         (4, 1),
         "the marks alone are left"
@@ -221,8 +221,8 @@ fn put_op_answers_before_the_oldest_entry_goes(rt: HostRuntime) -> Result<(), Fa
     for (key, entries) in [("a", 1), ("b", 2), ("c", 3)] {
         let (key, value) = (text(&heap, key)?, text(&heap, "value")?);
         let seen = blocks_seen(&heap, &mut cache, key, value);
-        assert_eq!(rt; seen, Some(blocks_of(entries)), entries);
+        equal!(rt; seen, Some(blocks_of(entries)), entries);
     }
-    assert_eq!(rt; heap.blocks(), blocks_of(2));
+    equal!(rt; heap.blocks(), blocks_of(2));
     Ok(())
 }

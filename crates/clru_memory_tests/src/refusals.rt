@@ -5,7 +5,7 @@ use crate::adding::{
 };
 use crate::costs::REQUESTS;
 use crate::whole::{holds_those_below, is_whole};
-use assertions::assert_eq;
+use assertions::equal;
 use clru::CLruCache;
 use clru_fixtures::sizes::room;
 use ration::Rationed;
@@ -22,19 +22,19 @@ fn adds_nine(rt: &impl Abort, heap: &Rationed<Global>, cache: &mut Plain, call: 
         let (asked, refused) = (heap.asked(), heap.refused());
         match adds_counting(cache, call, key, key + 10, &called) {
             Ok(old) => {
-                assert_eq!(rt; (old, key, heap.refused()), (None, stored, refused));
+                equal!(rt; (old, key, heap.refused()), (None, stored, refused));
                 stored = key + 1;
             }
             Err(pair) => {
-                assert_eq!(rt; pair, (key, key + 10));
-                assert_eq!(rt; heap.refused(), refused.wrapping_add(1), (call, key));
+                equal!(rt; pair, (key, key + 10));
+                equal!(rt; heap.refused(), refused.wrapping_add(1), (call, key));
                 assert!(rt;
                     heap.asked().wrapping_sub(asked) <= REQUESTS,
                     "{call:?} of {key}"
                 );
             }
         }
-        assert_eq!(rt;
+        equal!(rt;
             (called.get(), cache.weight(), cache.capacity()),
             (stored.wrapping_mul(closures_of(call)), 0, 9)
         );
@@ -56,8 +56,8 @@ fn each_refusal_gives_the_pair_back(rt: HostRuntime) -> Result<(), Fail> {
                 heap.refuse_none();
                 takes_out_those_below(&rt, &mut cache, stored);
             }
-            assert_eq!(rt; heap.refused() == 0, n == 3 * REQUESTS, (call, n));
-            assert_eq!(rt; heap.blocks(), 0, (call, n));
+            equal!(rt; heap.refused() == 0, n == 3 * REQUESTS, (call, n));
+            equal!(rt; heap.blocks(), 0, (call, n));
         }
     }
     Ok(())
@@ -79,7 +79,7 @@ fn refused_keys(
             met[key] = true;
             holds_those_below(rt, cache, pair.0);
             heap.refuse_none();
-            assert_eq!(rt; adds(cache, call, pair.0, pair.1), Ok(None), (call, key));
+            equal!(rt; adds(cache, call, pair.0, pair.1), Ok(None), (call, key));
         }
     }
     met
@@ -95,11 +95,11 @@ fn a_refused_put_can_be_made_again(rt: HostRuntime) -> Result<(), Fail> {
                 let met = refused_keys(&rt, &heap, &mut cache, call, n);
                 heap.refuse_none();
                 for (key, refused) in met.iter().enumerate() {
-                    assert_eq!(rt; *refused, key % 4 == 0, (call, key));
+                    equal!(rt; *refused, key % 4 == 0, (call, key));
                 }
                 takes_out_those_below(&rt, &mut cache, 9);
             }
-            assert_eq!(rt; (heap.refused(), heap.blocks()), (3, 0), call);
+            equal!(rt; (heap.refused(), heap.blocks()), (3, 0), call);
         }
     }
     Ok(())
@@ -131,8 +131,8 @@ fn no_closure_is_called_by_a_refused_call(rt: HostRuntime) -> Result<(), Fail> {
             *value = value.wrapping_add(more);
         };
         let lent = cache.put_or_modify(key, put, modify, 10);
-        assert_eq!(rt; lent.map(|value| *value), answer, key);
-        assert_eq!(rt; (made.get(), modified.get()), (calls, changes), key);
+        equal!(rt; lent.map(|value| *value), answer, key);
+        equal!(rt; (made.get(), modified.get()), (calls, changes), key);
         is_whole(&rt, &cache, list);
     }
     Ok(())

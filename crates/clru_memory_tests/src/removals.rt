@@ -3,7 +3,7 @@
 use crate::adding::{ADDED, Plain};
 use crate::costs::REQUESTS;
 use crate::owned::text;
-use assertions::assert_eq;
+use assertions::equal;
 use clru::CLruCache;
 use clru_fixtures::sizes::room;
 use ration::Rationed;
@@ -60,7 +60,7 @@ fn takes(cache: &mut Plain, call: Taking) -> Result<(), &'static str> {
 fn filled<'a>(heap: &'a Rationed<Global>, rt: &impl Abort) -> Result<Plain<'a>, &'static str> {
     let mut cache = CLruCache::new(heap, room(9)?);
     for key in 0..9u64 {
-        assert_eq!(rt; cache.put(key, key), Ok(ADDED), key);
+        equal!(rt; cache.put(key, key), Ok(ADDED), key);
     }
     Ok(cache)
 }
@@ -73,13 +73,13 @@ fn taking_out_asks_for_nothing_and_leaves_the_places(rt: HostRuntime) -> Result<
         let asked = heap.asked();
         heap.refuse_after(0);
         takes(&mut cache, call)?;
-        assert_eq!(rt; (cache.len(), heap.asked()), (left, asked), call);
+        equal!(rt; (cache.len(), heap.asked()), (left, asked), call);
         // As many new entries as there were are put into the places.
         cache.resize(room(9)?);
         for key in 100..109u64 {
             assert!(rt; cache.put(key, key).is_ok(), "{key} after {call:?}");
         }
-        assert_eq!(rt; (cache.len(), heap.asked()), (9, asked), call);
+        equal!(rt; (cache.len(), heap.asked()), (9, asked), call);
     }
     Ok(())
 }
@@ -95,12 +95,12 @@ fn places_above_the_capacity_stay(rt: HostRuntime) -> Result<(), Fail> {
         for n in 0..9u64 {
             assert!(rt; cache.put(key + n, n).is_ok(), "{n} at {capacity}");
         }
-        assert_eq!(rt; (cache.len(), heap.asked()), (capacity, asked));
+        equal!(rt; (cache.len(), heap.asked()), (capacity, asked));
     }
     // A place more is asked for once the capacity is greater than the places.
     cache.resize(room(usize::MAX)?);
     assert!(rt; cache.put(1000, 1).is_err());
-    assert_eq!(rt; cache.len(), 9);
+    equal!(rt; cache.len(), 9);
     Ok(())
 }
 
@@ -142,9 +142,9 @@ fn what_is_taken_out_is_given_back(rt: HostRuntime) -> Result<(), Fail> {
             }
             takes_texts(&heap, &mut cache, call)?;
             let texts = (cache.len() as u64).wrapping_mul(2);
-            assert_eq!(rt; heap.blocks(), texts.wrapping_add(REQUESTS), call);
+            equal!(rt; heap.blocks(), texts.wrapping_add(REQUESTS), call);
         }
-        assert_eq!(rt; heap.blocks(), 0, call);
+        equal!(rt; heap.blocks(), 0, call);
     }
     Ok(())
 }

@@ -1,7 +1,7 @@
 //! The memory of a replay.
 
 use crate::costs::{HEAD_BYTES, PLACE_BYTES, REQUESTS};
-use assertions::assert_eq;
+use assertions::equal;
 use clru::{DefaultState, replay};
 use clru_fixtures::sizes::room;
 use ration::Rationed;
@@ -37,21 +37,21 @@ fn a_replay_asks_for_its_places_and_its_marks(rt: HostRuntime) -> Result<(), Fai
         let (asked, bytes) = (heap.asked(), heap.asked_bytes());
         let answer = replay(&heap, room(capacity)?, keys, DefaultState);
         let answer = answer.map_err(|_| "the keys came back")?;
-        assert_eq!(rt;
+        equal!(rt;
             (answer.marks.len() as u64, answer.misses as u64),
             (count, misses)
         );
-        assert_eq!(rt;
+        equal!(rt;
             heap.asked().wrapping_sub(asked),
             REQUESTS + 1,
             (capacity, count)
         );
-        assert_eq!(rt;
+        equal!(rt;
             heap.asked_bytes().wrapping_sub(bytes),
             places * PLACE_BYTES + heads * HEAD_BYTES + count,
             (capacity, count)
         );
-        assert_eq!(rt; (heap.blocks(), heap.held_bytes()), (1, count), "the marks");
+        equal!(rt; (heap.blocks(), heap.held_bytes()), (1, count), "the marks");
     }
     Ok(())
 }
@@ -64,20 +64,20 @@ fn a_replay_gives_the_keys_back(rt: HostRuntime) -> Result<(), Fail> {
         heap.refuse_after(n);
         match replay(&heap, room(2)?, keys, DefaultState) {
             Ok(answer) => {
-                assert_eq!(rt; (n, heap.refused()), (REQUESTS + 1, 0));
-                assert_eq!(rt; (answer.marks.len(), answer.misses), (4, 4));
+                equal!(rt; (n, heap.refused()), (REQUESTS + 1, 0));
+                equal!(rt; (answer.marks.len(), answer.misses), (4, 4));
             }
             Err(keys) => {
-                assert_eq!(rt; keys.as_slice(), [1u64, 2, 3, 1].as_slice());
-                assert_eq!(rt;
+                equal!(rt; keys.as_slice(), [1u64, 2, 3, 1].as_slice());
+                equal!(rt;
                     (heap.asked(), heap.refused()),
                     (n + 2, 1),
                     "nothing is asked again"
                 );
-                assert_eq!(rt; heap.blocks(), 1, "the keys alone are left");
+                equal!(rt; heap.blocks(), 1, "the keys alone are left");
             }
         }
-        assert_eq!(rt; heap.blocks(), 0, n);
+        equal!(rt; heap.blocks(), 0, n);
     }
     Ok(())
 }
@@ -88,7 +88,7 @@ fn a_replay_of_no_keys_asks_for_nothing(rt: HostRuntime) -> Result<(), Fail> {
     heap.refuse_after(0);
     let keys: Vec<u64, &Rationed<Global>> = Vec::new(&heap);
     let answer = replay(&heap, room(2)?, keys, DefaultState).map_err(|_| "the keys came back")?;
-    assert_eq!(rt;
+    equal!(rt;
         (answer.marks.len(), answer.misses, heap.asked()),
         (0, 0, 0)
     );

@@ -4,7 +4,7 @@ use crate::adding::{Plain, counts};
 use crate::makers::free_places;
 use crate::owned::puts;
 use crate::whole::is_whole;
-use assertions::assert_eq;
+use assertions::equal;
 use clru::{CLruCache, CLruCacheConfig, NoMemory, Put, PutError, TryPutError, ZeroWeightScale};
 use clru_fixtures::scales::ByLength;
 use clru_fixtures::sizes::room;
@@ -164,7 +164,7 @@ fn stays_as_it_was<S: BuildHasher + Copy>(
             let asked = heap.asked();
             let given = makes(&mut cache, *call, &called);
             assert!(rt; given == *answer, "{call:?} of {}", row.name);
-            assert_eq!(rt;
+            equal!(rt;
                 (heap.asked().wrapping_sub(asked), called.get()),
                 (*requests, 0),
                 (call, row.name)
@@ -245,7 +245,7 @@ fn weighs_without_a_place<S: BuildHasher + Copy>(
         .with_memory(2);
     let mut cache = CLruCache::with_config(&heap, config).map_err(|_| "there is memory")?;
     for (key, value) in [(1u64, "a"), (2, "b")] {
-        assert_eq!(rt; cache.put_with_weight(key, value, |_, _| {}), Ok(None));
+        equal!(rt; cache.put_with_weight(key, value, |_, _| {}), Ok(None));
     }
     heap.refuse_after(0);
     for row in WEIGHINGS {
@@ -254,8 +254,8 @@ fn weighs_without_a_place<S: BuildHasher + Copy>(
         let (key, value) = row.pair;
         let answer = puts(&mut cache, key, value, &mut gone);
         assert!(rt; answer == row.answer, "{key}");
-        assert_eq!(rt; gone.as_slice(), row.handed_out, key);
-        assert_eq!(rt;
+        equal!(rt; gone.as_slice(), row.handed_out, key);
+        equal!(rt;
             (
                 heap.asked().wrapping_sub(asked),
                 cache.weight(),
@@ -283,17 +283,17 @@ fn counts_no_further<S: BuildHasher + Copy>(
     let heap = Rationed::new(alloc);
     let most = room(usize::MAX)?;
     let made: Result<Plain, NoMemory> = CLruCache::with_memory(&heap, most, usize::MAX);
-    assert_eq!(rt; made.err(), Some(NoMemory));
+    equal!(rt; made.err(), Some(NoMemory));
     let config: CLruCacheConfig<u64, u64, S> = CLruCacheConfig::new(most).with_hasher(builder);
     let Err(config) = CLruCache::with_config(&heap, config.with_memory(usize::MAX)) else {
         return Err("the places can not be counted".into());
     };
-    assert_eq!(rt; (heap.asked(), heap.blocks()), (0, 0));
+    equal!(rt; (heap.asked(), heap.blocks()), (0, 0));
     let Ok(mut cache) = CLruCache::with_config(&heap, config.with_memory(3)) else {
         return Err("there is memory for three".into());
     };
-    assert_eq!(rt; (cache.len(), cache.capacity()), (0, usize::MAX));
-    assert_eq!(rt; free_places(&heap, &mut cache), 3);
+    equal!(rt; (cache.len(), cache.capacity()), (0, usize::MAX));
+    equal!(rt; free_places(&heap, &mut cache), 3);
     Ok(())
 }
 

@@ -1,7 +1,7 @@
 //! Calls that ask for no memory.
 
 use crate::adding::{ADDED, ADDING, Adding, Plain, adds, takes_out_those_below};
-use assertions::assert_eq;
+use assertions::equal;
 use clru::{CLruCache, DefaultState, PutError, WeightScale};
 use clru_fixtures::sizes::room;
 use ration::Rationed;
@@ -30,12 +30,12 @@ fn makers_ask_for_nothing(rt: HostRuntime) -> Result<(), Fail> {
     let size = room(3)?;
     let hasher = BuildHasherDefault::<FoldHasher>::new();
     let new: Plain = CLruCache::new(&heap, size);
-    assert_eq!(rt; (new.capacity(), heap.asked()), (3, 0));
+    equal!(rt; (new.capacity(), heap.asked()), (3, 0));
     let with_scale: Weighted = CLruCache::with_scale(&heap, size, Each(1));
-    assert_eq!(rt; (with_scale.capacity(), heap.asked()), (3, 0));
+    equal!(rt; (with_scale.capacity(), heap.asked()), (3, 0));
     let mut with_hasher = CLruCache::with_hasher(&heap, size, hasher);
-    assert_eq!(rt; (with_hasher.capacity(), heap.asked()), (3, 0));
-    assert_eq!(rt; with_hasher.put(1u64, 2u64), Ok(ADDED));
+    equal!(rt; (with_hasher.capacity(), heap.asked()), (3, 0));
+    equal!(rt; with_hasher.put(1u64, 2u64), Ok(ADDED));
     Ok(())
 }
 
@@ -65,13 +65,13 @@ fn reads_and_pop_front_ask_for_nothing(rt: HostRuntime) -> Result<(), Fail> {
     let heap = Rationed::new(rt.alloc());
     let mut cache = CLruCache::new(&heap, room(3)?);
     for key in 0..3u64 {
-        assert_eq!(rt; cache.put(key, key + 10), Ok(ADDED));
+        equal!(rt; cache.put(key, key + 10), Ok(ADDED));
     }
     let asked = heap.asked();
     heap.refuse_after(0);
     for (call, right, count) in reads(&heap, &mut cache) {
         assert!(rt; right, "{call}");
-        assert_eq!(rt; count, asked, call);
+        equal!(rt; count, asked, call);
     }
     Ok(())
 }
@@ -79,7 +79,7 @@ fn reads_and_pop_front_ask_for_nothing(rt: HostRuntime) -> Result<(), Fail> {
 /// Adds the keys 0 to 8, each of which is new.
 fn adds_nine(rt: &impl Abort, cache: &mut Plain, call: Adding) {
     for key in 0..9u64 {
-        assert_eq!(rt; adds(cache, call, key, key + 10), Ok(None), (call, key));
+        equal!(rt; adds(cache, call, key, key + 10), Ok(None), (call, key));
     }
 }
 
@@ -93,14 +93,14 @@ fn a_free_place_is_used_without_a_request(rt: HostRuntime) -> Result<(), Fail> {
         heap.refuse_after(0);
         takes_out_those_below(&rt, &mut cache, 9);
         adds_nine(&rt, &mut cache, call);
-        assert_eq!(rt; adds(&mut cache, call, 8, 0), Ok(Some(18)), "a held key");
-        assert_eq!(rt;
+        equal!(rt; adds(&mut cache, call, 8, 0), Ok(Some(18)), "a held key");
+        equal!(rt;
             adds(&mut cache, call, 9, 19),
             Ok(None),
             "in place of the oldest"
         );
         assert!(rt; !cache.contains(&0));
-        assert_eq!(rt; (cache.len(), heap.asked()), (9, asked), call);
+        equal!(rt; (cache.len(), heap.asked()), (9, asked), call);
     }
     Ok(())
 }
@@ -110,7 +110,7 @@ fn a_weighted_put_that_drops_another_asks_for_nothing(rt: HostRuntime) -> Result
     let heap = Rationed::new(rt.alloc());
     let mut cache: Weighted = CLruCache::with_scale(&heap, room(20)?, Each(1));
     for key in 0..10u64 {
-        assert_eq!(rt; cache.put_with_weight(key, key, |_, _| {}), Ok(None), key);
+        equal!(rt; cache.put_with_weight(key, key, |_, _| {}), Ok(None), key);
     }
     let asked = heap.asked();
     heap.refuse_after(0);
@@ -122,15 +122,15 @@ fn a_weighted_put_that_drops_another_asks_for_nothing(rt: HostRuntime) -> Result
     ] {
         let mut last = None;
         let put = cache.put_with_weight(key, key, |key, value| last = Some((key, value)));
-        assert_eq!(rt; (put, last), (Ok(old), gone), key);
+        equal!(rt; (put, last), (Ok(old), gone), key);
     }
-    assert_eq!(rt; cache.pop_front(), Some((11, 11)));
-    assert_eq!(rt;
+    equal!(rt; cache.pop_front(), Some((11, 11)));
+    equal!(rt;
         cache.put_with_weight(12, 12, |_, _| {}),
         Ok(None),
         "into the free place"
     );
-    assert_eq!(rt;
+    equal!(rt;
         (cache.len(), cache.weight(), heap.asked()),
         (10, 10, asked)
     );
@@ -141,10 +141,10 @@ fn a_weighted_put_that_drops_another_asks_for_nothing(rt: HostRuntime) -> Result
 fn a_pair_that_is_too_heavy_asks_for_nothing(rt: HostRuntime) -> Result<(), Fail> {
     let heap = Rationed::new(rt.alloc());
     let mut cache: Weighted = CLruCache::with_scale(&heap, room(3)?, Each(3));
-    assert_eq!(rt;
+    equal!(rt;
         cache.put_with_weight(1, 2, |_, _| {}),
         Err(PutError::TooHeavy(1, 2))
     );
-    assert_eq!(rt; (cache.len(), cache.weight(), heap.asked()), (0, 0, 0));
+    equal!(rt; (cache.len(), cache.weight(), heap.asked()), (0, 0, 0));
     Ok(())
 }

@@ -3,7 +3,7 @@
 use crate::adding::Plain;
 use crate::costs::REQUESTS;
 use crate::owned::text;
-use assertions::assert_eq;
+use assertions::equal;
 use clru::CLruCache;
 use clru_fixtures::sizes::room;
 use ration::Rationed;
@@ -26,7 +26,7 @@ fn walks_ask_for_nothing(rt: HostRuntime) -> Result<(), Fail> {
     for (_, value) in &cache {
         sum = sum.wrapping_add(*value);
     }
-    assert_eq!(rt; (sum, copy.next_back().map(|pair| *pair.0)), (9, Some(0)));
+    equal!(rt; (sum, copy.next_back().map(|pair| *pair.0)), (9, Some(0)));
     let mut cursor = cache.iter_mut();
     for _ in 0..3 {
         let Some(value) = cursor.next() else {
@@ -37,17 +37,17 @@ fn walks_ask_for_nothing(rt: HostRuntime) -> Result<(), Fail> {
             *value = value.wrapping_add(2);
         }
     }
-    assert_eq!(rt; heap.asked(), asked);
+    equal!(rt; heap.asked(), asked);
     let mut owned = cache.into_iter();
-    assert_eq!(rt;
+    equal!(rt;
         (owned.next(), owned.next_back()),
         (Some((2, 3)), Some((0, 2)))
     );
-    assert_eq!(rt;
+    equal!(rt;
         (owned.len(), owned.next(), owned.next()),
         (1, Some((1, 2)), None)
     );
-    assert_eq!(rt; heap.asked(), asked);
+    equal!(rt; heap.asked(), asked);
     Ok(())
 }
 
@@ -69,14 +69,14 @@ fn a_half_walked_iterator_forgets_nothing(rt: HostRuntime) -> Result<(), Fail> {
                     iter.next_back()
                 };
                 let held = 4u64.saturating_sub(step).saturating_mul(2);
-                assert_eq!(rt;
+                equal!(rt;
                     (pair.is_some(), heap.blocks()),
                     (true, held.saturating_add(REQUESTS)),
                     (step, handed)
                 );
             }
         }
-        assert_eq!(rt; heap.blocks(), 0, handed);
+        equal!(rt; heap.blocks(), 0, handed);
     }
     Ok(())
 }
@@ -97,8 +97,8 @@ fn what_a_cursor_replaces_is_given_back(rt: HostRuntime) -> Result<(), Fail> {
             };
             *value = text(&heap, "another")?;
         }
-        assert_eq!(rt; heap.blocks(), REQUESTS.saturating_add(4));
+        equal!(rt; heap.blocks(), REQUESTS.saturating_add(4));
     }
-    assert_eq!(rt; heap.blocks(), 0);
+    equal!(rt; heap.blocks(), 0);
     Ok(())
 }

@@ -1,7 +1,7 @@
 //! Caches that are whole: both walks and the look-ups answer the same.
 
 use crate::adding::Plain;
-use assertions::assert_eq;
+use assertions::equal;
 use clru::{CLruCache, WeightScale};
 use std::alloc::Allocator;
 use std::fmt::Debug;
@@ -22,11 +22,11 @@ where
     W: WeightScale<K, V>,
     A: Allocator + Copy,
 {
-    assert_eq!(rt; cache.len(), list.len(), list);
+    equal!(rt; cache.len(), list.len(), list);
     let mut forward = cache.iter();
     for (key, value) in list {
-        assert_eq!(rt; forward.next(), Some((key, value)), list);
-        assert_eq!(rt;
+        equal!(rt; forward.next(), Some((key, value)), list);
+        equal!(rt;
             (cache.peek(key), cache.contains(key)),
             (Some(value), true),
             list
@@ -34,9 +34,9 @@ where
     }
     let mut backward = cache.iter();
     for (key, value) in list.iter().rev() {
-        assert_eq!(rt; backward.next_back(), Some((key, value)), list);
+        equal!(rt; backward.next_back(), Some((key, value)), list);
     }
-    assert_eq!(rt; (forward.next(), backward.next_back()), (None, None));
+    equal!(rt; (forward.next(), backward.next_back()), (None, None));
 }
 
 /// The keys below 9, each with ten more as its value, the highest first.
@@ -56,7 +56,7 @@ const NINE: [(u64, u64); 9] = [
 pub(crate) fn holds_those_below(rt: &impl Abort, cache: &Plain, stored: u64) {
     let first = 9usize.saturating_sub(stored as usize);
     is_whole(rt, cache, &NINE[first..]);
-    assert_eq!(rt;
+    equal!(rt;
         (cache.peek(&stored), cache.contains(&stored)),
         (None, false)
     );

@@ -1,7 +1,7 @@
 //! Caches that are made of their items.
 
 use crate::lists::holds;
-use assertions::assert_eq;
+use assertions::equal;
 use clru::CLruCache;
 use clru_fixtures::with_each_builder;
 use std::alloc::Global;
@@ -46,7 +46,7 @@ fn collects<S: BuildHasher + Copy>(rt: &impl Abort, alloc: Global, builder: S) -
     for (i, row) in ROWS.iter().enumerate() {
         let items = Vec::from_slice(alloc, row.items)?;
         let mut cache = CLruCache::from_iter(alloc, builder, items)?;
-        assert_eq!(rt;
+        equal!(rt;
             (cache.len(), cache.capacity(), cache.is_full()),
             (row.list.len(), row.capacity, row.full),
             i
@@ -70,7 +70,7 @@ fn collects_and_extends<S: BuildHasher + Copy>(
     let items = Vec::from_array(alloc, [("a", 1), ("b", 2)])?;
     let mut cache = CLruCache::from_iter(alloc, builder, items)?;
     let more = Vec::from_array(alloc, [("c", 3)])?;
-    assert_eq!(rt; cache.extend(more), Ok(()));
+    equal!(rt; cache.extend(more), Ok(()));
     holds(rt, &cache, &[("c", 3), ("b", 2)]);
     Ok(())
 }

@@ -1,7 +1,7 @@
 //! What puts hand out.
 
 use crate::lists::{holds, scaled};
-use assertions::assert_eq;
+use assertions::equal;
 use clru::{CLruCache, PutError, WeightScale};
 use clru_fixtures::scales::{ByLength, ByValue};
 use clru_fixtures::sizes::room;
@@ -123,7 +123,7 @@ where
         let mut gone = Vec::new(alloc);
         let put = puts(cache, *key, *value, &mut gone);
         assert!(rt; put.map_err(|_| ()) == *answer, "{key:?} of {}", row.name);
-        assert_eq!(rt; gone.len(), pairs.len(), (key, row.name));
+        equal!(rt; gone.len(), pairs.len(), (key, row.name));
         for (given, wanted) in gone.into_iter().zip(*pairs) {
             assert!(rt; given == *wanted, "{key:?} of {}", row.name);
         }
@@ -165,7 +165,7 @@ fn puts_in_both_forms<S: BuildHasher + Copy>(
         let mut gone = None;
         let put = plain.put(key, value)?;
         let answer = weighted.put_with_weight(key, value, |key, value| gone = Some((key, value)));
-        assert_eq!(rt;
+        equal!(rt;
             (answer, gone),
             (Ok(put.replaced), put.dropped),
             (key, value)

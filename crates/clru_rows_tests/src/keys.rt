@@ -1,7 +1,7 @@
 //! Keys that are equal without being the same: letters, without regard to ASCII case.
 
 use crate::replays::marks;
-use assertions::assert_eq;
+use assertions::equal;
 use clru::CLruCache;
 use clru_fixtures::letters::Letter;
 use clru_fixtures::sizes::room;
@@ -18,10 +18,10 @@ fn puts_both_cases<S: BuildHasher + Copy>(
     builder: S,
 ) -> Result<(), Fail> {
     let mut cache = CLruCache::with_hasher(alloc, room(2)?, builder);
-    assert_eq!(rt; cache.put(Letter(b'A'), 1)?.replaced, None);
-    assert_eq!(rt; cache.put(Letter(b'a'), 2)?.replaced, Some(1));
+    equal!(rt; cache.put(Letter(b'A'), 1)?.replaced, None);
+    equal!(rt; cache.put(Letter(b'a'), 2)?.replaced, Some(1));
     let front = cache.pop_front().map(|(key, value)| (key.0, value));
-    assert_eq!(rt; (front, cache.len()), (Some((b'A', 2)), 0));
+    equal!(rt; (front, cache.len()), (Some((b'A', 2)), 0));
     Ok(())
 }
 
@@ -39,10 +39,10 @@ fn weighs_both_cases<S: BuildHasher + Copy>(
     let mut cache = CLruCache::with_hasher(alloc, room(2)?, builder);
     for (letter, value, old) in [(b'A', 1, None), (b'a', 2, Some(1))] {
         let put = cache.put_with_weight(Letter(letter), value, |_, _| {});
-        assert_eq!(rt; put.map_err(|_| "refused")?, old, letter);
+        equal!(rt; put.map_err(|_| "refused")?, old, letter);
     }
     let front = cache.pop_front().map(|(key, value)| (key.0, value));
-    assert_eq!(rt; (front, cache.len()), (Some((b'a', 2)), 0));
+    equal!(rt; (front, cache.len()), (Some((b'a', 2)), 0));
     Ok(())
 }
 

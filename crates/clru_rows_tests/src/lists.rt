@@ -1,6 +1,6 @@
 //! What the rows share.
 
-use assertions::assert_eq;
+use assertions::equal;
 use clru::{CLruCache, CLruCacheConfig, WeightScale};
 use clru_fixtures::sizes::room;
 use std::alloc::Global;
@@ -17,12 +17,12 @@ where
     S: BuildHasher,
     W: WeightScale<K, V>,
 {
-    assert_eq!(rt; cache.len(), list.len(), list);
+    equal!(rt; cache.len(), list.len(), list);
     let mut walk = cache.iter();
     for (key, value) in list {
-        assert_eq!(rt; walk.next(), Some((key, value)), list);
+        equal!(rt; walk.next(), Some((key, value)), list);
     }
-    assert_eq!(rt; walk.next(), None, list);
+    equal!(rt; walk.next(), None, list);
 }
 
 /// An empty cache with a scale.

@@ -1,6 +1,6 @@
 //! Look-ups with keys that own memory, and with another hash builder.
 
-use assertions::assert_eq;
+use assertions::equal;
 use clru::CLruCache;
 use clru_fixtures::sizes::room;
 use clru_fixtures::with_each_builder;
@@ -17,9 +17,9 @@ fn gets_by_an_equal_key<S: BuildHasher + Copy>(
 ) -> Result<(), Fail> {
     let mut cache = CLruCache::with_hasher(alloc, room(2)?, builder);
     let key = String::from_str(alloc, "apple")?;
-    assert_eq!(rt; cache.put(key, "red")?.replaced, None);
+    equal!(rt; cache.put(key, "red")?.replaced, None);
     let key = String::from_str(alloc, "apple")?;
-    assert_eq!(rt; cache.get(&key).copied(), Some("red"));
+    equal!(rt; cache.get(&key).copied(), Some("red"));
     Ok(())
 }
 
@@ -36,9 +36,9 @@ fn gets_mut_by_an_equal_key<S: BuildHasher + Copy>(
 ) -> Result<(), Fail> {
     let mut cache = CLruCache::with_hasher(alloc, room(2)?, builder);
     let key = String::from_str(alloc, "apple")?;
-    assert_eq!(rt; cache.put(key, "red")?.replaced, None);
+    equal!(rt; cache.put(key, "red")?.replaced, None);
     let key = String::from_str(alloc, "apple")?;
-    assert_eq!(rt; cache.get_mut(&key).map(|value| *value), Some("red"));
+    equal!(rt; cache.get_mut(&key).map(|value| *value), Some("red"));
     Ok(())
 }
 
@@ -51,8 +51,8 @@ fn test_get_mut_with_borrow(rt: HostRuntime) -> Result<(), Fail> {
 fn a_cache_takes_another_hash_builder(rt: HostRuntime) -> Result<(), Fail> {
     let builder = BuildHasherDefault::<FoldHasher>::new();
     let mut cache = CLruCache::with_hasher(rt.alloc(), room(2)?, builder);
-    assert_eq!(rt; (cache.capacity(), cache.len()), (2, 0));
-    assert_eq!(rt; cache.put("apple", 3)?.replaced, None);
-    assert_eq!(rt; cache.get(&"apple").copied(), Some(3));
+    equal!(rt; (cache.capacity(), cache.len()), (2, 0));
+    equal!(rt; cache.put("apple", 3)?.replaced, None);
+    equal!(rt; cache.get(&"apple").copied(), Some(3));
     Ok(())
 }

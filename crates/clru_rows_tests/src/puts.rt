@@ -1,7 +1,7 @@
 //! Puts whose closures make or change the value.
 
 use crate::lists::holds;
-use assertions::assert_eq;
+use assertions::equal;
 use clru::{CLruCache, TryPutError};
 use clru_fixtures::sizes::room;
 use clru_fixtures::with_each_builder;
@@ -40,8 +40,8 @@ fn puts_or_modifies<S: BuildHasher + Copy>(
     ];
     for (key, base, value, len) in steps {
         let lent = cache.put_or_modify(key, with_length, doubled_or_halved, base)?;
-        assert_eq!(rt; *lent, value, key);
-        assert_eq!(rt; cache.len(), len, key);
+        equal!(rt; *lent, value, key);
+        equal!(rt; cache.len(), len, key);
     }
     holds(rt, &cache, &[("b", 5), ("a", 2)]);
     Ok(())
@@ -60,7 +60,7 @@ fn writes_what_is_lent<S: BuildHasher + Copy>(
 ) -> Result<(), Fail> {
     let mut cache = CLruCache::with_hasher(alloc, room(2)?, builder);
     for (key, value) in [("a", 1), ("b", 2)] {
-        assert_eq!(rt; cache.put(key, value)?.replaced, None, key);
+        equal!(rt; cache.put(key, value)?.replaced, None, key);
     }
     *cache.put_or_modify("a", |_, new| new, |_, value, new| *value = new, 7)? = 8;
     holds(rt, &cache, &[("a", 8), ("b", 2)]);
@@ -98,7 +98,7 @@ fn tries_to_put_or_modify<S: BuildHasher + Copy>(
     ];
     for (key, data, answer) in steps {
         let lent = cache.try_put_or_modify(key, |_, data| even(data), writes_even, data);
-        assert_eq!(rt; lent.map(|value| *value), answer, key);
+        equal!(rt; lent.map(|value| *value), answer, key);
     }
     holds(rt, &cache, &[("a", 2), ("b", 4)]);
     Ok(())
@@ -117,14 +117,14 @@ fn fails_after_a_write<S: BuildHasher + Copy>(
 ) -> Result<(), Fail> {
     let mut cache = CLruCache::with_hasher(alloc, room(2)?, builder);
     for (key, value) in [("a", 2), ("b", 4)] {
-        assert_eq!(rt; cache.put(key, value)?.replaced, None, key);
+        equal!(rt; cache.put(key, value)?.replaced, None, key);
     }
     let modify = |_: &_, value: &mut u64, data| {
         *value = data;
         Err(7)
     };
     let lent = cache.try_put_or_modify("a", |_, data| Ok(data), modify, 9u64);
-    assert_eq!(rt; lent.map(|value| *value), Err(TryPutError::Failed(7)));
+    equal!(rt; lent.map(|value| *value), Err(TryPutError::Failed(7)));
     holds(rt, &cache, &[("a", 9), ("b", 4)]);
     Ok(())
 }
@@ -143,15 +143,15 @@ fn lends_both_ends<S: BuildHasher + Copy>(
     let mut cache = CLruCache::with_hasher(alloc, room(2)?, builder);
     assert!(rt; cache.front_mut().is_none());
     for (key, value) in [("a", 1), ("b", 2)] {
-        assert_eq!(rt; cache.put(key, value)?.replaced, None, key);
+        equal!(rt; cache.put(key, value)?.replaced, None, key);
     }
     if let Some(mut first) = cache.front_mut() {
-        assert_eq!(rt; (*first.key(), *first), ("b", 2));
+        equal!(rt; (*first.key(), *first), ("b", 2));
         *first = 3;
-        assert_eq!(rt; *first, 3);
+        equal!(rt; *first, 3);
     }
     let last = cache.back_mut().ok_or("an entry is there")?;
-    assert_eq!(rt; (*last.key(), *last), ("a", 1));
+    equal!(rt; (*last.key(), *last), ("a", 1));
     *last.into_mut() = 4;
     holds(rt, &cache, &[("b", 3), ("a", 4)]);
     Ok(())

@@ -1,7 +1,7 @@
 //! Retains with closures of their own: what each is called on, and in which order.
 
 use crate::lists::{holds, scaled};
-use assertions::assert_eq;
+use assertions::equal;
 use clru::CLruCache;
 use clru_fixtures::scales::ByLength;
 use clru_fixtures::sizes::room;
@@ -18,24 +18,24 @@ const LETTERS: [(&str, u32); 5] = [("a", 1), ("b", 2), ("c", 3), ("d", 4), ("e",
 fn retains<S: BuildHasher + Copy>(rt: &impl Abort, alloc: Global, builder: S) -> Result<(), Fail> {
     let mut cache = CLruCache::with_hasher(alloc, room(5)?, builder);
     for (key, value) in LETTERS {
-        assert_eq!(rt; cache.put(key, value)?.replaced, None);
+        equal!(rt; cache.put(key, value)?.replaced, None);
     }
     cache.retain_mut(|key, value| {
         *value = value.saturating_add(1);
         *key != "b" && *key != "d"
     });
-    assert_eq!(rt; (cache.len(), cache.contains(&"b")), (3, false));
+    equal!(rt; (cache.len(), cache.contains(&"b")), (3, false));
     cache.retain(|_, _| true);
-    assert_eq!(rt; cache.len(), 3);
-    assert_eq!(rt; cache.peek(&"c").copied(), Some(4));
+    equal!(rt; cache.len(), 3);
+    equal!(rt; cache.peek(&"c").copied(), Some(4));
     for (key, value) in LETTERS {
-        assert_eq!(rt; cache.put(key, value)?.dropped, None);
+        equal!(rt; cache.put(key, value)?.dropped, None);
     }
     cache.retain(|_, value| *value < 3);
     holds(rt, &cache, &[("b", 2), ("a", 1)]);
-    assert_eq!(rt; cache.put("a", 1)?.replaced, Some(1));
+    equal!(rt; cache.put("a", 1)?.replaced, Some(1));
     cache.retain(|_, _| false);
-    assert_eq!(rt; (cache.len(), cache.contains(&"a")), (0, false));
+    equal!(rt; (cache.len(), cache.contains(&"a")), (0, false));
     Ok(())
 }
 
@@ -52,7 +52,7 @@ fn retains_what_it_writes<S: BuildHasher + Copy>(
 ) -> Result<(), Fail> {
     let mut cache = CLruCache::with_hasher(alloc, room(5)?, builder);
     for (key, value) in LETTERS {
-        assert_eq!(rt; cache.put(key, value)?.replaced, None);
+        equal!(rt; cache.put(key, value)?.replaced, None);
     }
     cache.retain_mut(|key, value| {
         *value = value.saturating_add(1);
@@ -76,7 +76,7 @@ fn retains_every_second<S: BuildHasher + Copy>(
     for written in [false, true] {
         let mut cache = CLruCache::with_hasher(alloc, room(3)?, builder);
         for (key, value) in [("a", 1), ("b", 2), ("c", 3)] {
-            assert_eq!(rt; cache.put(key, value)?.replaced, None);
+            equal!(rt; cache.put(key, value)?.replaced, None);
         }
         let mut called = Vec::new(alloc);
         let mut calls = 0u32;
@@ -93,7 +93,7 @@ fn retains_every_second<S: BuildHasher + Copy>(
                 calls % 2 == 1
             });
         }
-        assert_eq!(rt; (called.as_slice(), calls), (["c", "b", "a"].as_slice(), 3));
+        equal!(rt; (called.as_slice(), calls), (["c", "b", "a"].as_slice(), 3));
         holds(rt, &cache, &[("c", 3), ("a", 1)]);
     }
     Ok(())
@@ -112,11 +112,11 @@ fn retains_by_weight<S: BuildHasher + Copy>(
 ) -> Result<(), Fail> {
     let mut cache = scaled(alloc, 20, builder, ByLength)?;
     for (key, value) in [(1, "a"), (2, "bbbb"), (3, "cc"), (4, "dddd")] {
-        assert_eq!(rt; cache.put_with_weight(key, value, |_, _| {}), Ok(None));
+        equal!(rt; cache.put_with_weight(key, value, |_, _| {}), Ok(None));
     }
-    assert_eq!(rt; cache.weight(), 11);
+    equal!(rt; cache.weight(), 11);
     cache.retain(|_, value| value.len() < 4);
-    assert_eq!(rt; (cache.len(), cache.weight()), (2, 3));
+    equal!(rt; (cache.len(), cache.weight()), (2, 3));
     holds(rt, &cache, &[(3, "cc"), (1, "a")]);
     Ok(())
 }

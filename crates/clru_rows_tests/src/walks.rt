@@ -2,7 +2,7 @@
 
 use crate::lists::{holds, scaled};
 use crate::walks::End::{Back, Front};
-use assertions::assert_eq;
+use assertions::equal;
 use clru::{CLruCache, CLruCacheIntoIter, CLruCacheIter, WeightScale};
 use clru_fixtures::scales::ByLength;
 use clru_fixtures::sizes::room;
@@ -162,15 +162,15 @@ fn walks<K: PartialEq + Copy + Debug, V: PartialEq + Copy + Debug>(
     let mut left = walk.pairs.len();
     for (end, pair) in walk.steps {
         let hint = iter.size_hint();
-        assert_eq!(rt; (iter.len(), hint), (left, (left, Some(left))), walk.name);
+        equal!(rt; (iter.len(), hint), (left, (left, Some(left))), walk.name);
         let given = match end {
             Front => iter.next(),
             Back => iter.next_back(),
         };
         let given = given.map(|(key, value)| (*key, *value));
-        assert_eq!(rt; given, *pair, (end, walk.name));
+        equal!(rt; given, *pair, (end, walk.name));
         left = left.saturating_sub(1);
-        assert_eq!(rt; iter.len(), left, walk.name);
+        equal!(rt; iter.len(), left, walk.name);
     }
 }
 
@@ -227,7 +227,7 @@ fn iterates_by_weight<S: BuildHasher + Copy>(
     for walk in WEIGHTED_WALKS {
         let cache = weighed(alloc, walk, builder)?;
         let number = walk.pairs.len();
-        assert_eq!(rt; (cache.len(), cache.weight()), (number, number), walk.name);
+        equal!(rt; (cache.len(), cache.weight()), (number, number), walk.name);
         walks(rt, cache.iter(), walk);
     }
     Ok(())
@@ -253,15 +253,15 @@ where
     let mut left = walk.pairs.len();
     for (end, pair) in walk.steps {
         let hint = iter.size_hint();
-        assert_eq!(rt; (iter.len(), hint), (left, (left, Some(left))), walk.name);
+        equal!(rt; (iter.len(), hint), (left, (left, Some(left))), walk.name);
         let given = match end {
             Front => iter.next(),
             Back => iter.next_back(),
         };
-        assert_eq!(rt; given, *pair, (end, walk.name));
+        equal!(rt; given, *pair, (end, walk.name));
         left = left.saturating_sub(1);
     }
-    assert_eq!(rt; iter.len(), left, walk.name);
+    equal!(rt; iter.len(), left, walk.name);
 }
 
 /// Each walk by value, of a cache with a scale and without.
@@ -291,16 +291,16 @@ fn passes<S: BuildHasher + Copy>(rt: &impl Abort, alloc: Global, builder: S) -> 
         let mut cache = made(alloc, walk, builder)?;
         let mut cursor = cache.iter_mut();
         for (end, pair) in walk.steps {
-            assert_eq!(rt; cursor.len(), left, walk.name);
+            equal!(rt; cursor.len(), left, walk.name);
             let value = match end {
                 Front => cursor.next(),
                 Back => cursor.next_back(),
             };
             let value = value.map(|value| *value);
-            assert_eq!(rt; value, pair.map(|pair| pair.1), (end, walk.name));
+            equal!(rt; value, pair.map(|pair| pair.1), (end, walk.name));
             left = left.saturating_sub(1);
         }
-        assert_eq!(rt; cursor.len(), left, walk.name);
+        equal!(rt; cursor.len(), left, walk.name);
     }
     Ok(())
 }
@@ -328,9 +328,9 @@ fn takes_one_from_each<S: BuildHasher + Copy>(
         let mut held = cache.into_iter();
         for (key, value) in walk.pairs.iter().rev() {
             let wanted = Some((*key, value.saturating_sub(1)));
-            assert_eq!(rt; held.next(), wanted, walk.name);
+            equal!(rt; held.next(), wanted, walk.name);
         }
-        assert_eq!(rt; held.next(), None, walk.name);
+        equal!(rt; held.next(), None, walk.name);
     }
     Ok(())
 }
@@ -354,20 +354,20 @@ fn writes_from_both_ends<S: BuildHasher + Copy>(
         let mut cursor = cache.iter_mut();
         if cursor.len() > 0 {
             let (key, value) = cursor.next_entry();
-            assert_eq!(rt; (*key, *value), ("c", 3));
+            equal!(rt; (*key, *value), ("c", 3));
             *value = 30;
         }
         if cursor.len() > 0 {
             let (key, value) = cursor.next_entry_back();
-            assert_eq!(rt; (*key, *value), ("a", 1));
+            equal!(rt; (*key, *value), ("a", 1));
             *value = 10;
         }
     }
     holds(rt, &cache, &[("c", 30), ("b", 2), ("a", 10)]);
     let mut iter = cache.into_iter();
     let given = (iter.next_back(), iter.next(), iter.next());
-    assert_eq!(rt; given, (Some(("a", 10)), Some(("c", 30)), Some(("b", 2))));
-    assert_eq!(rt; (iter.next(), iter.next_back()), (None, None));
+    equal!(rt; given, (Some(("a", 10)), Some(("c", 30)), Some(("b", 2))));
+    equal!(rt; (iter.next(), iter.next_back()), (None, None));
     Ok(())
 }
 
@@ -390,14 +390,14 @@ fn writes_after_a_touch<S: BuildHasher + Copy>(
     for _ in 0..2 {
         let mut cursor = cache.iter_mut();
         let first = cursor.next().map(|value| *value);
-        assert_eq!(rt;
+        equal!(rt;
             (first, cursor.next_back().map(|value| *value)),
             (Some(3), Some(1))
         );
-        assert_eq!(rt; cache.get(&"b").copied(), Some(2));
-        assert_eq!(rt; cache.get(&"c").copied(), Some(3));
+        equal!(rt; cache.get(&"b").copied(), Some(2));
+        equal!(rt; cache.get(&"c").copied(), Some(3));
     }
-    assert_eq!(rt;
+    equal!(rt;
         (cache.get(&"a").copied(), cache.peek(&"b").copied()),
         (Some(1), Some(2))
     );
@@ -436,6 +436,6 @@ fn a_cursor_steps_alike_however_many_entries_there_are(rt: HostRuntime) -> Resul
             sum = sum.wrapping_add(*value);
         }
     }
-    assert_eq!(rt; sum, number as u64);
+    equal!(rt; sum, number as u64);
     Ok(())
 }

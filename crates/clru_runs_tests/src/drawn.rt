@@ -2,7 +2,7 @@
 
 use crate::calls::{Drawn, Draws, KEYS};
 use crate::pairs::Pairs;
-use assertions::assert_eq;
+use assertions::equal;
 use clru::{CLruCache, CLruCacheConfig, DefaultState, WeightScale, ZeroWeightScale};
 use clru_fixtures::builders::CONSTANTS;
 use clru_fixtures::scales::ByValue;
@@ -24,18 +24,18 @@ fn is_whole<S: BuildHasher, W: WeightScale<usize, usize>>(
     cache: &Refusing<S, W>,
     pairs: &Pairs,
 ) {
-    assert_eq!(rt;
+    equal!(rt;
         (cache.len(), cache.weight(), cache.capacity()),
         (pairs.list.len(), pairs.weight(), pairs.capacity)
     );
     let (mut forward, mut backward) = (cache.iter(), cache.iter());
     for (first, last) in pairs.list.iter().zip(pairs.list.iter().rev()) {
-        assert_eq!(rt; forward.next(), Some((&first.0, &first.1)));
-        assert_eq!(rt; backward.next_back(), Some((&last.0, &last.1)));
+        equal!(rt; forward.next(), Some((&first.0, &first.1)));
+        equal!(rt; backward.next_back(), Some((&last.0, &last.1)));
     }
-    assert_eq!(rt; (forward.next(), backward.next_back()), (None, None));
+    equal!(rt; (forward.next(), backward.next_back()), (None, None));
     for key in 0..KEYS {
-        assert_eq!(rt; cache.peek(&key).copied(), pairs.value(key), key);
+        equal!(rt; cache.peek(&key).copied(), pairs.value(key), key);
     }
 }
 
@@ -104,7 +104,7 @@ where
         };
         lives::<S, W, Q>(rt, heap, draws, &mut cache, &mut pairs)?;
         drop(cache);
-        assert_eq!(rt; heap.blocks(), 0);
+        equal!(rt; heap.blocks(), 0);
     }
     Ok(())
 }

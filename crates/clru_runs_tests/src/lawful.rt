@@ -1,7 +1,7 @@
 //! Calls through the callers that learn the laws of runs.
 
 use crate::callers::{perform_at_both, perform_puts};
-use assertions::assert_eq;
+use assertions::equal;
 use clru::CLruCache;
 use clru_fixtures::sizes::room;
 use clru_runs::Answer::{Lent, Pair};
@@ -26,8 +26,8 @@ fn the_lesser_of_two_begins_the_greater(rt: HostRuntime) -> Result<(), Fail> {
     let Some(answers) = perform_at_both(rt.alloc(), &mut lesser, &mut greater, once, again) else {
         return Err("want of memory".into());
     };
-    assert_eq!(rt; answers.lesser.last(), Some(&Pair(Some((2, 20)))));
-    assert_eq!(rt; (lesser.len(), greater.pop_front()), (0, Some((2, 20))));
+    equal!(rt; answers.lesser.last(), Some(&Pair(Some((2, 20)))));
+    equal!(rt; (lesser.len(), greater.pop_front()), (0, Some((2, 20))));
     Ok(())
 }
 
@@ -38,6 +38,6 @@ fn puts_are_made_of_an_empty_cache(rt: HostRuntime) -> Result<(), Fail> {
     puts.push(Put(1u32, 10u32))?;
     puts.push(PutOrModify(1, 20))?;
     let answers = perform_puts(rt.alloc(), &mut cache, puts)?;
-    assert_eq!(rt; answers.last(), Some(&Lent(Ok(20))));
+    equal!(rt; answers.last(), Some(&Lent(Ok(20))));
     Ok(())
 }

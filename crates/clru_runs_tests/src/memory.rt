@@ -1,7 +1,7 @@
 //! Memory that is refused.
 
 use crate::tables::{Table, runs};
-use assertions::assert_eq;
+use assertions::equal;
 use clru::{CLruCache, PutError};
 use clru_fixtures::sizes::room;
 use clru_runs::Answer::{Lent, Number, Stored, Value, Weighed};
@@ -33,7 +33,7 @@ fn a_put_that_wants_memory_ends_no_run(rt: HostRuntime) -> Result<(), Fail> {
     let mut cache = CLruCache::new(&heap, room(REFUSED.capacity)?);
     heap.refuse_after(0);
     runs(&rt, rt.alloc(), &REFUSED, &mut cache)?;
-    assert_eq!(rt; heap.asked(), 3, "one request for each put");
+    equal!(rt; heap.asked(), 3, "one request for each put");
     Ok(())
 }
 
@@ -46,12 +46,12 @@ fn the_calls_come_back_where_answers_find_no_memory(rt: HostRuntime) -> Result<(
     let Err(calls) = perform_all(&heap, &mut cache, calls) else {
         return Err(Fail::from("the memory was refused"));
     };
-    assert_eq!(rt; (heap.asked(), calls.len(), cache.len()), (2, 2, 0));
+    equal!(rt; (heap.asked(), calls.len(), cache.len()), (2, 2, 0));
     heap.refuse_none();
     let Ok(answers) = perform_all(&heap, &mut cache, calls) else {
         return Err(Fail::from("there is memory"));
     };
-    assert_eq!(rt; (heap.asked(), answers.len(), cache.len()), (3, 2, 2));
+    equal!(rt; (heap.asked(), answers.len(), cache.len()), (3, 2, 2));
     Ok(())
 }
 
@@ -67,7 +67,7 @@ fn a_long_run_makes_one_request_for_its_answers(rt: HostRuntime) -> Result<(), F
     let Ok(answers) = perform_all(&heap, &mut cache, calls) else {
         return Err(Fail::from("there is memory"));
     };
-    assert_eq!(rt; heap.asked(), asked.saturating_add(1));
-    assert_eq!(rt; (answers.len(), cache.len()), (20_000, 100));
+    equal!(rt; heap.asked(), asked.saturating_add(1));
+    equal!(rt; (answers.len(), cache.len()), (20_000, 100));
     Ok(())
 }

@@ -1,6 +1,6 @@
 //! Tables: calls with their answers, and the entries at the end.
 
-use assertions::assert_eq;
+use assertions::equal;
 use clru::{CLruCache, CLruCacheConfig, WeightScale};
 use clru_fixtures::builders::CONSTANTS;
 use clru_fixtures::sizes::room;
@@ -42,7 +42,7 @@ where
         calls.push(call.clone()?)?;
     }
     let answers = perform_all(alloc, cache, calls)?;
-    assert_eq!(rt; answers.len(), table.rows.len(), table.name);
+    equal!(rt; answers.len(), table.rows.len(), table.name);
     for (given, (call, answer)) in answers.into_iter().zip(table.rows) {
         assert!(rt; given == *answer, "{call:?} of {}", table.name);
     }
@@ -112,10 +112,10 @@ where
     W: WeightScale<K, V>,
     A: Allocator + Copy,
 {
-    assert_eq!(rt; cache.len(), list.len(), name);
+    equal!(rt; cache.len(), list.len(), name);
     let mut walk = cache.iter();
     for (key, value) in list {
-        assert_eq!(rt; walk.next(), Some((key, value)), name);
+        equal!(rt; walk.next(), Some((key, value)), name);
     }
-    assert_eq!(rt; walk.next(), None, name);
+    equal!(rt; walk.next(), None, name);
 }

@@ -65,24 +65,24 @@ pub fn room_left<W: WeightScale<u64, u64>>(cache: &CLruCache<u64, u64, DefaultSt
 #[cfg(test)]
 mod tests {
     use super::*;
-    use assertions::assert_eq;
+    use assertions::equal;
     use clru::NonZeroUsize;
     use std::test::Fail;
 
     #[test]
     fn callers_find_what_they_stored(rt: HostRuntime) -> Result<(), Fail> {
         let mut cache = CLruCache::new(rt.alloc(), NonZeroUsize::MIN);
-        assert_eq!(rt;
+        equal!(rt;
             (room_left(&cache), remember(&mut cache, 3, 70)),
             (1, Ok(()))
         );
-        assert_eq!(rt; cache.peek(&3).copied(), Some(70));
-        assert_eq!(rt;
+        equal!(rt; cache.peek(&3).copied(), Some(70));
+        equal!(rt;
             (count(&mut cache, 4), count(&mut cache, 4)),
             (Some(1), Some(2))
         );
-        assert_eq!(rt; remember_by_weight(&mut cache, 5, 80), Ok(()));
-        assert_eq!(rt; (cache.peek(&5).copied(), room_left(&cache)), (Some(80), 0));
+        equal!(rt; remember_by_weight(&mut cache, 5, 80), Ok(()));
+        equal!(rt; (cache.peek(&5).copied(), room_left(&cache)), (Some(80), 0));
         Ok(())
     }
 
@@ -96,20 +96,20 @@ mod tests {
             (2, 20, Some(1)),
             (9, 90, Some(2)),
         ] {
-            assert_eq!(rt;
+            equal!(rt;
                 drops::write_back(&mut pages, &mut disk, page, contents),
                 Ok(lost)
             );
         }
-        assert_eq!(rt;
+        equal!(rt;
             drops::write_back(&mut pages, &mut disk, 0, 5),
             Ok(Some(9)),
             "not on the disk"
         );
-        assert_eq!(rt; disk, [0, 11, 20]);
+        equal!(rt; disk, [0, 11, 20]);
         let mut sizes = CLruCache::new(rt.alloc(), NonZeroUsize::MIN);
         for (page, number) in [(1, 0), (2, 1), (2, 0)] {
-            assert_eq!(rt;
+            equal!(rt;
                 drops::number_forgotten(&mut sizes, page, 70),
                 Ok(number),
                 page
@@ -121,12 +121,12 @@ mod tests {
     #[test]
     fn callers_know_of_the_other_pages(rt: HostRuntime) -> Result<(), Fail> {
         let mut sizes = CLruCache::new(rt.alloc(), NonZeroUsize::MIN);
-        assert_eq!(rt; lookups::remember_one_more(&mut sizes, 1, 10), Ok(true));
-        assert_eq!(rt; lookups::remember_one_more(&mut sizes, 2, 20), Ok(false));
-        assert_eq!(rt; lookups::remember_beside(&mut sizes, 2, 21), Ok(true));
-        assert_eq!(rt; lookups::look_at_both(&mut sizes, &1, &2), Some(21));
-        assert_eq!(rt; lookups::look_and_count(&mut sizes, &2), 1);
-        assert_eq!(rt; lookups::forget(&mut sizes, &2), 0);
+        equal!(rt; lookups::remember_one_more(&mut sizes, 1, 10), Ok(true));
+        equal!(rt; lookups::remember_one_more(&mut sizes, 2, 20), Ok(false));
+        equal!(rt; lookups::remember_beside(&mut sizes, 2, 21), Ok(true));
+        equal!(rt; lookups::look_at_both(&mut sizes, &1, &2), Some(21));
+        equal!(rt; lookups::look_and_count(&mut sizes, &2), 1);
+        equal!(rt; lookups::forget(&mut sizes, &2), 0);
         Ok(())
     }
 }

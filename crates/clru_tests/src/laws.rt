@@ -2,7 +2,7 @@
 
 use crate::callers::{calls, puts, runs};
 use crate::lists::room;
-use assertions::assert_eq;
+use assertions::equal;
 use clru::{
     CLruCache, ZeroWeightScale, law_by_place, law_dropped, law_growth, law_inclusion,
     law_longest_fit, law_requests, law_schedules_by_place,
@@ -28,10 +28,10 @@ fn law_of_drops<F: FnMut(u64, u64)>(_on_drop: &F) {
 #[test]
 fn calls_of_a_run_at_two_capacities(rt: HostRuntime) -> Result<(), Fail> {
     let mut cache = CLruCache::new(rt.alloc(), room(2)?);
-    assert_eq!(rt; calls::put_pair(&mut cache, "a", 1), Ok(None));
-    assert_eq!(rt; calls::put_pair(&mut cache, "b", 2), Ok(None));
-    assert_eq!(rt; calls::take_first(&mut cache), Some(("b", 2)));
-    assert_eq!(rt; cache.len(), 1);
+    equal!(rt; calls::put_pair(&mut cache, "a", 1), Ok(None));
+    equal!(rt; calls::put_pair(&mut cache, "b", 2), Ok(None));
+    equal!(rt; calls::take_first(&mut cache), Some(("b", 2)));
+    equal!(rt; cache.len(), 1);
     Ok(())
 }
 
@@ -40,7 +40,7 @@ fn a_run_of_puts_holds_what_a_replay_hits(rt: HostRuntime) -> Result<(), Fail> {
     let mut cache = CLruCache::new(rt.alloc(), room(2)?);
     let keys = Vec::from_array(rt.alloc(), ["a", "b", "c", "a", "c"])?;
     let held = runs::held_before_puts(rt.alloc(), &mut cache, keys).ok_or("no memory")?;
-    assert_eq!(rt;
+    equal!(rt;
         held.as_slice(),
         [false, false, false, false, true].as_slice()
     );
@@ -50,13 +50,13 @@ fn a_run_of_puts_holds_what_a_replay_hits(rt: HostRuntime) -> Result<(), Fail> {
 #[test]
 fn puts_in_any_form_hold_what_a_replay_hits(rt: HostRuntime) -> Result<(), Fail> {
     let mut cache = CLruCache::new(rt.alloc(), room(2)?);
-    assert_eq!(rt; puts::put(&mut cache, "a", 1), Ok(None));
-    assert_eq!(rt; puts::put_with_weight(&mut cache, "b", 2), Ok(None));
+    equal!(rt; puts::put(&mut cache, "a", 1), Ok(None));
+    equal!(rt; puts::put_with_weight(&mut cache, "b", 2), Ok(None));
     assert!(rt; !cache.contains(&"c"));
-    assert_eq!(rt; puts::put_or_modify(&mut cache, "c", 3), Ok(()));
-    assert_eq!(rt; puts::put(&mut cache, "a", 4), Ok(None));
-    assert_eq!(rt; puts::put(&mut cache, "c", 5), Ok(Some(3)));
-    assert_eq!(rt; cache.pop_front(), Some(("c", 5)));
-    assert_eq!(rt; cache.pop_front(), Some(("a", 4)));
+    equal!(rt; puts::put_or_modify(&mut cache, "c", 3), Ok(()));
+    equal!(rt; puts::put(&mut cache, "a", 4), Ok(None));
+    equal!(rt; puts::put(&mut cache, "c", 5), Ok(Some(3)));
+    equal!(rt; cache.pop_front(), Some(("c", 5)));
+    equal!(rt; cache.pop_front(), Some(("a", 4)));
     Ok(())
 }

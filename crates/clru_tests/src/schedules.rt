@@ -2,7 +2,7 @@
 //! know all requests beforehand.
 
 use crate::lists::room;
-use assertions::assert_eq;
+use assertions::equal;
 use clru::{DefaultState, replay};
 use std::alloc::{AllocError, Global};
 use std::convert::AsSlice;
@@ -106,7 +106,7 @@ fn keeps_the_bound(k: usize, misses: usize, h: usize, schedule_misses: usize) ->
 fn a_schedule_of_two_keys_misses_three_times(rt: HostRuntime) -> Result<(), Fail> {
     let misses = schedule_misses(2, b"", &["", "a", "ab", "ac", "ac"], b"abca")?;
     let replayed = replay_misses(rt.alloc(), 2, b"abca")?;
-    assert_eq!(rt; (replayed, misses), (4, 3));
+    equal!(rt; (replayed, misses), (4, 3));
     assert!(rt; keeps_the_bound(2, replayed, 2, misses), "4 <= 6");
     Ok(())
 }
@@ -115,7 +115,7 @@ fn a_schedule_of_two_keys_misses_three_times(rt: HostRuntime) -> Result<(), Fail
 fn a_schedule_of_one_key_reaches_the_bound(rt: HostRuntime) -> Result<(), Fail> {
     let misses = schedule_misses(1, b"", &["", "a", "b", "c", "a"], b"abca")?;
     let replayed = replay_misses(rt.alloc(), 2, b"abca")?;
-    assert_eq!(rt; (replayed, misses), (4, 4));
+    equal!(rt; (replayed, misses), (4, 4));
     assert!(rt; keeps_the_bound(2, replayed, 1, misses), "8 <= 8");
     assert!(rt; !keeps_the_bound(2, replayed, 1, 3), "8 <= 6");
     Ok(())
@@ -126,7 +126,7 @@ fn a_schedule_of_three_keys_misses_five_times(rt: HostRuntime) -> Result<(), Fai
     let schedule = ["", "a", "ab", "abc", "abc", "abd", "abd", "abd", "abc"];
     let misses = schedule_misses(3, b"", &schedule, b"abcadbac")?;
     let replayed = replay_misses(rt.alloc(), 3, b"abcadbac")?;
-    assert_eq!(rt; (replayed, misses), (6, 5));
+    equal!(rt; (replayed, misses), (6, 5));
     assert!(rt; keeps_the_bound(3, replayed, 3, misses), "6 <= 15");
     Ok(())
 }
@@ -147,8 +147,8 @@ fn what_is_no_schedule_is_refused(rt: HostRuntime) {
             "{i}"
         );
     }
-    assert_eq!(rt; schedule_misses(1, b"", &["", "a", "b"], b"ab"), Ok(2));
-    assert_eq!(rt; schedule_misses(1, b"a", &["a", "a", "b"], b"ab"), Ok(1));
+    equal!(rt; schedule_misses(1, b"", &["", "a", "b"], b"ab"), Ok(2));
+    equal!(rt; schedule_misses(1, b"a", &["a", "a", "b"], b"ab"), Ok(1));
 }
 
 #[test]
@@ -162,12 +162,12 @@ fn the_furthest_next_request_is_dropped(rt: HostRuntime) -> Result<(), Fail> {
     ];
     for (requests, k, misses, h, fewest) in rows {
         let schedule = furthest_next(rt.alloc(), h, b"", requests)?;
-        assert_eq!(rt;
+        equal!(rt;
             schedule_misses(h, b"", &schedule, requests)?,
             fewest,
             (k, h)
         );
-        assert_eq!(rt; replay_misses(rt.alloc(), k, requests)?, misses, (k, h));
+        equal!(rt; replay_misses(rt.alloc(), k, requests)?, misses, (k, h));
         assert!(rt; keeps_the_bound(k, misses, h, fewest), "{k} {h}");
     }
     Ok(())
@@ -177,11 +177,11 @@ fn the_furthest_next_request_is_dropped(rt: HostRuntime) -> Result<(), Fail> {
 fn a_start_counts_as_fetched_first(rt: HostRuntime) -> Result<(), Fail> {
     let schedule = furthest_next(rt.alloc(), 3, b"xy", b"abya")?;
     let lists = ["xy", "xya", "yab", "yab", "yab"];
-    assert_eq!(rt; schedule.len(), lists.len());
+    equal!(rt; schedule.len(), lists.len());
     for (held, list) in schedule.iter().zip(lists.iter()) {
-        assert_eq!(rt; held.as_slice(), list.as_bytes(), list);
+        equal!(rt; held.as_slice(), list.as_bytes(), list);
     }
-    assert_eq!(rt; schedule_misses(3, b"xy", &schedule, b"abya")?, 2);
+    equal!(rt; schedule_misses(3, b"xy", &schedule, b"abya")?, 2);
     Ok(())
 }
 
@@ -210,13 +210,13 @@ fn a_start_saves_a_miss_for_each_of_its_keys(rt: HostRuntime) -> Result<(), Fail
     ];
     for (k, h, start, requests, misses, fewest, sides) in rows {
         let schedule = furthest_next(rt.alloc(), h, start, requests)?;
-        assert_eq!(rt;
+        equal!(rt;
             schedule_misses(h, start, &schedule, requests)?,
             fewest,
             (k, h)
         );
-        assert_eq!(rt; replay_misses(rt.alloc(), k, requests)?, misses, (k, h));
-        assert_eq!(rt; sides_from_any_start(k, misses, h, fewest), sides, (k, h));
+        equal!(rt; replay_misses(rt.alloc(), k, requests)?, misses, (k, h));
+        equal!(rt; sides_from_any_start(k, misses, h, fewest), sides, (k, h));
         assert!(rt; sides.0 <= sides.1, "{k} {h}");
     }
     Ok(())
@@ -268,11 +268,11 @@ fn drawn_requests_keep_the_bound(rt: HostRuntime) -> Result<(), Fail> {
             for list in 0..12 {
                 let requests = drawn(rt.alloc(), &mut seed, letters, length)?;
                 let pairs = pairs_within_the_bound(rt.alloc(), &requests)?;
-                assert_eq!(rt; pairs, 15, (letters, length, list));
+                equal!(rt; pairs, 15, (letters, length, list));
                 cases = cases.saturating_add(pairs);
             }
         }
     }
-    assert_eq!(rt; cases, 4860);
+    equal!(rt; cases, 4860);
     Ok(())
 }

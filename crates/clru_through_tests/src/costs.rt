@@ -2,7 +2,7 @@
 ghost use Rattle.std.specs.Hash.FoldHasher.{initial};
 
 use crate::sources::{ByLength, Doubler, Failing, one};
-use assertions::assert_eq;
+use assertions::equal;
 use clru::{CLruCache, CLruCacheConfig};
 use clru_fixtures::sizes::room;
 use clru_through::Through;
@@ -44,7 +44,7 @@ fn a_hit_hashes_once_as_a_look_up_does(rt: HostRuntime) -> Result<(), Fail> {
     for (letter, fetches, count) in [(b'a', 1, 2), (b'b', 2, 2), (b'a', 2, 1), (b'b', 2, 1)] {
         hashes.set(0);
         assert!(rt; store.get(one(letter)).is_ok());
-        assert_eq!(rt; (fetched.get(), hashes.get()), (fetches, count), letter);
+        equal!(rt; (fetched.get(), hashes.get()), (fetches, count), letter);
     }
     Ok(())
 }

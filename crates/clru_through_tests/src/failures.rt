@@ -2,7 +2,7 @@
 
 use crate::sources::{Failing, one};
 use crate::steps::{Texts, Want, gets, texts};
-use assertions::assert_eq;
+use assertions::equal;
 use clru_fixtures::with_each_builder;
 use std::alloc::Global;
 use std::cell::Cell;
@@ -28,14 +28,14 @@ fn fetches_again<S: BuildHasher>(
         let before = store.len();
         if gets(store, one(letter)) == Want::Failed(7) {
             failed = fetched.get();
-            assert_eq!(rt;
+            equal!(rt;
                 (store.len(), store.weight()),
                 (before, before.saturating_mul(2))
             );
-            assert_eq!(rt; gets(store, one(letter)), Want::Held(letter, 2));
+            equal!(rt; gets(store, one(letter)), Want::Held(letter, 2));
         }
         let extra = u64::from(failed > 0);
-        assert_eq!(rt;
+        equal!(rt;
             (store.len(), fetched.get()),
             (held, fetches + extra),
             letter
@@ -54,7 +54,7 @@ fn fails_in_turn<S: BuildHasher + Copy>(
         let fetched = Cell::new(0);
         let mut store = texts(alloc, 20, builder, &fetched, Failing::After(n))?;
         if fetches_again(rt, &mut store, &fetched) == 0 {
-            assert_eq!(rt; n, 3, "there are three fetches");
+            equal!(rt; n, 3, "there are three fetches");
             return Ok(());
         }
     }

@@ -1,7 +1,7 @@
 //! Memory that is refused: each request in turn, until a run meets no refusal.
 
 use crate::sources::Twice;
-use assertions::assert_eq;
+use assertions::equal;
 use clru::{CLruCache, DefaultState, ZeroWeightScale};
 use clru_fixtures::sizes::room;
 use clru_through::{Answer, Through};
@@ -43,16 +43,16 @@ fn gets_nine(
         let refused = heap.refused();
         match store.get(key) {
             Ok(Answer::Held(value)) => {
-                assert_eq!(rt; (*value, heap.refused()), (2 * key, refused));
+                equal!(rt; (*value, heap.refused()), (2 * key, refused));
                 held = key + 1;
             }
             Ok(Answer::Passed(value)) => {
-                assert_eq!(rt; value, 2 * key);
+                equal!(rt; value, 2 * key);
                 assert!(rt; heap.refused() > refused, "a refusal at {key}");
             }
-            Err(error) => assert_eq!(rt; error, 0, "there is no such error"),
+            Err(error) => equal!(rt; error, 0, "there is no such error"),
         }
-        assert_eq!(rt; (store.len() as u64, fetched.get()), (held, key + 1), key);
+        equal!(rt; (store.len() as u64, fetched.get()), (held, key + 1), key);
     }
     held
 }
@@ -67,10 +67,10 @@ fn a_value_without_memory_is_passed_on(rt: HostRuntime) -> Result<(), Fail> {
             heap.refuse_after(n);
             let held = gets_nine(&rt, &heap, &mut store, &fetched);
             for key in 0..9u64 {
-                assert_eq!(rt; store.peek(&key).is_some(), key < held, (key, held));
+                equal!(rt; store.peek(&key).is_some(), key < held, (key, held));
             }
         }
-        assert_eq!(rt; heap.blocks(), 0);
+        equal!(rt; heap.blocks(), 0);
         if heap.refused() == 0 {
             assert!(rt; n > 0, "there was a request to refuse");
             return Ok(());
@@ -85,14 +85,14 @@ fn a_value_is_held_once_there_is_memory(rt: HostRuntime) -> Result<(), Fail> {
     let fetched = Cell::new(0);
     let mut store = numbers(&heap, 2, &fetched)?;
     heap.refuse_after(0);
-    assert_eq!(rt; store.get(3), Ok(Answer::Passed(6)));
-    assert_eq!(rt; (store.len(), fetched.get()), (0, 1));
+    equal!(rt; store.get(3), Ok(Answer::Passed(6)));
+    equal!(rt; (store.len(), fetched.get()), (0, 1));
     heap.refuse_none();
-    assert_eq!(rt; store.get(3), Ok(Answer::Held(&6)));
-    assert_eq!(rt; (store.len(), fetched.get()), (1, 2));
+    equal!(rt; store.get(3), Ok(Answer::Held(&6)));
+    equal!(rt; (store.len(), fetched.get()), (1, 2));
     let asked = heap.asked();
-    assert_eq!(rt; store.get(3), Ok(Answer::Held(&6)));
-    assert_eq!(rt;
+    equal!(rt; store.get(3), Ok(Answer::Held(&6)));
+    equal!(rt;
         (fetched.get(), heap.asked()),
         (2, asked),
         "a hit asks for no memory"
@@ -106,12 +106,12 @@ fn a_thousand_values_are_held(rt: HostRuntime) -> Result<(), Fail> {
     let fetched = Cell::new(0);
     let mut store = numbers(&heap, 1000, &fetched)?;
     for key in 0..1000u64 {
-        assert_eq!(rt; store.get(key), Ok(Answer::Held(&(2 * key))));
+        equal!(rt; store.get(key), Ok(Answer::Held(&(2 * key))));
     }
-    assert_eq!(rt; (store.len(), fetched.get()), (1000, 1000));
+    equal!(rt; (store.len(), fetched.get()), (1000, 1000));
     for key in 0..1000u64 {
-        assert_eq!(rt; store.get(key), Ok(Answer::Held(&(2 * key))));
+        equal!(rt; store.get(key), Ok(Answer::Held(&(2 * key))));
     }
-    assert_eq!(rt; fetched.get(), 1000);
+    equal!(rt; fetched.get(), 1000);
     Ok(())
 }

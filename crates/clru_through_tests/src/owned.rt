@@ -3,7 +3,7 @@ ghost use Rattle.std.specs.Prelude.{ℕ, List, Some, length, replicate, ⊤};
 ghost use Rattle.std.specs.Cmp.Rules.{comparing};
 ghost use Rattle.std.proofs.Common.{rules};
 
-use assertions::assert_eq;
+use assertions::equal;
 use clru::{CLruCache, WeightScale};
 use clru_fixtures::sizes::room;
 use clru_through::{Loaded, Source, Through};
@@ -73,7 +73,7 @@ fn loads(rt: &impl Abort, heap: &Rationed<Global>, capacity: usize) -> Result<(u
         match store.load(key) {
             Ok(Loaded::Held) => {}
             Ok(Loaded::Passed(page)) => {
-                assert_eq!(rt; page.bytes.as_slice(), [0, 0, 0].as_slice());
+                equal!(rt; page.bytes.as_slice(), [0, 0, 0].as_slice());
                 passed = passed.saturating_add(1);
             }
             Err(_) => failed = failed.saturating_add(1),
@@ -87,8 +87,8 @@ fn loads(rt: &impl Abort, heap: &Rationed<Global>, capacity: usize) -> Result<(u
 fn no_key_and_no_value_is_lost(rt: HostRuntime) -> Result<(), Fail> {
     for (capacity, all_passed) in [(3, 6), (8, 0), (20, 0)] {
         let heap = Rationed::new(rt.alloc());
-        assert_eq!(rt; loads(&rt, &heap, capacity)?, (all_passed, 0));
-        assert_eq!(rt; heap.blocks(), 0, capacity);
+        equal!(rt; loads(&rt, &heap, capacity)?, (all_passed, 0));
+        equal!(rt; heap.blocks(), 0, capacity);
     }
     Ok(())
 }
@@ -99,7 +99,7 @@ fn nothing_is_lost_where_memory_is_refused(rt: HostRuntime) -> Result<(), Fail> 
         let heap = Rationed::new(rt.alloc());
         heap.refuse_one_after(n);
         let (passed, failed) = loads(&rt, &heap, 20)?;
-        assert_eq!(rt;
+        equal!(rt;
             (passed.saturating_add(failed), heap.blocks()),
             (heap.refused(), 0),
             n

@@ -2,7 +2,7 @@
 
 use crate::sources::{Failing, Name, Text, one};
 use crate::steps::{Want, texts, walks};
-use assertions::assert_eq;
+use assertions::equal;
 use clru_fixtures::with_each_builder;
 use clru_through::Loaded;
 use std::alloc::Global;
@@ -32,10 +32,10 @@ fn gets_twice<S: BuildHasher + Copy>(
         (TWO_C, Want::Passed(b'c', 4), 3, 1, 2),
     ];
     walks(rt, &mut store, &fetched, &rows);
-    assert_eq!(rt; store.capacity(), 4);
+    equal!(rt; store.capacity(), 4);
     assert!(rt; store.peek(&one(b'a')).is_none());
     assert!(rt; store.peek(&one(b'b')).is_some());
-    assert_eq!(rt;
+    equal!(rt;
         store.front().map(|(name, text)| (*name, text.length)),
         Some((one(b'b'), 2))
     );
@@ -119,14 +119,14 @@ fn a_hit_goes_to_the_front(rt: HostRuntime) -> Result<(), Fail> {
 fn loads<S: BuildHasher + Copy>(rt: &impl Abort, alloc: Global, builder: S) -> Result<(), Fail> {
     let fetched = Cell::new(0);
     let mut store = texts(alloc, 4, builder, &fetched, Failing::At(b'b'))?;
-    assert_eq!(rt; store.load(one(b'a')), Ok(Loaded::Held));
-    assert_eq!(rt; store.load(one(b'b')), Err(7));
+    equal!(rt; store.load(one(b'a')), Ok(Loaded::Held));
+    equal!(rt; store.load(one(b'b')), Err(7));
     let passed = Text {
         letter: b'c',
         length: 4,
     };
-    assert_eq!(rt; store.load(TWO_C), Ok(Loaded::Passed(passed)));
-    assert_eq!(rt; (fetched.get(), store.len()), (3, 1));
+    equal!(rt; store.load(TWO_C), Ok(Loaded::Passed(passed)));
+    equal!(rt; (fetched.get(), store.len()), (3, 1));
     Ok(())
 }
 

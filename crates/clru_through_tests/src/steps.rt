@@ -1,7 +1,7 @@
 //! Requests of a store as a table.
 
 use crate::sources::{ByLength, Doubler, Failing, Name, Text};
-use assertions::assert_eq;
+use assertions::equal;
 use clru::{CLruCache, CLruCacheConfig};
 use clru_fixtures::sizes::room;
 use clru_through::{Answer, Through};
@@ -63,7 +63,7 @@ pub(crate) fn walks<S: BuildHasher>(
 ) {
     for (name, want, fetches, len, weight) in rows {
         let got = gets(store, *name);
-        assert_eq!(rt;
+        equal!(rt;
             (got, fetched.get(), store.len(), store.weight()),
             (*want, *fetches, *len, *weight),
             name

@@ -25,7 +25,7 @@ pub fn message<T>(alloc: Global, why: &PushError<T>) -> Result<String, AllocErro
 #[cfg(test)]
 mod tests {
     use super::*;
-    use assertions::assert_eq;
+    use assertions::equal;
     use clru_list::NoMemory;
     use std::error::Error;
     use std::test::Fail;
@@ -46,15 +46,15 @@ mod tests {
             (PushError::NoMemory(Page(1)), "out of memory, NoMemory(..)"),
         ];
         for (refusal, text) in rows {
-            assert_eq!(rt; printed(rt.alloc(), &refusal)?.as_str(), text);
+            equal!(rt; printed(rt.alloc(), &refusal)?.as_str(), text);
             let boxed = Box::new(rt.alloc(), refusal)?;
-            assert_eq!(rt; printed(rt.alloc(), &boxed)?.as_str(), text);
+            equal!(rt; printed(rt.alloc(), &boxed)?.as_str(), text);
         }
-        assert_eq!(rt;
+        equal!(rt;
             printed(rt.alloc(), &NoMemory)?.as_str(),
             "out of memory, NoMemory"
         );
-        assert_eq!(rt;
+        equal!(rt;
             message(rt.alloc(), &PushError::Full(3))?.as_str(),
             "the list is full"
         );
@@ -65,7 +65,7 @@ mod tests {
     fn callers_pass_refusals_up(rt: HostRuntime) -> Result<(), Fail> {
         let mut list = ready_list(rt.alloc(), 1)?;
         list.push_back(5)?;
-        assert_eq!(rt; list.front().copied(), Some(5));
+        equal!(rt; list.front().copied(), Some(5));
         let mut pages = FixedSizeList::new(rt.alloc(), 1);
         pages.push_back(Page(5))?;
         assert!(rt; pages.front().is_some_and(|page| page.0 == 5));

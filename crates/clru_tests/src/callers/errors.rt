@@ -92,7 +92,7 @@ pub fn message<K, V>(alloc: Global, why: &PutError<K, V>) -> Result<String, Allo
 #[cfg(test)]
 mod tests {
     use super::*;
-    use assertions::assert_eq;
+    use assertions::equal;
     use clru::NonZeroUsize;
     use std::test::Fail;
 
@@ -121,11 +121,11 @@ mod tests {
             ),
         ];
         for (refusal, text) in rows {
-            assert_eq!(rt; printed(rt.alloc(), &refusal)?.as_str(), text);
+            equal!(rt; printed(rt.alloc(), &refusal)?.as_str(), text);
             let boxed = Box::new(rt.alloc(), refusal)?;
-            assert_eq!(rt; printed(rt.alloc(), &boxed)?.as_str(), text);
+            equal!(rt; printed(rt.alloc(), &boxed)?.as_str(), text);
         }
-        assert_eq!(rt;
+        equal!(rt;
             printed(rt.alloc(), &NoMemory)?.as_str(),
             "out of memory, NoMemory"
         );
@@ -140,17 +140,17 @@ mod tests {
     fn callers_pass_refusals_up(rt: HostRuntime) -> Result<(), Fail> {
         let mut sizes = CLruCache::new(rt.alloc(), NonZeroUsize::MIN);
         store(&mut sizes, "3", 70)?;
-        assert_eq!(rt; sizes.peek(&3).copied(), Some(70));
+        equal!(rt; sizes.peek(&3).copied(), Some(70));
         remember(&mut sizes, 4, 80)?;
-        assert_eq!(rt; sizes.peek(&4).copied(), Some(80));
+        equal!(rt; sizes.peek(&4).copied(), Some(80));
         let refused = store(&mut sizes, "x", 70);
         assert!(rt; matches!(&refused, Err(StoreError::NoNumber(_))));
         let heavy = StoreError::from(PutError::TooHeavy(3, 70));
-        assert_eq!(rt;
+        equal!(rt;
             printed(rt.alloc(), &heavy)?.as_str(),
             "not stored: the pair is too heavy for the cache, Refused(TooHeavy(..))"
         );
-        assert_eq!(rt;
+        equal!(rt;
             message(rt.alloc(), &PutError::NoMemory(3, 70))?.as_str(),
             "out of memory"
         );

@@ -49,28 +49,28 @@ pub fn look_for(sizes: &mut CLruCache<u64, u64>, page: u64) -> Option<u64>
 #[cfg(test)]
 mod tests {
     use super::*;
-    use assertions::assert_eq;
+    use assertions::equal;
     use clru::NonZeroUsize;
     use std::test::Fail;
 
     #[test]
     fn callers_write_through_what_is_lent(rt: HostRuntime) -> Result<(), Fail> {
         let mut sizes = CLruCache::new(rt.alloc(), NonZeroUsize::MIN);
-        assert_eq!(rt;
+        equal!(rt;
             (correct_latest(&mut sizes, 1), look_for(&mut sizes, 3)),
             (None, None)
         );
         assert!(rt; sizes.put(3, 70).is_ok());
-        assert_eq!(rt;
+        equal!(rt;
             (correct(&mut sizes, 3, 80), correct(&mut sizes, 4, 90)),
             (true, false)
         );
-        assert_eq!(rt;
+        equal!(rt;
             (look_for(&mut sizes, 4), look_for(&mut sizes, 3)),
             (None, Some(80))
         );
-        assert_eq!(rt; correct_latest(&mut sizes, 7), Some(3));
-        assert_eq!(rt; sizes.peek(&3).copied(), Some(7));
+        equal!(rt; correct_latest(&mut sizes, 7), Some(3));
+        equal!(rt; sizes.peek(&3).copied(), Some(7));
         Ok(())
     }
 }

@@ -80,7 +80,7 @@ pub fn three_looks<S: BuildHasher + Drop>(
 #[cfg(test)]
 mod tests {
     use super::*;
-    use assertions::assert_eq;
+    use assertions::equal;
     use clru::{DefaultState, ZeroWeightScale};
     use std::test::Fail;
 
@@ -90,8 +90,8 @@ mod tests {
         let config = CLruCacheConfig::new(NonZeroUsize::MAX).with_memory(usize::MAX);
         let mut sizes: CLruCache<u64, u64> = make_anyway(rt.alloc(), config);
         let pages = Vec::from_array(rt.alloc(), [(1, 10), (2, 20)])?;
-        assert_eq!(rt; remember_all(&mut sizes, pages), Ok(()));
-        assert_eq!(rt; (sizes.len(), sizes.peek(&1).copied()), (2, Some(10)));
+        equal!(rt; remember_all(&mut sizes, pages), Ok(()));
+        equal!(rt; (sizes.len(), sizes.peek(&1).copied()), (2, Some(10)));
         let weighed: CLruCache<u64, u64> = make_weighed(
             rt.alloc(),
             NonZeroUsize::MIN,
@@ -99,8 +99,8 @@ mod tests {
             ZeroWeightScale,
         );
         let looks = three_looks(rt.alloc(), DefaultState)?;
-        assert_eq!(rt; (weighed.capacity(), looks.capacity()), (1, 2));
-        assert_eq!(rt; looks.peek(&1).copied(), Some(30));
+        equal!(rt; (weighed.capacity(), looks.capacity()), (1, 2));
+        equal!(rt; looks.peek(&1).copied(), Some(30));
         Ok(())
     }
 }

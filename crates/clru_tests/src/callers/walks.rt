@@ -77,7 +77,7 @@ pub fn oldest(sizes: CLruCache<u64, u64>) -> Option<(u64, u64)>
 #[cfg(test)]
 mod tests {
     use super::*;
-    use assertions::assert_eq;
+    use assertions::equal;
     use clru::NonZeroUsize;
     use std::test::Fail;
 
@@ -87,15 +87,15 @@ mod tests {
             return Ok(());
         };
         let mut cache = CLruCache::new(rt.alloc(), capacity);
-        assert_eq!(rt; (total(&cache), total_backwards(&cache)), (0, 0));
+        equal!(rt; (total(&cache), total_backwards(&cache)), (0, 0));
         for page in 1..=4 {
             cache.put(page, page * 100)?;
         }
-        assert_eq!(rt; ends(&cache), (Some((4, 400)), Some((2, 200))));
+        equal!(rt; ends(&cache), (Some((4, 400)), Some((2, 200))));
         halve_by_cursor(&mut cache);
         halve_by_both_ends(&mut cache);
-        assert_eq!(rt; ends(&cache), (Some((4, 100)), Some((2, 50))));
-        assert_eq!(rt; oldest(cache), Some((2, 50)));
+        equal!(rt; ends(&cache), (Some((4, 100)), Some((2, 50))));
+        equal!(rt; oldest(cache), Some((2, 50)));
         Ok(())
     }
 }
