@@ -14,7 +14,7 @@ macro_rules! equal {
     };
 }
 
-/// Writes what `equal!` calls. It may end the process, so it stands under `#[cfg(test)]` alone.
+/// Writes what `equal!` calls. It may end the process, so it stands in test code alone.
 #[macro_export]
 macro_rules! define_asserts {
     ($name:ident) => {
