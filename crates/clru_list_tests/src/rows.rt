@@ -39,6 +39,7 @@ fn places_stay_through_each_call(rt: HostRuntime) -> Result<(), Fail> {
     has(&rt, &list, &[(r, 3), (p, 7)]);
     equal!(rt; list.move_front(p).copied(), Some(7));
     has(&rt, &list, &[(p, 7), (r, 3)]);
+    // `equal!` tells the prover nothing, and `resize` asks that the items fit.
     if list.len() <= 2 {
         list.resize(2);
     }
