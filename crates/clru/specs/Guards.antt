@@ -11,7 +11,7 @@ use Rattle.clru.specs.Entries.{with_value_at}
 use Rattle.clru.specs.declared.entry.End.{End}
 use Rattle.clru.specs.declared.entry.End.TheVariants.{Front, Back}
 use Rattle.clru.specs.declared.entry.EntryMut.{EntryMut}
-use Rattle.clru.specs.declared.weight.ZeroWeightScale.{ZeroWeightScale}
+use Rattle.clru_types.specs.declared.weight.ZeroWeightScale.{ZeroWeightScale}
 
 -- the place of the entry at an end
 abbrev pub place_of : {X : Type 0} → End → List X → ℕ

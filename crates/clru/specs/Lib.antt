@@ -6,7 +6,6 @@ pub mod Collecting
 pub mod Config
 pub mod Drops
 pub mod Entries
-pub mod Errors
 pub mod Fields
 pub mod Growth
 pub mod GuardLends
@@ -16,7 +15,6 @@ pub mod Lends
 pub mod Memory
 pub mod Nodes
 pub mod NodesLends
-pub mod Refusals
 pub mod Requests
 pub mod Retains
 pub mod Runs

@@ -16,10 +16,9 @@ mod resize;
 mod retain;
 mod walk;
 
-use crate::hasher::DefaultState;
 use crate::nodes::Nodes;
-use crate::weight::{WeightScale, ZeroWeightScale};
 pub use answer::Put;
+use clru_types::{DefaultState, WeightScale, ZeroWeightScale};
 use std::alloc::{Allocator, Global};
 use std::hash::{BuildHasher, Hash};
 use std::marker::Model;

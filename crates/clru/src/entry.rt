@@ -4,8 +4,7 @@ ghost use Rattle.std.specs.Prelude.{◌<◌, length};
 pub(crate) mod methods;
 
 use crate::cache::CLruCache;
-use crate::hasher::DefaultState;
-use crate::weight::ZeroWeightScale;
+use clru_types::{DefaultState, ZeroWeightScale};
 use std::alloc::{Allocator, Global};
 use std::hash::{BuildHasher, Hash};
 

@@ -14,20 +14,17 @@
 mod cache;
 mod config;
 mod entry;
-mod error;
-mod hasher;
 mod iter;
 mod laws;
 mod nodes;
 mod replays;
 mod shrink;
-mod weight;
 
 pub use cache::{CLruCache, Put};
+pub use clru_list::NoMemory;
+pub use clru_types::{DefaultState, PutError, TryPutError, WeightScale, ZeroWeightScale};
 pub use config::CLruCacheConfig;
 pub use entry::EntryMut;
-pub use error::{NoMemory, PutError, TryPutError};
-pub use hasher::DefaultState;
 pub use iter::CLruCacheIter;
 pub use iter::cursor::CLruCacheIterMut;
 pub use iter::owned::CLruCacheIntoIter;
@@ -37,4 +34,3 @@ pub use laws::{
 };
 pub use replays::{Replay, replay};
 pub use std::num::NonZeroUsize;
-pub use weight::{WeightScale, ZeroWeightScale};

@@ -12,8 +12,8 @@ mod answer;
 
 use crate::cache::CLruCache;
 use crate::config::CLruCacheConfig;
-use crate::weight::ZeroWeightScale;
 pub use answer::Replay;
+use clru_types::ZeroWeightScale;
 use std::alloc::Allocator;
 use std::hash::{BuildHasher, Hash};
 use std::num::NonZeroUsize;

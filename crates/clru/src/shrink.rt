@@ -5,7 +5,7 @@ ghost use Rattle.clru.specs.Entries.{fit, past_fit, weight_of, size_of};
 ghost use Rattle.clru.specs.Nodes.{hash_by, pairs_of, IsIndexed, IsSame};
 
 use crate::nodes::Nodes;
-use crate::weight::WeightScale;
+use clru_types::WeightScale;
 use std::alloc::Allocator;
 use std::hash::{BuildHasher, Hash};
 

@@ -5,8 +5,8 @@ ghost use Rattle.clru.specs.Cache.{cache};
 ghost use Rattle.clru.specs.Collecting.{PutsItems, CollectsItems};
 
 use crate::cache::CLruCache;
-use crate::error::NoMemory;
-use crate::weight::ZeroWeightScale;
+use clru_list::NoMemory;
+use clru_types::ZeroWeightScale;
 use std::alloc::Allocator;
 use std::hash::{BuildHasher, Hash};
 use std::num::NonZeroUsize;

@@ -6,12 +6,11 @@ ghost use Rattle.clru.specs.Closures.{TakesKey, TakesEntry, PutsOrModifies, TryP
 ghost use Rattle.clru.specs.Entries.{plain_put};
 ghost use Rattle.clru.specs.Lends.{lends_put, lends_try};
 ghost use Rattle.clru.specs.Memory.{NeedsPlace};
-ghost use Rattle.clru.specs.Refusals.{IfNoMemory, MatchTryPutError};
-ghost use Rattle.clru.specs.contracts.weight.ZeroWeightScale.{the_row as zero_scale_row};
+ghost use Rattle.clru_types.specs.Refusals.{IfNoMemory, MatchTryPutError};
+ghost use Rattle.clru_types.specs.contracts.weight.ZeroWeightScale.{the_row as zero_scale_row};
 
 use crate::cache::CLruCache;
-use crate::error::TryPutError;
-use crate::weight::{WeightScale, ZeroWeightScale};
+use clru_types::{TryPutError, WeightScale, ZeroWeightScale};
 use std::alloc::Allocator;
 use std::hash::{BuildHasher, Hash};
 

@@ -6,10 +6,9 @@ ghost use Rattle.clru.specs.Nodes.{hash_by, IsEmpty, IsIndexed};
 
 use crate::cache::CLruCache;
 use crate::config::CLruCacheConfig;
-use crate::error::NoMemory;
-use crate::hasher::DefaultState;
 use crate::nodes::Nodes;
-use crate::weight::{WeightScale, ZeroWeightScale};
+use clru_list::NoMemory;
+use clru_types::{DefaultState, WeightScale, ZeroWeightScale};
 use std::alloc::Allocator;
 use std::hash::{BuildHasher, Hash};
 use std::num::NonZeroUsize;

@@ -4,13 +4,12 @@ ghost use Rattle.std.specs.Map.{lookup};
 ghost use Rattle.clru.specs.Drops.{HandsOutTo, TakesEach};
 ghost use Rattle.clru.specs.Entries.{plain_put, plain_drop, weighted_put, weighted_drops};
 ghost use Rattle.clru.specs.Memory.{NeedsPlace, NeedsPlaceFor, GrowsOnlyIf};
-ghost use Rattle.clru.specs.Refusals.{pair_of, IsTooHeavy, WantsMemory};
+ghost use Rattle.clru_types.specs.Refusals.{pair_of, IsTooHeavy, WantsMemory};
 
 use crate::cache::CLruCache;
 use crate::cache::answer::Put;
-use crate::error::PutError;
 use crate::shrink::shrink_handing_to;
-use crate::weight::{WeightScale, ZeroWeightScale};
+use clru_types::{PutError, WeightScale, ZeroWeightScale};
 use std::alloc::Allocator;
 use std::hash::{BuildHasher, Hash};
 

@@ -5,7 +5,7 @@ ghost use Rattle.clru.specs.Cache.{with_entries};
 ghost use Rattle.clru.specs.Entries.{without};
 
 use crate::cache::CLruCache;
-use crate::weight::WeightScale;
+use clru_types::WeightScale;
 use std::alloc::Allocator;
 use std::hash::{BuildHasher, Hash};
 

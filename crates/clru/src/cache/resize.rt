@@ -6,7 +6,7 @@ ghost use Rattle.clru.specs.Entries.{fit};
 
 use crate::cache::CLruCache;
 use crate::shrink::shrink_to;
-use crate::weight::WeightScale;
+use clru_types::WeightScale;
 use std::alloc::Allocator;
 use std::hash::{BuildHasher, Hash};
 use std::num::NonZeroUsize;

@@ -5,7 +5,7 @@ ghost use Rattle.clru.specs.Cache.{with_entries};
 ghost use Rattle.clru.specs.Retains.{CalledAtShownPair, TakesShownPair};
 
 use crate::cache::CLruCache;
-use crate::weight::{WeightScale, ZeroWeightScale};
+use clru_types::{WeightScale, ZeroWeightScale};
 use std::alloc::Allocator;
 use std::hash::{BuildHasher, Hash};
 

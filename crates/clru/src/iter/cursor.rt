@@ -2,8 +2,7 @@
 pub(crate) mod steps;
 
 use crate::cache::CLruCache;
-use crate::hasher::DefaultState;
-use crate::weight::ZeroWeightScale;
+use clru_types::{DefaultState, ZeroWeightScale};
 use std::alloc::{Allocator, Global};
 use std::hash::{BuildHasher, Hash};
 

@@ -4,8 +4,7 @@ ghost use Rattle.std.specs.Iterator.{UpTo, YieldsFirst, YieldsLast, at_most, ite
 ghost use Rattle.std.specs.Iterator.SizeHint.{IsWithinCount};
 
 use crate::cache::CLruCache;
-use crate::hasher::DefaultState;
-use crate::weight::{WeightScale, ZeroWeightScale};
+use clru_types::{DefaultState, WeightScale, ZeroWeightScale};
 use std::alloc::{Allocator, Global};
 use std::hash::{BuildHasher, Hash};
 use std::iter::FusedIterator;

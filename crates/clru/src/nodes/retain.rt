@@ -7,7 +7,7 @@ ghost use Rattle.clru.specs.Nodes.{hash_by, pairs_of, placed_of, IsIndexed, IsLi
 ghost use Rattle.clru.specs.Retains.{CalledAtShownPair, TakesShownPair};
 
 use crate::nodes::Nodes;
-use crate::weight::WeightScale;
+use clru_types::WeightScale;
 use std::alloc::Allocator;
 use std::hash::{BuildHasher, Hash};
 

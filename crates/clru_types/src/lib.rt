@@ -1,0 +1,15 @@
+//! What a cache of `clru` is made from beside its capacity, and what a refused put answers.
+//!
+//! A scale says what a pair weighs. A hash builder hashes keys where none is given. A refused put answers why it was refused,
+//! with what it was given.
+//!
+//! No call takes memory.
+#![tactic(auto)]
+
+mod error;
+mod hasher;
+mod weight;
+
+pub use error::{PutError, TryPutError};
+pub use hasher::DefaultState;
+pub use weight::{WeightScale, ZeroWeightScale};
