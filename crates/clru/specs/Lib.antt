@@ -21,3 +21,5 @@ pub mod Runs
 pub mod Schedule
 pub mod WalkLends
 pub mod Walks
+pub use Rattle.clru_types.specs.Errors
+pub use Rattle.clru_types.specs.Refusals
