@@ -1,6 +1,6 @@
 -- What a caller's proof cites: of the list that a touch, a removal and a put leave, of values that are lent, and of the closure
 -- that takes what a put drops.
-use Rattle.std.proofs.Common.{◌≡◌, ℕ, zero, suc, ◌-◌, ◌≤◌, Bool, true, List, [], ◌∷◌, ◌++◌, length, take, drop, Option, Some, None, is_some, slice_get, refl, sym, ap, ◌∙◌, arith, length-append, length-drop}
+use Rattle.std.proofs.Common.{◌≡◌, ℕ, zero, suc, ◌-◌, ◌≤◌, Bool, true, List, [], ◌∷◌, ◌++◌, length, take, drop, Option, Some, None, is_some, slice_get, refl, sym, ap, ◌∙◌, arith, length-drop}
 use Rattle.std.specs.Cmp.{IsEquivalence}
 use Rattle.std.specs.Fn.{Mut, always_mut}
 use Rattle.std.specs.Map.{lookup, lookup_entry, remove_entry, set_value}
@@ -11,14 +11,14 @@ use Rattle.std.specs.declared.hash.Hash as hash
 use Rattle.std.specs.declared.hash.Hasher as hasher
 use Rattle.std.proofs.lemmas.Fn.{chained_keeps}
 use Rattle.std.proofs.lemmas.List.{length-reverse}
+use Rattle.clru_nodes.specs.Entries.{without, touch, fit, plain_put, weighted_drops, with_value_at}
 use Rattle.clru.specs.Drops.{TakesOver, HandsOutTo, TakesEach}
-use Rattle.clru.specs.Entries.{without, touch, fit, plain_put, weighted_drops, with_value_at}
 use Rattle.clru.specs.Guards.{place_of, length-with_value_at, place, pair, with_value}
 use Rattle.clru.specs.declared.entry.End.TheVariants.{Front, Back}
 use Rattle.clru.specs.declared.entry.EntryMut.{EntryMut}
-use Rattle.clru.proofs.Distinct.{split}
+use Rattle.clru_nodes.proofs.Cases.{split}
+use Rattle.clru_nodes.proofs.Ends.{last_of}
 use Rattle.clru.proofs.Finding.{held, with_front-touch, with_front-set_value}
-use Rattle.clru.proofs.Places.{slice_get_middle}
 use Rattle.clru.proofs.Sublists.{sublist_remove_entry, length-sublist}
 pub use Rattle.clru.proofs.Keeping.{lookup-without}
 pub use Rattle.clru.proofs.Lookups.{length-touch, length-without, length-plain_put, missed-without, lookup-removed, lookup-touch, lookup-put_beside}
@@ -101,5 +101,4 @@ length-weighted_drops eq weight c x v es =
 
 -- the last of some pairs and one more
 pub last_of-push : {X : Type 0} (xs : List X) (x : X) → slice_get (xs ++ x ∷ []) (length (xs ++ x ∷ []) - 1) ≡ Some x
-last_of-push xs x =
-    let last : length (xs ++ x ∷ []) - 1 ≡ length xs = omega (arith, length-append xs (x ∷ [])) in rw last (slice_get_middle xs [] x)
+last_of-push xs x = (last_of x xs).0

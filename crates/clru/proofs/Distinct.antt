@@ -6,11 +6,7 @@ use Rattle.std.proofs.lemmas.Bool.{or_left, or_right, or_parts}
 use Rattle.std.specs.Cmp.{IsEquivalence}
 use Rattle.std.specs.List.{filter}
 use Rattle.clru.specs.Requests.{holds, distinct, since, hit}
-
--- the two cases of a test
-pub split : {G : Type 0} (b : Bool) → (b ≡ true → G) → (b ≡ false → G) → G
-split true at_true at_false = at_true refl
-split false at_true at_false = at_false refl
+use Rattle.clru_nodes.proofs.Cases.{split}
 
 module _ {K : Type 0} (eq : K → K → Bool) where
   -- the requests of other keys than x

@@ -1,9 +1,9 @@
 -- The entries that a run of calls leaves at a capacity begin those that it leaves at a greater one.
 use Rattle.std.proofs.Common.{◌≡◌, ℕ, zero, suc, ◌+◌, ◌-◌, ◌<◌, ◌≤◌, leb, ltb, lt-ltb, Bool, true, List, [], ◌∷◌, ◌++◌, length, take, drop, refl, sym, ap, subst, arith, length-append}
 use Rattle.std.proofs.lemmas.Bool.{leb-true, le-leb}
-use Rattle.clru.specs.Entries.{without, fit}
+use Rattle.clru_nodes.specs.Entries.{without, fit}
 use Rattle.clru.specs.Runs.{Call, put_with_weight, pop, pop_front, pop_back, clear, peek, contains, after, after_all, IsTaken, AreTaken}
-use Rattle.clru.proofs.Distinct.{split}
+use Rattle.clru_nodes.proofs.Cases.{split}
 
 -- the first list begins the second
 abbrev Begins : {X : Type 0} → List X → List X → Type 0

@@ -1,27 +1,17 @@
 -- Which changes of the entries keep what a cache's fields keep.
-use Rattle.std.proofs.Common.{◌≡◌, ℕ, ◌+◌, ◌-◌, ◌≤◌, Bool, true, false, List, [], ◌∷◌, ◌++◌, drop, Some, None, slice_get, refl, sym, ◌∙◌, subst, arith}
+use Rattle.std.proofs.Common.{◌≡◌, ℕ, ◌+◌, ◌-◌, ◌≤◌, Bool, true, false, List, [], ◌∷◌, drop, Some, None, slice_get, refl, sym, ◌∙◌, subst, arith}
 use Rattle.std.specs.Cmp.{IsEquivalence}
 use Rattle.std.specs.List.{AllByRecursion, IsDistinct}
 use Rattle.std.specs.Map.{keys_of, lookup, lookup_entry, remove_entry}
 use Rattle.std.proofs.lemmas.Map.{NonePasses, none_passes_from_lookup, lookup-remove_entry}
 use Rattle.std.proofs.lemmas.Map.Keys.{IsDistinct-cons}
-use Rattle.std.proofs.lemmas.List.Sums.{sum_by-cons, sum_by-append}
-use Rattle.clru.specs.Entries.{weight_of, size_of, touch}
+use Rattle.clru_nodes.specs.Entries.{weight_of, size_of, touch}
+use Rattle.clru_nodes.specs.Nodes.{pairs_in, IsIndexed, IsSame, capacity_of}
+use Rattle.clru_nodes.specs.declared.nodes.Nodes.{Nodes}
 use Rattle.clru.specs.Fields.{IsKept, IsCache}
-use Rattle.clru.specs.Nodes.{pairs_of, IsIndexed, IsSame}
-use Rattle.clru.specs.declared.nodes.Nodes.{Nodes}
+use Rattle.clru_nodes.proofs.Weights.{weight_of-cons}
 use Rattle.clru.proofs.Finding.{IsHeld, weight_of-held, touch-held, touch-missed, held_at, missed_at}
 use Rattle.clru.proofs.Sublists.{IsSublist, goes, sublist_itself, sublist_remove_entry, sublist_keys, length-sublist, sum_by-sublist, IsDistinct-sublist}
-
-pub weight_of-cons : {K V : Type 0} (weight : K → V → ℕ) (e : K × V) (es : List (K × V))
-    → weight_of weight (e ∷ es) ≡ weight e.0 e.1 + weight_of weight es
-weight_of-cons {K} {V} weight e es = sum_by-cons (λ (e : K × V). weight e.0 e.1) e es
-
-pub weight_of-push : {K V : Type 0} (weight : K → V → ℕ) (es : List (K × V)) (e : K × V)
-    → weight_of weight (es ++ e ∷ []) ≡ weight_of weight es + weight e.0 e.1
-weight_of-push {K} {V} weight es e =
-    let both : weight_of weight (es ++ e ∷ []) ≡ weight_of weight es + weight_of weight (e ∷ []) = sum_by-append
-    (λ (d : K × V). weight d.0 d.1) es (e ∷ []) in omega (arith, both, weight_of-cons weight e [])
 
 module _ {K V : Type 0} (eq : K → K → Bool) where
   keys_apart : (x : K) (es : List (K × V)) → NonePasses (eq x) es → (q : K) → ((y : K) → eq x y ≡ eq q y)
@@ -96,8 +86,8 @@ module _ {K V : Type 0} {eq : K → K → Bool} (weight : K → V → ℕ) where
 
 module _ {K V S A H : Type 0} {eq : K → K → Bool} (weight : K → V → ℕ) {hash : S → K → ℕ} {x y : Nodes K V S A H} {kept c : ℕ} where
   -- a cache whose nodes have other pairs
-  pub IsCache-from : {fs : List (K × V)} {left : ℕ} → IsCache eq weight hash x kept c → pairs_of y.list.entries ≡ fs → IsKept eq weight fs left c
-      → IsIndexed hash y → y.list.capacity ≡ x.list.capacity → IsCache eq weight hash y left c
+  pub IsCache-from : {fs : List (K × V)} {left : ℕ} → IsCache eq weight hash x kept c → pairs_in y ≡ fs → IsKept eq weight fs left c
+      → IsIndexed hash y → capacity_of y ≡ capacity_of x → IsCache eq weight hash y left c
   IsCache-from {fs} {left} old same pairs indexed capacity = record {
     pairs = subst (λ l. IsKept eq weight l left c) (sym same) pairs;
     indexed = indexed;
@@ -105,6 +95,6 @@ module _ {K V S A H : Type 0} {eq : K → K → Bool} (weight : K → V → ℕ)
   }
 
   -- after a touch
-  pub IsCache-touch : (k : K) → IsEquivalence eq → IsCache eq weight hash x kept c → pairs_of y.list.entries ≡ touch eq k (pairs_of x.list.entries)
+  pub IsCache-touch : (k : K) → IsEquivalence eq → IsCache eq weight hash x kept c → pairs_in y ≡ touch eq k (pairs_in x)
       → IsIndexed hash y → IsSame x y → IsCache eq weight hash y kept c
   IsCache-touch k laws old same indexed rest = IsCache-from old same (IsKept-touch weight k laws old.pairs) indexed rest.capacity

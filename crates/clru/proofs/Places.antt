@@ -10,7 +10,8 @@ use Rattle.std.proofs.lemmas.Map.Keys.{any_passes_from_place}
 use Rattle.std.specs.List.{slice_get, slice_range, list_all}
 use Rattle.clru.specs.Requests.{holds}
 use Rattle.clru.specs.ByPlace.{HasKey, LacksKey}
-use Rattle.clru.proofs.Distinct.{split, holds-append}
+use Rattle.clru_nodes.proofs.Cases.{split}
+use Rattle.clru.proofs.Distinct.{holds-append}
 
 module _ {X : Type 0} where
   -- the elements of the second of two lists in a row

@@ -5,10 +5,10 @@ use Rattle.std.proofs.lemmas.Bool.{le-leb}
 use Rattle.std.specs.Cmp.{IsEquivalence}
 use Rattle.std.specs.Map.{keys_of, lookup_entry}
 use Rattle.std.specs.Option.{option_map_or, MatchOption}
-use Rattle.clru.specs.Entries.{without, plain_put, weighted_put, fit}
+use Rattle.clru_nodes.specs.Entries.{without, plain_put, weighted_put, fit}
 use Rattle.clru.specs.Requests.{holds}
 use Rattle.clru.specs.Runs.{IsPut}
-use Rattle.clru.proofs.Distinct.{split}
+use Rattle.clru_nodes.proofs.Cases.{split}
 
 module _ {K V : Type 0} (eq : K → K → Bool) where
   -- without its pair a list that holds a key is shorter by one

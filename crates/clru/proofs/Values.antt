@@ -1,92 +1,12 @@
--- Items with other values: their places, keys and links stay, and so does the index.
-use Rattle.std.proofs.Common.{◌≡◌, ℕ, suc, ◌-◌, ◌==◌, Bool, Some, None, List, [], ◌∷◌, map, length, refl, sym, ap, ◌∙◌, arith, subst}
+-- At weight zero, other values keep what a cache's fields keep.
+use Rattle.std.proofs.Common.{◌≡◌, ℕ, Bool, List, length, sym, ap, ◌∙◌, arith, subst}
 use Rattle.std.proofs.lemmas.Map.Entries.{length-keys_of}
 use Rattle.std.specs.List.{IsDistinct}
-use Rattle.std.specs.Map.{keys_of, set_value}
-use Rattle.std.specs.Option.{option_map, option_map_or}
-use Rattle.clru_list.specs.PlaceList.{item_at, with_entries, first_entry, last_entry, with_first, with_last}
-use Rattle.clru.specs.Chained.{nowhere}
-use Rattle.clru.specs.Entries.{with_value_at}
+use Rattle.std.specs.Map.{keys_of}
+use Rattle.clru_nodes.specs.declared.nodes.Nodes.{Nodes}
 use Rattle.clru.specs.Fields.{IsKept, IsCache}
-use Rattle.clru.specs.Nodes.{pair_of, pairs_of, with_front, item_with, with_value, link_at, key_at, home_at, IsIndexed}
-use Rattle.clru.specs.declared.nodes.Item.{Item}
-use Rattle.clru.specs.declared.nodes.Nodes.{Nodes}
-use Rattle.clru.proofs.Chaining.{chained_same}
-use Rattle.clru.proofs.Distinct.{split}
-use Rattle.clru.proofs.IndexedMoves.{indexed_from}
+use Rattle.clru_nodes.proofs.WrittenItems.{IsWritten}
 use Rattle.clru.proofs.Putting.{weight_of-zero}
-
-module _ {K V : Type 0} where
-  -- all of the items but the values
-  abbrev pub frame_of : List (ℕ × Item K V) → List (ℕ × (ℕ × K))
-  frame_of es = map (λ e. (e.0, (e.1.chain, e.1.key))) es
-
-  frame_at : (q : ℕ) (es : List (ℕ × Item K V)) → item_at q (frame_of es) ≡ option_map (λ (i : Item K V). (i.chain, i.key)) (item_at q es)
-  frame_at q [] = refl
-  frame_at q (e ∷ es) = split (q == e.0) (λ t. rw t refl) (λ f. rw f (frame_at q es))
-
-  link_at-frame : (q : ℕ) (es : List (ℕ × Item K V)) → link_at es q ≡ option_map_or (λ (x : ℕ × K). x.0) (item_at q (frame_of es)) nowhere
-  link_at-frame q es = rw (frame_at q es) ((elim (item_at q es) as (λ o. option_map_or (λ (i : Item K V). i.chain) o nowhere
-      ≡ option_map_or (λ (x : ℕ × K). x.0) (option_map (λ (i : Item K V). (i.chain, i.key)) o) nowhere) [ None ↦ refl | Some i ↦ refl ]))
-
-  key_at-frame : (q : ℕ) (es : List (ℕ × Item K V)) → key_at es q ≡ option_map (λ (x : ℕ × K). x.1) (item_at q (frame_of es))
-  key_at-frame q es = rw (frame_at q es) ((elim (item_at q es) as (λ o. option_map (λ (i : Item K V). i.key) o
-      ≡ option_map (λ (x : ℕ × K). x.1) (option_map (λ (i : Item K V). (i.chain, i.key)) o)) [ None ↦ refl | Some i ↦ refl ]))
-
-  length-frame : (es : List (ℕ × Item K V)) → length (frame_of es) ≡ length es
-  length-frame [] = refl
-  length-frame (e ∷ es) = ap suc (length-frame es)
-
-  module _ (i : Item K V) (v : V) where
-    pub frame-with_first : (es : List (ℕ × Item K V)) → option_map (λ e. e.1) (first_entry es) ≡ Some i
-        → frame_of (with_first (item_with i v) es) ≡ frame_of es
-    frame-with_first [] h = refl
-    frame-with_first (e ∷ es) h =
-        let first : i ≡ e.1 = cc in ap (λ (d : Item K V). (e.0, (d.chain, d.key)) ∷ frame_of es) first
-
-    -- the pairs have the value in front
-    pub pairs_of-with_first : (es : List (ℕ × Item K V)) → option_map (λ e. e.1) (first_entry es) ≡ Some i
-        → pairs_of (with_first (item_with i v) es) ≡ with_front v (pairs_of es)
-    pairs_of-with_first [] h = refl
-    pairs_of-with_first (e ∷ es) h =
-        let first : i ≡ e.1 = cc in ap (λ (d : Item K V). (d.key, v) ∷ pairs_of es) first
-
-    pub frame-with_last : (es : List (ℕ × Item K V)) → option_map (λ e. e.1) (last_entry es) ≡ Some i
-        → frame_of (with_last (item_with i v) es) ≡ frame_of es
-    frame-with_last [] h = refl
-    frame-with_last (e ∷ []) h =
-        let last : i ≡ e.1 = cc in ap (λ (d : Item K V). (e.0, (d.chain, d.key)) ∷ []) last
-    frame-with_last (e ∷ (d ∷ es)) h = ap (λ l. (e.0, (e.1.chain, e.1.key)) ∷ l) (frame-with_last (d ∷ es) h)
-
-    -- and the pairs have the value at the back
-    pub pairs_of-with_last : (es : List (ℕ × Item K V)) → option_map (λ e. e.1) (last_entry es) ≡ Some i
-        → pairs_of (with_last (item_with i v) es) ≡ with_value_at (length (pairs_of es) - 1) v (pairs_of es)
-    pairs_of-with_last [] h = refl
-    pairs_of-with_last (e ∷ []) h = let last : i ≡ e.1 = cc in ap (λ (d : Item K V). (d.key, v) ∷ []) last
-    pairs_of-with_last (e ∷ (d ∷ es)) h =
-        let n : length (pairs_of (e ∷ (d ∷ es))) - 1 ≡ suc (length (pairs_of (d ∷ es)) - 1) = omega arith in
-        rw n (ap (λ l. pair_of e.1 ∷ l) (pairs_of-with_last (d ∷ es) h))
-
-  -- the value is written at the first key that passes, and nothing else
-  pub frame-with_value : (test : K → Bool) (v : V) (es : List (ℕ × Item K V)) → frame_of (with_value test v es) ≡ frame_of es
-  frame-with_value test v [] = refl
-  frame-with_value test v (e ∷ es) =
-      split (test e.1.key) (λ t. rw t refl) (λ f. rw f (ap (λ l. (e.0, (e.1.chain, e.1.key)) ∷ l) (frame-with_value test v es)))
-
-  pub pairs_of-with_value : (test : K → Bool) (v : V) (es : List (ℕ × Item K V)) → pairs_of (with_value test v es) ≡ set_value test (pairs_of es) v
-  pairs_of-with_value test v [] = refl
-  pairs_of-with_value test v (e ∷ es) =
-      split (test e.1.key) (λ t. rw t refl) (λ f. rw f (ap (λ l. pair_of e.1 ∷ l) (pairs_of-with_value test v es)))
-
-  -- the keys stay
-  keys-frame : (es : List (ℕ × Item K V)) → keys_of (pairs_of es) ≡ map (λ (x : ℕ × (ℕ × K)). x.1.1) (frame_of es)
-  keys-frame [] = refl
-  keys-frame (e ∷ es) = ap (λ l. e.1.key ∷ l) (keys-frame es)
-
-  -- another value in front, by the first place
-  pub with_front-value_at : (v : V) (es : List (K × V)) → with_front v es ≡ with_value_at 0 v es
-  with_front-value_at v [] = refl
-  with_front-value_at v (e ∷ es) = refl
 
 module _ {K V : Type 0} {eq : K → K → Bool} where
   -- at weight zero other values keep what a cache's fields keep
@@ -99,30 +19,12 @@ module _ {K V : Type 0} {eq : K → K → Bool} where
         fits = omega (arith, old.fits, weight_of-zero es, weight_of-zero fs, many);
       }
 
-module _ {K V S A H : Type 0} {hash : S → K → ℕ} {x : Nodes K V S A H} where
-  -- the index stays where the items but for their values do
-  pub indexed_frame : IsIndexed hash x → {es : List (ℕ × Item K V)} → frame_of es ≡ frame_of x.list.entries
-      → IsIndexed hash (record x { list = with_entries x.list es })
-  indexed_frame old {es} same =
-      let before = x.list.entries in
-      indexed_from old (record { capacity = refl; placed = refl; builder = refl; places = refl; heads = refl })
-      (chained_same (home_at hash x) old.chained _ _ _ (λ h. refl)
-      (λ q k off is. link_at-frame q es ∙ ap (λ l. option_map_or (λ (x : ℕ × K). x.0) (item_at q l) nowhere) same ∙ sym (link_at-frame q before))
-      (λ q off. key_at-frame q es ∙ ap (λ l. option_map (λ (x : ℕ × K). x.1) (item_at q l)) same ∙ sym (key_at-frame q before)))
-      (omega (arith, length-frame es, length-frame before, ap length same))
-
-  -- and at weight zero the cache stays whole
-  pub IsCache-values : {eq : K → K → Bool} {kept c : ℕ} → IsCache eq (λ k v. 0) hash x kept c → {es : List (ℕ × Item K V)}
-      → frame_of es ≡ frame_of x.list.entries → IsCache eq (λ k v. 0) hash (record x { list = with_entries x.list es }) kept c
-  IsCache-values old {es} same = record {
-    pairs = IsKept-values old.pairs (keys-frame es ∙ ap (λ l. map (λ (x : ℕ × (ℕ × K)). x.1.1) l) same ∙ sym (keys-frame x.list.entries));
-    indexed = indexed_frame old.indexed same;
-    room = old.room;
+module _ {K V S A H : Type 0} {hash : S → K → ℕ} {x y : Nodes K V S A H} where
+  -- and the cache whole
+  pub IsCache-values : {eq : K → K → Bool} {kept c : ℕ} → IsCache eq (λ k v. 0) hash x kept c → {ps : List (K × V)} → IsWritten x y ps
+      → IsCache eq (λ k v. 0) hash y kept c
+  IsCache-values old w = record {
+    pairs = IsKept-values old.pairs w.keys;
+    indexed = w.indexed old.indexed;
+    room = w.same.capacity ∙ old.room;
   }
-
--- the first item has the first pair
-pub first_pair : {K V : Type 0} (es : List (ℕ × Item K V)) (i : Item K V) {e : K × V} {rest : List (K × V)}
-    → option_map (λ d. d.1) (first_entry es) ≡ Some i → pairs_of es ≡ e ∷ rest → pair_of i ≡ e
-first_pair [] i h same = cc
-first_pair (d ∷ es) i {e} {rest} h same =
-    let first : d.1 ≡ i = cc in let heads : pair_of d.1 ≡ e = cc in ap pair_of (sym first) ∙ heads

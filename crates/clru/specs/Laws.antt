@@ -4,10 +4,10 @@ use Rattle.std.specs.Fn.{Mut}
 use Rattle.std.specs.List.{slice_get, count_by}
 use Rattle.std.specs.Map.{lookup}
 use Rattle.std.specs.Option.{option_to_list}
+use Rattle.clru_nodes.specs.Entries.{fit, IsLongestFit, plain_drop, weighted_drops}
 use Rattle.clru.specs.ByPlace.{IsCountOf, IsFirstAt, IsHitAt, IsScheduleAt, IsScheduleMissAt}
 use Rattle.clru.specs.Cache.{Cache, IsValid}
 use Rattle.clru.specs.Drops.{HandsOutTo}
-use Rattle.clru.specs.Entries.{fit, IsLongestFit, plain_drop, weighted_drops}
 use Rattle.clru.specs.Requests.{distinct, marks, misses}
 use Rattle.clru.specs.Runs.{Call, after_all, AreTaken, IsPutRun, held_before}
 use Rattle.clru.specs.declared.cache.answer.Put.{Put}

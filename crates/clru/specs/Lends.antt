@@ -7,10 +7,10 @@ use Rattle.std.specs.declared.alloc.Allocator as alloc
 use Rattle.std.specs.declared.hash.Hasher as hasher
 use Rattle.std.specs.declared.hash.BuildHasher as builder
 use mathlib.Core.Option.{none}
-use Rattle.clru.specs.Cache.{Cache, with_entries}
-use Rattle.clru.specs.Entries.{plain_put}
-use Rattle.clru.specs.Memory.{GrowsOnlyIf, NeedsPlace}
 use Rattle.clru_types.specs.declared.weight.WeightScale as scale
+use Rattle.clru_nodes.specs.Entries.{plain_put}
+use Rattle.clru.specs.Cache.{Cache, with_entries}
+use Rattle.clru.specs.Memory.{GrowsOnlyIf, NeedsPlace}
 use Rattle.clru.specs.contracts.cache.CLruCache.{the_row}
 
 module _ (K V S W A H : RattleType) (key : HashMembers K.Denot) (build : builder.Ghosts S.Denot H.Denot)

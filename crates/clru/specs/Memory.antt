@@ -1,8 +1,8 @@
 -- When a put may be refused for memory, and what becomes of the places. Public clauses cite it.
 use Rattle.std.specs.Prelude.{◌≡◌, ℕ, ◌+◌, ◌<◌, ◌≤◌, Bool, length, None}
 use Rattle.std.specs.Map.{lookup}
+use Rattle.clru_nodes.specs.Entries.{size_of}
 use Rattle.clru.specs.Cache.{Cache}
-use Rattle.clru.specs.Entries.{size_of}
 
 module _ {K V W : Type 0} where
   -- x is not held, no entry has to go, and each place is taken: only then may a put be refused for memory

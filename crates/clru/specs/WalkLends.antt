@@ -6,15 +6,15 @@ use Rattle.std.specs.declared.alloc.Allocator as alloc
 use Rattle.std.specs.declared.hash.Hasher as hasher
 use Rattle.std.specs.declared.hash.BuildHasher as builder
 use mir.Syntax.{named}
+use Rattle.clru_types.specs.declared.weight.WeightScale as scale
+use Rattle.clru_types.specs.declared.weight.ZeroWeightScale.{ZeroWeightScale}
+use Rattle.clru_types.specs.contracts.weight.ZeroWeightScale.{the_row as zero_scale_row}
+use Rattle.clru_nodes.specs.Entries.{with_value_at}
 use Rattle.clru.specs.Cache.{Cache, with_entries}
-use Rattle.clru.specs.Entries.{with_value_at}
 use Rattle.clru.specs.Lends.{cache_row}
 use Rattle.clru.specs.Walks.{stepped, stepped_back}
 use Rattle.clru.specs.declared.iter.cursor.CLruCacheIterMut.{CLruCacheIterMut}
-use Rattle.clru_types.specs.declared.weight.WeightScale as scale
-use Rattle.clru_types.specs.declared.weight.ZeroWeightScale.{ZeroWeightScale}
 use Rattle.clru.specs.contracts.iter.cursor.CLruCacheIterMut.{the_row}
-use Rattle.clru_types.specs.contracts.weight.ZeroWeightScale.{the_row as zero_scale_row}
 
 module _ (K V S A H : RattleType) (key : HashMembers K.Denot) (build : builder.Ghosts S.Denot H.Denot)
     (hash : hasher.Ghosts H.Denot) (heap : alloc.Ghosts A.Denot) where

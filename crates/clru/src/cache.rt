@@ -2,7 +2,7 @@
 //! first, its `capacity`, its `scale` and its `places`, the number of entries for which memory was found.
 ghost use Rattle.std.specs.Prelude.{◌≡◌, ◌+◌, ◌↔◌, [], length, IsTrue};
 ghost use Rattle.clru.specs.Cache.{IsValid};
-ghost use Rattle.clru.specs.Entries.{size_of, weight_of};
+ghost use Rattle.clru_nodes.specs.Entries.{size_of, weight_of};
 
 mod answer;
 mod ends;
@@ -16,8 +16,8 @@ mod resize;
 mod retain;
 mod walk;
 
-use crate::nodes::Nodes;
 pub use answer::Put;
+use clru_nodes::Nodes;
 use clru_types::{DefaultState, WeightScale, ZeroWeightScale};
 use std::alloc::{Allocator, Global};
 use std::hash::{BuildHasher, Hash};
@@ -62,13 +62,13 @@ impl<K: Eq + Hash, V, S: BuildHasher, W: WeightScale<K, V>, A: Allocator + Copy>
     ghost use Rattle.std.specs.Int.NonZero.{non_zero_usize_get};
     ghost use Rattle.clru.specs.Cache.{Cache, cache, cache_code};
     ghost use Rattle.clru.specs.Fields.{IsCache};
-    ghost use Rattle.clru.specs.Nodes.{hash_by, pairs_of};
+    ghost use Rattle.clru_nodes.specs.Nodes.{hash_by, places_of, pairs_in};
 
     ghost Value = { Cache K V W };
 
     ghost coded = { cache_code K.code V.code W.code };
 
-    ghost view = { λ c. cache (pairs_of c.nodes.list.entries) (non_zero_usize_get c.capacity) c.scale c.nodes.places };
+    ghost view = { λ c. cache (pairs_in c.nodes) (non_zero_usize_get c.capacity) c.scale (places_of c.nodes) };
 
     ghost invariant = { λ c. IsCache K.eq (W.weight c.scale) (hash_by S.Hasher.finish S.Hasher.write S.build_hasher K.hash_input)
         c.nodes c.total_weight (non_zero_usize_get c.capacity) };

@@ -4,8 +4,8 @@ ghost use Rattle.std.specs.Iterator.{UpTo, YieldsFirstBy, YieldsLastBy, at_most,
 ghost use Rattle.std.specs.Iterator.SizeHint.{IsWithinCount};
 ghost use Rattle.std.specs.Map.Iter.{deref_pair};
 
-use crate::nodes::Item;
 use clru_list::FixedSizeListIter;
+use clru_nodes::Item;
 use std::alloc::{AllocError, Allocator, Global};
 use std::iter::FusedIterator;
 use std::marker::Model;
@@ -21,7 +21,7 @@ pub struct CLruCacheIter<'a, K, V, A: Allocator + Copy = Global> {
 
 impl<'a, K, V, A: Allocator + Copy> Model for CLruCacheIter<'a, K, V, A> {
     ghost use Rattle.std.specs.Prelude.{List};
-    ghost use Rattle.clru.specs.Nodes.{pairs_of};
+    ghost use Rattle.clru_nodes.specs.Nodes.{pairs_of};
 
     ghost Value = { List (K × V) };
 

@@ -16,7 +16,6 @@ mod config;
 mod entry;
 mod iter;
 mod laws;
-mod nodes;
 mod replays;
 mod shrink;
 

@@ -1,10 +1,10 @@
 //! Dropping the pairs that don't fit.
 ghost use Rattle.std.specs.Prelude.{◌≡◌, ◌<◌, ◌^◌, reverse};
 ghost use Rattle.clru.specs.Drops.{HandsOutTo, TakesEach};
-ghost use Rattle.clru.specs.Entries.{fit, past_fit, weight_of, size_of};
-ghost use Rattle.clru.specs.Nodes.{hash_by, pairs_of, IsIndexed, IsSame};
+ghost use Rattle.clru_nodes.specs.Entries.{fit, past_fit, weight_of, size_of};
+ghost use Rattle.clru_nodes.specs.Nodes.{hash_by, pairs_in, IsIndexed, IsSame};
 
-use crate::nodes::Nodes;
+use clru_nodes::Nodes;
 use clru_types::WeightScale;
 use std::alloc::Allocator;
 use std::hash::{BuildHasher, Hash};
@@ -18,10 +18,10 @@ pub(crate) fn shrink_to<
     A: Allocator + Copy,
 >(nodes: &mut Nodes<K, V, S, A>, total_weight: &mut usize, scale: &W, room: usize)
     requires indexed { let hash = hash_by S.Hasher.finish S.Hasher.write S.build_hasher K.hash_input in IsIndexed hash nodes.old }
-    requires weighs { total_weight.old ≡ weight_of (W.weight scale.now) (pairs_of nodes.old.list.entries) }
-    requires small { size_of (W.weight scale.now) (pairs_of nodes.old.list.entries) < 2 ^ 64 }
-    ensures pairs { pairs_of nodes.new.list.entries ≡ fit (W.weight scale.now) room (pairs_of nodes.old.list.entries) }
-    ensures weighs { total_weight.new ≡ weight_of (W.weight scale.now) (pairs_of nodes.new.list.entries) }
+    requires weighs { total_weight.old ≡ weight_of (W.weight scale.now) (pairs_in nodes.old) }
+    requires small { size_of (W.weight scale.now) (pairs_in nodes.old) < 2 ^ 64 }
+    ensures pairs { pairs_in nodes.new ≡ fit (W.weight scale.now) room (pairs_in nodes.old) }
+    ensures weighs { total_weight.new ≡ weight_of (W.weight scale.now) (pairs_in nodes.new) }
     ensures indexed { let hash = hash_by S.Hasher.finish S.Hasher.write S.build_hasher K.hash_input in IsIndexed hash nodes.new }
     ensures same { IsSame nodes.old nodes.new }
 {
@@ -38,14 +38,14 @@ pub(crate) fn shrink_handing_to<
     F: FnMut(K, V),
 >(nodes: &mut Nodes<K, V, S, A>, total_weight: &mut usize, scale: &W, room: usize, on_drop: &mut F)
     requires indexed { let hash = hash_by S.Hasher.finish S.Hasher.write S.build_hasher K.hash_input in IsIndexed hash nodes.old }
-    requires weighs { total_weight.old ≡ weight_of (W.weight scale.now) (pairs_of nodes.old.list.entries) }
-    requires small { size_of (W.weight scale.now) (pairs_of nodes.old.list.entries) < 2 ^ 64 }
-    requires callable { TakesEach F.FnMut on_drop.old (reverse (past_fit (W.weight scale.now) room (pairs_of nodes.old.list.entries))) }
-    ensures pairs { pairs_of nodes.new.list.entries ≡ fit (W.weight scale.now) room (pairs_of nodes.old.list.entries) }
-    ensures weighs { total_weight.new ≡ weight_of (W.weight scale.now) (pairs_of nodes.new.list.entries) }
+    requires weighs { total_weight.old ≡ weight_of (W.weight scale.now) (pairs_in nodes.old) }
+    requires small { size_of (W.weight scale.now) (pairs_in nodes.old) < 2 ^ 64 }
+    requires callable { TakesEach F.FnMut on_drop.old (reverse (past_fit (W.weight scale.now) room (pairs_in nodes.old))) }
+    ensures pairs { pairs_in nodes.new ≡ fit (W.weight scale.now) room (pairs_in nodes.old) }
+    ensures weighs { total_weight.new ≡ weight_of (W.weight scale.now) (pairs_in nodes.new) }
     ensures indexed { let hash = hash_by S.Hasher.finish S.Hasher.write S.build_hasher K.hash_input in IsIndexed hash nodes.new }
     ensures same { IsSame nodes.old nodes.new }
-    ensures handed_out { let gone = reverse (past_fit (W.weight scale.now) room (pairs_of nodes.old.list.entries)) in
+    ensures handed_out { let gone = reverse (past_fit (W.weight scale.now) room (pairs_in nodes.old)) in
         HandsOutTo F.FnMut on_drop.old gone on_drop.new }
 {
     while nodes.len() + *total_weight > room {

@@ -1,9 +1,7 @@
 //! What a cache of `clru` is made from beside its capacity, and what a refused put answers.
 //!
 //! A scale says what a pair weighs. A hash builder hashes keys where none is given. A refused put answers why it was refused,
-//! with what it was given.
-//!
-//! No call takes memory.
+//! and gives back what it was given or what a closure answered. No call of this crate takes memory.
 #![tactic(auto)]
 
 mod error;

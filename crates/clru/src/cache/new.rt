@@ -2,12 +2,12 @@
 ghost use Rattle.std.specs.Prelude.{◌≡◌, ◌<◌, ◌^◌, [], min, IfOk, IfErr, IsOk, OnOk};
 ghost use Rattle.std.specs.Int.NonZero.{non_zero_usize_get};
 ghost use Rattle.clru.specs.Cache.{cache};
-ghost use Rattle.clru.specs.Nodes.{hash_by, IsEmpty, IsIndexed};
+ghost use Rattle.clru_nodes.specs.Nodes.{hash_by, IsEmpty, IsIndexed, places_of};
 
 use crate::cache::CLruCache;
 use crate::config::CLruCacheConfig;
-use crate::nodes::Nodes;
 use clru_list::NoMemory;
+use clru_nodes::Nodes;
 use clru_types::{DefaultState, WeightScale, ZeroWeightScale};
 use std::alloc::Allocator;
 use std::hash::{BuildHasher, Hash};
@@ -107,9 +107,9 @@ where
     }
 
     fn empty(nodes: Nodes<K, V, S, A>, capacity: NonZeroUsize, scale: W) -> Self
-        requires none { IsEmpty (non_zero_usize_get capacity) nodes.places nodes }
+        requires none { IsEmpty (non_zero_usize_get capacity) (places_of nodes) nodes }
         requires indexed { let hash = hash_by S.Hasher.finish S.Hasher.write S.build_hasher K.hash_input in IsIndexed hash nodes }
-        ensures { result ≡ cache [] (non_zero_usize_get capacity) scale nodes.places }
+        ensures { result ≡ cache [] (non_zero_usize_get capacity) scale (places_of nodes) }
     {
         CLruCache {
             nodes,

@@ -2,7 +2,7 @@
 ghost use Rattle.std.specs.Prelude.{◌≡◌, ◌-◌, [], drop, length, slice_get, take};
 ghost use Rattle.std.specs.Map.{lookup};
 ghost use Rattle.clru.specs.Cache.{with_entries};
-ghost use Rattle.clru.specs.Entries.{without};
+ghost use Rattle.clru_nodes.specs.Entries.{without};
 
 use crate::cache::CLruCache;
 use clru_types::WeightScale;

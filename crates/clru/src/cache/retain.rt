@@ -2,7 +2,7 @@
 ghost use Rattle.std.specs.Prelude.{◌≡◌};
 ghost use Rattle.std.specs.Map.Calls.{CalledAtPair, CallableOnEachPair, RetainsPairs, TakesPair};
 ghost use Rattle.clru.specs.Cache.{with_entries};
-ghost use Rattle.clru.specs.Retains.{CalledAtShownPair, TakesShownPair};
+ghost use Rattle.clru_nodes.specs.Retains.{CalledAtShownPair, TakesShownPair};
 
 use crate::cache::CLruCache;
 use clru_types::{WeightScale, ZeroWeightScale};

@@ -1,23 +1,23 @@
 use Rattle.std.proofs.Common.{◌≡◌, ◌<◌, ◌+◌, ◌-◌, [], ◌∷◌, ◌++◌, length, take, drop, reverse, refl, sym, ap, ◌∙◌, subst, arith, length-append}
 use Rattle.std.proofs.lemmas.Fn.{FoldsTo-push}
 use Rattle.std.proofs.Math.Seq.{drop-length}
+use Rattle.clru_nodes.specs.Entries.{fit, weight_of}
+use Rattle.clru_nodes.specs.Nodes.{pairs_in}
 use Rattle.clru.specs.Drops.{HandsOutTo, TakesOver}
-use Rattle.clru.specs.Entries.{fit, weight_of}
-use Rattle.clru.specs.Nodes.{pairs_of}
+use Rattle.clru_nodes.proofs.Same.{same_refl, same_trans}
+use Rattle.clru_nodes.proofs.Weights.{weight_of-push}
 use Rattle.clru.proofs.Dropping.{reverse-drop, reverse-drop-last}
 use Rattle.clru.proofs.Fitting.{fit_is_longest, last_goes, too_long_fits, whole_is_too_long, split_last, no_last}
-use Rattle.clru.proofs.Indexed.{same_trans}
-use Rattle.clru.proofs.Keeping.{weight_of-push}
 use Rattle.clru.proofs.shrink.shrink_handing_to.Goals as goal
 
 pub loop-total_weight-init : goal.loop-total_weight-init
 loop-total_weight-init g c = record {
   weighs = c.requires.weighs;
   small = c.requires.small;
-  long = whole_is_too_long (g.W.WeightScale.weight c.args.scale.now) c.args.room (pairs_of c.args.nodes.now.list.entries);
+  long = whole_is_too_long (g.W.WeightScale.weight c.args.scale.now) c.args.room (pairs_in c.args.nodes.now);
   indexed = c.requires.indexed;
-  same = record { capacity = refl; placed = refl; builder = refl; places = refl; heads = refl };
-  handed = rw (drop-length (pairs_of c.args.nodes.now.list.entries)) refl;
+  same = same_refl;
+  handed = rw (drop-length (pairs_in c.args.nodes.now)) refl;
 }
 
 pub overflow_add-len : goal.overflow_add-len
@@ -29,14 +29,14 @@ pop_back-requires g c = c.loop-total_weight.invariant.indexed
 pub overflow_sub-total_weight : goal.overflow_sub-total_weight
 overflow_sub-total_weight g c =
     let w = g.W.WeightScale.weight c.args.scale.now in let e = c.in-Some.ensures in let last : g.row.K.Denot × g.row.V.Denot = (c.in-Some.key, c.in-Some.value) in
-    let es = pairs_of c.loop-total_weight.nodes.list.entries in let left = take (length es - 1) es in
+    let es = pairs_in c.loop-total_weight.nodes in let left = take (length es - 1) es in
     omega (arith, ap (weight_of w) (split_last es last e.pair), weight_of-push w left last, c.loop-total_weight.invariant.weighs, c.weight.ensures)
 
 pub on_drop-requires : goal.on_drop-requires
 on_drop-requires g c =
     let w = g.W.WeightScale.weight c.args.scale.now in let i = c.loop-total_weight.invariant in let e = c.in-Some.ensures in
-    let last : g.row.K.Denot × g.row.V.Denot = (c.in-Some.key, c.in-Some.value) in let start = pairs_of c.args.nodes.now.list.entries in
-    let es = pairs_of c.loop-total_weight.nodes.list.entries in let left = take (length es - 1) es in
+    let last : g.row.K.Denot × g.row.V.Denot = (c.in-Some.key, c.in-Some.value) in let start = pairs_in c.args.nodes.now in
+    let es = pairs_in c.loop-total_weight.nodes in let left = take (length es - 1) es in
     let all = split_last es last e.pair in let f = fit_is_longest w c.args.room start in
     let over : c.args.room < length es + c.loop-total_weight.total_weight = omega (arith, c.len.ensures, c.loop-total_weight-test.true) in
     let gone = last_goes w c.args.room start es left c.in-Some.key c.in-Some.value c.loop-total_weight.total_weight all i.weighs over i.long in
@@ -46,16 +46,16 @@ on_drop-requires g c =
 
 pub loop-total_weight-smaller : goal.loop-total_weight-smaller
 loop-total_weight-smaller g c =
-    let e = c.in-Some.ensures in let last : g.row.K.Denot × g.row.V.Denot = (c.in-Some.key, c.in-Some.value) in let es = pairs_of c.loop-total_weight.nodes.list.entries in
+    let e = c.in-Some.ensures in let last : g.row.K.Denot × g.row.V.Denot = (c.in-Some.key, c.in-Some.value) in let es = pairs_in c.loop-total_weight.nodes in
     omega (arith, ap length (split_last es last e.pair), length-append (take (length es - 1) es) (last ∷ []), ap length e.pairs)
 
 pub loop-total_weight-preserved : goal.loop-total_weight-preserved
 loop-total_weight-preserved g c =
     let i = c.loop-total_weight.invariant in let e = c.in-Some.ensures in let last : g.row.K.Denot × g.row.V.Denot = (c.in-Some.key, c.in-Some.value) in
-    let es = pairs_of c.loop-total_weight.nodes.list.entries in let left = pairs_of c.pop_back.new.self.list.entries in
+    let es = pairs_in c.loop-total_weight.nodes in let left = pairs_in c.pop_back.new.self in
     let over : c.args.room < length es + c.loop-total_weight.total_weight = omega (arith, c.len.ensures, c.loop-total_weight-test.true) in
     let all = split_last es last e.pair ∙ ap (λ l. l ++ last ∷ []) (sym e.pairs) in
-    let gone = last_goes (g.W.WeightScale.weight c.args.scale.now) c.args.room (pairs_of c.args.nodes.now.list.entries) es left
+    let gone = last_goes (g.W.WeightScale.weight c.args.scale.now) c.args.room (pairs_in c.args.nodes.now) es left
     c.in-Some.key c.in-Some.value c.loop-total_weight.total_weight all i.weighs over i.long in
     record {
       weighs = rw c.weight.ensures gone.0;
@@ -64,20 +64,20 @@ loop-total_weight-preserved g c =
       indexed = e.indexed;
       same = same_trans i.same e.same;
       handed = subst (λ l. HandsOutTo g.F.FnMut c.args.on_drop.now l c.on_drop.new.self)
-          (sym (reverse-drop-last (pairs_of c.args.nodes.now.list.entries) es left i.long.rest last i.long.begins all))
+          (sym (reverse-drop-last (pairs_in c.args.nodes.now) es left i.long.rest last i.long.begins all))
           (FoldsTo-push (TakesOver g.F.FnMut) _ _ _ last _ i.handed c.on_drop.ensures);
     }
 
 pub unreachable-requires : goal.unreachable-requires
 unreachable-requires g c =
-    let w = g.W.WeightScale.weight c.args.scale.now in let es = pairs_of c.loop-total_weight.nodes.list.entries in
+    let w = g.W.WeightScale.weight c.args.scale.now in let es = pairs_in c.loop-total_weight.nodes in
     let none = no_last es c.in-None.ensures.pair in let weightless : weight_of w [] ≡ 0 = refl in
     omega (arith, c.len.ensures, c.loop-total_weight-test.true, c.loop-total_weight.invariant.weighs, ap length none, ap (weight_of w) none, weightless)
 
 pub returns-clause-pairs : goal.returns-clause-pairs
 returns-clause-pairs g c =
-    let i = c.loop-total_weight.invariant in let es = pairs_of c.loop-total_weight.nodes.list.entries in
-    too_long_fits (g.W.WeightScale.weight c.args.scale.now) c.args.room (pairs_of c.args.nodes.now.list.entries) es i.long
+    let i = c.loop-total_weight.invariant in let es = pairs_in c.loop-total_weight.nodes in
+    too_long_fits (g.W.WeightScale.weight c.args.scale.now) c.args.room (pairs_in c.args.nodes.now) es i.long
     (omega (arith, i.weighs, c.len.ensures, c.loop-total_weight-test.false))
 
 pub returns-clause-weighs : goal.returns-clause-weighs
@@ -91,8 +91,8 @@ returns-clause-same g c = c.loop-total_weight.invariant.same
 
 pub returns-clause-handed_out : goal.returns-clause-handed_out
 returns-clause-handed_out g c =
-    let i = c.loop-total_weight.invariant in let es = pairs_of c.loop-total_weight.nodes.list.entries in
-    let start = pairs_of c.args.nodes.now.list.entries in
+    let i = c.loop-total_weight.invariant in let es = pairs_in c.loop-total_weight.nodes in
+    let start = pairs_in c.args.nodes.now in
     subst (λ l. HandsOutTo g.F.FnMut c.args.on_drop.now (reverse (drop (length l) start)) c.loop-total_weight.on_drop)
     (too_long_fits (g.W.WeightScale.weight c.args.scale.now) c.args.room start es i.long
     (omega (arith, i.weighs, c.len.ensures, c.loop-total_weight-test.false))) i.handed

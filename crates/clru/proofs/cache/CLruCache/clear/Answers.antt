@@ -1,9 +1,7 @@
-use Rattle.std.proofs.Common.{ap}
-use Rattle.clru.specs.Nodes.{pairs_of}
 use Rattle.clru.proofs.Keeping.{IsCache-from, IsKept-none}
 use Rattle.clru.proofs.cache.CLruCache.clear.Goals as goal
 
 pub invariant_of-self : goal.invariant_of-self
 invariant_of-self g c =
     let w = g.W.WeightScale.weight c.self.inside.scale in let e = c.clear.ensures in
-    IsCache-from w c.self.invariant (ap (λ es. pairs_of es) e.none) (IsKept-none w _) e.indexed e.same.capacity
+    IsCache-from w c.self.invariant e.none (IsKept-none w _) e.indexed e.same.capacity

@@ -1,5 +1,5 @@
 use Rattle.std.proofs.Common.{Some, sym, ap, ◌∙◌, arith}
-use Rattle.clru.specs.Nodes.{pairs_of}
+use Rattle.clru_nodes.specs.Nodes.{pairs_in}
 use Rattle.clru.proofs.Finding.{held_at, held_is, missed_at, weight_of-held}
 use Rattle.clru.proofs.Keeping.{IsCache-from, IsKept-sublist}
 use Rattle.clru.proofs.Sublists.{sublist_remove_entry}
@@ -24,7 +24,7 @@ overflow_sub-self g c =
 pub invariant_of-self-2 : goal.invariant_of-self-2
 invariant_of-self-2 g c =
     let eq = g.K.PartialEq.eq in let w = g.W.WeightScale.weight c.self.inside.scale in let t = c.in_ok-stored.ensures in
-    let es = pairs_of c.self.inside.nodes.list.entries in
+    let es = pairs_in c.self.inside.nodes in
     let h = held_at (eq c.args.key.now) t.pair in let same = held_is (eq c.args.key.now) h t.pair in
     IsCache-from w c.self.invariant t.pairs
     (IsKept-sublist w _ c.self.invariant.pairs (sublist_remove_entry (eq c.args.key.now) es)

@@ -1,6 +1,6 @@
 use Rattle.std.proofs.Common.{refl}
-use Rattle.clru.specs.Nodes.{pairs_of}
-use Rattle.clru.specs.Retains.{CalledAtShownPair}
+use Rattle.clru_nodes.specs.Nodes.{pairs_in}
+use Rattle.clru_nodes.specs.Retains.{CalledAtShownPair}
 use Rattle.clru.proofs.Keeping.{IsCache-from, IsKept-sublist}
 use Rattle.clru.proofs.Retaining.{sublist_retained}
 use Rattle.clru.proofs.cache.CLruCache.retain.Goals as goal
@@ -10,5 +10,5 @@ invariant_of-self g c =
     let w = g.W.WeightScale.weight c.self.inside.scale in let e = c.retain.ensures in
     IsCache-from w c.self.invariant refl
     (IsKept-sublist w _ c.self.invariant.pairs
-    (sublist_retained (CalledAtShownPair g.F.FnMut) (λ f f' k v w b called. called.stays) c.args.keep (pairs_of c.self.inside.nodes.list.entries) _ e.kept)
+    (sublist_retained (CalledAtShownPair g.F.FnMut) (λ f f' k v w b called. called.stays) c.args.keep (pairs_in c.self.inside.nodes) _ e.kept)
     e.weighs) e.indexed e.same.capacity

@@ -1,15 +1,15 @@
 use Rattle.std.proofs.Common.{◌≤◌, length, rules, arith}
 use Rattle.std.specs.NonZero.{non_zero_usize_get}
-use Rattle.clru.specs.Nodes.{pairs_of}
+use Rattle.clru_nodes.specs.Nodes.{pairs_in}
 use Rattle.clru.proofs.Putting.{weight_of-zero}
 use Rattle.clru.proofs.cache.extend.CLruCache+K+V+S+ZeroWeightScale+A.close.Goals as goal
 
 pub invariant_of-self : goal.invariant_of-self
 invariant_of-self g c =
-    let es = pairs_of c.self.inside.nodes.list.entries in let old = c.self.invariant.pairs in
+    let es = pairs_in c.self.inside.nodes in let old = c.self.invariant.pairs in
     let covers : length es ≤ non_zero_usize_get c.unwrap_or-capacity.result = search rules in
     record {
-      pairs = rw c.resize.ensures.entries
+      pairs = rw c.resize.ensures.pairs
           (record { distinct = old.distinct; weighs = old.weighs; fits = omega (arith, covers, weight_of-zero es) });
       indexed = c.resize.ensures.indexed;
       room = omega (arith, c.resize.ensures.capacity, c.get.ensures.value);

@@ -1,26 +1,27 @@
 use Rattle.std.proofs.Common.{Some, sym, ap, ◌∙◌}
 use Rattle.std.specs.NonZero.{non_zero_usize_get}
+use Rattle.clru_nodes.specs.Nodes.{with_front}
 use Rattle.clru.specs.Cache.{cache}
-use Rattle.clru.specs.Nodes.{with_front}
+use Rattle.clru_nodes.proofs.Lending.{ends_alike}
+use Rattle.clru_nodes.proofs.WrittenItems.{first_pair, first_written}
 use Rattle.clru.proofs.Finding.{held, touch-held, with_front-set_value}
 use Rattle.clru.proofs.Keeping.{IsCache-touch}
-use Rattle.clru.proofs.Lending.{ends_alike}
-use Rattle.clru.proofs.Values.{first_pair, frame-with_first, pairs_of-with_first, IsCache-values}
+use Rattle.clru.proofs.Values.{IsCache-values}
 use Rattle.clru.proofs.cache.get.CLruCache+K+V+S+ZeroWeightScale+A.get_mut.Goals as goal
 
 pub invariant_of-self-lent : goal.invariant_of-self-lent
 invariant_of-self-lent g c =
     λ w. let e = c.touch.ensures in
     IsCache-values (IsCache-touch (λ k v. 0) c.args.key.now g.met.K.Eq.laws c.self.invariant e.pairs e.indexed e.same)
-    (frame-with_first _ w _ c.front_item.ensures.first)
+    (first_written _ c.front_item.ensures.first w)
 
 pub returns : goal.returns
 returns g c =
     let eq = g.K.PartialEq.eq in let key = c.args.key.now in let e = c.touch.ensures in let f = c.self.inside in
-    let i = c.front_item.result.now in let first = c.front_item.ensures.first in let after = c.touch.new.self.list.entries in
-    let h = held (eq key) c.if-not-touch.ensures.held in let same = first_pair after i first (e.pairs ∙ touch-held eq key h) in
+    let first = c.front_item.ensures.first in let after = c.touch.new.self in
+    let h = held (eq key) c.if-not-touch.ensures.held in let same = first_pair after first (e.pairs ∙ touch-held eq key h) in
     rw (← c.self.view_is) (
-      ends_alike (λ w. let written = pairs_of-with_first i w after first ∙ ap (with_front w) e.pairs ∙ with_front-set_value eq key h w in
+      ends_alike (λ w. let written = (first_written after first w).pairs ∙ ap (with_front w) e.pairs ∙ with_front-set_value eq key h w in
           λ j. cache (written j) (non_zero_usize_get f.capacity) f.scale (e.same.places j)),
       record { lends = tt; value = ap (λ (p : g.row.K.Denot × g.row.V.Denot). Some p.1) same ∙ sym h.value },
     )

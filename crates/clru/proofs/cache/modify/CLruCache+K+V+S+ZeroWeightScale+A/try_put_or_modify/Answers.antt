@@ -2,10 +2,10 @@ use Rattle.std.proofs.Common.{◌≡◌, true, false, ◌<◌, length, refl, sym
 use Rattle.std.proofs.lemmas.Bool.{ltb-true}
 use Rattle.std.specs.Map.{lookup_entry}
 use Rattle.std.specs.NonZero.{non_zero_usize_get}
-use Rattle.clru.specs.Nodes.{pairs_of}
+use Rattle.clru_nodes.specs.Nodes.{pairs_in}
+use Rattle.clru_nodes.proofs.WrittenItems.{first_pair}
 use Rattle.clru.proofs.Finding.{held, missed, touch-missed, touch-held, plain_put-held}
 use Rattle.clru.proofs.LentPuts.{lent_held, lent_new, ready_new}
-use Rattle.clru.proofs.Values.{first_pair}
 use Rattle.clru.proofs.cache.modify.CLruCache+K+V+S+ZeroWeightScale+A.try_put_or_modify.Goals as goal
 
 no : false ≡ true → ⊥
@@ -14,21 +14,21 @@ no h = cc
 pub modify_op-requires : goal.modify_op-requires
 modify_op-requires g c =
     let eq = g.K.PartialEq.eq in let key = c.args.key in let h = held (eq key) c.if-touch.ensures.held in
-    let same = first_pair c.touch.new.self.list.entries c.front_item-item.result.now c.front_item-item.ensures.first (c.touch.ensures.pairs ∙ touch-held eq key h) in
+    let same = first_pair c.touch.new.self c.front_item-item.ensures.first (c.touch.ensures.pairs ∙ touch-held eq key h) in
     c.requires.modify h.entry.0 h.entry.1 (ap (λ o. lookup_entry (eq key) o.entries) (sym c.self.view_is) ∙ h.looked_up) _ _
     (ap (λ d. d.0) same) (ap (λ d. d.1) same)
 
 pub invariant_of-self : goal.invariant_of-self
 invariant_of-self g c =
-    let eq = g.K.PartialEq.eq in let key = c.args.key in let e = c.touch.ensures in let i = c.front_item-item.result.now in
+    let eq = g.K.PartialEq.eq in let key = c.args.key in let e = c.touch.ensures in
     let first = c.front_item-item.ensures.first in let h = held (eq key) c.if-touch.ensures.held in
     (lent_held key c.self.inside.scale c.self.invariant g.met.K.Eq.laws h e.pairs e.indexed e.same first _).keeps
 
 pub returns-in-Err : goal.returns-in-Err
 returns-in-Err g c =
-    let eq = g.K.PartialEq.eq in let key = c.args.key in let e = c.touch.ensures in let i = c.front_item-item.result.now in
+    let eq = g.K.PartialEq.eq in let key = c.args.key in let e = c.touch.ensures in
     let first = c.front_item-item.ensures.first in let h = held (eq key) c.if-touch.ensures.held in
-    let same = first_pair c.touch.new.self.list.entries i first (e.pairs ∙ touch-held eq key h) in
+    let same = first_pair c.touch.new.self first (e.pairs ∙ touch-held eq key h) in
     let lent = lent_held key c.self.inside.scale c.self.invariant g.met.K.Eq.laws h e.pairs e.indexed e.same first c.modify_op.new.arg3 in
     rw (← c.self.view_is) (
       (
@@ -57,15 +57,15 @@ returns-in-Err g c =
 
 pub invariant_of-self-lent : goal.invariant_of-self-lent
 invariant_of-self-lent g c =
-    λ w. let eq = g.K.PartialEq.eq in let key = c.args.key in let e = c.touch.ensures in let i = c.front_item-item.result.now in
+    λ w. let eq = g.K.PartialEq.eq in let key = c.args.key in let e = c.touch.ensures in
     let first = c.front_item-item.ensures.first in let h = held (eq key) c.if-touch.ensures.held in
     (lent_held key c.self.inside.scale c.self.invariant g.met.K.Eq.laws h e.pairs e.indexed e.same first w).keeps
 
 pub returns-then-touch : goal.returns-then-touch
 returns-then-touch g c =
-    let eq = g.K.PartialEq.eq in let key = c.args.key in let e = c.touch.ensures in let i = c.front_item-item.result.now in
+    let eq = g.K.PartialEq.eq in let key = c.args.key in let e = c.touch.ensures in
     let first = c.front_item-item.ensures.first in let h = held (eq key) c.if-touch.ensures.held in
-    let same = first_pair c.touch.new.self.list.entries i first (e.pairs ∙ touch-held eq key h) in
+    let same = first_pair c.touch.new.self first (e.pairs ∙ touch-held eq key h) in
     let lent = lent_held key c.self.inside.scale c.self.invariant g.met.K.Eq.laws h e.pairs e.indexed e.same first in
     rw (← c.self.view_is) (
       (refl, λ w _. ((lent w).entries, (lent w).grows), tt),
@@ -101,8 +101,8 @@ returns-in_default-make_ready_if g c =
     let m = missed (eq key) c.if-touch.ensures.held in let before = e.pairs ∙ touch-missed eq key m in
     let ready = ready_new key c.self.inside.scale c.self.invariant m e.pairs e.same c.len.ensures c.get.ensures.value o.grows o.keeps o.indexed in
     let lasts = ready.grows c.make_ready_if.new.self o.indexed refl in
-    let wanted : length (pairs_of c.self.inside.nodes.list.entries) < non_zero_usize_get c.self.inside.capacity =
-    omega (arith, ap length before, ltb-true _ _ o.refused.0, c.len.ensures, c.get.ensures.value) in
+    let wanted : length (pairs_in c.self.inside.nodes) < non_zero_usize_get c.self.inside.capacity =
+    omega (arith, ap length before, ltb-true _ _ o.refused.asked, c.len.ensures, c.get.ensures.value) in
     rw (← c.self.view_is) (
       (refl, λ w no_value. absurd (no no_value), (ready.pairs, lasts)),
       record {
@@ -112,7 +112,7 @@ returns-in_default-make_ready_if g c =
         memory = record {
           absent = m.value;
           room = wanted;
-          taken = omega (arith, o.refused.1, e.same.places, ap length before);
+          taken = omega (arith, o.refused.taken, e.same.places, ap length before);
         };
       },
     )
@@ -164,7 +164,7 @@ returns g c =
     let p = c.put_front.ensures in let first = c.front_item.ensures.first in
     let lent = lent_new key c.self.inside.scale c.self.invariant g.met.K.Eq.laws m ready (omega (arith, c.get.ensures.nonzero, c.get.ensures.value))
     p.pairs p.indexed p.same first in
-    let value = ap (λ d. d.1) (first_pair c.put_front.new.self.list.entries c.front_item.result.now first p.pairs) in
+    let value = ap (λ d. d.1) (first_pair c.put_front.new.self first p.pairs) in
     rw (← c.self.view_is) (
       (refl, λ w _. ((lent w).entries, (lent w).grows), tt),
       record {

@@ -1,9 +1,9 @@
 use Rattle.std.proofs.Common.{◌≡◌, ◌-◌, ◌<◌, ◌∷◌, length, take, slice_get, refl, sym, ap, ◌∙◌, arith, take_all}
 use Rattle.std.specs.NonZero.{non_zero_usize_get}
-use Rattle.clru.specs.Nodes.{pairs_of, with_front}
+use Rattle.clru_nodes.specs.Nodes.{pairs_in, with_front}
+use Rattle.clru_nodes.proofs.WrittenItems.{held_places}
 use Rattle.clru.proofs.Finding.{held, missed, touch-missed, with_front-touch, plain_put-held, first_touched}
 use Rattle.clru.proofs.Keeping.{IsKept-front, IsCache-from}
-use Rattle.clru.proofs.Placed.{length-pairs}
 use Rattle.clru.proofs.Putting.{GrowsIf-along, grows_if_needed, IsKept-new, put_full, put_free, drop_full, drop_free}
 use Rattle.clru.proofs.cache.put.CLruCache+K+V+S+ZeroWeightScale+A.put.Goals as goal
 
@@ -28,7 +28,7 @@ returns-then-touch-clause-entries g c =
 pub invariant_of-self-then-len-get : goal.invariant_of-self-then-len-get
 invariant_of-self-then-len-get g c =
     let eq = g.K.PartialEq.eq in let key = c.args.key in let v = c.args.value in let e = c.touch.ensures in let r = c.replace_back.ensures in
-    let m = missed (eq key) c.if-touch.ensures.held in let es = pairs_of c.self.inside.nodes.list.entries in
+    let m = missed (eq key) c.if-touch.ensures.held in let es = pairs_in c.self.inside.nodes in
     let before = e.pairs ∙ touch-missed eq key m in
     let full : length es ≡ non_zero_usize_get c.self.inside.capacity = omega (arith, ap length before, c.len.ensures, c.if-len-get.true, c.get.ensures.value) in
     IsCache-from (λ k v. 0) c.self.invariant
@@ -40,7 +40,7 @@ pub returns-then-len-get-clause-entries : goal.returns-then-len-get-clause-entri
 returns-then-len-get-clause-entries g c =
     let eq = g.K.PartialEq.eq in let key = c.args.key in let v = c.args.value in let m = missed (eq key) c.if-touch.ensures.held in
     let before = c.touch.ensures.pairs ∙ touch-missed eq key m in
-    let full : length (pairs_of c.self.inside.nodes.list.entries) ≡ non_zero_usize_get c.self.inside.capacity =
+    let full : length (pairs_in c.self.inside.nodes) ≡ non_zero_usize_get c.self.inside.capacity =
     omega (arith, ap length before, c.len.ensures, c.if-len-get.true, c.get.ensures.value) in
     rw (← c.self.view_is) (c.replace_back.ensures.pairs ∙ ap (λ l. (key, v) ∷ take (length l - 1) l) before ∙ put_full eq _ key v m full)
 
@@ -48,7 +48,7 @@ pub returns-then-len-get-clause-dropped : goal.returns-then-len-get-clause-dropp
 returns-then-len-get-clause-dropped g c =
     let eq = g.K.PartialEq.eq in let key = c.args.key in let m = missed (eq key) c.if-touch.ensures.held in
     let before = c.touch.ensures.pairs ∙ touch-missed eq key m in
-    let full : length (pairs_of c.self.inside.nodes.list.entries) ≡ non_zero_usize_get c.self.inside.capacity =
+    let full : length (pairs_in c.self.inside.nodes) ≡ non_zero_usize_get c.self.inside.capacity =
     omega (arith, ap length before, c.len.ensures, c.if-len-get.true, c.get.ensures.value) in
     rw (← c.self.view_is) (c.replace_back.ensures.pair ∙ ap (λ l. slice_get l (length l - 1)) before ∙ drop_full eq _ key m full)
 
@@ -75,7 +75,7 @@ returns-in_default-clause-memory g c =
     rw (← c.self.view_is) (λ _. record {
       absent = m.value;
       room = omega (arith, ap length before, c.len.ensures, c.if-len-get.false, c.get.ensures.value, c.self.invariant.pairs.fits);
-      taken = omega (arith, c.in_default.ensures.refused.1, c.touch.ensures.same.places, ap length before);
+      taken = omega (arith, c.in_default.ensures.refused.taken, c.touch.ensures.same.places, ap length before);
     })
 
 pub push_front-requires-clause-room : goal.push_front-requires-clause-room
@@ -87,7 +87,7 @@ push_front-requires-clause-room g c =
 pub invariant_of-self-2 : goal.invariant_of-self-2
 invariant_of-self-2 g c =
     let eq = g.K.PartialEq.eq in let key = c.args.key in let v = c.args.value in let e = c.touch.ensures in let p = c.push_front.ensures in
-    let k = c.in-Ok.ensures.keeps in let m = missed (eq key) c.if-touch.ensures.held in let es = pairs_of c.self.inside.nodes.list.entries in
+    let k = c.in-Ok.ensures.keeps in let m = missed (eq key) c.if-touch.ensures.held in let es = pairs_in c.self.inside.nodes in
     let capacity = non_zero_usize_get c.self.inside.capacity in let before = e.pairs ∙ touch-missed eq key m in
     let free : length es < capacity = omega (arith, ap length before, c.len.ensures, c.if-len-get.false, c.get.ensures.value, c.self.invariant.pairs.fits) in
     IsCache-from (λ k v. 0) c.self.invariant
@@ -99,7 +99,7 @@ pub returns-clause-entries : goal.returns-clause-entries
 returns-clause-entries g c =
     let eq = g.K.PartialEq.eq in let key = c.args.key in let v = c.args.value in let m = missed (eq key) c.if-touch.ensures.held in
     let before = c.touch.ensures.pairs ∙ touch-missed eq key m in
-    let free : length (pairs_of c.self.inside.nodes.list.entries) < non_zero_usize_get c.self.inside.capacity =
+    let free : length (pairs_in c.self.inside.nodes) < non_zero_usize_get c.self.inside.capacity =
     omega (arith, ap length before, c.len.ensures, c.if-len-get.false, c.get.ensures.value, c.self.invariant.pairs.fits) in
     rw (← c.self.view_is) (c.push_front.ensures.pairs ∙ ap (λ l. (key, v) ∷ l) (c.in-Ok.ensures.keeps.pairs ∙ before) ∙ put_free eq _ key v m free)
 
@@ -107,7 +107,7 @@ pub returns-clause-dropped : goal.returns-clause-dropped
 returns-clause-dropped g c =
     let eq = g.K.PartialEq.eq in let key = c.args.key in let m = missed (eq key) c.if-touch.ensures.held in
     let before = c.touch.ensures.pairs ∙ touch-missed eq key m in
-    let free : length (pairs_of c.self.inside.nodes.list.entries) < non_zero_usize_get c.self.inside.capacity =
+    let free : length (pairs_in c.self.inside.nodes) < non_zero_usize_get c.self.inside.capacity =
     omega (arith, ap length before, c.len.ensures, c.if-len-get.false, c.get.ensures.value, c.self.invariant.pairs.fits) in
     rw (← c.self.view_is) (drop_free eq _ key m free)
 
@@ -115,10 +115,10 @@ pub returns-clause-places : goal.returns-clause-places
 returns-clause-places g c =
     let eq = g.K.PartialEq.eq in let key = c.args.key in let v = c.args.value in let e = c.touch.ensures in let p = c.push_front.ensures in
     let o = c.in-Ok.ensures in let m = missed (eq key) c.if-touch.ensures.held in let before = e.pairs ∙ touch-missed eq key m in
-    let fits = c.self.invariant.pairs.fits in let held = c.self.invariant.indexed.held in
-    let free : length (pairs_of c.self.inside.nodes.list.entries) < non_zero_usize_get c.self.inside.capacity =
+    let fits = c.self.invariant.pairs.fits in
+    let free : length (pairs_in c.self.inside.nodes) < non_zero_usize_get c.self.inside.capacity =
     omega (arith, ap length before, c.len.ensures, c.if-len-get.false, c.get.ensures.value, fits) in
     rw (← c.self.view_is) (grows_if_needed _ _ _ (λ _. free) (λ _. refl) m.value
-    (omega (arith, held, length-pairs c.self.inside.nodes.list.entries))
+    (held_places c.self.inside.nodes c.self.invariant.indexed)
     (GrowsIf-along (sym (ap length before)) (sym (e.same.capacity ∙ c.self.invariant.room)) (sym e.same.places) p.same.places o.grows) refl refl
     (omega (arith, ap length p.pairs, o.ready refl, p.same.places)))

@@ -1,0 +1,103 @@
+-- A walk along a chain, seen from a place on it: a step further, a place put in there, and the next place taken out.
+use Rattle.std.proofs.Common.{◌≡◌, ℕ, ◌+◌, ◌<◌, ◌≤◌, ◌==◌, true, List, [], ◌∷◌, ◌++◌, refl, sym, ap, ◌∙◌, subst, arith, inl, inr}
+use Rattle.std.proofs.lemmas.Bool.{cases_eq, eq-eqb, ne_eqb}
+use Rattle.clru_nodes.specs.Chained.{nowhere, put, count, IsPath, IsCut}
+use Rattle.clru_nodes.proofs.Chains.{put-same, put-other, count-append, count_here, reaches_meets, reaches_same, reaches_next, path_same, path_join}
+
+-- the whole walk, seen from its start
+pub whole_cut : (f met : ℕ → ℕ) (ps : List ℕ) → IsPath f (f nowhere) ps → ((q : ℕ) → count q (nowhere ∷ []) + count q ps ≡ met q)
+    → IsCut f met nowhere
+whole_cut f met ps path once = record { before = []; rest = ps; behind = refl; ahead = path; once = once }
+
+-- the place at which a walk stands is met
+pub cut_here : {f met : ℕ → ℕ} {at : ℕ} → IsCut f met at → 0 < met at
+cut_here {f} {met} {at} c =
+    let here : 0 < count at (nowhere ∷ c.before) = reaches_meets f nowhere c.before at c.behind in
+    omega (arith, here, c.once at)
+
+-- the next place, if there is one, stands first in the rest
+rest_of_next : (f met : ℕ → ℕ) (at p : ℕ) (rest : List ℕ) → IsPath f (f at) rest → f at ≡ p → (p ≡ nowhere → ⊥)
+    → (later : List ℕ) × (rest ≡ p ∷ later) × IsPath f (f p) later
+rest_of_next f met at p [] path step is = absurd (is (sym step ∙ path))
+rest_of_next f met at p (q ∷ qs) path step is =
+    let same : q ≡ p = sym path.0 ∙ step in (qs, ap (λ x. x ∷ qs) same, subst (λ x. IsPath f (f x) qs) same path.1)
+
+-- the next place is met
+pub cut_next : {f met : ℕ → ℕ} {at : ℕ} → IsCut f met at → (p : ℕ) → f at ≡ p → (p ≡ nowhere → ⊥) → 0 < met p
+cut_next {f} {met} {at} c p step is =
+    let (later, same, path) = rest_of_next f met at p c.rest c.ahead step is in
+    let there : 0 < count p c.rest = rw same (count_here p later) in
+    omega (arith, there, c.once p)
+
+-- one step further
+pub cut_step : {f met : ℕ → ℕ} {at : ℕ} → IsCut f met at → (p : ℕ) → f at ≡ p → (p ≡ nowhere → ⊥) → IsCut f met p
+cut_step {f} {met} {at} c p step is =
+    let (later, same, path) = rest_of_next f met at p c.rest c.ahead step is in
+    record {
+      before = c.before ++ p ∷ [];
+      rest = later;
+      behind = reaches_next f nowhere c.before at p c.behind step;
+      ahead = path;
+      once = λ q. let all = rw same at (c.once q) in omega (arith, all, count-append q c.before (p ∷ []));
+    }
+
+-- a walk that is at its end has no rest
+rest_at_end : (f : ℕ → ℕ) (at : ℕ) (rest : List ℕ) → IsPath f (f at) rest → f at ≡ nowhere → count nowhere rest ≡ 0 → rest ≡ []
+rest_at_end f at [] path step none = refl
+rest_at_end f at (p ∷ ps) path step none =
+    let t : (p == nowhere) ≡ true = eq-eqb p nowhere (sym path.0 ∙ step) in let some = rw t at none in absurd (omega (arith, some))
+
+-- the walk is the same where the steps of the places met are
+pub cut_same : {f met : ℕ → ℕ} {at : ℕ} → IsCut f met at → (g met' : ℕ → ℕ) → ((q : ℕ) → 0 < met q → g q ≡ f q)
+    → ((q : ℕ) → met' q ≡ met q) → met at ≤ 1 → IsCut g met' at
+cut_same {f} {met} {at} c g met' same alike single = record {
+  before = c.before;
+  rest = c.rest;
+  behind = reaches_same f g nowhere c.before at c.behind (omega (arith, c.once at, single))
+      (λ q h n. same q (omega (arith, h, c.once q)));
+  ahead = rw (same at (cut_here c)) (path_same f g (f at) c.rest c.ahead (λ q h. same q (omega (arith, h, c.once q))));
+  once = λ q. c.once q ∙ sym (alike q);
+}
+
+-- a place that was not met is put in behind the place at which the walk stands
+pub cut_insert : {f met : ℕ → ℕ} {at : ℕ} → IsCut f met at → (p : ℕ) (g met' : ℕ → ℕ) → met at ≤ 1 → met p ≡ 0
+    → g at ≡ p → g p ≡ f at → ((q : ℕ) → 0 < met q → (q ≡ at → ⊥) → g q ≡ f q) → ((q : ℕ) → met' q ≡ put met p 1 q)
+    → IsCut g met' nowhere
+cut_insert {f} {met} {at} c p g met' single fresh to onward same alike =
+    let behind = reaches_same f g nowhere c.before at c.behind (omega (arith, c.once at, single))
+    (λ q h n. same q (omega (arith, h, c.once q)) n) in
+    let apart : (q : ℕ) → 0 < count q c.rest → q ≡ at → ⊥ = λ q h e.
+    let here : 0 < count at (nowhere ∷ c.before) = reaches_meets f nowhere c.before at c.behind in
+    let there = rw e at h in omega (arith, there, here, c.once at, single) in
+    let path : IsPath g (g at) (p ∷ c.rest) =
+    (to, rw onward (path_same f g (f at) c.rest c.ahead (λ q h. same q (omega (arith, h, c.once q)) (apart q h)))) in
+    whole_cut g met' (c.before ++ p ∷ c.rest) (path_join g nowhere c.before at (p ∷ c.rest) behind path)
+    (λ q. let parts = count-append q c.before (p ∷ c.rest) in elim (cases_eq p q) [
+      | inl e ↦ let one = put-same met p 1 q e in let none = rw e at fresh in let t = eq-eqb p q e in
+          rw (alike q, one, parts, t) (omega (arith, c.once q, none))
+      | inr n ↦ let old = put-other met p 1 q n in let t = ne_eqb p q n in rw (alike q, old, parts, t) (omega (arith, c.once q))
+    ])
+
+-- the next place is taken out
+pub cut_remove : {f met : ℕ → ℕ} {at : ℕ} → IsCut f met at → (p : ℕ) (g met' : ℕ → ℕ) → ((q : ℕ) → met q ≤ 1) → f at ≡ p
+    → (p ≡ nowhere → ⊥) → g at ≡ f p → ((q : ℕ) → 0 < met q → (q ≡ at → ⊥) → (q ≡ p → ⊥) → g q ≡ f q)
+    → ((q : ℕ) → met' q ≡ put met p 0 q) → IsCut g met' nowhere
+cut_remove {f} {met} {at} c p g met' single step is to same alike =
+    let (later, rest, path) = rest_of_next f met at p c.rest c.ahead step is in
+    let all : (q : ℕ) → count q (nowhere ∷ c.before) + count q (p ∷ later) ≡ met q = λ q. rw rest at (c.once q) in
+    let here : 0 < count at (nowhere ∷ c.before) = reaches_meets f nowhere c.before at c.behind in
+    let out : 0 < count p (p ∷ later) = count_here p later in
+    let only : count p later ≡ 0 = let t : (p == p) ≡ true = eq-eqb p p refl in let k = rw t at (all p) in omega (arith, k, single p) in
+    let behind = reaches_same f g nowhere c.before at c.behind (omega (arith, all at, single at))
+    (λ q h n. same q (omega (arith, h, all q)) n
+    (λ e. let k = subst (λ x. 0 < count x (nowhere ∷ c.before)) e h in omega (arith, k, out, all p, single p))) in
+    let ahead : IsPath g (g at) later = rw to (path_same f g (f p) later path (λ q h. same q (omega (arith, h, all q))
+    (λ e. let k = rw e at h in omega (arith, k, here, all at, single at))
+    (λ e. let k = rw e at h in omega (arith, k, only)))) in
+    whole_cut g met' (c.before ++ later) (path_join g nowhere c.before at later behind ahead)
+    (λ q. let parts = count-append q c.before later in elim (cases_eq p q) [
+      | inl e ↦ let none = put-same met p 0 q e in let k = all p in
+          rw (alike q, none, parts) (subst (λ x. count x (nowhere ∷ []) + (count x c.before + count x later) ≡ 0) e
+          (omega (arith, k, out, single p, only)))
+      | inr n ↦ let old = put-other met p 0 q n in let t = ne_eqb p q n in let k = rw t at (all q) in rw (alike q, old, parts) (omega (arith, k))
+    ])

@@ -1,0 +1,110 @@
+-- Chains under changes of the list: a place that comes, one that goes, and one that moves or is written.
+use Rattle.std.proofs.Common.{◌≡◌, ℕ, ◌==◌, ◌≤◌, Option, Some, None, List, ◌∷◌, length, refl, sym, ap, ◌∙◌, arith, inl, inr}
+use Rattle.std.proofs.lemmas.Bool.{cases_eq, eq-eqb, ne_eqb}
+use Rattle.std.proofs.lemmas.Map.{length-set_value}
+use Rattle.std.specs.Option.{option_map, option_map_or}
+use Rattle.clru_list.specs.PlaceList.{item_at, without, with_at, with_entries, IsApart}
+use Rattle.clru_nodes.specs.Chained.{nowhere, put, IsChained}
+use Rattle.clru_nodes.specs.Heads.{link_at, key_at, home_at, IsChainedAs}
+use Rattle.clru_nodes.specs.Nodes.{IsIndexed, IsSame}
+use Rattle.clru_nodes.specs.declared.nodes.Item.{Item}
+use Rattle.clru_nodes.specs.declared.nodes.Nodes.{Nodes}
+use Rattle.clru_nodes.proofs.Chains.{put-same, put-other}
+use Rattle.clru_nodes.proofs.Chaining.{chained_same}
+use Rattle.clru_nodes.proofs.Placed.{item_at-with_at, item_at-without, length-without_held}
+
+module _ {K V : Type 0} (home : K → ℕ) {heads : ℕ → ℕ} where
+  -- but for one place, which is in no chain, the items stay where they are
+  moved : (es fs : List (ℕ × Item K V)) (key key' : ℕ → Option K) (p : ℕ) → IsChained home heads (link_at es) key
+      → ((q : ℕ) → (p ≡ q → ⊥) → item_at q fs ≡ item_at q es) → key p ≡ None → ((q : ℕ) → (p ≡ q → ⊥) → key q ≡ key_at es q)
+      → key' p ≡ None → ((q : ℕ) → (p ≡ q → ⊥) → key' q ≡ key_at fs q) → IsChained home heads (link_at fs) key'
+  moved es fs key key' p c items out keys out' keys' =
+      chained_same home c heads (link_at fs) key' (λ h. refl)
+      (λ q k off is. elim (cases_eq p q) [
+        | inl e ↦ let no : None ≡ Some k = sym out ∙ ap key e ∙ is in cc
+        | inr n ↦ ap (λ (o : Option (Item K V)). option_map_or (λ (i : Item K V). i.chain) o nowhere) (items q n)
+      ])
+      (λ q off. elim (cases_eq p q) [
+        | inl e ↦ ap key' (sym e) ∙ out' ∙ sym out ∙ ap key e
+        | inr n ↦ keys' q n ∙ ap (λ (o : Option (Item K V)). option_map (λ (i : Item K V). i.key) o) (items q n) ∙ sym (keys q n)
+      ])
+
+  -- a new item is in no chain yet
+  pub chained_push : (p : ℕ) (i : Item K V) (es : List (ℕ × Item K V)) → item_at p es ≡ None → IsChained home heads (link_at es) (key_at es)
+      → IsChained home heads (link_at ((p, i) ∷ es)) (put (key_at ((p, i) ∷ es)) p None)
+  chained_push p i es fresh c =
+      let fs = (p, i) ∷ es in
+      moved es fs (key_at es) (put (key_at fs) p None) p c (λ q n. rw (ne_eqb q p (λ e. n (sym e))) refl) (rw fresh refl) (λ q n. refl)
+      (put-same (key_at fs) p None p refl) (λ q n. put-other (key_at fs) p None q n)
+
+  -- an item that is in no chain goes
+  pub chained_drop : (p : ℕ) (es : List (ℕ × Item K V)) → IsApart es → IsChained home heads (link_at es) (put (key_at es) p None)
+      → IsChained home heads (link_at (without p es)) (key_at (without p es))
+  chained_drop p es apart c =
+      let fs = without p es in
+      moved es fs (put (key_at es) p None) (key_at fs) p c (λ q n. item_at-without p q es apart ∙ rw (ne_eqb p q n) refl)
+      (put-same (key_at es) p None p refl) (λ q n. put-other (key_at es) p None q n)
+      (rw (item_at-without p p es apart, eq-eqb p p refl) refl) (λ q n. refl)
+
+  -- an item that is in no chain is written, and comes first
+  pub chained_replace : (p : ℕ) (i : Item K V) (es : List (ℕ × Item K V)) → IsApart es → IsChained home heads (link_at es) (put (key_at es) p None)
+      → IsChained home heads (link_at ((p, i) ∷ without p es)) (put (key_at ((p, i) ∷ without p es)) p None)
+  chained_replace p i es apart c =
+      let fs = (p, i) ∷ without p es in
+      moved es fs (put (key_at es) p None) (put (key_at fs) p None) p c
+      (λ q n. rw (ne_eqb q p (λ e. n (sym e))) (item_at-without p q es apart ∙ rw (ne_eqb p q n) refl))
+      (put-same (key_at es) p None p refl) (λ q n. put-other (key_at es) p None q n)
+      (put-same (key_at fs) p None p refl) (λ q n. put-other (key_at fs) p None q n)
+
+  -- where each place holds what it held, all chains stay
+  pub chained_stays : (es fs : List (ℕ × Item K V)) → ((q : ℕ) → item_at q fs ≡ item_at q es) → IsChained home heads (link_at es) (key_at es)
+      → IsChained home heads (link_at fs) (key_at fs)
+  chained_stays es fs items c =
+      chained_same home c heads (link_at fs) (key_at fs) (λ h. refl)
+      (λ q k off is. ap (λ (o : Option (Item K V)). option_map_or (λ (i : Item K V). i.chain) o nowhere) (items q))
+      (λ q off. ap (λ (o : Option (Item K V)). option_map (λ (i : Item K V). i.key) o) (items q))
+
+-- an item that comes first leaves each place with what it held
+pub items_to_front : {T : Type 0} (p : ℕ) (i : T) (es : List (ℕ × T)) → IsApart es → item_at p es ≡ Some i
+    → (q : ℕ) → item_at q ((p, i) ∷ without p es) ≡ item_at q es
+items_to_front p i es apart held q = elim (cases_eq p q) [
+  | inl e ↦ rw (eq-eqb q p (sym e)) (sym (ap (λ x. item_at x es) (sym e) ∙ held))
+  | inr n ↦ rw (ne_eqb q p (λ e. n (sym e))) (item_at-without p q es apart ∙ rw (ne_eqb p q n) refl)
+]
+
+module _ {K V S A H : Type 0} {hash : S → K → ℕ} {x y : Nodes K V S A H} where
+  -- with no more pairs than before the rest of the invariant stays
+  pub indexed_from : IsIndexed hash x → IsSame x y → IsChainedAs hash (key_at y.list.entries) y → length y.list.entries ≤ length x.list.entries
+      → IsIndexed hash y
+  indexed_from old same chained fewer = record {
+    chained = chained;
+    held = omega (arith, same.places, old.held);
+    reserved = omega (arith, same.places, same.placed, old.reserved);
+    headed = omega (arith, same.places, same.heads, old.headed);
+  }
+
+module _ {K V S A H : Type 0} {hash : S → K → ℕ} {x : Nodes K V S A H} where
+  -- an item that comes first keeps the invariant
+  pub indexed_front : (p : ℕ) (i : Item K V) → IsIndexed hash x → IsApart x.list.entries → item_at p x.list.entries ≡ Some i
+      → IsIndexed hash (record x { list = with_entries x.list ((p, i) ∷ without p x.list.entries) })
+  indexed_front p i old apart held =
+      indexed_from old (record { capacity = refl; placed = refl; builder = refl; places = refl; heads = refl })
+      (chained_stays (home_at hash x) x.list.entries ((p, i) ∷ without p x.list.entries) (items_to_front p i x.list.entries apart held) old.chained)
+      (omega (arith, length-without_held p x.list.entries i held))
+
+  -- an item that gets another value keeps it
+  pub indexed_written : (p : ℕ) (i : Item K V) (v : V) → IsIndexed hash x → item_at p x.list.entries ≡ Some i
+      → IsIndexed hash (record x { list = with_entries x.list (with_at p (record { chain = i.chain; key = i.key; value = v }) x.list.entries) })
+  indexed_written p i v old held =
+      let es = x.list.entries in let w : Item K V = record { chain = i.chain; key = i.key; value = v } in
+      indexed_from old (record { capacity = refl; placed = refl; builder = refl; places = refl; heads = refl })
+      (chained_same (home_at hash x) old.chained _ _ _ (λ h. refl)
+      (λ q k off is. elim (cases_eq p q) [
+        | inl e ↦ rw (item_at-with_at p q w es i held, eq-eqb p q e, ← e, held) refl
+        | inr n ↦ rw (item_at-with_at p q w es i held, ne_eqb p q n) refl
+      ])
+      (λ q off. elim (cases_eq p q) [
+        | inl e ↦ rw (item_at-with_at p q w es i held, eq-eqb p q e, ← e, held) refl
+        | inr n ↦ rw (item_at-with_at p q w es i held, ne_eqb p q n) refl
+      ]))
+      (omega (arith, length-set_value (λ q. p == q) es w))

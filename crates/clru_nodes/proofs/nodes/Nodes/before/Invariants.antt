@@ -1,0 +1,14 @@
+use Rattle.std.proofs.Common.{◌≡◌, ℕ, length}
+use Rattle.clru_nodes.specs.Chained.{nowhere, IsCut, IsWalk, steps_left}
+use Rattle.clru_nodes.specs.Heads.{steps_at, IsLive, IsPlace}
+use Rattle.clru_nodes.proofs.nodes.Nodes.before.Given as goal
+
+abbrev pub invariant-loop-next : goal.invariant-loop-next
+invariant-loop-next g l = record {
+  leads : steps_at l.self l.head l.at ≡ l.next;
+  walk : IsWalk (steps_at l.self l.head) (IsLive l.self.list.entries) (IsPlace l.place) l.next (length l.self.list.entries);
+  cut : (met : ℕ → ℕ) → IsCut (steps_at l.self l.head) met nowhere → IsCut (steps_at l.self l.head) met l.at;
+}
+
+abbrev pub decreases-loop-next : goal.decreases-loop-next
+decreases-loop-next g l = steps_left (steps_at l.self l.head) l.next (length l.self.list.entries)

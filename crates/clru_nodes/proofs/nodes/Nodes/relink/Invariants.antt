@@ -1,0 +1,17 @@
+use Rattle.std.proofs.Common.{◌≡◌}
+use Rattle.clru_nodes.specs.Heads.{placed_of, IsChainedAs}
+use Rattle.clru_nodes.specs.Nodes.{hash_by, IsSame}
+use Rattle.clru_nodes.proofs.Relinking.{key_from}
+use Rattle.clru_nodes.proofs.nodes.Nodes.relink.Given as goal
+
+abbrev pub invariant-loop-place : goal.invariant-loop-place
+invariant-loop-place g l =
+    let hash = hash_by g.S.Hasher.Hasher.finish g.S.Hasher.Hasher.write g.S.BuildHasher.build_hasher g.K.Hash.hash_input in
+    record {
+      chained : IsChainedAs hash (key_from l.place l.self.list.entries) l.self;
+      pairs : placed_of l.self.list.entries ≡ placed_of l.fn.self.list.entries;
+      same : IsSame l.fn.self l.self;
+    }
+
+abbrev pub decreases-loop-place : goal.decreases-loop-place
+decreases-loop-place g l = l.place

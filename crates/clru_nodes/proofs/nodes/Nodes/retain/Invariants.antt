@@ -1,0 +1,19 @@
+use Rattle.std.proofs.Common.{◌≡◌, length}
+use Rattle.clru_nodes.specs.Retains.{CalledAtShownPair, TakesShownPair}
+use Rattle.clru_list.proofs.Retaining.{from_place}
+use Rattle.clru_nodes.specs.Entries.{weight_of}
+use Rattle.clru_nodes.specs.Heads.{placed_of}
+use Rattle.clru_nodes.specs.Nodes.{hash_by, pairs_of, IsIndexed, IsSame}
+use Rattle.clru_nodes.proofs.Sifting.{IsSifting}
+use Rattle.clru_nodes.proofs.nodes.Nodes.retain.Given as goal
+
+abbrev pub invariant-loop-at : goal.invariant-loop-at
+invariant-loop-at g l = record {
+  sifting : IsSifting (CalledAtShownPair g.F.FnMut) (TakesShownPair g.F.FnMut) l.fn.keep l.fn.self.list l.keep l.self.list l.at;
+  weighs : l.total_weight ≡ weight_of (g.W.WeightScale.weight l.scale) (pairs_of l.self.list.entries);
+  indexed : IsIndexed (hash_by g.S.Hasher.Hasher.finish g.S.Hasher.Hasher.write g.S.BuildHasher.build_hasher g.K.Hash.hash_input) l.self;
+  same : IsSame l.fn.self l.self;
+}
+
+abbrev pub decreases-loop-at : goal.decreases-loop-at
+decreases-loop-at g l = length (from_place l.at (placed_of l.self.list.entries))

@@ -1,0 +1,83 @@
+use Rattle.std.proofs.Common.{◌≡◌, Some, true, false, refl, sym, ◌∙◌}
+use Rattle.std.specs.Map.Calls.{CalledAtPair, TakesPair}
+use Rattle.clru_list.specs.PlaceList.{place_list, item_at}
+use Rattle.std.proofs.lemmas.Bool.{eq-eqb}
+use Rattle.clru_nodes.specs.declared.nodes.Item.{Item}
+use Rattle.clru_nodes.proofs.Placed.{item_at-with_at}
+use Rattle.clru_nodes.proofs.IndexedMoves.{indexed_written}
+use Rattle.clru_nodes.proofs.Same.{same_refl, same_trans}
+use Rattle.clru_nodes.proofs.Sifting.{sifting_starts, sifting_ends, sifting_takes, sifting_goes_on, sifting_fewer, sifting_some, shown-written}
+use Rattle.clru_nodes.proofs.nodes.Nodes.retain_mut.Goals as goal
+
+pub loop-next-init : goal.loop-next-init
+loop-next-init g c = record {
+  sifting = sifting_starts (CalledAtPair g.F.FnMut) (TakesPair g.F.FnMut) c.args.keep c.args.self.now.list _ c.front_idx-next.ensures.place c.front_idx-next.ensures.valid c.requires.callable;
+  indexed = c.requires.indexed;
+  same = same_refl;
+}
+
+pub keep-kept-requires : goal.keep-kept-requires
+keep-kept-requires g c =
+    sifting_takes (CalledAtPair g.F.FnMut) (TakesPair g.F.FnMut) c.args.keep c.args.self.now.list c.loop-next.keep c.loop-next.self.list c.loop-next.next c.loop-next.invariant.sifting
+    c.in-Some.place c.in-Some.is c.in-Some-get_mut.item.now (sym c.in-Some-get_mut.ensures.value) _ _ refl refl
+
+pub unreachable-requires : goal.unreachable-requires
+unreachable-requires g c =
+    sifting_some (CalledAtPair g.F.FnMut) (TakesPair g.F.FnMut) c.args.keep c.args.self.now.list c.loop-next.keep c.loop-next.self.list c.loop-next.next c.loop-next.invariant.sifting
+    c.in-Some.place c.in-Some.is (sym c.in-None.ensures.value)
+
+pub loop-next-smaller-then-kept : goal.loop-next-smaller-then-kept
+loop-next-smaller-then-kept g c =
+    let l = c.loop-next.self.list in let p = c.in-Some.place in
+    sifting_fewer (CalledAtPair g.F.FnMut) (TakesPair g.F.FnMut) c.args.keep c.args.self.now.list c.loop-next.keep l c.loop-next.next c.loop-next.invariant.sifting
+    p c.in-Some.is c.in-Some-get_mut.item.now (sym c.in-Some-get_mut.ensures.value)
+    c.next_idx-next.ensures.valid true c.keep-kept.new.arg3 _ _ (shown-written p c.in-Some-get_mut.item.now c.keep-kept.new.arg3 l) refl _ c.next_idx-next.ensures.place
+
+pub loop-next-preserved-then-kept : goal.loop-next-preserved-then-kept
+loop-next-preserved-then-kept g c =
+    let l = c.loop-next.self.list in let p = c.in-Some.place in let i = c.in-Some-get_mut.item.now in let inv = c.loop-next.invariant in
+    let held : item_at p l.entries ≡ Some i = sym c.in-Some-get_mut.ensures.value in
+    record {
+      sifting = sifting_goes_on (CalledAtPair g.F.FnMut) (TakesPair g.F.FnMut) c.args.keep c.args.self.now.list c.loop-next.keep l c.loop-next.next inv.sifting
+          p c.in-Some.is i held
+          c.next_idx-next.ensures.valid true c.keep-kept.new.arg3 _ _ (shown-written p c.in-Some-get_mut.item.now c.keep-kept.new.arg3 l) refl _ c.next_idx-next.ensures.place _
+          (record { key = _; value = _; shows = (refl, refl); left = _; called = c.if-kept.ensures; leaves = refl });
+      indexed = indexed_written p i _ inv.indexed held;
+      same = record { capacity = inv.same.capacity; placed = inv.same.placed; builder = inv.same.builder; places = inv.same.places; heads = inv.same.heads };
+    }
+
+pub take_at-requires-clause-place : goal.take_at-requires-clause-place
+take_at-requires-clause-place g c =
+    let p = c.in-Some.place in let i = c.in-Some-get_mut.item.now in
+    let w : Item g.row.K.Denot g.row.V.Denot = record { chain = i.chain; key = i.key; value = c.keep-kept.new.arg3 } in
+    (w, item_at-with_at p p w c.loop-next.self.list.entries i (sym c.in-Some-get_mut.ensures.value) ∙ rw (eq-eqb p p refl) refl)
+
+pub take_at-requires-clause-indexed : goal.take_at-requires-clause-indexed
+take_at-requires-clause-indexed g c = indexed_written c.in-Some.place c.in-Some-get_mut.item.now _ c.loop-next.invariant.indexed (sym c.in-Some-get_mut.ensures.value)
+
+pub loop-next-smaller : goal.loop-next-smaller
+loop-next-smaller g c =
+    let l = c.loop-next.self.list in let p = c.in-Some.place in let t = c.take_at.ensures in
+    sifting_fewer (CalledAtPair g.F.FnMut) (TakesPair g.F.FnMut) c.args.keep c.args.self.now.list c.loop-next.keep l c.loop-next.next c.loop-next.invariant.sifting
+    p c.in-Some.is c.in-Some-get_mut.item.now (sym c.in-Some-get_mut.ensures.value)
+    c.next_idx-next.ensures.valid false c.keep-kept.new.arg3 _ _ (shown-written p c.in-Some-get_mut.item.now c.keep-kept.new.arg3 l)
+    (λ k. place_list (t.placed k) (t.same.capacity k) (t.same.placed k)) _ c.next_idx-next.ensures.place
+
+pub loop-next-preserved : goal.loop-next-preserved
+loop-next-preserved g c =
+    let l = c.loop-next.self.list in let p = c.in-Some.place in let i = c.in-Some-get_mut.item.now in let inv = c.loop-next.invariant in let t = c.take_at.ensures in
+    let held : item_at p l.entries ≡ Some i = sym c.in-Some-get_mut.ensures.value in
+    record {
+      sifting = sifting_goes_on (CalledAtPair g.F.FnMut) (TakesPair g.F.FnMut) c.args.keep c.args.self.now.list c.loop-next.keep l c.loop-next.next inv.sifting
+          p c.in-Some.is i held
+          c.next_idx-next.ensures.valid false c.keep-kept.new.arg3 _ _ (shown-written p c.in-Some-get_mut.item.now c.keep-kept.new.arg3 l)
+          (λ k. place_list (t.placed k) (t.same.capacity k) (t.same.placed k)) _ c.next_idx-next.ensures.place _
+          (record { key = _; value = _; shows = (refl, refl); left = _; called = c.if-kept.ensures; leaves = refl });
+      indexed = t.indexed;
+      same = same_trans inv.same (record { capacity = t.same.capacity; placed = t.same.placed; builder = t.same.builder; places = t.same.places; heads = t.same.heads });
+    }
+
+pub returns-clause-kept : goal.returns-clause-kept
+returns-clause-kept g c =
+    sifting_ends (CalledAtPair g.F.FnMut) (TakesPair g.F.FnMut) c.args.keep c.args.self.now.list c.loop-next.keep c.loop-next.self.list c.loop-next.next
+    c.loop-next.invariant.sifting c.in_default.not-Some

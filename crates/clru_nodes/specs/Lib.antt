@@ -1,0 +1,7 @@
+pub mod Chained
+pub mod Entries
+pub mod Growth
+pub mod Heads
+pub mod Nodes
+pub mod NodesLends
+pub mod Retains

@@ -1,0 +1,141 @@
+//! `Nodes`: its makers, and looking for a key.
+//!
+//! Each key has a head, which its hash picks, and the places of the keys of one head are linked to a chain. Clauses of
+//! private steps name places, heads and links; those of public calls speak of the pairs alone.
+ghost use Rattle.std.specs.Prelude.{◌≡◌, ◌<◌, ◌^◌, min, length, None, IfOk, IfErr, IsOk, OnOk, IfSome, IfNone, option_copied};
+ghost use Rattle.std.specs.List.{IsDistinct};
+ghost use Rattle.std.specs.Map.{keys_of, lookup, lookup_entry};
+ghost use Rattle.clru_list.specs.PlaceList.{IsValid};
+ghost use Rattle.clru_nodes.specs.Heads.{key_at, IsAt, IsChainedAs};
+ghost use Rattle.clru_nodes.specs.Nodes.{hash_by, pairs_of, pairs_in, builder_of, IsIndexed, IsEmpty};
+
+use crate::nodes::growth::{empty_heads, heads_for};
+use clru_list::FixedSizeList;
+use std::alloc::Allocator;
+use std::hash::{BuildHasher, Hash};
+
+mod chains;
+mod clear;
+mod front;
+mod growth;
+mod moves;
+mod resize;
+mod retain;
+mod walk;
+
+/// A pair, with the next place of its chain.
+#[derive(Drop)]
+pub struct Item<K, V> {
+    pub(crate) chain: usize,
+    pub key: K,
+    pub value: V,
+}
+
+/// Pairs in order of recency, found by the hash of their keys.
+#[derive(Drop)]
+pub struct Nodes<K: Eq + Hash, V, S: BuildHasher, A: Allocator + Copy> {
+    list: FixedSizeList<Item<K, V>, A>,
+    // As many as a power of two, at least twice the places: a key's head is the low bits of its hash.
+    heads: Vec<usize, A>,
+    hash_builder: S,
+    // For how many pairs both the list and the heads have memory: a growth of which one half was refused changes nothing.
+    places: usize,
+}
+
+impl<K: Eq + Hash, V, S: BuildHasher, A: Allocator + Copy> Nodes<K, V, S, A> {
+    /// Creates nodes for at most `capacity` pairs. It takes no memory.
+    pub fn new(alloc: A, capacity: usize, hash_builder: S) -> Self
+        ensures empty { IsEmpty capacity 0 result }
+        ensures builder { builder_of result ≡ hash_builder }
+        ensures indexed { let hash = hash_by S.Hasher.finish S.Hasher.write S.build_hasher K.hash_input in IsIndexed hash result }
+    {
+        Nodes {
+            list: FixedSizeList::new(alloc, capacity),
+            heads: Vec::new(alloc),
+            hash_builder,
+            places: 0,
+        }
+    }
+
+    /// Creates nodes for at most `capacity` pairs, with memory for `reserve`, or for `capacity` where that is less. Where
+    /// memory is refused, the hash builder comes back; without a reserve none is asked for.
+    pub fn with_memory(
+        alloc: A,
+        capacity: usize,
+        hash_builder: S,
+        reserve: usize,
+    ) -> Result<Self, S>
+        ensures empty { IfOk result (λ x. IsEmpty capacity (min reserve capacity) x) }
+        ensures builder { IfOk result (λ x. builder_of x ≡ hash_builder) }
+        ensures indexed { let hash = hash_by S.Hasher.finish S.Hasher.write S.build_hasher K.hash_input in
+            IfOk result (λ x. IsIndexed hash x) }
+        ensures given_back { IfErr result (λ back. back ≡ hash_builder) }
+        ensures never_refused { min reserve capacity ≡ 0 → IsOk result }
+        ensures countable { OnOk result (min reserve capacity < 2 ^ 63) }
+    {
+        let places = reserve.min(capacity);
+        let Some(size) = heads_for(places) else {
+            return Err(hash_builder);
+        };
+        let Ok(heads) = empty_heads(alloc, size) else {
+            return Err(hash_builder);
+        };
+        // Last, since a list may be let go only where its items may.
+        let Ok(list) = FixedSizeList::with_memory(alloc, capacity, places) else {
+            return Err(hash_builder);
+        };
+        Ok(Nodes {
+            list,
+            heads,
+            hash_builder,
+            places,
+        })
+    }
+
+    /// Returns the number of pairs.
+    pub fn len(&self) -> usize
+        ensures { result ≡ length (pairs_in self.now) }
+    {
+        self.list.len()
+    }
+
+    /// Returns the hash of a key.
+    pub fn hash(&self, key: &K) -> u64
+        ensures { result ≡ hash_by S.Hasher.finish S.Hasher.write S.build_hasher K.hash_input (builder_of self.now) key.now }
+    {
+        self.hash_builder.hash_one(key)
+    }
+
+    /// Returns the place of the pair with the key, whose hash is given.
+    fn find(&self, hash: u64, key: &K) -> Option<usize>
+        requires hash { hash ≡ hash_by S.Hasher.finish S.Hasher.write S.build_hasher K.hash_input self.now.hash_builder key.now }
+        requires chained { let hash = hash_by S.Hasher.finish S.Hasher.write S.build_hasher K.hash_input in
+            IsChainedAs hash (key_at self.now.list.entries) self.now }
+        ensures found { IfSome result (λ p. IsAt K.eq key.now p self.now.list.entries) }
+        ensures valid { IsValid self.now.list }
+        ensures absent { IfNone result (lookup_entry (K.eq key.now) (pairs_of self.now.list.entries) ≡ None) }
+    {
+        let mut next = self.first(self.head_of(hash));
+        while let Some(item) = self.list.get(next) {
+            if *key == item.key {
+                return Some(next);
+            }
+            next = item.chain;
+        }
+        None
+    }
+
+    /// Returns the value of the key, whose hash is given.
+    pub fn get(&self, hash: u64, key: &K) -> Option<&V>
+        requires hash { hash ≡ hash_by S.Hasher.finish S.Hasher.write S.build_hasher K.hash_input (builder_of self.now) key.now }
+        requires indexed { let hash = hash_by S.Hasher.finish S.Hasher.write S.build_hasher K.hash_input in IsIndexed hash self.now }
+        requires distinct { IsDistinct K.eq (keys_of (pairs_in self.now)) }
+        ensures { option_copied result ≡ lookup (K.eq key.now) (pairs_in self.now) }
+    {
+        let place = self.find(hash, key)?;
+        match self.list.get(place) {
+            Some(item) => Some(&item.value),
+            None => unreachable!(),
+        }
+    }
+}

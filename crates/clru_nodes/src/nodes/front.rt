@@ -1,0 +1,91 @@
+//! The first and the last pair, and the value of a key for writing.
+ghost use Rattle.std.specs.Prelude.{◌≡◌, ◌-◌, ◌<◌, Some, length, slice_get};
+ghost use Rattle.std.specs.Borrow.{sem};
+ghost use Rattle.std.specs.List.{IsDistinct};
+ghost use Rattle.std.specs.Map.{keys_of, lookup};
+ghost use Rattle.std.specs.Map.Iter.{deref_pair};
+ghost use Rattle.std.specs.Option.{option_copied_mut, option_map};
+ghost use Rattle.clru_nodes.specs.Nodes.{hash_by, pairs_in, builder_of, first_item, last_item, with_front, IsIndexed, IsSame};
+ghost use Rattle.clru_nodes.specs.NodesLends.{lends_front, lends_back, lends_value};
+
+use crate::nodes::{Item, Nodes};
+use std::alloc::Allocator;
+use std::hash::{BuildHasher, Hash};
+use std::mem;
+
+impl<K: Eq + Hash, V, S: BuildHasher, A: Allocator + Copy> Nodes<K, V, S, A> {
+    /// Returns the first pair.
+    pub fn front(&self) -> Option<(&K, &V)>
+        ensures { option_map deref_pair result ≡ slice_get (pairs_in self.now) 0 }
+    {
+        match self.list.front() {
+            Some(item) => Some((&item.key, &item.value)),
+            None => None,
+        }
+    }
+
+    /// Returns the last pair.
+    pub fn back(&self) -> Option<(&K, &V)>
+        ensures { option_map deref_pair result
+            ≡ slice_get (pairs_in self.now) (length (pairs_in self.now) - 1) }
+    {
+        match self.list.back() {
+            Some(item) => Some((&item.key, &item.value)),
+            None => None,
+        }
+    }
+
+    /// Returns the first item for writing.
+    pub fn front_item(&mut self) -> &mut Item<K, V>
+        requires { 0 < length (pairs_in self.old) }
+        ensures* lends { sem 𝓛 (lends_front K.row V.row S.row A.row S.Hasher.row A.Allocator self.entry result) }
+        ensures first { first_item self.old ≡ Some result.now }
+    {
+        let Some(item) = self.list.front_mut() else {
+            unreachable!()
+        };
+        item
+    }
+
+    /// Returns the last item for writing.
+    pub fn back_item(&mut self) -> &mut Item<K, V>
+        requires { 0 < length (pairs_in self.old) }
+        ensures* lends { sem 𝓛 (lends_back K.row V.row S.row A.row S.Hasher.row A.Allocator self.entry result) }
+        ensures last { last_item self.old ≡ Some result.now }
+    {
+        match self.list.back_mut() {
+            Some(item) => item,
+            None => unreachable!(),
+        }
+    }
+
+    /// Returns the value of the key, whose hash is given, for writing. Its pair stays where it is.
+    pub fn get_mut(&mut self, hash: u64, key: &K) -> Option<&mut V>
+        requires hash { hash ≡ hash_by S.Hasher.finish S.Hasher.write S.build_hasher K.hash_input (builder_of self.old) key.now }
+        requires indexed { let hash = hash_by S.Hasher.finish S.Hasher.write S.build_hasher K.hash_input in IsIndexed hash self.old }
+        requires distinct { IsDistinct K.eq (keys_of (pairs_in self.old)) }
+        ensures* lends { sem 𝓛 (lends_value K.row V.row S.row A.row S.Hasher.row A.Allocator self.entry (K.eq key.now) result) }
+        ensures value { option_copied_mut result ≡ lookup (K.eq key.now) (pairs_in self.old) }
+    {
+        let place = self.find(hash, key)?;
+        match self.list.get_mut(place) {
+            Some(item) => Some(&mut item.value),
+            None => unreachable!(),
+        }
+    }
+
+    /// Writes another value to the first pair, and returns the old one.
+    pub fn set_front(&mut self, value: V) -> V
+        requires some { 0 < length (pairs_in self.old) }
+        requires indexed { let hash = hash_by S.Hasher.finish S.Hasher.write S.build_hasher K.hash_input in IsIndexed hash self.old }
+        ensures value { Some result ≡ option_map (λ e. e.1) (slice_get (pairs_in self.old) 0) }
+        ensures pairs { pairs_in self.new ≡ with_front value (pairs_in self.old) }
+        ensures indexed { let hash = hash_by S.Hasher.finish S.Hasher.write S.build_hasher K.hash_input in IsIndexed hash self.new }
+        ensures same { IsSame self.old self.new }
+    {
+        match self.list.front_mut() {
+            Some(item) => mem::replace(&mut item.value, value),
+            None => unreachable!(),
+        }
+    }
+}

@@ -1,0 +1,109 @@
+//! Memory for more pairs: places in the list, and heads that go with them.
+ghost use Rattle.std.specs.Prelude.{◌≡◌, ℕ, ◌+◌, ◌<◌, ◌≤◌, ◌^◌, Some, length, replicate, IfOk, IfSome, IfNone, IsOk, OnOk, OnErr, IsTrue};
+ghost use Rattle.clru_nodes.specs.Chained.{nowhere};
+ghost use Rattle.clru_nodes.specs.Growth.{GrowsIf, IsRefused};
+ghost use Rattle.clru_nodes.specs.Heads.{head_at, key_at, placed_of, IsChainedAs, KeepsPlaces};
+ghost use Rattle.clru_nodes.specs.Nodes.{hash_by, pairs_in, capacity_of, places_of, IsIndexed, IsSame, KeepsPairs};
+
+use crate::nodes::Nodes;
+use crate::nodes::chains::NOWHERE;
+use clru_list::NoMemory;
+use std::alloc::Allocator;
+use std::hash::{BuildHasher, Hash};
+
+impl<K: Eq + Hash, V, S: BuildHasher, A: Allocator + Copy> Nodes<K, V, S, A> {
+    /// Finds memory for one more pair, where that is wanted and each place is taken. A place counts once the list and the
+    /// heads have memory for it; where either is refused, pairs and places stay. Places are taken ahead, up to the capacity.
+    pub fn make_ready_if(&mut self, wanted: bool) -> Result<(), NoMemory>
+        requires below { IsTrue wanted → length (pairs_in self.old) < capacity_of self.old }
+        requires indexed { let hash = hash_by S.Hasher.finish S.Hasher.write S.build_hasher K.hash_input in IsIndexed hash self.old }
+        ensures ready { OnOk result (IsTrue wanted → length (pairs_in self.new) < places_of self.new) }
+        ensures grows { GrowsIf wanted (length (pairs_in self.old)) (capacity_of self.old) (places_of self.old) (places_of self.new) }
+        ensures refused { OnErr result (IsRefused wanted (length (pairs_in self.old)) (places_of self.old) (places_of self.new)) }
+        ensures indexed { let hash = hash_by S.Hasher.finish S.Hasher.write S.build_hasher K.hash_input in IsIndexed hash self.new }
+        ensures keeps { KeepsPairs self.old self.new }
+    {
+        if !wanted || self.list.len() < self.places {
+            return Ok(());
+        }
+        self.list.make_ready()?;
+        // The list may have places past the capacity, from a time when that was larger.
+        let places = self.list.places().min(self.list.capacity());
+        self.make_heads(places)?;
+        self.places = places;
+        Ok(())
+    }
+
+    /// Finds memory for the heads of so many places, and chains the keys anew where the number of heads changes.
+    fn make_heads(&mut self, places: usize) -> Result<(), NoMemory>
+        requires { let hash = hash_by S.Hasher.finish S.Hasher.write S.build_hasher K.hash_input in IsIndexed hash self.old }
+        ensures headed { OnOk result (places ≤ length self.new.heads.items) }
+        ensures never_falls { length self.old.heads.items ≤ length self.new.heads.items }
+        ensures chained { let hash = hash_by S.Hasher.finish S.Hasher.write S.build_hasher K.hash_input in
+            IsChainedAs hash (key_at self.new.list.entries) self.new }
+        ensures keeps { KeepsPlaces self.old self.new }
+    {
+        let Some(size) = heads_for(places) else {
+            return Err(NoMemory);
+        };
+        if size <= self.heads.len() {
+            return Ok(());
+        }
+        self.heads = empty_heads(*self.heads.allocator(), size)?;
+        self.relink();
+        Ok(())
+    }
+
+    /// Chains all keys, where each head is empty.
+    fn relink(&mut self)
+        requires free { (h : ℕ) → head_at self.old.heads.items h ≡ nowhere }
+        requires some { 0 < length self.old.heads.items }
+        ensures chained { let hash = hash_by S.Hasher.finish S.Hasher.write S.build_hasher K.hash_input in
+            IsChainedAs hash (key_at self.new.list.entries) self.new }
+        ensures pairs { placed_of self.new.list.entries ≡ placed_of self.old.list.entries }
+        ensures same { IsSame self.old self.new }
+    {
+        // From the last place, so that what came in first stands first in its chain.
+        let mut place = self.list.places();
+        while place > 0 {
+            place -= 1;
+            let Some(item) = self.list.get(place) else {
+                continue;
+            };
+            let head = self.head_of(self.hash(&item.key));
+            let first = self.first(head);
+            self.link(head, place, first);
+            self.link(head, NOWHERE, place);
+        }
+    }
+}
+
+/// The number of heads for so many places: the least power of two that is at least twice as many. There is none where it
+/// passes what can be counted.
+pub(crate) fn heads_for(places: usize) -> Option<usize>
+    ensures twice { IfSome result (λ n. places + places ≤ n) }
+    ensures none { places ≡ 0 → result ≡ Some 0 }
+    ensures countable { IfNone result (2 ^ 62 < places) }
+{
+    if places == 0 {
+        return Some(0);
+    }
+    places.checked_mul(2)?.checked_next_power_of_two()
+}
+
+/// So many heads of empty chains.
+pub(crate) fn empty_heads<A: Allocator + Copy>(
+    alloc: A,
+    size: usize,
+) -> Result<Vec<usize, A>, NoMemory>
+    ensures heads { IfOk result (λ v. v.items ≡ replicate size nowhere) }
+    ensures never_refused { size ≡ 0 → IsOk result }
+{
+    if size == 0 {
+        return Ok(Vec::new(alloc));
+    }
+    match Vec::from_elem(alloc, NOWHERE, size) {
+        Ok(heads) => Ok(heads),
+        Err(_) => Err(NoMemory),
+    }
+}

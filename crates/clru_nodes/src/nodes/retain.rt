@@ -1,0 +1,88 @@
+//! The calls that keep the pairs at which a closure answers `true`.
+ghost use Rattle.std.specs.Prelude.{◌≡◌};
+ghost use Rattle.std.specs.Map.Calls.{CalledAtPair, CallableOnEachPair, RetainsPairs, TakesPair};
+ghost use Rattle.clru_list.specs.PlaceList.{without};
+ghost use Rattle.clru_nodes.specs.Entries.{weight_of};
+ghost use Rattle.clru_nodes.specs.Heads.{placed_of, IsLive, IsTaken};
+ghost use Rattle.clru_nodes.specs.Nodes.{hash_by, pairs_in, IsIndexed, IsSame};
+ghost use Rattle.clru_nodes.specs.Retains.{CalledAtShownPair, TakesShownPair};
+
+use crate::nodes::Nodes;
+use clru_types::WeightScale;
+use std::alloc::Allocator;
+use std::hash::{BuildHasher, Hash};
+
+impl<K: Eq + Hash, V, S: BuildHasher, A: Allocator + Copy> Nodes<K, V, S, A> {
+    /// Calls a closure at each pair, from the front to the back, and takes out those at which it answers `false`. The
+    /// others have the value that it left there.
+    pub fn retain_mut<F: FnMut(&K, &mut V) -> bool>(&mut self, mut keep: F)
+    where
+        K: Drop,
+        V: Drop,
+        requires callable { CallableOnEachPair (CalledAtPair F.FnMut) (TakesPair F.FnMut) keep (pairs_in self.old) }
+        requires indexed { let hash = hash_by S.Hasher.finish S.Hasher.write S.build_hasher K.hash_input in IsIndexed hash self.old }
+        ensures kept { RetainsPairs (CalledAtPair F.FnMut) keep (pairs_in self.old) (pairs_in self.new) }
+        ensures indexed { let hash = hash_by S.Hasher.finish S.Hasher.write S.build_hasher K.hash_input in IsIndexed hash self.new }
+        ensures same { IsSame self.old self.new }
+    {
+        let mut next = self.list.front_idx();
+        while let Some(place) = next {
+            next = self.list.next_idx(place);
+            let kept = match self.list.get_mut(place) {
+                Some(item) => keep(&item.key, &mut item.value),
+                None => unreachable!(),
+            };
+            if kept {
+                continue;
+            }
+            let _ = self.take_at(place);
+        }
+    }
+
+    /// Calls a closure at each pair, from the front to the back, and takes out those at which it answers `false`, and
+    /// their weight from the total.
+    pub fn retain<F: FnMut(&K, &V) -> bool, W: WeightScale<K, V>>(
+        &mut self,
+        total_weight: &mut usize,
+        scale: &W,
+        mut keep: F,
+    )
+    where
+        K: Drop,
+        V: Drop,
+        requires callable { CallableOnEachPair (CalledAtShownPair F.FnMut) (TakesShownPair F.FnMut) keep (pairs_in self.old) }
+        requires weighs { total_weight.old ≡ weight_of (W.weight scale.now) (pairs_in self.old) }
+        requires indexed { let hash = hash_by S.Hasher.finish S.Hasher.write S.build_hasher K.hash_input in IsIndexed hash self.old }
+        ensures kept { RetainsPairs (CalledAtShownPair F.FnMut) keep (pairs_in self.old) (pairs_in self.new) }
+        ensures weighs { total_weight.new ≡ weight_of (W.weight scale.now) (pairs_in self.new) }
+        ensures indexed { let hash = hash_by S.Hasher.finish S.Hasher.write S.build_hasher K.hash_input in IsIndexed hash self.new }
+        ensures same { IsSame self.old self.new }
+    {
+        let mut at = self.list.front_idx();
+        while let Some(place) = at {
+            at = self.list.next_idx(place);
+            let keeps = match self.list.get(place) {
+                Some(item) => keep(&item.key, &item.value),
+                None => unreachable!(),
+            };
+            if keeps {
+                continue;
+            }
+            let (key, value) = self.take_at(place);
+            *total_weight -= scale.weight(&key, &value);
+        }
+    }
+
+    /// Takes out the pair at a place.
+    fn take_at(&mut self, place: usize) -> (K, V)
+        requires place { IsLive self.old.list.entries place }
+        requires indexed { let hash = hash_by S.Hasher.finish S.Hasher.write S.build_hasher K.hash_input in IsIndexed hash self.old }
+        ensures pair { IsTaken result place self.old.list.entries }
+        ensures placed { placed_of self.new.list.entries ≡ without place (placed_of self.old.list.entries) }
+        ensures indexed { let hash = hash_by S.Hasher.finish S.Hasher.write S.build_hasher K.hash_input in IsIndexed hash self.new }
+        ensures same { IsSame self.old self.new }
+    {
+        let head = self.home(place);
+        self.remove(head, place)
+    }
+}
