@@ -1,5 +1,5 @@
 //! What the tests of several crates share: builders that hash all keys alike, keys that are equal without being the same,
-//! scales and capacities.
+//! scales, capacities, and what a cache asks for.
 #![tactic(auto)]
 
 /// Makes a check, a function of runtime, allocator and builder, with the default builder and with those that give all keys one
@@ -16,6 +16,7 @@ macro_rules! with_each_builder {
 }
 
 pub mod builders;
+pub mod costs;
 pub mod letters;
 pub mod scales;
 pub mod sizes;

@@ -9,7 +9,13 @@ use std::process::Abort;
 use std::test::Fail;
 
 /// A cache of numbers over an allocator that refuses.
-type Plain<'a> = CLruCache<u64, u64, DefaultState, ZeroWeightScale, &'a Rationed<Global>>;
+pub(crate) type Plain<'a> = CLruCache<
+    u64,
+    u64,
+    DefaultState,
+    ZeroWeightScale,
+    &'a Rationed<Global>,
+>;
 
 /// Puts the keys, each with ten more as its value.
 fn puts(rt: &impl Abort, cache: &mut Plain, first: u64, end: u64) {

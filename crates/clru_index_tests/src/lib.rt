@@ -1,4 +1,5 @@
-//! Tests of the hash index under a cache: what it costs, of which no clause speaks, and its part of a reserve and of a growth.
+//! Tests of the hash index under a cache: what it costs, of which no clause speaks, and its part of a reserve and of a growth;
+//! what makers and a replay reserve.
 #![tactic(auto)]
 
 #[cfg(test)]
@@ -11,5 +12,9 @@ mod comparisons;
 mod growths;
 #[cfg(test)]
 mod hashes;
+#[cfg(test)]
+mod makers;
+#[cfg(test)]
+mod replays;
 #[cfg(test)]
 mod reserves;

@@ -1,11 +1,11 @@
 //! The memory of `extend` and of `from_iter`: their puts ask for it one by one, and the first refusal ends them.
 
 use crate::adding::{Plain, takes_out_those_below};
-use crate::costs::REQUESTS;
 use crate::owned::text;
 use crate::whole::holds_those_below;
 use assertions::equal;
 use clru::{CLruCache, DefaultState, NoMemory};
+use clru_fixtures::costs::REQUESTS;
 use clru_fixtures::sizes::room;
 use ration::Rationed;
 use std::alloc::{AllocError, Global};

@@ -1,9 +1,9 @@
 //! Growths, far past the first ones.
 
 use crate::adding::{ADDING, adds};
-use crate::costs::REQUESTS;
 use assertions::equal;
 use clru::CLruCache;
+use clru_fixtures::costs::REQUESTS;
 use clru_fixtures::sizes::room;
 use ration::Rationed;
 use std::test::Fail;

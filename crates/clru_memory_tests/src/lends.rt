@@ -1,11 +1,11 @@
 //! Calls that lend an entry ask for nothing, and closures that fail forget nothing.
 
 use crate::adding::{Plain, counts};
-use crate::costs::REQUESTS;
 use crate::owned::{blocks_of, text};
 use crate::whole::is_whole;
 use assertions::equal;
 use clru::{CLruCache, DefaultState, TryPutError, ZeroWeightScale};
+use clru_fixtures::costs::REQUESTS;
 use clru_fixtures::sizes::room;
 use ration::Rationed;
 use std::alloc::{AllocError, Allocator, Global};

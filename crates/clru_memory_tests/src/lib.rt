@@ -6,23 +6,17 @@ mod adding;
 #[cfg(test)]
 mod asserts;
 #[cfg(test)]
-mod costs;
-#[cfg(test)]
 mod extends;
 #[cfg(test)]
 mod growth;
 #[cfg(test)]
 mod lends;
 #[cfg(test)]
-mod makers;
-#[cfg(test)]
 mod owned;
 #[cfg(test)]
 mod refusals;
 #[cfg(test)]
 mod removals;
-#[cfg(test)]
-mod replays;
 #[cfg(test)]
 mod rows;
 #[cfg(test)]

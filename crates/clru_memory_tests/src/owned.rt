@@ -2,9 +2,9 @@
 ghost use Rattle.std.specs.Prelude.{length, string_bytes};
 
 use crate::adding::{ADDING, adds};
-use crate::costs::REQUESTS;
 use assertions::equal;
 use clru::{CLruCache, DefaultState, PutError, WeightScale, ZeroWeightScale, replay};
+use clru_fixtures::costs::REQUESTS;
 use clru_fixtures::sizes::room;
 use ration::Rationed;
 use std::alloc::{AllocError, Allocator, Global};

@@ -3,10 +3,10 @@
 use crate::adding::{
     ADDING, Adding, Plain, adds, adds_counting, closures_of, takes_out_those_below,
 };
-use crate::costs::REQUESTS;
 use crate::whole::{holds_those_below, is_whole};
 use assertions::equal;
 use clru::CLruCache;
+use clru_fixtures::costs::REQUESTS;
 use clru_fixtures::sizes::room;
 use ration::Rationed;
 use std::alloc::Global;

@@ -1,10 +1,10 @@
 //! Calls that take entries out or change the capacity: they ask for no memory, forget nothing, and the places stay.
 
 use crate::adding::{ADDED, Plain};
-use crate::costs::REQUESTS;
 use crate::owned::text;
 use assertions::equal;
 use clru::CLruCache;
+use clru_fixtures::costs::REQUESTS;
 use clru_fixtures::sizes::room;
 use ration::Rationed;
 use std::alloc::Global;

@@ -1,11 +1,11 @@
 //! Worked rows: what a cache does once all later requests for memory are refused.
 
 use crate::adding::{Plain, counts};
-use crate::makers::free_places;
 use crate::owned::puts;
 use crate::whole::is_whole;
 use assertions::equal;
 use clru::{CLruCache, CLruCacheConfig, NoMemory, Put, PutError, TryPutError, ZeroWeightScale};
+use clru_fixtures::costs::free_places;
 use clru_fixtures::scales::ByLength;
 use clru_fixtures::sizes::room;
 use clru_fixtures::with_each_builder;

@@ -1,10 +1,10 @@
 //! Walks ask for no memory, and what an iterator did not hand out goes with it.
 
 use crate::adding::Plain;
-use crate::costs::REQUESTS;
 use crate::owned::text;
 use assertions::equal;
 use clru::CLruCache;
+use clru_fixtures::costs::REQUESTS;
 use clru_fixtures::sizes::room;
 use ration::Rationed;
 use std::test::Fail;

@@ -81,8 +81,7 @@ fn each_fault_has_its_status(rt: HostRuntime) {
 
 // A capacity, and then 1,000 requests that go round four keys.
 fn round_of_four(alloc: Global, capacity: &[u8]) -> Result<Vec<u8>, Fail> {
-    let mut input = Vec::new(alloc);
-    input.extend_from_slice(capacity)?;
+    let mut input = Vec::from_slice(alloc, capacity)?;
     for _ in 0..250 {
         input.extend_from_slice(b"\na\nb\nc\nd")?;
     }
@@ -90,28 +89,20 @@ fn round_of_four(alloc: Global, capacity: &[u8]) -> Result<Vec<u8>, Fail> {
 }
 
 #[test]
-fn a_round_of_four_keys_misses_with_room_for_three(rt: HostRuntime) -> Result<(), Fail> {
-    let (outcome, written) = ran(rt.alloc(), &round_of_four(rt.alloc(), b"3")?);
-    let mut report = Vec::new(rt.alloc());
-    for _ in 0..1000 {
-        report.extend_from_slice(b"M\n")?;
+fn a_round_of_four_keys_hits_with_room_for_four_alone(rt: HostRuntime) -> Result<(), Fail> {
+    let rows = [
+        (b"3", 1000, b"misses 1000\n".as_slice()),
+        (b"4", 4, b"misses 4\n".as_slice()),
+    ];
+    for (capacity, misses, last) in rows {
+        let (outcome, written) = ran(rt.alloc(), &round_of_four(rt.alloc(), capacity)?);
+        let mut report = Vec::new(rt.alloc());
+        for at in 0..1000 {
+            report.extend_from_slice(if at < misses { b"M\n" } else { b"H\n" })?;
+        }
+        report.extend_from_slice(last)?;
+        assert_eq!(rt; outcome, Ok(()));
+        assert_eq!(rt; written.as_slice(), report.as_slice());
     }
-    report.extend_from_slice(b"misses 1000\n")?;
-    assert_eq!(rt; outcome, Ok(()));
-    assert_eq!(rt; written.as_slice(), report.as_slice());
-    Ok(())
-}
-
-#[test]
-fn a_round_of_four_keys_hits_with_room_for_four(rt: HostRuntime) -> Result<(), Fail> {
-    let (outcome, written) = ran(rt.alloc(), &round_of_four(rt.alloc(), b"4")?);
-    let mut report = Vec::new(rt.alloc());
-    report.extend_from_slice(b"M\nM\nM\nM\n")?;
-    for _ in 0..996 {
-        report.extend_from_slice(b"H\n")?;
-    }
-    report.extend_from_slice(b"misses 4\n")?;
-    assert_eq!(rt; outcome, Ok(()));
-    assert_eq!(rt; written.as_slice(), report.as_slice());
     Ok(())
 }

@@ -57,11 +57,7 @@ fn a_pipe_that_closes_early_is_a_failed_write(rt: HostRuntime) -> Result<(), Fai
     drop(reader);
     let mut input = FOUR;
     let outcome = run(rt.alloc(), &mut input, &mut writer);
-    assert_eq!(rt;
-        outcome,
-        Err(Fault::Writing),
-        "closed before the first write"
-    );
+    assert_eq!(rt; outcome, Err(Fault::Writing), "before the first write");
 
     let (reader, writer) = io::pipe(&rt)?;
     let mut closing = Closing {
@@ -71,7 +67,7 @@ fn a_pipe_that_closes_early_is_a_failed_write(rt: HostRuntime) -> Result<(), Fai
     };
     let mut input = FOUR;
     let outcome = run(rt.alloc(), &mut input, &mut closing);
-    assert_eq!(rt; outcome, Err(Fault::Writing), "closed after the first line");
+    assert_eq!(rt; outcome, Err(Fault::Writing), "after the first line");
     assert_eq!(rt; closing.got, *b"M\n");
     Ok(())
 }

@@ -23,8 +23,7 @@ fn over_a_million_bytes_are_read_and_written(rt: HostRuntime) -> Result<(), Fail
     // A report of 1,200,009 bytes in 13 writes.
     let mut writer = Noting::new(rt.alloc(), 100_000, 0);
     let mut reader = input.as_slice();
-    let outcome = run(rt.alloc(), &mut reader, &mut writer);
-    assert_eq!(rt; outcome, Ok(()));
+    assert_eq!(rt; run(rt.alloc(), &mut reader, &mut writer), Ok(()));
     assert!(rt; writer.got == report);
     assert_eq!(rt; writer.calls.len(), 14, "and the flush");
     Ok(())

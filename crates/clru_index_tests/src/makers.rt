@@ -1,13 +1,12 @@
 //! Makers that find memory for their entries, and those that are refused.
 
-use crate::adding::Plain;
-use crate::costs::{HEAD_BYTES, PLACE_BYTES, REQUESTS};
+use crate::growths::Plain;
 use assertions::equal;
-use clru::{CLruCache, CLruCacheConfig, NoMemory, NonZeroUsize, ZeroWeightScale};
+use clru::{CLruCache, CLruCacheConfig, NoMemory, NonZeroUsize};
+use clru_fixtures::costs::{HEAD_BYTES, PLACE_BYTES, REQUESTS, free_places};
 use clru_fixtures::sizes::room;
 use ration::Rationed;
 use std::alloc::Global;
-use std::hash::BuildHasher;
 use std::process::Abort;
 use std::test::Fail;
 
@@ -37,22 +36,6 @@ fn makes<'a>(
             CLruCache::with_config(heap, config).map_err(|_| NoMemory)
         }
     }
-}
-
-/// How many new keys go in before one is refused or the first one goes, where each request is refused.
-pub(crate) fn free_places<S: BuildHasher>(
-    heap: &Rationed<Global>,
-    cache: &mut CLruCache<u64, u64, S, ZeroWeightScale, &Rationed<Global>>,
-) -> u64 {
-    heap.refuse_after(0);
-    let mut put = 0;
-    for key in 0..2000u64 {
-        if cache.len() == cache.capacity() || cache.put(key, key).is_err() {
-            return put;
-        }
-        put = key + 1;
-    }
-    put
 }
 
 #[test]

@@ -1,8 +1,8 @@
 //! The memory of a replay.
 
-use crate::costs::{HEAD_BYTES, PLACE_BYTES, REQUESTS};
 use assertions::equal;
 use clru::{DefaultState, replay};
+use clru_fixtures::costs::{HEAD_BYTES, PLACE_BYTES, REQUESTS};
 use clru_fixtures::sizes::room;
 use ration::Rationed;
 use std::alloc::{AllocError, Global};

@@ -1,0 +1,32 @@
+//! What a cache asks for. All counts of requests and bytes in tests come from the numbers here.
+
+use clru::{CLruCache, ZeroWeightScale};
+use ration::Rationed;
+use std::alloc::Global;
+use std::hash::BuildHasher;
+
+/// The requests of a growth, and the blocks that a cache with places holds: the places of the list, and the heads.
+pub const REQUESTS: u64 = 2;
+
+/// The bytes of a place for a key of eight bytes and a mark: six words, for the two neighbours, whether there is a pair, the
+/// next place of its chain, the key and the mark.
+pub const PLACE_BYTES: u64 = 48;
+
+/// The bytes of a head.
+pub const HEAD_BYTES: u64 = 8;
+
+/// How many new keys go in before one is refused or the first one goes, where each request is refused.
+pub fn free_places<S: BuildHasher>(
+    heap: &Rationed<Global>,
+    cache: &mut CLruCache<u64, u64, S, ZeroWeightScale, &Rationed<Global>>,
+) -> u64 {
+    heap.refuse_after(0);
+    let mut put = 0;
+    for key in 0..2000u64 {
+        if cache.len() == cache.capacity() || cache.put(key, key).is_err() {
+            return put;
+        }
+        put = key + 1;
+    }
+    put
+}
