@@ -1,6 +1,8 @@
 //! Walks over the pairs: for reading, and by number for writing.
-ghost use Rattle.std.specs.Prelude.{◌≡◌, ◌<◌, Some, length};
+ghost use Rattle.std.specs.Prelude.{◌≡◌, ◌<◌, Some, length, slice_get};
 ghost use Rattle.std.specs.Borrow.{sem};
+ghost use Rattle.std.specs.Map.{keys_of};
+ghost use Rattle.clru_list.specs.PlaceList.{IsValid};
 ghost use Rattle.clru_nodes.specs.Nodes.{pairs_of, pairs_in, item_numbered};
 ghost use Rattle.clru_nodes.specs.NodesLends.{lends_number};
 
@@ -23,11 +25,8 @@ impl<K: Eq + Hash, V, S: BuildHasher, A: Allocator + Copy> Nodes<K, V, S, A> {
         ensures* lends { sem 𝓛 (lends_number K.row V.row S.row A.row S.Hasher.row A.Allocator self.entry number result) }
         ensures item { item_numbered number self.old ≡ Some result.now }
     {
-        let Some(place) = self.list.place_at(number) else {
-            unreachable!()
-        };
-        match self.list.get_mut(place) {
-            Some(item) => item,
+        match self.list.place_at(number) {
+            Some(place) => self.item_in(number, place),
             None => unreachable!(),
         }
     }
@@ -38,9 +37,19 @@ impl<K: Eq + Hash, V, S: BuildHasher, A: Allocator + Copy> Nodes<K, V, S, A> {
         ensures* lends { sem 𝓛 (lends_number K.row V.row S.row A.row S.Hasher.row A.Allocator self.entry number result) }
         ensures item { item_numbered number self.old ≡ Some result.now }
     {
-        let Some(place) = self.list.place_at_back(number) else {
-            unreachable!()
-        };
+        match self.list.place_at_back(number) {
+            Some(place) => self.item_in(number, place),
+            None => unreachable!(),
+        }
+    }
+
+    /// Returns the item in the place that has a number, for writing.
+    fn item_in(&mut self, number: usize, place: usize) -> &mut Item<K, V>
+        requires place { Some place ≡ slice_get (keys_of self.old.list.entries) number }
+        requires valid { IsValid self.old.list }
+        ensures* lends { sem 𝓛 (lends_number K.row V.row S.row A.row S.Hasher.row A.Allocator self.entry number result) }
+        ensures item { item_numbered number self.old ≡ Some result.now }
+    {
         match self.list.get_mut(place) {
             Some(item) => item,
             None => unreachable!(),
