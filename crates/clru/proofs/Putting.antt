@@ -41,10 +41,6 @@ module _ {K V W : Type 0} {eq : K → K → Bool} {x : K} where
   pub held_needs_none : {nothing_goes : Type 0} {v : V} (c : Cache K V W) → lookup (eq x) c.entries ≡ Some v → NeedsMemory eq c x nothing_goes → ⊥
   held_needs_none c held n = let absent = n.absent in cc
 
-  -- a put into a full list needs none
-  pub full_needs_none : (c : Cache K V W) → length c.entries ≡ c.capacity → NeedsMemory eq c x (length c.entries < c.capacity) → ⊥
-  full_needs_none c full n = let room = n.room in absurd (omega arith)
-
   places_stay : {nothing_goes : Type 0} (old new : Cache K V W) (wanted : Bool) → (IsTrue wanted → nothing_goes) → lookup (eq x) old.entries ≡ None
       → length old.entries ≤ old.places → GrowsIf wanted (length old.entries) old.capacity old.places new.places →
       (NeedsMemory eq old x nothing_goes → ⊥) → new.places ≡ old.places

@@ -18,7 +18,9 @@ module _ {K V : Type 0} where
   -- the items with another value at the first key that passes
   abbrev pub with_value : (K → Bool) → V → List (ℕ × Item K V) → List (ℕ × Item K V)
   with_value test v [] = []
-  with_value test v (e ∷ es) = cond (test e.1.key) ((e.0, record { chain = e.1.chain; key = e.1.key; value = v }) ∷ es) (e ∷ with_value test v es)
+  with_value test v (e ∷ es) =
+      let written : Item K V = record { chain = e.1.chain; key = e.1.key; value = v } in
+      cond (test e.1.key) ((e.0, written) ∷ es) (e ∷ with_value test v es)
 
   abbrev pub link_at : List (ℕ × Item K V) → ℕ → ℕ
   link_at es q = option_map_or (λ i. i.chain) (item_at q es) nowhere

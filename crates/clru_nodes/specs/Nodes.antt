@@ -55,10 +55,11 @@ module _ {K V S A H : Type 0} where
   abbrev pub item_numbered : ℕ → Nodes K V S A H → Option (Item K V)
   item_numbered number x = option_map (λ e. e.1) (slice_get x.list.entries number)
 
+  -- the nodes with other items
   abbrev pub with_items : List (ℕ × Item K V) → Nodes K V S A H → Nodes K V S A H
   with_items es x = record x { list = with_entries x.list es }
 
-  -- the nodes with another first item
+  -- with another first item
   abbrev pub with_first_item : Item K V → Nodes K V S A H → Nodes K V S A H
   with_first_item i x = with_items (with_first i x.list.entries) x
 

@@ -37,10 +37,6 @@ module _ {K V : Type 0} (eq : K → K → Bool) (k : ℕ) where
     pub ends : last_of [] later ≡ es
     pub held_are : held ≡ held_before eq ([] ∷ later) rs
 
-  -- before the first put
-  pub Runs-none : {es : List (K × V)} → es ≡ [] → Runs [] es []
-  Runs-none none = record { later = []; run = refl; ends = sym none; held_are = refl }
-
   -- one more put
   pub Runs-push : {rs : List K} {es next : List (K × V)} {held held' : List Bool} (x : K) (before : Bool) → Runs rs es held
       → before ≡ is_some (lookup (eq x) es) → IsPut eq k x es next → held' ≡ held ++ before ∷ [] → Runs (rs ++ x ∷ []) next held'
