@@ -12,12 +12,12 @@ use Rattle.std.specs.declared.hash.Hasher as hasher
 use Rattle.std.proofs.lemmas.Fn.{chained_keeps}
 use Rattle.std.proofs.lemmas.List.{length-reverse}
 use Rattle.clru_nodes.specs.Entries.{without, touch, fit, plain_put, weighted_drops, with_value_at}
+use Rattle.clru_nodes.proofs.Cases.{split}
+use Rattle.clru_nodes.proofs.Ends.{last_of}
 use Rattle.clru.specs.Drops.{TakesOver, HandsOutTo, TakesEach}
 use Rattle.clru.specs.Guards.{place_of, length-with_value_at, place, pair, with_value}
 use Rattle.clru.specs.declared.entry.End.TheVariants.{Front, Back}
 use Rattle.clru.specs.declared.entry.EntryMut.{EntryMut}
-use Rattle.clru_nodes.proofs.Cases.{split}
-use Rattle.clru_nodes.proofs.Ends.{last_of}
 use Rattle.clru.proofs.Finding.{held, with_front-touch, with_front-set_value}
 use Rattle.clru.proofs.Sublists.{sublist_remove_entry, length-sublist}
 pub use Rattle.clru.proofs.Keeping.{lookup-without}

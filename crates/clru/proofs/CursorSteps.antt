@@ -2,9 +2,9 @@
 use Rattle.std.proofs.Common.{◌≡◌, ℕ, zero, suc, ◌+◌, ◌-◌, ◌<◌, ◌≤◌, min, List, [], ◌∷◌, ◌++◌, length, take, drop, Some, slice_get, refl, sym, ap, ◌∙◌, arith}
 use Rattle.std.proofs.lemmas.List.{length-take, length-drop, take_min}
 use Rattle.clru_nodes.specs.Entries.{with_value_at}
+use Rattle.clru_nodes.proofs.Ends.{last_of}
 use Rattle.clru.specs.Walks.{Passes, PassesBack, cursor_rest, last_number, stepped, stepped_back}
 use Rattle.clru.specs.declared.iter.cursor.CLruCacheIterMut.{CLruCacheIterMut}
-use Rattle.clru_nodes.proofs.Ends.{last_of}
 
 module _ {K V : Type 0} (k : K) (x v : V) where
   -- with v at the number i, where the stretch goes up to `end`

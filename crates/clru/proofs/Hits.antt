@@ -6,9 +6,9 @@ use Rattle.std.proofs.lemmas.Bool.Decides.{nat_tests}
 use Rattle.std.proofs.lemmas.Bool.{or_parts}
 use Rattle.std.specs.Cmp.{IsEquivalence}
 use Rattle.std.specs.Map.{keys_of, remove_entry}
+use Rattle.clru_nodes.proofs.Cases.{split}
 use Rattle.clru.specs.Requests.{holds, hit}
 use Rattle.clru.specs.Runs.{IsPut}
-use Rattle.clru_nodes.proofs.Cases.{split}
 use Rattle.clru.proofs.Distinct.{since-cons, same_right, hit-cons}
 
 module _ {K : Type 0} (eq : K → K → Bool) where

@@ -2,8 +2,8 @@
 use Rattle.std.proofs.Common.{◌≡◌, ℕ, zero, suc, ◌+◌, ◌-◌, ◌<◌, ◌≤◌, leb, ltb, lt-ltb, Bool, true, List, [], ◌∷◌, ◌++◌, length, take, drop, refl, sym, ap, subst, arith, length-append}
 use Rattle.std.proofs.lemmas.Bool.{leb-true, le-leb}
 use Rattle.clru_nodes.specs.Entries.{without, fit}
-use Rattle.clru.specs.Runs.{Call, put_with_weight, pop, pop_front, pop_back, clear, peek, contains, after, after_all, IsTaken, AreTaken}
 use Rattle.clru_nodes.proofs.Cases.{split}
+use Rattle.clru.specs.Runs.{Call, put_with_weight, pop, pop_front, pop_back, clear, peek, contains, after, after_all, IsTaken, AreTaken}
 
 -- the first list begins the second
 abbrev Begins : {X : Type 0} → List X → List X → Type 0

@@ -6,11 +6,11 @@ use Rattle.std.specs.Borrow.{Bor, MutBor}
 use Rattle.std.specs.Fn.{Mut, Called}
 use Rattle.std.specs.Map.{keys_of, lookup, lookup_entry, remove_entry}
 use Rattle.std.specs.Option.{option_map_or}
+use Rattle.std.proofs.lemmas.Map.Made.{is_some-lookup}
 use Rattle.clru_nodes.specs.Entries.{plain_put}
 use Rattle.clru.specs.Cache.{Cache, with_entries}
 use Rattle.clru.specs.Closures.{PutsOrModifies}
 use Rattle.clru.specs.Requests.{hit, marks, misses}
-use Rattle.std.proofs.lemmas.Map.Made.{is_some-lookup}
 use Rattle.clru.proofs.Hits.{Keeps, Keeps_held, Keeps_put}
 use Rattle.clru.proofs.Marks.{marks_push, misses_push}
 use Rattle.clru.proofs.PutSteps.{IsPut-plain}

@@ -1,8 +1,8 @@
 //! `CLruCache`, and the calls that read the whole of it. A clause sees a cache as its `entries`, the most recently used
 //! first, its `capacity`, its `scale` and its `places`, the number of entries for which memory was found.
 ghost use Rattle.std.specs.Prelude.{◌≡◌, ◌+◌, ◌↔◌, [], length, IsTrue};
-ghost use Rattle.clru.specs.Cache.{IsValid};
 ghost use Rattle.clru_nodes.specs.Entries.{size_of, weight_of};
+ghost use Rattle.clru.specs.Cache.{IsValid};
 
 mod answer;
 mod ends;
@@ -60,9 +60,9 @@ pub struct CLruCache<
 impl<K: Eq + Hash, V, S: BuildHasher, W: WeightScale<K, V>, A: Allocator + Copy> Model
     for CLruCache<K, V, S, W, A> {
     ghost use Rattle.std.specs.Int.NonZero.{non_zero_usize_get};
+    ghost use Rattle.clru_nodes.specs.Nodes.{hash_by, places_of, pairs_in};
     ghost use Rattle.clru.specs.Cache.{Cache, cache, cache_code};
     ghost use Rattle.clru.specs.Fields.{IsCache};
-    ghost use Rattle.clru_nodes.specs.Nodes.{hash_by, places_of, pairs_in};
 
     ghost Value = { Cache K V W };
 

@@ -2,9 +2,9 @@
 use Rattle.std.proofs.Common.{◌≡◌, ℕ, ◌<◌, ◌≤◌, eqb, List, [], ◌∷◌, length, Option, Some, None, IsSome, refl, sym, ap, ◌∙◌, arith, subst}
 use Rattle.std.specs.Option.{option_map, option_map_or}
 use Rattle.std.specs.Map.{keys_of}
-use Rattle.clru_list.specs.PlaceList.{PlaceList, place_list, with_entries, item_at, without, with_at, to_front, first_entry, last_entry, last_entry_from, first_place, last_place, place_after, place_before_from, IsValid}
 use Rattle.std.specs.Prelude.{vec_len, vec_capacity, slice_index_or as get_or}
 use Rattle.std.specs.Vec.{with_item}
+use Rattle.clru_list.specs.PlaceList.{PlaceList, place_list, with_entries, item_at, without, with_at, to_front, first_entry, last_entry, last_entry_from, first_place, last_place, place_after, place_before_from, IsValid}
 use Rattle.clru_list.specs.declared.chain.Chain.{Chain}
 use Rattle.clru_list.specs.declared.chain.Node.{Node}
 use Rattle.clru_list.proofs.NodeLemmas.{links_of-set_item}

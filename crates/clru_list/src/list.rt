@@ -33,8 +33,8 @@ pub struct FixedSizeList<T, A: Allocator + Copy = Global> {
 
 impl<T, A: Allocator + Copy> Model for FixedSizeList<T, A> {
     ghost use Rattle.std.specs.Prelude.{ℕ, List, vec_capacity};
-    ghost use Rattle.clru_list.specs.PlaceList.{PlaceList, place_list, place_list_code};
     ghost use Rattle.std.specs.Map.{keys_of};
+    ghost use Rattle.clru_list.specs.PlaceList.{PlaceList, place_list, place_list_code};
     ghost use Rattle.clru_list.specs.Fingers.{IsPointed};
     ghost use Rattle.clru_list.specs.Links.{links_of, walk, IsSound};
 

@@ -3,9 +3,9 @@ ghost use Rattle.std.specs.Prelude.{◌≡◌, is_some, option_copied};
 ghost use Rattle.std.specs.Borrow.{sem};
 ghost use Rattle.std.specs.Map.{lookup};
 ghost use Rattle.std.specs.Option.{option_copied_mut};
+ghost use Rattle.clru_types.specs.contracts.weight.ZeroWeightScale.{the_row as zero_scale_row};
 ghost use Rattle.clru_nodes.specs.Entries.{touch};
 ghost use Rattle.clru.specs.Lends.{ends_with, lends_value};
-ghost use Rattle.clru_types.specs.contracts.weight.ZeroWeightScale.{the_row as zero_scale_row};
 
 use crate::cache::CLruCache;
 use clru_types::{WeightScale, ZeroWeightScale};

@@ -1,8 +1,8 @@
 //! The makers.
 ghost use Rattle.std.specs.Prelude.{◌≡◌, ◌<◌, ◌^◌, [], min, IfOk, IfErr, IsOk, OnOk};
 ghost use Rattle.std.specs.Int.NonZero.{non_zero_usize_get};
-ghost use Rattle.clru.specs.Cache.{cache};
 ghost use Rattle.clru_nodes.specs.Nodes.{hash_by, IsEmpty, IsIndexed, places_of};
+ghost use Rattle.clru.specs.Cache.{cache};
 
 use crate::cache::CLruCache;
 use crate::config::CLruCacheConfig;

@@ -1,8 +1,8 @@
 //! A change of the capacity.
 ghost use Rattle.std.specs.Prelude.{◌≡◌};
 ghost use Rattle.std.specs.Int.NonZero.{non_zero_usize_get};
-ghost use Rattle.clru.specs.Cache.{cache};
 ghost use Rattle.clru_nodes.specs.Entries.{fit};
+ghost use Rattle.clru.specs.Cache.{cache};
 
 use crate::cache::CLruCache;
 use crate::shrink::shrink_to;

@@ -1,8 +1,8 @@
 //! The calls that keep the entries at which a closure answers `true`. They ask for no memory, and the places stay.
 ghost use Rattle.std.specs.Prelude.{◌≡◌};
 ghost use Rattle.std.specs.Map.Calls.{CalledAtPair, CallableOnEachPair, RetainsPairs, TakesPair};
-ghost use Rattle.clru.specs.Cache.{with_entries};
 ghost use Rattle.clru_nodes.specs.Retains.{CalledAtShownPair, TakesShownPair};
+ghost use Rattle.clru.specs.Cache.{with_entries};
 
 use crate::cache::CLruCache;
 use clru_types::{WeightScale, ZeroWeightScale};

@@ -1,6 +1,6 @@
 use Rattle.std.proofs.Common.{refl, sym, ap}
-use Rattle.clru_nodes.specs.Nodes.{pairs_of}
 use Rattle.clru_list.specs.PlaceList.{with_entries}
+use Rattle.clru_nodes.specs.Nodes.{pairs_of}
 use Rattle.clru_nodes.proofs.Lending.{ends_alike}
 use Rattle.clru_nodes.proofs.PlacedPairs.{found_item, no_value}
 use Rattle.clru_nodes.proofs.nodes.Nodes.get_mut.Goals as goal

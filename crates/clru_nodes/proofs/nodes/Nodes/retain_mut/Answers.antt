@@ -1,7 +1,7 @@
 use Rattle.std.proofs.Common.{◌≡◌, Some, true, false, refl, sym, ◌∙◌}
 use Rattle.std.specs.Map.Calls.{CalledAtPair, TakesPair}
-use Rattle.clru_list.specs.PlaceList.{place_list, item_at}
 use Rattle.std.proofs.lemmas.Bool.{eq-eqb}
+use Rattle.clru_list.specs.PlaceList.{place_list, item_at}
 use Rattle.clru_nodes.specs.declared.nodes.Item.{Item}
 use Rattle.clru_nodes.proofs.Placed.{item_at-with_at}
 use Rattle.clru_nodes.proofs.IndexedMoves.{indexed_written}

@@ -2,8 +2,8 @@ use Rattle.std.proofs.Common.{Option, refl, sym, ap}
 use Rattle.std.specs.NonZero.{non_zero_usize_get}
 use Rattle.std.specs.Option.{option_map}
 use Rattle.clru_nodes.specs.Nodes.{places_of}
-use Rattle.clru.specs.Cache.{cache}
 use Rattle.clru_nodes.proofs.WrittenItems.{first_written, last_written, last_pair}
+use Rattle.clru.specs.Cache.{cache}
 use Rattle.clru.proofs.Values.{IsCache-values}
 use Rattle.clru.proofs.cache.ends.CLruCache+K+V+S+ZeroWeightScale+A.end_value.Goals as goal
 

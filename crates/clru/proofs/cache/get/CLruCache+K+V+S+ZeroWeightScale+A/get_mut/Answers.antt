@@ -1,9 +1,9 @@
 use Rattle.std.proofs.Common.{Some, sym, ap, ◌∙◌}
 use Rattle.std.specs.NonZero.{non_zero_usize_get}
 use Rattle.clru_nodes.specs.Nodes.{with_front}
-use Rattle.clru.specs.Cache.{cache}
 use Rattle.clru_nodes.proofs.Lending.{ends_alike}
 use Rattle.clru_nodes.proofs.WrittenItems.{first_pair, first_written}
+use Rattle.clru.specs.Cache.{cache}
 use Rattle.clru.proofs.Finding.{held, touch-held, with_front-set_value}
 use Rattle.clru.proofs.Keeping.{IsCache-touch}
 use Rattle.clru.proofs.Values.{IsCache-values}

@@ -1,9 +1,9 @@
 use Rattle.std.proofs.Common.{ap}
 use Rattle.std.specs.NonZero.{non_zero_usize_get}
 use Rattle.clru_nodes.specs.Nodes.{places_of}
-use Rattle.clru.specs.Cache.{cache}
 use Rattle.clru_nodes.proofs.Lending.{ends_alike}
 use Rattle.clru_nodes.proofs.WrittenItems.{found_written}
+use Rattle.clru.specs.Cache.{cache}
 use Rattle.clru.proofs.Values.{IsCache-values}
 use Rattle.clru.proofs.cache.get.CLruCache+K+V+S+ZeroWeightScale+A.peek_mut.Goals as goal
 

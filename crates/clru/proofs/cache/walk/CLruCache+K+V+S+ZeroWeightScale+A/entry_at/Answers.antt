@@ -1,8 +1,8 @@
 use Rattle.std.proofs.Common.{refl, ap}
 use Rattle.std.specs.NonZero.{non_zero_usize_get}
 use Rattle.clru_nodes.specs.Nodes.{places_of}
-use Rattle.clru.specs.Cache.{cache}
 use Rattle.clru_nodes.proofs.WrittenItems.{numbered_pair, numbered_written}
+use Rattle.clru.specs.Cache.{cache}
 use Rattle.clru.proofs.Values.{IsCache-values}
 use Rattle.clru.proofs.cache.walk.CLruCache+K+V+S+ZeroWeightScale+A.entry_at.Goals as goal
 
