@@ -1,14 +1,28 @@
 //! A cache with a scale and a hash builder of one's own.
-ghost use Rattle.std.specs.Prelude.{◌≡◌, ◌≤◌, ◌↔◌, Some, nat_eq, length, OnOk, OnErr};
+ghost use Rattle.std.specs.Prelude.{◌≡◌, ◌≤◌, ◌↔◌, [], Some, nat_eq, length, OnOk, OnErr};
 ghost use Rattle.std.specs.Map.{lookup};
 ghost use Rattle.clru.specs.Refusals.{IsTooHeavy};
 
 use crate::hasher::FnvState;
 use crate::scale::ByLength;
-use clru::{CLruCache, PutError};
+use clru::{CLruCache, CLruCacheConfig, NonZeroUsize, PutError};
+use std::alloc::Global;
 
 /// Pages, within a number of bytes.
 pub type Pages = CLruCache<u64, Vec<u8>, FnvState, ByLength>;
+
+/// Makes the cache. Without a reserve it asks for no memory, so nothing can be refused.
+pub fn empty(alloc: Global, room: NonZeroUsize) -> Pages
+    ensures { result.entries ≡ [] }
+{
+    let config = CLruCacheConfig::new(room)
+        .with_hasher(FnvState)
+        .with_scale(ByLength);
+    match CLruCache::with_config(alloc, config) {
+        Ok(pages) => pages,
+        Err(_) => unreachable!(),
+    }
+}
 
 /// Holds a page. A look-up then finds it; one that is as long as the capacity, or longer, is refused.
 pub fn hold(pages: &mut Pages, page: u64, bytes: Vec<u8>) -> Result<(), PutError<u64, Vec<u8>>>
@@ -25,18 +39,12 @@ pub fn hold(pages: &mut Pages, page: u64, bytes: Vec<u8>) -> Result<(), PutError
 #[cfg(test)]
 mod tests {
     use super::*;
-    use clru::{CLruCacheConfig, NonZeroUsize};
     use std::test::Fail;
 
     #[test]
     fn pages_are_held_within_a_number_of_bytes(rt: HostRuntime) -> Result<(), Fail> {
         let room = NonZeroUsize::new(10).ok_or("a capacity is no 0")?;
-        let config = CLruCacheConfig::new(room)
-            .with_hasher(FnvState)
-            .with_scale(ByLength);
-        let Ok(mut pages): Result<Pages, _> = CLruCache::with_config(rt.alloc(), config) else {
-            return Err("no memory was to be asked for")?;
-        };
+        let mut pages = empty(rt.alloc(), room);
         for page in [1, 2, 3] {
             let bytes = Vec::from_slice(rt.alloc(), b"four")?;
             assert!(rt; hold(&mut pages, page, bytes).is_ok());

@@ -1,5 +1,5 @@
 //! A cache of pages.
-ghost use Rattle.std.specs.Prelude.{◌≡◌, Some, nat_eq, OnOk, OnErr};
+ghost use Rattle.std.specs.Prelude.{◌≡◌, None, Some, nat_eq, OnOk, OnErr};
 ghost use Rattle.std.specs.Map.{lookup};
 
 use clru::CLruCache;
@@ -19,6 +19,24 @@ pub fn remember(
     }
 }
 
+/// Forgets a page. A look-up then finds none.
+pub fn forget(sizes: &mut CLruCache<u64, u64>, page: u64) -> Option<u64>
+    ensures size { result ≡ lookup (nat_eq page) sizes.old.entries }
+    ensures gone { lookup (nat_eq page) sizes.new.entries ≡ None }
+{
+    // Its clause `valid` says that no page is held twice.
+    let _ = sizes.len();
+    sizes.pop(&page)
+}
+
+/// Halves each size.
+pub fn halve(sizes: &mut CLruCache<u64, u64>) {
+    let mut cursor = sizes.iter_mut();
+    while let Some(size) = cursor.next() {
+        *size /= 2;
+    }
+}
+
 #[cfg(test)]
 mod tests {
     use super::*;
@@ -34,6 +52,21 @@ mod tests {
         assert_eq!(rt; sizes.get(&1).copied(), Some(10));
         assert_eq!(rt; remember(&mut sizes, 3, 30), Ok(Some((2, 20))));
         assert_eq!(rt; sizes.peek(&2).copied(), None);
+        Ok(())
+    }
+
+    #[test]
+    fn a_page_is_forgotten_and_the_others_halved(rt: HostRuntime) -> Result<(), Fail> {
+        let room = NonZeroUsize::new(2).ok_or("a capacity is no 0")?;
+        let mut sizes = CLruCache::new(rt.alloc(), room);
+        assert_eq!(rt; remember(&mut sizes, 1, 10), Ok(None));
+        assert_eq!(rt; remember(&mut sizes, 2, 20), Ok(None));
+        assert_eq!(rt; forget(&mut sizes, 1), Some(10));
+        halve(&mut sizes);
+        assert_eq!(rt;
+            (sizes.peek(&1).copied(), sizes.peek(&2).copied()),
+            (None, Some(10))
+        );
         Ok(())
     }
 }
