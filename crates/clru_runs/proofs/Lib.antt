@@ -5,3 +5,4 @@ pub mod Lending
 pub mod PutRunning
 pub mod Retained
 pub mod Running
+pub mod Walking

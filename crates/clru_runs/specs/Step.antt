@@ -1,5 +1,5 @@
 -- One step of the model: a call, its answer, and the cache before and after it. Public clauses cite it.
-use Rattle.std.specs.Prelude.{◌≡◌, ℕ, ◌<◌, ◌≤◌, ◌-◌, ◌==◌, Bool, List, ◌∷◌, ◌++◌, length, drop, Option, Some, None, is_some, Result, Ok, Err, slice_get, max, not, [], take, filter, map}
+use Rattle.std.specs.Prelude.{◌≡◌, ℕ, ◌<◌, ◌≤◌, ◌-◌, ◌==◌, Bool, List, ◌∷◌, ◌++◌, length, drop, Option, Some, None, is_some, Result, Ok, Err, slice_get, max, not, [], take, filter, map, reverse}
 use Rattle.std.specs.Map.{lookup, set_value}
 use Rattle.std.specs.Option.{option_map}
 use Rattle.clru_types.specs.declared.error.PutError.{PutError}
@@ -16,7 +16,7 @@ use Rattle.clru_runs.specs.declared.call.Answer.TheVariants.{Stored, Weighed, Le
 use Rattle.clru_runs.specs.declared.call.Attempt.{Attempt}
 use Rattle.clru_runs.specs.declared.call.Attempt.TheVariants.{Store, Fail}
 use Rattle.clru_runs.specs.declared.call.Call.{Call}
-use Rattle.clru_runs.specs.declared.call.Call.TheVariants.{PutWithWeight, Get, Peek, Contains, Len, Weight, Capacity, IsEmpty, IsFull, Front, Back, Pop, PopFront, PopBack, Clear, Resize, Retain}
+use Rattle.clru_runs.specs.declared.call.Call.TheVariants.{PutWithWeight, Get, Peek, Contains, Len, Weight, Capacity, IsEmpty, IsFull, Front, Back, Nth, NthBack, Pop, PopFront, PopBack, Clear, Resize, Retain}
 use Rattle.clru_runs.specs.declared.call.ListCall.{ListCall}
 use Rattle.clru_runs.specs.declared.call.ListCall.TheVariants.{Extend, Plain}
 use Rattle.clru_runs.specs.declared.call.PlainCall.{PlainCall}
@@ -110,6 +110,8 @@ module _ {K V W : Type 0} where
     Step weight old (Pop x) answer new = (answer ≡ Value (lookup (eq x) old.entries)) × (new ≡ with_entries old (without eq x old.entries))
     Step weight old Front answer new = (answer ≡ Value (value_at 0 old.entries)) × (new ≡ old)
     Step weight old Back answer new = (answer ≡ Value (value_at (length old.entries - 1) old.entries)) × (new ≡ old)
+    Step weight old (Nth n) answer new = (answer ≡ Value (value_at n old.entries)) × (new ≡ old)
+    Step weight old (NthBack n) answer new = (answer ≡ Value (value_at n (reverse old.entries))) × (new ≡ old)
     Step weight old PopFront answer new = (answer ≡ Pair (slice_get old.entries 0)) × (new ≡ with_entries old (drop 1 old.entries))
     Step weight old PopBack answer new =
         (answer ≡ Pair (slice_get old.entries (length old.entries - 1))) × (new ≡ with_entries old (take (length old.entries - 1) old.entries))

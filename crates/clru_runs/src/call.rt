@@ -18,6 +18,12 @@ pub enum Call<K, V> {
     Pop(K),
     Front,
     Back,
+
+    /// The value to which a walk from the front comes after so many others.
+    Nth(usize),
+
+    /// The same from the back.
+    NthBack(usize),
     PopFront,
     PopBack,
     Clear,

@@ -16,6 +16,7 @@ mod laws;
 mod lends;
 mod perform;
 mod run;
+mod walks;
 
 pub use call::{Answer, Attempt, Call, ListCall, PlainCall, Weighing};
 pub use laws::{law_included_runs, law_put_runs};

@@ -5,6 +5,7 @@ ghost use Rattle.clru_runs.specs.Step.{Step, PlainStep, ListStep};
 
 use crate::call::{Answer, Call, ListCall, PlainCall, Weighing};
 use crate::lends::{back, back_mut, front, front_mut, get_mut, peek_mut, try_put_or_modify};
+use crate::walks::{nth, nth_back};
 use clru::{CLruCache, NonZeroUsize, WeightScale, ZeroWeightScale};
 use std::alloc::Allocator;
 use std::hash::{BuildHasher, Hash};
@@ -93,6 +94,8 @@ fn make<K: Eq + Hash + Drop, V: Copy, S: BuildHasher, W: WeightScale<K, V>, A: A
         Call::Pop(key) => Answer::Value(cache.pop(&key)),
         Call::Front => Answer::Value(front(cache)),
         Call::Back => Answer::Value(back(cache)),
+        Call::Nth(number) => Answer::Value(nth(cache, number)),
+        Call::NthBack(number) => Answer::Value(nth_back(cache, number)),
         Call::PopFront => Answer::Pair(cache.pop_front()),
         Call::PopBack => Answer::Pair(cache.pop_back()),
         Call::Clear => {

@@ -54,7 +54,7 @@ impl Drawn for Call<usize, usize> {
 
     fn draw(draws: &mut Draws) -> Self {
         let key = draws.below(KEYS);
-        match draws.below(30) {
+        match draws.below(32) {
             0..=12 => Call::PutWithWeight(key, draws.below(6)),
             13..=15 => Call::Get(key),
             16 => Call::Peek(key),
@@ -70,6 +70,8 @@ impl Drawn for Call<usize, usize> {
             26 => Call::Retain(key),
             27 => Call::Front,
             28 => Call::Back,
+            29 => Call::Nth(draws.below(8)),
+            30 => Call::NthBack(draws.below(8)),
             _ => rare(draws),
         }
     }

@@ -105,6 +105,10 @@ impl Pairs {
             }
             Call::Front => Answer::Value(self.list.first().map(|pair| pair.1)),
             Call::Back => Answer::Value(self.list.last().map(|pair| pair.1)),
+            Call::Nth(number) => Answer::Value(self.list.get(*number).map(|pair| pair.1)),
+            Call::NthBack(number) => {
+                Answer::Value(self.list.iter().rev().nth(*number).map(|pair| pair.1))
+            }
             _ => Answer::Done,
         }
     }

@@ -3,7 +3,8 @@
 use crate::tables::{Table, run_all};
 use clru_runs::Answer::{Flag, Lent, Number, Pair, Value};
 use clru_runs::Call::{
-    Capacity, Contains, Get, IsEmpty, IsFull, Len, Peek, PopFront, PutWithWeight, Weight,
+    Capacity, Contains, Get, IsEmpty, IsFull, Len, Nth, NthBack, Peek, PopFront, PutWithWeight,
+    Weight,
 };
 use clru_runs::PlainCall::{self, Any, Put, PutOrModify};
 use std::test::Fail;
@@ -141,6 +142,23 @@ static NUMBERS: &[Of<u64>] = &[
             (Any(Peek("b")), Value(Some(2))),
         ],
         list: &[("a", 1), ("c", 3), ("b", 2)],
+    },
+    Table {
+        name: "a_walk_comes_to_each_value_from_either_end",
+        capacity: 3,
+        rows: &[
+            (Put("a", 1), stored!(None, None)),
+            (Put("b", 2), stored!(None, None)),
+            (Put("c", 3), stored!(None, None)),
+            (Any(Nth(0)), Value(Some(3))),
+            (Any(Nth(2)), Value(Some(1))),
+            (Any(Nth(3)), Value(None)),
+            (Any(Nth(usize::MAX)), Value(None)),
+            (Any(NthBack(0)), Value(Some(1))),
+            (Any(NthBack(2)), Value(Some(3))),
+            (Any(NthBack(3)), Value(None)),
+        ],
+        list: &[("c", 3), ("b", 2), ("a", 1)],
     },
     Table {
         name: "the_front_of_an_empty_cache_is_none",
