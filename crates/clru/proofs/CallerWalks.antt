@@ -3,7 +3,7 @@ use Rattle.std.proofs.Common.{◌≡◌, List, [], ◌∷◌, ◌++◌, length, 
 use Rattle.std.proofs.lemmas.List.{take-append-drop, map-append, append-nil}
 use Rattle.std.specs.Iterator.{YieldsFirst, YieldsLast}
 use Rattle.std.specs.Option.{option_map}
-use Rattle.clru_types.specs.declared.weight.ZeroWeightScale.{ZeroWeightScale}
+use Rattle.clru_model.specs.declared.weight.ZeroWeightScale.{ZeroWeightScale}
 use Rattle.clru.specs.Cache.{Cache, with_entries}
 use Rattle.clru.specs.Walks.{IsAtStart, Passes, PassesBack, cursor_cache, cursor_rest, cursor_before, cursor_after}
 use Rattle.clru.specs.declared.iter.cursor.CLruCacheIterMut.{CLruCacheIterMut}

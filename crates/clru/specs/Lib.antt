@@ -1,5 +1,5 @@
-pub use Rattle.clru_types.specs.Errors
-pub use Rattle.clru_types.specs.Refusals
+pub use Rattle.clru_model.specs.Errors
+pub use Rattle.clru_model.specs.Refusals
 pub use Rattle.clru_nodes.specs.Entries
 pub use Rattle.clru_nodes.specs.Retains
 pub mod ByPlace

@@ -6,9 +6,9 @@ use Rattle.std.specs.declared.alloc.Allocator as alloc
 use Rattle.std.specs.declared.hash.Hasher as hasher
 use Rattle.std.specs.declared.hash.BuildHasher as builder
 use mir.Syntax.{named}
-use Rattle.clru_types.specs.declared.weight.WeightScale as scale
-use Rattle.clru_types.specs.declared.weight.ZeroWeightScale.{ZeroWeightScale}
-use Rattle.clru_types.specs.contracts.weight.ZeroWeightScale.{the_row as zero_scale_row}
+use Rattle.clru_model.specs.declared.weight.WeightScale as scale
+use Rattle.clru_model.specs.declared.weight.ZeroWeightScale.{ZeroWeightScale}
+use Rattle.clru_model.specs.contracts.weight.ZeroWeightScale.{the_row as zero_scale_row}
 use Rattle.clru_nodes.specs.Entries.{with_value_at}
 use Rattle.clru.specs.Cache.{Cache, with_entries}
 use Rattle.clru.specs.Lends.{cache_row}

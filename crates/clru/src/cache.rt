@@ -17,8 +17,8 @@ mod retain;
 mod walk;
 
 pub use answer::Put;
+use clru_model::{DefaultState, WeightScale, ZeroWeightScale};
 use clru_nodes::Nodes;
-use clru_types::{DefaultState, WeightScale, ZeroWeightScale};
 use std::alloc::{Allocator, Global};
 use std::hash::{BuildHasher, Hash};
 use std::marker::Model;

@@ -3,7 +3,7 @@ ghost use Rattle.std.specs.Prelude.{◌≡◌};
 ghost use Rattle.std.specs.Int.NonZero.{non_zero_usize_get};
 ghost use Rattle.clru.specs.Config.{config};
 
-use clru_types::{DefaultState, WeightScale, ZeroWeightScale};
+use clru_model::{DefaultState, WeightScale, ZeroWeightScale};
 use std::hash::BuildHasher;
 use std::marker::{Model, PhantomData};
 use std::num::NonZeroUsize;

@@ -4,7 +4,7 @@ ghost use Rattle.std.specs.Prelude.{◌<◌, length};
 pub(crate) mod methods;
 
 use crate::cache::CLruCache;
-use clru_types::{DefaultState, ZeroWeightScale};
+use clru_model::{DefaultState, ZeroWeightScale};
 use std::alloc::{Allocator, Global};
 use std::hash::{BuildHasher, Hash};
 

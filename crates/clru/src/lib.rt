@@ -21,7 +21,7 @@ mod shrink;
 
 pub use cache::{CLruCache, Put};
 pub use clru_list::NoMemory;
-pub use clru_types::{DefaultState, PutError, TryPutError, WeightScale, ZeroWeightScale};
+pub use clru_model::{DefaultState, PutError, TryPutError, WeightScale, ZeroWeightScale};
 pub use config::CLruCacheConfig;
 pub use entry::EntryMut;
 pub use iter::CLruCacheIter;

@@ -13,7 +13,7 @@ mod answer;
 use crate::cache::CLruCache;
 use crate::config::CLruCacheConfig;
 pub use answer::Replay;
-use clru_types::ZeroWeightScale;
+use clru_model::ZeroWeightScale;
 use std::alloc::Allocator;
 use std::hash::{BuildHasher, Hash};
 use std::num::NonZeroUsize;

@@ -4,8 +4,8 @@ ghost use Rattle.clru_nodes.specs.Entries.{fit, past_fit, weight_of, size_of};
 ghost use Rattle.clru_nodes.specs.Nodes.{hash_by, pairs_in, IsIndexed, IsSame};
 ghost use Rattle.clru.specs.Drops.{HandsOutTo, TakesEach};
 
+use clru_model::WeightScale;
 use clru_nodes::Nodes;
-use clru_types::WeightScale;
 use std::alloc::Allocator;
 use std::hash::{BuildHasher, Hash};
 

@@ -6,8 +6,8 @@ ghost use Rattle.clru_nodes.specs.Nodes.{hash_by, pairs_in, capacity_of, IsIndex
 
 use crate::pairs::{Numbers, finds, has};
 use assertions::equal;
+use clru_model::DefaultState;
 use clru_nodes::Nodes;
-use clru_types::DefaultState;
 use std::test::Fail;
 
 #[test]

@@ -7,8 +7,8 @@ ghost use Rattle.std.specs.Map.{keys_of};
 ghost use Rattle.clru_nodes.specs.Nodes.{hash_by, pairs_in, capacity_of, places_of, IsIndexed};
 
 use assertions::equal;
+use clru_model::DefaultState;
 use clru_nodes::Nodes;
-use clru_types::DefaultState;
 use std::alloc::Global;
 use std::process::Abort;
 

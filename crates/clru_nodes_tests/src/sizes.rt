@@ -2,7 +2,7 @@
 
 use crate::pairs::{finds, has, three};
 use assertions::equal;
-use clru_types::WeightScale;
+use clru_model::WeightScale;
 use std::test::Fail;
 
 /// A pair weighs what its value is.

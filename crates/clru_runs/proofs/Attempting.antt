@@ -3,9 +3,9 @@ use Rattle.std.proofs.Common.{◌≡◌, Bool, ◌∷◌, Option, Some, None, Re
 use Rattle.std.specs.Borrow.{Bor, MutBor}
 use Rattle.std.specs.Fn.{Mut, Called}
 use Rattle.std.specs.Map.{lookup_entry, remove_entry}
-use Rattle.clru_types.specs.Refusals.{IfNoMemory, MatchTryPutError}
-use Rattle.clru_types.specs.declared.error.TryPutError.{TryPutError}
-use Rattle.clru_types.specs.declared.error.TryPutError.TheVariants.{NoMemory, Failed}
+use Rattle.clru_model.specs.Refusals.{IfNoMemory, MatchTryPutError}
+use Rattle.clru_model.specs.declared.error.TryPutError.{TryPutError}
+use Rattle.clru_model.specs.declared.error.TryPutError.TheVariants.{NoMemory, Failed}
 use Rattle.clru.specs.Cache.{Cache}
 use Rattle.clru.specs.Closures.{TryPutsOrModifies, FailsToPutOrModify}
 use Rattle.clru.specs.Entries.{touch, plain_put}

@@ -2,10 +2,10 @@
 use Rattle.std.specs.Prelude.{◌≡◌, ℕ, ◌<◌, ◌≤◌, ◌-◌, ◌==◌, Bool, List, ◌∷◌, ◌++◌, length, drop, Option, Some, None, is_some, Result, Ok, Err, slice_get, max, not, [], take, filter, map, reverse}
 use Rattle.std.specs.Map.{lookup, set_value}
 use Rattle.std.specs.Option.{option_map}
-use Rattle.clru_types.specs.declared.error.PutError.{PutError}
-use Rattle.clru_types.specs.declared.error.PutError.TheVariants.{TooHeavy, NoMemory}
-use Rattle.clru_types.specs.declared.error.TryPutError.{TryPutError}
-use Rattle.clru_types.specs.declared.error.TryPutError.TheVariants as try
+use Rattle.clru_model.specs.declared.error.PutError.{PutError}
+use Rattle.clru_model.specs.declared.error.PutError.TheVariants.{TooHeavy, NoMemory}
+use Rattle.clru_model.specs.declared.error.TryPutError.{TryPutError}
+use Rattle.clru_model.specs.declared.error.TryPutError.TheVariants as try
 use Rattle.clru.specs.Cache.{Cache, cache, with_entries}
 use Rattle.clru.specs.Collecting.{PutsAll, PutRefused}
 use Rattle.clru.specs.Entries.{without, touch, fit, plain_put, plain_drop, weighted_put, weighted_drops, weight_of, size_of, with_value_at}

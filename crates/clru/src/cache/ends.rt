@@ -8,7 +8,7 @@ ghost use Rattle.clru.specs.Guards.{place_of, cache_name, IsEntryAt};
 
 use crate::cache::CLruCache;
 use crate::entry::{End, EntryMut};
-use clru_types::{WeightScale, ZeroWeightScale};
+use clru_model::{WeightScale, ZeroWeightScale};
 use std::alloc::Allocator;
 use std::hash::{BuildHasher, Hash};
 

@@ -6,7 +6,7 @@ ghost use Rattle.clru.specs.Collecting.{PutsItems, CollectsItems};
 
 use crate::cache::CLruCache;
 use clru_list::NoMemory;
-use clru_types::ZeroWeightScale;
+use clru_model::ZeroWeightScale;
 use std::alloc::Allocator;
 use std::hash::{BuildHasher, Hash};
 use std::num::NonZeroUsize;

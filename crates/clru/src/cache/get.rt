@@ -3,12 +3,12 @@ ghost use Rattle.std.specs.Prelude.{◌≡◌, is_some, option_copied};
 ghost use Rattle.std.specs.Borrow.{sem};
 ghost use Rattle.std.specs.Map.{lookup};
 ghost use Rattle.std.specs.Option.{option_copied_mut};
-ghost use Rattle.clru_types.specs.contracts.weight.ZeroWeightScale.{the_row as zero_scale_row};
+ghost use Rattle.clru_model.specs.contracts.weight.ZeroWeightScale.{the_row as zero_scale_row};
 ghost use Rattle.clru_nodes.specs.Entries.{touch};
 ghost use Rattle.clru.specs.Lends.{ends_with, lends_value};
 
 use crate::cache::CLruCache;
-use clru_types::{WeightScale, ZeroWeightScale};
+use clru_model::{WeightScale, ZeroWeightScale};
 use std::alloc::Allocator;
 use std::hash::{BuildHasher, Hash};
 

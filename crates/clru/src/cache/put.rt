@@ -1,7 +1,7 @@
 //! The calls that put a pair into the cache.
 ghost use Rattle.std.specs.Prelude.{◌≡◌, ◌<◌, ◌≤◌, ◌↔◌, is_ok, IfOk, IfErr, OnOk, OnErr, IsErr, if◌then◌else◌};
 ghost use Rattle.std.specs.Map.{lookup};
-ghost use Rattle.clru_types.specs.Refusals.{pair_of, IsTooHeavy, WantsMemory};
+ghost use Rattle.clru_model.specs.Refusals.{pair_of, IsTooHeavy, WantsMemory};
 ghost use Rattle.clru_nodes.specs.Entries.{plain_put, plain_drop, weighted_put, weighted_drops};
 ghost use Rattle.clru.specs.Drops.{HandsOutTo, TakesEach};
 ghost use Rattle.clru.specs.Memory.{NeedsPlace, NeedsPlaceFor, GrowsOnlyIf};
@@ -9,7 +9,7 @@ ghost use Rattle.clru.specs.Memory.{NeedsPlace, NeedsPlaceFor, GrowsOnlyIf};
 use crate::cache::CLruCache;
 use crate::cache::answer::Put;
 use crate::shrink::shrink_handing_to;
-use clru_types::{PutError, WeightScale, ZeroWeightScale};
+use clru_model::{PutError, WeightScale, ZeroWeightScale};
 use std::alloc::Allocator;
 use std::hash::{BuildHasher, Hash};
 

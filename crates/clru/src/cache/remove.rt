@@ -5,7 +5,7 @@ ghost use Rattle.clru_nodes.specs.Entries.{without};
 ghost use Rattle.clru.specs.Cache.{with_entries};
 
 use crate::cache::CLruCache;
-use clru_types::WeightScale;
+use clru_model::WeightScale;
 use std::alloc::Allocator;
 use std::hash::{BuildHasher, Hash};
 

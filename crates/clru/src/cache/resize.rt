@@ -6,7 +6,7 @@ ghost use Rattle.clru.specs.Cache.{cache};
 
 use crate::cache::CLruCache;
 use crate::shrink::shrink_to;
-use clru_types::WeightScale;
+use clru_model::WeightScale;
 use std::alloc::Allocator;
 use std::hash::{BuildHasher, Hash};
 use std::num::NonZeroUsize;

@@ -5,7 +5,7 @@ ghost use Rattle.clru_nodes.specs.Retains.{CalledAtShownPair, TakesShownPair};
 ghost use Rattle.clru.specs.Cache.{with_entries};
 
 use crate::cache::CLruCache;
-use clru_types::{WeightScale, ZeroWeightScale};
+use clru_model::{WeightScale, ZeroWeightScale};
 use std::alloc::Allocator;
 use std::hash::{BuildHasher, Hash};
 

@@ -9,7 +9,7 @@ use crate::cache::CLruCache;
 use crate::iter::CLruCacheIter;
 use crate::iter::cursor::CLruCacheIterMut;
 use crate::iter::owned::CLruCacheIntoIter;
-use clru_types::{WeightScale, ZeroWeightScale};
+use clru_model::{WeightScale, ZeroWeightScale};
 use std::alloc::Allocator;
 use std::hash::{BuildHasher, Hash};
 

@@ -6,7 +6,7 @@ ghost use Rattle.clru.specs.GuardLends.{lends_entry, lends_cache};
 ghost use Rattle.clru.specs.Guards.{pair};
 
 use crate::entry::EntryMut;
-use clru_types::{WeightScale, ZeroWeightScale};
+use clru_model::{WeightScale, ZeroWeightScale};
 use std::alloc::Allocator;
 use std::hash::{BuildHasher, Hash};
 use std::ops::{Deref, DerefMut};

@@ -2,7 +2,7 @@
 pub(crate) mod steps;
 
 use crate::cache::CLruCache;
-use clru_types::{DefaultState, ZeroWeightScale};
+use clru_model::{DefaultState, ZeroWeightScale};
 use std::alloc::{Allocator, Global};
 use std::hash::{BuildHasher, Hash};
 

@@ -4,7 +4,7 @@ ghost use Rattle.std.specs.Iterator.{UpTo, YieldsFirst, YieldsLast, at_most, ite
 ghost use Rattle.std.specs.Iterator.SizeHint.{IsWithinCount};
 
 use crate::cache::CLruCache;
-use clru_types::{DefaultState, WeightScale, ZeroWeightScale};
+use clru_model::{DefaultState, WeightScale, ZeroWeightScale};
 use std::alloc::{Allocator, Global};
 use std::hash::{BuildHasher, Hash};
 use std::iter::FusedIterator;

@@ -8,7 +8,7 @@ ghost use Rattle.clru_nodes.specs.Nodes.{hash_by, pairs_in, IsIndexed, IsSame};
 ghost use Rattle.clru_nodes.specs.Retains.{CalledAtShownPair, TakesShownPair};
 
 use crate::nodes::Nodes;
-use clru_types::WeightScale;
+use clru_model::WeightScale;
 use std::alloc::Allocator;
 use std::hash::{BuildHasher, Hash};
 

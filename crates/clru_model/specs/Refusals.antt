@@ -1,9 +1,9 @@
 -- The refusals of a weighted put, and of a put whose closures may fail. Public clauses cite it.
 use Rattle.std.specs.Prelude.{Result, Ok, Err, ⊤}
-use Rattle.clru_types.specs.declared.error.PutError.{PutError}
-use Rattle.clru_types.specs.declared.error.PutError.TheVariants.{TooHeavy, NoMemory}
-use Rattle.clru_types.specs.declared.error.TryPutError.{TryPutError}
-use Rattle.clru_types.specs.declared.error.TryPutError.TheVariants as try
+use Rattle.clru_model.specs.declared.error.PutError.{PutError}
+use Rattle.clru_model.specs.declared.error.PutError.TheVariants.{TooHeavy, NoMemory}
+use Rattle.clru_model.specs.declared.error.TryPutError.{TryPutError}
+use Rattle.clru_model.specs.declared.error.TryPutError.TheVariants as try
 
 module _ {K V : Type 0} where
   -- the pair that a refusal hands back

@@ -1,6 +1,6 @@
 //! What a call that may want memory answers in place of a result.
 ghost use Rattle.std.specs.Prelude.{Some};
-ghost use Rattle.clru_types.specs.Errors.{put_error_debug, put_error_text, try_put_error_debug, try_put_error_text};
+ghost use Rattle.clru_model.specs.Errors.{put_error_debug, put_error_text, try_put_error_debug, try_put_error_text};
 
 use std::error::Error;
 use std::fmt;

@@ -1,9 +1,9 @@
 -- What is printed of a refused weighted put, and of a put whose closures may fail. Public clauses cite it.
 use Rattle.std.specs.Prelude.{ℕ, List, codes}
-use Rattle.clru_types.specs.declared.error.PutError.{PutError}
-use Rattle.clru_types.specs.declared.error.PutError.TheVariants.{TooHeavy, NoMemory}
-use Rattle.clru_types.specs.declared.error.TryPutError.{TryPutError}
-use Rattle.clru_types.specs.declared.error.TryPutError.TheVariants as try
+use Rattle.clru_model.specs.declared.error.PutError.{PutError}
+use Rattle.clru_model.specs.declared.error.PutError.TheVariants.{TooHeavy, NoMemory}
+use Rattle.clru_model.specs.declared.error.TryPutError.{TryPutError}
+use Rattle.clru_model.specs.declared.error.TryPutError.TheVariants as try
 
 module _ {K V : Type 0} where
   -- by `{}`
