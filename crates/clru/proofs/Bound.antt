@@ -5,7 +5,7 @@ use Rattle.std.proofs.Math.Bool.{or_comm}
 use Rattle.std.proofs.lemmas.Bool.{or_left, or_right, and_parts, or_cases, cases_lt, lt-ltb}
 use Rattle.std.specs.Cmp.{IsEquivalence}
 use Rattle.std.specs.List.{count_by, list_all}
-use Rattle.clru_nodes.proofs.Cases.{split}
+use Rattle.clru_model.proofs.Cases.{split}
 use Rattle.clru.specs.Requests.{holds, distinct, since, hit, marks_after, misses}
 use Rattle.clru.specs.Schedule.{IsSchedule, schedule_misses, IsCompetitive, IsCompetitiveFromAnyStart}
 use Rattle.clru.proofs.Marks.{count_by-not-cons}

@@ -6,7 +6,7 @@ use Rattle.std.proofs.lemmas.Bool.{and_parts, and_from, or_right}
 use Rattle.std.proofs.lemmas.Option.{same_Some, slice_get_within}
 use Rattle.std.specs.Cmp.{IsEquivalence}
 use Rattle.std.specs.List.{slice_get, slice_range}
-use Rattle.clru_nodes.proofs.Cases.{split}
+use Rattle.clru_model.proofs.Cases.{split}
 use Rattle.clru.specs.Requests.{holds, distinct, since, hit, marks_after, marks}
 use Rattle.clru.specs.ByPlace.{IsHitAt}
 use Rattle.clru.proofs.Counting.{count_unique}

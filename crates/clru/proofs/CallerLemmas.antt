@@ -11,9 +11,9 @@ use Rattle.std.specs.declared.hash.Hash as hash
 use Rattle.std.specs.declared.hash.Hasher as hasher
 use Rattle.std.proofs.lemmas.Fn.{chained_keeps}
 use Rattle.std.proofs.lemmas.List.{length-reverse}
-use Rattle.clru_nodes.specs.Entries.{without, touch, fit, plain_put, weighted_drops, with_value_at}
-use Rattle.clru_nodes.proofs.Cases.{split}
-use Rattle.clru_nodes.proofs.Ends.{last_of}
+use Rattle.clru_model.specs.Entries.{without, touch, fit, plain_put, weighted_drops, with_value_at}
+use Rattle.clru_model.proofs.Cases.{split}
+use Rattle.clru_model.proofs.Ends.{last_of}
 use Rattle.clru.specs.Drops.{TakesOver, HandsOutTo, TakesEach}
 use Rattle.clru.specs.Guards.{place_of, length-with_value_at, place, pair, with_value}
 use Rattle.clru.specs.declared.entry.End.TheVariants.{Front, Back}

@@ -1,8 +1,8 @@
 -- The entries before a cursor, in it and behind it, once it has passed one of them.
 use Rattle.std.proofs.Common.{◌≡◌, ℕ, zero, suc, ◌+◌, ◌-◌, ◌<◌, ◌≤◌, min, List, [], ◌∷◌, ◌++◌, length, take, drop, Some, slice_get, refl, sym, ap, ◌∙◌, arith}
 use Rattle.std.proofs.lemmas.List.{length-take, length-drop, take_min}
-use Rattle.clru_nodes.specs.Entries.{with_value_at}
-use Rattle.clru_nodes.proofs.Ends.{last_of}
+use Rattle.clru_model.specs.Entries.{with_value_at}
+use Rattle.clru_model.proofs.Ends.{last_of}
 use Rattle.clru.specs.Walks.{Passes, PassesBack, cursor_rest, last_number, stepped, stepped_back}
 use Rattle.clru.specs.declared.iter.cursor.CLruCacheIterMut.{CLruCacheIterMut}
 

@@ -5,7 +5,7 @@ use Rattle.std.proofs.lemmas.Bool.Decides.{nat_tests}
 use Rattle.std.proofs.lemmas.Bool.{or_left, or_right, or_parts}
 use Rattle.std.specs.Cmp.{IsEquivalence}
 use Rattle.std.specs.List.{filter}
-use Rattle.clru_nodes.proofs.Cases.{split}
+use Rattle.clru_model.proofs.Cases.{split}
 use Rattle.clru.specs.Requests.{holds, distinct, since, hit}
 
 module _ {K : Type 0} (eq : K → K → Bool) where

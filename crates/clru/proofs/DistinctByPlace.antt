@@ -4,7 +4,7 @@ use Rattle.std.proofs.Common.{Some, inl, inr, refl, sym, ap, ◌∙◌, subst, a
 use Rattle.std.proofs.lemmas.List.{reverse-append, reverse-reverse}
 use Rattle.std.proofs.lemmas.Option.{same_Some, slice_get_within}
 use Rattle.std.specs.List.{slice_get, count_by}
-use Rattle.clru_nodes.proofs.Cases.{split}
+use Rattle.clru_model.proofs.Cases.{split}
 use Rattle.clru.specs.Requests.{holds, distinct}
 use Rattle.clru.specs.Schedule.{schedule_marks, schedule_misses}
 use Rattle.clru.specs.ByPlace.{IsCountOf, IsFirstAt, IsScheduleMissAt}

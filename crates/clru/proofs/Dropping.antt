@@ -5,7 +5,7 @@ use Rattle.std.specs.Map.{lookup_entry}
 use Rattle.std.specs.Option.{option_to_list}
 use Rattle.std.proofs.lemmas.List.{reverse-append, drop-append-le}
 use Rattle.std.proofs.Math.Seq.{drop-append_seam, drop-length}
-use Rattle.clru_nodes.specs.Entries.{without, fit, plain_drop, weighted_drops}
+use Rattle.clru_model.specs.Entries.{without, fit, plain_drop, weighted_drops}
 use Rattle.clru.proofs.Finding.{held_at, missed_at}
 use Rattle.clru.proofs.PutSteps.{fit-weightless}
 

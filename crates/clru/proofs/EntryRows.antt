@@ -1,7 +1,7 @@
 -- Puts into small entry lists, worked out by hand: the definitions compute to them. A value is its own weight.
 use Rattle.std.proofs.Common.{◌≡◌, ℕ, ◌-◌, ◌^◌, ◌%◌, Bool, [], ◌∷◌, refl}
 use Rattle.std.specs.Prelude.{nat_eq, Some, None}
-use Rattle.clru_nodes.specs.Entries.{touch, plain_put, plain_drop, weighted_put, weighted_drops, fit, size_of}
+use Rattle.clru_model.specs.Entries.{touch, plain_put, plain_drop, weighted_put, weighted_drops, fit, size_of}
 
 abbrev pub itself : ℕ → ℕ → ℕ
 itself key value = value

@@ -3,9 +3,8 @@ use Rattle.std.proofs.Common.{◌≡◌, ℕ, suc, ◌+◌, ◌-◌, Bool, true,
 use Rattle.std.specs.Map.{lookup, lookup_entry, remove_entry, set_value}
 use Rattle.std.specs.Option.{option_map}
 use Rattle.std.proofs.lemmas.List.Sums.{sum_by-cons}
-use Rattle.clru_nodes.specs.Entries.{touch, plain_put, weight_of}
-use Rattle.clru_nodes.specs.Nodes.{with_front}
-use Rattle.clru_nodes.proofs.Cases.{split}
+use Rattle.clru_model.specs.Entries.{touch, plain_put, weight_of, with_front}
+use Rattle.clru_model.proofs.Cases.{split}
 
 module _ {K V : Type 0} (test : K → Bool) where
   -- the first entry whose key passes

@@ -1,8 +1,8 @@
 -- The longest beginning that fits.
 use Rattle.std.proofs.Common.{◌≡◌, ℕ, zero, suc, Some, None, take, slice_get, ◌+◌, ◌-◌, ◌<◌, ◌≤◌, leb, true, false, cond, List, [], ◌∷◌, ◌++◌, length, refl, sym, ap, ◌∙◌, subst, inl, inr, arith, length-append, append_assoc, append-nil}
 use Rattle.std.proofs.lemmas.Bool.{leb-true, leb-false, cases_lt}
-use Rattle.clru_nodes.specs.Entries.{weight_of, size_of, fit, IsLongestFit}
-use Rattle.clru_nodes.proofs.Weights.{weight_of-cons, weight_of-push}
+use Rattle.clru_model.specs.Entries.{weight_of, size_of, fit, IsLongestFit}
+use Rattle.clru_model.proofs.Weights.{weight_of-cons, weight_of-push}
 
 module _ {K V : Type 0} (weight : K → V → ℕ) where
   size_of-cons : (e : K × V) (es : List (K × V)) → size_of weight (e ∷ es) ≡ 1 + weight e.0 e.1 + size_of weight es

@@ -6,7 +6,7 @@ use Rattle.std.proofs.lemmas.Bool.Decides.{nat_tests}
 use Rattle.std.proofs.lemmas.Bool.{or_parts}
 use Rattle.std.specs.Cmp.{IsEquivalence}
 use Rattle.std.specs.Map.{keys_of, remove_entry}
-use Rattle.clru_nodes.proofs.Cases.{split}
+use Rattle.clru_model.proofs.Cases.{split}
 use Rattle.clru.specs.Requests.{holds, hit}
 use Rattle.clru.specs.Runs.{IsPut}
 use Rattle.clru.proofs.Distinct.{since-cons, same_right, hit-cons}

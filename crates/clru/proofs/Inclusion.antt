@@ -1,8 +1,8 @@
 -- The entries that a run of calls leaves at a capacity begin those that it leaves at a greater one.
 use Rattle.std.proofs.Common.{◌≡◌, ℕ, zero, suc, ◌+◌, ◌-◌, ◌<◌, ◌≤◌, leb, ltb, lt-ltb, Bool, true, List, [], ◌∷◌, ◌++◌, length, take, drop, refl, sym, ap, subst, arith, length-append}
 use Rattle.std.proofs.lemmas.Bool.{leb-true, le-leb}
-use Rattle.clru_nodes.specs.Entries.{without, fit}
-use Rattle.clru_nodes.proofs.Cases.{split}
+use Rattle.clru_model.specs.Entries.{without, fit}
+use Rattle.clru_model.proofs.Cases.{split}
 use Rattle.clru.specs.Runs.{Call, put_with_weight, pop, pop_front, pop_back, clear, peek, contains, after, after_all, IsTaken, AreTaken}
 
 -- the first list begins the second

@@ -3,9 +3,9 @@ use Rattle.std.proofs.Common.{◌≡◌, ℕ, ◌-◌, ◌<◌, Bool, Some, ◌�
 use Rattle.std.proofs.Math.Dec.{ltb}
 use Rattle.std.proofs.lemmas.Bool.{ltb-true, lt-ltb}
 use Rattle.std.specs.Cmp.{IsEquivalence}
-use Rattle.clru_nodes.specs.Entries.{touch, plain_put}
+use Rattle.clru_model.specs.Entries.{touch, plain_put, with_front}
 use Rattle.clru_nodes.specs.Growth.{GrowsIf}
-use Rattle.clru_nodes.specs.Nodes.{item_with, with_front, IsIndexed, IsSame, KeepsPairs, pairs_in, capacity_of, places_of, first_item, with_first_item}
+use Rattle.clru_nodes.specs.Nodes.{item_with, IsIndexed, IsSame, KeepsPairs, pairs_in, capacity_of, places_of, first_item, with_first_item}
 use Rattle.clru_nodes.specs.declared.nodes.Item.{Item}
 use Rattle.clru_nodes.specs.declared.nodes.Nodes.{Nodes}
 use Rattle.clru_nodes.proofs.WrittenItems.{first_written, held_places}

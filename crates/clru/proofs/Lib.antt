@@ -1,4 +1,4 @@
-pub use Rattle.clru_nodes.proofs.Cases
+pub use Rattle.clru_model.proofs.Cases
 pub mod Bound
 pub mod ByPlace
 pub mod CallerLemmas

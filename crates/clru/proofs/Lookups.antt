@@ -6,8 +6,8 @@ use Rattle.std.specs.List.{IsDistinct}
 use Rattle.std.specs.Map.{keys_of, lookup, lookup_entry}
 use Rattle.std.proofs.lemmas.Map.{lookup-remove_entry}
 use Rattle.std.proofs.lemmas.Option.{slice_get_cases}
-use Rattle.clru_nodes.specs.Entries.{without, touch, plain_put, plain_drop}
-use Rattle.clru_nodes.proofs.Cases.{split}
+use Rattle.clru_model.specs.Entries.{without, touch, plain_put, plain_drop}
+use Rattle.clru_model.proofs.Cases.{split}
 use Rattle.clru.proofs.Putting.{lookup-sublist}
 use Rattle.clru.proofs.Sublists.{sublist_remove_entry}
 use Rattle.clru.proofs.Finding.{IsHeld, IsMissed, held_at, missed_at, touch-held, touch-missed, plain_put-held, plain_put-missed}

@@ -4,7 +4,7 @@ use Rattle.std.proofs.Common.{◌∷◌, ◌++◌, reverse, refl, sym, ap, ◌�
 use Rattle.std.proofs.lemmas.List.{reverse-append}
 use Rattle.std.proofs.lemmas.List.Sums.{sum_by-cons, sum_by_push}
 use Rattle.std.specs.List.{count_by}
-use Rattle.clru_nodes.proofs.Cases.{split}
+use Rattle.clru_model.proofs.Cases.{split}
 use Rattle.clru.specs.Requests.{hit, marks_after, marks, misses}
 
 -- how many marks are false, with one more in front

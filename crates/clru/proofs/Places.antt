@@ -8,7 +8,7 @@ use Rattle.std.proofs.Math.Bool.{or_comm}
 use Rattle.std.proofs.lemmas.Bool.{false_from_ne_true}
 use Rattle.std.proofs.lemmas.Map.Keys.{any_passes_from_place}
 use Rattle.std.specs.List.{slice_get, slice_range, list_all}
-use Rattle.clru_nodes.proofs.Cases.{split}
+use Rattle.clru_model.proofs.Cases.{split}
 use Rattle.clru.specs.Requests.{holds}
 use Rattle.clru.specs.ByPlace.{HasKey, LacksKey}
 use Rattle.clru.proofs.Distinct.{holds-append}

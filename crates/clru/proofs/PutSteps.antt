@@ -5,8 +5,8 @@ use Rattle.std.proofs.lemmas.Bool.{le-leb}
 use Rattle.std.specs.Cmp.{IsEquivalence}
 use Rattle.std.specs.Map.{keys_of, lookup_entry}
 use Rattle.std.specs.Option.{option_map_or, MatchOption}
-use Rattle.clru_nodes.specs.Entries.{without, plain_put, weighted_put, fit}
-use Rattle.clru_nodes.proofs.Cases.{split}
+use Rattle.clru_model.specs.Entries.{without, plain_put, weighted_put, fit}
+use Rattle.clru_model.proofs.Cases.{split}
 use Rattle.clru.specs.Requests.{holds}
 use Rattle.clru.specs.Runs.{IsPut}
 

@@ -6,7 +6,7 @@ use Rattle.std.proofs.lemmas.Bool.{cases_lt}
 use Rattle.std.proofs.lemmas.Map.{lookup-none, none_passes_from_lookup}
 use Rattle.std.proofs.lemmas.Option.{slice_get_past}
 use Rattle.std.proofs.lemmas.List.Sums.{sum_by-cons}
-use Rattle.clru_nodes.specs.Entries.{weight_of, plain_put, plain_drop}
+use Rattle.clru_model.specs.Entries.{weight_of, plain_put, plain_drop}
 use Rattle.clru_nodes.specs.Growth.{GrowsIf}
 use Rattle.clru.specs.Cache.{Cache}
 use Rattle.clru.specs.Fields.{IsKept}

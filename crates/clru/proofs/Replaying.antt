@@ -7,7 +7,7 @@ use Rattle.std.specs.Fn.{Mut, Called}
 use Rattle.std.specs.Map.{keys_of, lookup, lookup_entry, remove_entry}
 use Rattle.std.specs.Option.{option_map_or}
 use Rattle.std.proofs.lemmas.Map.Made.{is_some-lookup}
-use Rattle.clru_nodes.specs.Entries.{plain_put}
+use Rattle.clru_model.specs.Entries.{plain_put}
 use Rattle.clru.specs.Cache.{Cache, with_entries}
 use Rattle.clru.specs.Closures.{PutsOrModifies}
 use Rattle.clru.specs.Requests.{hit, marks, misses}

@@ -3,7 +3,7 @@ use Rattle.std.proofs.Common.{◌≡◌, ℕ, ◌-◌, ◌<◌, ◌≤◌, Bool,
 use Rattle.std.specs.Cmp.{IsEquivalence}
 use Rattle.std.specs.Map.{lookup}
 use Rattle.std.proofs.lemmas.Bool.{cases_lt}
-use Rattle.clru_nodes.specs.Entries.{weight_of, size_of, fit}
+use Rattle.clru_model.specs.Entries.{weight_of, size_of, fit}
 use Rattle.clru.specs.Fields.{IsKept}
 use Rattle.clru.proofs.Fitting.{fit_is_longest}
 use Rattle.clru.proofs.Keeping.{IsKept-sublist, IsKept-put}

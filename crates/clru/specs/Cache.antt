@@ -3,7 +3,7 @@ use Rattle.std.specs.Prelude.{ℕ, ◌<◌, ◌≤◌, Bool, List, length, refl}
 use Rattle.std.specs.List.{IsDistinct}
 use Rattle.std.specs.Map.{keys_of}
 use Rattle.std.specs.Coded.{Coded, code_by, coded×, coded_list, coded_ℕ}
-use Rattle.clru_nodes.specs.Entries.{size_of}
+use Rattle.clru_model.specs.Entries.{size_of}
 
 -- the entry list, the capacity, the scale, and for how many entries memory was found
 pub record Cache (K V W : Type 0) : Type 0 where

@@ -2,7 +2,7 @@
 use Rattle.std.specs.Prelude.{◌≡◌, ℕ, max, Bool, Option, Some, Result, Ok, Err, List, [], ◌∷◌, length}
 use Rattle.std.specs.Iterator.{Drains, YieldsThen}
 use Rattle.std.specs.List.{FoldsTo}
-use Rattle.clru_nodes.specs.Entries.{plain_put}
+use Rattle.clru_model.specs.Entries.{plain_put}
 use Rattle.clru.specs.Cache.{Cache, cache}
 use Rattle.clru.specs.Memory.{NeedsPlace, GrowsOnlyIf}
 

@@ -2,7 +2,7 @@
 use Rattle.std.specs.Prelude.{◌≡◌, ℕ, ◌≤◌, Bool, List}
 use Rattle.std.specs.List.{IsDistinct}
 use Rattle.std.specs.Map.{keys_of}
-use Rattle.clru_nodes.specs.Entries.{weight_of, size_of}
+use Rattle.clru_model.specs.Entries.{weight_of, size_of}
 use Rattle.clru_nodes.specs.Nodes.{pairs_in, IsIndexed, capacity_of}
 use Rattle.clru_nodes.specs.declared.nodes.Nodes.{Nodes}
 

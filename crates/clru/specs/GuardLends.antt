@@ -9,7 +9,7 @@ use mir.Syntax.{named}
 use Rattle.clru_model.specs.declared.weight.WeightScale as scale
 use Rattle.clru_model.specs.declared.weight.ZeroWeightScale.{ZeroWeightScale}
 use Rattle.clru_model.specs.contracts.weight.ZeroWeightScale.{the_row as zero_scale_row}
-use Rattle.clru_nodes.specs.Entries.{with_value_at}
+use Rattle.clru_model.specs.Entries.{with_value_at}
 use Rattle.clru.specs.Cache.{Cache, with_entries}
 use Rattle.clru.specs.Guards.{place_of, cache_name, cache_with, with_value}
 use Rattle.clru.specs.Lends.{cache_row}

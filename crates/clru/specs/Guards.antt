@@ -7,7 +7,7 @@ use Rattle.std.specs.declared.hash.Hasher as hasher
 use Rattle.std.specs.declared.hash.BuildHasher as builder
 use Rattle.std.proofs.Common.{sym, ap, subst}
 use Rattle.clru_model.specs.declared.weight.ZeroWeightScale.{ZeroWeightScale}
-use Rattle.clru_nodes.specs.Entries.{with_value_at}
+use Rattle.clru_model.specs.Entries.{with_value_at}
 use Rattle.clru.specs.Cache.{Cache, with_entries}
 use Rattle.clru.specs.declared.entry.End.{End}
 use Rattle.clru.specs.declared.entry.End.TheVariants.{Front, Back}

@@ -4,7 +4,7 @@ use Rattle.std.specs.Fn.{Mut}
 use Rattle.std.specs.List.{slice_get, count_by}
 use Rattle.std.specs.Map.{lookup}
 use Rattle.std.specs.Option.{option_to_list}
-use Rattle.clru_nodes.specs.Entries.{fit, IsLongestFit, plain_drop, weighted_drops}
+use Rattle.clru_model.specs.Entries.{fit, IsLongestFit, plain_drop, weighted_drops}
 use Rattle.clru.specs.ByPlace.{IsCountOf, IsFirstAt, IsHitAt, IsScheduleAt, IsScheduleMissAt}
 use Rattle.clru.specs.Cache.{Cache, IsValid}
 use Rattle.clru.specs.Drops.{HandsOutTo}

@@ -8,7 +8,7 @@ use Rattle.std.specs.declared.hash.Hasher as hasher
 use Rattle.std.specs.declared.hash.BuildHasher as builder
 use mathlib.Core.Option.{none}
 use Rattle.clru_model.specs.declared.weight.WeightScale as scale
-use Rattle.clru_nodes.specs.Entries.{plain_put}
+use Rattle.clru_model.specs.Entries.{plain_put}
 use Rattle.clru.specs.Cache.{Cache, with_entries}
 use Rattle.clru.specs.Memory.{GrowsOnlyIf, NeedsPlace}
 use Rattle.clru.specs.contracts.cache.CLruCache.{the_row}

@@ -1,6 +1,6 @@
 pub use Rattle.clru_model.specs.Errors
 pub use Rattle.clru_model.specs.Refusals
-pub use Rattle.clru_nodes.specs.Entries
+pub use Rattle.clru_model.specs.Entries
 pub use Rattle.clru_nodes.specs.Retains
 pub mod ByPlace
 pub mod Cache

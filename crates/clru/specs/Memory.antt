@@ -1,7 +1,7 @@
 -- When a put may be refused for memory, and what becomes of the places. Public clauses cite it.
 use Rattle.std.specs.Prelude.{◌≡◌, ℕ, ◌+◌, ◌<◌, ◌≤◌, Bool, length, None}
 use Rattle.std.specs.Map.{lookup}
-use Rattle.clru_nodes.specs.Entries.{size_of}
+use Rattle.clru_model.specs.Entries.{size_of}
 use Rattle.clru.specs.Cache.{Cache}
 
 module _ {K V W : Type 0} where

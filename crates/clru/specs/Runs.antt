@@ -1,7 +1,7 @@
 -- Runs of calls over entry lists. Public clauses cite them.
 use Rattle.std.specs.Prelude.{◌≡◌, ℕ, ◌-◌, ◌<◌, nat_lt, Bool, true, if◌then◌else◌, ⊤, List, [], ◌∷◌, length, take, drop, map}
 use Rattle.std.specs.Map.{keys_of}
-use Rattle.clru_nodes.specs.Entries.{without, weighted_put}
+use Rattle.clru_model.specs.Entries.{without, weighted_put}
 use Rattle.clru.specs.Requests.{holds}
 use Rattle.clru.specs.Schedule.{schedule_marks}
 

@@ -2,7 +2,7 @@
 use Rattle.std.specs.Prelude.{◌≡◌, ℕ, ◌+◌, ◌-◌, min, List, [], ◌∷◌, ◌++◌, length, take, drop}
 use Rattle.std.specs.Borrow.{GName}
 use Rattle.clru_model.specs.declared.weight.ZeroWeightScale.{ZeroWeightScale}
-use Rattle.clru_nodes.specs.Entries.{with_value_at}
+use Rattle.clru_model.specs.Entries.{with_value_at}
 use Rattle.clru.specs.Cache.{Cache, with_entries}
 use Rattle.clru.specs.declared.iter.cursor.CLruCacheIterMut.{CLruCacheIterMut}
 

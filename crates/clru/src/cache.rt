@@ -1,7 +1,7 @@
 //! `CLruCache`, and the calls that read the whole of it. A clause sees a cache as its `entries`, the most recently used
 //! first, its `capacity`, its `scale` and its `places`, the number of entries for which memory was found.
 ghost use Rattle.std.specs.Prelude.{◌≡◌, ◌+◌, ◌↔◌, [], length, IsTrue};
-ghost use Rattle.clru_nodes.specs.Entries.{size_of, weight_of};
+ghost use Rattle.clru_model.specs.Entries.{size_of, weight_of};
 ghost use Rattle.clru.specs.Cache.{IsValid};
 
 mod answer;

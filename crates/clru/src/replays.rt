@@ -2,7 +2,7 @@
 ghost use Rattle.std.specs.Prelude.{◌≡◌, ◌≤◌, [], length, is_some, IfOk, IfErr, IsOk};
 ghost use Rattle.std.specs.Int.NonZero.{non_zero_usize_get};
 ghost use Rattle.std.specs.Map.{lookup};
-ghost use Rattle.clru_nodes.specs.Entries.{plain_put};
+ghost use Rattle.clru_model.specs.Entries.{plain_put};
 ghost use Rattle.clru.specs.Cache.{with_entries};
 ghost use Rattle.clru.specs.Schedule.{IsCompetitive, IsCompetitiveFromAnyStart};
 ghost use Rattle.clru.specs.Memory.{NeedsPlace};

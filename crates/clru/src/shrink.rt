@@ -1,6 +1,6 @@
 //! Dropping the pairs that don't fit.
 ghost use Rattle.std.specs.Prelude.{◌≡◌, ◌<◌, ◌^◌, reverse};
-ghost use Rattle.clru_nodes.specs.Entries.{fit, past_fit, weight_of, size_of};
+ghost use Rattle.clru_model.specs.Entries.{fit, past_fit, weight_of, size_of};
 ghost use Rattle.clru_nodes.specs.Nodes.{hash_by, pairs_in, IsIndexed, IsSame};
 ghost use Rattle.clru.specs.Drops.{HandsOutTo, TakesEach};
 

@@ -1,9 +1,7 @@
-pub mod Cases
 pub mod ChainWalks
 pub mod Chaining
 pub mod Chains
 pub mod Cuts
-pub mod Ends
 pub mod Indexed
 pub mod IndexedMoves
 pub mod Lending
@@ -15,5 +13,4 @@ pub mod Relinking
 pub mod Same
 pub mod Sifting
 pub mod Values
-pub mod Weights
 pub mod WrittenItems

@@ -7,7 +7,7 @@ use Rattle.clru_list.specs.PlaceList.{item_at, without, first_place, last_entry,
 use Rattle.clru_nodes.specs.Heads.{IsLive}
 use Rattle.clru_nodes.specs.Nodes.{pair_of, pairs_of}
 use Rattle.clru_nodes.specs.declared.nodes.Item.{Item}
-use Rattle.clru_nodes.proofs.Ends.{last_of}
+use Rattle.clru_model.proofs.Ends.{last_of}
 
 module _ {K V : Type 0} where
   -- the first place holds something

@@ -1,5 +1,4 @@
 pub mod Chained
-pub mod Entries
 pub mod Growth
 pub mod Heads
 pub mod Nodes

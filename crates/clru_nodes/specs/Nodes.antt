@@ -24,11 +24,6 @@ module _ {K V : Type 0} where
   abbrev pub pairs_of : List (ℕ × Item K V) → List (K × V)
   pairs_of es = map (λ e. pair_of e.1) es
 
-  -- the pairs with another value in front
-  abbrev pub with_front : V → List (K × V) → List (K × V)
-  with_front v [] = []
-  with_front v (e ∷ es) = (e.0, v) ∷ es
-
 module _ {K V S A H : Type 0} where
   -- the pairs, front first
   abbrev pub pairs_in : Nodes K V S A H → List (K × V)

@@ -4,7 +4,7 @@ ghost use Rattle.std.specs.Borrow.{sem};
 ghost use Rattle.std.specs.Map.{lookup};
 ghost use Rattle.std.specs.Option.{option_copied_mut};
 ghost use Rattle.clru_model.specs.contracts.weight.ZeroWeightScale.{the_row as zero_scale_row};
-ghost use Rattle.clru_nodes.specs.Entries.{touch};
+ghost use Rattle.clru_model.specs.Entries.{touch};
 ghost use Rattle.clru.specs.Lends.{ends_with, lends_value};
 
 use crate::cache::CLruCache;

@@ -4,7 +4,7 @@ ghost use Rattle.std.specs.Borrow.{sem};
 ghost use Rattle.std.specs.Map.{lookup_entry};
 ghost use Rattle.clru_model.specs.Refusals.{IfNoMemory, MatchTryPutError};
 ghost use Rattle.clru_model.specs.contracts.weight.ZeroWeightScale.{the_row as zero_scale_row};
-ghost use Rattle.clru_nodes.specs.Entries.{plain_put};
+ghost use Rattle.clru_model.specs.Entries.{plain_put};
 ghost use Rattle.clru.specs.Closures.{TakesKey, TakesEntry, PutsOrModifies, TryPutsOrModifies, FailsToPutOrModify};
 ghost use Rattle.clru.specs.Lends.{lends_put, lends_try};
 ghost use Rattle.clru.specs.Memory.{NeedsPlace};

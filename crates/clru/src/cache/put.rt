@@ -2,7 +2,7 @@
 ghost use Rattle.std.specs.Prelude.{◌≡◌, ◌<◌, ◌≤◌, ◌↔◌, is_ok, IfOk, IfErr, OnOk, OnErr, IsErr, if◌then◌else◌};
 ghost use Rattle.std.specs.Map.{lookup};
 ghost use Rattle.clru_model.specs.Refusals.{pair_of, IsTooHeavy, WantsMemory};
-ghost use Rattle.clru_nodes.specs.Entries.{plain_put, plain_drop, weighted_put, weighted_drops};
+ghost use Rattle.clru_model.specs.Entries.{plain_put, plain_drop, weighted_put, weighted_drops};
 ghost use Rattle.clru.specs.Drops.{HandsOutTo, TakesEach};
 ghost use Rattle.clru.specs.Memory.{NeedsPlace, NeedsPlaceFor, GrowsOnlyIf};
 

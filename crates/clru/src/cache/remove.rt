@@ -1,7 +1,7 @@
 //! The calls that take an entry out. They ask for no memory, and the places stay.
 ghost use Rattle.std.specs.Prelude.{◌≡◌, ◌-◌, [], drop, length, slice_get, take};
 ghost use Rattle.std.specs.Map.{lookup};
-ghost use Rattle.clru_nodes.specs.Entries.{without};
+ghost use Rattle.clru_model.specs.Entries.{without};
 ghost use Rattle.clru.specs.Cache.{with_entries};
 
 use crate::cache::CLruCache;

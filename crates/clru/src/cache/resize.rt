@@ -1,7 +1,7 @@
 //! A change of the capacity.
 ghost use Rattle.std.specs.Prelude.{◌≡◌};
 ghost use Rattle.std.specs.Int.NonZero.{non_zero_usize_get};
-ghost use Rattle.clru_nodes.specs.Entries.{fit};
+ghost use Rattle.clru_model.specs.Entries.{fit};
 ghost use Rattle.clru.specs.Cache.{cache};
 
 use crate::cache::CLruCache;

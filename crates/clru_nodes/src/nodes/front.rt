@@ -5,7 +5,8 @@ ghost use Rattle.std.specs.List.{IsDistinct};
 ghost use Rattle.std.specs.Map.{keys_of, lookup};
 ghost use Rattle.std.specs.Map.Iter.{deref_pair};
 ghost use Rattle.std.specs.Option.{option_copied_mut, option_map};
-ghost use Rattle.clru_nodes.specs.Nodes.{hash_by, pairs_in, builder_of, first_item, last_item, with_front, IsIndexed, IsSame};
+ghost use Rattle.clru_model.specs.Entries.{with_front};
+ghost use Rattle.clru_nodes.specs.Nodes.{hash_by, pairs_in, builder_of, first_item, last_item, IsIndexed, IsSame};
 ghost use Rattle.clru_nodes.specs.NodesLends.{lends_front, lends_back, lends_value};
 
 use crate::nodes::{Item, Nodes};

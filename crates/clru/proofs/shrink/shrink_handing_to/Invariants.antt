@@ -1,5 +1,5 @@
 use Rattle.std.proofs.Common.{◌≡◌, ◌<◌, ◌^◌, length, drop, reverse}
-use Rattle.clru_nodes.specs.Entries.{weight_of, size_of}
+use Rattle.clru_model.specs.Entries.{weight_of, size_of}
 use Rattle.clru_nodes.specs.Nodes.{hash_by, pairs_in, IsIndexed, IsSame}
 use Rattle.clru.specs.Drops.{HandsOutTo}
 use Rattle.clru.proofs.Fitting.{IsTooLongFit}

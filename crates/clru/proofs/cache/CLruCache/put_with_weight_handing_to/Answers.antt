@@ -1,9 +1,9 @@
 use Rattle.std.proofs.Common.{◌-◌, ◌∷◌, Some, length, refl, sym, ap, ◌∙◌, arith}
 use Rattle.std.specs.NonZero.{non_zero_usize_get}
 use Rattle.std.proofs.lemmas.Bool.{leb-true, le-leb}
-use Rattle.clru_nodes.specs.Entries.{size_of, weight_of}
+use Rattle.clru_model.specs.Entries.{size_of, weight_of}
 use Rattle.clru_nodes.specs.Nodes.{pairs_in, places_of}
-use Rattle.clru_nodes.proofs.Weights.{weight_of-cons}
+use Rattle.clru_model.proofs.Weights.{weight_of-cons}
 use Rattle.clru_nodes.proofs.WrittenItems.{held_places}
 use Rattle.clru.proofs.Finding.{held_at, held_is, missed_at, weight_of-held}
 use Rattle.clru.proofs.Keeping.{lookup-without, IsCache-from}

@@ -1,6 +1,6 @@
 use Rattle.std.proofs.Common.{Some, sym, ap, ◌∙◌}
 use Rattle.std.specs.NonZero.{non_zero_usize_get}
-use Rattle.clru_nodes.specs.Nodes.{with_front}
+use Rattle.clru_model.specs.Entries.{with_front}
 use Rattle.clru_nodes.proofs.Lending.{ends_alike}
 use Rattle.clru_nodes.proofs.WrittenItems.{first_pair, first_written}
 use Rattle.clru.specs.Cache.{cache}

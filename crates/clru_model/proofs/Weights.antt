@@ -1,7 +1,7 @@
 -- What the weight of some pairs is made of.
 use Rattle.std.proofs.Common.{◌≡◌, ℕ, ◌+◌, List, [], ◌∷◌, ◌++◌, arith}
 use Rattle.std.proofs.lemmas.List.Sums.{sum_by-cons, sum_by-append}
-use Rattle.clru_nodes.specs.Entries.{weight_of}
+use Rattle.clru_model.specs.Entries.{weight_of}
 
 pub weight_of-cons : {K V : Type 0} (weight : K → V → ℕ) (e : K × V) (es : List (K × V))
     → weight_of weight (e ∷ es) ≡ weight e.0 e.1 + weight_of weight es

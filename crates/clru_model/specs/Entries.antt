@@ -23,6 +23,11 @@ module _ {K V : Type 0} where
     abbrev pub plain_drop : ℕ → K → List (K × V) → Option (K × V)
     plain_drop c x es = cond (is_some (lookup (eq x) es)) None (slice_get es (c - 1))
 
+  -- the pairs with another value in front
+  abbrev pub with_front : V → List (K × V) → List (K × V)
+  with_front v [] = []
+  with_front v (e ∷ es) = (e.0, v) ∷ es
+
   -- the pairs with another value at a place, which is counted from 0
   abbrev pub with_value_at : ℕ → V → List (K × V) → List (K × V)
   with_value_at i v [] = []
