@@ -7,12 +7,12 @@ use Rattle.std.proofs.lemmas.Option.{same_Some, slice_get_within}
 use Rattle.std.specs.Cmp.{IsEquivalence}
 use Rattle.std.specs.List.{slice_get, slice_range}
 use Rattle.clru_model.proofs.Cases.{split}
-use Rattle.clru.specs.Requests.{holds, distinct, since, hit, marks_after, marks}
+use Rattle.clru_model.specs.Requests.{holds, distinct, since, hit, marks_after, marks}
+use Rattle.clru_model.proofs.Distinct.{holds-append, since-cons, not_since}
+use Rattle.clru_model.proofs.Marks.{reverse-cons-append}
 use Rattle.clru.specs.ByPlace.{IsHitAt}
 use Rattle.clru.proofs.Counting.{count_unique}
 use Rattle.clru.proofs.DistinctByPlace.{distinct_by_place}
-use Rattle.clru.proofs.Distinct.{holds-append, since-cons, not_since}
-use Rattle.clru.proofs.Marks.{reverse-cons-append}
 use Rattle.clru.proofs.Places.{slice_get-append_right, slice_get_middle, slice_get_between, slice_range_between}
 use Rattle.clru.proofs.Places.{split_at_two_places, LacksKey_from_holds, holds_from_LacksKey, holds-reverse}
 

@@ -14,15 +14,15 @@ use Rattle.std.proofs.lemmas.List.{length-reverse}
 use Rattle.clru_model.specs.Entries.{without, touch, fit, plain_put, weighted_drops, with_value_at}
 use Rattle.clru_model.proofs.Cases.{split}
 use Rattle.clru_model.proofs.Ends.{last_of}
+use Rattle.clru_model.proofs.Finding.{held, with_front-touch, with_front-set_value}
+use Rattle.clru_model.proofs.Sublists.{sublist_remove_entry, length-sublist}
 use Rattle.clru.specs.Drops.{TakesOver, HandsOutTo, TakesEach}
 use Rattle.clru.specs.Guards.{place_of, length-with_value_at, place, pair, with_value}
 use Rattle.clru.specs.declared.entry.End.TheVariants.{Front, Back}
 use Rattle.clru.specs.declared.entry.EntryMut.{EntryMut}
-use Rattle.clru.proofs.Finding.{held, with_front-touch, with_front-set_value}
-use Rattle.clru.proofs.Sublists.{sublist_remove_entry, length-sublist}
-pub use Rattle.clru.proofs.Keeping.{lookup-without}
-pub use Rattle.clru.proofs.Lookups.{length-touch, length-without, length-plain_put, missed-without, lookup-removed, lookup-touch, lookup-put_beside}
-pub use Rattle.clru.proofs.PutSteps.{fit-weightless, IsPut-plain, IsPut-weightless}
+pub use Rattle.clru_model.proofs.Lookups.{lookup-without}
+pub use Rattle.clru_model.proofs.Lookups.{length-touch, length-without, length-plain_put, missed-without, lookup-removed, lookup-touch, lookup-put_beside}
+pub use Rattle.clru_model.proofs.PutSteps.{fit-weightless, IsPut-plain, IsPut-weightless}
 
 -- the key of the entry that a search finds passes the test
 passes : {K V : Type 0} (test : K → Bool) (es : List (K × V)) (e : K × V) → lookup_entry test es ≡ Some e → test e.0 ≡ true

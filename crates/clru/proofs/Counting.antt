@@ -9,10 +9,10 @@ use Rattle.std.proofs.lemmas.Map.Keys.{IsDistinct-cons, any_passes_from_place}
 use Rattle.std.proofs.lemmas.Option.{slice_get-get_or, get_or_from_slice_get, slice_get_within}
 use Rattle.std.specs.Prelude.{nat_eq}
 use Rattle.std.specs.List.{AllByRecursion, Contains, IsDistinct}
-use Rattle.clru.specs.Requests.{holds, distinct}
+use Rattle.clru_model.specs.Requests.{holds, distinct}
+use Rattle.clru_model.proofs.Bound.{distinct-le-length}
+use Rattle.clru_model.proofs.Distinct.{distinct_mono}
 use Rattle.clru.specs.ByPlace.{IsCountOf}
-use Rattle.clru.proofs.Bound.{distinct-le-length}
-use Rattle.clru.proofs.Distinct.{distinct_mono}
 use Rattle.clru.proofs.Places.{HasKey_from_holds}
 
 -- no place

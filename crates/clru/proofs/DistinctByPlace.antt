@@ -5,11 +5,11 @@ use Rattle.std.proofs.lemmas.List.{reverse-append, reverse-reverse}
 use Rattle.std.proofs.lemmas.Option.{same_Some, slice_get_within}
 use Rattle.std.specs.List.{slice_get, count_by}
 use Rattle.clru_model.proofs.Cases.{split}
-use Rattle.clru.specs.Requests.{holds, distinct}
-use Rattle.clru.specs.Schedule.{schedule_marks, schedule_misses}
+use Rattle.clru_model.specs.Requests.{holds, distinct}
+use Rattle.clru_model.specs.Schedule.{schedule_marks, schedule_misses}
+use Rattle.clru_model.proofs.Marks.{count_by-not-push}
 use Rattle.clru.specs.ByPlace.{IsCountOf, IsFirstAt, IsScheduleMissAt}
 use Rattle.clru.proofs.Counting.{count_none, count_same, count_next}
-use Rattle.clru.proofs.Marks.{count_by-not-push}
 use Rattle.clru.proofs.Places.{slice_get-append_left, slice_get_middle, LacksKey_from_holds, holds_from_LacksKey, holds-reverse}
 use Rattle.clru.proofs.SchedulesByPlace.{schedule_misses_by_place}
 

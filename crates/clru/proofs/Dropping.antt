@@ -6,8 +6,8 @@ use Rattle.std.specs.Option.{option_to_list}
 use Rattle.std.proofs.lemmas.List.{reverse-append, drop-append-le}
 use Rattle.std.proofs.Math.Seq.{drop-append_seam, drop-length}
 use Rattle.clru_model.specs.Entries.{without, fit, plain_drop, weighted_drops}
-use Rattle.clru.proofs.Finding.{held_at, missed_at}
-use Rattle.clru.proofs.PutSteps.{fit-weightless}
+use Rattle.clru_model.proofs.Finding.{held_at, missed_at}
+use Rattle.clru_model.proofs.PutSteps.{fit-weightless}
 
 module _ {X : Type 0} (es p left rest : List X) (x : X) where
   -- while p is the beginning of the list that is left, and x its last: what went, from the back, then x, then what is still to go

@@ -4,9 +4,9 @@ use Rattle.std.proofs.lemmas.Bool.{and_parts, and_from}
 use Rattle.std.proofs.lemmas.Option.{same_Some}
 use Rattle.std.specs.List.{slice_get, count_by}
 use Rattle.clru_model.proofs.Cases.{split}
-use Rattle.clru.specs.Requests.{holds, distinct, since, hit, marks_after, marks, misses}
-use Rattle.clru.proofs.Bound.{miss-le-one}
-use Rattle.clru.proofs.Marks.{count_by-not-cons}
+use Rattle.clru_model.specs.Requests.{holds, distinct, since, hit, marks_after, marks, misses}
+use Rattle.clru_model.proofs.Bound.{miss-le-one}
+use Rattle.clru_model.proofs.Marks.{count_by-not-cons}
 
 module _ {K : Type 0} (eq : K → K → Bool) {k l : ℕ} (more : k ≤ l) where
   -- what hits still does

@@ -3,7 +3,7 @@ use Rattle.std.proofs.Common.{◌≡◌, ℕ, zero, suc, ◌+◌, ◌-◌, ◌<�
 use Rattle.std.proofs.lemmas.Bool.{leb-true, le-leb}
 use Rattle.clru_model.specs.Entries.{without, fit}
 use Rattle.clru_model.proofs.Cases.{split}
-use Rattle.clru.specs.Runs.{Call, put_with_weight, pop, pop_front, pop_back, clear, peek, contains, after, after_all, IsTaken, AreTaken}
+use Rattle.clru_model.specs.Runs.{Call, put_with_weight, pop, pop_front, pop_back, clear, peek, contains, after, after_all, IsTaken, AreTaken}
 
 -- the first list begins the second
 abbrev Begins : {X : Type 0} → List X → List X → Type 0

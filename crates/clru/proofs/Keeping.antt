@@ -3,15 +3,16 @@ use Rattle.std.proofs.Common.{◌≡◌, ℕ, ◌+◌, ◌-◌, ◌≤◌, Bool,
 use Rattle.std.specs.Cmp.{IsEquivalence}
 use Rattle.std.specs.List.{AllByRecursion, IsDistinct}
 use Rattle.std.specs.Map.{keys_of, lookup, lookup_entry, remove_entry}
-use Rattle.std.proofs.lemmas.Map.{NonePasses, none_passes_from_lookup, lookup-remove_entry}
+use Rattle.std.proofs.lemmas.Map.{NonePasses, none_passes_from_lookup}
 use Rattle.std.proofs.lemmas.Map.Keys.{IsDistinct-cons}
 use Rattle.clru_model.specs.Entries.{weight_of, size_of, touch}
+use Rattle.clru_model.proofs.Weights.{weight_of-cons}
+use Rattle.clru_model.proofs.Lookups.{lookup-without}
+use Rattle.clru_model.proofs.Finding.{IsHeld, weight_of-held, touch-held, touch-missed, held_at, missed_at}
+use Rattle.clru_model.proofs.Sublists.{IsSublist, goes, sublist_itself, sublist_remove_entry, sublist_keys, length-sublist, sum_by-sublist, IsDistinct-sublist}
 use Rattle.clru_nodes.specs.Nodes.{pairs_in, IsIndexed, IsSame, capacity_of}
 use Rattle.clru_nodes.specs.declared.nodes.Nodes.{Nodes}
-use Rattle.clru_model.proofs.Weights.{weight_of-cons}
 use Rattle.clru.specs.Fields.{IsKept, IsCache}
-use Rattle.clru.proofs.Finding.{IsHeld, weight_of-held, touch-held, touch-missed, held_at, missed_at}
-use Rattle.clru.proofs.Sublists.{IsSublist, goes, sublist_itself, sublist_remove_entry, sublist_keys, length-sublist, sum_by-sublist, IsDistinct-sublist}
 
 module _ {K V : Type 0} (eq : K → K → Bool) where
   keys_apart : (x : K) (es : List (K × V)) → NonePasses (eq x) es → (q : K) → ((y : K) → eq x y ≡ eq q y)
@@ -57,11 +58,6 @@ module _ {K V : Type 0} {eq : K → K → Bool} (weight : K → V → ℕ) where
     weighs = w;
     fits = rw (weight_of-cons weight e fs) (omega (arith, fits));
   }
-
--- once x is removed it is not held
-pub lookup-without : {K V : Type 0} {eq : K → K → Bool} → IsEquivalence eq → (x : K) (es : List (K × V)) → IsDistinct eq (keys_of es)
-    → lookup (eq x) (remove_entry (eq x) es) ≡ None
-lookup-without {eq = eq} laws x es d = lookup-remove_entry laws (eq x) (λ y z h. laws.congr x y z h) x es d ∙ rw (laws.refl x) refl
 
 module _ {K V : Type 0} {eq : K → K → Bool} (weight : K → V → ℕ) where
   -- when the entry that is found gets another value of the same weight and comes first

@@ -4,6 +4,7 @@ use Rattle.std.proofs.Math.Dec.{ltb}
 use Rattle.std.proofs.lemmas.Bool.{ltb-true, lt-ltb}
 use Rattle.std.specs.Cmp.{IsEquivalence}
 use Rattle.clru_model.specs.Entries.{touch, plain_put, with_front}
+use Rattle.clru_model.proofs.Finding.{IsHeld, IsMissed, touch-missed, with_front-touch, plain_put-held, plain_put-missed}
 use Rattle.clru_nodes.specs.Growth.{GrowsIf}
 use Rattle.clru_nodes.specs.Nodes.{item_with, IsIndexed, IsSame, KeepsPairs, pairs_in, capacity_of, places_of, first_item, with_first_item}
 use Rattle.clru_nodes.specs.declared.nodes.Item.{Item}
@@ -12,7 +13,6 @@ use Rattle.clru_nodes.proofs.WrittenItems.{first_written, held_places}
 use Rattle.clru.specs.Cache.{Cache, cache}
 use Rattle.clru.specs.Fields.{IsCache}
 use Rattle.clru.specs.Memory.{GrowsOnlyIf, NeedsPlace}
-use Rattle.clru.proofs.Finding.{IsHeld, IsMissed, touch-missed, with_front-touch, plain_put-held, plain_put-missed}
 use Rattle.clru.proofs.Keeping.{IsKept-front, IsCache-from}
 use Rattle.clru.proofs.Putting.{GrowsIf-along, grows_not, grows_if_needed, held_needs_none, IsKept-new}
 

@@ -9,9 +9,9 @@ use Rattle.std.proofs.lemmas.Bool.{false_from_ne_true}
 use Rattle.std.proofs.lemmas.Map.Keys.{any_passes_from_place}
 use Rattle.std.specs.List.{slice_get, slice_range, list_all}
 use Rattle.clru_model.proofs.Cases.{split}
-use Rattle.clru.specs.Requests.{holds}
+use Rattle.clru_model.specs.Requests.{holds}
+use Rattle.clru_model.proofs.Distinct.{holds-append}
 use Rattle.clru.specs.ByPlace.{HasKey, LacksKey}
-use Rattle.clru.proofs.Distinct.{holds-append}
 
 module _ {X : Type 0} where
   -- the elements of the second of two lists in a row

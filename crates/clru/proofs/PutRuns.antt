@@ -4,12 +4,12 @@ use Rattle.std.proofs.Common.{refl, sym, ap, subst, arith}
 use Rattle.std.specs.Cmp.{IsEquivalence}
 use Rattle.std.specs.List.{count_by}
 use Rattle.std.specs.Map.{keys_of}
-use Rattle.clru.specs.Schedule.{IsCompetitive, IsCompetitiveFromAnyStart}
-use Rattle.clru.specs.Requests.{marks_after, marks, misses}
-use Rattle.clru.specs.Runs.{IsPutRun, held_before}
-use Rattle.clru.proofs.Bound.{competitive, competitive_from_any_start}
-use Rattle.clru.proofs.Hits.{Keeps, Keeps_none, Keeps_held, Keeps_put}
-use Rattle.clru.proofs.PutSteps.{length-put}
+use Rattle.clru_model.specs.Schedule.{IsCompetitive, IsCompetitiveFromAnyStart}
+use Rattle.clru_model.specs.Requests.{marks_after, marks, misses}
+use Rattle.clru_model.specs.Runs.{IsPutRun, held_before}
+use Rattle.clru_model.proofs.Bound.{competitive, competitive_from_any_start}
+use Rattle.clru_model.proofs.Hits.{Keeps, Keeps_none, Keeps_held, Keeps_put}
+use Rattle.clru_model.proofs.PutSteps.{length-put}
 
 module _ {K V : Type 0} (eq : K → K → Bool) (laws : IsEquivalence eq) (k : ℕ) (some : 1 ≤ k) where
   held_after : (past : List K) (es : List (K × V)) (later : List (List (K × V))) (rs : List K) → length es ≤ k → Keeps eq k past (keys_of es)

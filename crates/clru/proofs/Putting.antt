@@ -3,17 +3,16 @@ use Rattle.std.proofs.Common.{◌≡◌, ℕ, ◌+◌, ◌-◌, ◌<◌, ◌≤�
 use Rattle.std.specs.Cmp.{IsEquivalence}
 use Rattle.std.specs.Map.{lookup}
 use Rattle.std.proofs.lemmas.Bool.{cases_lt}
-use Rattle.std.proofs.lemmas.Map.{lookup-none, none_passes_from_lookup}
 use Rattle.std.proofs.lemmas.Option.{slice_get_past}
-use Rattle.std.proofs.lemmas.List.Sums.{sum_by-cons}
-use Rattle.clru_model.specs.Entries.{weight_of, plain_put, plain_drop}
+use Rattle.clru_model.specs.Entries.{plain_put, plain_drop}
+use Rattle.clru_model.proofs.Finding.{IsMissed, plain_put-missed}
+use Rattle.clru_model.proofs.Sublists.{sublist_take, lookup-sublist}
+use Rattle.clru_model.proofs.Weights.{weight_of-zero}
 use Rattle.clru_nodes.specs.Growth.{GrowsIf}
 use Rattle.clru.specs.Cache.{Cache}
 use Rattle.clru.specs.Fields.{IsKept}
 use Rattle.clru.specs.Memory.{GrowsOnlyIf, NeedsMemory}
-use Rattle.clru.proofs.Finding.{IsMissed, plain_put-missed}
 use Rattle.clru.proofs.Keeping.{IsKept-put}
-use Rattle.clru.proofs.Sublists.{IsSublist, sublist_take, All-sublist}
 
 -- the same growth, by other names of its numbers
 pub GrowsIf-along : {wanted : Bool} {len c p q len' c' p' q' : ℕ} → len' ≡ len → c' ≡ c → p' ≡ p → q' ≡ q → GrowsIf wanted len c p q
@@ -64,14 +63,6 @@ module _ {K V W : Type 0} {eq : K → K → Bool} {x : K} where
     bounded = λ n. omega (arith, grows.bounded (asks n.room) (sym n.taken), capacity);
     covers = covers;
   }
-
-pub weight_of-zero : {K V : Type 0} (es : List (K × V)) → weight_of (λ (k : K) (v : V). 0) es ≡ 0
-weight_of-zero [] = refl
-weight_of-zero {K} {V} (e ∷ es) = let cons : weight_of (λ (k : K) (v : V). 0) (e ∷ es) ≡ 0 + weight_of
-    (λ (k : K) (v : V). 0) es = sum_by-cons (λ (d : K × V). 0) e es in omega (arith, cons, weight_of-zero es)
-
-pub lookup-sublist : {K V : Type 0} (test : K → Bool) {es fs : List (K × V)} → IsSublist es fs → lookup test es ≡ None → lookup test fs ≡ None
-lookup-sublist test {es} {fs} s absent = lookup-none test fs (All-sublist (λ e. test e.0 ≡ false) s (none_passes_from_lookup test es absent))
 
 -- at weight zero
 module _ {K V : Type 0} {eq : K → K → Bool} where

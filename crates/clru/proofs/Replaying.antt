@@ -8,13 +8,13 @@ use Rattle.std.specs.Map.{keys_of, lookup, lookup_entry, remove_entry}
 use Rattle.std.specs.Option.{option_map_or}
 use Rattle.std.proofs.lemmas.Map.Made.{is_some-lookup}
 use Rattle.clru_model.specs.Entries.{plain_put}
+use Rattle.clru_model.specs.Requests.{hit, marks, misses}
+use Rattle.clru_model.proofs.Hits.{Keeps, Keeps_held, Keeps_put}
+use Rattle.clru_model.proofs.Marks.{marks_push, misses_push}
+use Rattle.clru_model.proofs.PutSteps.{IsPut-plain}
+use Rattle.clru_model.proofs.Sublists.{length-sublist, sublist_take, sublist_remove_entry}
 use Rattle.clru.specs.Cache.{Cache, with_entries}
 use Rattle.clru.specs.Closures.{PutsOrModifies}
-use Rattle.clru.specs.Requests.{hit, marks, misses}
-use Rattle.clru.proofs.Hits.{Keeps, Keeps_held, Keeps_put}
-use Rattle.clru.proofs.Marks.{marks_push, misses_push}
-use Rattle.clru.proofs.PutSteps.{IsPut-plain}
-use Rattle.clru.proofs.Sublists.{length-sublist, sublist_take, sublist_remove_entry}
 
 -- a put-or-modify whose put operation makes `false` and whose modify operation leaves `true` lends whether the entry was there
 pub lends_whether_held : {P M K : Type 0} (p : Mut P (Bor K × (Unit {0} × Unit {0})) Bool)

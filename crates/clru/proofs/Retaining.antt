@@ -3,9 +3,9 @@ use Rattle.std.proofs.Common.{◌≡◌, ℕ, Bool, true, false, cond, List, [],
 use Rattle.std.specs.Map.{keys_of}
 use Rattle.std.specs.Map.Calls.{RetainsPairs}
 use Rattle.std.proofs.lemmas.Map.Entries.{length-keys_of}
+use Rattle.clru_model.proofs.Weights.{weight_of-zero}
+use Rattle.clru_model.proofs.Sublists.{IsSublist, nothing, stays, goes, length-sublist, IsDistinct-sublist}
 use Rattle.clru.specs.Fields.{IsKept}
-use Rattle.clru.proofs.Putting.{weight_of-zero}
-use Rattle.clru.proofs.Sublists.{IsSublist, nothing, stays, goes, length-sublist, IsDistinct-sublist}
 
 module _ {F K V : Type 0} (step : F → K → V → Bool → V → F → Type 0) where
   -- where the calls leave the values, some entries go

@@ -2,8 +2,8 @@
 -- The keys a, b, c and d are 0, 1, 2 and 3.
 use Rattle.std.proofs.Common.{◌≡◌, ℕ, ◌+◌, ◌-◌, ◌*◌, ◌^◌, true, false, List, [], ◌∷◌, refl, arith}
 use Rattle.std.specs.Prelude.{nat_eq}
-use Rattle.clru.specs.Requests.{marks, misses}
-use Rattle.clru.specs.Schedule.{IsSchedule, schedule_misses}
+use Rattle.clru_model.specs.Requests.{marks, misses}
+use Rattle.clru_model.specs.Schedule.{IsSchedule, schedule_misses}
 
 -- a b c a
 abbrev a_again_after_two_others : List ℕ

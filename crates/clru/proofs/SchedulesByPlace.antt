@@ -5,8 +5,8 @@ use Rattle.std.proofs.lemmas.List.{nil_from_length}
 use Rattle.std.proofs.lemmas.Bool.{or_cases, or_left, or_right}
 use Rattle.std.proofs.lemmas.Option.{same_Some}
 use Rattle.std.specs.List.{slice_get, list_all}
-use Rattle.clru.specs.Requests.{holds}
-use Rattle.clru.specs.Schedule.{IsSchedule, schedule_marks}
+use Rattle.clru_model.specs.Requests.{holds}
+use Rattle.clru_model.specs.Schedule.{IsSchedule, schedule_marks}
 use Rattle.clru.specs.ByPlace.{HasKey, IsScheduleAt, IsScheduleMissAt}
 use Rattle.clru.proofs.Places.{list_all_at, list_all_from_places, HasKey_from_holds, holds_from_HasKey, LacksKey_from_holds, holds_from_LacksKey}
 

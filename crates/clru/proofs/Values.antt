@@ -3,10 +3,10 @@ use Rattle.std.proofs.Common.{◌≡◌, ℕ, Bool, List, length, sym, ap, ◌�
 use Rattle.std.proofs.lemmas.Map.Entries.{length-keys_of}
 use Rattle.std.specs.List.{IsDistinct}
 use Rattle.std.specs.Map.{keys_of}
+use Rattle.clru_model.proofs.Weights.{weight_of-zero}
 use Rattle.clru_nodes.specs.declared.nodes.Nodes.{Nodes}
 use Rattle.clru_nodes.proofs.WrittenItems.{IsWritten}
 use Rattle.clru.specs.Fields.{IsKept, IsCache}
-use Rattle.clru.proofs.Putting.{weight_of-zero}
 
 module _ {K V : Type 0} {eq : K → K → Bool} where
   -- at weight zero other values keep what a cache's fields keep

@@ -4,11 +4,11 @@ use Rattle.std.specs.Cmp.{IsEquivalence}
 use Rattle.std.specs.Map.{lookup}
 use Rattle.std.proofs.lemmas.Bool.{cases_lt}
 use Rattle.clru_model.specs.Entries.{weight_of, size_of, fit}
+use Rattle.clru_model.proofs.Sublists.{lookup-sublist}
+use Rattle.clru_model.proofs.Sublists.{IsSublist, sublist_front, sublist_trans, length-sublist}
 use Rattle.clru.specs.Fields.{IsKept}
 use Rattle.clru.proofs.Fitting.{fit_is_longest}
 use Rattle.clru.proofs.Keeping.{IsKept-sublist, IsKept-put}
-use Rattle.clru.proofs.Putting.{lookup-sublist}
-use Rattle.clru.proofs.Sublists.{IsSublist, sublist_front, sublist_trans, length-sublist}
 
 module _ {K V : Type 0} (weight : K → V → ℕ) where
   pub sublist_fit : (c : ℕ) (es : List (K × V)) → IsSublist es (fit weight c es)

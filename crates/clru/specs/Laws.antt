@@ -5,13 +5,13 @@ use Rattle.std.specs.List.{slice_get, count_by}
 use Rattle.std.specs.Map.{lookup}
 use Rattle.std.specs.Option.{option_to_list}
 use Rattle.clru_model.specs.Entries.{fit, IsLongestFit, plain_drop, weighted_drops}
+use Rattle.clru_model.specs.Requests.{distinct, marks, misses}
+use Rattle.clru_model.specs.Runs.{Call, after_all, AreTaken, IsPutRun, held_before}
+use Rattle.clru_model.specs.Schedule.{IsSchedule, schedule_marks, schedule_misses, IsCompetitive, IsCompetitiveFromAnyStart}
 use Rattle.clru.specs.ByPlace.{IsCountOf, IsFirstAt, IsHitAt, IsScheduleAt, IsScheduleMissAt}
 use Rattle.clru.specs.Cache.{Cache, IsValid}
 use Rattle.clru.specs.Drops.{HandsOutTo}
-use Rattle.clru.specs.Requests.{distinct, marks, misses}
-use Rattle.clru.specs.Runs.{Call, after_all, AreTaken, IsPutRun, held_before}
 use Rattle.clru.specs.declared.cache.answer.Put.{Put}
-use Rattle.clru.specs.Schedule.{IsSchedule, schedule_marks, schedule_misses, IsCompetitive, IsCompetitiveFromAnyStart}
 
 module _ {K : Type 0} (eq : K → K → Bool) where
   -- the mark at i is true exactly where the request at i hits

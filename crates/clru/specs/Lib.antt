@@ -1,6 +1,9 @@
+pub use Rattle.clru_model.specs.Entries
 pub use Rattle.clru_model.specs.Errors
 pub use Rattle.clru_model.specs.Refusals
-pub use Rattle.clru_model.specs.Entries
+pub use Rattle.clru_model.specs.Requests
+pub use Rattle.clru_model.specs.Runs
+pub use Rattle.clru_model.specs.Schedule
 pub use Rattle.clru_nodes.specs.Retains
 pub mod ByPlace
 pub mod Cache
@@ -14,8 +17,5 @@ pub mod Guards
 pub mod Laws
 pub mod Lends
 pub mod Memory
-pub mod Requests
-pub mod Runs
-pub mod Schedule
 pub mod WalkLends
 pub mod Walks

@@ -3,10 +3,10 @@ ghost use Rattle.std.specs.Prelude.{◌≡◌, ◌≤◌, [], length, is_some, I
 ghost use Rattle.std.specs.Int.NonZero.{non_zero_usize_get};
 ghost use Rattle.std.specs.Map.{lookup};
 ghost use Rattle.clru_model.specs.Entries.{plain_put};
+ghost use Rattle.clru_model.specs.Schedule.{IsCompetitive, IsCompetitiveFromAnyStart};
+ghost use Rattle.clru_model.specs.Requests.{marks, misses};
 ghost use Rattle.clru.specs.Cache.{with_entries};
-ghost use Rattle.clru.specs.Schedule.{IsCompetitive, IsCompetitiveFromAnyStart};
 ghost use Rattle.clru.specs.Memory.{NeedsPlace};
-ghost use Rattle.clru.specs.Requests.{marks, misses};
 
 mod answer;
 

@@ -1,3 +1,11 @@
+pub mod Bound
 pub mod Cases
+pub mod Distinct
 pub mod Ends
+pub mod Finding
+pub mod Hits
+pub mod Lookups
+pub mod Marks
+pub mod PutSteps
+pub mod Sublists
 pub mod Weights

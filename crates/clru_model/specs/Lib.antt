@@ -1,3 +1,6 @@
 pub mod Entries
 pub mod Errors
 pub mod Refusals
+pub mod Requests
+pub mod Runs
+pub mod Schedule

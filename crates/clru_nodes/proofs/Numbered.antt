@@ -3,10 +3,10 @@ use Rattle.std.proofs.Common.{◌≡◌, ℕ, zero, suc, List, [], ◌∷◌, So
 use Rattle.std.proofs.lemmas.Bool.{eq-eqb}
 use Rattle.std.specs.Map.{keys_of}
 use Rattle.std.specs.Option.{option_map}
+use Rattle.clru_model.specs.Entries.{with_value_at}
 use Rattle.clru_list.specs.PlaceList.{IsApart, item_at, with_at}
 use Rattle.clru_list.proofs.Numbers.{entry-of}
 use Rattle.clru_list.proofs.Windows.{differs, item_at-entry}
-use Rattle.clru_model.specs.Entries.{with_value_at}
 use Rattle.clru_nodes.specs.Heads.{with_item_at}
 use Rattle.clru_nodes.specs.Nodes.{item_with, pair_of, pairs_of}
 use Rattle.clru_nodes.specs.declared.nodes.Item.{Item}

@@ -3,11 +3,11 @@ use Rattle.std.proofs.Common.{◌≡◌, ℕ, ◌-◌, ◌<◌, Option, Some, No
 use Rattle.std.proofs.lemmas.Bool.{cases_eq, eq-eqb, ne_eqb}
 use Rattle.std.specs.List.{slice_get}
 use Rattle.std.specs.Option.{option_map}
+use Rattle.clru_model.proofs.Ends.{last_of}
 use Rattle.clru_list.specs.PlaceList.{item_at, without, first_place, last_entry, last_entry_from, last_place, IsApart}
 use Rattle.clru_nodes.specs.Heads.{IsLive}
 use Rattle.clru_nodes.specs.Nodes.{pair_of, pairs_of}
 use Rattle.clru_nodes.specs.declared.nodes.Item.{Item}
-use Rattle.clru_model.proofs.Ends.{last_of}
 
 module _ {K V : Type 0} where
   -- the first place holds something

@@ -7,8 +7,8 @@ use Rattle.std.specs.Cmp.{IsEquivalence}
 use Rattle.std.specs.List.{IsDistinct}
 use Rattle.std.specs.Map.{keys_of, lookup, lookup_entry, remove_entry}
 use Rattle.std.proofs.lemmas.Map.Keys.{IsDistinct-tail}
-use Rattle.clru_list.specs.PlaceList.{item_at, with_at, without, IsApart}
 use Rattle.clru_model.specs.Entries.{touch}
+use Rattle.clru_list.specs.PlaceList.{item_at, with_at, without, IsApart}
 use Rattle.clru_nodes.specs.Heads.{with_value, IsAt}
 use Rattle.clru_nodes.specs.Nodes.{item_with, pair_of, pairs_of}
 use Rattle.clru_nodes.specs.declared.nodes.Item.{Item}

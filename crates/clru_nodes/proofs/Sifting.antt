@@ -6,15 +6,15 @@ use Rattle.std.proofs.lemmas.Map.{keys-set_value, length-set_value}
 use Rattle.std.specs.List.{FoldsTo}
 use Rattle.std.specs.Map.Calls.{SomeCallAtPair, CallableOnEachPair, RetainsPairs}
 use Rattle.std.specs.Option.{option_map}
+use Rattle.clru_model.specs.Entries.{weight_of}
+use Rattle.clru_model.proofs.Weights.{weight_of-cons}
 use Rattle.clru_list.specs.Links.{count}
 use Rattle.clru_list.specs.PlaceList.{PlaceList, place_list, with_entries, item_at, without, with_at, first_place, place_after, IsApart, IsValid}
 use Rattle.clru_list.proofs.EntryLists.{counts_from_apart, apart_from_counts}
 use Rattle.clru_list.proofs.Retaining.{IsRetaining, from_place, some_injective, starts, ends, head, item_here, takes_here, written_same, goes_on, fewer}
-use Rattle.clru_model.specs.Entries.{weight_of}
 use Rattle.clru_nodes.specs.Heads.{placed_of}
 use Rattle.clru_nodes.specs.Nodes.{pair_of, pairs_of}
 use Rattle.clru_nodes.specs.declared.nodes.Item.{Item}
-use Rattle.clru_model.proofs.Weights.{weight_of-cons}
 use Rattle.clru_nodes.proofs.Placed.{item_at-with_at, item_at-without, length-without, pair_at-placed, length-placed, apart-placed, pairs-placed}
 
 -- a call may be made at a place and its pair

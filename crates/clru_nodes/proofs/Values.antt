@@ -2,15 +2,15 @@
 use Rattle.std.proofs.Common.{◌≡◌, ℕ, suc, ◌-◌, ◌==◌, Bool, Some, None, List, [], ◌∷◌, map, length, refl, sym, ap, ◌∙◌, arith}
 use Rattle.std.specs.Map.{keys_of, set_value}
 use Rattle.std.specs.Option.{option_map, option_map_or}
+use Rattle.clru_model.specs.Entries.{with_value_at, with_front}
+use Rattle.clru_model.proofs.Cases.{split}
 use Rattle.clru_list.specs.PlaceList.{item_at, with_entries, first_entry, last_entry, with_first, with_last}
 use Rattle.clru_nodes.specs.Chained.{nowhere}
-use Rattle.clru_model.specs.Entries.{with_value_at, with_front}
 use Rattle.clru_nodes.specs.Heads.{with_value, link_at, key_at, home_at}
 use Rattle.clru_nodes.specs.Nodes.{item_with, pair_of, pairs_of, IsIndexed}
 use Rattle.clru_nodes.specs.declared.nodes.Item.{Item}
 use Rattle.clru_nodes.specs.declared.nodes.Nodes.{Nodes}
 use Rattle.clru_nodes.proofs.Chaining.{chained_same}
-use Rattle.clru_model.proofs.Cases.{split}
 use Rattle.clru_nodes.proofs.IndexedMoves.{indexed_from}
 
 module _ {K V : Type 0} where

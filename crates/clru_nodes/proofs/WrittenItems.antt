@@ -2,8 +2,8 @@
 use Rattle.std.proofs.Common.{◌≡◌, ℕ, ◌-◌, ◌≤◌, Bool, Option, Some, List, [], ◌∷◌, map, length, slice_get, refl, sym, ap, ◌∙◌, arith}
 use Rattle.std.specs.Map.{keys_of, set_value}
 use Rattle.std.specs.Option.{option_map}
-use Rattle.clru_list.specs.PlaceList.{first_entry}
 use Rattle.clru_model.specs.Entries.{with_value_at, with_front}
+use Rattle.clru_list.specs.PlaceList.{first_entry}
 use Rattle.clru_nodes.specs.Nodes.{pair_of, pairs_of, pairs_in, places_of, item_with, first_item, last_item, item_numbered}
 use Rattle.clru_nodes.specs.Nodes.{with_items, with_first_item, with_last_item, with_item_numbered, with_value_found, IsIndexed, IsSame}
 use Rattle.clru_nodes.specs.declared.nodes.Item.{Item}

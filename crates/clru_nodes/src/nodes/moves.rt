@@ -2,9 +2,9 @@
 ghost use Rattle.std.specs.Prelude.{◌≡◌, ◌-◌, ◌<◌, ◌≤◌, ◌∷◌, Some, length, drop, take, is_some, slice_get};
 ghost use Rattle.std.specs.List.{IsDistinct};
 ghost use Rattle.std.specs.Map.{keys_of, lookup, lookup_entry};
-ghost use Rattle.clru_list.specs.PlaceList.{without};
 ghost use Rattle.clru_model.specs.Entries.{touch};
 ghost use Rattle.clru_model.specs.Entries as entries;
+ghost use Rattle.clru_list.specs.PlaceList.{without};
 ghost use Rattle.clru_nodes.specs.Heads.{placed_of, HasHome, IsLive, IsTaken};
 ghost use Rattle.clru_nodes.specs.Nodes.{hash_by, pairs_of, pairs_in, capacity_of, places_of, builder_of, IsIndexed, IsSame};
 

@@ -1,8 +1,8 @@
 //! The calls that keep the pairs at which a closure answers `true`.
 ghost use Rattle.std.specs.Prelude.{◌≡◌};
 ghost use Rattle.std.specs.Map.Calls.{CalledAtPair, CallableOnEachPair, RetainsPairs, TakesPair};
-ghost use Rattle.clru_list.specs.PlaceList.{without};
 ghost use Rattle.clru_model.specs.Entries.{weight_of};
+ghost use Rattle.clru_list.specs.PlaceList.{without};
 ghost use Rattle.clru_nodes.specs.Heads.{placed_of, IsLive, IsTaken};
 ghost use Rattle.clru_nodes.specs.Nodes.{hash_by, pairs_in, IsIndexed, IsSame};
 ghost use Rattle.clru_nodes.specs.Retains.{CalledAtShownPair, TakesShownPair};

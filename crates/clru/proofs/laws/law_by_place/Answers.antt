@@ -1,5 +1,5 @@
 use Rattle.std.proofs.Common.{[]}
-use Rattle.clru.specs.Requests.{marks}
+use Rattle.clru_model.specs.Requests.{marks}
 use Rattle.clru.proofs.ByPlace.{marks_by_place, length-marks_after}
 use Rattle.clru.proofs.DistinctByPlace.{distinct_by_place, false_marks_by_place}
 use Rattle.clru.proofs.laws.law_by_place.Goals as goal

@@ -3,9 +3,9 @@ use Rattle.std.proofs.lemmas.List.{length_push, map-id}
 use Rattle.std.proofs.lemmas.Iterator.Adapters.{YieldsList-from_vec}
 use Rattle.std.proofs.lemmas.Iterator.Consumers.{YieldsList-end}
 use Rattle.std.specs.Int.NonZero.{non_zero_usize_get}
-use Rattle.clru.specs.Requests.{misses}
-use Rattle.clru.proofs.Bound.{competitive, competitive_from_any_start}
-use Rattle.clru.proofs.Hits.{Keeps_none}
+use Rattle.clru_model.specs.Requests.{misses}
+use Rattle.clru_model.proofs.Bound.{competitive, competitive_from_any_start}
+use Rattle.clru_model.proofs.Hits.{Keeps_none}
 use Rattle.clru.proofs.Replaying.{Replays, Replays-push}
 use Rattle.clru.proofs.replays.replay.Goals as goal
 use Rattle.clru.proofs.replays.replay.Goals.{then-not-hit, else-not-hit}

@@ -1,5 +1,5 @@
 use Rattle.std.proofs.Common.{rules, ◌∙◌}
-use Rattle.clru.proofs.Finding.{is_some-lookup_entry}
+use Rattle.clru_model.proofs.Finding.{is_some-lookup_entry}
 use Rattle.clru.proofs.Replaying.{lends_whether_held}
 use Rattle.clru.proofs.replays.request.Goals as goal
 

@@ -2,9 +2,9 @@ use Rattle.std.proofs.Common.{◌≡◌, ◌<◌, ◌+◌, ◌-◌, [], ◌∷�
 use Rattle.std.proofs.lemmas.Fn.{FoldsTo-push}
 use Rattle.std.proofs.Math.Seq.{drop-length}
 use Rattle.clru_model.specs.Entries.{fit, weight_of}
+use Rattle.clru_model.proofs.Weights.{weight_of-push}
 use Rattle.clru_nodes.specs.Nodes.{pairs_in}
 use Rattle.clru_nodes.proofs.Same.{same_refl, same_trans}
-use Rattle.clru_model.proofs.Weights.{weight_of-push}
 use Rattle.clru.specs.Drops.{HandsOutTo, TakesOver}
 use Rattle.clru.proofs.Dropping.{reverse-drop, reverse-drop-last}
 use Rattle.clru.proofs.Fitting.{fit_is_longest, last_goes, too_long_fits, whole_is_too_long, split_last, no_last}

@@ -1,7 +1,7 @@
 use Rattle.std.proofs.Common.{refl}
 use Rattle.std.specs.NonZero.{non_zero_usize_get}
+use Rattle.clru_model.proofs.Finding.{held, first_touched}
 use Rattle.clru.specs.Cache.{cache}
-use Rattle.clru.proofs.Finding.{held, first_touched}
 use Rattle.clru.proofs.Keeping.{IsCache-touch}
 use Rattle.clru.proofs.cache.CLruCache.get.Goals as goal
 

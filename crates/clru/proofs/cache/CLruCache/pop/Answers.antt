@@ -1,8 +1,8 @@
 use Rattle.std.proofs.Common.{Some, sym, ap, ◌∙◌, arith}
+use Rattle.clru_model.proofs.Finding.{held_at, held_is, missed_at, weight_of-held}
+use Rattle.clru_model.proofs.Sublists.{sublist_remove_entry}
 use Rattle.clru_nodes.specs.Nodes.{pairs_in}
-use Rattle.clru.proofs.Finding.{held_at, held_is, missed_at, weight_of-held}
 use Rattle.clru.proofs.Keeping.{IsCache-from, IsKept-sublist}
-use Rattle.clru.proofs.Sublists.{sublist_remove_entry}
 use Rattle.clru.proofs.cache.CLruCache.pop.Goals as goal
 
 pub invariant_of-self : goal.invariant_of-self

@@ -2,13 +2,14 @@ use Rattle.std.proofs.Common.{◌-◌, ◌∷◌, Some, length, refl, sym, ap, �
 use Rattle.std.specs.NonZero.{non_zero_usize_get}
 use Rattle.std.proofs.lemmas.Bool.{leb-true, le-leb}
 use Rattle.clru_model.specs.Entries.{size_of, weight_of}
-use Rattle.clru_nodes.specs.Nodes.{pairs_in, places_of}
 use Rattle.clru_model.proofs.Weights.{weight_of-cons}
+use Rattle.clru_model.proofs.Finding.{held_at, held_is, missed_at, weight_of-held}
+use Rattle.clru_model.proofs.Lookups.{lookup-without}
+use Rattle.clru_model.proofs.Sublists.{sublist_remove_entry, sublist_itself, length-sublist}
+use Rattle.clru_nodes.specs.Nodes.{pairs_in, places_of}
 use Rattle.clru_nodes.proofs.WrittenItems.{held_places}
-use Rattle.clru.proofs.Finding.{held_at, held_is, missed_at, weight_of-held}
-use Rattle.clru.proofs.Keeping.{lookup-without, IsCache-from}
+use Rattle.clru.proofs.Keeping.{IsCache-from}
 use Rattle.clru.proofs.Putting.{GrowsIf-along, grows_if_needed}
-use Rattle.clru.proofs.Sublists.{sublist_remove_entry, sublist_itself, length-sublist}
 use Rattle.clru.proofs.Weighing.{sublist_fit, size_of-fit, free_after_fit, IsKept-weighted, weighted_front}
 use Rattle.clru.proofs.cache.CLruCache.put_with_weight_handing_to.Goals as goal
 

@@ -1,6 +1,6 @@
 use Rattle.std.proofs.Common.{true, false, refl, sym, ap, ◌∙◌, arith}
-use Rattle.clru_list.specs.PlaceList.{place_list, without}
 use Rattle.clru_model.specs.Entries.{weight_of}
+use Rattle.clru_list.specs.PlaceList.{place_list, without}
 use Rattle.clru_nodes.specs.Retains.{CalledAtShownPair, TakesShownPair}
 use Rattle.clru_nodes.proofs.Placed.{same_pairs, placed-without}
 use Rattle.clru_nodes.proofs.Same.{same_refl, same_trans}

@@ -1,7 +1,7 @@
 use Rattle.std.proofs.Common.{◌≡◌, length}
+use Rattle.clru_model.specs.Entries.{weight_of}
 use Rattle.clru_list.proofs.Retaining.{from_place}
 use Rattle.clru_nodes.specs.Retains.{CalledAtShownPair, TakesShownPair}
-use Rattle.clru_model.specs.Entries.{weight_of}
 use Rattle.clru_nodes.specs.Heads.{placed_of}
 use Rattle.clru_nodes.specs.Nodes.{hash_by, pairs_of, IsIndexed, IsSame}
 use Rattle.clru_nodes.proofs.Sifting.{IsSifting}

@@ -1,7 +1,7 @@
 use Rattle.std.proofs.Common.{◌≤◌, length, rules, arith}
 use Rattle.std.specs.NonZero.{non_zero_usize_get}
+use Rattle.clru_model.proofs.Weights.{weight_of-zero}
 use Rattle.clru_nodes.specs.Nodes.{pairs_in}
-use Rattle.clru.proofs.Putting.{weight_of-zero}
 use Rattle.clru.proofs.cache.extend.CLruCache+K+V+S+ZeroWeightScale+A.close.Goals as goal
 
 pub invariant_of-self : goal.invariant_of-self

@@ -1,10 +1,10 @@
 use Rattle.std.proofs.Common.{Some, sym, ap, ◌∙◌}
 use Rattle.std.specs.NonZero.{non_zero_usize_get}
 use Rattle.clru_model.specs.Entries.{with_front}
+use Rattle.clru_model.proofs.Finding.{held, touch-held, with_front-set_value}
 use Rattle.clru_nodes.proofs.Lending.{ends_alike}
 use Rattle.clru_nodes.proofs.WrittenItems.{first_pair, first_written}
 use Rattle.clru.specs.Cache.{cache}
-use Rattle.clru.proofs.Finding.{held, touch-held, with_front-set_value}
 use Rattle.clru.proofs.Keeping.{IsCache-touch}
 use Rattle.clru.proofs.Values.{IsCache-values}
 use Rattle.clru.proofs.cache.get.CLruCache+K+V+S+ZeroWeightScale+A.get_mut.Goals as goal

@@ -2,9 +2,9 @@ use Rattle.std.proofs.Common.{◌≡◌, true, false, ◌<◌, length, refl, sym
 use Rattle.std.proofs.lemmas.Bool.{ltb-true}
 use Rattle.std.specs.Map.{lookup_entry}
 use Rattle.std.specs.NonZero.{non_zero_usize_get}
+use Rattle.clru_model.proofs.Finding.{held, missed, touch-missed, touch-held, plain_put-held}
 use Rattle.clru_nodes.specs.Nodes.{pairs_in}
 use Rattle.clru_nodes.proofs.WrittenItems.{first_pair}
-use Rattle.clru.proofs.Finding.{held, missed, touch-missed, touch-held, plain_put-held}
 use Rattle.clru.proofs.LentPuts.{lent_held, lent_new, ready_new}
 use Rattle.clru.proofs.cache.modify.CLruCache+K+V+S+ZeroWeightScale+A.try_put_or_modify.Goals as goal
 

@@ -5,7 +5,7 @@ use Rattle.std.proofs.lemmas.List.{reverse-append}
 use Rattle.std.proofs.lemmas.List.Sums.{sum_by-cons, sum_by_push}
 use Rattle.std.specs.List.{count_by}
 use Rattle.clru_model.proofs.Cases.{split}
-use Rattle.clru.specs.Requests.{hit, marks_after, marks, misses}
+use Rattle.clru_model.specs.Requests.{hit, marks_after, marks, misses}
 
 -- how many marks are false, with one more in front
 pub count_by-not-cons : (m : Bool) (ms : List Bool) → count_by not (m ∷ ms) ≡ cond m 0 1 + count_by not ms

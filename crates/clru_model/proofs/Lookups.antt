@@ -3,14 +3,13 @@ use Rattle.std.proofs.Common.{◌≡◌, ℕ, suc, ◌+◌, ◌-◌, ◌<◌, �
 use Rattle.std.proofs.Common.{refl, sym, ap, ◌∙◌, inl, inr, arith, take_all, length-take}
 use Rattle.std.specs.Cmp.{IsEquivalence}
 use Rattle.std.specs.List.{IsDistinct}
-use Rattle.std.specs.Map.{keys_of, lookup, lookup_entry}
+use Rattle.std.specs.Map.{keys_of, lookup, lookup_entry, remove_entry}
 use Rattle.std.proofs.lemmas.Map.{lookup-remove_entry}
 use Rattle.std.proofs.lemmas.Option.{slice_get_cases}
 use Rattle.clru_model.specs.Entries.{without, touch, plain_put, plain_drop}
 use Rattle.clru_model.proofs.Cases.{split}
-use Rattle.clru.proofs.Putting.{lookup-sublist}
-use Rattle.clru.proofs.Sublists.{sublist_remove_entry}
-use Rattle.clru.proofs.Finding.{IsHeld, IsMissed, held_at, missed_at, touch-held, touch-missed, plain_put-held, plain_put-missed}
+use Rattle.clru_model.proofs.Sublists.{sublist_remove_entry, lookup-sublist}
+use Rattle.clru_model.proofs.Finding.{IsHeld, IsMissed, held_at, missed_at, touch-held, touch-missed, plain_put-held, plain_put-missed}
 
 module _ {K V : Type 0} (eq : K → K → Bool) where
   -- a key is held or not
@@ -55,9 +54,14 @@ module _ {K V : Type 0} (eq : K → K → Bool) where
     | inr free ↦ take_all (c - 1) es free.0
   ]
 
+-- once x is removed it is not held
+pub lookup-without : {K V : Type 0} {eq : K → K → Bool} → IsEquivalence eq → (x : K) (es : List (K × V)) → IsDistinct eq (keys_of es)
+    → lookup (eq x) (remove_entry (eq x) es) ≡ None
+lookup-without {eq = eq} laws x es d = lookup-remove_entry laws (eq x) (λ y z h. laws.congr x y z h) x es d ∙ rw (laws.refl x) refl
+
 module _ {K V : Type 0} {eq : K → K → Bool} (laws : IsEquivalence eq) where
   -- keys that are the same have the same value
-  lookup-same : (x q : K) → eq x q ≡ true → (es : List (K × V)) → lookup (eq q) es ≡ lookup (eq x) es
+  pub lookup-same : (x q : K) → eq x q ≡ true → (es : List (K × V)) → lookup (eq q) es ≡ lookup (eq x) es
   lookup-same x q same [] = refl
   lookup-same x q same (e ∷ es) = rw (laws.congr x q e.0 same, lookup-same x q same es) refl
 

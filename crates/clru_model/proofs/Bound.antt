@@ -6,10 +6,10 @@ use Rattle.std.proofs.lemmas.Bool.{or_left, or_right, and_parts, or_cases, cases
 use Rattle.std.specs.Cmp.{IsEquivalence}
 use Rattle.std.specs.List.{count_by, list_all}
 use Rattle.clru_model.proofs.Cases.{split}
-use Rattle.clru.specs.Requests.{holds, distinct, since, hit, marks_after, misses}
-use Rattle.clru.specs.Schedule.{IsSchedule, schedule_misses, IsCompetitive, IsCompetitiveFromAnyStart}
-use Rattle.clru.proofs.Marks.{count_by-not-cons}
-use Rattle.clru.proofs.Distinct.{holds-append, since-cons, distinct_since_less, since_within, holds_same, distinct_mono}
+use Rattle.clru_model.specs.Requests.{holds, distinct, since, hit, marks_after, misses}
+use Rattle.clru_model.specs.Schedule.{IsSchedule, schedule_misses, IsCompetitive, IsCompetitiveFromAnyStart}
+use Rattle.clru_model.proofs.Marks.{count_by-not-cons}
+use Rattle.clru_model.proofs.Distinct.{holds-append, since-cons, distinct_since_less, since_within, holds_same, distinct_mono}
 
 -- The induction's claim on numbers, with n = k - h + 1 and g = h - 1: m misses to come and the d distinct keys of the phase so far are paid for by
 -- the schedule's s misses to come, and by u keys seen of which at most e were missed

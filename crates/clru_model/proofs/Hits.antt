@@ -7,9 +7,9 @@ use Rattle.std.proofs.lemmas.Bool.{or_parts}
 use Rattle.std.specs.Cmp.{IsEquivalence}
 use Rattle.std.specs.Map.{keys_of, remove_entry}
 use Rattle.clru_model.proofs.Cases.{split}
-use Rattle.clru.specs.Requests.{holds, hit}
-use Rattle.clru.specs.Runs.{IsPut}
-use Rattle.clru.proofs.Distinct.{since-cons, same_right, hit-cons}
+use Rattle.clru_model.specs.Requests.{holds, hit}
+use Rattle.clru_model.specs.Runs.{IsPut}
+use Rattle.clru_model.proofs.Distinct.{since-cons, same_right, hit-cons}
 
 module _ {K : Type 0} (eq : K → K → Bool) where
   -- up to the capacity k, the first j of the keys held, latest first, are the hits at capacity j

@@ -6,7 +6,7 @@ use Rattle.std.proofs.lemmas.Bool.{or_left, or_right, or_parts}
 use Rattle.std.specs.Cmp.{IsEquivalence}
 use Rattle.std.specs.List.{filter}
 use Rattle.clru_model.proofs.Cases.{split}
-use Rattle.clru.specs.Requests.{holds, distinct, since, hit}
+use Rattle.clru_model.specs.Requests.{holds, distinct, since, hit}
 
 module _ {K : Type 0} (eq : K → K → Bool) where
   -- the requests of other keys than x
@@ -100,7 +100,7 @@ module _ {K : Type 0} (eq : K → K → Bool) (laws : IsEquivalence eq) where
       (λ f. split (eq z y) (λ u. rw u refl) (λ v. rw v (since_within x z past (rw (f, v) at g))))
 
   -- where x is requested since y, so is all that is requested since x
-  since_since : (x y z : K) (past : List K) → holds eq x (since eq y past) ≡ true → holds eq z (since eq x past) ≡ true
+  pub since_since : (x y z : K) (past : List K) → holds eq x (since eq y past) ≡ true → holds eq z (since eq x past) ≡ true
       → holds eq z (since eq y past) ≡ true
   since_since x y z [] h g = h
   since_since x y z (w ∷ past) h g =
@@ -119,7 +119,7 @@ module _ {K : Type 0} (eq : K → K → Bool) (laws : IsEquivalence eq) where
   distinct_since_since x y past h = distinct_since_less x past (since eq y past) h (λ z g. since_since x y z past h g)
 
   -- of two keys that were requested, one was requested since the other
-  since_either : (x y : K) (past : List K) → eq x y ≡ false → holds eq x past ≡ true → holds eq y past ≡ true
+  pub since_either : (x y : K) (past : List K) → eq x y ≡ false → holds eq x past ≡ true → holds eq y past ≡ true
       → holds eq x (since eq y past) ≡ false → holds eq y (since eq x past) ≡ true
   since_either x y [] apart hx hy g = hx
   since_either x y (w ∷ past) apart hx hy g =

@@ -7,8 +7,8 @@ use Rattle.std.specs.Map.{keys_of, lookup_entry}
 use Rattle.std.specs.Option.{option_map_or, MatchOption}
 use Rattle.clru_model.specs.Entries.{without, plain_put, weighted_put, fit}
 use Rattle.clru_model.proofs.Cases.{split}
-use Rattle.clru.specs.Requests.{holds}
-use Rattle.clru.specs.Runs.{IsPut}
+use Rattle.clru_model.specs.Requests.{holds}
+use Rattle.clru_model.specs.Runs.{IsPut}
 
 module _ {K V : Type 0} (eq : K → K → Bool) where
   -- without its pair a list that holds a key is shorter by one

@@ -2,8 +2,8 @@
 use Rattle.std.specs.Prelude.{◌≡◌, ℕ, ◌-◌, ◌<◌, nat_lt, Bool, true, if◌then◌else◌, ⊤, List, [], ◌∷◌, length, take, drop, map}
 use Rattle.std.specs.Map.{keys_of}
 use Rattle.clru_model.specs.Entries.{without, weighted_put}
-use Rattle.clru.specs.Requests.{holds}
-use Rattle.clru.specs.Schedule.{schedule_marks}
+use Rattle.clru_model.specs.Requests.{holds}
+use Rattle.clru_model.specs.Schedule.{schedule_marks}
 
 -- one call on a cache
 pub data Call (K V : Type 0) : Type 0 where

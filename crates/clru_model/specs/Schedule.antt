@@ -2,7 +2,7 @@
 -- And the competitive bound: the misses of a replay beside those of every schedule. Public clauses cite them.
 use Rattle.std.specs.Prelude.{◌≡◌, ℕ, ◌+◌, ◌-◌, ◌*◌, ◌≤◌, Bool, true, not, List, [], ◌∷◌, length}
 use Rattle.std.specs.List.{list_all, count_by}
-use Rattle.clru.specs.Requests.{holds}
+use Rattle.clru_model.specs.Requests.{holds}
 
 module _ {K : Type 0} (eq : K → K → Bool) where
   -- after the request of x at the keys ks, x is held, and no other key came in

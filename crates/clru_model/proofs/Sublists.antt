@@ -1,8 +1,9 @@
 -- Lists that are left when some elements go and the others keep their order.
-use Rattle.std.proofs.Common.{◌≡◌, ℕ, zero, suc, ◌≤◌, Bool, true, false, cond, List, [], ◌∷◌, ◌++◌, length, take, arith}
+use Rattle.std.proofs.Common.{◌≡◌, ℕ, zero, suc, ◌≤◌, Bool, true, false, cond, List, [], ◌∷◌, ◌++◌, length, take, None, arith}
 use Rattle.std.specs.List.{AllByRecursion, IsDistinct, sum_by, remove}
-use Rattle.std.specs.Map.{keys_of, remove_entry}
+use Rattle.std.specs.Map.{keys_of, lookup, remove_entry}
 use Rattle.std.proofs.lemmas.List.Sums.{sum_by-cons}
+use Rattle.std.proofs.lemmas.Map.{lookup-none, none_passes_from_lookup}
 use Rattle.std.proofs.lemmas.Map.Keys.{IsDistinct-head, IsDistinct-tail, IsDistinct-cons}
 
 -- the second list is the first less some elements
@@ -76,3 +77,7 @@ IsDistinct-sublist eq nothing d = d
 IsDistinct-sublist eq (stays {x} {xs} {ys} s) d =
     IsDistinct-cons eq x ys (All-sublist (λ y. eq x y ≡ false) s (IsDistinct-head eq x xs d)) (IsDistinct-sublist eq s (IsDistinct-tail eq x xs d))
 IsDistinct-sublist eq (goes {x} {xs} {ys} s) d = IsDistinct-sublist eq s (IsDistinct-tail eq x xs d)
+
+-- a key that is not held is not held once some entries went
+pub lookup-sublist : {K V : Type 0} (test : K → Bool) {es fs : List (K × V)} → IsSublist es fs → lookup test es ≡ None → lookup test fs ≡ None
+lookup-sublist test {es} {fs} s absent = lookup-none test fs (All-sublist (λ e. test e.0 ≡ false) s (none_passes_from_lookup test es absent))
