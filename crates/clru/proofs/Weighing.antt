@@ -7,7 +7,7 @@ use Rattle.clru_model.specs.Entries.{weight_of, size_of, fit}
 use Rattle.clru_model.proofs.Sublists.{lookup-sublist}
 use Rattle.clru_model.proofs.Sublists.{IsSublist, sublist_front, sublist_trans, length-sublist}
 use Rattle.clru.specs.Fields.{IsKept}
-use Rattle.clru.proofs.Fitting.{fit_is_longest}
+use Rattle.clru_model.proofs.Fitting.{fit_is_longest}
 use Rattle.clru.proofs.Keeping.{IsKept-sublist, IsKept-put}
 
 module _ {K V : Type 0} (weight : K → V → ℕ) where

@@ -1,88 +1,18 @@
--- The statements of the laws. Public clauses cite them.
-use Rattle.std.specs.Prelude.{◌≡◌, ◌↔◌, ℕ, ◌≤◌, Bool, true, false, not, Option, Some, List, [], ◌∷◌, ◌++◌, length, reverse}
+-- The statements of the laws: those of the model, passed on, and what the two puts of a cache have to do with each other. Public
+-- clauses cite them.
+use Rattle.std.specs.Prelude.{◌≡◌, ℕ, Bool, Option}
 use Rattle.std.specs.Fn.{Mut}
-use Rattle.std.specs.List.{slice_get, count_by}
 use Rattle.std.specs.Map.{lookup}
 use Rattle.std.specs.Option.{option_to_list}
-use Rattle.clru_model.specs.Entries.{fit, IsLongestFit, plain_drop, weighted_drops}
-use Rattle.clru_model.specs.Requests.{distinct, marks, misses}
-use Rattle.clru_model.specs.Runs.{Call, after_all, AreTaken, IsPutRun, held_before}
-use Rattle.clru_model.specs.Schedule.{IsSchedule, schedule_marks, schedule_misses, IsCompetitive, IsCompetitiveFromAnyStart}
-use Rattle.clru.specs.ByPlace.{IsCountOf, IsFirstAt, IsHitAt, IsScheduleAt, IsScheduleMissAt}
+use Rattle.clru_model.specs.Entries.{plain_drop, weighted_drops}
 use Rattle.clru.specs.Cache.{Cache, IsValid}
 use Rattle.clru.specs.Drops.{HandsOutTo}
 use Rattle.clru.specs.declared.cache.answer.Put.{Put}
-
-module _ {K : Type 0} (eq : K → K → Bool) where
-  -- the mark at i is true exactly where the request at i hits
-  abbrev pub TrueMarksAreHits : Type 0
-  TrueMarksAreHits = (k i : ℕ) (requests : List K) → (slice_get (marks eq k requests) i ≡ Some true) ↔ IsHitAt eq k requests i
-
-  -- there is a mark for each request
-  abbrev pub OneMarkForEach : Type 0
-  OneMarkForEach = (k : ℕ) (requests : List K) → length (marks eq k requests) ≡ length requests
-
-  -- the misses are the false marks
-  abbrev pub MissesAreFalseMarks : Type 0
-  MissesAreFalseMarks = (k : ℕ) (requests : List K) → IsCountOf (λ i. slice_get (marks eq k requests) i ≡ Some false) (misses eq k requests)
-
-  -- `distinct`, which takes requests the latest first, counts the places at which a key stands first
-  abbrev pub DistinctCountsFirst : Type 0
-  DistinctCountsFirst = (requests : List K) → IsCountOf (IsFirstAt eq requests) (distinct eq (reverse requests))
-
-  -- the schedules are the schedules by places
-  abbrev pub SchedulesAreByPlace : Type 0
-  SchedulesAreByPlace = (h : ℕ) (held : List (List K)) (requests : List K) → IsSchedule eq h held requests ↔ IsScheduleAt eq h held requests
-
-  -- a schedule's mark at i is false exactly where it misses the request at i
-  abbrev pub FalseMarksAreMisses : Type 0
-  FalseMarksAreMisses = (held : List (List K)) (requests : List K) (i : ℕ)
-      → (slice_get (schedule_marks eq held requests) i ≡ Some false) ↔ IsScheduleMissAt eq held requests i
-
-  -- a schedule's misses are the requests that it misses
-  abbrev pub ScheduleMissesAreByPlace : Type 0
-  ScheduleMissesAreByPlace = (held : List (List K)) (requests : List K)
-      → IsCountOf (IsScheduleMissAt eq held requests) (schedule_misses eq held requests)
-
-  -- a request that hits at a capacity hits at each greater one
-  abbrev pub HitsGrow : Type 0
-  HitsGrow = (k l i : ℕ) (requests : List K) → k ≤ l → slice_get (marks eq k requests) i ≡ Some true
-      → slice_get (marks eq l requests) i ≡ Some true
-
-  -- a greater capacity has no more misses
-  abbrev pub MissesFall : Type 0
-  MissesFall = (k l : ℕ) (requests : List K) → k ≤ l → misses eq l requests ≤ misses eq k requests
-
-module _ (K V : Type 0) where
-  -- `fit` is the longest beginning that fits
-  abbrev pub FitIsLongest : Type 0
-  FitIsLongest = (weight : K → V → ℕ) (c : ℕ) (es : List (K × V)) → IsLongestFit weight c es (fit weight c es)
-
-  -- no other beginning is
-  abbrev pub OnlyFitIsLongest : Type 0
-  OnlyFitIsLongest = (weight : K → V → ℕ) (c : ℕ) (es p : List (K × V)) → IsLongestFit weight c es p → p ≡ fit weight c es
-
-module _ {K : Type 0} (eq : K → K → Bool) (V : Type 0) where
-  -- calls on two empty lists, of which the lesser capacity takes each: the list that they leave there begins the one that
-  -- they leave at the greater capacity
-  abbrev pub LesserBeginsGreater : Type 0
-  LesserBeginsGreater = (weight : K → V → ℕ) (c d : ℕ) (calls : List (Call K V)) → c ≤ d → AreTaken weight c calls
-      → (rest : List (K × V)) × (after_all eq weight d calls [] ≡ after_all eq weight c calls [] ++ rest)
-
-  -- a run of puts from the empty list holds a key before its put exactly where the request hits
-  abbrev pub PutsHit : Type 0
-  PutsHit = (k : ℕ) (requests : List K) (later : List (List (K × V))) → 1 ≤ k → IsPutRun eq k ([] ∷ later) requests
-      → held_before eq ([] ∷ later) requests ≡ marks eq k requests
-
-  -- the puts whose key is not held before them keep the bound beside schedules that start empty
-  abbrev pub PutsCompete : Type 0
-  PutsCompete = (k : ℕ) (requests : List K) (later : List (List (K × V))) → 1 ≤ k → IsPutRun eq k ([] ∷ later) requests
-      → IsCompetitive eq k requests (count_by not (held_before eq ([] ∷ later) requests))
-
-  -- and that beside schedules that start with any keys
-  abbrev pub PutsCompeteFromAnyStart : Type 0
-  PutsCompeteFromAnyStart = (k : ℕ) (requests : List K) (later : List (List (K × V))) → 1 ≤ k → IsPutRun eq k ([] ∷ later) requests
-      → IsCompetitiveFromAnyStart eq k requests (count_by not (held_before eq ([] ∷ later) requests))
+pub use Rattle.clru_model.specs.Laws.{TrueMarksAreHits, OneMarkForEach, MissesAreFalseMarks, DistinctCountsFirst}
+pub use Rattle.clru_model.specs.Laws.{SchedulesAreByPlace, FalseMarksAreMisses, ScheduleMissesAreByPlace}
+pub use Rattle.clru_model.specs.Laws.{HitsGrow, MissesFall, LesserBeginsGreater}
+pub use Rattle.clru_model.specs.Laws.{PutsHit, PutsCompete, PutsCompeteFromAnyStart}
+pub use Rattle.clru_model.specs.Laws.{FitIsLongest, OnlyFitIsLongest}
 
 module _ {K V F : Type 0} (eq : K → K → Bool) (g : Mut F (K × (V × Unit {0})) (Unit {0})) where
   -- what the contracts tell of a plain put and a weighted put at weight zero, of one pair into one cache, where both are taken:

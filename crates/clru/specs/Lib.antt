@@ -1,3 +1,4 @@
+pub use Rattle.clru_model.specs.ByPlace
 pub use Rattle.clru_model.specs.Entries
 pub use Rattle.clru_model.specs.Errors
 pub use Rattle.clru_model.specs.Refusals
@@ -5,7 +6,6 @@ pub use Rattle.clru_model.specs.Requests
 pub use Rattle.clru_model.specs.Runs
 pub use Rattle.clru_model.specs.Schedule
 pub use Rattle.clru_nodes.specs.Retains
-pub mod ByPlace
 pub mod Cache
 pub mod Closures
 pub mod Collecting

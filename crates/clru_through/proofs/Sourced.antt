@@ -4,7 +4,7 @@ use Rattle.std.specs.Option.{option_map_or}
 use Rattle.std.specs.Map.{lookup, lookup_entry}
 use Rattle.clru.specs.Entries.{touch, weighted_put, without}
 use Rattle.clru.proofs.Sublists.{All-sublist, sublist_remove_entry, sublist_trans}
-use Rattle.clru.proofs.Weighing.{sublist_fit}
+use Rattle.clru.proofs.Fitting.{sublist_fit}
 use Rattle.clru_through.specs.Store.{AllFrom}
 
 module _ {K V : Type 0} (test : K → Bool) where

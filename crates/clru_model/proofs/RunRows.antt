@@ -3,7 +3,7 @@ use Rattle.std.proofs.Common.{◌≡◌, ℕ, true, false, List, [], ◌∷◌, 
 use Rattle.std.specs.Prelude.{nat_eq}
 use Rattle.clru_model.specs.Entries.{touch, fit}
 use Rattle.clru_model.specs.Runs.{Call, put_with_weight, pop, pop_front, pop_back, clear, peek, contains, after_all, AreTaken, IsPutRun, held_before}
-use Rattle.clru.proofs.EntryRows.{itself}
+use Rattle.clru_model.proofs.EntryRows.{itself}
 
 abbrev weightless : ℕ → ℕ → ℕ
 weightless key value = 0

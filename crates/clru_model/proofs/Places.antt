@@ -11,7 +11,7 @@ use Rattle.std.specs.List.{slice_get, slice_range, list_all}
 use Rattle.clru_model.proofs.Cases.{split}
 use Rattle.clru_model.specs.Requests.{holds}
 use Rattle.clru_model.proofs.Distinct.{holds-append}
-use Rattle.clru.specs.ByPlace.{HasKey, LacksKey}
+use Rattle.clru_model.specs.ByPlace.{HasKey, LacksKey}
 
 module _ {X : Type 0} where
   -- the elements of the second of two lists in a row

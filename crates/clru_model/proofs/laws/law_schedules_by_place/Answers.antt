@@ -1,6 +1,6 @@
-use Rattle.clru.proofs.DistinctByPlace.{schedule_misses_counted}
-use Rattle.clru.proofs.SchedulesByPlace.{schedules_by_place, schedule_misses_by_place}
-use Rattle.clru.proofs.laws.law_schedules_by_place.Goals as goal
+use Rattle.clru_model.proofs.DistinctByPlace.{schedule_misses_counted}
+use Rattle.clru_model.proofs.SchedulesByPlace.{schedules_by_place, schedule_misses_by_place}
+use Rattle.clru_model.proofs.laws.law_schedules_by_place.Goals as goal
 
 pub returns-clause-schedules : goal.returns-clause-schedules
 returns-clause-schedules g c = schedules_by_place g.K.PartialEq.eq

@@ -8,10 +8,10 @@ use Rattle.clru_model.proofs.Cases.{split}
 use Rattle.clru_model.specs.Requests.{holds, distinct}
 use Rattle.clru_model.specs.Schedule.{schedule_marks, schedule_misses}
 use Rattle.clru_model.proofs.Marks.{count_by-not-push}
-use Rattle.clru.specs.ByPlace.{IsCountOf, IsFirstAt, IsScheduleMissAt}
-use Rattle.clru.proofs.Counting.{count_none, count_same, count_next}
-use Rattle.clru.proofs.Places.{slice_get-append_left, slice_get_middle, LacksKey_from_holds, holds_from_LacksKey, holds-reverse}
-use Rattle.clru.proofs.SchedulesByPlace.{schedule_misses_by_place}
+use Rattle.clru_model.specs.ByPlace.{IsCountOf, IsFirstAt, IsScheduleMissAt}
+use Rattle.clru_model.proofs.Counting.{count_none, count_same, count_next}
+use Rattle.clru_model.proofs.Places.{slice_get-append_left, slice_get_middle, LacksKey_from_holds, holds_from_LacksKey, holds-reverse}
+use Rattle.clru_model.proofs.SchedulesByPlace.{schedule_misses_by_place}
 
 module _ {X : Type 0} where
   -- what stands at a place of a list with one more element at its end

@@ -1,8 +1,8 @@
 use Rattle.std.proofs.Common.{[]}
 use Rattle.clru_model.specs.Requests.{marks}
-use Rattle.clru.proofs.ByPlace.{marks_by_place, length-marks_after}
-use Rattle.clru.proofs.DistinctByPlace.{distinct_by_place, false_marks_by_place}
-use Rattle.clru.proofs.laws.law_by_place.Goals as goal
+use Rattle.clru_model.proofs.ByPlace.{marks_by_place, length-marks_after}
+use Rattle.clru_model.proofs.DistinctByPlace.{distinct_by_place, false_marks_by_place}
+use Rattle.clru_model.proofs.laws.law_by_place.Goals as goal
 
 pub returns-clause-hits : goal.returns-clause-hits
 returns-clause-hits g c = marks_by_place g.K.PartialEq.eq g.met.K.Eq.laws

@@ -12,8 +12,8 @@ use Rattle.std.specs.List.{AllByRecursion, Contains, IsDistinct}
 use Rattle.clru_model.specs.Requests.{holds, distinct}
 use Rattle.clru_model.proofs.Bound.{distinct-le-length}
 use Rattle.clru_model.proofs.Distinct.{distinct_mono}
-use Rattle.clru.specs.ByPlace.{IsCountOf}
-use Rattle.clru.proofs.Places.{HasKey_from_holds}
+use Rattle.clru_model.specs.ByPlace.{IsCountOf}
+use Rattle.clru_model.proofs.Places.{HasKey_from_holds}
 
 -- no place
 pub count_none : (P : ℕ → Type 0) → ((p : ℕ) → P p → ⊥) → IsCountOf P 0

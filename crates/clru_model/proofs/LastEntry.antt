@@ -1,7 +1,7 @@
 -- A step from the back of a list.
 use Rattle.std.proofs.Common.{◌≡◌, ◌-◌, List, [], ◌∷◌, ◌++◌, length, take, Option, Some, None, slice_get, sym, ap, ◌∙◌}
 use Rattle.std.specs.Iterator.{YieldsLast}
-use Rattle.clru.proofs.Fitting.{split_last, no_last}
+use Rattle.clru_model.proofs.Fitting.{split_last, no_last}
 
 -- it gives the last element and leaves the others
 pub yields-last : {X : Type 0} (es fs : List X) (r : Option X) → r ≡ slice_get es (length es - 1) → fs ≡ take (length es - 1) es

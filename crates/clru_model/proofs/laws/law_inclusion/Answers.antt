@@ -1,5 +1,5 @@
-use Rattle.clru.proofs.Inclusion.{after_all_begins}
-use Rattle.clru.proofs.laws.law_inclusion.Goals as goal
+use Rattle.clru_model.proofs.Inclusion.{after_all_begins}
+use Rattle.clru_model.proofs.laws.law_inclusion.Goals as goal
 
 pub returns : goal.returns
 returns g c = record {

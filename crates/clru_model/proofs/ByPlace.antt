@@ -10,11 +10,11 @@ use Rattle.clru_model.proofs.Cases.{split}
 use Rattle.clru_model.specs.Requests.{holds, distinct, since, hit, marks_after, marks}
 use Rattle.clru_model.proofs.Distinct.{holds-append, since-cons, not_since}
 use Rattle.clru_model.proofs.Marks.{reverse-cons-append}
-use Rattle.clru.specs.ByPlace.{IsHitAt}
-use Rattle.clru.proofs.Counting.{count_unique}
-use Rattle.clru.proofs.DistinctByPlace.{distinct_by_place}
-use Rattle.clru.proofs.Places.{slice_get-append_right, slice_get_middle, slice_get_between, slice_range_between}
-use Rattle.clru.proofs.Places.{split_at_two_places, LacksKey_from_holds, holds_from_LacksKey, holds-reverse}
+use Rattle.clru_model.specs.ByPlace.{IsHitAt}
+use Rattle.clru_model.proofs.Counting.{count_unique}
+use Rattle.clru_model.proofs.DistinctByPlace.{distinct_by_place}
+use Rattle.clru_model.proofs.Places.{slice_get-append_right, slice_get_middle, slice_get_between, slice_range_between}
+use Rattle.clru_model.proofs.Places.{split_at_two_places, LacksKey_from_holds, holds_from_LacksKey, holds-reverse}
 
 module _ {K : Type 0} (eq : K → K → Bool) where
   -- there is one mark for each request

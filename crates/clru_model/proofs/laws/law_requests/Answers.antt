@@ -1,5 +1,5 @@
-use Rattle.clru.proofs.PutRuns.{held_before_marks, puts_compete, puts_compete_from_any_start}
-use Rattle.clru.proofs.laws.law_requests.Goals as goal
+use Rattle.clru_model.proofs.PutRuns.{held_before_marks, puts_compete, puts_compete_from_any_start}
+use Rattle.clru_model.proofs.laws.law_requests.Goals as goal
 
 pub returns-clause-hits : goal.returns-clause-hits
 returns-clause-hits g c k requests later some = held_before_marks g.K.PartialEq.eq g.met.K.Eq.laws k some requests later

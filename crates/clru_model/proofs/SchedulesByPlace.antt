@@ -7,8 +7,8 @@ use Rattle.std.proofs.lemmas.Option.{same_Some}
 use Rattle.std.specs.List.{slice_get, list_all}
 use Rattle.clru_model.specs.Requests.{holds}
 use Rattle.clru_model.specs.Schedule.{IsSchedule, schedule_marks}
-use Rattle.clru.specs.ByPlace.{HasKey, IsScheduleAt, IsScheduleMissAt}
-use Rattle.clru.proofs.Places.{list_all_at, list_all_from_places, HasKey_from_holds, holds_from_HasKey, LacksKey_from_holds, holds_from_LacksKey}
+use Rattle.clru_model.specs.ByPlace.{HasKey, IsScheduleAt, IsScheduleMissAt}
+use Rattle.clru_model.proofs.Places.{list_all_at, list_all_from_places, HasKey_from_holds, holds_from_HasKey, LacksKey_from_holds, holds_from_LacksKey}
 
 module _ {K : Type 0} (eq : K → K → Bool) where
   -- a schedule by places without its first request

@@ -1,0 +1,58 @@
+//! Laws of the definitions that the contracts cite. They do nothing at run time.
+ghost use Rattle.clru_model.specs.Laws.{TrueMarksAreHits, OneMarkForEach, MissesAreFalseMarks, DistinctCountsFirst};
+ghost use Rattle.clru_model.specs.Laws.{SchedulesAreByPlace, FalseMarksAreMisses, ScheduleMissesAreByPlace};
+ghost use Rattle.clru_model.specs.Laws.{HitsGrow, MissesFall};
+ghost use Rattle.clru_model.specs.Laws.{LesserBeginsGreater};
+ghost use Rattle.clru_model.specs.Laws.{PutsHit, PutsCompete, PutsCompeteFromAnyStart};
+ghost use Rattle.clru_model.specs.Laws.{FitIsLongest, OnlyFitIsLongest};
+
+/// Does nothing at run time. Its contract says that the hits, misses and numbers of distinct keys that the other contracts
+/// cite, which are defined by computing, are those that a sentence about places describes.
+pub fn law_by_place<K: Eq>()
+    ensures hits { TrueMarksAreHits K.eq }
+    ensures one_mark_each { OneMarkForEach K.eq }
+    ensures misses { MissesAreFalseMarks K.eq }
+    ensures distinct { DistinctCountsFirst K.eq }
+{}
+
+/// Does nothing at run time. Its contract says the same of schedules and of their misses.
+pub fn law_schedules_by_place<K: Eq>()
+    ensures schedules { SchedulesAreByPlace K.eq }
+    ensures marks { FalseMarksAreMisses K.eq }
+    ensures misses { ScheduleMissesAreByPlace K.eq }
+{}
+
+/// Does nothing at run time. Its contract says that a replay of a greater capacity hits wherever one of a lesser capacity
+/// does.
+pub fn law_growth<K: Eq>()
+    ensures grows { HitsGrow K.eq }
+    ensures misses { MissesFall K.eq }
+{}
+
+/// Does nothing at run time. Its contract says that of two caches of one scale, both empty at first and sent the same calls,
+/// the one of the lesser capacity ends with the first entries of the other.
+///
+/// The calls are `put_with_weight`, `pop`, `pop_front`, `pop_back`, `clear`, `peek` and `contains`, and no put is refused.
+/// With a `get` among them, which moves an entry that the lesser cache may not hold, or with a put that one cache refuses,
+/// this does not hold.
+pub fn law_inclusion<K: Eq, V>()
+    ensures included { LesserBeginsGreater K.eq V }
+{}
+
+/// Does nothing at run time. Its contract says that a cache of weight zero, empty at first, that takes each key of a list in
+/// turn by one of the puts, in whichever form, holds a key before its put exactly where `replay` of the list marks a hit, and
+/// that the puts whose key it does not hold keep the bound that `replay` keeps.
+///
+/// No put is refused, and no other call changes the cache.
+pub fn law_requests<K: Eq, V>()
+    ensures hits { PutsHit K.eq V }
+    ensures bound { PutsCompete K.eq V }
+    ensures bound_any_start { PutsCompeteFromAnyStart K.eq V }
+{}
+
+/// Does nothing at run time. Its contract says that what a weighted put keeps of the other entries, which is defined by
+/// computing, is the longest beginning of the list that fits, and that no other beginning is.
+pub fn law_longest_fit<K, V>()
+    ensures longest { FitIsLongest K V }
+    ensures only { OnlyFitIsLongest K V }
+{}
