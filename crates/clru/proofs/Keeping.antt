@@ -1,15 +1,17 @@
 -- Which changes of the entries keep what a cache's fields keep.
-use Rattle.std.proofs.Common.{◌≡◌, ℕ, ◌+◌, ◌-◌, ◌≤◌, Bool, true, false, List, [], ◌∷◌, drop, Some, None, slice_get, refl, sym, ◌∙◌, subst, arith}
+use Rattle.std.proofs.Common.{◌≡◌, ℕ, ◌+◌, ◌-◌, ◌<◌, ◌≤◌, Bool, true, false, List, [], ◌∷◌, length, take, drop, min, Some, None, slice_get, refl, sym, ◌∙◌, subst, arith, length-take}
 use Rattle.std.specs.Cmp.{IsEquivalence}
 use Rattle.std.specs.List.{AllByRecursion, IsDistinct}
 use Rattle.std.specs.Map.{keys_of, lookup, lookup_entry, remove_entry}
 use Rattle.std.proofs.lemmas.Map.{NonePasses, none_passes_from_lookup}
 use Rattle.std.proofs.lemmas.Map.Keys.{IsDistinct-cons}
-use Rattle.clru_model.specs.Entries.{weight_of, size_of, touch}
-use Rattle.clru_model.proofs.Weights.{weight_of-cons}
+use Rattle.clru_model.specs.Entries.{weight_of, size_of, touch, fit}
+use Rattle.clru_model.proofs.Weights.{weight_of-cons, weight_of-zero}
 use Rattle.clru_model.proofs.Lookups.{lookup-without}
+use Rattle.clru_model.proofs.Fitting.{sublist_fit, size_of-fit}
 use Rattle.clru_model.proofs.Finding.{IsHeld, weight_of-held, touch-held, touch-missed, held_at, missed_at}
 use Rattle.clru_model.proofs.Sublists.{IsSublist, goes, sublist_itself, sublist_remove_entry, sublist_keys, length-sublist, sum_by-sublist, IsDistinct-sublist}
+use Rattle.clru_model.proofs.Sublists.{sublist_take, sublist_trans, lookup-sublist}
 use Rattle.clru_nodes.specs.Nodes.{pairs_in, IsIndexed, IsSame, capacity_of}
 use Rattle.clru_nodes.specs.declared.nodes.Nodes.{Nodes}
 use Rattle.clru.specs.Fields.{IsKept, IsCache}
@@ -94,3 +96,34 @@ module _ {K V S A H : Type 0} {eq : K → K → Bool} (weight : K → V → ℕ)
   pub IsCache-touch : (k : K) → IsEquivalence eq → IsCache eq weight hash x kept c → pairs_in y ≡ touch eq k (pairs_in x)
       → IsIndexed hash y → IsSame x y → IsCache eq weight hash y kept c
   IsCache-touch k laws old same indexed rest = IsCache-from old same (IsKept-touch weight k laws old.pairs) indexed rest.capacity
+
+-- at weight zero
+module _ {K V : Type 0} {eq : K → K → Bool} where
+  -- a new entry comes first, and what is past the capacity goes
+  pub IsKept-new : {es : List (K × V)} {kept c : ℕ} (x : K) (v : V) → IsEquivalence eq → IsKept eq (λ k v. 0) es kept c
+      → lookup (eq x) es ≡ None → 0 < c → IsKept eq (λ k v. 0) ((x, v) ∷ take (c - 1) es) kept c
+  IsKept-new {es} {kept} {c} x v laws old absent some =
+      let rest = take (c - 1) es in let len : length rest ≡ min (c - 1) (length es) = length-take (c - 1) es in
+      IsKept-put (λ k v. 0) kept x (x, v) laws old (sublist_take (c - 1) es)
+      (lookup-sublist (eq x) (sublist_take (c - 1) es) absent) (laws.refl x)
+      (omega (arith, old.weighs, weight_of-zero es, weight_of-zero ((x, v) ∷ rest))) (omega (arith, weight_of-zero rest, len))
+
+module _ {K V : Type 0} (weight : K → V → ℕ) where
+  -- the new pair comes first, and what does not fit beside it goes
+  pub IsKept-weighted : {eq : K → K → Bool} {es fs : List (K × V)} {kept c : ℕ} (left : ℕ) (x : K) (v : V) → IsEquivalence eq
+      → IsKept eq weight es kept c → IsSublist es fs → lookup (eq x) fs ≡ None → weight x v < c
+      → left ≡ weight_of weight ((x, v) ∷ fit weight (c - 1 - weight x v) fs)
+      → IsKept eq weight ((x, v) ∷ fit weight (c - 1 - weight x v) fs) left c
+  IsKept-weighted {eq} {es} {fs} {c = c} left x v laws old s absent light w =
+      let room = c - 1 - weight x v in
+      IsKept-put weight left x (x, v) laws old (sublist_trans s (sublist_fit room fs))
+      (lookup-sublist (eq x) (sublist_fit room fs) absent) (laws.refl x) w (omega (arith, size_of-fit room fs))
+
+  -- what fits another capacity is kept under it
+  pub IsKept-fit : {eq : K → K → Bool} {es : List (K × V)} {kept c : ℕ} (d left : ℕ) → IsKept eq weight es kept c
+      → left ≡ weight_of weight (fit weight d es) → IsKept eq weight (fit weight d es) left d
+  IsKept-fit {es = es} d left old w = record {
+    distinct = (IsKept-sublist weight left old (sublist_fit d es) w).distinct;
+    weighs = w;
+    fits = size_of-fit d es;
+  }

@@ -13,8 +13,8 @@ use Rattle.clru_nodes.proofs.WrittenItems.{first_written, held_places}
 use Rattle.clru.specs.Cache.{Cache, cache}
 use Rattle.clru.specs.Fields.{IsCache}
 use Rattle.clru.specs.Memory.{GrowsOnlyIf, NeedsPlace}
-use Rattle.clru.proofs.Keeping.{IsKept-front, IsCache-from}
-use Rattle.clru.proofs.Putting.{GrowsIf-along, grows_not, grows_if_needed, held_needs_none, IsKept-new}
+use Rattle.clru.proofs.Keeping.{IsKept-front, IsKept-new, IsCache-from}
+use Rattle.clru.proofs.Growth.{GrowsIf-along, grows_not, grows_if_needed, held_needs_none}
 
 module _ {K V S A H W : Type 0} {eq : K → K → Bool} {hash : S → K → ℕ} {x : Nodes K V S A H} {kept c : ℕ} (key : K) (scale : W)
     (old : IsCache eq (λ k v. 0) hash x kept c) where

@@ -6,10 +6,8 @@ pub mod CallerLemmas
 pub mod CallerWalks
 pub mod Collecting
 pub mod CursorSteps
+pub mod Growth
 pub mod Keeping
 pub mod LentPuts
-pub mod Putting
 pub mod Replaying
-pub mod Retaining
 pub mod Values
-pub mod Weighing

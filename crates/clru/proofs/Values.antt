@@ -3,6 +3,9 @@ use Rattle.std.proofs.Common.{◌≡◌, ℕ, Bool, List, length, sym, ap, ◌�
 use Rattle.std.proofs.lemmas.Map.Entries.{length-keys_of}
 use Rattle.std.specs.List.{IsDistinct}
 use Rattle.std.specs.Map.{keys_of}
+use Rattle.std.specs.Map.Calls.{RetainsPairs}
+use Rattle.clru_model.proofs.Retaining.{keys_retained}
+use Rattle.clru_model.proofs.Sublists.{length-sublist, IsDistinct-sublist}
 use Rattle.clru_model.proofs.Weights.{weight_of-zero}
 use Rattle.clru_nodes.specs.declared.nodes.Nodes.{Nodes}
 use Rattle.clru_nodes.proofs.WrittenItems.{IsWritten}
@@ -28,3 +31,15 @@ module _ {K V S A H : Type 0} {hash : S → K → ℕ} {x y : Nodes K V S A H} w
     indexed = w.indexed old.indexed;
     room = w.same.capacity ∙ old.room;
   }
+
+module _ {F K V : Type 0} (step : F → K → V → Bool → V → F → Type 0) where
+  -- at weight zero the values may change
+  pub IsKept-retained : {eq : K → K → Bool} {es : List (K × V)} {kept c : ℕ} (f : F) (left : List (K × V)) → IsKept eq (λ k v. 0) es kept c
+      → RetainsPairs step f es left → IsKept eq (λ k v. 0) left kept c
+  IsKept-retained {eq = eq} {es = es} f left old h =
+      let s = keys_retained f es left h in
+      record {
+        distinct = IsDistinct-sublist eq s old.distinct;
+        weighs = old.weighs ∙ weight_of-zero es ∙ sym (weight_of-zero left);
+        fits = omega (arith, old.fits, length-sublist s, length-keys_of es, length-keys_of left, weight_of-zero left);
+      }

@@ -1,13 +1,14 @@
 -- Pairs that are dropped from the back, one by one, and handed out.
 use Rattle.std.proofs.Common.{◌≡◌, ℕ, zero, suc, ◌+◌, ◌-◌, ◌<◌, ◌≤◌, Bool, None, Some, List, [], ◌∷◌, ◌++◌, length, take, drop, reverse, slice_get}
-use Rattle.std.proofs.Common.{refl, sym, ap, ◌∙◌, arith, append_assoc, take_all}
+use Rattle.std.proofs.Common.{refl, sym, ap, ◌∙◌, arith, append_assoc, take_all, length-drop}
 use Rattle.std.specs.Map.{lookup_entry}
 use Rattle.std.specs.Option.{option_to_list}
-use Rattle.std.proofs.lemmas.List.{reverse-append, drop-append-le}
+use Rattle.std.proofs.lemmas.List.{reverse-append, drop-append-le, length-reverse}
 use Rattle.std.proofs.Math.Seq.{drop-append_seam, drop-length}
 use Rattle.clru_model.specs.Entries.{without, fit, plain_drop, weighted_drops}
 use Rattle.clru_model.proofs.Finding.{held_at, missed_at}
 use Rattle.clru_model.proofs.PutSteps.{fit-weightless}
+use Rattle.clru_model.proofs.Sublists.{sublist_remove_entry, length-sublist}
 
 module _ {X : Type 0} (es p left rest : List X) (x : X) where
   -- while p is the beginning of the list that is left, and x its last: what went, from the back, then x, then what is still to go
@@ -46,3 +47,10 @@ weightless_drops eq weight none c x v es some within =
       | Some d ↦ λ e. let h = held_at (eq x) (sym e) in
           rw (h.value, take_all (c - 1) rest (omega (arith, h.shorter, within)), drop-length rest) refl
     ]) refl)
+
+-- no more pairs are dropped than there were
+pub length-weighted_drops : {K V : Type 0} (eq : K → K → Bool) (weight : K → V → ℕ) (c : ℕ) (x : K) (v : V) (es : List (K × V))
+    → length (weighted_drops eq weight c x v es) ≤ length es
+length-weighted_drops eq weight c x v es =
+    let rest = without eq x es in let kept = fit weight (c - 1 - weight x v) rest in
+    omega (arith, length-reverse (drop (length kept) rest), length-drop (length kept) rest, length-sublist (sublist_remove_entry (eq x) es))

@@ -1,7 +1,8 @@
--- The longest beginning that fits.
-use Rattle.std.proofs.Common.{◌≡◌, ℕ, zero, suc, Some, None, take, slice_get, ◌+◌, ◌-◌, ◌<◌, ◌≤◌, leb, true, false, cond, List, [], ◌∷◌, ◌++◌, length, refl, sym, ap, ◌∙◌, subst, inl, inr, arith, length-append, append_assoc, append-nil}
+-- The longest beginning that fits, and what a weighted put keeps by it.
+use Rattle.std.proofs.Common.{◌≡◌, ℕ, ◌+◌, ◌-◌, ◌<◌, ◌≤◌, leb, true, false, cond, List, [], ◌∷◌, ◌++◌, length, refl, sym, ap, ◌∙◌, subst, inl, inr, arith, length-append, append_assoc, append-nil}
 use Rattle.std.proofs.lemmas.Bool.{leb-true, leb-false, cases_lt}
 use Rattle.clru_model.specs.Entries.{weight_of, size_of, fit, IsLongestFit}
+use Rattle.clru_model.proofs.Sublists.{IsSublist, sublist_front, length-sublist}
 use Rattle.clru_model.proofs.Weights.{weight_of-cons, weight_of-push}
 
 module _ {K V : Type 0} (weight : K → V → ℕ) where
@@ -106,24 +107,36 @@ module _ {K V : Type 0} (weight : K → V → ℕ) (c : ℕ) where
   pub too_long_fits : (es p : List (K × V)) → IsTooLongFit weight c es p → size_of weight p ≤ c → p ≡ fit weight c es
   too_long_fits es p long fits = longest_is_fit weight c es p (record { rest = long.rest; begins = long.begins; fits = fits; longest = long.longest })
 
-module _ {X : Type 0} where
-  last_at : (n : ℕ) (xs : List X) (x : X) → length xs ≡ n + 1 → Some x ≡ slice_get xs n → xs ≡ take n xs ++ x ∷ []
-  last_at n [] x len at = absurd (omega arith)
-  last_at zero (y ∷ []) x len at = let same : y ≡ x = cc in ap (λ z. z ∷ []) same
-  last_at zero (y ∷ (z ∷ xs)) x len at = absurd (omega arith)
-  last_at (suc n) (y ∷ xs) x len at = ap (λ l. y ∷ l) (last_at n xs x (omega arith) at)
+module _ {K V : Type 0} (weight : K → V → ℕ) where
+  pub sublist_fit : (c : ℕ) (es : List (K × V)) → IsSublist es (fit weight c es)
+  sublist_fit c es = let f = fit_is_longest weight c es in subst (λ l. IsSublist l (fit weight c es)) (sym f.begins)
+      (sublist_front (fit weight c es) f.rest)
 
-  -- a list with a last element is the others before it
-  pub split_last : (xs : List X) (x : X) → Some x ≡ slice_get xs (length xs - 1) → xs ≡ take (length xs - 1) xs ++ x ∷ []
-  split_last [] x at = cc
-  split_last (y ∷ xs) x at = last_at (length (y ∷ xs) - 1) (y ∷ xs) x (omega arith) at
+  pub size_of-fit : (c : ℕ) (es : List (K × V)) → size_of weight (fit weight c es) ≤ c
+  size_of-fit c es = (fit_is_longest weight c es).fits
 
-  found_at : (n : ℕ) (xs : List X) → n < length xs → slice_get xs n ≡ None → ⊥
-  found_at n [] within none = absurd (omega arith)
-  found_at zero (x ∷ xs) within none = cc
-  found_at (suc n) (x ∷ xs) within none = found_at n xs (omega arith) none
+  -- what does not fit whole gets shorter
+  nil_rest : (p rest : List (K × V)) → length rest ≡ 0 → p ++ rest ≡ p
+  nil_rest p [] h = append-nil p
+  nil_rest p (e ∷ es) h = absurd (omega arith)
 
-  -- one without a last element is empty
-  pub no_last : (xs : List X) → None ≡ slice_get xs (length xs - 1) → xs ≡ []
-  no_last [] none = refl
-  no_last (x ∷ xs) none = absurd (found_at (length (x ∷ xs) - 1) (x ∷ xs) (omega arith) (sym none))
+  pub length-fit : (c : ℕ) (es : List (K × V)) → c < size_of weight es → length (fit weight c es) < length es
+  length-fit c es over = let f = fit_is_longest weight c es in elim (cases_lt (length (fit weight c es)) (length es)) [
+    | inl h ↦ h
+    | inr h ↦ let none : length f.rest ≡ 0 = omega (arith, ap length f.begins, length-append (fit weight c es) f.rest) in
+        let whole : es ≡ fit weight c es = f.begins ∙ nil_rest (fit weight c es) f.rest none in
+        absurd (omega (arith, f.fits, ap (size_of weight) whole))
+  ]
+
+  -- the list that the put leaves, by the room as the code has it
+  pub weighted_front : {x : K} {v : V} {items rest fs : List (K × V)} (room c : ℕ) → room ≡ c - 1 - weight x v → rest ≡ fs
+      → items ≡ (x, v) ∷ fit weight room rest → items ≡ (x, v) ∷ fit weight (c - 1 - weight x v) fs
+  weighted_front {x} {v} {rest = rest} room c is same put = put ∙ ap (λ r. (x, v) ∷ fit weight r rest) is ∙ ap
+      (λ l. (x, v) ∷ fit weight (c - 1 - weight x v) l) same
+
+  -- a place is free for the new pair
+  pub free_after_fit : (c p : ℕ) (es : List (K × V)) → (size_of weight es ≤ c → length es < p) → length es ≤ p → length (fit weight c es) < p
+  free_after_fit c p es free held = elim (cases_lt c (size_of weight es)) [
+    | inl over ↦ omega (arith, length-fit c es over)
+    | inr all ↦ omega (arith, free all, length-sublist (sublist_fit c es))
+  ]

@@ -12,12 +12,13 @@ pub mod Fitting
 pub mod Growing
 pub mod Hits
 pub mod Inclusion
-pub mod LastEntry
 pub mod Lookups
 pub mod Marks
 pub mod Places
 pub mod PutRuns
 pub mod PutSteps
+pub mod Putting
+pub mod Retaining
 pub mod Rows
 pub mod RunRows
 pub mod SchedulesByPlace

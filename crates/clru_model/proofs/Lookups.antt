@@ -1,15 +1,17 @@
 -- What look-ups and the number of entries say after a touch, a removal and a put.
-use Rattle.std.proofs.Common.{◌≡◌, ℕ, suc, ◌+◌, ◌-◌, ◌<◌, ◌≤◌, Bool, true, cond, List, [], ◌∷◌, length, take, Some, None, is_some, slice_get}
+use Rattle.std.proofs.Common.{◌≡◌, ℕ, suc, ◌+◌, ◌-◌, ◌<◌, ◌≤◌, Bool, true, cond, List, [], ◌∷◌, length, take, Option, Some, None, is_some, slice_get}
 use Rattle.std.proofs.Common.{refl, sym, ap, ◌∙◌, inl, inr, arith, take_all, length-take}
 use Rattle.std.specs.Cmp.{IsEquivalence}
 use Rattle.std.specs.List.{IsDistinct}
-use Rattle.std.specs.Map.{keys_of, lookup, lookup_entry, remove_entry}
+use Rattle.std.specs.Map.{keys_of, lookup, lookup_entry, remove_entry, set_value}
+use Rattle.std.specs.Option.{option_map_or}
 use Rattle.std.proofs.lemmas.Map.{lookup-remove_entry}
 use Rattle.std.proofs.lemmas.Option.{slice_get_cases}
 use Rattle.clru_model.specs.Entries.{without, touch, plain_put, plain_drop}
 use Rattle.clru_model.proofs.Cases.{split}
 use Rattle.clru_model.proofs.Sublists.{sublist_remove_entry, lookup-sublist}
-use Rattle.clru_model.proofs.Finding.{IsHeld, IsMissed, held_at, missed_at, touch-held, touch-missed, plain_put-held, plain_put-missed}
+use Rattle.clru_model.proofs.Finding.{IsHeld, IsMissed, held, held_at, missed_at, touch-held, touch-missed, plain_put-held, plain_put-missed}
+use Rattle.clru_model.proofs.Finding.{with_front-touch, with_front-set_value}
 
 module _ {K V : Type 0} (eq : K → K → Bool) where
   -- a key is held or not
@@ -92,3 +94,28 @@ module _ {K V : Type 0} {eq : K → K → Bool} (laws : IsEquivalence eq) where
         (λ h. ap (lookup (eq q)) (plain_put-held eq x h c v) ∙ put_first h v)
         (λ m. ap (lookup (eq q)) (plain_put-missed eq x m c v) ∙ rw (laws.symm q x, keeps_all eq c es (rw m.value at none))
         (split (eq x q) (λ t. rw t refl) (λ f. rw f refl)))
+
+-- the key of the entry that a search finds passes the test
+passes : {K V : Type 0} (test : K → Bool) (es : List (K × V)) (e : K × V) → lookup_entry test es ≡ Some e → test e.0 ≡ true
+passes test [] e h = cc
+passes test (f ∷ es) e h = split
+    (test f.0)
+    (λ t. let same : Some f ≡ Some e = rw t at h in let first : f ≡ e = cc in rw (← first) t)
+    (λ t. passes test es e (rw t at h))
+
+module _ {K V : Type 0} (eq : K → K → Bool) (laws : IsEquivalence eq) (c : ℕ) (x : K) (v : V) (es : List (K × V)) where
+  put_at : (o : Option (K × V)) → lookup_entry (eq x) es ≡ o
+      → lookup (eq x) (option_map_or (λ e. (e.0, v) ∷ remove_entry (eq x) es) o ((x, v) ∷ take (c - 1) es)) ≡ Some v
+  put_at None h = rw (laws.refl x) refl
+  put_at (Some e) h = rw (passes (eq x) es e h) refl
+
+  -- after a plain put the key has the new value
+  pub lookup-plain_put : lookup (eq x) (plain_put eq c x v es) ≡ Some v
+  lookup-plain_put = put_at (lookup_entry (eq x) es) refl
+
+-- where a key is found, what is written to its value, once its entry has come first, is found
+pub lookup-lent : {K V : Type 0} (eq : K → K → Bool) (x : K) (es : List (K × V)) {w : V} → Some w ≡ lookup (eq x) es → (v : V)
+    → lookup (eq x) (set_value (eq x) (touch eq x es) v) ≡ Some v
+lookup-lent eq x es found v =
+    let h = held (eq x) (ap is_some found) in
+    ap (λ l. lookup (eq x) l) (sym (with_front-set_value eq x h v) ∙ with_front-touch eq x h v) ∙ rw h.passes refl

@@ -1,10 +1,10 @@
 -- Each run of puts of the model is a run of puts over entry lists.
 use Rattle.std.proofs.Common.{◌≡◌, ℕ, ◌≤◌, Bool, List, [], ◌∷◌, length, Ok, refl, sym, ap, ◌∙◌, subst, arith}
 use Rattle.std.specs.Cmp.{IsEquivalence}
+use Rattle.clru_model.proofs.PutSteps.{IsPut-plain, IsPut-weightless, length-put}
 use Rattle.clru.specs.Cache.{Cache}
 use Rattle.clru.specs.Entries.{plain_put}
 use Rattle.clru.specs.Runs.{IsPut, IsPutRun, PutsNext}
-use Rattle.clru_model.proofs.PutSteps.{IsPut-plain, IsPut-weightless, length-put}
 use Rattle.clru_runs.specs.declared.call.Answer.{Answer}
 use Rattle.clru_runs.specs.declared.call.Answer.TheVariants.{Stored, Weighed, Lent, Tried}
 use Rattle.clru_runs.specs.declared.call.Attempt.TheVariants.{Store}

@@ -1,7 +1,7 @@
 use Rattle.std.proofs.Common.{sym, ap, ◌∙◌, subst, arith}
 use Rattle.std.specs.Option.{option_to_list}
-use Rattle.clru.specs.Drops.{HandsOutTo}
 use Rattle.clru_model.proofs.Dropping.{weightless_drops}
+use Rattle.clru.specs.Drops.{HandsOutTo}
 use Rattle.clru.proofs.laws.law_dropped.Goals as goal
 
 pub returns-clause-replaced : goal.returns-clause-replaced

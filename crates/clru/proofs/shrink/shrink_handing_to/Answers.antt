@@ -3,11 +3,12 @@ use Rattle.std.proofs.lemmas.Fn.{FoldsTo-push}
 use Rattle.std.proofs.Math.Seq.{drop-length}
 use Rattle.clru_model.specs.Entries.{fit, weight_of}
 use Rattle.clru_model.proofs.Weights.{weight_of-push}
+use Rattle.clru_model.proofs.Dropping.{reverse-drop, reverse-drop-last}
+use Rattle.clru_model.proofs.Fitting.{fit_is_longest, last_goes, too_long_fits, whole_is_too_long}
+use Rattle.clru_model.proofs.Ends.{split_last, no_last}
 use Rattle.clru_nodes.specs.Nodes.{pairs_in}
 use Rattle.clru_nodes.proofs.Same.{same_refl, same_trans}
 use Rattle.clru.specs.Drops.{HandsOutTo, TakesOver}
-use Rattle.clru_model.proofs.Dropping.{reverse-drop, reverse-drop-last}
-use Rattle.clru_model.proofs.Fitting.{fit_is_longest, last_goes, too_long_fits, whole_is_too_long, split_last, no_last}
 use Rattle.clru.proofs.shrink.shrink_handing_to.Goals as goal
 
 pub loop-total_weight-init : goal.loop-total_weight-init

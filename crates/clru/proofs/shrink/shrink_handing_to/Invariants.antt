@@ -1,8 +1,8 @@
 use Rattle.std.proofs.Common.{◌≡◌, ◌<◌, ◌^◌, length, drop, reverse}
 use Rattle.clru_model.specs.Entries.{weight_of, size_of}
+use Rattle.clru_model.proofs.Fitting.{IsTooLongFit}
 use Rattle.clru_nodes.specs.Nodes.{hash_by, pairs_in, IsIndexed, IsSame}
 use Rattle.clru.specs.Drops.{HandsOutTo}
-use Rattle.clru_model.proofs.Fitting.{IsTooLongFit}
 use Rattle.clru.proofs.shrink.shrink_handing_to.Given as goal
 
 abbrev pub invariant-loop-total_weight : goal.invariant-loop-total_weight

@@ -2,8 +2,8 @@ use Rattle.std.proofs.Common.{◌-◌, length, take, ap, arith}
 use Rattle.clru_model.specs.Entries.{weight_of}
 use Rattle.clru_model.proofs.Weights.{weight_of-push}
 use Rattle.clru_model.proofs.Sublists.{sublist_take}
+use Rattle.clru_model.proofs.Ends.{split_last}
 use Rattle.clru_nodes.specs.Nodes.{pairs_in}
-use Rattle.clru_model.proofs.Fitting.{split_last}
 use Rattle.clru.proofs.Keeping.{IsCache-from, IsKept-sublist}
 use Rattle.clru.proofs.cache.CLruCache.pop_back.Goals as goal
 

@@ -6,11 +6,11 @@ use Rattle.clru_model.proofs.Weights.{weight_of-cons}
 use Rattle.clru_model.proofs.Finding.{held_at, held_is, missed_at, weight_of-held}
 use Rattle.clru_model.proofs.Lookups.{lookup-without}
 use Rattle.clru_model.proofs.Sublists.{sublist_remove_entry, sublist_itself, length-sublist}
+use Rattle.clru_model.proofs.Fitting.{sublist_fit, size_of-fit, free_after_fit, weighted_front}
 use Rattle.clru_nodes.specs.Nodes.{pairs_in, places_of}
 use Rattle.clru_nodes.proofs.WrittenItems.{held_places}
-use Rattle.clru.proofs.Keeping.{IsCache-from}
-use Rattle.clru.proofs.Putting.{GrowsIf-along, grows_if_needed}
-use Rattle.clru.proofs.Weighing.{sublist_fit, size_of-fit, free_after_fit, IsKept-weighted, weighted_front}
+use Rattle.clru.proofs.Keeping.{IsCache-from, IsKept-weighted}
+use Rattle.clru.proofs.Growth.{GrowsIf-along, grows_if_needed}
 use Rattle.clru.proofs.cache.CLruCache.put_with_weight_handing_to.Goals as goal
 
 pub overflow_sub-self : goal.overflow_sub-self

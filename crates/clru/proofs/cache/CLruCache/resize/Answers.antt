@@ -1,9 +1,10 @@
 use Rattle.std.proofs.Common.{length, sym, ap, ◌∙◌, subst, arith}
 use Rattle.std.specs.NonZero.{non_zero_usize_get}
 use Rattle.clru_model.specs.Entries.{fit, weight_of}
+use Rattle.clru_model.proofs.Fitting.{size_of-fit}
 use Rattle.clru_nodes.specs.Nodes.{pairs_in}
 use Rattle.clru.specs.Fields.{IsKept}
-use Rattle.clru.proofs.Weighing.{size_of-fit, IsKept-fit}
+use Rattle.clru.proofs.Keeping.{IsKept-fit}
 use Rattle.clru.proofs.cache.CLruCache.resize.Goals as goal
 
 pub resize-requires-clause-fits : goal.resize-requires-clause-fits

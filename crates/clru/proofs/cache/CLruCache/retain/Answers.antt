@@ -1,8 +1,8 @@
 use Rattle.std.proofs.Common.{refl}
+use Rattle.clru_model.proofs.Retaining.{sublist_retained}
 use Rattle.clru_nodes.specs.Nodes.{pairs_in}
 use Rattle.clru_nodes.specs.Retains.{CalledAtShownPair}
 use Rattle.clru.proofs.Keeping.{IsCache-from, IsKept-sublist}
-use Rattle.clru.proofs.Retaining.{sublist_retained}
 use Rattle.clru.proofs.cache.CLruCache.retain.Goals as goal
 
 pub invariant_of-self : goal.invariant_of-self

@@ -2,10 +2,12 @@ use Rattle.std.proofs.Common.{◌≡◌, ◌-◌, ◌<◌, ◌∷◌, length, ta
 use Rattle.std.specs.NonZero.{non_zero_usize_get}
 use Rattle.clru_model.specs.Entries.{with_front}
 use Rattle.clru_model.proofs.Finding.{held, missed, touch-missed, with_front-touch, plain_put-held, first_touched}
+use Rattle.clru_model.proofs.Putting.{put_full, put_free, drop_full, drop_free}
 use Rattle.clru_nodes.specs.Nodes.{pairs_in}
 use Rattle.clru_nodes.proofs.WrittenItems.{held_places}
 use Rattle.clru.proofs.Keeping.{IsKept-front, IsCache-from}
-use Rattle.clru.proofs.Putting.{GrowsIf-along, grows_if_needed, IsKept-new, put_full, put_free, drop_full, drop_free}
+use Rattle.clru.proofs.Growth.{GrowsIf-along, grows_if_needed}
+use Rattle.clru.proofs.Keeping.{IsKept-new}
 use Rattle.clru.proofs.cache.put.CLruCache+K+V+S+ZeroWeightScale+A.put.Goals as goal
 
 pub invariant_of-self : goal.invariant_of-self

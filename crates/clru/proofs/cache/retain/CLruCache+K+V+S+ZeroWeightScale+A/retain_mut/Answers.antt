@@ -1,7 +1,7 @@
 use Rattle.std.proofs.Common.{refl}
 use Rattle.std.specs.Map.Calls.{CalledAtPair}
 use Rattle.clru.proofs.Keeping.{IsCache-from}
-use Rattle.clru.proofs.Retaining.{IsKept-retained}
+use Rattle.clru.proofs.Values.{IsKept-retained}
 use Rattle.clru.proofs.cache.retain.CLruCache+K+V+S+ZeroWeightScale+A.retain_mut.Goals as goal
 
 pub invariant_of-self : goal.invariant_of-self

@@ -1,5 +1,5 @@
 use Rattle.std.proofs.Common.{ap}
-use Rattle.clru_model.proofs.LastEntry.{yields-last}
+use Rattle.clru_model.proofs.Ends.{yields-last}
 use Rattle.clru.proofs.iter.owned.CLruCacheIntoIterDoubleEndedIterator.next_back.Goals as goal
 
 pub returns-clause-steps : goal.returns-clause-steps

@@ -1,11 +1,8 @@
 -- What is kept of the entries where a closure was called at each.
-use Rattle.std.proofs.Common.{◌≡◌, ℕ, Bool, true, false, cond, List, [], ◌∷◌, sym, ◌∙◌, subst, arith}
+use Rattle.std.proofs.Common.{◌≡◌, Bool, true, false, cond, List, [], ◌∷◌, sym, subst}
 use Rattle.std.specs.Map.{keys_of}
 use Rattle.std.specs.Map.Calls.{RetainsPairs}
-use Rattle.std.proofs.lemmas.Map.Entries.{length-keys_of}
-use Rattle.clru_model.proofs.Weights.{weight_of-zero}
-use Rattle.clru_model.proofs.Sublists.{IsSublist, nothing, stays, goes, length-sublist, IsDistinct-sublist}
-use Rattle.clru.specs.Fields.{IsKept}
+use Rattle.clru_model.proofs.Sublists.{IsSublist, nothing, stays, goes}
 
 module _ {F K V : Type 0} (step : F → K → V → Bool → V → F → Type 0) where
   -- where the calls leave the values, some entries go
@@ -30,14 +27,3 @@ module _ {F K V : Type 0} (step : F → K → V → Bool → V → F → Type 0)
         | true ↦ stays s
         | false ↦ goes s
       ]))
-
-  -- at weight zero the values may change
-  pub IsKept-retained : {eq : K → K → Bool} {es : List (K × V)} {kept c : ℕ} (f : F) (left : List (K × V)) → IsKept eq (λ k v. 0) es kept c
-      → RetainsPairs step f es left → IsKept eq (λ k v. 0) left kept c
-  IsKept-retained {eq = eq} {es = es} f left old h =
-      let s = keys_retained f es left h in
-      record {
-        distinct = IsDistinct-sublist eq s old.distinct;
-        weighs = old.weighs ∙ weight_of-zero es ∙ sym (weight_of-zero left);
-        fits = omega (arith, old.fits, length-sublist s, length-keys_of es, length-keys_of left, weight_of-zero left);
-      }

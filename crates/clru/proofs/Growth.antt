@@ -1,18 +1,10 @@
--- What a put does to the entries and the places.
-use Rattle.std.proofs.Common.{◌≡◌, ℕ, ◌+◌, ◌-◌, ◌<◌, ◌≤◌, Bool, true, false, List, [], ◌∷◌, length, take, None, Some, min, IsTrue, inl, inr, slice_get, refl, sym, ap, ◌∙◌, arith, length-take, take_all}
-use Rattle.std.specs.Cmp.{IsEquivalence}
+-- When a put finds memory for places.
+use Rattle.std.proofs.Common.{◌≡◌, ℕ, ◌≤◌, Bool, true, false, length, None, Some, IsTrue, inl, inr, refl, sym, arith}
 use Rattle.std.specs.Map.{lookup}
 use Rattle.std.proofs.lemmas.Bool.{cases_lt}
-use Rattle.std.proofs.lemmas.Option.{slice_get_past}
-use Rattle.clru_model.specs.Entries.{plain_put, plain_drop}
-use Rattle.clru_model.proofs.Finding.{IsMissed, plain_put-missed}
-use Rattle.clru_model.proofs.Sublists.{sublist_take, lookup-sublist}
-use Rattle.clru_model.proofs.Weights.{weight_of-zero}
 use Rattle.clru_nodes.specs.Growth.{GrowsIf}
 use Rattle.clru.specs.Cache.{Cache}
-use Rattle.clru.specs.Fields.{IsKept}
 use Rattle.clru.specs.Memory.{GrowsOnlyIf, NeedsMemory}
-use Rattle.clru.proofs.Keeping.{IsKept-put}
 
 -- the same growth, by other names of its numbers
 pub GrowsIf-along : {wanted : Bool} {len c p q len' c' p' q' : ℕ} → len' ≡ len → c' ≡ c → p' ≡ p → q' ≡ q → GrowsIf wanted len c p q
@@ -63,32 +55,3 @@ module _ {K V W : Type 0} {eq : K → K → Bool} {x : K} where
     bounded = λ n. omega (arith, grows.bounded (asks n.room) (sym n.taken), capacity);
     covers = covers;
   }
-
--- at weight zero
-module _ {K V : Type 0} {eq : K → K → Bool} where
-  -- a new entry comes first, and what is past the capacity goes
-  pub IsKept-new : {es : List (K × V)} {kept c : ℕ} (x : K) (v : V) → IsEquivalence eq → IsKept eq (λ k v. 0) es kept c
-      → lookup (eq x) es ≡ None → 0 < c → IsKept eq (λ k v. 0) ((x, v) ∷ take (c - 1) es) kept c
-  IsKept-new {es} {kept} {c} x v laws old absent some =
-      let rest = take (c - 1) es in let len : length rest ≡ min (c - 1) (length es) = length-take (c - 1) es in
-      IsKept-put (λ k v. 0) kept x (x, v) laws old (sublist_take (c - 1) es)
-      (lookup-sublist (eq x) (sublist_take (c - 1) es) absent) (laws.refl x)
-      (omega (arith, old.weighs, weight_of-zero es, weight_of-zero ((x, v) ∷ rest))) (omega (arith, weight_of-zero rest, len))
-
-module _ {K V : Type 0} (eq : K → K → Bool) where
-  -- a plain put of a new key where the last entry went, since the list had as many entries as the capacity
-  pub put_full : {es : List (K × V)} (c : ℕ) (x : K) (v : V) → IsMissed (eq x) es → length es ≡ c
-      → (x, v) ∷ take (length es - 1) es ≡ plain_put eq c x v es
-  put_full {es} c x v m full = ap (λ n. (x, v) ∷ take (n - 1) es) full ∙ sym (plain_put-missed eq x m c v)
-
-  -- and where no entry had to go
-  pub put_free : {es : List (K × V)} (c : ℕ) (x : K) (v : V) → IsMissed (eq x) es → length es < c → (x, v) ∷ es ≡ plain_put eq c x v es
-  put_free {es} c x v m free = ap (λ l. (x, v) ∷ l) (sym (take_all (c - 1) es (omega arith))) ∙ sym (plain_put-missed eq x m c v)
-
-  -- the pair that goes there
-  pub drop_full : {es : List (K × V)} (c : ℕ) (x : K) → IsMissed (eq x) es → length es ≡ c → slice_get es (length es - 1) ≡ plain_drop eq c x es
-  drop_full {es} c x m full = rw m.value (ap (λ n. slice_get es (n - 1)) full)
-
-  -- and none here
-  pub drop_free : {es : List (K × V)} (c : ℕ) (x : K) → IsMissed (eq x) es → length es < c → None ≡ plain_drop eq c x es
-  drop_free {es} c x m free = rw m.value (sym (slice_get_past es (c - 1) (omega arith)))
