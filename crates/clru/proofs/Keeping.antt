@@ -116,14 +116,14 @@ module _ {K V : Type 0} (weight : K → V → ℕ) where
       → IsKept eq weight ((x, v) ∷ fit weight (c - 1 - weight x v) fs) left c
   IsKept-weighted {eq} {es} {fs} {c = c} left x v laws old s absent light w =
       let room = c - 1 - weight x v in
-      IsKept-put weight left x (x, v) laws old (sublist_trans s (sublist_fit room fs))
-      (lookup-sublist (eq x) (sublist_fit room fs) absent) (laws.refl x) w (omega (arith, size_of-fit room fs))
+      IsKept-put weight left x (x, v) laws old (sublist_trans s (sublist_fit weight room fs))
+      (lookup-sublist (eq x) (sublist_fit weight room fs) absent) (laws.refl x) w (omega (arith, size_of-fit weight room fs))
 
   -- what fits another capacity is kept under it
   pub IsKept-fit : {eq : K → K → Bool} {es : List (K × V)} {kept c : ℕ} (d left : ℕ) → IsKept eq weight es kept c
       → left ≡ weight_of weight (fit weight d es) → IsKept eq weight (fit weight d es) left d
   IsKept-fit {es = es} d left old w = record {
-    distinct = (IsKept-sublist weight left old (sublist_fit d es) w).distinct;
+    distinct = (IsKept-sublist weight left old (sublist_fit weight d es) w).distinct;
     weighs = w;
-    fits = size_of-fit d es;
+    fits = size_of-fit weight d es;
   }

@@ -37,7 +37,7 @@ module _ {F K V : Type 0} (step : F → K → V → Bool → V → F → Type 0)
   pub IsKept-retained : {eq : K → K → Bool} {es : List (K × V)} {kept c : ℕ} (f : F) (left : List (K × V)) → IsKept eq (λ k v. 0) es kept c
       → RetainsPairs step f es left → IsKept eq (λ k v. 0) left kept c
   IsKept-retained {eq = eq} {es = es} f left old h =
-      let s = keys_retained f es left h in
+      let s = keys_retained step f es left h in
       record {
         distinct = IsDistinct-sublist eq s old.distinct;
         weighs = old.weighs ∙ weight_of-zero es ∙ sym (weight_of-zero left);

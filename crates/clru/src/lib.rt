@@ -22,10 +22,9 @@ mod shrink;
 pub use cache::{CLruCache, Put};
 pub use clru_list::NoMemory;
 pub use clru_model::{
-    law_by_place, law_growth, law_inclusion, law_longest_fit, law_requests,
-    law_schedules_by_place,
+    DefaultState, PutError, TryPutError, WeightScale, ZeroWeightScale, law_by_place, law_growth,
+    law_inclusion, law_longest_fit, law_requests, law_schedules_by_place,
 };
-pub use clru_model::{DefaultState, PutError, TryPutError, WeightScale, ZeroWeightScale};
 pub use config::CLruCacheConfig;
 pub use entry::EntryMut;
 pub use iter::CLruCacheIter;

@@ -1,7 +1,11 @@
-//! What a cache of `clru` is made from beside its capacity, and what a refused put answers.
+//! The model of a cache, over lists alone: what the words of the contracts mean, the laws, and the lemmas on them.
 //!
-//! A scale says what a pair weighs. A hash builder hashes keys where none is given. A refused put answers why it was refused,
-//! and gives back what it was given or what a closure answered. No call of this crate takes memory.
+//! `specs/` defines entry lists, requests, schedules and runs of calls, in whose words the contracts of the crates above speak.
+//! `proofs/` has what is true of them, for proofs above to cite. A law is a function that does nothing, whose contract says it.
+//!
+//! Here is also what a cache is made from beside its capacity, and what a refused put answers. A scale says what a pair
+//! weighs. A hash builder hashes keys where none is given. A refused put answers why it was refused, and gives back what it
+//! was given or what a closure answered. No call of this crate takes memory.
 #![tactic(auto)]
 
 mod error;

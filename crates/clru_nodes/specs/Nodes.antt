@@ -1,6 +1,6 @@
 -- What a contract sees of nodes: their pairs, the most recently used first, their capacity, their hash builder, for how many
 -- pairs memory was found, the items that are lent, and what holds between the calls. Public clauses cite it.
-use Rattle.std.specs.Prelude.{◌≡◌, ℕ, ◌≤◌, Bool, Option, List, [], ◌∷◌, map, length, slice_get}
+use Rattle.std.specs.Prelude.{◌≡◌, ℕ, ◌≤◌, Bool, Option, List, [], map, length, slice_get}
 use Rattle.std.specs.List.{fold}
 use Rattle.std.specs.Option.{option_map}
 use Rattle.clru_list.specs.PlaceList.{first_entry, last_entry, with_entries, with_first, with_last}
