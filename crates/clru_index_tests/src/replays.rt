@@ -8,14 +8,15 @@ use ration::Rationed;
 use std::alloc::{AllocError, Global};
 use std::test::Fail;
 
-/// So many keys, which go round ten.
-fn round_of_ten(
+/// So many keys, which go round those below `distinct`.
+fn round_of(
     heap: &Rationed<Global>,
+    distinct: u64,
     count: u64,
 ) -> Result<Vec<u64, &Rationed<Global>>, AllocError> {
     let mut keys = Vec::with_capacity(heap, count as usize)?;
     for i in 0..count {
-        keys.push(i % 10)?;
+        keys.push(i.checked_rem(distinct).unwrap_or(0))?;
     }
     Ok(keys)
 }
@@ -23,17 +24,18 @@ fn round_of_ten(
 #[test]
 fn a_replay_asks_for_its_places_and_its_marks(rt: HostRuntime) -> Result<(), Fail> {
     let rows = [
-        (10, 10u64, 10, 32, 10u64),
-        (10, 20_000, 10, 32, 10),
-        (8, 20_000, 8, 16, 20_000),
-        (9, 20_000, 9, 32, 20_000),
-        (20_000, 10, 10, 32, 10),
-        (20_000, 20_000, 20_000, 65_536, 10),
-        (usize::MAX, 20_000, 20_000, 65_536, 10),
+        (10, 10, 10u64, 10, 32, 10u64),
+        (10, 10, 20_000, 10, 32, 10),
+        (8, 10, 20_000, 8, 16, 20_000),
+        (9, 10, 20_000, 9, 32, 20_000),
+        (20_000, 10, 10, 10, 32, 10),
+        (20_000, 10, 20_000, 20_000, 65_536, 10),
+        (usize::MAX, 10, 20_000, 20_000, 65_536, 10),
+        (usize::MAX, 2, 3, 3, 8, 2),
     ];
-    for (capacity, count, places, heads, misses) in rows {
+    for (capacity, distinct, count, places, heads, misses) in rows {
         let heap = Rationed::new(rt.alloc());
-        let keys = round_of_ten(&heap, count)?;
+        let keys = round_of(&heap, distinct, count)?;
         let (asked, bytes) = (heap.asked(), heap.asked_bytes());
         let answer = replay(&heap, room(capacity)?, keys, DefaultState);
         let answer = answer.map_err(|_| "the keys came back")?;

@@ -1,7 +1,7 @@
 //! A reserve of two places, where each later request for memory is refused.
 
 use assertions::equal;
-use clru::{CLruCache, CLruCacheConfig, DefaultState, ZeroWeightScale};
+use clru::{CLruCache, CLruCacheConfig, DefaultState, Put, ZeroWeightScale};
 use clru_fixtures::builders::CONSTANTS;
 use clru_fixtures::sizes::room;
 use ration::Rationed;
@@ -11,55 +11,42 @@ use std::process::Abort;
 use std::test::Fail;
 
 /// A cache over an allocator that refuses.
-type Over<'a, S> = CLruCache<u64, u64, S, ZeroWeightScale, &'a Rationed<Global>>;
+type Over<'a, S> = CLruCache<&'static str, u64, S, ZeroWeightScale, &'a Rationed<Global>>;
 
-/// Puts a key that is not held, with ten times itself, and returns whether it went in.
-fn goes_in<S: BuildHasher>(rt: &impl Abort, cache: &mut Over<S>, key: u64) -> bool {
-    match cache.put(key, key.wrapping_mul(10)) {
-        Ok(put) => {
-            equal!(rt; (put.replaced, put.dropped), (None, None));
-            true
-        }
-        Err(pair) => {
-            equal!(rt; pair, (key, key.wrapping_mul(10)));
-            false
-        }
-    }
-}
+type Pair = (&'static str, u64);
 
-/// Asserts that the cache holds these two keys and no other, each with ten times itself.
-fn is_held<S: BuildHasher>(rt: &impl Abort, cache: &Over<S>, keys: [u64; 2]) {
+/// A put that replaces nothing and drops nothing.
+const ADDED: Put<&str, u64> = Put {
+    replaced: None,
+    dropped: None,
+};
+
+/// Asserts that the cache holds these two pairs and no other, the most recently used first.
+fn is_held<S: BuildHasher>(rt: &impl Abort, cache: &Over<S>, pairs: [Pair; 2]) {
     let mut held = cache.iter();
-    for key in keys {
-        equal!(rt; held.next(), Some((&key, &key.wrapping_mul(10))), key);
+    for (key, value) in pairs {
+        equal!(rt; held.next(), Some((&key, &value)), key);
     }
     equal!(rt; held.next(), None);
 }
 
-/// Two keys go in, the third where a place is free again.
+/// Two pairs go in, the third where a place is free again.
 fn holds_two<S: BuildHasher>(rt: &impl Abort, heap: &Rationed<Global>, cache: &mut Over<S>) {
     heap.refuse_after(0);
-    for (key, stored) in [(1, true), (2, true), (3, false)] {
-        equal!(rt; goes_in(rt, cache, key), stored, key);
-    }
-    is_held(rt, cache, [2, 1]);
-    equal!(rt; cache.pop(&1), Some(10));
-    assert!(rt; goes_in(rt, cache, 3));
-    is_held(rt, cache, [3, 2]);
+    equal!(rt; cache.put("a", 1), Ok(ADDED));
+    equal!(rt; cache.put("b", 2), Ok(ADDED));
+    equal!(rt; cache.put("c", 3), Err(("c", 3)));
+    is_held(rt, cache, [("b", 2), ("a", 1)]);
+    equal!(rt; cache.pop(&"a"), Some(1));
+    equal!(rt; cache.put("c", 3), Ok(ADDED));
+    is_held(rt, cache, [("c", 3), ("b", 2)]);
     heap.refuse_none();
 }
 
 #[test]
 fn a_reserve_of_two_holds_two(rt: HostRuntime) -> Result<(), Fail> {
     let heap = Rationed::new(rt.alloc());
-    let made = CLruCache::<u64, u64, DefaultState, ZeroWeightScale, _>::with_memory(
-        &heap,
-        room(4)?,
-        2,
-    );
-    let Ok(mut cache) = made else {
-        return Err("there is memory".into());
-    };
+    let mut cache: Over<DefaultState> = CLruCache::with_memory(&heap, room(4)?, 2)?;
     holds_two(&rt, &heap, &mut cache);
     Ok(())
 }
