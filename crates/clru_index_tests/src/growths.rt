@@ -54,9 +54,9 @@ fn refuses_a_growth(
     equal!(rt; cache.put(held, 0), Err((held, 0)), (held, n));
     heap.refuse_none();
     finds_those_below(rt, cache, held);
-    puts(rt, cache, held, held.wrapping_mul(2));
-    finds_those_below(rt, cache, held.wrapping_mul(2));
-    takes_out(rt, cache, held, held.wrapping_mul(2));
+    puts(rt, cache, held, held.wrapping_mul(4));
+    finds_those_below(rt, cache, held.wrapping_mul(4));
+    takes_out(rt, cache, held, held.wrapping_mul(4));
     equal!(rt; cache.pop_front(), Some((0, 10)), (held, n));
     takes_out(rt, cache, 1, held);
     assert!(rt; cache.is_empty());
@@ -64,7 +64,7 @@ fn refuses_a_growth(
 
 #[test]
 fn a_refused_growth_leaves_each_key_in_its_place(rt: HostRuntime) -> Result<(), Fail> {
-    for held in [4, 8, 16, 32, 64] {
+    for held in [4, 16, 64] {
         for n in 0..2 {
             let heap = Rationed::new(rt.alloc());
             {
@@ -78,15 +78,15 @@ fn a_refused_growth_leaves_each_key_in_its_place(rt: HostRuntime) -> Result<(), 
 }
 
 #[test]
-fn places_and_heads_double(rt: HostRuntime) -> Result<(), Fail> {
+fn places_and_heads_grow_fourfold(rt: HostRuntime) -> Result<(), Fail> {
     // A place is 48 bytes and a head is 8, with two heads a place, and 2,048 heads for the last 1,000 places.
     let rows = [
         (1, 256),
         (4, 256),
-        (5, 512),
-        (9, 1024),
-        (512, 32_768),
-        (513, 64_384),
+        (5, 1024),
+        (17, 4096),
+        (256, 16_384),
+        (257, 64_384),
         (1000, 64_384),
         (1001, 64_384),
         (3000, 64_384),

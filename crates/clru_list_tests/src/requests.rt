@@ -18,14 +18,14 @@ fn makers_ask_for_what_they_reserve_at_once(rt: HostRuntime) {
 }
 
 #[test]
-fn a_list_of_1000_grows_nine_times(rt: HostRuntime) -> Result<(), Fail> {
+fn a_list_of_1000_grows_five_times(rt: HostRuntime) -> Result<(), Fail> {
     let heap = Rationed::new(rt.alloc());
     {
         let mut list = FixedSizeList::new(&heap, 1000);
         for item in 0..1000u64 {
             assert!(rt; list.push_back(item).is_ok(), "the push of {item}");
         }
-        equal!(rt; (list.len(), list.places(), heap.asked()), (1000, 1000, 9));
+        equal!(rt; (list.len(), list.places(), heap.asked()), (1000, 1000, 5));
         equal!(rt; (heap.refused(), heap.blocks()), (0, 1));
     }
     equal!(rt; heap.blocks(), 0);

@@ -3,7 +3,7 @@ use Rattle.clru_nodes.specs.Chained.{IsChained}
 use Rattle.clru_nodes.specs.Heads.{head_at, link_at, key_at, home_at}
 use Rattle.clru_nodes.specs.Nodes.{hash_by, pairs_of}
 use Rattle.clru_nodes.proofs.Placed.{same_pairs}
-use Rattle.clru_nodes.proofs.nodes.Nodes.make_ready_if.Goals as goal
+use Rattle.clru_nodes.proofs.nodes.Nodes.grow.Goals as goal
 
 pub make_heads-requires : goal.make_heads-requires
 make_heads-requires g c =
