@@ -20,7 +20,7 @@ pub fn value_of<E, R: Source<u64, u64, E>, W: WeightScale<u64, u64>>(
 {
     match store.load(page)? {
         Loaded::Passed(value) => Ok(value),
-        Loaded::Held => match store.peek(&page) {
+        Loaded::Held { .. } => match store.peek(&page) {
             Some(value) => Ok(*value),
             None => unreachable!(),
         },

@@ -71,7 +71,7 @@ fn loads(rt: &impl Abort, heap: &Rationed<Global>, capacity: usize) -> Result<(u
             continue;
         };
         match store.load(key) {
-            Ok(Loaded::Held) => {}
+            Ok(Loaded::Held { .. }) => {}
             Ok(Loaded::Passed(page)) => {
                 equal!(rt; page.bytes.as_slice(), [0, 0, 0].as_slice());
                 passed = passed.saturating_add(1);
