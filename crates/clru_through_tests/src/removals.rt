@@ -31,11 +31,7 @@ fn two(letter: u8) -> Text {
 }
 
 /// Makes the call.
-fn performs<S: BuildHasher>(
-    rt: &impl Abort,
-    store: &mut Texts<S>,
-    call: Call,
-) -> Result<(), Fail> {
+fn performs<S: BuildHasher>(rt: &impl Abort, store: &mut Texts<S>, call: Call) -> Result<(), Fail> {
     match call {
         Call::Load(letter, found) => {
             let loaded = Ok(Loaded::Held { fetched: !found });

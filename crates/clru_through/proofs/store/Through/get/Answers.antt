@@ -18,5 +18,5 @@ returns-in-Some-clause-step g c =
     let fetches = g.R.Source.fetches in let new = c.load.new.self in
     let step = subst (λ loaded. Loads eq weight fetches old c.args.key (Ok loaded) new) c.in-Held.is c.in_ok-value.ensures.step in
     let shown = front_loaded eq g.met.K.Eq.laws weight fetches old c.args.key new c.in-Held.fetched step c.front.result
-        (c.in-Some.field-0-0, c.in-Some.value) c.front.ensures.entry c.in-Some.is in
+    (c.in-Some.field-0-0, c.in-Some.value) c.front.ensures.entry c.in-Some.is in
     (new, Ok c.in_ok-value.field-0, c.in_ok-value.ensures.step, rw c.in-Held.is shown)
