@@ -31,6 +31,8 @@ impl<
     /// What does not fit beside a fetched value is dropped, the least recently used entry first. A value that weighs as much
     /// as the capacity or more, and one for which no memory was found, is passed on, and no entry changes; nor does one where
     /// the fetch fails, whose error comes out. A held key is searched for once, another one twice.
+    ///
+    /// The answer says whether it was fetched. After `Held` the value is that of `front`, and of `peek` of the key.
     #[tactic(auto, using(crate::proofs::Sourced::sourced_by))]
     pub fn load(&mut self, key: K) -> Result<Loaded<V>, E>
     where
