@@ -9,4 +9,5 @@ pub mod pages;
 pub mod replays;
 pub mod scale;
 pub mod seed;
+pub mod store;
 pub mod texts;

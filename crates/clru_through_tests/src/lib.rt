@@ -13,6 +13,8 @@ mod memory;
 #[cfg(test)]
 mod owned;
 #[cfg(test)]
+mod removals;
+#[cfg(test)]
 mod rows;
 #[cfg(test)]
 mod sources;
