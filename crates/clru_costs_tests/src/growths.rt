@@ -2,6 +2,7 @@
 
 use assertions::equal;
 use clru::{CLruCache, DefaultState, ZeroWeightScale};
+use clru_fixtures::costs::{HEAD_BYTES, PLACE_BYTES, REQUESTS};
 use clru_fixtures::sizes::room;
 use ration::Rationed;
 use std::alloc::Global;
@@ -64,11 +65,11 @@ fn refuses_a_growth(
 
 #[test]
 fn a_refused_growth_leaves_each_key_in_its_place(rt: HostRuntime) -> Result<(), Fail> {
-    for held in [4, 8, 16, 32, 64] {
+    for held in [4, 8, 16, 32, 64, 128, 256, 512, 1024] {
         for n in 0..2 {
             let heap = Rationed::new(rt.alloc());
             {
-                let mut cache = CLruCache::new(&heap, room(1000)?);
+                let mut cache = CLruCache::new(&heap, room(5000)?);
                 refuses_a_growth(&rt, &heap, &mut cache, held, n);
             }
             equal!(rt; (heap.refused(), heap.blocks()), (1, 0), (held, n));
@@ -79,23 +80,27 @@ fn a_refused_growth_leaves_each_key_in_its_place(rt: HostRuntime) -> Result<(), 
 
 #[test]
 fn places_and_heads_double(rt: HostRuntime) -> Result<(), Fail> {
-    // A place is 48 bytes and a head is 8, with two heads a place, and 2,048 heads for the last 1,000 places.
+    // The number of entries that go in, the places and heads that are held then, and the growths.
     let rows = [
-        (1, 256),
-        (4, 256),
-        (5, 512),
-        (9, 1024),
-        (512, 32_768),
-        (513, 64_384),
-        (1000, 64_384),
-        (1001, 64_384),
-        (3000, 64_384),
+        (1000, 1, 4, 8, 1),
+        (1000, 4, 4, 8, 1),
+        (1000, 5, 8, 16, 2),
+        (1000, 9, 16, 32, 3),
+        (1000, 512, 512, 1024, 8),
+        (1000, 513, 1000, 2048, 9),
+        (1000, 3000, 1000, 2048, 9),
+        (1 << 40, 100_000, 131_072, 262_144, 16),
+        (1 << 62, 100_000, 131_072, 262_144, 16),
     ];
-    for (end, bytes) in rows {
+    for (capacity, end, places, heads, growths) in rows {
         let heap = Rationed::new(rt.alloc());
-        let mut cache = CLruCache::new(&heap, room(1000)?);
+        let mut cache = CLruCache::new(&heap, room(capacity)?);
         puts(&rt, &mut cache, 0, end);
-        equal!(rt; heap.held_bytes(), bytes, end);
+        equal!(rt;
+            (heap.held_bytes(), heap.asked()),
+            (places * PLACE_BYTES + heads * HEAD_BYTES, growths * REQUESTS),
+            (capacity, end)
+        );
     }
     Ok(())
 }
