@@ -7,6 +7,7 @@ ghost use Rattle.std.specs.Cmp.Rules.{comparing, hashing};
 ghost use Rattle.std.proofs.Common.{rules};
 
 use clru::{WeightScale, ZeroWeightScale};
+use clru_fixtures::builders::Constant;
 use ration::Rationed;
 use std::alloc::Global;
 use std::cell::Cell;
@@ -88,6 +89,7 @@ impl<'a> Counting<'a> for OneChain<'a> {
     fn there(counts: &'a Counts) -> OneChain<'a> {
         OneChain {
             hashed: &counts.hashed,
+            hash: Constant(0),
         }
     }
 }
@@ -178,31 +180,17 @@ impl<'a> BuildHasher for Spread<'a> {
 /// Has one hash for all keys, so that they stand in one chain: those that came first stand first in it.
 #[derive(Clone, Copy)]
 pub(crate) struct OneChain<'a> {
-    pub(crate) hashed: &'a Cell<u64>,
-}
-
-#[derive(Clone, Copy)]
-pub(crate) struct Zero;
-
-impl Hasher for Zero {
-    ghost write = { λ h _. h };
-
-    ghost finish = { λ _. 0 };
-
-    fn finish(&self) -> u64 {
-        0
-    }
-
-    fn write(&mut self, _bytes: &[u8]) {}
+    hashed: &'a Cell<u64>,
+    hash: Constant,
 }
 
 impl<'a> BuildHasher for OneChain<'a> {
-    type Hasher = Zero;
+    type Hasher = Constant;
 
-    ghost build_hasher = { λ _. Zero };
+    ghost build_hasher = { λ s. s.hash };
 
-    fn build_hasher(&self) -> Zero {
+    fn build_hasher(&self) -> Constant {
         add(self.hashed);
-        Zero
+        self.hash
     }
 }

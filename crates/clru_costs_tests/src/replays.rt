@@ -1,7 +1,7 @@
 //! The memory of a replay.
 
 use crate::cost::{counted, less};
-use crate::counted::{Counting, Counts, OneChain, Spread};
+use crate::counted::{Counting, Counts, Key, OneChain, Spread};
 use assertions::equal;
 use clru::{DefaultState, replay};
 use clru_fixtures::costs::{HEAD_BYTES, PLACE_BYTES, REQUESTS};
@@ -34,16 +34,26 @@ static REPLAYS: &[(&str, usize, u64, u64, usize, u64, u64)] = &[
     ("replay", 99, 100, 2, 200, 14_850, 301),
 ];
 
+/// Keys that go round so often.
+fn rounds_of<'a>(
+    counts: &'a Counts,
+    distinct: u64,
+    rounds: u64,
+) -> Result<Vec<Key<'a>, &'a Rationed<Global>>, Fail> {
+    let mut keys = Vec::new(&counts.heap);
+    for _ in 0..rounds {
+        for number in 0..distinct {
+            keys.push(counts.key(number)?)?;
+        }
+    }
+    Ok(keys)
+}
+
 #[test]
 fn replays_cost_what_their_rows_say(rt: HostRuntime) -> Result<(), Fail> {
     let counts = Counts::new(rt.alloc());
     for (name, capacity, distinct, rounds, misses, compared, hashed) in REPLAYS.iter() {
-        let mut keys = Vec::new(&counts.heap);
-        for _ in 0..*rounds {
-            for number in 0..*distinct {
-                keys.push(counts.key(number)?)?;
-            }
-        }
+        let keys = rounds_of(&counts, *distinct, *rounds)?;
         let before = counted(&counts);
         let answer = replay(
             &counts.heap,
@@ -73,10 +83,7 @@ fn a_replay_compares_few_keys(rt: HostRuntime) -> Result<(), Fail> {
     ];
     for (capacity, distinct, rounds, compared, hashed) in rows {
         let counts = Counts::new(rt.alloc());
-        let mut keys = Vec::new(&counts.heap);
-        for number in 0..distinct * rounds {
-            keys.push(counts.key(number % distinct)?)?;
-        }
+        let keys = rounds_of(&counts, distinct, rounds)?;
         let answer = replay(&counts.heap, room(capacity)?, keys, Spread::there(&counts));
         equal!(rt; answer.is_ok(), true, (capacity, rounds));
         equal!(rt; (counts.compared.get(), counts.hashed.get()), (compared, hashed), (capacity, rounds));

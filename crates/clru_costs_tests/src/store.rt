@@ -21,16 +21,16 @@ pub(crate) struct Origin<'a> {
     pub(crate) counts: &'a Counts,
 }
 
-impl<'a> Source<Key<'a>, Value<'a>, &'static str> for Origin<'a> {
+impl<'a> Source<Key<'a>, Value<'a>, u8> for Origin<'a> {
     ghost value = { λ _ _. Some 0 };
 
     ghost fetches = { λ _ _ _ _. ⊤ };
 
-    fn fetch(&mut self, _key: &Key<'a>) -> Result<Value<'a>, &'static str> {
+    fn fetch(&mut self, _key: &Key<'a>) -> Result<Value<'a>, u8> {
         if self.counts.failing.get() {
-            return Err("it was told to");
+            return Err(7);
         }
-        self.counts.value(0)
+        self.counts.value(0).map_err(|_| 8)
     }
 
     ghost same = { Prim.search (rules, comparing) };
@@ -40,7 +40,7 @@ impl<'a> Source<Key<'a>, Value<'a>, &'static str> for Origin<'a> {
 pub(crate) type Store<'a, S> = Through<
     Key<'a>,
     Value<'a>,
-    &'static str,
+    u8,
     Origin<'a>,
     S,
     Scale<'a>,
@@ -62,7 +62,9 @@ impl<'a, S: BuildHasher + Counting<'a>> Subject<'a> for Store<'a, S> {
         counts.failing.set(false);
         let mut store = Through::new(cache, Origin { counts });
         for number in 0..entries {
-            store.load(counts.key(number)?)?;
+            if store.load(counts.key(number)?).is_err() {
+                return Err("a fetch failed".into());
+            }
         }
         Ok(store)
     }
