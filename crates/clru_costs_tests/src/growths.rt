@@ -2,6 +2,7 @@
 
 use assertions::equal;
 use clru::{CLruCache, DefaultState, ZeroWeightScale};
+use clru_fixtures::costs::{HEAD_BYTES, PLACE_BYTES, REQUESTS};
 use clru_fixtures::sizes::room;
 use ration::Rationed;
 use std::alloc::Global;
@@ -64,11 +65,11 @@ fn refuses_a_growth(
 
 #[test]
 fn a_refused_growth_leaves_each_key_in_its_place(rt: HostRuntime) -> Result<(), Fail> {
-    for held in [4, 16, 64] {
+    for held in [4, 16, 64, 256, 1024] {
         for n in 0..2 {
             let heap = Rationed::new(rt.alloc());
             {
-                let mut cache = CLruCache::new(&heap, room(1000)?);
+                let mut cache = CLruCache::new(&heap, room(5000)?);
                 refuses_a_growth(&rt, &heap, &mut cache, held, n);
             }
             equal!(rt; (heap.refused(), heap.blocks()), (1, 0), (held, n));
@@ -79,23 +80,27 @@ fn a_refused_growth_leaves_each_key_in_its_place(rt: HostRuntime) -> Result<(), 
 
 #[test]
 fn places_and_heads_grow_fourfold(rt: HostRuntime) -> Result<(), Fail> {
-    // A place is 48 bytes and a head is 8, with two heads a place, and 2,048 heads for the last 1,000 places.
+    // The number of entries that go in, the places and heads that are held then, and the growths.
     let rows = [
-        (1, 256),
-        (4, 256),
-        (5, 1024),
-        (17, 4096),
-        (256, 16_384),
-        (257, 64_384),
-        (1000, 64_384),
-        (1001, 64_384),
-        (3000, 64_384),
+        (1000, 1, 4, 8, 1),
+        (1000, 4, 4, 8, 1),
+        (1000, 5, 16, 32, 2),
+        (1000, 17, 64, 128, 3),
+        (1000, 256, 256, 512, 4),
+        (1000, 257, 1000, 2048, 5),
+        (1000, 3000, 1000, 2048, 5),
+        (1 << 40, 100_000, 262_144, 524_288, 9),
+        (1 << 62, 100_000, 262_144, 524_288, 9),
     ];
-    for (end, bytes) in rows {
+    for (capacity, end, places, heads, growths) in rows {
         let heap = Rationed::new(rt.alloc());
-        let mut cache = CLruCache::new(&heap, room(1000)?);
+        let mut cache = CLruCache::new(&heap, room(capacity)?);
         puts(&rt, &mut cache, 0, end);
-        equal!(rt; heap.held_bytes(), bytes, end);
+        equal!(rt;
+            (heap.held_bytes(), heap.asked()),
+            (places * PLACE_BYTES + heads * HEAD_BYTES, growths * REQUESTS),
+            (capacity, end)
+        );
     }
     Ok(())
 }

@@ -1,5 +1,7 @@
 //! The memory of a replay.
 
+use crate::cost::{counted, less};
+use crate::counted::{Counting, Counts, Key, OneChain, Spread};
 use assertions::equal;
 use clru::{DefaultState, replay};
 use clru_fixtures::costs::{HEAD_BYTES, PLACE_BYTES, REQUESTS};
@@ -19,6 +21,75 @@ fn round_of(
         keys.push(i.checked_rem(distinct).unwrap_or(0))?;
     }
     Ok(keys)
+}
+
+/// A replay's capacity, its keys, which go round so often, its misses, and its comparisons and hashes where all keys have one
+/// chain.
+static REPLAYS: &[(&str, usize, u64, u64, usize, u64, u64)] = &[
+    ("replay", 1, 1, 1, 1, 0, 1),
+    ("replay", 1, 3, 1, 3, 2, 5),
+    ("replay", 2, 5, 1, 5, 7, 8),
+    ("replay", 3, 3, 2, 3, 9, 6),
+    ("replay", 100, 100, 1, 100, 4950, 100),
+    ("replay", 100, 100, 3, 100, 15_050, 300),
+    ("replay", 99, 100, 2, 200, 14_850, 301),
+];
+
+/// Keys that go round so often.
+fn rounds_of<'a>(
+    counts: &'a Counts,
+    distinct: u64,
+    rounds: u64,
+) -> Result<Vec<Key<'a>, &'a Rationed<Global>>, Fail> {
+    let mut keys = Vec::new(&counts.heap);
+    for _ in 0..rounds {
+        for number in 0..distinct {
+            keys.push(counts.key(number)?)?;
+        }
+    }
+    Ok(keys)
+}
+
+#[test]
+fn replays_cost_what_their_rows_say(rt: HostRuntime) -> Result<(), Fail> {
+    let counts = Counts::new(rt.alloc());
+    for (name, capacity, distinct, rounds, misses, compared, hashed) in REPLAYS.iter() {
+        let keys = rounds_of(&counts, *distinct, *rounds)?;
+        let before = counted(&counts);
+        let answer = replay(
+            &counts.heap,
+            room(*capacity)?,
+            keys,
+            OneChain::there(&counts),
+        );
+        let answer = answer.map_err(|_| "the keys came back")?;
+        let cost = less(counted(&counts), before);
+        equal!(rt;
+            (answer.misses, cost.0, cost.1, cost.3),
+            (*misses, *compared, *hashed, REQUESTS + 1),
+            (name, capacity, rounds)
+        );
+        equal!(rt; (counts.owned.blocks(), counts.heap.blocks()), (0, 1), "the marks are left");
+    }
+    Ok(())
+}
+
+/// With a builder that spreads the keys over the heads, chains are short.
+#[test]
+fn a_replay_compares_few_keys(rt: HostRuntime) -> Result<(), Fail> {
+    let rows = [
+        (1000, 1000, 1, 211, 1000),
+        (1000, 1000, 10, 11_110, 10_000),
+        (100, 1000, 1, 263, 1900),
+    ];
+    for (capacity, distinct, rounds, compared, hashed) in rows {
+        let counts = Counts::new(rt.alloc());
+        let keys = rounds_of(&counts, distinct, rounds)?;
+        let answer = replay(&counts.heap, room(capacity)?, keys, Spread::there(&counts));
+        equal!(rt; answer.is_ok(), true, (capacity, rounds));
+        equal!(rt; (counts.compared.get(), counts.hashed.get()), (compared, hashed), (capacity, rounds));
+    }
+    Ok(())
 }
 
 #[test]
