@@ -192,14 +192,8 @@ static COLLECTED: &[(&str, u64, u64, u64, u64)] = &[
     ("CLruCache::from_iter", 1, 0, 1, 1),
     ("CLruCache::from_iter", 2, 1, 2, 1),
     ("CLruCache::from_iter", 3, 3, 3, 1),
-    ("CLruCache::from_iter", 9, 36, 9 + 4 + 8, 3),
-    (
-        "CLruCache::from_iter",
-        100,
-        4950,
-        100 + 4 + 8 + 16 + 32 + 64,
-        6,
-    ),
+    ("CLruCache::from_iter", 9, 36, 9 + 4, 2),
+    ("CLruCache::from_iter", 100, 4950, 100 + 4 + 16 + 64, 4),
 ];
 
 #[test]
