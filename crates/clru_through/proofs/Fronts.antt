@@ -1,15 +1,13 @@
 -- What stands first after a load.
-use Rattle.std.proofs.Common.{◌≡◌, ℕ, Bool, Option, Some, None, Result, Ok, Err, slice_get, IsSomeAnd, refl, sym, ap, ◌∙◌, subst}
+use Rattle.std.proofs.Common.{◌≡◌, ℕ, Bool, Option, Some, None, Result, Ok, Err, slice_get, refl, sym, ap, ◌∙◌}
 use Rattle.std.specs.Borrow.{Bor}
 use Rattle.std.specs.Cmp.{IsEquivalence}
 use Rattle.std.specs.Map.{lookup}
 use Rattle.std.specs.Map.Iter.{deref_pair}
 use Rattle.std.specs.Option.{option_map}
-use Rattle.clru_through.specs.Given.{loaded_value}
 use Rattle.clru_through.specs.Steps.{Passes, LoadsBy, Loads}
 use Rattle.clru_through.specs.Store.{Store}
-use Rattle.clru_through.specs.declared.answer.Loaded.{Loaded}
-use Rattle.clru_through.specs.declared.answer.Loaded.TheVariants.{Held, Passed}
+use Rattle.clru_through.specs.declared.answer.Loaded.TheVariants.{Held}
 use Rattle.clru_through.proofs.Sourced.{entry_of}
 
 module _ {K V W R E : Type 0} (eq : K → K → Bool) (laws : IsEquivalence eq) (weight : K → V → ℕ) (fetches : R → K → Result V E → R → Type 0)

@@ -41,7 +41,8 @@ impl<
         ensures step { Loads K.eq (W.weight self.old.cache.scale) R.fetches self.old key result self.new }
         ensures value { IfOk result (λ loaded. IsSomeAnd (loaded_value (K.eq key) self.new.cache.entries loaded)
             (λ v. R.value self.old.source key ≡ Some v)) }
-        ensures fetched { IfOk result (λ loaded. was_fetched loaded ≡ is_none (lookup (K.eq key) self.old.cache.entries)) }
+        ensures fetched { IfOk result (λ loaded.
+            was_fetched loaded ≡ is_none (lookup (K.eq key) self.old.cache.entries)) }
         ensures front { IfOk result (λ loaded. IsHeld loaded → IsSomeAnd (slice_get self.new.cache.entries 0)
             (λ e. R.value self.old.source key ≡ Some e.1)) }
         ensures refused { IfErr result (λ _. self.new.cache ≡ self.old.cache) }

@@ -30,7 +30,8 @@ impl<
         K: Drop,
         V: Drop,
         requires sourced { R.value self.old.source key ≡ Some value }
-        ensures held { OnOk result (IsPut K.eq (W.weight self.old.cache.scale) self.old.cache key value self.new.cache) }
+        ensures held { OnOk result
+            (IsPut K.eq (W.weight self.old.cache.scale) self.old.cache key value self.new.cache) }
         ensures refused { IfErr result (λ back.
             IsPassed K.eq (W.weight self.old.cache.scale) self.old.cache key value back self.new.cache) }
         ensures source { self.new.source ≡ self.old.source }

@@ -29,7 +29,8 @@ impl<
         K: Drop,
         ensures held { result ≡ lookup (K.eq key.now) self.old.cache.entries }
         ensures value { IfSome result (λ v. R.value self.old.source key.now ≡ Some v) }
-        ensures ends { self.new ≡ store (with_entries self.old.cache (without K.eq key.now self.old.cache.entries)) self.old.source }
+        ensures ends { let old = self.old.cache in
+            self.new ≡ store (with_entries old (without K.eq key.now old.entries)) self.old.source }
         ensures from_source { AllFrom (R.value self.new.source) self.new.cache.entries }
     {
         self.cache.pop(key)
