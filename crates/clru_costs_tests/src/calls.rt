@@ -87,7 +87,7 @@ use Call::{
 };
 use Load::{Most, Nothing, TooMuch};
 
-pub(crate) static CALLS: &[Row<Call>] = &[
+pub(crate) static CALLS: &[Row<'static, Call>] = &[
     ("CLruCache::len", Len, Never, NONE, NONE, Stays),
     ("CLruCache::capacity", Capacity, Never, NONE, NONE, Stays),
     ("CLruCache::weight", Weight, Never, NONE, NONE, Stays),

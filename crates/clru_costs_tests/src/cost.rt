@@ -91,7 +91,7 @@ pub(crate) enum Growth {
 }
 
 /// A public call by its name, the call, its look-ups, hashes, weighings by the scale, and requests for memory.
-pub(crate) type Row<C> = (&'static str, C, Looks, Amounts, Amounts, Growth);
+pub(crate) type Row<'n, C> = (&'n str, C, Looks, Amounts, Amounts, Growth);
 
 /// The capacity of a cache, its entries, its places, and the heads of a growth to as many places as its capacity.
 pub(crate) type State = (usize, u64, usize, u64);
@@ -156,7 +156,7 @@ pub(crate) fn less(after: Cost, before: Cost) -> Cost {
 }
 
 /// The cost of a call of a row in a state, where the key of this number stands in one chain with the held ones.
-fn cost_of<C>(row: &Row<C>, state: State, number: u64) -> Cost {
+fn cost_of<C>(row: &Row<'_, C>, state: State, number: u64) -> Cost {
     let (_, _, looks, hashes, weighings, grows) = row;
     let (capacity, entries, places, heads) = state;
     let held = number < entries;
@@ -207,12 +207,12 @@ pub(crate) const OWNED_PLACE_BYTES: u64 = PLACE_BYTES + 40;
 /// Makes the call of each row in each state, with the oldest key, the newest and a new one, and asserts that it costs what its
 /// row says, and that the blocks of what is held then are left, and at the end none. Comparisons are counted where all keys
 /// have one chain.
-pub(crate) fn costs_hold<'a, T: Subject<'a> + Drop, C: Makes<'a, T> + Copy>(
+pub(crate) fn costs_hold<'a, 'n, T: Subject<'a> + Drop, C: Makes<'a, T> + Copy>(
     rt: &impl Abort,
     counts: &'a Counts,
     one_chain: bool,
     states: &[State],
-    rows: &[Row<C>],
+    rows: &[Row<'n, C>],
 ) -> Result<(), Fail> {
     for row in rows {
         for state in states {

@@ -57,7 +57,7 @@ use PlainCall::{
     TryPutOrModify,
 };
 
-pub(crate) static PLAIN: &[Row<PlainCall>] = &[
+pub(crate) static PLAIN: &[Row<'static, PlainCall>] = &[
     ("CLruCache::put", Put, Once, PUT, NONE, Grows),
     (
         "CLruCache::put_or_modify",

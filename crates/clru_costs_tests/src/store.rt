@@ -91,7 +91,7 @@ pub(crate) enum StoreCall {
 
 use StoreCall::{Capacity, Front, Get, Len, Load, LoadInVain, Peek, Weight};
 
-pub(crate) static STORE: &[Row<StoreCall>] = &[
+pub(crate) static STORE: &[Row<'static, StoreCall>] = &[
     ("Through::len", Len, Never, NONE, NONE, Stays),
     ("Through::weight", Weight, Never, NONE, NONE, Stays),
     ("Through::capacity", Capacity, Never, NONE, NONE, Stays),

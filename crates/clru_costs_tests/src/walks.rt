@@ -21,7 +21,7 @@ pub(crate) enum Walk {
     Clone,
 }
 
-pub(crate) static WALKS: &[Row<Walk>] = &[
+pub(crate) static WALKS: &[Row<'static, Walk>] = &[
     ("CLruCache::iter", Walk::Made, Never, NONE, NONE, Stays),
     (
         "&CLruCache::into_iter",
@@ -93,7 +93,7 @@ pub(crate) enum Owned {
     SizeHint,
 }
 
-pub(crate) static OWNED: &[Row<Owned>] = &[
+pub(crate) static OWNED: &[Row<'static, Owned>] = &[
     (
         "CLruCache::into_iter",
         Owned::Made,

@@ -113,27 +113,6 @@ fn a_thousand_items_go_in(rt: HostRuntime) -> Result<(), Fail> {
     Ok(())
 }
 
-#[test]
-fn an_extend_with_free_places_asks_for_nothing(rt: HostRuntime) -> Result<(), Fail> {
-    let heap = Rationed::new(rt.alloc());
-    let drawn = Cell::new(0);
-    let mut cache = CLruCache::with_memory(&heap, room(3)?, 3)?;
-    heap.refuse_after(0);
-    // Free places, held keys, and then entries to drop.
-    for (first, end) in [(0, 0), (0, 3), (0, 3), (2, 9)] {
-        equal!(rt;
-            extends(&mut cache, first, end, &drawn),
-            Ok(()),
-            (first, end)
-        );
-        equal!(rt; heap.asked(), REQUESTS, (first, end));
-    }
-    for key in [8, 7, 6u64] {
-        equal!(rt; cache.pop_front(), Some((key, key + 10)));
-    }
-    Ok(())
-}
-
 type Text<'a> = String<&'a Rationed<Global>>;
 
 /// Pairs of two texts each, in a vector: their blocks are two for each pair, and one.

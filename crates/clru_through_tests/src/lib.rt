@@ -5,8 +5,6 @@
 mod asserts;
 pub mod callers;
 #[cfg(test)]
-mod costs;
-#[cfg(test)]
 mod failures;
 #[cfg(test)]
 mod memory;
