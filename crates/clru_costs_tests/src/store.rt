@@ -5,7 +5,9 @@ ghost use Rattle.std.proofs.Common.{rules};
 
 use crate::cost::Growth::{Grows, Stays};
 use crate::cost::Looks::{AgainIfNew, Never, Once};
-use crate::cost::{LOAD, LOADED, Makes, NONE, ONE, Row, State, Subject};
+use crate::cost::{
+    IF_HELD, LOAD, LOADED, Makes, NONE, ONE, OTHERS, PUT, Row, State, Subject, WEIGHED,
+};
 use crate::counted::{Counting, Counts, Key, Scale, Value};
 use clru::{CLruCache, CLruCacheConfig};
 use clru_fixtures::sizes::room;
@@ -84,12 +86,22 @@ pub(crate) enum StoreCall {
     Peek,
     Load,
     Get,
+    Put,
+    Pop,
+    Clear,
+    Resize,
+    Cache,
+    Lent,
+    IntoParts,
 
     /// A load whose fetch fails, where there is one.
     LoadInVain,
 }
 
-use StoreCall::{Capacity, Front, Get, Len, Load, LoadInVain, Peek, Weight};
+use StoreCall::{
+    Cache, Capacity, Clear, Front, Get, IntoParts, Len, Lent, Load, LoadInVain, Peek, Pop, Put,
+    Resize, Weight,
+};
 
 pub(crate) static STORE: &[Row<'static, StoreCall>] = &[
     ("Through::len", Len, Never, NONE, NONE, Stays),
@@ -100,6 +112,13 @@ pub(crate) static STORE: &[Row<'static, StoreCall>] = &[
     ("Through::load", Load, AgainIfNew, LOAD, LOADED, Grows),
     ("Through::load", LoadInVain, Once, ONE, NONE, Stays),
     ("Through::get", Get, AgainIfNew, LOAD, LOADED, Grows),
+    ("Through::put", Put, Once, PUT, WEIGHED, Grows),
+    ("Through::pop", Pop, Once, ONE, IF_HELD, Stays),
+    ("Through::clear", Clear, Never, NONE, NONE, Stays),
+    ("Through::resize", Resize, Never, OTHERS, OTHERS, Stays),
+    ("Through::cache", Cache, Never, NONE, NONE, Stays),
+    ("Through::source", Lent, Never, NONE, NONE, Stays),
+    ("Through::into_parts", IntoParts, Never, NONE, NONE, Stays),
 ];
 
 impl<'a, S: BuildHasher + Counting<'a>> Makes<'a, Store<'a, S>> for StoreCall {
@@ -118,6 +137,16 @@ impl<'a, S: BuildHasher + Counting<'a>> Makes<'a, Store<'a, S>> for StoreCall {
             Peek => drop(store.peek(&key)),
             Load => drop(store.load(key)),
             Get => drop(store.get(key)),
+            Put => drop(store.put(key, counts.value(0)?)),
+            Pop => drop(store.pop(&key)),
+            Clear => store.clear(),
+            Resize => store.resize(room(1)?),
+            Cache => drop(store.cache()),
+            Lent => drop(store.source()),
+            IntoParts => {
+                drop(store.into_parts());
+                return Ok(None);
+            }
             LoadInVain => {
                 counts.failing.set(true);
                 drop(store.load(key));
