@@ -1,19 +1,16 @@
 -- The state of the walk from the first request to the last: the keys held, the marks of the requests that will hit, and the
 -- queue of next places.
-use Rattle.std.proofs.Common.{◌≡◌, ℕ, zero, suc, ◌+◌, ◌-◌, ◌<◌, ◌≤◌, Bool, true, false, cond, not, ◌&&◌, eqb, ltb}
-use Rattle.std.proofs.Common.{List, [], ◌∷◌, length, drop, get_or, set, refl, inl, inr, sym, ap, ◌∙◌, subst, arith}
-use Rattle.std.proofs.lemmas.Bool.{eq-eqb, ne_eqb, eqb-true, eqb-false, lt-ltb, le-ltb, ltb-true, ltb-false, cases_lt}
-use Rattle.std.proofs.lemmas.List.{get_or-set_same, get_or-set_other, length-set}
+use Rattle.std.proofs.Common.{◌≡◌, ℕ, ◌+◌, ◌-◌, ◌<◌, ◌≤◌, Bool, true, false, cond, eqb, ltb}
+use Rattle.std.proofs.Common.{List, [], ◌∷◌, length, drop, get_or, refl, inl, inr, sym, ap, ◌∙◌, subst, arith}
+use Rattle.std.proofs.lemmas.Bool.{eq-eqb, eqb-true, lt-ltb, le-ltb, cases_lt}
 use Rattle.std.specs.Cmp.{IsEquivalence}
 use Rattle.std.specs.List.{count_by}
-use Rattle.clru_model.specs.Requests.{holds, distinct}
+use Rattle.clru_model.specs.Requests.{holds}
 use Rattle.clru_model.proofs.Cases.{split}
-use Rattle.clru_model.proofs.Distinct.{others, holds-others, holds_same}
+use Rattle.clru_model.proofs.Distinct.{others, holds_same}
 use Rattle.clru_model.proofs.Optimum.{IsBest}
 use Rattle.clru_least.specs.Next.{until}
 use Rattle.clru_least.proofs.Due.{count_by-cons, is_due, due, AreApart, AreApart_first, AreApart_others, length-others, due_key, due_by_key, due_alone, due_after}
-use Rattle.clru_least.proofs.Furthest.{best_keeps, best_drops}
-use Rattle.clru_least.proofs.Until.{until-le-length}
 
 -- how often a place stands in a queue
 abbrev pub queued_at : List ℕ → ℕ → ℕ
@@ -147,8 +144,9 @@ module _ {K : Type 0} (eq : K → K → Bool) (laws : IsEquivalence eq) where
               let gone : due eq i rs (others eq z keys) p ≡ 0 = subst (λ q. due eq i rs (others eq z keys) q ≡ 0) (is ∙ same) alone in
               rw t (sym (ap (λ m. ltb 0 m) gone)))
               (λ f. let e = due_by_key eq laws i rs p z keys s.apart held_z in
-              let stays : due eq i rs keys p ≡ due eq i rs (others eq z keys) p
-              = e ∙ ap (λ b. cond b 1 0 + due eq i rs (others eq z keys) p) (test p ∙ f) ∙ omega arith in
+              let none : cond (is_due eq i rs p z) 1 0 + due eq i rs (others eq z keys) p ≡ 0 + due eq i rs (others eq z keys) p
+              = ap (λ b. cond b 1 0 + due eq i rs (others eq z keys) p) (test p ∙ f) in
+              let stays : due eq i rs keys p ≡ due eq i rs (others eq z keys) p = omega (arith, e, none) in
               rw f (s.marked p low high ∙ ap (λ m. ltb 0 m) stays));
           queued = λ p low.
               let e = due_by_key eq laws i rs p z keys s.apart held_z in

@@ -1,6 +1,6 @@
 -- What the walk from the last request to the first has found.
-use Rattle.std.proofs.Common.{◌≡◌, ℕ, zero, suc, ◌+◌, ◌-◌, ◌<◌, ◌≤◌, Bool, true, false, cond, ◌||◌, Option, Some, None}
-use Rattle.std.proofs.Common.{List, [], ◌∷◌, length, drop, get_or, set, refl, sym, ap, ◌∙◌, subst, arith, length-drop}
+use Rattle.std.proofs.Common.{◌≡◌, ℕ, zero, suc, ◌+◌, ◌-◌, ◌<◌, ◌≤◌, Bool, true, false, cond, Option, Some, None}
+use Rattle.std.proofs.Common.{List, [], ◌∷◌, length, drop, get_or, set, refl, sym, ap, ◌∙◌, arith, length-drop}
 use Rattle.std.proofs.Math.Seq.{drop-cons}
 use Rattle.std.proofs.lemmas.List.{drop_all, get_or-set_same, get_or-set_other, length-set, drop-set-lt}
 use Rattle.std.specs.Borrow.{Bor}
@@ -8,7 +8,7 @@ use Rattle.std.specs.Cmp.{IsEquivalence}
 use Rattle.clru_model.specs.Requests.{holds}
 use Rattle.clru_model.proofs.Cases.{split}
 use Rattle.clru_least.specs.Next.{until, next_from}
-use Rattle.clru_least.proofs.Until.{length-next_from, until_not_held}
+use Rattle.clru_least.proofs.Until.{until_not_held}
 
 module _ {K : Type 0} (eq : K → K → Bool) where
   -- of the requests from the place i on the next places stand in nexts, and find has the first place of each key

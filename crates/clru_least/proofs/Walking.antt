@@ -1,5 +1,5 @@
 -- The steps of the walk from the first request to the last.
-use Rattle.std.proofs.Common.{◌≡◌, ℕ, zero, suc, ◌+◌, ◌-◌, ◌<◌, ◌≤◌, Bool, true, false, cond, not, ◌&&◌, eqb, ltb}
+use Rattle.std.proofs.Common.{◌≡◌, ℕ, zero, suc, ◌+◌, ◌-◌, ◌<◌, ◌≤◌, Bool, true, false, cond, eqb}
 use Rattle.std.proofs.Common.{List, [], ◌∷◌, length, drop, get_or, set, refl, inl, inr, sym, ap, ◌∙◌, subst, arith, length-drop}
 use Rattle.std.proofs.lemmas.Bool.{cases_lt, lt-ltb, eqb-true, eqb-false}
 use Rattle.std.proofs.lemmas.List.{drop_all, length-set, get_or-drop, get_or-set_same, get_or-set_other}
@@ -9,9 +9,9 @@ use Rattle.std.specs.BinaryHeap.{IsUpperBound}
 use Rattle.std.specs.Cmp.{IsEquivalence}
 use Rattle.std.specs.List.Sorted.{IsPermutation}
 use Rattle.std.specs.Ordering.{nat_cmp}
-use Rattle.clru_model.specs.Requests.{holds, distinct}
+use Rattle.clru_model.specs.Requests.{holds}
 use Rattle.clru_model.proofs.Cases.{split}
-use Rattle.clru_model.proofs.Distinct.{others, holds-others, holds_same}
+use Rattle.clru_model.proofs.Distinct.{others, holds-others}
 use Rattle.clru_model.proofs.Optimum.{IsBest, IsBest_none}
 use Rattle.clru_least.specs.Next.{until, next_from}
 use Rattle.clru_least.proofs.Due.{count_by-cons, length-others}

@@ -1,5 +1,5 @@
 -- The next request of the key of each request.
-use Rattle.std.specs.Prelude.{◌≡◌, ℕ, suc, ◌+◌, Bool, cond, List, [], ◌∷◌, length}
+use Rattle.std.specs.Prelude.{◌≡◌, ℕ, suc, ◌+◌, Bool, cond, List, [], ◌∷◌}
 
 module _ {K : Type 0} (eq : K → K → Bool) where
   -- how many requests come before the first one of x, all of them if there is none

@@ -1,4 +1,4 @@
-use Rattle.std.proofs.Common.{sym, ap, ◌∙◌, cond, Some, None}
+use Rattle.std.proofs.Common.{◌≡◌, Some, None}
 use Rattle.std.specs.Borrow.{Bor}
 use Rattle.std.specs.HashMap.{get}
 use Rattle.clru_least.proofs.Seen.{IsSeen_again, IsSeen_first}
