@@ -45,7 +45,7 @@ module _ {K : Type 0} (eq : K → K → Bool) where
 
 module _ {K : Type 0} (eq : K → K → Bool) (laws : IsEquivalence eq) where
   -- each key for which a list passes a test of being held is held
-  held_of_all : (ks ls : List K) → list_all (λ q. holds eq q ls) ks ≡ true → (z : K) → holds eq z ks ≡ true → holds eq z ls ≡ true
+  pub held_of_all : (ks ls : List K) → list_all (λ q. holds eq q ls) ks ≡ true → (z : K) → holds eq z ks ≡ true → holds eq z ls ≡ true
   held_of_all (k ∷ ks) ls all z h =
       let parts = and_parts (holds eq k ls) (list_all (λ q. holds eq q ls) ks) all in
       split (eq z k) (λ t. holds_same eq laws z k ls t ∙ parts.0) (λ f. held_of_all ks ls parts.1 z (rw f at h))
@@ -85,7 +85,7 @@ module _ {K : Type 0} (eq : K → K → Bool) (laws : IsEquivalence eq) where
   phase_seen held phase = distinct_mono eq laws phase (held ++ phase) (beside held phase)
 
   -- the keys that a schedule holds now are few enough
-  schedule_short : (h : ℕ) (held : List K) (later : List (List K)) (rs : List K) → IsSchedule eq h (held ∷ later) rs → length held ≤ h
+  pub schedule_short : (h : ℕ) (held : List K) (later : List (List K)) (rs : List K) → IsSchedule eq h (held ∷ later) rs → length held ≤ h
   schedule_short h held later [] sched = sched.0
   schedule_short h held later (x ∷ rs) sched = sched.0
 

@@ -25,11 +25,11 @@ module _ {K : Type 0} (eq : K → K → Bool) where
       none (suc j) y within = refl
 
   -- at capacity 0 nothing hits
-  hit-zero : (past : List K) (x : K) → hit eq 0 x past ≡ false
+  pub hit-zero : (past : List K) (x : K) → hit eq 0 x past ≡ false
   hit-zero past x = split (holds eq x past) (λ t. rw t (grind (arith, nat_tests))) (λ f. rw f refl)
 
   -- a key that was just requested hits at every capacity above 0
-  hit-cons_same : (j : ℕ) (x y : K) (past : List K) → eq y x ≡ true → hit eq (suc j) y (x ∷ past) ≡ true
+  pub hit-cons_same : (j : ℕ) (x y : K) (past : List K) → eq y x ≡ true → hit eq (suc j) y (x ∷ past) ≡ true
   hit-cons_same j x y past t = rw (since-cons eq y x past, t) (grind (arith, nat_tests))
 
   -- a key that is not held is not among the first ones

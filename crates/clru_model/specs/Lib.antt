@@ -2,6 +2,7 @@ pub mod ByPlace
 pub mod Entries
 pub mod Errors
 pub mod Laws
+pub mod Least
 pub mod Refusals
 pub mod Requests
 pub mod Runs

@@ -5,6 +5,7 @@ ghost use Rattle.clru_model.specs.Laws.{HitsGrow, MissesFall};
 ghost use Rattle.clru_model.specs.Laws.{LesserBeginsGreater};
 ghost use Rattle.clru_model.specs.Laws.{PutsHit, PutsCompete, PutsCompeteFromAnyStart};
 ghost use Rattle.clru_model.specs.Laws.{FitIsLongest, OnlyFitIsLongest};
+ghost use Rattle.clru_model.specs.Least.{LeastIsOne, LeastFalls, ReplayIsSchedule, LeastIsBelowReplay, ReplayIsNearLeast};
 
 /// Does nothing at run time. Its contract says that the hits, misses and numbers of distinct keys that the other contracts
 /// cite, which are defined by computing, are those that a sentence about places describes.
@@ -55,4 +56,15 @@ pub fn law_requests<K: Eq, V>()
 pub fn law_longest_fit<K, V>()
     ensures longest { FitIsLongest K V }
     ensures only { OnlyFitIsLongest K V }
+{}
+
+/// Does nothing at run time. Its contract says that the least possible misses of a list are one number, that with room for
+/// more keys they are no more, and how the misses of a replay stand beside them: they are those of a schedule, so no
+/// fewer, and at capacity `k` at most `k / (k - h + 1)` times the least of `h` keys.
+pub fn law_least<K: Eq>()
+    ensures one { LeastIsOne K.eq }
+    ensures falls { LeastFalls K.eq }
+    ensures schedule { ReplayIsSchedule K.eq }
+    ensures below { LeastIsBelowReplay K.eq }
+    ensures near { ReplayIsNearLeast K.eq }
 {}

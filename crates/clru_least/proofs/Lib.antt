@@ -1,0 +1,6 @@
+pub mod Due
+pub mod Furthest
+pub mod Held
+pub mod Seen
+pub mod Until
+pub mod Walking

@@ -1,0 +1,150 @@
+//! The least number of misses, for any room.
+ghost use Rattle.std.specs.Prelude.{◌≡◌, ◌<◌, ◌≤◌, [], ◌∷◌, false, slice_set, IfOk, IfErr, IsOk};
+ghost use Rattle.std.specs.BinaryHeap.{IsHeap, IsUpperBound, heap_items, heap_len};
+ghost use Rattle.std.specs.List.Sorted.{IsPermutation};
+ghost use Rattle.std.specs.Ordering.{nat_cmp};
+ghost use Rattle.std.specs.Int.NonZero.{non_zero_usize_get};
+ghost use Rattle.clru_model.specs.Least.{IsLeast, IsNearFromAnyStart};
+ghost use Rattle.clru_model.specs.Requests.{misses};
+
+use crate::nexts::next_places;
+use std::alloc::{AllocError, Allocator};
+use std::collections::BinaryHeap;
+use std::hash::{BuildHasher, Hash};
+use std::marker::Model;
+use std::num::NonZeroUsize;
+
+/// A list of requests, with the next request of each key: it answers the least number of misses for any room.
+///
+/// A clause sees it as the list of requests.
+#[derive(Drop)]
+pub struct Foresight<'a, K: Eq, A: Allocator + Copy> {
+    keys: &'a [K],
+    nexts: Vec<usize, A>,
+    alloc: A,
+}
+
+impl<'a, K: Eq, A: Allocator + Copy> Model for Foresight<'a, K, A> {
+    ghost use Rattle.std.specs.Prelude.{List};
+    ghost use Rattle.std.specs.Coded.{coded_list};
+    ghost use Rattle.clru_least.specs.Next.{AreNext};
+
+    ghost Value = { List K };
+
+    ghost coded = { coded_list K.code };
+
+    ghost view = { λ f. f.keys.now };
+
+    ghost invariant = { λ f. AreNext K.eq f.keys.now f.nexts.items };
+}
+
+impl<'a, K: Eq, A: Allocator + Copy> Foresight<'a, K, A> {
+    /// Looks up where the key of each request is requested next.
+    ///
+    /// Each key is hashed once with `hash_builder`. Memory is taken for a number for each request, and meanwhile for a table
+    /// of the keys; where it is refused, there is no answer. Without requests no memory is asked for.
+    pub fn new<S: BuildHasher + Drop>(
+        alloc: A,
+        keys: &'a [K],
+        hash_builder: S,
+    ) -> Result<Foresight<'a, K, A>, AllocError>
+    where
+        K: Hash,
+        ensures requests { IfOk result (λ f. f ≡ keys.now) }
+        ensures never_refused { keys.now ≡ [] → IsOk result }
+    {
+        let nexts = next_places(alloc, keys, hash_builder)?;
+        Ok(Foresight { keys, nexts, alloc })
+    }
+
+    /// Answers the least number of misses of the requests with room for so many keys.
+    pub fn least(&self, room: NonZeroUsize) -> Result<usize, AllocError>
+        ensures least { IfOk result (IsLeast K.eq (non_zero_usize_get room) self.now) }
+        ensures any_start { IfOk result (IsNearFromAnyStart K.eq (non_zero_usize_get room) self.now) }
+        ensures beside_lru { IfOk result (λ n. n ≤ misses K.eq (non_zero_usize_get room) self.now) }
+        ensures never_refused { self.now ≡ [] → IsOk result }
+    {
+        let count = self.nexts.len();
+        if count == 0 {
+            return Ok(0);
+        }
+        let mut kept = Vec::new(self.alloc);
+        kept.resize(count, false)?;
+        let mut ahead = BinaryHeap::with_capacity(self.alloc, count)?;
+        let mut held = 0;
+        let mut misses = 0;
+        for (place, next) in self.nexts.iter().enumerate() {
+            if !kept[place] {
+                misses += 1;
+                if held < room.get() {
+                    held += 1;
+                } else {
+                    drop_latest(&mut ahead, &mut kept);
+                }
+            }
+            mark(&mut kept, *next, true);
+            ahead.push(*next)?;
+        }
+        Ok(misses)
+    }
+}
+
+/// Takes the greatest place from the queue, and its mark away. Returns it.
+fn drop_latest<A: Allocator>(ahead: &mut BinaryHeap<usize, A>, kept: &mut Vec<bool, A>) -> usize
+    requires some { 0 < heap_len ahead.old }
+    requires ordered { IsHeap nat_cmp (heap_items ahead.old) }
+    ensures taken { IsPermutation (heap_items ahead.old) (result ∷ heap_items ahead.new) }
+    ensures latest { IsUpperBound nat_cmp result (heap_items ahead.old) }
+    ensures ordered { IsHeap nat_cmp (heap_items ahead.new) }
+    ensures marks { kept.new.items ≡ slice_set kept.old.items result false }
+{
+    let Some(latest) = ahead.pop() else {
+        unreachable!();
+    };
+    mark(kept, latest, false);
+    latest
+}
+
+/// Writes the mark of the place, if there is one.
+fn mark<A: Allocator>(kept: &mut Vec<bool, A>, place: usize, value: bool)
+    ensures { kept.new.items ≡ slice_set kept.old.items place value }
+{
+    if place < kept.len() {
+        kept[place] = value;
+    }
+}
+
+/// Answers the least number of misses of the requests with room for so many keys.
+pub fn least<K: Eq + Hash + Drop, S: BuildHasher + Drop, A: Allocator + Copy>(
+    alloc: A,
+    room: NonZeroUsize,
+    keys: Vec<K, A>,
+    hash_builder: S,
+) -> Result<usize, Vec<K, A>>
+    ensures least { IfOk result (IsLeast K.eq (non_zero_usize_get room) keys.items) }
+    ensures any_start { IfOk result (IsNearFromAnyStart K.eq (non_zero_usize_get room) keys.items) }
+    ensures beside_lru { IfOk result (λ n. n ≤ misses K.eq (non_zero_usize_get room) keys.items) }
+    ensures given_back { IfErr result (λ left. left.items ≡ keys.items) }
+    ensures never_refused { keys.items ≡ [] → IsOk result }
+{
+    match of_slice(alloc, room, &keys, hash_builder) {
+        Ok(misses) => Ok(misses),
+        Err(_) => Err(keys),
+    }
+}
+
+/// The same of borrowed requests.
+fn of_slice<K: Eq + Hash, S: BuildHasher + Drop, A: Allocator + Copy>(
+    alloc: A,
+    room: NonZeroUsize,
+    keys: &[K],
+    hash_builder: S,
+) -> Result<usize, AllocError>
+    ensures least { IfOk result (IsLeast K.eq (non_zero_usize_get room) keys.now) }
+    ensures any_start { IfOk result (IsNearFromAnyStart K.eq (non_zero_usize_get room) keys.now) }
+    ensures beside_lru { IfOk result (λ n. n ≤ misses K.eq (non_zero_usize_get room) keys.now) }
+    ensures never_refused { keys.now ≡ [] → IsOk result }
+{
+    let foresight = Foresight::new(alloc, keys, hash_builder)?;
+    foresight.least(room)
+}

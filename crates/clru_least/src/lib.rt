@@ -1,0 +1,15 @@
+//! The least possible misses of a list of requests.
+//!
+//! Room for some number of keys, and a list of requests that is known beforehand: no way of choosing what to hold misses
+//! fewer of them than the number that this crate answers, and one misses as many. Beside the misses of a replay it says how
+//! much another policy could gain at the very most.
+//!
+//! Contracts say it by schedules, the keys held before each request, and name no method.
+#![tactic(auto)]
+
+mod foresight;
+mod nexts;
+
+pub use clru_model::{DefaultState, law_least};
+pub use foresight::{Foresight, least};
+pub use std::num::NonZeroUsize;

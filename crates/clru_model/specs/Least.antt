@@ -1,0 +1,43 @@
+-- The least possible misses: those of the best schedule, which may know all requests beforehand. Public clauses cite them.
+use Rattle.std.specs.Prelude.{◌≡◌, ℕ, ◌+◌, ◌-◌, ◌*◌, ◌≤◌, Bool, List, [], ◌∷◌}
+use Rattle.clru_model.specs.Requests.{misses}
+use Rattle.clru_model.specs.Schedule.{IsSchedule, schedule_misses}
+
+module _ {K : Type 0} (eq : K → K → Bool) where
+  -- some schedule of h keys that starts empty has n misses
+  pub record IsAttained (h : ℕ) (requests : List K) (n : ℕ) : Type 0 where
+    pub schedule : List (List K)
+    pub serves : IsSchedule eq h ([] ∷ schedule) requests
+    pub misses : schedule_misses eq ([] ∷ schedule) requests ≡ n
+
+  -- n is the least number of misses of h keys: one schedule that starts empty has n, and none has fewer
+  pub record IsLeast (h : ℕ) (requests : List K) (n : ℕ) : Type 0 where
+    pub attained : IsAttained h requests n
+    pub none_fewer : (schedule : List (List K)) → IsSchedule eq h ([] ∷ schedule) requests
+        → n ≤ schedule_misses eq ([] ∷ schedule) requests
+
+  -- beside schedules that start with any keys n is at most h more
+  abbrev pub IsNearFromAnyStart : ℕ → List K → ℕ → Type 0
+  IsNearFromAnyStart h requests n = (schedule : List (List K)) → IsSchedule eq h schedule requests
+      → n ≤ schedule_misses eq schedule requests + h
+
+  -- there is one least number
+  abbrev pub LeastIsOne : Type 0
+  LeastIsOne = (h n m : ℕ) (requests : List K) → IsLeast h requests n → IsLeast h requests m → n ≡ m
+
+  -- with room for more keys it is no greater
+  abbrev pub LeastFalls : Type 0
+  LeastFalls = (h l n m : ℕ) (requests : List K) → h ≤ l → IsLeast h requests n → IsLeast l requests m → m ≤ n
+
+  -- the misses of a replay are those of some schedule
+  abbrev pub ReplayIsSchedule : Type 0
+  ReplayIsSchedule = (k : ℕ) (requests : List K) → 1 ≤ k → IsAttained k requests (misses eq k requests)
+
+  -- so they are no fewer than the least
+  abbrev pub LeastIsBelowReplay : Type 0
+  LeastIsBelowReplay = (k n : ℕ) (requests : List K) → 1 ≤ k → IsLeast k requests n → n ≤ misses eq k requests
+
+  -- and at most k / (k - h + 1) times the least of h keys
+  abbrev pub ReplayIsNearLeast : Type 0
+  ReplayIsNearLeast = (h k n : ℕ) (requests : List K) → 1 ≤ h → h ≤ k → IsLeast h requests n
+      → (k - h + 1) * misses eq k requests ≤ k * n
