@@ -1,0 +1,5 @@
+pub mod Bits
+pub mod Distances
+pub mod Nodes
+pub mod UpTo
+pub mod Words

@@ -1,0 +1,4 @@
+pub mod Curves
+pub mod Distances
+pub mod Latest
+pub mod Passes

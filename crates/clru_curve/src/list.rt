@@ -1,0 +1,23 @@
+//! The curve of a whole list of requests.
+ghost use Rattle.std.specs.Prelude.{◌≡◌, length, reverse, IfOk};
+
+use crate::curve::MissCurve;
+use crate::pass::DistancePass;
+use clru::NoMemory;
+use std::alloc::Allocator;
+use std::hash::{BuildHasher, Hash};
+
+/// Returns the misses of the requests at every capacity.
+pub fn miss_curve<K: Eq + Hash + Copy, S: BuildHasher + Drop, A: Allocator + Copy>(
+    alloc: A,
+    keys: &[K],
+    hash_builder: S,
+) -> Result<MissCurve<A>, NoMemory> {
+    let mut pass = DistancePass::with_hasher(alloc, hash_builder);
+    for key in keys {
+        let Ok(_) = pass.request(*key) else {
+            return Err(NoMemory);
+        };
+    }
+    Ok(pass.into_curve())
+}

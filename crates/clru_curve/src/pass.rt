@@ -1,0 +1,117 @@
+//! `DistancePass`, which takes requests one by one.
+ghost use Rattle.std.specs.Prelude.{◌≡◌, List, [], ◌∷◌, length, reverse, is_ok, IfOk, IfErr, OnOk, OnErr, if◌then◌else◌};
+ghost use Rattle.clru_model.specs.Requests.{distinct};
+ghost use Rattle.clru_curve.specs.Curves.{HasMissesOf};
+ghost use Rattle.clru_curve.specs.Distances.{distance};
+ghost use Rattle.clru_curve.specs.Passes.{IsPass};
+
+use crate::curve::MissCurve;
+use crate::latest::Latest;
+use clru::{CLruCache, DefaultState, NoMemory, ZeroWeightScale};
+use std::alloc::{Allocator, Global};
+use std::hash::{BuildHasher, Hash};
+use std::mem;
+use std::num::NonZeroUsize;
+
+/// A pass over requests, which takes them one by one.
+#[derive(Drop)]
+pub struct DistancePass<K: Eq + Hash, S: BuildHasher = DefaultState, A: Allocator + Copy = Global> {
+    places: CLruCache<K, usize, S, ZeroWeightScale, A>,
+    latest: Latest<A>,
+    histogram: Vec<usize, A>,
+}
+
+impl<K: Eq + Hash, A: Allocator + Copy> DistancePass<K, DefaultState, A> {
+    /// Creates a pass that has taken no request. It takes no memory.
+    pub fn new(alloc: A) -> Self {
+        DistancePass::with_hasher(alloc, DefaultState)
+    }
+}
+
+impl<K: Eq + Hash, S: BuildHasher, A: Allocator + Copy> DistancePass<K, S, A> {
+    /// Creates a pass that has taken no request and hashes keys with `hash_builder`. It takes no memory.
+    pub fn with_hasher(alloc: A, hash_builder: S) -> Self {
+        DistancePass {
+            places: CLruCache::with_hasher(alloc, NonZeroUsize::MAX, hash_builder),
+            latest: Latest::new(alloc),
+            histogram: Vec::new(alloc),
+        }
+    }
+
+    /// Takes one more request, and answers its distance: how many distinct keys were requested since the latest request of its
+    /// key, or `None` where there was none.
+    pub fn request(&mut self, key: K) -> Result<Option<usize>, K>
+    where
+        K: Drop,
+    {
+        let Ok(()) = self.latest.make_ready() else {
+            return Err(key);
+        };
+        let number = self.latest.requests;
+        match move_place(&mut self.places, &key, number) {
+            Some(place) => {
+                let distance = self.latest.count_after(place);
+                self.latest.push();
+                self.latest.clear(place);
+                self.histogram[distance] += 1;
+                Ok(Some(distance))
+            }
+            None => {
+                let Ok(()) = self.histogram.reserve(1) else {
+                    return Err(key);
+                };
+                if let Err((key, _)) = self.places.put(key, number) {
+                    return Err(key);
+                }
+                self.latest.push();
+                self.histogram.push_reserved(0);
+                Ok(None)
+            }
+        }
+    }
+
+    /// Returns the curve of the requests so far.
+    pub fn into_curve(self) -> MissCurve<A>
+    where
+        K: Drop,
+        S: Drop,
+    {
+        let DistancePass {
+            latest,
+            mut histogram,
+            ..
+        } = self;
+        misses_of(&mut histogram, latest.requests);
+        MissCurve::from_misses(histogram)
+    }
+
+    /// Returns the curve of the requests so far, and goes on.
+    pub fn curve(&self, alloc: A) -> Result<MissCurve<A>, NoMemory> {
+        let Ok(mut misses) = Vec::from_slice(alloc, self.histogram.as_slice()) else {
+            return Err(NoMemory);
+        };
+        misses_of(&mut misses, self.latest.requests);
+        Ok(MissCurve::from_misses(misses))
+    }
+}
+
+/// Gives a key that is held another number, and returns the one that it had.
+fn move_place<K: Eq + Hash, S: BuildHasher, A: Allocator + Copy>(
+    places: &mut CLruCache<K, usize, S, ZeroWeightScale, A>,
+    key: &K,
+    number: usize,
+) -> Option<usize> {
+    match places.peek_mut(key) {
+        Some(place) => Some(mem::replace(place, number)),
+        None => None,
+    }
+}
+
+/// Turns the number of requests at each distance into the misses at each capacity.
+fn misses_of(histogram: &mut [usize], requests: usize) {
+    let mut misses = requests;
+    for number in histogram.iter_mut() {
+        misses -= *number;
+        *number = misses;
+    }
+}
