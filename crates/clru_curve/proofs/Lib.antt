@@ -1,5 +1,7 @@
 pub mod Bits
 pub mod Distances
+pub mod Latests
 pub mod Nodes
+pub mod Ranks
 pub mod UpTo
 pub mod Words

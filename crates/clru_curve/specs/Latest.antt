@@ -42,3 +42,4 @@ pub record IsLatest (words nodes : List ℕ) (n : ℕ) : Type 0 where
   pub tight : 64 * length words ≤ n + 64
   pub none : ones_from words n ≡ 0
   pub few : words_from words 0 ≤ n
+  pub fits : (i : ℕ) → slice_index words i < 2 ^ 64
