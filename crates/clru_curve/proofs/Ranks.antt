@@ -1,5 +1,5 @@
 -- The places of keys and the number of distinct keys that were requested after each, after one more request.
-use Rattle.std.proofs.Common.{◌≡◌, ◌≢◌, ℕ, zero, suc, ◌+◌, ◌<◌, ◌≤◌, Bool, true, false, cond, not, List, [], ◌∷◌, length, Some, None, is_some, inl, inr, refl, sym, ap, ◌∙◌, arith}
+use Rattle.std.proofs.Common.{◌≡◌, ◌≢◌, ℕ, zero, suc, ◌+◌, ◌<◌, ◌≤◌, Bool, true, false, cond, not, List, [], ◌∷◌, length, Some, None, is_some, inl, inr, refl, sym, ap, ◌∙◌, subst, arith}
 use Rattle.std.proofs.lemmas.Bool.{cases_lt}
 use Rattle.std.specs.Cmp.{IsEquivalence}
 use Rattle.std.specs.Map.{lookup}
@@ -91,19 +91,56 @@ module _ {K : Type 0} (eq : K → K → Bool) (laws : IsEquivalence eq) where
       held : (y : K) (q : ℕ) → lookup (eq y) places ≡ Some q → holds eq y past ≡ true
       held y q at = sym (r.known y) ∙ ap is_some at
 
+      -- a key before it was passed by, and a key after it has one more distinct key since
+      others : (y : K) (q : ℕ) → eq x y ≡ false → lookup (eq y) places ≡ Some q
+          → (f' q ≡ suc (f' (suc q))) × (f' (suc q) ≡ distinct eq (since eq y (x ∷ past)))
+      others y q apart at =
+          let low_q = r.before y q at in let more = distinct_since-other x y past apart in
+          let here = counts q in let next = counts (suc q) in
+          let latest = r.latest y q at in let rank = r.rank y q at in let rank_x = r.rank x p found in
+          let all_q = up_to-le q n (omega arith) in let all_next = up_to-le (suc q) n (omega arith) in
+          split (holds eq x (since eq y past))
+          (λ t. let less = distinct_since_since eq laws x y past t in
+          let before : q < p = elim (cases_lt q p) [
+            | inl lt ↦ lt
+            | inr ge ↦ let far = falls_far f r.falls (suc p) (suc q) (omega arith) in omega (arith, far, less, rank, rank_x)
+          ] in
+          let same : distinct eq (since eq y (x ∷ past)) ≡ distinct eq (since eq y past) = rw t at more in
+          let out = up_to-le q p (omega arith) in let out_next = up_to-le (suc q) p (omega arith) in
+          (omega (arith, here, next, latest, all_q, all_next, out, out_next), omega (arith, next, same, rank, all_next, out_next)))
+          (λ u. let other = since_either eq laws x y past apart (held x p found) (held y q at) u in
+          let less = distinct_since_since eq laws y x past other in
+          let after : p < q = elim (cases_lt p q) [
+            | inl lt ↦ lt
+            | inr ge ↦ let far = falls_far f r.falls (suc q) (suc p) (omega arith) in omega (arith, far, less, rank, rank_x)
+          ] in
+          let one : distinct eq (since eq y (x ∷ past)) ≡ suc (distinct eq (since eq y past)) = rw u at more in
+          let out = up_to-gt q p after in let out_next = up_to-gt (suc q) p (omega arith) in
+          (omega (arith, here, next, latest, all_q, all_next, out, out_next), omega (arith, next, one, rank, all_next, out_next)))
+
       again_latest : (y : K) (q : ℕ) → lookup (eq y) places' ≡ Some q → f' q ≡ suc (f' (suc q))
       again_latest = by_place (λ y q. f' q ≡ suc (f' (suc q)))
           (λ y t. omega (arith, counts n, counts (suc n), r.none, after_last, up_to-le n n (omega arith), up_to-gt (suc n) n (omega arith),
             up_to-gt n p low, up_to-gt (suc n) p (omega (arith, low))))
-          (λ y q apart at. ?)
+          (λ y q apart at. (others y q apart at).0)
 
       again_rank : (y : K) (q : ℕ) → lookup (eq y) places' ≡ Some q → f' (suc q) ≡ distinct eq (since eq y (x ∷ past))
       again_rank = by_place (λ y q. f' (suc q) ≡ distinct eq (since eq y (x ∷ past)))
           (λ y t. omega (arith, counts (suc n), after_last, up_to-gt (suc n) n (omega arith), up_to-gt (suc n) p (omega (arith, low)), distinct_since-same x y past t))
-          (λ y q apart at. ?)
+          (λ y q apart at. (others y q apart at).1)
 
       again_falls : (j : ℕ) → f' (suc j) ≤ f' j
-      again_falls j = ?
+      again_falls j = elim (cases_lt j p) [
+        | inl lt ↦ omega (arith, counts j, counts (suc j), r.falls j, up_to-falls j n, up_to-le j p (omega arith), up_to-le (suc j) p (omega arith))
+        | inr ge ↦ elim (cases_lt p j) [
+          | inl gt ↦ omega (arith, counts j, counts (suc j), r.falls j, up_to-falls j n, up_to-gt j p gt, up_to-gt (suc j) p (omega arith))
+          | inr le ↦
+            let same : p ≡ j = omega arith in
+            subst (λ i. f' (suc i) ≤ f' i) same
+            (omega (arith, counts p, counts (suc p), r.latest x p found, low, up_to-le p n (omega (arith, low)), up_to-le (suc p) n (omega (arith, low)),
+              up_to-le p p (omega arith), up_to-gt (suc p) p (omega arith)))
+        ]
+      ]
 
       pub IsRanked-again : IsRanked eq (x ∷ past) places' (suc n) f'
       IsRanked-again = record {
