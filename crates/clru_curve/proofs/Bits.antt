@@ -35,17 +35,17 @@ ones_more : (a b r j : ℕ) → r < 2 ^ b
     → count_ones (((2 * a + 1) * 2 ^ b + r) / 2 ^ j) ≡ count_ones ((2 * a * 2 ^ b + r) / 2 ^ j) + up_to j b
 ones_more a b r j low = elim (cases_lt b j) [
   | inl above ↦
-    let d = j - suc b in let e : b + suc d ≡ j = omega arith in
-    let odd : (2 * a + 1) / 2 ≡ a = ap (λ n. n / 2) (omega arith) ∙ div-mul-add a 2 1 (omega arith) in
-    let even : 2 * a / 2 ≡ a = ap (λ n. n / 2) (omega arith) ∙ div-mul-add a 2 0 (omega arith) in
-    let upper : ((2 * a + 1) * 2 ^ b + r) / 2 ^ j ≡ a / 2 ^ d = ap (λ k. ((2 * a + 1) * 2 ^ b + r) / 2 ^ k) (sym e) ∙ shr_parts (2 * a + 1) b r d low ∙ ap (λ n. n / 2 ^ d) odd in
-    let lower : (2 * a * 2 ^ b + r) / 2 ^ j ≡ a / 2 ^ d = ap (λ k. (2 * a * 2 ^ b + r) / 2 ^ k) (sym e) ∙ shr_parts (2 * a) b r d low ∙ ap (λ n. n / 2 ^ d) even in
-    omega (arith, ap count_ones upper, ap count_ones lower, up_to-gt j b above)
+      let d = j - suc b in let e : b + suc d ≡ j = omega arith in
+      let odd : (2 * a + 1) / 2 ≡ a = ap (λ n. n / 2) (omega arith) ∙ div-mul-add a 2 1 (omega arith) in
+      let even : 2 * a / 2 ≡ a = ap (λ n. n / 2) (omega arith) ∙ div-mul-add a 2 0 (omega arith) in
+      let upper : ((2 * a + 1) * 2 ^ b + r) / 2 ^ j ≡ a / 2 ^ d = ap (λ k. ((2 * a + 1) * 2 ^ b + r) / 2 ^ k) (sym e) ∙ shr_parts (2 * a + 1) b r d low ∙ ap (λ n. n / 2 ^ d) odd in
+      let lower : (2 * a * 2 ^ b + r) / 2 ^ j ≡ a / 2 ^ d = ap (λ k. (2 * a * 2 ^ b + r) / 2 ^ k) (sym e) ∙ shr_parts (2 * a) b r d low ∙ ap (λ n. n / 2 ^ d) even in
+      omega (arith, ap count_ones upper, ap count_ones lower, up_to-gt j b above)
   | inr within ↦
-    let d = b - j in let e : b ≡ d + j = omega arith in
-    let odd : count_ones (2 * a + 1) ≡ count_ones a + count_ones 1 = ap count_ones (omega arith) ∙ ones_cat 1 a 1 (omega arith) in
-    let even : count_ones (2 * a) ≡ count_ones a + count_ones 0 = ap count_ones (omega arith) ∙ ones_cat 1 a 0 (omega arith) in
-    omega (arith, ones_parts (2 * a + 1) b r j d low e, ones_parts (2 * a) b r j d low e, odd, even, ones-zero, ones-one, up_to-le j b within)
+      let d = b - j in let e : b ≡ d + j = omega arith in
+      let odd : count_ones (2 * a + 1) ≡ count_ones a + count_ones 1 = ap count_ones (omega arith) ∙ ones_cat 1 a 1 (omega arith) in
+      let even : count_ones (2 * a) ≡ count_ones a + count_ones 0 = ap count_ones (omega arith) ∙ ones_cat 1 a 0 (omega arith) in
+      omega (arith, ones_parts (2 * a + 1) b r j d low e, ones_parts (2 * a) b r j d low e, odd, even, ones-zero, ones-one, up_to-le j b within)
 ]
 
 -- a word below 2 ^ b gets bit b
@@ -65,9 +65,9 @@ ones_loses w b set =
     let halves = shr_split m 1 in let rest = mod_below m 2 (omega arith) in
     let odd : m % 2 ≡ 1 = elim (cases_lt (m % 2) 1) [
       | inl l ↦
-        let e : a * 2 ^ 1 + 0 ≡ m = omega (arith, halves) in
-        let same : count_ones m ≡ count_ones a + count_ones 0 = ap count_ones (sym e) ∙ ones_cat 1 a 0 (omega arith) in
-        omega (arith, same, set, ones-zero)
+          let e : a * 2 ^ 1 + 0 ≡ m = omega (arith, halves) in
+          let same : count_ones m ≡ count_ones a + count_ones 0 = ap count_ones (sym e) ∙ ones_cat 1 a 0 (omega arith) in
+          omega (arith, same, set, ones-zero)
       | inr l ↦ omega arith
     ] in
     let whole : w ≡ (2 * a + 1) * 2 ^ b + r =

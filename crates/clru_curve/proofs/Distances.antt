@@ -19,14 +19,19 @@ module _ {K : Type 0} (eq : K → K → Bool) where
   marks_below k past [] = refl
   marks_below k past (x ∷ rs) = cc (hits_below k x past, marks_below k (x ∷ past) rs)
 
+  -- the misses after one more request, of the requests with the latest first
+  pub misses-cons : (k : ℕ) (x : K) (past : List K)
+      → misses eq k (reverse (x ∷ past)) ≡ misses eq k (reverse past) + cond (hit eq k x past) 0 1
+  misses-cons k x past =
+      ap (misses eq k) (reverse-append (x ∷ []) past) ∙ misses_push eq k (reverse past) x
+      ∙ ap (λ l. misses eq k (reverse past) + cond (hit eq k x l) 0 1) (reverse-reverse past)
+
 module _ {K : Type 0} (eq : K → K → Bool) (laws : IsEquivalence eq) where
   -- with room for all keys the first request of each misses
   pub misses-room : (k : ℕ) (past : List K) → distinct eq past ≤ k → misses eq k (reverse past) ≡ distinct eq past
   misses-room k [] room = refl
   misses-room k (x ∷ past) room =
-      let pushed : misses eq k (reverse (x ∷ past)) ≡ misses eq k (reverse past) + cond (hit eq k x past) 0 1 =
-      ap (misses eq k) (reverse-append (x ∷ []) past) ∙ misses_push eq k (reverse past) x
-      ∙ ap (λ l. misses eq k (reverse past) + cond (hit eq k x l) 0 1) (reverse-reverse past) in
+      let pushed = misses-cons eq k x past in
       split (holds eq x past)
       (λ t. let before : distinct eq past ≤ k = rw t at room in
       let less = distinct_since_less eq laws x past past t (λ z g. since_within eq laws x z past g) in

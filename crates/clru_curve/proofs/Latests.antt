@@ -43,13 +43,13 @@ IsLatest-word words nodes n kept full =
     record {
       counted = record {
         node = λ j some within.
-        let after = same (node_after j) in let here = same j in let item = get_or_push nodes j in
-        let e : get_or (nodes ++ 0 ∷ []) j 0 + words_from (words ++ 0 ∷ []) (node_after j) ≡ words_from (words ++ 0 ∷ []) j = elim (cases_lt j (length nodes)) [
-          | inl lt ↦ let is = kept.counted.node j some lt in omega (arith, after, here, item, is)
-          | inr past ↦
-            let less = node_after-greater j some in
-            omega (arith, after, here, item, get_or_past nodes j 0 past, kept.counted.none j past, kept.counted.none (node_after j) (omega arith))
-        ] in e;
+            let after = same (node_after j) in let here = same j in let item = get_or_push nodes j in
+            let e : get_or (nodes ++ 0 ∷ []) j 0 + words_from (words ++ 0 ∷ []) (node_after j) ≡ words_from (words ++ 0 ∷ []) j = elim (cases_lt j (length nodes)) [
+              | inl lt ↦ let is = kept.counted.node j some lt in omega (arith, after, here, item, is)
+              | inr past ↦
+                  let less = node_after-greater j some in
+                  omega (arith, after, here, item, get_or_past nodes j 0 past, kept.counted.none j past, kept.counted.none (node_after j) (omega arith))
+            ] in e;
         none = λ j far. same j ∙ kept.counted.none j (omega (arith, far, more));
       };
       same_length = omega (arith, longer, more, kept.same_length);
@@ -114,7 +114,7 @@ module _ (words nodes : List ℕ) (n : ℕ) (kept : IsLatest words nodes n) wher
           covers = omega (arith, len, room);
           tight = omega (arith, len, kept.tight);
           none = ap (ones_from (set words (n / 64) (w + 2 ^ (n % 64)))) next
-          ∙ omega (arith, s.ones (suc n), after, half, ones-zero, kept.none, up_to-gt (suc n) n (omega arith));
+              ∙ omega (arith, s.ones (suc n), after, half, ones-zero, kept.none, up_to-gt (suc n) n (omega arith));
           few = omega (arith, s.words 0, kept.few);
           fits = set_fits words (n / 64) (w + 2 ^ (n % 64)) (omega (arith, push_fits)) kept.fits;
         }

@@ -108,7 +108,7 @@ counts_before j i some_j some_i other =
       | inl out ↦ omega (arith, up_to-gt j i out, up_to-gt (node_after j) i (omega arith), up_to-gt j (node_before i) (omega arith), up_to-gt (node_after j) (node_before i) (omega arith))
       | inr le ↦ elim (cases_lt i (node_after j)) [
         | inl lt ↦ let b = c.back other le lt in
-          omega (arith, up_to-le j i le, up_to-gt (node_after j) i lt, up_to-le j (node_before i) b, up_to-gt (node_after j) (node_before i) (omega arith))
+            omega (arith, up_to-le j i le, up_to-gt (node_after j) i lt, up_to-le j (node_before i) b, up_to-gt (node_after j) (node_before i) (omega arith))
         | inr past ↦ elim (cases_lt (node_before i) j) [
           | inl low ↦ omega (arith, up_to-le j i le, up_to-le (node_after j) i past, up_to-gt j (node_before i) low, up_to-gt (node_after j) (node_before i) (omega arith))
           | inr high ↦ elim (cases_lt (node_before i) (node_after j)) [
@@ -152,7 +152,7 @@ changes_at P Q nodes at v j inside own other before = elim (cases_lt j at) [
   | inr le ↦ elim (cases_lt at j) [
     | inl gt ↦ let ne : j ≢ at = omega arith in rw (get_or-set_other nodes at j v 0 ne) (other ne before)
     | inr ge ↦ let same : at ≡ j = omega arith in
-      subst (λ x. P x (get_or nodes x 0) → Q x (get_or (set nodes at v) x 0)) same (λ b. rw (get_or-set_same nodes at v 0 inside) (own b)) before
+        subst (λ x. P x (get_or nodes x 0) → Q x (get_or (set nodes at v) x 0)) same (λ b. rw (get_or-set_same nodes at v 0 inside) (own b)) before
   ]
 ]
 

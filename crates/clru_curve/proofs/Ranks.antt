@@ -120,8 +120,17 @@ module _ {K : Type 0} (eq : K → K → Bool) (laws : IsEquivalence eq) where
 
       again_latest : (y : K) (q : ℕ) → lookup (eq y) places' ≡ Some q → f' q ≡ suc (f' (suc q))
       again_latest = by_place (λ y q. f' q ≡ suc (f' (suc q)))
-          (λ y t. omega (arith, counts n, counts (suc n), r.none, after_last, up_to-le n n (omega arith), up_to-gt (suc n) n (omega arith),
-            up_to-gt n p low, up_to-gt (suc n) p (omega (arith, low))))
+          (λ y t. omega (
+            arith,
+            counts n,
+            counts (suc n),
+            r.none,
+            after_last,
+            up_to-le n n (omega arith),
+            up_to-gt (suc n) n (omega arith),
+            up_to-gt n p low,
+            up_to-gt (suc n) p (omega (arith, low)),
+          ))
           (λ y q apart at. (others y q apart at).0)
 
       again_rank : (y : K) (q : ℕ) → lookup (eq y) places' ≡ Some q → f' (suc q) ≡ distinct eq (since eq y (x ∷ past))
@@ -135,10 +144,19 @@ module _ {K : Type 0} (eq : K → K → Bool) (laws : IsEquivalence eq) where
         | inr ge ↦ elim (cases_lt p j) [
           | inl gt ↦ omega (arith, counts j, counts (suc j), r.falls j, up_to-falls j n, up_to-gt j p gt, up_to-gt (suc j) p (omega arith))
           | inr le ↦
-            let same : p ≡ j = omega arith in
-            subst (λ i. f' (suc i) ≤ f' i) same
-            (omega (arith, counts p, counts (suc p), r.latest x p found, low, up_to-le p n (omega (arith, low)), up_to-le (suc p) n (omega (arith, low)),
-              up_to-le p p (omega arith), up_to-gt (suc p) p (omega arith)))
+              let same : p ≡ j = omega arith in
+              subst (λ i. f' (suc i) ≤ f' i) same
+              (omega (
+                arith,
+                counts p,
+                counts (suc p),
+                r.latest x p found,
+                low,
+                up_to-le p n (omega (arith, low)),
+                up_to-le (suc p) n (omega (arith, low)),
+                up_to-le p p (omega arith),
+                up_to-gt (suc p) p (omega arith),
+              ))
         ]
       ]
 

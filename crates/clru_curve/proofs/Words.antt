@@ -52,38 +52,40 @@ ones_from-zero ws = ap (λ w. count_ones w + words_from ws 1) (div-one (get_or w
 -- the word and the bit of the next place
 next_same : (p : ℕ) → p % 64 < 63 → (suc p / 64 ≡ p / 64) × (suc p % 64 ≡ suc (p % 64))
 next_same p low =
-    let whole : p / 64 * 64 + suc (p % 64) ≡ suc p = omega (arith, div-add-mod' p 64) in
-    (ap (λ n. n / 64) (sym whole) ∙ div-mul-add (p / 64) 64 (suc (p % 64)) (omega arith),
-    ap (λ n. n % 64) (sym whole) ∙ mod-mul-add (p / 64) 64 (suc (p % 64)) (omega arith))
+    let whole : p / 64 * 64 + suc (p % 64) ≡ suc p = omega (arith, div-add-mod' p 64) in (
+      ap (λ n. n / 64) (sym whole) ∙ div-mul-add (p / 64) 64 (suc (p % 64)) (omega arith),
+      ap (λ n. n % 64) (sym whole) ∙ mod-mul-add (p / 64) 64 (suc (p % 64)) (omega arith),
+    )
 
 next_word : (p : ℕ) → p % 64 ≡ 63 → (suc p / 64 ≡ suc (p / 64)) × (suc p % 64 ≡ 0)
 next_word p last =
-    let whole : suc (p / 64) * 64 + 0 ≡ suc p = omega (arith, div-add-mod' p 64) in
-    (ap (λ n. n / 64) (sym whole) ∙ div-mul-add (suc (p / 64)) 64 0 (omega arith),
-    ap (λ n. n % 64) (sym whole) ∙ mod-mul-add (suc (p / 64)) 64 0 (omega arith))
+    let whole : suc (p / 64) * 64 + 0 ≡ suc p = omega (arith, div-add-mod' p 64) in (
+      ap (λ n. n / 64) (sym whole) ∙ div-mul-add (suc (p / 64)) 64 0 (omega arith),
+      ap (λ n. n % 64) (sym whole) ∙ mod-mul-add (suc (p / 64)) 64 0 (omega arith),
+    )
 
 -- the ones after a bit
 pub ones_from-next : (ws : List ℕ) (p : ℕ) → get_or ws (p / 64) 0 < 2 ^ 64
     → ones_from ws (suc p) ≡ count_ones (get_or ws (p / 64) 0 / 2 ^ (p % 64) / 2) + words_from ws (suc (p / 64))
 ones_from-next ws p fits = elim (cases_lt (p % 64) 63) [
   | inl low ↦
-    let n = next_same p low in
-    let shift : get_or ws (p / 64) 0 / 2 ^ suc (p % 64) ≡ get_or ws (p / 64) 0 / 2 ^ (p % 64) / 2 =
-    ap (λ k. get_or ws (p / 64) 0 / 2 ^ k) (omega arith) ∙ sym (shr-shr (get_or ws (p / 64) 0) (p % 64) 1) in
-    ap (λ q. count_ones (get_or ws q 0 / 2 ^ (suc p % 64)) + words_from ws (suc q)) n.0
-    ∙ ap (λ b. count_ones (get_or ws (p / 64) 0 / 2 ^ b) + words_from ws (suc (p / 64))) n.1
-    ∙ ap (λ w. count_ones w + words_from ws (suc (p / 64))) shift
+      let n = next_same p low in
+      let shift : get_or ws (p / 64) 0 / 2 ^ suc (p % 64) ≡ get_or ws (p / 64) 0 / 2 ^ (p % 64) / 2 =
+      ap (λ k. get_or ws (p / 64) 0 / 2 ^ k) (omega arith) ∙ sym (shr-shr (get_or ws (p / 64) 0) (p % 64) 1) in
+      ap (λ q. count_ones (get_or ws q 0 / 2 ^ (suc p % 64)) + words_from ws (suc q)) n.0
+      ∙ ap (λ b. count_ones (get_or ws (p / 64) 0 / 2 ^ b) + words_from ws (suc (p / 64))) n.1
+      ∙ ap (λ w. count_ones w + words_from ws (suc (p / 64))) shift
   | inr high ↦
-    let last : p % 64 ≡ 63 = omega (arith, mod_below p 64 (omega arith)) in
-    let n = next_word p last in
-    let q = suc (p / 64) in let w = get_or ws (p / 64) 0 in
-    let gone : w / 2 ^ (p % 64) / 2 ≡ 0 =
-    ap (λ b. w / 2 ^ b / 2) last ∙ shr-shr w 63 1 ∙ ap (λ m. m / 2 ^ 64) (omega arith) ∙ div-mul-add 0 (2 ^ 64) w fits in
-    ap (λ q. count_ones (get_or ws q 0 / 2 ^ (suc p % 64)) + words_from ws (suc q)) n.0
-    ∙ ap (λ b. count_ones (get_or ws q 0 / 2 ^ b) + words_from ws (suc q)) n.1
-    ∙ ap (λ w. count_ones w + words_from ws (suc q)) (div-one (get_or ws q 0))
-    ∙ sym (words_step ws q)
-    ∙ omega (arith, ap count_ones gone, ones-zero)
+      let last : p % 64 ≡ 63 = omega (arith, mod_below p 64 (omega arith)) in
+      let n = next_word p last in
+      let q = suc (p / 64) in let w = get_or ws (p / 64) 0 in
+      let gone : w / 2 ^ (p % 64) / 2 ≡ 0 =
+      ap (λ b. w / 2 ^ b / 2) last ∙ shr-shr w 63 1 ∙ ap (λ m. m / 2 ^ 64) (omega arith) ∙ div-mul-add 0 (2 ^ 64) w fits in
+      ap (λ q. count_ones (get_or ws q 0 / 2 ^ (suc p % 64)) + words_from ws (suc q)) n.0
+      ∙ ap (λ b. count_ones (get_or ws q 0 / 2 ^ b) + words_from ws (suc q)) n.1
+      ∙ ap (λ w. count_ones w + words_from ws (suc q)) (div-one (get_or ws q 0))
+      ∙ sym (words_step ws q)
+      ∙ omega (arith, ap count_ones gone, ones-zero)
 ]
 
 -- a bit more in one word
@@ -106,21 +108,21 @@ module _ (ws : List ℕ) (i x y b : ℕ) (inside : i < length ws) (bit : b < 64)
       let whole = div-add-mod' p 64 in let low = mod_below p 64 (omega arith) in
       elim (cases_lt q i) [
         | inl lt ↦
-          let e = ap (λ n. count_ones (n / 2 ^ r)) (other_word q (omega arith)) in
-          omega (arith, w, e, up_to-le (suc q) i (omega arith), up_to-le p (64 * i + b) (omega (arith, whole, low, at, lt)))
+            let e = ap (λ n. count_ones (n / 2 ^ r)) (other_word q (omega arith)) in
+            omega (arith, w, e, up_to-le (suc q) i (omega arith), up_to-le p (64 * i + b) (omega (arith, whole, low, at, lt)))
         | inr le ↦ elim (cases_lt i q) [
           | inl gt ↦
-            let e = ap (λ n. count_ones (n / 2 ^ r)) (other_word q (omega arith)) in
-            omega (arith, w, e, up_to-gt (suc q) i (omega arith), up_to-gt p (64 * i + b) (omega (arith, whole, low, at, gt, bit)))
+              let e = ap (λ n. count_ones (n / 2 ^ r)) (other_word q (omega arith)) in
+              omega (arith, w, e, up_to-gt (suc q) i (omega arith), up_to-gt p (64 * i + b) (omega (arith, whole, low, at, gt, bit)))
           | inr ge ↦
-            let same : q ≡ i = omega arith in
-            let has = ap (λ n. count_ones (n / 2 ^ r)) (ap (λ k. get_or (set ws i y) k 0) same ∙ get_or-set_same ws i y 0 inside) in
-            let had = ap (λ n. count_ones (n / 2 ^ r)) (ap (λ k. get_or (set ws i x) k 0) same ∙ get_or-set_same ws i x 0 inside) in
-            let m = more r in
-            elim (cases_lt b r) [
-              | inl out ↦ omega (arith, w, has, had, m, up_to-gt (suc q) i (omega arith), up_to-gt r b out, up_to-gt p (64 * i + b) (omega (arith, whole, at, rest, same, out)))
-              | inr within ↦ omega (arith, w, has, had, m, up_to-gt (suc q) i (omega arith), up_to-le r b within, up_to-le p (64 * i + b) (omega (arith, whole, at, rest, same, within)))
-            ]
+              let same : q ≡ i = omega arith in
+              let has = ap (λ n. count_ones (n / 2 ^ r)) (ap (λ k. get_or (set ws i y) k 0) same ∙ get_or-set_same ws i y 0 inside) in
+              let had = ap (λ n. count_ones (n / 2 ^ r)) (ap (λ k. get_or (set ws i x) k 0) same ∙ get_or-set_same ws i x 0 inside) in
+              let m = more r in
+              elim (cases_lt b r) [
+                | inl out ↦ omega (arith, w, has, had, m, up_to-gt (suc q) i (omega arith), up_to-gt r b out, up_to-gt p (64 * i + b) (omega (arith, whole, at, rest, same, out)))
+                | inr within ↦ omega (arith, w, has, had, m, up_to-gt (suc q) i (omega arith), up_to-le r b within, up_to-le p (64 * i + b) (omega (arith, whole, at, rest, same, within)))
+              ]
         ]
       ]
 

@@ -1,9 +1,9 @@
 -- What a pass has taken note of, request by request. Public clauses cite it.
-use Rattle.std.specs.Prelude.{◌≡◌, ℕ, suc, ◌+◌, ◌<◌, ◌≤◌, Bool, List, length, take, sum, reverse, is_some, Some, refl}
+use Rattle.std.specs.Prelude.{◌≡◌, ℕ, suc, ◌+◌, ◌-◌, ◌^◌, ◌<◌, ◌≤◌, Bool, List, length, take, sum, reverse, is_some, Some, refl}
 use Rattle.std.specs.Coded.{Coded, code_by, coded×, coded_list, coded_ℕ}
 use Rattle.std.specs.Map.{lookup}
 use Rattle.clru_model.specs.Requests.{holds, distinct, since, misses}
-use Rattle.clru_curve.specs.Latest.{ones_from}
+use Rattle.clru_curve.specs.Latest.{ones_from, IsLatest}
 
 -- each key with the number of its latest request, a bit for each request, how many requests there were, and how many at each
 -- distance
@@ -44,3 +44,10 @@ module _ {K : Type 0} (eq : K → K → Bool) where
     pub ranked : IsRanked past p.places p.requests (ones_from p.words)
     pub counted : IsHistogram past p.histogram
     pub requests : p.requests ≡ length past
+
+  -- what holds of every pass: it has taken some requests, and its cache drops none
+  pub record IsSound (room : ℕ) (nodes : List ℕ) (p : Pass K) : Type 0 where
+    pub greatest : room ≡ 2 ^ 64 - 1
+    pub latest : IsLatest p.words nodes p.requests
+    pub past : List K
+    pub taken : IsPass past p

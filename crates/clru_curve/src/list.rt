@@ -1,5 +1,7 @@
 //! The curve of a whole list of requests.
-ghost use Rattle.std.specs.Prelude.{◌≡◌, length, reverse, IfOk};
+ghost use Rattle.std.specs.Prelude.{◌≡◌, [], length, reverse, IfOk, IsOk};
+ghost use Rattle.clru_model.specs.Requests.{distinct};
+ghost use Rattle.clru_curve.specs.Curves.{HasMissesOf};
 
 use crate::curve::MissCurve;
 use crate::pass::DistancePass;
@@ -12,7 +14,11 @@ pub fn miss_curve<K: Eq + Hash + Copy, S: BuildHasher + Drop, A: Allocator + Cop
     alloc: A,
     keys: &[K],
     hash_builder: S,
-) -> Result<MissCurve<A>, NoMemory> {
+) -> Result<MissCurve<A>, NoMemory>
+    ensures misses { IfOk result (λ c. HasMissesOf K.eq keys.now c) }
+    ensures distinct { IfOk result (λ c. length c ≡ distinct K.eq (reverse keys.now)) }
+    ensures never_refused { keys.now ≡ [] → IsOk result }
+{
     let mut pass = DistancePass::with_hasher(alloc, hash_builder);
     for key in keys {
         let Ok(_) = pass.request(*key) else {

@@ -1,6 +1,8 @@
 //! `DistancePass`, which takes requests one by one.
-ghost use Rattle.std.specs.Prelude.{◌≡◌, List, [], ◌∷◌, length, reverse, is_ok, IfOk, IfErr, OnOk, OnErr, if◌then◌else◌};
+ghost use Rattle.std.specs.Prelude.{◌≡◌, ℕ, suc, ◌+◌, ◌<◌, ◌≤◌, List, [], ◌∷◌, length, take, sum, reverse, slice_index, IfOk, IfErr, OnOk, OnErr, IsNone, IsSome};
+ghost use Rattle.std.specs.Map.{lookup, set_value};
 ghost use Rattle.clru_model.specs.Requests.{distinct};
+ghost use Rattle.clru.specs.Cache.{with_entries};
 ghost use Rattle.clru_curve.specs.Curves.{HasMissesOf};
 ghost use Rattle.clru_curve.specs.Distances.{distance};
 ghost use Rattle.clru_curve.specs.Passes.{IsPass};
@@ -10,6 +12,7 @@ use crate::latest::Latest;
 use clru::{CLruCache, DefaultState, NoMemory, ZeroWeightScale};
 use std::alloc::{Allocator, Global};
 use std::hash::{BuildHasher, Hash};
+use std::marker::Model;
 use std::mem;
 use std::num::NonZeroUsize;
 
@@ -21,16 +24,33 @@ pub struct DistancePass<K: Eq + Hash, S: BuildHasher = DefaultState, A: Allocato
     histogram: Vec<usize, A>,
 }
 
+impl<K: Eq + Hash, S: BuildHasher, A: Allocator + Copy> Model for DistancePass<K, S, A> {
+    ghost use Rattle.clru_curve.specs.Passes.{Pass, pass, pass_code, IsSound};
+
+    ghost Value = { Pass K };
+
+    ghost coded = { pass_code K.code };
+
+    ghost view = { λ p. pass p.places.entries p.latest.words.items p.latest.requests p.histogram.items };
+
+    ghost invariant = { λ p. IsSound K.eq p.places.capacity p.latest.nodes.items
+        (pass p.places.entries p.latest.words.items p.latest.requests p.histogram.items) };
+}
+
 impl<K: Eq + Hash, A: Allocator + Copy> DistancePass<K, DefaultState, A> {
     /// Creates a pass that has taken no request. It takes no memory.
-    pub fn new(alloc: A) -> Self {
+    pub fn new(alloc: A) -> Self
+        ensures { IsPass K.eq [] result }
+    {
         DistancePass::with_hasher(alloc, DefaultState)
     }
 }
 
 impl<K: Eq + Hash, S: BuildHasher, A: Allocator + Copy> DistancePass<K, S, A> {
     /// Creates a pass that has taken no request and hashes keys with `hash_builder`. It takes no memory.
-    pub fn with_hasher(alloc: A, hash_builder: S) -> Self {
+    pub fn with_hasher(alloc: A, hash_builder: S) -> Self
+        ensures { IsPass K.eq [] result }
+    {
         DistancePass {
             places: CLruCache::with_hasher(alloc, NonZeroUsize::MAX, hash_builder),
             latest: Latest::new(alloc),
@@ -43,6 +63,10 @@ impl<K: Eq + Hash, S: BuildHasher, A: Allocator + Copy> DistancePass<K, S, A> {
     pub fn request(&mut self, key: K) -> Result<Option<usize>, K>
     where
         K: Drop,
+        ensures distance { (past : List K) → IsPass K.eq past self.old → IfOk result (λ d. d ≡ distance K.eq key past) }
+        ensures taken { (past : List K) → IsPass K.eq past self.old → OnOk result (IsPass K.eq (key ∷ past) self.new) }
+        ensures refused { (past : List K) → IsPass K.eq past self.old → OnErr result (IsPass K.eq past self.new) }
+        ensures given_back { IfErr result (λ back. back ≡ key) }
     {
         let Ok(()) = self.latest.make_ready() else {
             return Err(key);
@@ -75,6 +99,8 @@ impl<K: Eq + Hash, S: BuildHasher, A: Allocator + Copy> DistancePass<K, S, A> {
     where
         K: Drop,
         S: Drop,
+        ensures misses { (past : List K) → IsPass K.eq past self → HasMissesOf K.eq (reverse past) result }
+        ensures distinct { (past : List K) → IsPass K.eq past self → length result ≡ distinct K.eq past }
     {
         let DistancePass {
             latest,
@@ -86,7 +112,10 @@ impl<K: Eq + Hash, S: BuildHasher, A: Allocator + Copy> DistancePass<K, S, A> {
     }
 
     /// Returns the curve of the requests so far, and goes on.
-    pub fn curve(&self, alloc: A) -> Result<MissCurve<A>, NoMemory> {
+    pub fn curve(&self, alloc: A) -> Result<MissCurve<A>, NoMemory>
+        ensures misses { (past : List K) → IsPass K.eq past self.now → IfOk result (λ c. HasMissesOf K.eq (reverse past) c) }
+        ensures distinct { (past : List K) → IsPass K.eq past self.now → IfOk result (λ c. length c ≡ distinct K.eq past) }
+    {
         let Ok(mut misses) = Vec::from_slice(alloc, self.histogram.as_slice()) else {
             return Err(NoMemory);
         };
@@ -100,7 +129,11 @@ fn move_place<K: Eq + Hash, S: BuildHasher, A: Allocator + Copy>(
     places: &mut CLruCache<K, usize, S, ZeroWeightScale, A>,
     key: &K,
     number: usize,
-) -> Option<usize> {
+) -> Option<usize>
+    ensures found { result ≡ lookup (K.eq key.now) places.old.entries }
+    ensures same { IsNone result → places.new ≡ places.old }
+    ensures moved { IsSome result → places.new ≡ with_entries places.old (set_value (K.eq key.now) places.old.entries number) }
+{
     match places.peek_mut(key) {
         Some(place) => Some(mem::replace(place, number)),
         None => None,
@@ -108,7 +141,12 @@ fn move_place<K: Eq + Hash, S: BuildHasher, A: Allocator + Copy>(
 }
 
 /// Turns the number of requests at each distance into the misses at each capacity.
-fn misses_of(histogram: &mut [usize], requests: usize) {
+fn misses_of(histogram: &mut [usize], requests: usize)
+    requires within { (k : ℕ) → sum (take k histogram.old) ≤ requests }
+    ensures len { length histogram.new ≡ length histogram.old }
+    ensures misses { (i : ℕ) → i < length histogram.old
+        → slice_index histogram.new i + sum (take (suc i) histogram.old) ≡ requests }
+{
     let mut misses = requests;
     for number in histogram.iter_mut() {
         misses -= *number;

@@ -7,14 +7,22 @@ pub overflow_add-index_mut : goal.overflow_add-index_mut
 overflow_add-index_mut g c =
     let self = c.args.self.now in
     let word = word_read self.words.items self.nodes.items self.requests c.requires.kept self.requests c.index_mut.result.now c.requires.room c.index_mut.ensures.value in
-    omega (arith, word, bit_of self.requests,
-      push_fits self.words.items self.nodes.items self.requests c.requires.kept c.requires.room)
+    omega (
+      arith,
+      word,
+      bit_of self.requests,
+      push_fits self.words.items self.nodes.items self.requests c.requires.kept c.requires.room,
+    )
 
 pub add_at-requires-clause-counted : goal.add_at-requires-clause-counted
 add_at-requires-clause-counted g c =
-    let self = c.args.self.now in let kept = c.requires.kept in
-    (words_from self.words.items, (rw c.deref_mut.ensures.value kept.counted,
-      λ j. omega (arith, few_from self.words.items self.nodes.items self.requests kept j, c.requires.countable)))
+    let self = c.args.self.now in let kept = c.requires.kept in (
+      words_from self.words.items,
+      (
+        rw c.deref_mut.ensures.value kept.counted,
+        λ j. omega (arith, few_from self.words.items self.nodes.items self.requests kept j, c.requires.countable),
+      ),
+    )
 
 pub returns-clause-kept : goal.returns-clause-kept
 returns-clause-kept g c =

@@ -20,8 +20,8 @@ loop-node-preserved c =
       inside = omega (arith, node_before-less at c.loop-node-test.true);
       none = λ f is j far. c.loop-node.invariant.none f is j (omega (arith, far, len));
       node = λ f is j some_j within.
-      subtracts_step f c.loop-node.nodes at j (omega arith) c.loop-node-test.true some_j some
-      (c.loop-node.invariant.node f is j some_j (omega (arith, within, len)));
+          subtracts_step f c.loop-node.nodes at j (omega arith) c.loop-node-test.true some_j some
+          (c.loop-node.invariant.node f is j some_j (omega (arith, within, len)));
     }
 
 pub returns-clause-counted : goal.returns-clause-counted
@@ -29,9 +29,9 @@ returns-clause-counted c f is =
     let at = c.loop-node.node in let done : at ≡ 0 = omega (arith, c.loop-node-test.false) in
     record {
       node = λ j some within.
-      let whole = c.loop-node.invariant.node f is j some within in
-      let low = node_after-greater j some in
-      let e : get_or c.loop-node.nodes j 0 + f (node_after j) ≡ f j
-      = omega (arith, whole, up_to-gt j at (omega arith), up_to-gt (node_after j) at (omega arith)) in e;
+          let whole = c.loop-node.invariant.node f is j some within in
+          let low = node_after-greater j some in
+          let e : get_or c.loop-node.nodes j 0 + f (node_after j) ≡ f j
+          = omega (arith, whole, up_to-gt j at (omega arith), up_to-gt (node_after j) at (omega arith)) in e;
       none = λ j far. c.loop-node.invariant.none f is j far;
     }
