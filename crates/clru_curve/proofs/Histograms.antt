@@ -18,7 +18,7 @@ use Rattle.clru_curve.proofs.UpTo.{up_to-le, up_to-gt}
 sum-cons : (x : ℕ) (xs : List ℕ) → sum (x ∷ xs) ≡ x + sum xs
 sum-cons x xs = sum_by-cons (λ y. y) x xs
 
-take-nil : (k : ℕ) → take k ([] {A = ℕ}) ≡ []
+take-nil : (k : ℕ) → take {A = ℕ} k [] ≡ []
 take-nil zero = refl
 take-nil (suc k) = refl
 
@@ -48,7 +48,7 @@ sum-take-suc (x ∷ xs) (suc i) = omega (arith, sum-take-suc xs i, sum-cons x (t
 module _ {K : Type 0} (eq : K → K → Bool) where
   -- before the first request
   pub IsHistogram-none : IsHistogram eq [] []
-  IsHistogram-none = record { distinct = refl; hits = λ k. ap (λ l. sum l) (take-nil k) }
+  IsHistogram-none = record { distinct = refl; hits = λ k. omega (arith, ap (λ l. sum l) (take-nil k)) }
 
 module _ {K : Type 0} (eq : K → K → Bool) (laws : IsEquivalence eq) (past : List K) (h : List ℕ) (x : K) (is : IsHistogram eq past h) where
   -- a key that was not requested before

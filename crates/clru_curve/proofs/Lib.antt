@@ -3,6 +3,7 @@ pub mod Distances
 pub mod Histograms
 pub mod Latests
 pub mod Nodes
+pub mod Passing
 pub mod Ranks
 pub mod UpTo
 pub mod Words
