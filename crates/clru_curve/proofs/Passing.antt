@@ -1,6 +1,7 @@
 -- What a pass has taken, after one more request.
-use Rattle.std.proofs.Common.{◌≡◌, ℕ, suc, ◌+◌, ◌-◌, ◌%◌, ◌^◌, ◌<◌, ◌≤◌, Bool, true, false, cond, List, [], ◌∷◌, ◌++◌, length, get_or, set, take, Option, Some, None, is_some, refl, sym, ap, ◌∙◌, subst, arith, take_all}
+use Rattle.std.proofs.Common.{◌≡◌, ℕ, suc, ◌+◌, ◌-◌, ◌%◌, ◌^◌, ◌<◌, ◌≤◌, Bool, true, false, cond, List, [], ◌∷◌, ◌++◌, length, get_or, set, take, reverse, Option, Some, None, is_some, refl, sym, ap, ◌∙◌, subst, arith, take_all}
 use Rattle.std.specs.Cmp.{IsEquivalence}
+use Rattle.std.specs.Prelude.{sum}
 use Rattle.std.specs.Map.{lookup, set_value}
 use Rattle.std.proofs.lemmas.Map.{lookup-set_value, length-set_value}
 use Rattle.std.proofs.lemmas.Bool.Decides.{nat_tests}
@@ -8,11 +9,12 @@ use Rattle.clru_model.specs.Entries.{plain_put}
 use Rattle.clru_model.specs.Requests.{holds, distinct, since}
 use Rattle.clru_model.proofs.Cases.{split}
 use Rattle.clru_model.proofs.Finding.{missed, plain_put-missed}
+use Rattle.clru_curve.specs.Curves.{HasMissesOf}
 use Rattle.clru_curve.specs.Distances.{distance}
 use Rattle.clru_curve.specs.Latest.{up_to, words_from, ones_from}
 use Rattle.clru_curve.specs.Passes.{Pass, pass, IsRanked, IsHistogram, IsPass}
 use Rattle.clru_curve.proofs.Bits.{ones-zero, ones_upper}
-use Rattle.clru_curve.proofs.Histograms.{IsHistogram-none, IsHistogram-new, IsHistogram-again, distance_inside, distance_few}
+use Rattle.clru_curve.proofs.Histograms.{IsHistogram-none, IsHistogram-new, IsHistogram-again, distance_inside, distance_few, HasMissesOf-by}
 use Rattle.clru_curve.proofs.Ranks.{IsRanked-new, IsRanked-again}
 
 module _ {K : Type 0} (eq : K → K → Bool) where
@@ -108,3 +110,20 @@ module _ {K : Type 0} (eq : K → K → Bool) (laws : IsEquivalence eq) (past : 
           counted = IsHistogram-again eq laws past h x is.counted was_held;
           requests = ap suc is.requests;
         })
+
+module _ {K : Type 0} (eq : K → K → Bool) (past : List K) (p : Pass K) (old curve result : List ℕ) (is : IsPass eq past p) (from : old ≡ p.histogram) where
+  -- no sum of the numbers passes that of the requests
+  pub sums_within : (k : ℕ) → sum (take k old) ≤ p.requests
+  sums_within k = omega (arith, is.counted.hits k, is.requests, ap (λ h. sum (take k h)) from)
+
+  module _ (to : result ≡ curve) (len : length curve ≡ length old) where
+    pub curve_distinct : length result ≡ distinct eq past
+    curve_distinct = ap (λ l. length l) to ∙ len ∙ ap (λ l. length l) from ∙ is.counted.distinct
+
+    pub curve_misses : IsEquivalence eq → ((i : ℕ) → i < length old → get_or curve i 0 + sum (take (suc i) old) ≡ p.requests)
+        → HasMissesOf eq (reverse past) result
+    curve_misses laws at =
+        subst (λ l. HasMissesOf eq (reverse past) l) (sym to)
+        (HasMissesOf-by eq laws past p.histogram curve is.counted (len ∙ ap (λ l. length l) from)
+        (λ i within. let here = at i (omega (arith, within, ap (λ l. length l) from)) in
+        omega (arith, here, ap (λ h. sum (take (suc i) h)) from, is.requests)))
