@@ -1,7 +1,7 @@
 -- What a bit more or less does to the ones of a word, from each bit on.
-use Rattle.std.proofs.Common.{◌≡◌, ℕ, suc, ◌+◌, ◌*◌, ◌-◌, ◌/◌, ◌%◌, ◌^◌, ◌<◌, ◌≤◌, inl, inr, refl, sym, ap, ◌∙◌, subst, arith}
+use Rattle.std.proofs.Common.{◌≡◌, ℕ, suc, ◌+◌, ◌*◌, ◌-◌, ◌/◌, ◌%◌, ◌^◌, ◌<◌, ◌≤◌, inl, inr, sym, ap, ◌∙◌, subst, arith}
 use Rattle.std.proofs.lemmas.Bool.{cases_lt}
-use Rattle.std.proofs.lemmas.Nat.{pow-add, pow_pos, pow_below, shr-shr, shr_split, shr_below, mod_below, div-mul-add, ones_cat, ones_le_self, zero_from_ones}
+use Rattle.std.proofs.lemmas.Nat.{pow-add, pow_pos, shr-shr, shr_split, shr_below, mod_below, div-mul-add, ones_cat, ones_le_self, zero_from_ones}
 use Rattle.std.specs.Int.Count.{ones-ones}
 use Rattle.std.specs.Prelude.{count_ones}
 use Rattle.clru_curve.specs.Latest.{up_to}

@@ -1,14 +1,14 @@
 -- What a request more and a bit less keep of the bits and the nodes.
 use Rattle.std.proofs.Common.{◌≡◌, ℕ, zero, suc, ◌+◌, ◌*◌, ◌-◌, ◌/◌, ◌%◌, ◌^◌, ◌<◌, ◌≤◌, List, [], ◌∷◌, ◌++◌, length, get_or, set, take, drop, inl, inr, refl, sym, ap, ◌∙◌, subst, arith, length-set}
 use Rattle.std.proofs.lemmas.Bool.{cases_lt}
-use Rattle.std.proofs.lemmas.Nat.{zero_from_ones, one_shl, pow_pos, pow_below, mod_below, div-add-mod', div_below}
+use Rattle.std.proofs.lemmas.Nat.{zero_from_ones, one_shl, pow_below, mod_below, div-add-mod', div_below}
 use Rattle.std.proofs.lemmas.List.{set-get_or, get_or_past, get_or_read, length_push, take-append-le, take_all}
 use Rattle.std.specs.Prelude.{count_ones}
 use Rattle.clru_curve.specs.Latest.{up_to, words_from, ones_from, node_after, IsCounted, IsLatest}
 use Rattle.clru_curve.proofs.Bits.{ones-zero, ones_upper, ones_set, Loses, ones_loses, no_ones_below}
 use Rattle.clru_curve.proofs.Nodes.{falls_far, node_after-greater}
-use Rattle.clru_curve.proofs.UpTo.{up_to-le, up_to-gt}
-use Rattle.clru_curve.proofs.Words.{Sets, sets, words_step, words_fall, words_none, words_from_push, get_or_push, ones_from_push, ones_from-next, ones_from-zero, IsCounted-same}
+use Rattle.clru_curve.proofs.UpTo.{up_to-gt}
+use Rattle.clru_curve.proofs.Words.{Sets, sets, words_step, words_fall, words_from_push, get_or_push, ones_from_push, ones_from-next, IsCounted-same}
 
 -- a slice written back
 pub written_back : {X : Type 0} (xs ys : List X) (n : ℕ) → length xs ≡ n → take n (xs ++ drop (length xs) ys) ≡ xs

@@ -1,18 +1,16 @@
 -- What a pass has taken, after one more request.
-use Rattle.std.proofs.Common.{◌≡◌, ℕ, suc, ◌+◌, ◌-◌, ◌%◌, ◌^◌, ◌<◌, ◌≤◌, Bool, true, false, cond, List, [], ◌∷◌, ◌++◌, length, get_or, set, take, reverse, Option, Some, None, is_some, refl, sym, ap, ◌∙◌, subst, arith, take_all}
+use Rattle.std.proofs.Common.{◌≡◌, ℕ, suc, ◌+◌, ◌-◌, ◌%◌, ◌<◌, ◌≤◌, Bool, true, false, cond, List, [], ◌∷◌, ◌++◌, length, get_or, set, take, reverse, Some, None, is_some, refl, sym, ap, ◌∙◌, subst, arith, take_all}
 use Rattle.std.specs.Cmp.{IsEquivalence}
 use Rattle.std.specs.Prelude.{sum}
 use Rattle.std.specs.Map.{lookup, set_value}
 use Rattle.std.proofs.lemmas.Map.{lookup-set_value, length-set_value}
-use Rattle.std.proofs.lemmas.Bool.Decides.{nat_tests}
 use Rattle.clru_model.specs.Entries.{plain_put}
-use Rattle.clru_model.specs.Requests.{holds, distinct, since}
-use Rattle.clru_model.proofs.Cases.{split}
+use Rattle.clru_model.specs.Requests.{holds, distinct}
 use Rattle.clru_model.proofs.Finding.{missed, plain_put-missed}
 use Rattle.clru_curve.specs.Curves.{HasMissesOf}
 use Rattle.clru_curve.specs.Distances.{distance}
-use Rattle.clru_curve.specs.Latest.{up_to, words_from, ones_from}
-use Rattle.clru_curve.specs.Passes.{Pass, pass, IsRanked, IsHistogram, IsPass}
+use Rattle.clru_curve.specs.Latest.{up_to, ones_from}
+use Rattle.clru_curve.specs.Passes.{Pass, pass, IsPass}
 use Rattle.clru_curve.proofs.Bits.{ones-zero, ones_upper}
 use Rattle.clru_curve.proofs.Histograms.{IsHistogram-none, IsHistogram-new, IsHistogram-again, distance_inside, distance_few, HasMissesOf-by}
 use Rattle.clru_curve.proofs.Ranks.{IsRanked-new, IsRanked-again}

@@ -1,7 +1,7 @@
 -- The ones of words, from a word on and from a bit on.
-use Rattle.std.proofs.Common.{◌≡◌, ◌≢◌, ℕ, zero, suc, ◌+◌, ◌*◌, ◌-◌, ◌/◌, ◌%◌, ◌^◌, ◌<◌, ◌≤◌, List, [], ◌∷◌, ◌++◌, length, get_or, set, inl, inr, refl, sym, ap, ◌∙◌, subst, arith, get_or-set_other, get_or-set_same, div-one}
+use Rattle.std.proofs.Common.{◌≡◌, ◌≢◌, ℕ, zero, suc, ◌+◌, ◌*◌, ◌/◌, ◌%◌, ◌^◌, ◌<◌, ◌≤◌, List, [], ◌∷◌, ◌++◌, length, get_or, set, inl, inr, refl, sym, ap, ◌∙◌, arith, get_or-set_other, get_or-set_same, div-one}
 use Rattle.std.proofs.lemmas.Bool.{cases_lt}
-use Rattle.std.proofs.lemmas.Nat.{shr-shr, shr_split, mod_below, div-mul-add, mod-mul-add, div-add-mod', ones_cat}
+use Rattle.std.proofs.lemmas.Nat.{shr-shr, mod_below, div-mul-add, mod-mul-add, div-add-mod'}
 use Rattle.std.specs.Prelude.{count_ones}
 use Rattle.clru_curve.specs.Latest.{up_to, words_from, ones_from, node_after, Falls, IsCounted}
 use Rattle.clru_curve.proofs.Bits.{ones-zero}

@@ -1,6 +1,6 @@
 -- What a curve is seen as: the misses at the capacities 1, 2 and so on. Public clauses cite it.
-use Rattle.std.specs.Prelude.{◌≡◌, ℕ, ◌-◌, ◌<◌, ◌+◌, Bool, List, length, take, sum, slice_index_or}
-use Rattle.clru_model.specs.Requests.{distinct, misses}
+use Rattle.std.specs.Prelude.{◌≡◌, ℕ, ◌-◌, ◌<◌, Bool, List, length, slice_index_or}
+use Rattle.clru_model.specs.Requests.{misses}
 
 -- the misses at the capacity k: past the end, where there is room for all keys, as many as there are keys
 abbrev pub misses_at : List ℕ → ℕ → ℕ

@@ -1,4 +1,4 @@
-use Rattle.std.proofs.Common.{◌≡◌, suc, ◌+◌, ◌<◌, ◌≤◌, ℕ, length, take, get_or}
+use Rattle.std.proofs.Common.{◌≡◌, suc, ◌+◌, ◌<◌, ◌≤◌, ℕ, take, get_or}
 use Rattle.std.specs.Prelude.{sum}
 use Rattle.clru_curve.proofs.pass.misses_of.Given as goal
 

@@ -1,4 +1,4 @@
-use Rattle.std.proofs.Common.{◌-◌, ◌/◌, ◌%◌, ◌^◌, get_or, set, ap, length, sym, ◌∙◌, arith}
+use Rattle.std.proofs.Common.{◌-◌, ◌/◌, ◌%◌, ◌^◌, get_or, set, ap, length, ◌∙◌, arith}
 use Rattle.clru_curve.specs.Latest.{words_from}
 use Rattle.clru_curve.proofs.Latests.{written_back, bit_of, word_read, within, clear_loses, clear_sets, clear_counted, IsLatest-clear}
 use Rattle.clru_curve.proofs.Words.{words_fall}

@@ -1,5 +1,5 @@
 use Rattle.std.proofs.Common.{◌≡◌, suc, ◌+◌, ◌/◌, ap, arith}
-use Rattle.clru_curve.specs.Latest.{words_from, ones_from}
+use Rattle.clru_curve.specs.Latest.{words_from}
 use Rattle.clru_curve.proofs.Latests.{word_read, few_from, ones_few}
 use Rattle.clru_curve.proofs.Words.{ones_from-next}
 use Rattle.clru_curve.proofs.latest.Latest.count_after.Goals as goal

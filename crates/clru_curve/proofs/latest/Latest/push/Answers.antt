@@ -1,5 +1,5 @@
 use Rattle.std.proofs.Common.{ap, length, ◌∙◌, arith}
-use Rattle.clru_curve.specs.Latest.{words_from, IsCounted, IsLatest}
+use Rattle.clru_curve.specs.Latest.{words_from}
 use Rattle.clru_curve.proofs.Latests.{written_back, bit_of, word_read, few_from, push_fits, push_sets, IsLatest-push}
 use Rattle.clru_curve.proofs.latest.Latest.push.Goals as goal
 

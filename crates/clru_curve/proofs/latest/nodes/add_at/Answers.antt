@@ -1,4 +1,4 @@
-use Rattle.std.proofs.Common.{◌≡◌, ◌+◌, ◌≤◌, ℕ, length, get_or, arith, length-set}
+use Rattle.std.proofs.Common.{◌≡◌, ◌+◌, get_or, arith, length-set}
 use Rattle.clru_curve.proofs.Nodes.{adds_step, node_before-less, node_after-greater}
 use Rattle.clru_curve.proofs.UpTo.{up_to-le, up_to-gt}
 use Rattle.clru_curve.specs.Latest.{node_after, up_to}

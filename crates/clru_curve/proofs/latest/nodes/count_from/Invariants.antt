@@ -1,4 +1,4 @@
-use Rattle.std.proofs.Common.{◌≡◌, ◌+◌, ◌<◌, ◌≤◌, ℕ, length, ◌-◌, ◌^◌}
+use Rattle.std.proofs.Common.{◌≡◌, ◌+◌, ◌<◌, ℕ, length, ◌-◌}
 use Rattle.clru_curve.specs.Latest.{IsCounted}
 use Rattle.clru_curve.proofs.latest.nodes.count_from.Given as goal
 

@@ -1,4 +1,3 @@
-use Rattle.std.proofs.Common.{arith}
 use Rattle.clru_curve.proofs.Passing.{IsPass-none}
 use Rattle.clru_curve.proofs.pass.DistancePass.with_hasher.Goals as goal
 
