@@ -99,11 +99,11 @@ pub HasMissesOf-by : {K : Type 0} (eq : K → K → Bool) → IsEquivalence eq �
     → length curve ≡ length h → ((i : ℕ) → i < length h → get_or curve i 0 + sum (take (suc i) h) ≡ length past) → HasMissesOf eq (reverse past) curve
 HasMissesOf-by eq laws past h curve is len at k some = elim (cases_lt (k - 1) (length curve)) [
   | inl lt ↦
-    let first : suc (k - 1) ≡ k = omega arith in
-    let here = at (k - 1) (omega (arith, lt, len)) in
-    let same = ap (λ j. sum (take j h)) first in
-    omega (arith, get_or_default curve (k - 1) (length curve) 0 lt, here, same, is.hits k)
+      let first : suc (k - 1) ≡ k = omega arith in
+      let here = at (k - 1) (omega (arith, lt, len)) in
+      let same = ap (λ j. sum (take j h)) first in
+      omega (arith, get_or_default curve (k - 1) (length curve) 0 lt, here, same, is.hits k)
   | inr end ↦
-    get_or_past curve (k - 1) (length curve) end ∙ len ∙ is.distinct
-    ∙ sym (misses-room eq laws k past (omega (arith, end, len, is.distinct)))
+      get_or_past curve (k - 1) (length curve) end ∙ len ∙ is.distinct
+      ∙ sym (misses-room eq laws k past (omega (arith, end, len, is.distinct)))
 ]

@@ -74,7 +74,7 @@ module _ {K : Type 0} (eq : K → K → Bool) (laws : IsEquivalence eq) (past : 
       λ y. ap (λ b. cond b (Some n) (lookup (eq y) places)) (laws.symm y x) in
       rw (put, one) (record {
         ranked = IsRanked-new eq laws past places ((x, n) ∷ places) n (ones_from ws) (ones_from vs) x is.ranked moved (not_held absent) counts
-        (omega (arith, is.ranked.few));
+            (omega (arith, is.ranked.few));
         counted = IsHistogram-new eq laws past h x is.counted (not_held absent);
         requests = ap suc is.requests;
       })
@@ -104,7 +104,7 @@ module _ {K : Type 0} (eq : K → K → Bool) (laws : IsEquivalence eq) (past : 
         λ y. lookup-set_value laws (eq x) (λ z w t. laws.congr x z w t) y n places (rw found refl) in
         rw (one, rank) (record {
           ranked = IsRanked-again eq laws past places (set_value (eq x) places n) n (ones_from ws) (ones_from vs) x is.ranked moved p found counts
-          (omega (arith, length-set_value (eq x) places n, is.ranked.few));
+              (omega (arith, length-set_value (eq x) places n, is.ranked.few));
           counted = IsHistogram-again eq laws past h x is.counted was_held;
           requests = ap suc is.requests;
         })

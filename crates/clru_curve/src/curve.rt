@@ -30,7 +30,7 @@ impl<A: Allocator> MissCurve<A> {
     {
         match self.misses.get(capacity.get() - 1) {
             Some(misses) => *misses,
-            None => self.misses.len(),
+            None => self.distinct(),
         }
     }
 

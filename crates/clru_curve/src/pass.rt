@@ -16,7 +16,12 @@ use std::marker::Model;
 use std::mem;
 use std::num::NonZeroUsize;
 
-/// A pass over requests, which takes them one by one.
+/// A pass over requests, which takes them one by one and answers the distance of each.
+///
+/// Clauses speak of the requests that it has taken by `IsPass`, the latest first: there are none at first, and each request
+/// that is taken comes in front. A curve can be had at any time.
+///
+/// Memory goes with the distinct keys, a place in a cache and a number for each, besides 16 bytes for each 64 requests.
 #[derive(Drop)]
 pub struct DistancePass<K: Eq + Hash, S: BuildHasher = DefaultState, A: Allocator + Copy = Global> {
     places: CLruCache<K, usize, S, ZeroWeightScale, A>,
@@ -59,7 +64,11 @@ impl<K: Eq + Hash, S: BuildHasher, A: Allocator + Copy> DistancePass<K, S, A> {
     }
 
     /// Takes one more request, and answers its distance: how many distinct keys were requested since the latest request of its
-    /// key, or `None` where there was none.
+    /// key, or `None` where there was none. It hits at the capacities above the distance, and at no other.
+    ///
+    /// Where memory is refused, or there were `usize::MAX` requests, the key comes back and the pass is as before. A key that
+    /// was requested before wants memory at one of 64 requests at most. The cost is a look-up, and for a new key a put, besides
+    /// steps that go with the logarithm of the number of requests.
     pub fn request(&mut self, key: K) -> Result<Option<usize>, K>
     where
         K: Drop,
@@ -94,7 +103,7 @@ impl<K: Eq + Hash, S: BuildHasher, A: Allocator + Copy> DistancePass<K, S, A> {
         }
     }
 
-    /// Returns the curve of the requests so far.
+    /// Returns the curve of the requests so far. It takes no memory; the cost goes with the number of distinct keys.
     pub fn into_curve(self) -> MissCurve<A>
     where
         K: Drop,
@@ -111,7 +120,8 @@ impl<K: Eq + Hash, S: BuildHasher, A: Allocator + Copy> DistancePass<K, S, A> {
         MissCurve::from_misses(histogram)
     }
 
-    /// Returns the curve of the requests so far, and goes on.
+    /// Returns the curve of the requests so far, and lets the pass go on. It takes memory for a number for each distinct key,
+    /// and its cost goes with them.
     pub fn curve(&self, alloc: A) -> Result<MissCurve<A>, NoMemory>
         ensures misses { (past : List K) → IsPass K.eq past self.now → IfOk result (λ c. HasMissesOf K.eq (reverse past) c) }
         ensures distinct { (past : List K) → IsPass K.eq past self.now → IfOk result (λ c. length c ≡ distinct K.eq past) }

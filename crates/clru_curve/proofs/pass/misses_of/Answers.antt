@@ -22,12 +22,12 @@ loop-number-preserved c =
     record {
       left = omega (arith, here, left, fits, more, ap (λ k. sum (take k old)) next);
       rest = λ j far. let ne : j ≢ i = omega arith in
-      omega (arith, get_or-set_other h i j v 0 ne, c.loop-number.invariant.rest j (omega arith));
+          omega (arith, get_or-set_other h i j v 0 ne, c.loop-number.invariant.rest j (omega arith));
       done = λ j below. elim (cases_lt j i) [
         | inl lt ↦ let ne : j ≢ i = omega arith in
-          omega (arith, get_or-set_other h i j v 0 ne, c.loop-number.invariant.done j lt)
+            omega (arith, get_or-set_other h i j v 0 ne, c.loop-number.invariant.done j lt)
         | inr ge ↦ let same : i ≡ j = omega arith in
-          subst (λ k. get_or (set h i v) k 0 + sum (take (suc k) old) ≡ c.args.requests) same
-          (omega (arith, get_or-set_same h i v 0 inside, here, left, fits, more))
+            subst (λ k. get_or (set h i v) k 0 + sum (take (suc k) old) ≡ c.args.requests) same
+            (omega (arith, get_or-set_same h i v 0 inside, here, left, fits, more))
       ];
     }

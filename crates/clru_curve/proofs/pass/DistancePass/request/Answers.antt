@@ -14,7 +14,7 @@ invariant_of-self g c =
       latest = e.kept;
       past = inv.past;
       taken = rw e.requests (IsPass-same eq inv.past s.places.entries s.latest.words.items c.make_ready.new.self.words.items s.latest.requests
-      s.histogram.items e.ones inv.taken);
+          s.histogram.items e.ones inv.taken);
     }
 
 pub returns-in_default-clause-refused : goal.returns-in_default-clause-refused
@@ -38,8 +38,16 @@ clear-requires-clause-latest g c =
     let p = c.in-Some.place in let ranked = c.self.invariant.taken.ranked in let n = c.make_ready.new.self.requests in
     let low = ranked.before c.args.key p (sym c.in-Some.ensures.found) in
     let latest = ranked.latest c.args.key p (sym c.in-Some.ensures.found) in
-    omega (arith, latest, c.make_ready.ensures.ones p, c.make_ready.ensures.ones (suc p), c.push.ensures.ones p, c.push.ensures.ones (suc p),
-      up_to-le p n (omega (arith, low, c.make_ready.ensures.requests)), up_to-le (suc p) n (omega (arith, low, c.make_ready.ensures.requests)))
+    omega (
+      arith,
+      latest,
+      c.make_ready.ensures.ones p,
+      c.make_ready.ensures.ones (suc p),
+      c.push.ensures.ones p,
+      c.push.ensures.ones (suc p),
+      up_to-le p n (omega (arith, low, c.make_ready.ensures.requests)),
+      up_to-le (suc p) n (omega (arith, low, c.make_ready.ensures.requests)),
+    )
 
 pub index_mut-requires : goal.index_mut-requires
 index_mut-requires g c =
