@@ -11,7 +11,7 @@ use Rattle.clru_model.proofs.Distinct.{since_within, distinct_since_less}
 use Rattle.clru_curve.specs.Curves.{HasMissesOf}
 use Rattle.clru_curve.specs.Latest.{up_to}
 use Rattle.clru_curve.specs.Passes.{IsHistogram}
-use Rattle.clru_curve.proofs.Distances.{misses-cons, misses-room}
+use Rattle.clru_model.proofs.Distances.{misses-cons, misses-room}
 use Rattle.clru_curve.proofs.UpTo.{up_to-le, up_to-gt}
 
 sum-cons : (x : ℕ) (xs : List ℕ) → sum (x ∷ xs) ≡ x + sum xs

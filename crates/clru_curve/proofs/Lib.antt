@@ -1,5 +1,4 @@
 pub mod Bits
-pub mod Distances
 pub mod Histograms
 pub mod Latests
 pub mod Nodes

@@ -8,7 +8,7 @@ use Rattle.clru_model.specs.Entries.{plain_put}
 use Rattle.clru_model.specs.Requests.{holds, distinct}
 use Rattle.clru_model.proofs.Finding.{missed, plain_put-missed}
 use Rattle.clru_curve.specs.Curves.{HasMissesOf}
-use Rattle.clru_curve.specs.Distances.{distance}
+use Rattle.clru_model.specs.Distances.{distance}
 use Rattle.clru_curve.specs.Latest.{up_to, ones_from}
 use Rattle.clru_curve.specs.Passes.{Pass, pass, IsPass}
 use Rattle.clru_curve.proofs.Bits.{ones-zero, ones_upper}

@@ -1,4 +1,3 @@
 pub mod Curves
-pub mod Distances
 pub mod Latest
 pub mod Passes

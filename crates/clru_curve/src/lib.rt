@@ -10,13 +10,12 @@
 
 mod curve;
 mod latest;
-mod laws;
 mod list;
 mod pass;
 
 pub use clru::{DefaultState, NoMemory};
+pub use clru_model::law_distances;
 pub use curve::MissCurve;
-pub use laws::law_distances;
 pub use list::miss_curve;
 pub use pass::DistancePass;
 pub use std::num::NonZeroUsize;

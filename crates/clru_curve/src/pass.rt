@@ -4,7 +4,7 @@ ghost use Rattle.std.specs.Map.{lookup, set_value};
 ghost use Rattle.clru_model.specs.Requests.{distinct};
 ghost use Rattle.clru.specs.Cache.{with_entries};
 ghost use Rattle.clru_curve.specs.Curves.{HasMissesOf};
-ghost use Rattle.clru_curve.specs.Distances.{distance};
+ghost use Rattle.clru_model.specs.Distances.{distance};
 ghost use Rattle.clru_curve.specs.Passes.{IsPass};
 
 use crate::curve::MissCurve;

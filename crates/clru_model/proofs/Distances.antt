@@ -8,7 +8,7 @@ use Rattle.clru_model.specs.Requests.{holds, distinct, since, hit, marks_after, 
 use Rattle.clru_model.proofs.Cases.{split}
 use Rattle.clru_model.proofs.Distinct.{since_within, distinct_since_less}
 use Rattle.clru_model.proofs.Marks.{misses_push}
-use Rattle.clru_curve.specs.Distances.{distance, is_below, distances_after}
+use Rattle.clru_model.specs.Distances.{distance, is_below, distances_after}
 
 module _ {K : Type 0} (eq : K → K → Bool) where
   -- a request hits at the capacities above its distance

@@ -1,8 +1,8 @@
 use Rattle.std.proofs.Common.{[], reverse, sym, ap, ◌∙◌}
 use Rattle.std.proofs.lemmas.List.{reverse-reverse}
 use Rattle.clru_model.specs.Requests.{misses}
-use Rattle.clru_curve.proofs.Distances.{hits_below, marks_below, misses-room}
-use Rattle.clru_curve.proofs.laws.law_distances.Goals as goal
+use Rattle.clru_model.proofs.Distances.{hits_below, marks_below, misses-room}
+use Rattle.clru_model.proofs.laws.law_distances.Goals as goal
 
 pub returns-clause-hits : goal.returns-clause-hits
 returns-clause-hits g c = hits_below g.K.PartialEq.eq
