@@ -2,6 +2,7 @@
 #![tactic(auto)]
 
 pub mod budget;
+pub mod curves;
 pub mod gains;
 pub mod guard;
 pub mod hasher;
