@@ -92,7 +92,7 @@ module _ {T : Type 0} (l : Links T) (len capacity places room : ℕ) (i : (es : 
     prev_below ne =
         let bs = keys_of at_place.before in let cs = keys_of at_place.behind in elim prev_end [
           | inl e ↦ absurd (ne (ap l.next (sym e ∙ prev_is l.next l.prev bs p cs ring_parts)
-          ∙ path_last l.next nowhere bs p (path_left l.next nowhere bs p cs nowhere ring_parts.forward)))
+              ∙ path_last l.next nowhere bs p (path_left l.next nowhere bs p cs nowhere ring_parts.forward)))
           | inr lt ↦ lt
         ]
 
