@@ -19,9 +19,7 @@ fn makers_ask_for_what_they_reserve_at_once(rt: HostRuntime) {
     for (capacity, reserve, asked, bytes) in rows {
         let heap = Rationed::new(rt.alloc());
         let list: Result<FixedSizeList<u64, &_>, _> = FixedSizeList::with_memory(
-            &heap,
-            capacity,
-            reserve,
+            &heap, capacity, reserve,
         );
         equal!(rt;
             (list.is_ok(), heap.asked(), heap.asked_bytes()),
