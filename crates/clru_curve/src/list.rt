@@ -14,13 +14,13 @@ use std::hash::{BuildHasher, Hash};
 /// Keys that are not `Copy` are passed as references. The keys stay the caller's, and without keys no memory is asked for. Cost
 /// and memory are those of a `DistancePass`, which also takes requests one by one.
 ///
-/// What a capacity of four hundred would miss:
+/// What a cache of a capacity would miss:
 ///
 /// ```rust
-/// pub fn misses_of(alloc: Global, pages: &[u64], capacity: NonZeroUsize) -> Result<usize, NoMemory>
-///     ensures { IfOk result (λ n. n ≡ misses nat_eq (non_zero_usize_get capacity) pages.now) }
+/// pub fn misses_of(alloc: Global, requests: &[u64], capacity: NonZeroUsize) -> Result<usize, NoMemory>
+///     ensures { IfOk result (λ n. n ≡ misses nat_eq (non_zero_usize_get capacity) requests.now) }
 /// {
-///     let curve = miss_curve(alloc, pages, DefaultState)?;
+///     let curve = miss_curve(alloc, requests, DefaultState)?;
 ///     Ok(curve.misses(capacity))
 /// }
 /// ```
