@@ -14,7 +14,7 @@ use std::hash::{BuildHasher, Hash};
 /// Keys that are not `Copy` are passed as references. The keys stay the caller's, and without keys no memory is asked for. Cost
 /// and memory are those of a `DistancePass`, which also takes requests one by one.
 ///
-/// What a capacity would miss:
+/// What a cache of a capacity would miss:
 ///
 /// ```rust
 /// pub fn misses_of(alloc: Global, requests: &[u64], capacity: NonZeroUsize) -> Result<usize, NoMemory>
