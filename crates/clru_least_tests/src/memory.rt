@@ -25,7 +25,10 @@ fn refused_memory_gives_the_keys_back(rt: HostRuntime) -> Result<(), Fail> {
         }
         equal!(rt; heap.blocks(), 0, n);
     }
-    assert!(rt; refusals > 2, "next places, the table, the marks, the queue");
+    assert!(rt;
+        refusals > 2,
+        "next places, the table, the marks, the queue"
+    );
     Ok(())
 }
 
