@@ -31,23 +31,24 @@ def stop(why):
     sys.exit(f"bench: {why}")
 
 
-def build_all(bench, work, clru):
+def build_all(bench, work, clru, program=True):
     kit = kit_of()
     missing = [it for it in PACKAGES if not any(REGISTRY.glob(f"{it}-[0-9]*"))]
     if missing or not shutil.which("cargo"):
         stop(f"install cargo, {', '.join(f'librust-{it}-dev' for it in PACKAGES)}")
-    lay_ours(bench, work / "ours")
+    lay_ours(bench, work / "ours", [PROGRAM, "clru"] if program else ["clru"])
     print("bench: proving and building our side", file=sys.stderr)
     crates = work / "ours" / "crates"
     call(work, ["rt", "lib"], crates / CRATE)
-    call(work, ["rt", "run"], crates / PROGRAM, given="1\n")
+    if program:
+        call(work, ["rt", "run"], crates / PROGRAM, given="1\n")
     print("bench: building the peers", file=sys.stderr)
     libraries = [crates / CRATE / "out" / f"lib{CRATE}.a", kit / "c" / "liblibc_c.a"]
     names = build_peers(bench, work, clru, libraries)
     driver = work / "peers" / "target" / "release" / "driver"
-    program = crates / PROGRAM / "out" / PROGRAM
+    command = crates / PROGRAM / "out" / PROGRAM
     tools = f"{first_line('rt', 'version')}; {first_line('rustc', '--version')}"
-    return Built(work, driver, program, {"ours": "ours", **names}, tools)
+    return Built(work, driver, command, {"ours": "ours", **names}, tools)
 
 
 def kit_of():
@@ -78,12 +79,11 @@ def replace(source, to):
         shutil.copytree(source, to)
 
 
-def lay_ours(bench, ours):
-    """Copies the crates that are measured, beside the crate of the workloads."""
+def lay_ours(bench, ours, wanted):
+    """Copies the crates that are measured, and what they stand on, beside the crate of the workloads."""
     top = bench.parent
     rows = [it.partition("#")[0].strip() for it in (top / "crates.txt").read_text().split("\n")]
     uses = {name.strip(): words.split() for name, _, words in (it.partition(":") for it in rows if it)}
-    wanted = [PROGRAM, "clru"]
     for name in wanted:
         wanted += [it for it in uses[name] if it in uses and it not in wanted]
     for name in wanted:

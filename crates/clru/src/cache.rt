@@ -89,15 +89,18 @@ where
 
     /// Returns what the number of entries and their total weight never pass together.
     pub fn capacity(&self) -> usize
-        ensures { result ≡ self.now.capacity }
+        ensures capacity { result ≡ self.now.capacity }
+        ensures valid { IsValid K.eq (W.weight self.now.scale) self.now }
     {
         self.capacity.get()
     }
 
     /// Returns the total weight of the entries.
     pub fn weight(&self) -> usize
-        ensures { result ≡ weight_of (W.weight self.now.scale) self.now.entries }
+        ensures weight { result ≡ weight_of (W.weight self.now.scale) self.now.entries }
+        ensures valid { IsValid K.eq (W.weight self.now.scale) self.now }
     {
+        let _room = self.capacity.get();
         self.total_weight
     }
 

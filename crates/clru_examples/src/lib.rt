@@ -2,6 +2,7 @@
 #![tactic(auto)]
 
 pub mod budget;
+pub mod curves;
 pub mod gains;
 pub mod guard;
 pub mod hasher;
@@ -10,4 +11,5 @@ pub mod pages;
 pub mod replays;
 pub mod scale;
 pub mod seed;
+pub mod store;
 pub mod texts;

@@ -96,6 +96,13 @@ module _ {T A : Type 0} where
         links_of-write c at (record n { prev = to }) long ne
         ∙ (λ i. record { next = next i; prev = put (prev_of c) at to; item = item i; free = c.free; size = vec_len c.nodes })
 
+    pub links_of-set_both : (a b : ℕ) → links_of (record c { nodes = with_item c.nodes at (record n { next = a; prev = b }) })
+        ≡ set_prev (set_next (links_of c) at a) at b
+    links_of-set_both a b =
+        let item = put-same (item_of c) at n.item (node_item c at n long h) in
+        links_of-write c at (record n { next = a; prev = b }) long ne
+        ∙ (λ i. record { next = put (next_of c) at a; prev = put (prev_of c) at b; item = item i; free = c.free; size = vec_len c.nodes })
+
     pub links_of-set_item : (x : Option T) → links_of (record c { nodes = with_item c.nodes at (record n { item = x }) }) ≡ set_item (links_of c) at x
     links_of-set_item x =
         let next = put-same (next_of c) at n.next (node_next c at n long ne h) in let prev = put-same (prev_of c) at n.prev (node_prev c at n long ne h) in

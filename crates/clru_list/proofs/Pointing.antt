@@ -1,18 +1,14 @@
 -- What keeps the fingers of a list at their places.
-use Rattle.std.proofs.Common.{◌≡◌, ℕ, List, None, Option, sym, ap, ◌∙◌, subst}
+use Rattle.std.proofs.Common.{◌≡◌, ℕ, List, false, sym, ap, ◌∙◌, subst}
 use Rattle.std.specs.Map.{keys_of}
-use Rattle.clru_list.specs.Fingers.{IsFinger, IsPointed}
+use Rattle.clru_list.specs.Fingers.{IsPointed}
 use Rattle.clru_list.specs.Links.{Links, nowhere, walk, IsSound}
-use Rattle.clru_list.specs.declared.fingers.Finger.{Finger}
 use Rattle.clru_list.specs.declared.fingers.Fingers.{Fingers}
 use Rattle.clru_list.proofs.Soundness.{walk-is}
 
 -- a list without fingers
-pub pointed-none : (places : List ℕ) (f : Fingers) → f.up ≡ None → f.down ≡ None → IsPointed places f
-pointed-none places f up down = record {
-  up = subst (λ (o : Option Finger). IsFinger places o) (sym up) tt;
-  down = subst (λ (o : Option Finger). IsFinger places o) (sym down) tt;
-}
+pub pointed-none : (places : List ℕ) (f : Fingers) → f.kept ≡ false → IsPointed places f
+pointed-none places f none = record { up = λ kept. absurd (cc); down = λ kept. absurd (cc) }
 
 -- a list whose places stay
 pub pointed-still : {T : Type 0} (l m : Links T) (len capacity places room len' capacity' places' room' : ℕ) (es fs : List (ℕ × T)) (f : Fingers)

@@ -4,12 +4,16 @@ use Rattle.std.proofs.lemmas.List.{length-append, append-nil}
 use Rattle.std.specs.Map.{keys_of}
 use Rattle.clru_list.specs.PlaceList.{without, with_at, place_after, place_before}
 use Rattle.clru_list.specs.Links.{Links, put, count, IsLinked, IsHeld, IsSound, nowhere, place_of, unlinked, linked, released, set_item, occupied, spot, IsEnd}
-use Rattle.clru_list.proofs.Puts.{decide}
-use Rattle.clru_list.proofs.Paths.{count-append, count-here, last_or, first_or, last_or-counted, first_or-counted, count-le-cons}
+use Rattle.clru_list.proofs.Puts.{decide, put-other}
+use Rattle.clru_list.proofs.Paths.{count-append, count-here, last_or, first_or, last_or-counted, first_or-counted, count-le-cons, path_last, path_left}
 use Rattle.clru_list.proofs.EntryLists.{Split, split_at, without-split, with_at-split, item_at-none, keys-split, first_place-is, place_after-split, place_before-split, reordered}
 use Rattle.clru_list.proofs.Rings.{next_is, prev_is, front_is, back_is}
 use Rattle.clru_list.proofs.Holding.{below, end_of, free_is, held-reorder, held-write}
 use Rattle.clru_list.proofs.Soundness.{IsLoose, link-loose, unlink-loose, release-loose, occupy-loose, no_nowhere, end_at}
+
+first_counted : (p : ℕ) (ps : List ℕ) → 0 < count p ps → 0 < count (first_or nowhere ps) ps
+first_counted p [] some = absurd (omega arith)
+first_counted p (q ∷ qs) some = let here = count-here q qs in omega arith
 
 module _ {T : Type 0} (l : Links T) (len capacity places room : ℕ) (i : (es : List (ℕ × T)) × IsSound l len capacity places room es) where
   -- another capacity
@@ -83,16 +87,23 @@ module _ {T : Type 0} (l : Links T) (len capacity places room : ℕ) (i : (es : 
           countable = i.1.countable;
         })
 
-    -- the links after the place is out lead somewhere
-    pub front_end : IsEnd (unlinked l p) ((unlinked l p).next nowhere)
-    front_end =
-        let es = at_place.before ++ at_place.behind in let loose = unlinked_loose in let P : ℕ → Type 0 = λ k. IsEnd (unlinked l p) k in
-        let first = first_or-counted nowhere (keys_of es) in
-        subst P (sym (front_is (unlinked l p).next (unlinked l p).prev (keys_of es) loose.linked))
-        (end_of (unlinked l p).next (unlinked l p).item (unlinked l p).free (unlinked l p).size ((p, x) ∷ es) loose.held (first_or nowhere (keys_of es)) (omega arith))
+    -- behind the front there is a place before
+    pub prev_below : (l.next nowhere ≡ p → ⊥) → l.prev p < l.size
+    prev_below ne =
+        let bs = keys_of at_place.before in let cs = keys_of at_place.behind in elim prev_end [
+          | inl e ↦ absurd (ne (ap l.next (sym e ∙ prev_is l.next l.prev bs p cs ring_parts)
+              ∙ path_last l.next nowhere bs p (path_left l.next nowhere bs p cs nowhere ring_parts.forward)))
+          | inr lt ↦ lt
+        ]
+
+    pub front_below : l.next nowhere < l.size
+    front_below =
+        let P : ℕ → Type 0 = λ k. k < l.size in let here = count-here p (keys_of at_place.behind) in
+        subst P (sym (front_is l.next l.prev (keys_of i.0) i.1.linked))
+        (below l.next l.item l.free l.size i.0 i.1.held (first_or nowhere (keys_of i.0)) (first_counted p (keys_of i.0) (omega (arith, keys_count p))))
 
     -- the item is at the front
-    pub sound-front : IsSound (linked (unlinked l p) nowhere p ((unlinked l p).next nowhere)) len capacity places room ((p, x) ∷ without p i.0)
+    sound-front : IsSound (linked (unlinked l p) nowhere p ((unlinked l p).next nowhere)) len capacity places room ((p, x) ∷ without p i.0)
     sound-front =
         let es = at_place.before ++ at_place.behind in let loose = unlinked_loose in
         let done = link-loose (unlinked l p) p x nowhere ((unlinked l p).next nowhere) [] es refl (front_is (unlinked l p).next (unlinked l p).prev (keys_of es) loose.linked) loose in
@@ -106,6 +117,12 @@ module _ {T : Type 0} (l : Links T) (len capacity places room : ℕ) (i : (es : 
           reserved = i.1.reserved;
           countable = i.1.countable;
         })
+
+    -- the same where it was not there before
+    pub sound-moved : (l.next nowhere ≡ p → ⊥) → IsSound (linked (unlinked l p) nowhere p (l.next nowhere)) len capacity places room ((p, x) ∷ without p i.0)
+    sound-moved ne =
+        let P : ℕ → Type 0 = λ k. IsSound (linked (unlinked l p) nowhere p k) len capacity places room ((p, x) ∷ without p i.0) in
+        subst P (put-other l.next (l.prev p) (l.next p) nowhere (λ e. absurd (omega (arith, prev_below ne, i.1.held.small)))) sound-front
 
     -- another item is at the place
     pub sound-write : (w : T) → IsSound (set_item l p (Some w)) len capacity places room (with_at p w i.0)

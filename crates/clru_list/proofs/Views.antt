@@ -1,5 +1,6 @@
 -- What a list shows, from what its fields keep.
 use Rattle.std.proofs.Common.{◌≡◌, ℕ, ◌<◌, ◌≤◌, eqb, List, [], ◌∷◌, length, Option, Some, None, IsSome, refl, sym, ap, ◌∙◌, arith, subst}
+use Rattle.std.proofs.lemmas.Bool.{eq-eqb}
 use Rattle.std.specs.Option.{option_map, option_map_or}
 use Rattle.std.specs.Map.{keys_of}
 use Rattle.std.specs.Prelude.{vec_len, vec_capacity, slice_index_or as get_or}
@@ -79,6 +80,11 @@ module _ {T : Type 0} where
       pub seen_last : place_of (l.prev nowhere) ≡ last_place now.entries
       seen_last = last_place_view l len capacity places room i.0 i.1 ∙ ap last_place (sym seen_entries)
 
+  -- the first entry stays where it is
+  to_front-first : (p : ℕ) (es : List (ℕ × T)) → first_or nowhere (keys_of es) ≡ p → to_front p es ≡ es
+  to_front-first p [] first = refl
+  to_front-first p (e ∷ es) first = let P : ℕ → Type 0 = λ q. to_front q (e ∷ es) ≡ e ∷ es in subst P first (rw (eq-eqb e.0 e.0 refl) refl)
+
   pub some_item : (o : Option T) → IsSome o → (x : T) × (o ≡ Some x)
   some_item None some = absurd (cc)
   some_item (Some x) some = (x, refl)
@@ -104,6 +110,9 @@ module _ {T : Type 0} where
     pub seen_to_front : (p : ℕ) (x : T) → l.item p ≡ Some x → with_entries now (to_front p now.entries) ≡ place_list ((p, x) ∷ without p i.0) capacity places
     seen_to_front p x is = seen_with (to_front p)
         ∙ ap (λ o. place_list (option_map_or (λ y. (p, y) ∷ without p i.0) o i.0) capacity places) (sym (i.1.held.live p) ∙ is)
+
+    pub seen_front_stays : (p : ℕ) → l.next nowhere ≡ p → with_entries now (to_front p now.entries) ≡ now
+    seen_front_stays p first = ap (with_entries now) (to_front-first p now.entries (sym (front_place l len capacity places room i now h) ∙ first))
 
   -- the same fact of equal links, in memory of the same size
   pub sound-at : (l m : Links T) (len capacity places room wide : ℕ) (es : List (ℕ × T)) → m ≡ l → wide ≡ room → IsSound l len capacity places room es

@@ -1,5 +1,5 @@
 -- Private: where walks by number stand. No public clause cites it.
-use Rattle.std.specs.Prelude.{◌≡◌, ℕ, List, Option, Some, IfSome, slice_get}
+use Rattle.std.specs.Prelude.{◌≡◌, ℕ, List, Option, Some, IfSome, true, slice_get}
 use Rattle.clru_list.specs.declared.fingers.Finger.{Finger}
 use Rattle.clru_list.specs.declared.fingers.Fingers.{Fingers}
 
@@ -7,7 +7,7 @@ use Rattle.clru_list.specs.declared.fingers.Fingers.{Fingers}
 abbrev pub IsFinger : List ℕ → Option Finger → Type 0
 IsFinger places finger = IfSome finger (λ f. slice_get places f.number ≡ Some f.place)
 
--- both are
+-- both are, where they were kept
 pub record IsPointed (places : List ℕ) (fingers : Fingers) : Type 0 where
-  pub up : IsFinger places fingers.up
-  pub down : IsFinger places fingers.down
+  pub up : fingers.kept ≡ true → IsFinger places fingers.up
+  pub down : fingers.kept ≡ true → IsFinger places fingers.down

@@ -74,7 +74,7 @@ impl<T, A: Allocator> Chain<T, A> {
         self.nodes.get(place)?.item.as_ref()
     }
 
-    pub(crate) fn set_next(&mut self, at: usize, to: usize)
+    fn set_next(&mut self, at: usize, to: usize)
         requires { IsEnd (links_of self.old) at }
         ensures links { links_of self.new ≡ set_next (links_of self.old) at to }
         ensures room { vec_capacity self.new.nodes ≡ vec_capacity self.old.nodes }
@@ -82,11 +82,20 @@ impl<T, A: Allocator> Chain<T, A> {
         if at == NOWHERE {
             self.front = to;
         } else {
-            self.nodes[at].next = to;
+            self.lead(at, to);
         }
     }
 
-    pub(crate) fn set_prev(&mut self, at: usize, to: usize)
+    /// Has a place name the next one.
+    fn lead(&mut self, at: usize, to: usize)
+        requires { at < vec_len self.old.nodes }
+        ensures links { links_of self.new ≡ set_next (links_of self.old) at to }
+        ensures room { vec_capacity self.new.nodes ≡ vec_capacity self.old.nodes }
+    {
+        self.nodes[at].next = to;
+    }
+
+    fn set_prev(&mut self, at: usize, to: usize)
         requires { IsEnd (links_of self.old) at }
         ensures links { links_of self.new ≡ set_prev (links_of self.old) at to }
         ensures room { vec_capacity self.new.nodes ≡ vec_capacity self.old.nodes }
@@ -94,8 +103,28 @@ impl<T, A: Allocator> Chain<T, A> {
         if at == NOWHERE {
             self.back = to;
         } else {
-            self.nodes[at].prev = to;
+            self.follow(at, to);
         }
+    }
+
+    /// Has a place name the one before.
+    fn follow(&mut self, at: usize, to: usize)
+        requires { at < vec_len self.old.nodes }
+        ensures links { links_of self.new ≡ set_prev (links_of self.old) at to }
+        ensures room { vec_capacity self.new.nodes ≡ vec_capacity self.old.nodes }
+    {
+        self.nodes[at].prev = to;
+    }
+
+    /// Has a place name both neighbours.
+    fn stand(&mut self, place: usize, prev: usize, next: usize)
+        requires { place < vec_len self.old.nodes }
+        ensures links { links_of self.new ≡ set_prev (set_next (links_of self.old) place next) place prev }
+        ensures room { vec_capacity self.new.nodes ≡ vec_capacity self.old.nodes }
+    {
+        let node = &mut self.nodes[place];
+        node.next = next;
+        node.prev = prev;
     }
 
     /// Has the neighbours of a place name each other.
@@ -120,10 +149,29 @@ impl<T, A: Allocator> Chain<T, A> {
         ensures links { links_of self.new ≡ linked (links_of self.old) prev place next }
         ensures room { vec_capacity self.new.nodes ≡ vec_capacity self.old.nodes }
     {
-        self.set_next(place, next);
-        self.set_prev(place, prev);
+        self.stand(place, prev, next);
         self.set_next(prev, place);
         self.set_prev(next, place);
+    }
+
+    /// Moves a place that is not the first one to the front.
+    pub(crate) fn bring_front(&mut self, place: usize)
+        requires place { place < vec_len self.old.nodes }
+        requires prev { (links_of self.old).prev place < vec_len self.old.nodes }
+        requires next { IsEnd (links_of self.old) ((links_of self.old).next place) }
+        requires front { self.old.front < vec_len self.old.nodes }
+        ensures links { links_of self.new ≡ linked (unlinked (links_of self.old) place) nowhere place self.old.front }
+        ensures room { vec_capacity self.new.nodes ≡ vec_capacity self.old.nodes }
+    {
+        let before = self.prev(place);
+        let behind = self.next(place);
+        let front = self.front;
+        self.lead(before, behind);
+        self.set_prev(behind, before);
+        self.stand(place, NOWHERE, front);
+        self.follow(front, place);
+        // Last, so that no other write may have changed it for a caller that reads it next.
+        self.set_next(NOWHERE, place);
     }
 
     /// Takes the item out of a place, if one is there.
@@ -145,7 +193,7 @@ impl<T, A: Allocator> Chain<T, A> {
         ensures room { vec_capacity self.new.nodes ≡ vec_capacity self.old.nodes }
     {
         let free = self.free;
-        self.set_next(place, free);
+        self.lead(place, free);
         self.free = place;
     }
 

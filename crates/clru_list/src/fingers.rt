@@ -1,6 +1,6 @@
 //! Where walks by number stand: the place that each of them comes to next.
-ghost use Rattle.std.specs.Prelude.{◌≡◌, ℕ, List, None, IfSome, slice_get};
-ghost use Rattle.clru_list.specs.Fingers.{IsFinger};
+ghost use Rattle.std.specs.Prelude.{◌≡◌, ℕ, List, Some, IfSome, false, slice_get};
+ghost use Rattle.clru_list.specs.Fingers.{IsFinger, IsPointed};
 
 /// The place of the entry with a number.
 #[derive(Clone, Copy)]
@@ -9,35 +9,77 @@ pub struct Finger {
     pub(crate) place: usize,
 }
 
-/// The one that goes up from the front, and the one that goes down from the back. A change of the order clears both.
+/// The one that goes up from the front, and the one that goes down from the back. A change of the order clears both, by one
+/// word: what stands in them counts only where they were set since.
 #[derive(Clone, Copy)]
 pub struct Fingers {
+    pub(crate) kept: bool,
     pub(crate) up: Option<Finger>,
     pub(crate) down: Option<Finger>,
 }
 
 impl Fingers {
     pub(crate) fn none() -> Self
-        ensures up { result.up ≡ None }
-        ensures down { result.down ≡ None }
+        ensures { result.kept ≡ false }
     {
         Fingers {
+            kept: false,
             up: None,
             down: None,
         }
     }
 
     pub(crate) fn clear(&mut self)
-        ensures up { self.new.up ≡ None }
-        ensures down { self.new.down ≡ None }
+        ensures { self.new.kept ≡ false }
     {
-        self.up = None;
-        self.down = None;
+        self.kept = false;
+    }
+
+    /// The place of the number, where the finger that goes up has it.
+    pub(crate) fn up_at(&self, number: usize) -> Option<usize>
+        ensures { IfSome result (λ p. (places : List ℕ) → IsPointed places self.now → slice_get places number ≡ Some p) }
+    {
+        if self.kept {
+            pointed(self.up, number)
+        } else {
+            None
+        }
+    }
+
+    /// The same for the finger that goes down.
+    pub(crate) fn down_at(&self, number: usize) -> Option<usize>
+        ensures { IfSome result (λ p. (places : List ℕ) → IsPointed places self.now → slice_get places number ≡ Some p) }
+    {
+        if self.kept {
+            pointed(self.down, number)
+        } else {
+            None
+        }
+    }
+
+    pub(crate) fn set_up(&mut self, finger: Option<Finger>)
+        ensures { (places : List ℕ) → IsFinger places finger → IsPointed places self.old → IsPointed places self.new }
+    {
+        if !self.kept {
+            self.down = None;
+        }
+        self.up = finger;
+        self.kept = true;
+    }
+
+    pub(crate) fn set_down(&mut self, finger: Option<Finger>)
+        ensures { (places : List ℕ) → IsFinger places finger → IsPointed places self.old → IsPointed places self.new }
+    {
+        if !self.kept {
+            self.up = None;
+        }
+        self.down = finger;
+        self.kept = true;
     }
 }
 
 /// The place of the number, where the finger has it.
-pub(crate) fn pointed(finger: Option<Finger>, number: usize) -> Option<usize>
+fn pointed(finger: Option<Finger>, number: usize) -> Option<usize>
     ensures { IfSome result (λ p. (places : List ℕ) → IsFinger places finger → slice_get places number ≡ Some p) }
 {
     match finger {

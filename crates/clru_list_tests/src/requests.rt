@@ -8,24 +8,40 @@ use std::test::Fail;
 
 #[test]
 fn makers_ask_for_what_they_reserve_at_once(rt: HostRuntime) {
-    for (reserve, asked) in [(0, 0), (1, 1), (5, 1), (9, 1), (usize::MAX, 1)] {
+    // A place of a number takes 32 bytes.
+    let rows = [
+        (9, 0, 0, 0),
+        (9, 1, 1, 32),
+        (9, 5, 1, 160),
+        (9, usize::MAX, 1, 288),
+        (1 << 40, 2_000_001, 1, 64_000_032),
+    ];
+    for (capacity, reserve, asked, bytes) in rows {
         let heap = Rationed::new(rt.alloc());
-        let list: Result<FixedSizeList<u64, &_>, _> = FixedSizeList::with_memory(&heap, 9, reserve);
-        equal!(rt; (list.is_ok(), heap.asked()), (true, asked), reserve);
+        let list: Result<FixedSizeList<u64, &_>, _> = FixedSizeList::with_memory(
+            &heap,
+            capacity,
+            reserve,
+        );
+        equal!(rt;
+            (list.is_ok(), heap.asked(), heap.asked_bytes()),
+            (true, asked, bytes),
+            reserve
+        );
         drop(list);
         equal!(rt; heap.blocks(), 0);
     }
 }
 
 #[test]
-fn a_list_of_1000_grows_nine_times(rt: HostRuntime) -> Result<(), Fail> {
+fn a_list_of_1000_grows_five_times(rt: HostRuntime) -> Result<(), Fail> {
     let heap = Rationed::new(rt.alloc());
     {
         let mut list = FixedSizeList::new(&heap, 1000);
         for item in 0..1000u64 {
             assert!(rt; list.push_back(item).is_ok(), "the push of {item}");
         }
-        equal!(rt; (list.len(), list.places(), heap.asked()), (1000, 1000, 9));
+        equal!(rt; (list.len(), list.places(), heap.asked()), (1000, 1000, 5));
         equal!(rt; (heap.refused(), heap.blocks()), (0, 1));
     }
     equal!(rt; heap.blocks(), 0);

@@ -20,21 +20,21 @@ fn extends(cache: &mut Plain, first: u64, end: u64, drawn: &Cell<u64>) -> Result
     }))
 }
 
-/// How many of nine keys go in where the memory is refused after so many requests: three growths, to 4, 8 and 9 places or more.
+/// How many of nine keys go in where the memory is refused after so many requests: two growths, to 4 places and to 9 or more.
 fn stored_after(requests: u64) -> u64 {
-    (requests / REQUESTS).saturating_mul(4).min(9)
+    [0, 4, 9][(requests / REQUESTS).min(2) as usize]
 }
 
 #[test]
 fn each_refusal_ends_an_extend(rt: HostRuntime) -> Result<(), Fail> {
-    for n in 0..=3 * REQUESTS {
+    for n in 0..=2 * REQUESTS {
         let heap = Rationed::new(rt.alloc());
         {
             let (stored, drawn) = (stored_after(n), Cell::new(0));
             let mut cache = CLruCache::new(&heap, room(9)?);
             heap.refuse_after(n);
             let refused = extends(&mut cache, 0, 9, &drawn);
-            if n == 3 * REQUESTS {
+            if n == 2 * REQUESTS {
                 equal!(rt; (refused, drawn.get(), heap.refused()), (Ok(()), 9, 0));
             } else {
                 equal!(rt; refused, Err((stored, stored.wrapping_add(10))), n);
@@ -73,13 +73,13 @@ fn collects<'a>(
 
 #[test]
 fn each_refusal_ends_a_from_iter(rt: HostRuntime) -> Result<(), Fail> {
-    for n in 0..=3 * REQUESTS {
+    for n in 0..=2 * REQUESTS {
         let heap = Rationed::new(rt.alloc());
         heap.refuse_after(n);
         let drawn = Cell::new(0);
         match collects(&heap, 9, &drawn) {
             Ok(mut cache) => {
-                equal!(rt; (n, drawn.get(), heap.refused()), (3 * REQUESTS, 9, 0));
+                equal!(rt; (n, drawn.get(), heap.refused()), (2 * REQUESTS, 9, 0));
                 equal!(rt; (cache.capacity(), heap.asked()), (9, n));
                 holds_those_below(&rt, &cache, 9);
                 takes_out_those_below(&rt, &mut cache, 9);
@@ -103,34 +103,13 @@ fn a_thousand_items_go_in(rt: HostRuntime) -> Result<(), Fail> {
     let drawn = Cell::new(0);
     let mut cache = CLruCache::new(&heap, room(1000)?);
     equal!(rt; extends(&mut cache, 0, 1000, &drawn), Ok(()));
-    // The places are 4, 8 and so on to 512, and then 1,000, or 1,024 where the capacity comes last.
-    equal!(rt; (cache.len(), heap.asked()), (1000, 9 * REQUESTS));
+    // The places are 4, 16, 64, 256, and then 1,000, or 1,024 where the capacity comes last.
+    equal!(rt; (cache.len(), heap.asked()), (1000, 5 * REQUESTS));
     let cache = collects(&heap, 1000, &drawn)?;
     equal!(rt;
         (cache.len(), cache.capacity(), heap.asked()),
-        (1000, 1000, 18 * REQUESTS)
+        (1000, 1000, 10 * REQUESTS)
     );
-    Ok(())
-}
-
-#[test]
-fn an_extend_with_free_places_asks_for_nothing(rt: HostRuntime) -> Result<(), Fail> {
-    let heap = Rationed::new(rt.alloc());
-    let drawn = Cell::new(0);
-    let mut cache = CLruCache::with_memory(&heap, room(3)?, 3)?;
-    heap.refuse_after(0);
-    // Free places, held keys, and then entries to drop.
-    for (first, end) in [(0, 0), (0, 3), (0, 3), (2, 9)] {
-        equal!(rt;
-            extends(&mut cache, first, end, &drawn),
-            Ok(()),
-            (first, end)
-        );
-        equal!(rt; heap.asked(), REQUESTS, (first, end));
-    }
-    for key in [8, 7, 6u64] {
-        equal!(rt; cache.pop_front(), Some((key, key + 10)));
-    }
     Ok(())
 }
 

@@ -17,8 +17,8 @@ fn a_thousand_entries_go_in_one_by_one(rt: HostRuntime) -> Result<(), Fail> {
             for key in 0..1000u64 {
                 equal!(rt; adds(&mut cache, call, key, key), Ok(None), (call, key));
             }
-            // The places are 4, 8 and so on to 512, and then 1,000.
-            equal!(rt; (cache.len(), heap.asked()), (1000, 9 * REQUESTS), call);
+            // The places are 4, 16, 64, 256, and then 1,000.
+            equal!(rt; (cache.len(), heap.asked()), (1000, 5 * REQUESTS), call);
         }
         equal!(rt; heap.blocks(), 0, call);
     }

@@ -1,6 +1,6 @@
-//! Calls that lend an entry ask for nothing, and closures that fail forget nothing.
+//! Closures that fail forget nothing.
 
-use crate::adding::{Plain, counts};
+use crate::adding::counts;
 use crate::owned::{blocks_of, text};
 use crate::whole::is_whole;
 use assertions::equal;
@@ -8,43 +8,10 @@ use clru::{CLruCache, DefaultState, TryPutError, ZeroWeightScale};
 use clru_fixtures::costs::REQUESTS;
 use clru_fixtures::sizes::room;
 use ration::Rationed;
-use std::alloc::{AllocError, Allocator, Global};
+use std::alloc::{Allocator, Global};
 use std::cell::Cell;
 use std::hash::Hash;
-use std::process::Abort;
 use std::test::Fail;
-
-/// Writes 7 through what a call lends, and answers the requests so far.
-fn writes(heap: &Rationed<Global>, lent: Option<&mut u64>) -> Option<u64> {
-    *lent? = 7;
-    Some(heap.asked())
-}
-
-#[test]
-fn lending_calls_ask_for_nothing(rt: HostRuntime) -> Result<(), Fail> {
-    let heap = Rationed::new(rt.alloc());
-    // Each place is taken, and one more would be room for an entry.
-    let mut cache: Plain = CLruCache::new(&heap, room(5)?);
-    for key in 0..4u64 {
-        assert!(rt; cache.put(key, key + 10).is_ok());
-    }
-    heap.refuse_after(0);
-    let asked = Some(heap.asked());
-    equal!(rt; writes(&heap, cache.get_mut(&0)), asked);
-    equal!(rt; writes(&heap, cache.peek_mut(&1)), asked);
-    equal!(rt;
-        writes(&heap, cache.front_mut().map(|entry| entry.into_mut())),
-        asked
-    );
-    equal!(rt;
-        writes(&heap, cache.back_mut().map(|entry| entry.into_mut())),
-        asked
-    );
-    equal!(rt; cache.front(), Some((&0, &7)));
-    equal!(rt; cache.back(), Some((&1, &7)));
-    equal!(rt; (heap.asked(), heap.refused()), (asked.unwrap_or(0), 0));
-    Ok(())
-}
 
 /// The sum, or the key as an error where it is odd.
 fn if_even(key: u64, more: u64) -> Result<u64, u64> {

@@ -26,26 +26,6 @@ pub(crate) fn blocks_of(entries: u64) -> u64 {
 }
 
 #[test]
-fn what_a_put_drops_is_given_back(rt: HostRuntime) -> Result<(), Fail> {
-    for call in ADDING {
-        let heap = Rationed::new(rt.alloc());
-        {
-            let mut cache = CLruCache::new(&heap, room(2)?);
-            for (key, entries) in [("a", 1), ("b", 2), ("c", 2), ("b", 2), ("d", 2)] {
-                let put = adds(&mut cache, call, text(&heap, key)?, text(&heap, "value")?);
-                assert!(rt; put.is_ok(), "{call:?} of {key}");
-                drop(put);
-                equal!(rt; heap.blocks(), blocks_of(entries), (call, key));
-            }
-            drop(cache.pop_front());
-            equal!(rt; heap.blocks(), blocks_of(1), call);
-        }
-        equal!(rt; heap.blocks(), 0, call);
-    }
-    Ok(())
-}
-
-#[test]
 fn what_is_refused_is_given_back(rt: HostRuntime) -> Result<(), Fail> {
     for call in ADDING {
         let heap = Rationed::new(rt.alloc());
@@ -68,30 +48,6 @@ impl<K, A: Allocator> WeightScale<K, String<A>> for ByLength {
     fn weight(&self, _key: &K, value: &String<A>) -> usize {
         value.len()
     }
-}
-
-#[test]
-fn what_a_weighted_put_drops_is_given_back(rt: HostRuntime) -> Result<(), Fail> {
-    let heap = Rationed::new(rt.alloc());
-    {
-        let mut cache = CLruCache::with_scale(&heap, room(8)?, ByLength);
-        let steps = [
-            ("a", "1", 1, true),
-            ("b", "1", 2, true),
-            ("c", "1", 3, true),
-            ("a", "22", 3, true),
-            ("d", "666666", 1, true),
-            ("d", "88888888", 1, false),
-        ];
-        for (key, value, entries, goes) in steps {
-            let put = cache.put_with_weight(text(&heap, key)?, text(&heap, value)?, |_, _| {});
-            equal!(rt; put.is_ok(), goes, (key, value));
-            drop(put);
-            equal!(rt; heap.blocks(), blocks_of(entries), (key, value));
-        }
-    }
-    equal!(rt; heap.blocks(), 0);
-    Ok(())
 }
 
 #[test]

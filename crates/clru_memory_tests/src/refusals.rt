@@ -45,9 +45,9 @@ fn adds_nine(rt: &impl Abort, heap: &Rationed<Global>, cache: &mut Plain, call: 
 
 #[test]
 fn each_refusal_gives_the_pair_back(rt: HostRuntime) -> Result<(), Fail> {
-    // Three growths: to 4, 8 and 9 places.
+    // Two growths: to 4 and 9 places.
     for call in ADDING {
-        for n in 0..=3 * REQUESTS {
+        for n in 0..=2 * REQUESTS {
             let heap = Rationed::new(rt.alloc());
             {
                 let mut cache = CLruCache::new(&heap, room(9)?);
@@ -56,7 +56,7 @@ fn each_refusal_gives_the_pair_back(rt: HostRuntime) -> Result<(), Fail> {
                 heap.refuse_none();
                 takes_out_those_below(&rt, &mut cache, stored);
             }
-            equal!(rt; heap.refused() == 0, n == 3 * REQUESTS, (call, n));
+            equal!(rt; heap.refused() == 0, n == 2 * REQUESTS, (call, n));
             equal!(rt; heap.blocks(), 0, (call, n));
         }
     }
@@ -95,11 +95,11 @@ fn a_refused_put_can_be_made_again(rt: HostRuntime) -> Result<(), Fail> {
                 let met = refused_keys(&rt, &heap, &mut cache, call, n);
                 heap.refuse_none();
                 for (key, refused) in met.iter().enumerate() {
-                    equal!(rt; *refused, key % 4 == 0, (call, key));
+                    equal!(rt; *refused, [0, 4].contains(&key), (call, key));
                 }
                 takes_out_those_below(&rt, &mut cache, 9);
             }
-            equal!(rt; (heap.refused(), heap.blocks()), (3, 0), call);
+            equal!(rt; (heap.refused(), heap.blocks()), (2, 0), call);
         }
     }
     Ok(())

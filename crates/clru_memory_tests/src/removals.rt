@@ -1,10 +1,8 @@
-//! Calls that take entries out or change the capacity: they ask for no memory, forget nothing, and the places stay.
+//! Calls that take entries out or change the capacity: they ask for no memory, and the places stay.
 
 use crate::adding::{ADDED, Plain};
-use crate::owned::text;
 use assertions::equal;
 use clru::CLruCache;
-use clru_fixtures::costs::REQUESTS;
 use clru_fixtures::sizes::room;
 use ration::Rationed;
 use std::alloc::Global;
@@ -101,50 +99,5 @@ fn places_above_the_capacity_stay(rt: HostRuntime) -> Result<(), Fail> {
     cache.resize(room(usize::MAX)?);
     assert!(rt; cache.put(1000, 1).is_err());
     equal!(rt; cache.len(), 9);
-    Ok(())
-}
-
-type Texts<'a> = CLruCache<
-    String<&'a Rationed<Global>>,
-    String<&'a Rationed<Global>>,
-    clru::DefaultState,
-    clru::ZeroWeightScale,
-    &'a Rationed<Global>,
->;
-
-fn takes_texts<'a>(
-    heap: &'a Rationed<Global>,
-    cache: &mut Texts<'a>,
-    call: Taking,
-) -> Result<(), Fail> {
-    match call {
-        Pop => drop(cache.pop(&text(heap, "b")?)),
-        PopFront => drop(cache.pop_front()),
-        PopBack => drop(cache.pop_back()),
-        Clear => cache.clear(),
-        ResizeLess => cache.resize(room(1)?),
-        ResizeSame => cache.resize(room(3)?),
-        ResizeMore => cache.resize(room(7)?),
-        Retain => cache.retain(|key, _| key.as_str() != "b"),
-        RetainMut => cache.retain_mut(|key, _| key.as_str() != "b"),
-    }
-    Ok(())
-}
-
-#[test]
-fn what_is_taken_out_is_given_back(rt: HostRuntime) -> Result<(), Fail> {
-    for (call, _) in TAKING {
-        let heap = Rationed::new(rt.alloc());
-        {
-            let mut cache = CLruCache::new(&heap, room(3)?);
-            for key in ["a", "b", "c"] {
-                drop(cache.put(text(&heap, key)?, text(&heap, "value")?));
-            }
-            takes_texts(&heap, &mut cache, call)?;
-            let texts = (cache.len() as u64).wrapping_mul(2);
-            equal!(rt; heap.blocks(), texts.wrapping_add(REQUESTS), call);
-        }
-        equal!(rt; heap.blocks(), 0, call);
-    }
     Ok(())
 }

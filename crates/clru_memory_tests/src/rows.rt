@@ -5,6 +5,7 @@ use crate::owned::puts;
 use crate::whole::is_whole;
 use assertions::equal;
 use clru::{CLruCache, CLruCacheConfig, NoMemory, Put, PutError, TryPutError, ZeroWeightScale};
+use clru_fixtures::builders::CONSTANTS;
 use clru_fixtures::costs::free_places;
 use clru_fixtures::scales::ByLength;
 use clru_fixtures::sizes::room;
@@ -147,37 +148,50 @@ fn makes<S: BuildHasher>(cache: &mut Numbers<S>, call: Call, called: &Cell<u64>)
     }
 }
 
-/// The calls of each row.
-fn stays_as_it_was<S: BuildHasher + Copy>(
+/// Makes the calls of a row, where no more memory comes.
+fn stays_as_it_was<S: BuildHasher>(
     rt: &impl Abort,
-    alloc: Global,
-    builder: S,
-) -> Result<(), Fail> {
-    for row in ROWS {
-        let heap = Rationed::new(alloc);
-        let called = Cell::new(0);
-        let config = CLruCacheConfig::new(room(row.capacity)?).with_hasher(builder);
-        let made = CLruCache::with_config(&heap, config.with_memory(row.reserve));
-        let mut cache = made.map_err(|_| "there is memory")?;
-        heap.refuse_after(0);
-        for (call, answer, requests, list) in row.steps {
-            let asked = heap.asked();
-            let given = makes(&mut cache, *call, &called);
-            assert!(rt; given == *answer, "{call:?} of {}", row.name);
-            equal!(rt;
-                (heap.asked().wrapping_sub(asked), called.get()),
-                (*requests, 0),
-                (call, row.name)
-            );
-            is_whole(rt, &cache, list);
-        }
+    heap: &Rationed<Global>,
+    row: &Row,
+    cache: &mut Numbers<S>,
+) {
+    let called = Cell::new(0);
+    heap.refuse_after(0);
+    for (call, answer, requests, list) in row.steps {
+        let asked = heap.asked();
+        let given = makes(cache, *call, &called);
+        assert!(rt; given == *answer, "{call:?} of {}", row.name);
+        equal!(rt;
+            (heap.asked().wrapping_sub(asked), called.get()),
+            (*requests, 0),
+            (call, row.name)
+        );
+        is_whole(rt, cache, list);
     }
-    Ok(())
 }
 
 #[test]
 fn what_is_refused_leaves_a_cache_as_it_was(rt: HostRuntime) -> Result<(), Fail> {
-    with_each_builder!(rt, stays_as_it_was)
+    for row in ROWS {
+        let heap = Rationed::new(rt.alloc());
+        let size = room(row.capacity)?;
+        stays_as_it_was(
+            &rt,
+            &heap,
+            row,
+            &mut CLruCache::with_memory(&heap, size, row.reserve)?,
+        );
+        for builder in CONSTANTS {
+            let heap = Rationed::new(rt.alloc());
+            let config = CLruCacheConfig::new(size).with_hasher(builder);
+            let Ok(mut cache) = CLruCache::with_config(&heap, config.with_memory(row.reserve))
+            else {
+                return Err("there is memory".into());
+            };
+            stays_as_it_was(&rt, &heap, row, &mut cache);
+        }
+    }
+    Ok(())
 }
 
 type Text = (u64, &'static str);

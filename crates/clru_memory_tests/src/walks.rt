@@ -1,6 +1,5 @@
-//! Walks ask for no memory, and what an iterator did not hand out goes with it.
+//! What an iterator did not hand out goes with it.
 
-use crate::adding::Plain;
 use crate::owned::text;
 use assertions::equal;
 use clru::CLruCache;
@@ -8,48 +7,6 @@ use clru_fixtures::costs::REQUESTS;
 use clru_fixtures::sizes::room;
 use ration::Rationed;
 use std::test::Fail;
-
-#[test]
-fn walks_ask_for_nothing(rt: HostRuntime) -> Result<(), Fail> {
-    let heap = Rationed::new(rt.alloc());
-    let mut cache: Plain = CLruCache::new(&heap, room(3)?);
-    for key in 0..3u64 {
-        assert!(rt; cache.put(key, key).is_ok());
-    }
-    let asked = heap.asked();
-    let iter = cache.iter();
-    let mut copy = iter.clone()?;
-    let mut sum = 0u64;
-    for (key, value) in iter {
-        sum = sum.wrapping_add(*key).wrapping_add(*value);
-    }
-    for (_, value) in &cache {
-        sum = sum.wrapping_add(*value);
-    }
-    equal!(rt; (sum, copy.next_back().map(|pair| *pair.0)), (9, Some(0)));
-    let mut cursor = cache.iter_mut();
-    for _ in 0..3 {
-        let Some(value) = cursor.next() else {
-            break;
-        };
-        *value = value.wrapping_add(1);
-        if let Some(value) = cursor.next_back() {
-            *value = value.wrapping_add(2);
-        }
-    }
-    equal!(rt; heap.asked(), asked);
-    let mut owned = cache.into_iter();
-    equal!(rt;
-        (owned.next(), owned.next_back()),
-        (Some((2, 3)), Some((0, 2)))
-    );
-    equal!(rt;
-        (owned.len(), owned.next(), owned.next()),
-        (1, Some((1, 2)), None)
-    );
-    equal!(rt; heap.asked(), asked);
-    Ok(())
-}
 
 #[test]
 fn a_half_walked_iterator_forgets_nothing(rt: HostRuntime) -> Result<(), Fail> {

@@ -2,6 +2,7 @@ pub mod Bound
 pub mod ByPlace
 pub mod Cases
 pub mod Counting
+pub mod Distances
 pub mod Distinct
 pub mod DistinctByPlace
 pub mod Dropping

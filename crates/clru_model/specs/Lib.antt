@@ -1,4 +1,5 @@
 pub mod ByPlace
+pub mod Distances
 pub mod Entries
 pub mod Errors
 pub mod Laws

@@ -1,4 +1,5 @@
 //! Laws of the definitions that the contracts cite. They do nothing at run time.
+ghost use Rattle.clru_model.specs.Distances.{HitsAreBelow, MarksAreBelow, RoomForAllMissesFirst};
 ghost use Rattle.clru_model.specs.Laws.{TrueMarksAreHits, OneMarkForEach, MissesAreFalseMarks, DistinctCountsFirst};
 ghost use Rattle.clru_model.specs.Laws.{SchedulesAreByPlace, FalseMarksAreMisses, ScheduleMissesAreByPlace};
 ghost use Rattle.clru_model.specs.Laws.{HitsGrow, MissesFall};
@@ -67,4 +68,13 @@ pub fn law_least<K: Eq>()
     ensures schedule { ReplayIsSchedule K.eq }
     ensures below { LeastIsBelowReplay K.eq }
     ensures near { ReplayIsNearLeast K.eq }
+{}
+
+/// Does nothing at run time. Its contract says that a request hits at exactly the capacities above its distance, so that one
+/// list of distances has the marks of `replay` at every capacity, and that no capacity with room for all keys has other misses
+/// than the first request of each.
+pub fn law_distances<K: Eq>()
+    ensures hits { HitsAreBelow K.eq }
+    ensures marks { MarksAreBelow K.eq }
+    ensures beyond { RoomForAllMissesFirst K.eq }
 {}

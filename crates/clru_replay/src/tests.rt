@@ -1,4 +1,5 @@
 // What the program answers for worked inputs.
+mod costs;
 mod devices;
 mod fakes;
 mod faults;

@@ -90,17 +90,17 @@ fn tries_to_put_or_modify<S: BuildHasher + Copy>(
     builder: S,
 ) -> Result<(), Fail> {
     let mut cache = CLruCache::with_hasher(alloc, room(2)?, builder);
-    let steps = [
-        ("a", 2, Ok(2)),
-        ("b", 4, Ok(4)),
-        ("a", 3, Err(TryPutError::Failed(3))),
-        ("c", 3, Err(TryPutError::Failed(3))),
+    let steps: [(_, _, _, &[(&str, u64)]); 4] = [
+        ("a", 2, Ok(2), &[("a", 2)]),
+        ("b", 4, Ok(4), &[("b", 4), ("a", 2)]),
+        ("a", 3, Err(TryPutError::Failed(3)), &[("a", 2), ("b", 4)]),
+        ("c", 3, Err(TryPutError::Failed(3)), &[("a", 2), ("b", 4)]),
     ];
-    for (key, data, answer) in steps {
+    for (key, data, answer, list) in steps {
         let lent = cache.try_put_or_modify(key, |_, data| even(data), writes_even, data);
         equal!(rt; lent.map(|value| *value), answer, key);
+        holds(rt, &cache, list);
     }
-    holds(rt, &cache, &[("a", 2), ("b", 4)]);
     Ok(())
 }
 

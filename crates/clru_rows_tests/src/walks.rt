@@ -302,6 +302,29 @@ fn passes<S: BuildHasher + Copy>(rt: &impl Abort, alloc: Global, builder: S) -> 
         }
         equal!(rt; cursor.len(), left, walk.name);
     }
+    passes_with_keys(rt, alloc, builder)
+}
+
+/// Each walk by a cursor, with the keys. It is asked for an entry while one is left, and no longer.
+fn passes_with_keys<S: BuildHasher + Copy>(
+    rt: &impl Abort,
+    alloc: Global,
+    builder: S,
+) -> Result<(), Fail> {
+    for walk in WALKS {
+        let mut cache = made(alloc, walk, builder)?;
+        let mut cursor = cache.iter_mut();
+        for (end, pair) in walk.steps {
+            equal!(rt; cursor.len() > 0, pair.is_some(), (end, walk.name));
+            if cursor.len() > 0 {
+                let (key, value) = match end {
+                    Front => cursor.next_entry(),
+                    Back => cursor.next_entry_back(),
+                };
+                equal!(rt; Some((*key, *value)), *pair, (end, walk.name));
+            }
+        }
+    }
     Ok(())
 }
 
@@ -325,12 +348,18 @@ fn takes_one_from_each<S: BuildHasher + Copy>(
             };
             *value = value.saturating_sub(1);
         }
-        let mut held = cache.into_iter();
+        let mut held = cache.iter();
         for (key, value) in walk.pairs.iter().rev() {
-            let wanted = Some((*key, value.saturating_sub(1)));
+            let wanted = Some((key, &value.saturating_sub(1)));
             equal!(rt; held.next(), wanted, walk.name);
         }
         equal!(rt; held.next(), None, walk.name);
+        let mut taken = cache.into_iter();
+        for (key, value) in walk.pairs.iter().rev() {
+            let wanted = Some((*key, value.saturating_sub(1)));
+            equal!(rt; taken.next(), wanted, walk.name);
+        }
+        equal!(rt; taken.next(), None, walk.name);
     }
     Ok(())
 }
@@ -352,14 +381,12 @@ fn writes_from_both_ends<S: BuildHasher + Copy>(
     let mut cache = made(alloc, walk, builder)?;
     {
         let mut cursor = cache.iter_mut();
-        if cursor.len() > 0 {
-            let (key, value) = cursor.next_entry();
-            equal!(rt; (*key, *value), ("c", 3));
+        if let Some(value) = cursor.next() {
+            equal!(rt; *value, 3);
             *value = 30;
         }
-        if cursor.len() > 0 {
-            let (key, value) = cursor.next_entry_back();
-            equal!(rt; (*key, *value), ("a", 1));
+        if let Some(value) = cursor.next_back() {
+            equal!(rt; *value, 1);
             *value = 10;
         }
     }
@@ -374,6 +401,36 @@ fn writes_from_both_ends<S: BuildHasher + Copy>(
 #[test]
 fn what_a_cursor_wrote_from_both_ends_is_held(rt: HostRuntime) -> Result<(), Fail> {
     with_each_builder!(rt, writes_from_both_ends)
+}
+
+/// A get, a peek, and a cursor that takes one from each value.
+fn gets_peeks_and_writes<S: BuildHasher + Copy>(
+    rt: &impl Abort,
+    alloc: Global,
+    builder: S,
+) -> Result<(), Fail> {
+    let Some(walk) = WALKS.first() else {
+        return Ok(());
+    };
+    let mut cache = made(alloc, walk, builder)?;
+    equal!(rt; cache.get(&"a").copied(), Some(1));
+    holds(rt, &cache, &[("a", 1), ("c", 3), ("b", 2)]);
+    equal!(rt; cache.peek(&"b").copied(), Some(2));
+    holds(rt, &cache, &[("a", 1), ("c", 3), ("b", 2)]);
+    let mut cursor = cache.iter_mut();
+    for _ in 0..3 {
+        let Some(value) = cursor.next() else {
+            break;
+        };
+        *value = value.saturating_sub(1);
+    }
+    holds(rt, &cache, &[("a", 0), ("c", 2), ("b", 1)]);
+    Ok(())
+}
+
+#[test]
+fn a_get_moves_its_entry_and_a_peek_does_not(rt: HostRuntime) -> Result<(), Fail> {
+    with_each_builder!(rt, gets_peeks_and_writes)
 }
 
 /// Cursors between look-ups.

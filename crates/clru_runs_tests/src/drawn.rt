@@ -117,7 +117,7 @@ fn drawn_calls_by_weight(rt: HostRuntime) -> Result<(), Fail> {
         live::<_, _, Call<_, _>>(&rt, rt.alloc(), &heap, &mut draws, builder, ByValue)?;
     }
     assert!(rt;
-        heap.refused() > 1000,
+        heap.refused() > 700,
         "{} of {}",
         heap.refused(),
         heap.asked()

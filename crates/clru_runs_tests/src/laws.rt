@@ -1,7 +1,7 @@
 //! What the laws of runs speak of. Tables in pairs have the same calls of a lesser cache and of a greater one: where no put
 //! is refused and no `get` is among them, the lesser ends with the first entries of the greater, and else it may not.
 
-use crate::tables::{Table, run_all, weigh_all};
+use crate::tables::{Table, run_all, weigh_all, weigh_on};
 use clru::{PutError, ZeroWeightScale};
 use clru_fixtures::scales::{ByLength, ByValue};
 use clru_runs::Answer::{Flag, Lent, Pair, Tried, Value, Weighed};
@@ -68,25 +68,38 @@ static TEXTS: &[Of<&'static str>] = &[
     },
 ];
 
-static WEIGHTLESS: &[Of<usize>] = &[
+static LESSER: &[Of<usize>] = &[
     Table {
-        name: "the lesser gets nothing",
+        name: "the lesser holds the last",
         capacity: 1,
         rows: &[
             (PutWithWeight("a", 1), weighed!(None, 0, None)),
             (PutWithWeight("b", 2), weighed!(None, 1, Some(("a", 1)))),
-            (Get("a"), Value(None)),
         ],
         list: &[("b", 2)],
     },
     Table {
-        name: "the greater moves an entry",
+        name: "and gets nothing",
+        capacity: 1,
+        rows: &[(Get("a"), Value(None))],
+        list: &[("b", 2)],
+    },
+];
+
+static GREATER: &[Of<usize>] = &[
+    Table {
+        name: "the greater holds both",
         capacity: 2,
         rows: &[
             (PutWithWeight("a", 1), weighed!(None, 0, None)),
             (PutWithWeight("b", 2), weighed!(None, 0, None)),
-            (Get("a"), Value(Some(1))),
         ],
+        list: &[("b", 2), ("a", 1)],
+    },
+    Table {
+        name: "and moves an entry",
+        capacity: 2,
+        rows: &[(Get("a"), Value(Some(1)))],
         list: &[("a", 1), ("b", 2)],
     },
 ];
@@ -95,11 +108,15 @@ static PUTS: &[Table<'static, PlainCall<&'static str, usize>, &'static str, usiz
     name: "puts in any form hold what a replay hits",
     capacity: 2,
     rows: &[
+        (Any(Contains("a")), Flag(false)),
         (Put("a", 1), stored!(None, None)),
+        (Any(Contains("b")), Flag(false)),
         (Any(PutWithWeight("b", 2)), weighed!(None, 0, None)),
         (Any(Contains("c")), Flag(false)),
         (PutOrModify("c", 3), Lent(Ok(3))),
+        (Any(Contains("a")), Flag(false)),
         (TryPutOrModify("a", Store(4)), Tried(Ok(4))),
+        (Any(Contains("c")), Flag(true)),
         (Put("c", 5), stored!(Some(3), None)),
     ],
     list: &[("c", 5), ("a", 4)],
@@ -124,5 +141,6 @@ fn a_put_that_one_cache_refuses_ends_the_inclusion(rt: HostRuntime) -> Result<()
 
 #[test]
 fn a_get_ends_the_inclusion(rt: HostRuntime) -> Result<(), Fail> {
-    weigh_all(&rt, rt.alloc(), WEIGHTLESS, ZeroWeightScale)
+    weigh_on(&rt, rt.alloc(), LESSER, ZeroWeightScale)?;
+    weigh_on(&rt, rt.alloc(), GREATER, ZeroWeightScale)
 }

@@ -64,18 +64,6 @@ static NUMBERS: &[Of<u64>] = &[
         list: &[("banana", 3), ("apple", 4)],
     },
     Table {
-        name: "what was written through a lent value is got",
-        capacity: 2,
-        rows: &[
-            (Put("banana", 4), stored!(None, None)),
-            (Put("pear", 5), stored!(None, None)),
-            (GetMut("banana", 6), Value(Some(4))),
-            (GetMut("apple", 7), Value(None)),
-            (Any(Get("banana")), Value(Some(6))),
-        ],
-        list: &[("banana", 6), ("pear", 5)],
-    },
-    Table {
         name: "both ends are read and written where they are",
         capacity: 3,
         rows: &[
@@ -83,6 +71,7 @@ static NUMBERS: &[Of<u64>] = &[
             (Any(Back), Value(None)),
             (FrontMut(9), Value(None)),
             (BackMut(9), Value(None)),
+            (GetMut("z", 9), Value(None)),
             (Put("a", 1), stored!(None, None)),
             (FrontMut(4), Value(Some(1))),
             (BackMut(5), Value(Some(4))),

@@ -6,7 +6,7 @@ use clru_runs::Call::{
     Capacity, Contains, Get, IsEmpty, IsFull, Len, Nth, NthBack, Peek, PopFront, PutWithWeight,
     Weight,
 };
-use clru_runs::PlainCall::{self, Any, Put, PutOrModify};
+use clru_runs::PlainCall::{self, Any, GetMut, Put, PutOrModify};
 use std::test::Fail;
 
 type Of<V> = Table<'static, PlainCall<&'static str, V>, &'static str, V>;
@@ -128,20 +128,10 @@ static NUMBERS: &[Of<u64>] = &[
             (Any(Get("pear")), Value(Some(5))),
             (Any(Get("banana")), Value(Some(4))),
             (Any(Get("apple")), Value(None)),
+            (GetMut("banana", 6), Value(Some(4))),
+            (Any(Get("banana")), Value(Some(6))),
         ],
-        list: &[("banana", 4), ("pear", 5)],
-    },
-    Table {
-        name: "a_get_moves_its_entry_and_a_peek_does_not",
-        capacity: 3,
-        rows: &[
-            (Put("a", 1), stored!(None, None)),
-            (Put("b", 2), stored!(None, None)),
-            (Put("c", 3), stored!(None, None)),
-            (Any(Get("a")), Value(Some(1))),
-            (Any(Peek("b")), Value(Some(2))),
-        ],
-        list: &[("a", 1), ("c", 3), ("b", 2)],
+        list: &[("banana", 6), ("pear", 5)],
     },
     Table {
         name: "a_walk_comes_to_each_value_from_either_end",
@@ -194,9 +184,8 @@ static NUMBERS: &[Of<u64>] = &[
                 Any(PutWithWeight("b", 2)),
                 weighed!(None, 1, Some(("a", 1))),
             ),
-            (Any(PutWithWeight("b", 3)), weighed!(Some(2), 0, None)),
         ],
-        list: &[("b", 3)],
+        list: &[("b", 2)],
     },
 ];
 

@@ -1,9 +1,12 @@
 //! Tables of calls that take entries out.
 
-use crate::tables::{Table, run_all, weigh_all};
+use crate::tables::{Table, run_all, weigh_all, weigh_on};
 use clru_fixtures::scales::ByLength;
 use clru_runs::Answer::{Done, Number, Pair, Value};
-use clru_runs::Call::{self, Clear, Get, Len, Peek, Pop, PopBack, PopFront, Retain, Weight};
+use clru_runs::Call::{
+    self, Capacity, Clear, Get, Len, Peek, Pop, PopBack, PopFront, PutWithWeight, Resize, Retain,
+    Weight,
+};
 use clru_runs::PlainCall::{self, Any, Put, RetainMut};
 use std::test::Fail;
 
@@ -22,8 +25,8 @@ static NUMBERS: &[Plain<usize>] = &[
             (Put("d", 4), stored!(None, None)),
             (Put("e", 5), stored!(None, None)),
             (Any(Pop("c")), Value(Some(3))),
-            (Any(Pop("c")), Value(None)),
             (Put("f", 6), stored!(None, None)),
+            (Any(Pop("c")), Value(None)),
         ],
         list: &[("f", 6), ("e", 5), ("d", 4), ("b", 2), ("a", 1)],
     },
@@ -42,16 +45,17 @@ static NUMBERS: &[Plain<usize>] = &[
         list: &[],
     },
     Table {
-        name: "get moves to the front, peek does not",
-        capacity: 3,
+        name: "an equal capacity, after a place was freed",
+        capacity: 2,
         rows: &[
             (Put("a", 1), stored!(None, None)),
             (Put("b", 2), stored!(None, None)),
-            (Put("c", 3), stored!(None, None)),
-            (Any(Get("a")), Value(Some(1))),
+            (Any(Pop("a")), Value(Some(1))),
+            (Any(Resize(2)), Done),
+            (Any(Capacity), Number(2)),
             (Any(Peek("b")), Value(Some(2))),
         ],
-        list: &[("a", 1), ("c", 3), ("b", 2)],
+        list: &[("b", 2)],
     },
     Table {
         name: "the others are kept, and written",
@@ -105,43 +109,47 @@ static TEXTS: &[Plain<&'static str>] = &[
     },
 ];
 
-static WEIGHTED: &[Weighted] = &[
+static CLEARED: &[Weighted] = &[
     Table {
         name: "test_weighted_clear",
         capacity: 10,
         rows: &[
-            (Call::PutWithWeight("apple", "red"), weighed!(None, 0, None)),
+            (PutWithWeight("apple", "red"), weighed!(None, 0, None)),
             (
-                Call::PutWithWeight("banana", "yellow"),
+                PutWithWeight("banana", "yellow"),
                 weighed!(None, 1, Some(("apple", "red"))),
             ),
             (Len, Number(1)),
             (Weight, Number(6)),
-            (Clear, Done),
-            (Len, Number(0)),
-            (Weight, Number(0)),
         ],
-        list: &[],
+        list: &[("banana", "yellow")],
     },
     Table {
-        name: "the weight follows what is taken out",
-        capacity: 20,
-        rows: &[
-            (Call::PutWithWeight("a", "1"), weighed!(None, 0, None)),
-            (Call::PutWithWeight("b", "22"), weighed!(None, 0, None)),
-            (Call::PutWithWeight("c", "333"), weighed!(None, 0, None)),
-            (Call::PutWithWeight("d", "4444"), weighed!(None, 0, None)),
-            (Weight, Number(10)),
-            (Pop("b"), Value(Some("22"))),
-            (Weight, Number(8)),
-            (PopBack, Pair(Some(("a", "1")))),
-            (Weight, Number(7)),
-            (Retain("d"), Done),
-            (Weight, Number(3)),
-        ],
-        list: &[("c", "333")],
+        name: "test_weighted_clear, cleared",
+        capacity: 10,
+        rows: &[(Clear, Done), (Len, Number(0)), (Weight, Number(0))],
+        list: &[],
     },
 ];
+
+static WEIGHTED: &[Weighted] = &[Table {
+    name: "the weight follows what is taken out",
+    capacity: 20,
+    rows: &[
+        (PutWithWeight("a", "1"), weighed!(None, 0, None)),
+        (PutWithWeight("b", "22"), weighed!(None, 0, None)),
+        (PutWithWeight("c", "333"), weighed!(None, 0, None)),
+        (PutWithWeight("d", "4444"), weighed!(None, 0, None)),
+        (Weight, Number(10)),
+        (Pop("b"), Value(Some("22"))),
+        (Weight, Number(8)),
+        (PopBack, Pair(Some(("a", "1")))),
+        (Weight, Number(7)),
+        (Retain("d"), Done),
+        (Weight, Number(3)),
+    ],
+    list: &[("c", "333")],
+}];
 
 #[test]
 fn numbers_are_taken_out(rt: HostRuntime) -> Result<(), Fail> {
@@ -155,5 +163,6 @@ fn texts_are_taken_out(rt: HostRuntime) -> Result<(), Fail> {
 
 #[test]
 fn weights_are_taken_out(rt: HostRuntime) -> Result<(), Fail> {
+    weigh_on(&rt, rt.alloc(), CLEARED, ByLength)?;
     weigh_all(&rt, rt.alloc(), WEIGHTED, ByLength)
 }

@@ -11,10 +11,11 @@ use std::hash::{BuildHasher, Hash};
 use std::process::Abort;
 use std::test::Fail;
 
-/// A run of a cache that starts empty.
+/// A run of a cache that starts empty, or where another table ends.
 #[derive(Drop)]
 pub(crate) struct Table<'a, Q, K, V> {
     pub(crate) name: &'static str,
+    /// The capacity at the start.
     pub(crate) capacity: usize,
     /// The calls in order, each with its answer.
     pub(crate) rows: &'a [(Q, Answer<K, V>)],
@@ -37,6 +38,7 @@ where
     A: Allocator + Copy,
     Q: Perform<CLruCache<K, V, S, W, A>, Answer = Answer<K, V>> + Clone + Debug + Drop,
 {
+    equal!(rt; cache.capacity(), table.capacity, table.name);
     let mut calls = Vec::new(alloc);
     for (call, _) in table.rows {
         calls.push(call.clone()?)?;
@@ -50,24 +52,81 @@ where
     Ok(())
 }
 
-/// Runs each table on a cache without weights, with the default builder and with those that give all keys one hash.
+/// Runs the tables in turn on one cache.
+fn runs_on<K, V, S, W, A, Q>(
+    rt: &impl Abort,
+    alloc: Global,
+    tables: &[Table<Q, K, V>],
+    cache: &mut CLruCache<K, V, S, W, A>,
+) -> Result<(), Fail>
+where
+    K: Eq + Hash + Copy + Debug,
+    V: PartialEq + Copy + Debug,
+    S: BuildHasher,
+    W: WeightScale<K, V>,
+    A: Allocator + Copy,
+    Q: Perform<CLruCache<K, V, S, W, A>, Answer = Answer<K, V>> + Clone + Debug + Drop,
+{
+    for table in tables {
+        runs(rt, alloc, table, cache)?;
+    }
+    Ok(())
+}
+
+/// Runs the tables in turn, the first on an empty cache without weights and each other where the one before has ended: once
+/// with the default builder, and with those that give all keys one hash.
+pub(crate) fn run_on<K: Eq + Hash + Copy + Debug, V: PartialEq + Copy + Debug>(
+    rt: &impl Abort,
+    alloc: Global,
+    tables: &[Table<PlainCall<K, V>, K, V>],
+) -> Result<(), Fail> {
+    let size = room(tables.first().ok_or("a run has a table")?.capacity)?;
+    runs_on(rt, alloc, tables, &mut CLruCache::new(alloc, size))?;
+    for builder in CONSTANTS {
+        let mut cache = CLruCache::with_hasher(alloc, size, builder);
+        runs_on(rt, alloc, tables, &mut cache)?;
+    }
+    Ok(())
+}
+
+/// Runs each table on a cache of its own.
 pub(crate) fn run_all<K: Eq + Hash + Copy + Debug, V: PartialEq + Copy + Debug>(
     rt: &impl Abort,
     alloc: Global,
     tables: &[Table<PlainCall<K, V>, K, V>],
 ) -> Result<(), Fail> {
-    for table in tables {
-        let size = room(table.capacity)?;
-        runs(rt, alloc, table, &mut CLruCache::new(alloc, size))?;
-        for builder in CONSTANTS {
-            let mut cache = CLruCache::with_hasher(alloc, size, builder);
-            runs(rt, alloc, table, &mut cache)?;
-        }
+    for table in tables.chunks(1) {
+        run_on(rt, alloc, table)?;
     }
     Ok(())
 }
 
-/// The same on a cache with a scale.
+/// `run_on` for a cache with a scale.
+pub(crate) fn weigh_on<K, V, W>(
+    rt: &impl Abort,
+    alloc: Global,
+    tables: &[Table<Call<K, V>, K, V>],
+    scale: W,
+) -> Result<(), Fail>
+where
+    K: Eq + Hash + Copy + Debug,
+    V: PartialEq + Copy + Debug,
+    W: WeightScale<K, V> + Copy,
+{
+    let size = room(tables.first().ok_or("a run has a table")?.capacity)?;
+    let mut cache = CLruCache::with_scale(alloc, size, scale);
+    runs_on(rt, alloc, tables, &mut cache)?;
+    for builder in CONSTANTS {
+        let config = CLruCacheConfig::new(size).with_hasher(builder);
+        let Ok(mut cache) = CLruCache::with_config(alloc, config.with_scale(scale)) else {
+            return Err(Fail::from("no reserve is asked for"));
+        };
+        runs_on(rt, alloc, tables, &mut cache)?;
+    }
+    Ok(())
+}
+
+/// `run_all` for caches with a scale.
 pub(crate) fn weigh_all<K, V, W>(
     rt: &impl Abort,
     alloc: Global,
@@ -79,21 +138,8 @@ where
     V: PartialEq + Copy + Debug,
     W: WeightScale<K, V> + Copy,
 {
-    for table in tables {
-        let size = room(table.capacity)?;
-        runs(
-            rt,
-            alloc,
-            table,
-            &mut CLruCache::with_scale(alloc, size, scale),
-        )?;
-        for builder in CONSTANTS {
-            let config = CLruCacheConfig::new(size).with_hasher(builder);
-            let Ok(mut cache) = CLruCache::with_config(alloc, config.with_scale(scale)) else {
-                return Err(Fail::from("no reserve is asked for"));
-            };
-            runs(rt, alloc, table, &mut cache)?;
-        }
+    for table in tables.chunks(1) {
+        weigh_on(rt, alloc, table, scale)?;
     }
     Ok(())
 }

@@ -54,7 +54,8 @@ fn puts_in_any_form_hold_what_a_replay_hits(rt: HostRuntime) -> Result<(), Fail>
     equal!(rt; puts::put_with_weight(&mut cache, "b", 2), Ok(None));
     assert!(rt; !cache.contains(&"c"));
     equal!(rt; puts::put_or_modify(&mut cache, "c", 3), Ok(()));
-    equal!(rt; puts::put(&mut cache, "a", 4), Ok(None));
+    assert!(rt; !cache.contains(&"a"));
+    equal!(rt; puts::try_put_or_modify(&mut cache, "a", 4), Ok(()));
     equal!(rt; puts::put(&mut cache, "c", 5), Ok(Some(3)));
     equal!(rt; cache.pop_front(), Some(("c", 5)));
     equal!(rt; cache.pop_front(), Some(("a", 4)));

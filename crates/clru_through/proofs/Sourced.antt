@@ -1,9 +1,9 @@
 -- Entries whose values are the source's, and a key in the lists that a load leaves.
-use Rattle.std.proofs.Common.{◌≡◌, ℕ, ◌-◌, Bool, true, false, List, [], ◌∷◌, Option, Some, None, IsTrue, refl, ap, ◌∙◌}
+use Rattle.std.proofs.Common.{◌≡◌, ℕ, ◌-◌, Bool, true, false, List, [], ◌∷◌, Option, Some, None, IsTrue, IfSome, IsSomeAnd, slice_get, refl, sym, ap, ◌∙◌}
 use Rattle.std.specs.Option.{option_map_or}
 use Rattle.std.specs.Map.{lookup, lookup_entry}
-use Rattle.clru.specs.Entries.{touch, weighted_put, without}
-use Rattle.clru.proofs.Sublists.{All-sublist, sublist_remove_entry, sublist_trans}
+use Rattle.clru.specs.Entries.{fit, touch, weighted_put, without}
+use Rattle.clru.proofs.Sublists.{All-sublist, IsSublist, sublist_remove_entry, sublist_trans}
 use Rattle.clru.proofs.Fitting.{sublist_fit}
 use Rattle.clru_through.specs.Store.{AllFrom}
 
@@ -42,6 +42,21 @@ module _ {K V : Type 0} (test : K → Bool) where
       | false ↦ λ t. AllFrom-lookup_entry es e all.1 (rw t at h)
     ]) refl
 
+module _ {K V : Type 0} (value : K → Option V) where
+  pub AllFrom-nil : AllFrom value []
+  unfolding AllFrom
+  AllFrom-nil = tt
+
+  AllFrom-sublist : (es fs : List (K × V)) → IsSublist fs es → AllFrom value fs → AllFrom value es
+  unfolding AllFrom
+  AllFrom-sublist es fs less all = All-sublist (λ (d : K × V). value d.0 ≡ Some d.1) less all
+
+  pub AllFrom-without : (eq : K → K → Bool) (x : K) (es : List (K × V)) → AllFrom value es → AllFrom value (without eq x es)
+  AllFrom-without eq x es all = AllFrom-sublist (without eq x es) es (sublist_remove_entry (eq x) es) all
+
+  pub AllFrom-fit : (weight : K → V → ℕ) (c : ℕ) (es : List (K × V)) → AllFrom value es → AllFrom value (fit weight c es)
+  AllFrom-fit weight c es all = AllFrom-sublist (fit weight c es) es (sublist_fit weight c es) all
+
 -- a source that gives the same values as another
 pub sourced_by : {K V : Type 0} (new old : K → Option V) → ((k : K) → new k ≡ old k) → (es : List (K × V)) → AllFrom old es → AllFrom new es
 unfolding AllFrom
@@ -61,6 +76,17 @@ module _ {K V : Type 0} (eq : K → K → Bool) (x : K) where
         → lookup (eq x) es ≡ Some v → value x ≡ Some v
     AllFrom-lookup same es v all h =
         let e = entry_of (eq x) es v h in same e.key e.passes ∙ AllFrom-lookup_entry (eq x) value es (e.key, v) all e.looked_up
+
+    -- and brought to the front it stands first
+    pub IsSomeAnd-touched : ((y : K) → IsTrue (eq x y) → value x ≡ value y) → (es : List (K × V)) (v : V) → AllFrom value es
+        → lookup (eq x) es ≡ Some v → IsSomeAnd (slice_get (touch eq x es) 0) (λ e. value x ≡ Some e.1)
+    IsSomeAnd-touched same es v all h = let e = entry_of (eq x) es v h in rw e.looked_up (AllFrom-lookup same es v all h)
+
+    -- the value that is taken out is the source's
+    pub IfSome-held : ((y : K) → IsTrue (eq x y) → value x ≡ value y) → (es : List (K × V)) → AllFrom value es → (held : Option V)
+        → held ≡ lookup (eq x) es → IfSome held (λ v. value x ≡ Some v)
+    IfSome-held same es all None is = tt
+    IfSome-held same es all (Some v) is = AllFrom-lookup same es v all (sym is)
 
     AllFrom-touched : (es : List (K × V)) (o : Option (K × V)) → AllFrom value es → lookup_entry (eq x) es ≡ o
         → AllFrom value (option_map_or (λ e. e ∷ without eq x es) o es)

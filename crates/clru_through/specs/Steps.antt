@@ -1,5 +1,5 @@
 -- One load of a store, as a step from the old store to the new one. Public clauses cite it.
-use Rattle.std.specs.Prelude.{◌≡◌, ℕ, ◌<◌, ◌≤◌, Bool, ◌⊎◌, Option, Some, None, Result, Ok, Err}
+use Rattle.std.specs.Prelude.{◌≡◌, ℕ, ◌<◌, ◌≤◌, Bool, true, false, ◌⊎◌, Option, Some, None, Result, Ok, Err}
 use Rattle.std.specs.Map.{lookup}
 use Rattle.clru.specs.Cache.{Cache, with_entries}
 use Rattle.clru.specs.Entries.{touch, weighted_put}
@@ -24,7 +24,7 @@ module _ {K V W : Type 0} (eq : K → K → Bool) (weight : K → V → ℕ) (ol
 
   -- what becomes of the fetched value v
   abbrev pub Takes : V → Loaded V → Cache K V W → Type 0
-  Takes v Held new = IsPut v new
+  Takes v (Held fetched) new = (fetched ≡ true) × IsPut v new
   Takes v (Passed given) new = IsPassed v given new
 
   -- what becomes of a fetch's answer
@@ -38,7 +38,7 @@ module _ {K V W R E : Type 0} (eq : K → K → Bool) (weight : K → V → ℕ)
     (old : Store K V W R) (x : K) (result : Result (Loaded V) E) (new : Store K V W R) where
   -- a hit: the entry of x comes first, and the source stays as it is
   pub record Hits : Type 0 where
-    pub answer : result ≡ Ok Held
+    pub answer : result ≡ Ok (Held false)
     pub ends : new ≡ store (with_entries old.cache (touch eq x old.cache.entries)) old.source
 
   -- a miss: one fetch, and its answer goes through the cache

@@ -13,9 +13,12 @@ pub enum Answer<'a, V> {
 /// What became of the value of a key.
 #[derive(Debug, Drop, PartialEq, Eq)]
 pub enum Loaded<V> {
-    /// It is held.
-    Held,
+    /// It is held, and stands first.
+    Held {
+        /// Whether it was fetched now. Else it was held before.
+        fetched: bool,
+    },
 
-    /// It is not held: it was too heavy, or no memory was found.
+    /// It was fetched and is not held: it was too heavy, or no memory was found.
     Passed(V),
 }

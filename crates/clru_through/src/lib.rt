@@ -2,7 +2,7 @@
 //!
 //! Each value that is held is the source's value for its key. A key that is held is found in the cache, and nothing is
 //! fetched; of another one the value is fetched once, and put into the cache. A value that is too heavy for the cache, or for
-//! which no memory was found, is passed on to the caller.
+//! which no memory was found, is passed on to the caller. What is taken out is fetched again when it is asked for.
 //!
 //! The store stands on the contract of the cache: whatever the cache's entries lie in, this crate stays as it is.
 #![tactic(auto)]

@@ -5,10 +5,13 @@ ghost use Rattle.clru.specs.Entries.{weight_of};
 ghost use Rattle.clru_through.specs.Store.{AllFrom, store};
 
 mod load;
+mod parts;
+mod put;
+mod remove;
 
 use crate::source::Source;
-use clru::{CLruCache, WeightScale};
-use std::alloc::Allocator;
+use clru::{CLruCache, DefaultState, WeightScale, ZeroWeightScale};
+use std::alloc::{Allocator, Global};
 use std::hash::{BuildHasher, Hash};
 use std::marker::{Model, PhantomData};
 
@@ -19,9 +22,9 @@ pub struct Through<
     V,
     E,
     R: Source<K, V, E>,
-    S: BuildHasher,
-    W: WeightScale<K, V>,
-    A: Allocator + Copy,
+    S: BuildHasher = DefaultState,
+    W: WeightScale<K, V> = ZeroWeightScale,
+    A: Allocator + Copy = Global,
 > {
     cache: CLruCache<K, V, S, W, A>,
     source: R,
@@ -82,14 +85,16 @@ impl<
 
     /// Returns the total weight of what is held.
     pub fn weight(&self) -> usize
-        ensures { result ≡ weight_of (W.weight self.now.cache.scale) self.now.cache.entries }
+        ensures weight { result ≡ weight_of (W.weight self.now.cache.scale) self.now.cache.entries }
+        ensures valid { IsValid K.eq (W.weight self.now.cache.scale) self.now.cache }
     {
         self.cache.weight()
     }
 
     /// Returns what the number of held values and their total weight never pass together.
     pub fn capacity(&self) -> usize
-        ensures { result ≡ self.now.cache.capacity }
+        ensures capacity { result ≡ self.now.cache.capacity }
+        ensures valid { IsValid K.eq (W.weight self.now.cache.scale) self.now.cache }
     {
         self.cache.capacity()
     }

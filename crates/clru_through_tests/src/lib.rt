@@ -5,13 +5,13 @@
 mod asserts;
 pub mod callers;
 #[cfg(test)]
-mod costs;
-#[cfg(test)]
 mod failures;
 #[cfg(test)]
 mod memory;
 #[cfg(test)]
 mod owned;
+#[cfg(test)]
+mod removals;
 #[cfg(test)]
 mod rows;
 #[cfg(test)]

@@ -115,3 +115,17 @@ fn a_thousand_values_are_held(rt: HostRuntime) -> Result<(), Fail> {
     equal!(rt; fetched.get(), 1000);
     Ok(())
 }
+
+#[test]
+fn a_value_that_is_put_is_not_fetched(rt: HostRuntime) -> Result<(), Fail> {
+    let heap = Rationed::new(rt.alloc());
+    let fetched = Cell::new(0);
+    let mut store = numbers(&heap, 2, &fetched)?;
+    heap.refuse_after(0);
+    equal!(rt; (store.put(3, 6), store.len()), (Err(6), 0));
+    heap.refuse_none();
+    equal!(rt; (store.put(3, 6), store.len()), (Ok(()), 1));
+    equal!(rt; store.get(3), Ok(Answer::Held(&6)));
+    equal!(rt; fetched.get(), 0);
+    Ok(())
+}

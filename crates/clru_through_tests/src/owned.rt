@@ -71,7 +71,7 @@ fn loads(rt: &impl Abort, heap: &Rationed<Global>, capacity: usize) -> Result<(u
             continue;
         };
         match store.load(key) {
-            Ok(Loaded::Held) => {}
+            Ok(Loaded::Held { .. }) => {}
             Ok(Loaded::Passed(page)) => {
                 equal!(rt; page.bytes.as_slice(), [0, 0, 0].as_slice());
                 passed = passed.saturating_add(1);
@@ -110,4 +110,24 @@ fn nothing_is_lost_where_memory_is_refused(rt: HostRuntime) -> Result<(), Fail> 
         }
     }
     Err("each run met a refusal".into())
+}
+
+#[test]
+fn what_is_taken_out_is_given_back(rt: HostRuntime) -> Result<(), Fail> {
+    let heap = Rationed::new(rt.alloc());
+    let cache = CLruCache::with_scale(&heap, room(20)?, ByBytes);
+    let mut store = Through::new(cache, Pages { heap: &heap });
+    for letter in ["a", "b", "c"] {
+        assert!(rt; store.load(String::from_str(&heap, letter)?).is_ok());
+    }
+    let key = String::from_str(&heap, "b")?;
+    let (blocks, asked) = (heap.blocks(), heap.asked());
+    assert!(rt; store.pop(&key).is_some());
+    equal!(rt; (store.len(), blocks.saturating_sub(heap.blocks())), (2, 2));
+    store.resize(room(5)?);
+    equal!(rt; (store.len(), blocks.saturating_sub(heap.blocks())), (1, 4));
+    store.clear();
+    equal!(rt; (store.len(), blocks.saturating_sub(heap.blocks())), (0, 6));
+    equal!(rt; heap.asked(), asked, "taking out asks for no memory");
+    Ok(())
 }

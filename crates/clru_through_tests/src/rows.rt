@@ -119,7 +119,8 @@ fn a_hit_goes_to_the_front(rt: HostRuntime) -> Result<(), Fail> {
 fn loads<S: BuildHasher + Copy>(rt: &impl Abort, alloc: Global, builder: S) -> Result<(), Fail> {
     let fetched = Cell::new(0);
     let mut store = texts(alloc, 4, builder, &fetched, Failing::At(b'b'))?;
-    equal!(rt; store.load(one(b'a')), Ok(Loaded::Held));
+    equal!(rt; store.load(one(b'a')), Ok(Loaded::Held { fetched: true }));
+    equal!(rt; store.load(one(b'a')), Ok(Loaded::Held { fetched: false }));
     equal!(rt; store.load(one(b'b')), Err(7));
     let passed = Text {
         letter: b'c',

@@ -3,7 +3,7 @@ ghost use Rattle.std.specs.Prelude.{◌≡◌, ◌<◌, length, slice_get};
 ghost use Rattle.std.specs.Map.{keys_of};
 ghost use Rattle.clru_list.specs.PlaceList.{IsValid};
 
-use crate::fingers::{pointed, pointing};
+use crate::fingers::pointing;
 use crate::list::FixedSizeList;
 use std::alloc::Allocator;
 
@@ -19,7 +19,7 @@ impl<T, A: Allocator + Copy> FixedSizeList<T, A> {
     {
         let place = self.place_up(number)?;
         let next = self.next_idx(place);
-        self.fingers.up = pointing(number + 1, next);
+        self.fingers.set_up(pointing(number + 1, next));
         Some(place)
     }
 
@@ -31,7 +31,8 @@ impl<T, A: Allocator + Copy> FixedSizeList<T, A> {
     {
         let place = self.place_down(number)?;
         let before = self.prev_idx(place);
-        self.fingers.down = pointing(number.saturating_sub(1), before);
+        self.fingers
+            .set_down(pointing(number.saturating_sub(1), before));
         Some(place)
     }
 
@@ -39,7 +40,7 @@ impl<T, A: Allocator + Copy> FixedSizeList<T, A> {
         ensures place { result ≡ slice_get (keys_of self.now.entries) number }
         ensures valid { IsValid self.now }
     {
-        if let Some(place) = pointed(self.fingers.up, number) {
+        if let Some(place) = self.fingers.up_at(number) {
             return Some(place);
         }
         self.walk_up(number)
@@ -49,7 +50,7 @@ impl<T, A: Allocator + Copy> FixedSizeList<T, A> {
         ensures place { result ≡ slice_get (keys_of self.now.entries) number }
         ensures valid { IsValid self.now }
     {
-        if let Some(place) = pointed(self.fingers.down, number) {
+        if let Some(place) = self.fingers.down_at(number) {
             return Some(place);
         }
         self.walk_down(number)

@@ -5,7 +5,6 @@ ghost use Rattle.std.specs.Borrow.{sem};
 ghost use Rattle.clru_list.specs.PlaceList.{with_entries, item_at, to_front, first_entry, last_entry, IsValid};
 ghost use Rattle.clru_list.specs.Lends.{lends_item, lends_held, lends_moved, lends_first, lends_last};
 
-use crate::chain::NOWHERE;
 use crate::list::FixedSizeList;
 use std::alloc::Allocator;
 
@@ -65,13 +64,15 @@ impl<T, A: Allocator + Copy> FixedSizeList<T, A> {
         self.chain.nodes[place].item_mut()
     }
 
+    // Where it is in front already nothing is written.
     fn bring_front(&mut self, place: usize)
         requires { IsSome (item_at place self.old.entries) }
         ensures { self.new ≡ with_entries self.old (to_front place self.old.entries) }
     {
-        self.chain.unlink(place);
-        let front = self.chain.front;
-        self.chain.link(NOWHERE, place, front);
+        if self.chain.front == place {
+            return;
+        }
+        self.chain.bring_front(place);
         self.fingers.clear();
     }
 }

@@ -1,5 +1,5 @@
 //! The calls that may ask for memory.
-ghost use Rattle.std.specs.Prelude.{◌≡◌, ◌<◌, ◌+◌, ◌∷◌, ◌++◌, [], min, max, length, IfOk, OnOk, IfErr, OnErr};
+ghost use Rattle.std.specs.Prelude.{◌≡◌, ◌<◌, ◌*◌, ◌∷◌, ◌++◌, [], min, max, length, IfOk, OnOk, IfErr, OnErr};
 ghost use Rattle.clru_list.specs.PlaceList.{IsValid, NeedsPlace};
 ghost use Rattle.clru_list.specs.Pushes.{GrowsIfNeeded, Refuses};
 
@@ -9,8 +9,8 @@ use crate::list::FixedSizeList;
 use std::alloc::Allocator;
 
 impl<T, A: Allocator + Copy> FixedSizeList<T, A> {
-    /// Finds memory for one more item, where the length is below the capacity and each place is taken. The places double,
-    /// up to the capacity.
+    /// Finds memory for one more item, where the length is below the capacity and each place is taken. The places grow to
+    /// four times as many, up to the capacity.
     pub fn make_ready(&mut self) -> Result<(), NoMemory>
         ensures entries { self.new.entries ≡ self.old.entries }
         ensures ready { OnOk result (length self.old.entries < self.old.capacity → length self.old.entries < self.new.places) }
@@ -90,15 +90,15 @@ impl<T, A: Allocator + Copy> FixedSizeList<T, A> {
     }
 }
 
-/// Twice the places, at least four, and the capacity at most.
+/// Four times the places, at least four, and the capacity at most.
 fn grown(places: usize, capacity: usize) -> usize
     requires { places < capacity }
-    ensures { result ≡ min capacity (max 4 (places + places)) }
+    ensures { result ≡ min capacity (max 4 (4 * places)) }
 {
-    if places < 2 {
+    if places == 0 {
         capacity.min(4)
-    } else if places < capacity - places {
-        places + places
+    } else if places <= capacity / 4 {
+        places * 4
     } else {
         capacity
     }

@@ -15,19 +15,28 @@ pub(crate) const NOWHERE: usize = usize::MAX;
 impl<K: Eq + Hash, V, S: BuildHasher, A: Allocator + Copy> Nodes<K, V, S, A> {
     /// The head of the keys with the hash.
     pub(crate) fn head_of(&self, hash: u64) -> usize
+        requires { 0 < length self.now.heads.items }
         ensures { result ≡ head_by (length self.now.heads.items) hash }
     {
-        hash as usize & self.heads.len().saturating_sub(1)
+        hash as usize & (self.heads.len() - 1)
     }
 
     /// The first place of the chain of a head.
     pub(crate) fn first(&self, head: usize) -> usize
+        requires { head < length self.now.heads.items }
         ensures { result ≡ head_at self.now.heads.items head }
     {
-        match self.heads.get(head) {
-            Some(first) => *first,
-            None => NOWHERE,
+        self.heads[head]
+    }
+
+    /// The first place of the chain of a hash. There is none before the first growth.
+    pub(crate) fn start(&self, hash: u64) -> usize
+        ensures { result ≡ head_at self.now.heads.items (head_by (length self.now.heads.items) hash) }
+    {
+        if self.heads.is_empty() {
+            return NOWHERE;
         }
+        self.first(self.head_of(hash))
     }
 
     /// Has a place of a chain, or its start, lead to another place.
@@ -48,7 +57,8 @@ impl<K: Eq + Hash, V, S: BuildHasher, A: Allocator + Copy> Nodes<K, V, S, A> {
 
     /// The place in the chain that leads to the given one, or the last place for `NOWHERE`. At the start it is `NOWHERE`.
     pub(crate) fn before(&self, head: usize, place: usize) -> usize
-        requires { IsWalk (steps_at self.now head) (IsLive self.now.list.entries) (IsPlace place) (head_at self.now.heads.items head)
+        requires head { head < length self.now.heads.items }
+        requires walk { IsWalk (steps_at self.now head) (IsLive self.now.list.entries) (IsPlace place) (head_at self.now.heads.items head)
             (length self.now.list.entries) }
         ensures leads { steps_at self.now head result ≡ place }
         ensures cut { (met : ℕ → ℕ) → IsCut (steps_at self.now head) met nowhere → IsCut (steps_at self.now head) met result }

@@ -26,6 +26,23 @@ impl<K: Eq + Hash, V, S: BuildHasher, A: Allocator + Copy> Nodes<K, V, S, A> {
         if !wanted || self.list.len() < self.places {
             return Ok(());
         }
+        self.grow()
+    }
+
+    /// Finds memory for one more pair, where each place is taken. It is called seldom, and stands out of line for that.
+    #[cold]
+    #[inline(never)]
+    fn grow(&mut self) -> Result<(), NoMemory>
+        requires below { length (pairs_in self.old) < capacity_of self.old }
+        requires taken { places_of self.old ≤ length (pairs_in self.old) }
+        requires indexed { let hash = hash_by S.Hasher.finish S.Hasher.write S.build_hasher K.hash_input in IsIndexed hash self.old }
+        ensures ready { OnOk result (length (pairs_in self.new) < places_of self.new) }
+        ensures never_falls { places_of self.old ≤ places_of self.new }
+        ensures bounded { places_of self.new ≤ capacity_of self.old }
+        ensures refused { OnErr result (places_of self.new ≡ places_of self.old) }
+        ensures indexed { let hash = hash_by S.Hasher.finish S.Hasher.write S.build_hasher K.hash_input in IsIndexed hash self.new }
+        ensures keeps { KeepsPairs self.old self.new }
+    {
         self.list.make_ready()?;
         // The list may have places past the capacity, from a time when that was larger.
         let places = self.list.places().min(self.list.capacity());

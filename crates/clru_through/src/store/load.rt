@@ -1,13 +1,14 @@
 //! The calls that look for a key.
-ghost use Rattle.std.specs.Prelude.{◌≡◌, Option, Some, None, slice_get, IfOk, IfErr, IfSome, IsFalse, IsSomeAnd, is_some};
+ghost use Rattle.std.specs.Prelude.{◌≡◌, Option, Some, None, Result, slice_get, IfOk, IfErr, IfSome, IsFalse, IsSomeAnd, is_none, is_some};
 ghost use Rattle.std.specs.Option.{option_copied, option_map};
 ghost use Rattle.std.specs.Map.{lookup};
 ghost use Rattle.std.specs.Map.Iter.{deref_pair};
 ghost use Rattle.clru.specs.Cache.{with_entries};
 ghost use Rattle.clru.specs.Entries.{touch};
-ghost use Rattle.clru_through.specs.Given.{answer_value, loaded_value};
-ghost use Rattle.clru_through.specs.Store.{AllFrom};
+ghost use Rattle.clru_through.specs.Given.{IsAnswerOf, IsHeld, answer_value, loaded_value, was_fetched};
+ghost use Rattle.clru_through.specs.Store.{AllFrom, Store};
 ghost use Rattle.clru_through.specs.Steps.{Loads, Takes};
+ghost use Rattle.clru_through.specs.declared.answer.Loaded.{Loaded};
 
 use crate::answer::{Answer, Loaded};
 use crate::source::Source;
@@ -30,6 +31,8 @@ impl<
     /// What does not fit beside a fetched value is dropped, the least recently used entry first. A value that weighs as much
     /// as the capacity or more, and one for which no memory was found, is passed on, and no entry changes; nor does one where
     /// the fetch fails, whose error comes out. A held key is searched for once, another one twice.
+    ///
+    /// The answer says whether it was fetched. After `Held` the value is that of `front`, and of `peek` of the key.
     #[tactic(auto, using(crate::proofs::Sourced::sourced_by))]
     pub fn load(&mut self, key: K) -> Result<Loaded<V>, E>
     where
@@ -38,11 +41,15 @@ impl<
         ensures step { Loads K.eq (W.weight self.old.cache.scale) R.fetches self.old key result self.new }
         ensures value { IfOk result (λ loaded. IsSomeAnd (loaded_value (K.eq key) self.new.cache.entries loaded)
             (λ v. R.value self.old.source key ≡ Some v)) }
+        ensures fetched { IfOk result (λ loaded.
+            was_fetched loaded ≡ is_none (lookup (K.eq key) self.old.cache.entries)) }
+        ensures front { IfOk result (λ loaded. IsHeld loaded → IsSomeAnd (slice_get self.new.cache.entries 0)
+            (λ e. R.value self.old.source key ≡ Some e.1)) }
         ensures refused { IfErr result (λ _. self.new.cache ≡ self.old.cache) }
         ensures kept { (k : K) → R.value self.new.source k ≡ R.value self.old.source k }
     {
         if move_to_front_if_held(&mut self.cache, &key) {
-            return Ok(Loaded::Held);
+            return Ok(Loaded::Held { fetched: false });
         }
         let value = self.source.fetch(&key)?;
         Ok(taken(&mut self.cache, key, value))
@@ -55,11 +62,14 @@ impl<
     where
         K: Drop,
         V: Drop,
-        ensures { IfOk result (λ answer. R.value self.old.source key ≡ Some (answer_value answer)) }
+        ensures value { IfOk result (λ answer. R.value self.old.source key ≡ Some (answer_value answer)) }
+        ensures step { (after : Store K V W R) × (loaded : Result (Loaded V) E)
+            × Loads K.eq (W.weight self.old.cache.scale) R.fetches self.old key loaded after
+            × IsAnswerOf (lookup (K.eq key) after.cache.entries) loaded result }
     {
         match self.load(key)? {
             Loaded::Passed(value) => Ok(Answer::Passed(value)),
-            Loaded::Held => match self.front() {
+            Loaded::Held { .. } => match self.front() {
                 Some((_, value)) => Ok(Answer::Held(value)),
                 None => unreachable!(),
             },
@@ -101,7 +111,7 @@ where
 }
 
 /// Puts a fetched value, and returns what became of it.
-fn taken<K: Eq + Hash + Drop, V: Drop, S: BuildHasher, W: WeightScale<K, V>, A>(
+pub(crate) fn taken<K: Eq + Hash + Drop, V: Drop, S: BuildHasher, W: WeightScale<K, V>, A>(
     cache: &mut CLruCache<K, V, S, W, A>,
     key: K,
     value: V,
@@ -114,7 +124,7 @@ where
         → AllFrom gives cache.new.entries }
 {
     match cache.put_with_weight(key, value, |_, _| {}) {
-        Ok(_) => Loaded::Held,
+        Ok(_) => Loaded::Held { fetched: true },
         Err(PutError::TooHeavy(_, value)) => Loaded::Passed(value),
         Err(PutError::NoMemory(_, value)) => Loaded::Passed(value),
     }

@@ -6,8 +6,7 @@ pub returns-clause-links : goal.returns-clause-links
 returns-clause-links g c =
     let place = c.args.place in let prev = c.args.prev in let next = c.args.next in
     cc (
-      c.set_prev-2.ensures.links,
-      ap (λ l. set_prev l next place) c.set_next-2.ensures.links,
-      ap (λ l. set_prev (set_next l prev place) next place) c.set_prev.ensures.links,
-      ap (λ l. set_prev (set_next (set_prev l place prev) prev place) next place) c.set_next.ensures.links,
+      c.set_prev.ensures.links,
+      ap (λ l. set_prev l next place) c.set_next.ensures.links,
+      ap (λ l. set_prev (set_next l prev place) next place) c.stand.ensures.links,
     )

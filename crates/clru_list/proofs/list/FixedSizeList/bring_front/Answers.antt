@@ -1,44 +1,39 @@
-use Rattle.std.proofs.Common.{◌<◌, sym, ap, ◌∙◌, subst}
-use Rattle.clru_list.specs.Links.{Links, linked, nowhere, IsEnd}
+use Rattle.std.proofs.Common.{sym, ◌∙◌}
 use Rattle.clru_list.proofs.Soundness.{view-is}
-use Rattle.clru_list.proofs.Steps.{place_below, prev_end, next_end, front_end, sound-front}
-use Rattle.clru_list.proofs.Views.{held_item, seen_to_front, sound-at}
+use Rattle.clru_list.proofs.Steps.{place_below, prev_below, next_end, front_below, sound-moved}
+use Rattle.clru_list.proofs.Views.{held_item, seen_front_stays, seen_to_front, sound-at}
 use Rattle.clru_list.proofs.Pointing.{pointed-none}
 use Rattle.clru_list.proofs.list.FixedSizeList.bring_front.Goals as goal
 
-pub unlink-requires-clause-place : goal.unlink-requires-clause-place
-unlink-requires-clause-place g c =
+pub returns-then-self-place : goal.returns-then-self-place
+returns-then-self-place g c = sym (seen_front_stays _ _ _ _ _ c.self.invariant.0 _ c.self.view_is c.args.place c.if-self-place.true)
+
+pub bring_front-requires-clause-place : goal.bring_front-requires-clause-place
+bring_front-requires-clause-place g c =
     let it = held_item _ _ _ _ _ c.self.invariant.0 _ c.self.view_is c.args.place c.requires in place_below _ _ _ _ _ c.self.invariant.0 c.args.place it.0 it.1
 
-pub unlink-requires-clause-prev : goal.unlink-requires-clause-prev
-unlink-requires-clause-prev g c =
-    let it = held_item _ _ _ _ _ c.self.invariant.0 _ c.self.view_is c.args.place c.requires in prev_end _ _ _ _ _ c.self.invariant.0 c.args.place it.0 it.1
+pub bring_front-requires-clause-prev : goal.bring_front-requires-clause-prev
+bring_front-requires-clause-prev g c =
+    let it = held_item _ _ _ _ _ c.self.invariant.0 _ c.self.view_is c.args.place c.requires in
+    prev_below _ _ _ _ _ c.self.invariant.0 c.args.place it.0 it.1 c.if-self-place.false
 
-pub unlink-requires-clause-next : goal.unlink-requires-clause-next
-unlink-requires-clause-next g c =
+pub bring_front-requires-clause-next : goal.bring_front-requires-clause-next
+bring_front-requires-clause-next g c =
     let it = held_item _ _ _ _ _ c.self.invariant.0 _ c.self.view_is c.args.place c.requires in next_end _ _ _ _ _ c.self.invariant.0 c.args.place it.0 it.1
 
-pub link-requires-clause-place : goal.link-requires-clause-place
-link-requires-clause-place g c =
-    let it = held_item _ _ _ _ _ c.self.invariant.0 _ c.self.view_is c.args.place c.requires in
-    let P : Links g.row.T.Denot → Type 0 = λ l. c.args.place < l.size in
-    subst P (sym c.unlink.ensures.links) (place_below _ _ _ _ _ c.self.invariant.0 c.args.place it.0 it.1)
-
-pub link-requires-clause-next : goal.link-requires-clause-next
-link-requires-clause-next g c =
-    let it = held_item _ _ _ _ _ c.self.invariant.0 _ c.self.view_is c.args.place c.requires in
-    let P : Links g.row.T.Denot → Type 0 = λ l. IsEnd l (l.next nowhere) in
-    subst P (sym c.unlink.ensures.links) (front_end _ _ _ _ _ c.self.invariant.0 c.args.place it.0 it.1)
+pub bring_front-requires-clause-front : goal.bring_front-requires-clause-front
+bring_front-requires-clause-front g c =
+    let it = held_item _ _ _ _ _ c.self.invariant.0 _ c.self.view_is c.args.place c.requires in front_below _ _ _ _ _ c.self.invariant.0 c.args.place it.0 it.1
 
 abbrev pub invariant_of-self : goal.invariant_of-self
 invariant_of-self g c =
     let it = held_item _ _ _ _ _ c.self.invariant.0 _ c.self.view_is c.args.place c.requires in (
       (
         _,
-        sound-at _ _ _ _ _ _ _ _ (c.link.ensures.links ∙ ap (λ l. linked l nowhere c.args.place (l.next nowhere)) c.unlink.ensures.links)
-            (c.link.ensures.room ∙ c.unlink.ensures.room) (sound-front _ _ _ _ _ c.self.invariant.0 c.args.place it.0 it.1),
+        sound-at _ _ _ _ _ _ _ _ c.bring_front.ensures.links c.bring_front.ensures.room
+            (sound-moved _ _ _ _ _ c.self.invariant.0 c.args.place it.0 it.1 c.if-self-place.false),
       ),
-      pointed-none _ _ c.clear.ensures.up c.clear.ensures.down,
+      pointed-none _ _ c.clear.ensures,
     )
 
 pub returns : goal.returns

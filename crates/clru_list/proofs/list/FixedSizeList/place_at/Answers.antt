@@ -9,6 +9,5 @@ invariant_of-self g c =
     let es = c.args.self.now.entries in let e = c.next_idx-next.ensures in
     let P : Option ℕ → Type 0 = λ o. IfSome o (λ q. slice_get (keys_of es) (c.args.number + 1) ≡ Some q) in
     let points = subst P (sym e.place) (after-points es c.args.number c.in_ok-place.place e.valid.apart (sym c.in_ok-place.ensures.place)) in
-    let Q : List (ℕ × g.row.T.Denot) → Type 0 = λ l. IsFinger (keys_of l) c.pointing-self-inside.result in
-    let new = subst Q (sym (ap (λ l. l.entries) c.self.view_is)) (c.pointing-self-inside.ensures (keys_of es) points) in
-    (c.self.invariant.0, record { up = new; down = c.self.invariant.1.down })
+    let Q : List (ℕ × g.row.T.Denot) → Type 0 = λ l. IsFinger (keys_of l) c.pointing.result in
+    (c.self.invariant.0, c.set_up.ensures _ (subst Q (sym (ap (λ l. l.entries) c.self.view_is)) (c.pointing.ensures (keys_of es) points)) c.self.invariant.1)

@@ -10,6 +10,6 @@ invariant_of-self g c =
     let P : Option ℕ → Type 0 = λ o. IfSome o (λ q. slice_get (keys_of es) (c.args.number - 1) ≡ Some q) in
     let below : c.args.number - 1 ≡ c.saturating_sub.result = omega (arith, c.saturating_sub.ensures) in
     let points = subst P (sym e.place) (before-points es c.args.number c.in_ok-place.place e.valid.apart (sym c.in_ok-place.ensures.place)) in
-    let Q : List (ℕ × g.row.T.Denot) → Type 0 = λ l. IsFinger (keys_of l) c.pointing-self-inside.result in
-    let new = subst Q (sym (ap (λ l. l.entries) c.self.view_is)) (c.pointing-self-inside.ensures (keys_of es) (subst (λ n. IfSome c.prev_idx-before.result (λ q. slice_get (keys_of es) n ≡ Some q)) below points)) in
-    (c.self.invariant.0, record { up = c.self.invariant.1.up; down = new })
+    let Q : List (ℕ × g.row.T.Denot) → Type 0 = λ l. IsFinger (keys_of l) c.pointing.result in
+    let new = c.pointing.ensures (keys_of es) (subst (λ n. IfSome c.prev_idx-before.result (λ q. slice_get (keys_of es) n ≡ Some q)) below points) in
+    (c.self.invariant.0, c.set_down.ensures _ (subst Q (sym (ap (λ l. l.entries) c.self.view_is)) new) c.self.invariant.1)

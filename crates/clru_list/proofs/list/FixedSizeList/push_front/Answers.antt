@@ -39,7 +39,7 @@ invariant_of-self g c =
         sound-at _ _ _ _ _ _ _ _ (c.link.ensures.links ∙ (λ i. linked (e.links i) nowhere (e.place i) ((e.links i).next nowhere))) (c.link.ensures.room ∙ e.room)
             (sound-push_front _ _ _ _ _ c.self.invariant.0 c.in_ok-item.item room.0 room.1),
       ),
-      pointed-none _ _ c.clear.ensures.up c.clear.ensures.down,
+      pointed-none _ _ c.clear.ensures,
     )
 
 pub returns-clause-entries : goal.returns-clause-entries

@@ -45,7 +45,7 @@ invariant_of-self-2 g c =
         sound-at _ _ _ _ _ _ _ _ (c.release.ensures.links ∙ ap (λ l. released l p) (c.unlink.ensures.links ∙ ap (λ l. unlinked l p) e.links))
             (c.release.ensures.room ∙ c.unlink.ensures.room ∙ e.room) (sound-remove _ _ _ _ _ c.self.invariant.0 p c.in_ok-item.item (sym e.value)),
       ),
-      pointed-none _ _ c.clear.ensures.up c.clear.ensures.down,
+      pointed-none _ _ c.clear.ensures,
     )
 
 pub returns-clause-value : goal.returns-clause-value

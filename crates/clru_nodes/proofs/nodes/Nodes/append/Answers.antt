@@ -5,8 +5,8 @@ use Rattle.clru_nodes.specs.Nodes.{hash_by}
 use Rattle.clru_nodes.proofs.Indexed.{walk_of_chain, live_at_cut, live_but, chained_append}
 use Rattle.clru_nodes.proofs.nodes.Nodes.append.Goals as goal
 
-pub before-last-requires : goal.before-last-requires
-before-last-requires g c =
+pub before-last-requires-clause-walk : goal.before-last-requires-clause-walk
+before-last-requires-clause-walk g c =
     let x = c.args.self.now in
     let hash = hash_by g.S.Hasher.Hasher.finish g.S.Hasher.Hasher.write g.S.BuildHasher.build_hasher g.K.Hash.hash_input in
     walk_of_chain (home_at hash x) x.list.entries c.requires.chained (live_but x.list.entries c.args.place) c.args.head (IsPlace nowhere)

@@ -20,7 +20,7 @@ loop-item-init g c =
     let alike : (k : g.row.K.Denot) → eq key k ≡ true → home_at hash x k ≡ head_by (length x.heads.items) c.args.hash =
     λ k same. ap (λ n. head_by (length x.heads.items) n) (sym (c.requires.hash ∙ same_hash g.S.Hasher.Hasher.finish g.S.Hasher.Hasher.write
     g.S.BuildHasher.build_hasher g.K.Hash.hash_input x.hash_builder (g.met.K.Hash.respects_eq key k same))) in
-    rw (c.first-next.ensures, c.head_of.ensures) (walk_of_chain (home_at hash x) es c.requires.chained (live_of_key es)
+    rw (c.start-next.ensures) (walk_of_chain (home_at hash x) es c.requires.chained (live_of_key es)
     (head_by (length x.heads.items) c.args.hash) (λ q. (q ≡ nowhere → ⊥) × IsAt eq key q es)
     (λ q at. (
       at.0,

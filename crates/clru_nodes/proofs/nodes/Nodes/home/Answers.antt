@@ -6,6 +6,9 @@ use Rattle.clru_nodes.proofs.Placed.{none_at_start}
 use Rattle.clru_nodes.proofs.PlaceEnds.{some_live}
 use Rattle.clru_nodes.proofs.nodes.Nodes.home.Goals as goal
 
+pub head_of-requires : goal.head_of-requires
+head_of-requires g c = let live = some_live c.args.place c.args.self.now.list.entries c.requires.place in omega (arith, live, c.requires.headed)
+
 pub returns : goal.returns
 returns g c =
     let x = c.args.self.now in let es = x.list.entries in

@@ -10,6 +10,9 @@ use Rattle.clru_nodes.proofs.IndexedMoves.{chained_push}
 use Rattle.clru_nodes.proofs.Placed.{none_at_start, same_pairs}
 use Rattle.clru_nodes.proofs.nodes.Nodes.push_front.Goals as goal
 
+pub head_of-requires : goal.head_of-requires
+head_of-requires g c = omega (arith, c.requires.ready, c.requires.indexed.headed)
+
 pub append-requires-clause-home : goal.append-requires-clause-home
 append-requires-clause-home g c =
     let x = c.args.self.now in let es = c.push_front.new.self.entries in let p = c.in-Ok.place in

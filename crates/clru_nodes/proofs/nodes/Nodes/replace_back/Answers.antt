@@ -28,6 +28,9 @@ unreachable-requires-in_default-move_front g c =
     let there = same_pair c.args.self.now.list.entries c.unchain.new.self.list.entries (sym c.unchain.ensures.pairs) c.in-Some.place h.item h.held in
     let no : None ≡ Some there.0 = ap option_copied_mut (sym c.in_default-move_front.is) ∙ c.move_front.ensures.value ∙ there.1 in cc
 
+pub head_of-requires : goal.head_of-requires
+head_of-requires g c = omega (arith, c.home-old_head.ensures.within, c.unchain.ensures.same.heads)
+
 pub append-requires-clause-home : goal.append-requires-clause-home
 append-requires-clause-home g c =
     let x = c.args.self.now in let u = c.unchain.new.self in let p = c.in-Some.place in

@@ -6,8 +6,8 @@ use Rattle.clru_nodes.proofs.Indexed.{walk_of_chain, live_at_cut, live_of_key, c
 use Rattle.clru_nodes.proofs.Placed.{same_apart}
 use Rattle.clru_nodes.proofs.nodes.Nodes.unchain.Goals as goal
 
-pub before-before-requires : goal.before-before-requires
-before-before-requires g c =
+pub before-before-requires-clause-walk : goal.before-before-requires-clause-walk
+before-before-requires-clause-walk g c =
     let x = c.args.self.now in let es = x.list.entries in let homed = c.requires.home in
     let hash = hash_by g.S.Hasher.Hasher.finish g.S.Hasher.Hasher.write g.S.BuildHasher.build_hasher g.K.Hash.hash_input in
     walk_of_chain (home_at hash x) es c.requires.chained (live_of_key es) c.args.head (IsPlace c.args.place)

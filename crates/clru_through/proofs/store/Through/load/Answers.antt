@@ -2,7 +2,7 @@ use Rattle.std.proofs.Common.{rules, Ok, Err, sym, ◌∙◌, subst}
 use Rattle.std.proofs.lemmas.Result.{err_from_is_err_and}
 use Rattle.std.specs.Map.{lookup}
 use Rattle.clru_through.specs.Steps.{Takes}
-use Rattle.clru_through.proofs.Sourced.{AllFrom-lookup, lookup-touch}
+use Rattle.clru_through.proofs.Sourced.{AllFrom-lookup, IsSomeAnd-touched, lookup-touch}
 use Rattle.clru_through.proofs.Looking.{is_there}
 use Rattle.clru_through.proofs.store.Through.load.Goals as goal
 
@@ -12,6 +12,13 @@ returns-then-move_to_front_if_held-clause-value g c =
     let step = c.move_to_front_if_held.ensures in let held = is_there (lookup (eq c.args.key) es) (sym step.found ∙ c.if-move_to_front_if_held.true) in
     rw (step.touches, lookup-touch eq c.args.key es held.0 held.1, ← c.self.view_is)
     (AllFrom-lookup eq c.args.key (g.R.Source.value source) (g.met.R.Source.same source c.args.key) es held.0 c.self.invariant held.1)
+
+pub returns-then-move_to_front_if_held-clause-front : goal.returns-then-move_to_front_if_held-clause-front
+returns-then-move_to_front_if_held-clause-front g c = λ _.
+    let eq = g.K.PartialEq.eq in let es = c.self.inside.cache.entries in let source = c.self.inside.source in
+    let step = c.move_to_front_if_held.ensures in let held = is_there (lookup (eq c.args.key) es) (sym step.found ∙ c.if-move_to_front_if_held.true) in
+    rw (step.touches, ← c.self.view_is)
+    (IsSomeAnd-touched eq c.args.key (g.R.Source.value source) (g.met.R.Source.same source c.args.key) es held.0 c.self.invariant held.1)
 
 pub returns-in_err-value-clause-step : goal.returns-in_err-value-clause-step
 returns-in_err-value-clause-step g c =

@@ -1,0 +1,127 @@
+-- What a pass has taken, after one more request.
+use Rattle.std.proofs.Common.{◌≡◌, ℕ, suc, ◌+◌, ◌-◌, ◌%◌, ◌<◌, ◌≤◌, Bool, true, false, cond, List, [], ◌∷◌, ◌++◌, length, get_or, set, take, reverse, Some, None, is_some, refl, sym, ap, ◌∙◌, subst, arith, take_all}
+use Rattle.std.specs.Cmp.{IsEquivalence}
+use Rattle.std.specs.Prelude.{sum}
+use Rattle.std.specs.Map.{lookup, set_value}
+use Rattle.std.proofs.lemmas.Map.{lookup-set_value, length-set_value}
+use Rattle.clru_model.specs.Entries.{plain_put}
+use Rattle.clru_model.specs.Requests.{holds, distinct}
+use Rattle.clru_model.proofs.Finding.{missed, plain_put-missed}
+use Rattle.clru_curve.specs.Curves.{HasMissesOf}
+use Rattle.clru_model.specs.Distances.{distance}
+use Rattle.clru_curve.specs.Latest.{up_to, ones_from}
+use Rattle.clru_curve.specs.Passes.{Pass, pass, IsPass}
+use Rattle.clru_curve.proofs.Bits.{ones-zero, ones_upper}
+use Rattle.clru_curve.proofs.Histograms.{IsHistogram-none, IsHistogram-new, IsHistogram-again, distance_inside, distance_few, HasMissesOf-by}
+use Rattle.clru_curve.proofs.Ranks.{IsRanked-new, IsRanked-again}
+
+module _ {K : Type 0} (eq : K → K → Bool) where
+  -- before the first request
+  pub IsPass-none : IsPass eq [] (pass [] [] 0 [])
+  IsPass-none = record {
+    ranked = record {
+      known = λ x. refl;
+      before = λ x p at. elim (absurd_none at) [ ];
+      latest = λ x p at. elim (absurd_none at) [ ];
+      rank = λ x p at. elim (absurd_none at) [ ];
+      falls = λ p. omega (arith, empty p, empty (suc p));
+      none = empty 0;
+      few = omega arith;
+    };
+    counted = IsHistogram-none eq;
+    requests = refl;
+  }
+    where
+      absurd_none : {p : ℕ} → None ≡ Some p → ⊥
+      absurd_none e = cc
+
+      empty : (p : ℕ) → ones_from [] p ≡ 0
+      empty p = omega (arith, ones_upper 0 (p % 64), ones-zero)
+
+  -- the same bits in other words
+  pub IsPass-same : (past : List K) (places : List (K × ℕ)) (ws vs : List ℕ) (n : ℕ) (h : List ℕ) → ((p : ℕ) → ones_from vs p ≡ ones_from ws p)
+      → IsPass eq past (pass places ws n h) → IsPass eq past (pass places vs n h)
+  IsPass-same past places ws vs n h same is = record {
+    ranked = record {
+      known = is.ranked.known;
+      before = is.ranked.before;
+      latest = λ x p at. same p ∙ is.ranked.latest x p at ∙ ap suc (sym (same (suc p)));
+      rank = λ x p at. same (suc p) ∙ is.ranked.rank x p at;
+      falls = λ p. omega (arith, same p, same (suc p), is.ranked.falls p);
+      none = same n ∙ is.ranked.none;
+      few = is.ranked.few;
+    };
+    counted = is.counted;
+    requests = is.requests;
+  }
+
+module _ {K : Type 0} (eq : K → K → Bool) (laws : IsEquivalence eq) (past : List K) (places : List (K × ℕ)) (ws : List ℕ) (n : ℕ) (h : List ℕ)
+    (x : K) (is : IsPass eq past (pass places ws n h)) where
+  -- a key that is not known was not requested
+  not_held : lookup (eq x) places ≡ None → holds eq x past ≡ false
+  not_held absent = sym (is.ranked.known x) ∙ ap is_some absent
+
+  pub distance_none : lookup (eq x) places ≡ None → None ≡ distance eq x past
+  distance_none absent = rw (not_held absent) refl
+
+  pub IsPass-new : (c : ℕ) (vs : List ℕ) → lookup (eq x) places ≡ None → n < c → ((p : ℕ) → ones_from vs p ≡ ones_from ws p + up_to p n)
+      → IsPass eq (x ∷ past) (pass (plain_put eq c x n places) vs (n + 1) (h ++ 0 ∷ []))
+  IsPass-new c vs absent room counts =
+      let put : plain_put eq c x n places ≡ (x, n) ∷ places =
+      plain_put-missed eq x (missed (eq x) (sym (ap is_some absent))) c n ∙ ap (λ l. (x, n) ∷ l) (take_all (c - 1) places (omega (arith, room, is.ranked.few))) in
+      let one : n + 1 ≡ suc n = omega arith in
+      let moved : (y : K) → lookup (eq y) ((x, n) ∷ places) ≡ cond (eq x y) (Some n) (lookup (eq y) places) =
+      λ y. ap (λ b. cond b (Some n) (lookup (eq y) places)) (laws.symm y x) in
+      rw (put, one) (record {
+        ranked = IsRanked-new eq laws past places ((x, n) ∷ places) n (ones_from ws) (ones_from vs) x is.ranked moved (not_held absent) counts
+            (omega (arith, is.ranked.few));
+        counted = IsHistogram-new eq laws past h x is.counted (not_held absent);
+        requests = ap suc is.requests;
+      })
+
+  -- a key with a place was requested there
+  module _ (p : ℕ) (found : lookup (eq x) places ≡ Some p) where
+    was_held : holds eq x past ≡ true
+    was_held = sym (is.ranked.known x) ∙ ap is_some found
+
+    pub distance_some : Some (ones_from ws (suc p)) ≡ distance eq x past
+    distance_some = rw was_held (ap (λ d. Some d) (is.ranked.rank x p found))
+
+    pub distance_below : ones_from ws (suc p) < length h
+    distance_below = omega (arith, distance_inside eq laws past h x is.counted was_held, is.ranked.rank x p found)
+
+    pub number_few : get_or h (ones_from ws (suc p)) 0 ≤ n
+    number_few =
+        let few = distance_few eq laws past h x is.counted was_held in
+        omega (arith, few, is.requests, ap (λ d. get_or h d 0) (is.ranked.rank x p found))
+
+    pub IsPass-again : (vs : List ℕ) → ((q : ℕ) → ones_from vs q + up_to q p ≡ ones_from ws q + up_to q n)
+        → IsPass eq (x ∷ past) (pass (set_value (eq x) places n) vs (n + 1) (set h (ones_from ws (suc p)) (get_or h (ones_from ws (suc p)) 0 + 1)))
+    IsPass-again vs counts =
+        let one : n + 1 ≡ suc n = omega arith in
+        let rank = is.ranked.rank x p found in
+        let moved : (y : K) → lookup (eq y) (set_value (eq x) places n) ≡ cond (eq x y) (Some n) (lookup (eq y) places) =
+        λ y. lookup-set_value laws (eq x) (λ z w t. laws.congr x z w t) y n places (rw found refl) in
+        rw (one, rank) (record {
+          ranked = IsRanked-again eq laws past places (set_value (eq x) places n) n (ones_from ws) (ones_from vs) x is.ranked moved p found counts
+              (omega (arith, length-set_value (eq x) places n, is.ranked.few));
+          counted = IsHistogram-again eq laws past h x is.counted was_held;
+          requests = ap suc is.requests;
+        })
+
+module _ {K : Type 0} (eq : K → K → Bool) (past : List K) (p : Pass K) (old curve result : List ℕ) (is : IsPass eq past p) (from : old ≡ p.histogram) where
+  -- no sum of the numbers passes that of the requests
+  pub sums_within : (k : ℕ) → sum (take k old) ≤ p.requests
+  sums_within k = omega (arith, is.counted.hits k, is.requests, ap (λ h. sum (take k h)) from)
+
+  module _ (to : result ≡ curve) (len : length curve ≡ length old) where
+    pub curve_distinct : length result ≡ distinct eq past
+    curve_distinct = ap (λ l. length l) to ∙ len ∙ ap (λ l. length l) from ∙ is.counted.distinct
+
+    pub curve_misses : IsEquivalence eq → ((i : ℕ) → i < length old → get_or curve i 0 + sum (take (suc i) old) ≡ p.requests)
+        → HasMissesOf eq (reverse past) result
+    curve_misses laws at =
+        subst (λ l. HasMissesOf eq (reverse past) l) (sym to)
+        (HasMissesOf-by eq laws past p.histogram curve is.counted (len ∙ ap (λ l. length l) from)
+        (λ i within. let here = at i (omega (arith, within, ap (λ l. length l) from)) in
+        omega (arith, here, ap (λ h. sum (take (suc i) h)) from, is.requests)))

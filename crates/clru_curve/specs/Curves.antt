@@ -1,0 +1,12 @@
+-- What a curve is seen as: the misses at the capacities 1, 2 and so on. Public clauses cite it.
+use Rattle.std.specs.Prelude.{◌≡◌, ℕ, ◌-◌, ◌<◌, Bool, List, length, slice_index_or}
+use Rattle.clru_model.specs.Requests.{misses}
+
+-- the misses at the capacity k: past the end, where there is room for all keys, as many as there are keys
+abbrev pub misses_at : List ℕ → ℕ → ℕ
+misses_at curve k = slice_index_or curve (k - 1) (length curve)
+
+module _ {K : Type 0} (eq : K → K → Bool) where
+  -- at each capacity the curve has the misses of the requests
+  abbrev pub HasMissesOf : List K → List ℕ → Type 0
+  HasMissesOf requests curve = (k : ℕ) → 0 < k → misses_at curve k ≡ misses eq k requests

@@ -1,0 +1,56 @@
+//! `MissCurve`: what a pass answers.
+ghost use Rattle.std.specs.Prelude.{◌≡◌, length};
+ghost use Rattle.std.specs.Int.NonZero.{non_zero_usize_get};
+ghost use Rattle.clru_curve.specs.Curves.{misses_at};
+
+use std::alloc::{Allocator, Global};
+use std::marker::Model;
+use std::num::NonZeroUsize;
+
+/// The misses of a list of requests at every capacity. A clause sees it as the misses at the capacities 1, 2 and so on, up to
+/// the number of distinct keys.
+#[derive(Drop)]
+pub struct MissCurve<A: Allocator = Global> {
+    misses: Vec<usize, A>,
+}
+
+impl<A: Allocator> Model for MissCurve<A> {
+    ghost use Rattle.std.specs.Prelude.{ℕ, List};
+
+    ghost Value = { List ℕ };
+
+    ghost view = { λ c. c.misses.items };
+}
+
+impl<A: Allocator> MissCurve<A> {
+    /// Returns the number of misses at the capacity, which may be any: where there is room for all keys, there are as many
+    /// misses as keys.
+    pub fn misses(&self, capacity: NonZeroUsize) -> usize
+        ensures { result ≡ misses_at self.now (non_zero_usize_get capacity) }
+    {
+        match self.misses.get(capacity.get() - 1) {
+            Some(misses) => *misses,
+            None => self.distinct(),
+        }
+    }
+
+    /// Returns the number of distinct keys: from that capacity on the misses stay the same.
+    pub fn distinct(&self) -> usize
+        ensures { result ≡ length self.now }
+    {
+        self.misses.len()
+    }
+
+    /// Returns the misses at the capacities 1, 2 and so on, up to the number of distinct keys.
+    pub fn as_slice(&self) -> &[usize]
+        ensures { result.now ≡ self.now }
+    {
+        self.misses.as_slice()
+    }
+
+    pub(crate) fn from_misses(misses: Vec<usize, A>) -> Self
+        ensures { result ≡ misses.items }
+    {
+        MissCurve { misses }
+    }
+}

@@ -1,0 +1,21 @@
+//! The misses of LRU at every capacity, from one pass over a list of requests.
+//!
+//! Each number is proved to be `misses` of the definitions that `replay` is proved by, in which no cache stands.
+//!
+//! A pass notes for each key the number of its latest request, in a cache that drops nothing, and a bit for each request,
+//! which is set where that request is the latest of its key. The distance of a request is the number of bits after the one
+//! of its key; a tree over the words of bits counts them. A request costs a look-up, and steps that go with the logarithm of
+//! the number of requests; memory goes with the distinct keys, besides a quarter of a byte for each request.
+#![tactic(auto)]
+
+mod curve;
+mod latest;
+mod list;
+mod pass;
+
+pub use clru::{DefaultState, NoMemory};
+pub use clru_model::law_distances;
+pub use curve::MissCurve;
+pub use list::miss_curve;
+pub use pass::DistancePass;
+pub use std::num::NonZeroUsize;

@@ -1,0 +1,43 @@
+//! The curve of a whole list of requests.
+ghost use Rattle.std.specs.Prelude.{◌≡◌, [], length, reverse, IfOk, IsOk};
+ghost use Rattle.clru_model.specs.Requests.{distinct};
+ghost use Rattle.clru_curve.specs.Curves.{HasMissesOf};
+
+use crate::curve::MissCurve;
+use crate::pass::DistancePass;
+use clru::NoMemory;
+use std::alloc::Allocator;
+use std::hash::{BuildHasher, Hash};
+
+/// Returns the misses of the requests at every capacity, from one pass over them.
+///
+/// Keys that are not `Copy` are passed as references. The keys stay the caller's, and without keys no memory is asked for. Cost
+/// and memory are those of a `DistancePass`, which also takes requests one by one.
+///
+/// What a capacity would miss:
+///
+/// ```rust
+/// pub fn misses_of(alloc: Global, requests: &[u64], capacity: NonZeroUsize) -> Result<usize, NoMemory>
+///     ensures { IfOk result (λ n. n ≡ misses nat_eq (non_zero_usize_get capacity) requests.now) }
+/// {
+///     let curve = miss_curve(alloc, requests, DefaultState)?;
+///     Ok(curve.misses(capacity))
+/// }
+/// ```
+pub fn miss_curve<K: Eq + Hash + Copy, S: BuildHasher + Drop, A: Allocator + Copy>(
+    alloc: A,
+    keys: &[K],
+    hash_builder: S,
+) -> Result<MissCurve<A>, NoMemory>
+    ensures misses { IfOk result (λ c. HasMissesOf K.eq keys.now c) }
+    ensures distinct { IfOk result (λ c. length c ≡ distinct K.eq (reverse keys.now)) }
+    ensures never_refused { keys.now ≡ [] → IsOk result }
+{
+    let mut pass = DistancePass::with_hasher(alloc, hash_builder);
+    for key in keys {
+        let Ok(_) = pass.request(*key) else {
+            return Err(NoMemory);
+        };
+    }
+    Ok(pass.into_curve())
+}

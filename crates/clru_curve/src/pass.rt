@@ -1,0 +1,165 @@
+//! `DistancePass`, which takes requests one by one.
+ghost use Rattle.std.specs.Prelude.{◌≡◌, ℕ, suc, ◌+◌, ◌<◌, ◌≤◌, List, [], ◌∷◌, length, take, sum, reverse, slice_index, IfOk, IfErr, OnOk, OnErr, IsNone, IsSome};
+ghost use Rattle.std.specs.Map.{lookup, set_value};
+ghost use Rattle.clru_model.specs.Requests.{distinct};
+ghost use Rattle.clru.specs.Cache.{with_entries};
+ghost use Rattle.clru_curve.specs.Curves.{HasMissesOf};
+ghost use Rattle.clru_model.specs.Distances.{distance};
+ghost use Rattle.clru_curve.specs.Passes.{IsPass};
+
+use crate::curve::MissCurve;
+use crate::latest::Latest;
+use clru::{CLruCache, DefaultState, NoMemory, ZeroWeightScale};
+use std::alloc::{Allocator, Global};
+use std::hash::{BuildHasher, Hash};
+use std::marker::Model;
+use std::mem;
+use std::num::NonZeroUsize;
+
+/// A pass over requests, which takes them one by one and answers the distance of each.
+///
+/// Clauses speak of the requests that it has taken by `IsPass`, the latest first: there are none at first, and each request
+/// that is taken comes in front. A curve can be had at any time.
+///
+/// Memory goes with the distinct keys, a place in a cache and a number for each, besides 16 bytes for each 64 requests.
+#[derive(Drop)]
+pub struct DistancePass<K: Eq + Hash, S: BuildHasher = DefaultState, A: Allocator + Copy = Global> {
+    places: CLruCache<K, usize, S, ZeroWeightScale, A>,
+    latest: Latest<A>,
+    histogram: Vec<usize, A>,
+}
+
+impl<K: Eq + Hash, S: BuildHasher, A: Allocator + Copy> Model for DistancePass<K, S, A> {
+    ghost use Rattle.clru_curve.specs.Passes.{Pass, pass, pass_code, IsSound};
+
+    ghost Value = { Pass K };
+
+    ghost coded = { pass_code K.code };
+
+    ghost view = { λ p. pass p.places.entries p.latest.words.items p.latest.requests p.histogram.items };
+
+    ghost invariant = { λ p. IsSound K.eq p.places.capacity p.latest.nodes.items
+        (pass p.places.entries p.latest.words.items p.latest.requests p.histogram.items) };
+}
+
+impl<K: Eq + Hash, A: Allocator + Copy> DistancePass<K, DefaultState, A> {
+    /// Creates a pass that has taken no request. It takes no memory.
+    pub fn new(alloc: A) -> Self
+        ensures { IsPass K.eq [] result }
+    {
+        DistancePass::with_hasher(alloc, DefaultState)
+    }
+}
+
+impl<K: Eq + Hash, S: BuildHasher, A: Allocator + Copy> DistancePass<K, S, A> {
+    /// Creates a pass that has taken no request and hashes keys with `hash_builder`. It takes no memory.
+    pub fn with_hasher(alloc: A, hash_builder: S) -> Self
+        ensures { IsPass K.eq [] result }
+    {
+        DistancePass {
+            places: CLruCache::with_hasher(alloc, NonZeroUsize::MAX, hash_builder),
+            latest: Latest::new(alloc),
+            histogram: Vec::new(alloc),
+        }
+    }
+
+    /// Takes one more request, and answers its distance: how many distinct keys were requested since the latest request of its
+    /// key, or `None` where there was none. It hits at the capacities above the distance, and at no other.
+    ///
+    /// Where memory is refused, or there were `usize::MAX` requests, the key comes back and the pass is as before. A key that
+    /// was requested before wants memory at one of 64 requests at most. The cost is a look-up, and for a new key a put, besides
+    /// steps that go with the logarithm of the number of requests.
+    pub fn request(&mut self, key: K) -> Result<Option<usize>, K>
+    where
+        K: Drop,
+        ensures distance { (past : List K) → IsPass K.eq past self.old → IfOk result (λ d. d ≡ distance K.eq key past) }
+        ensures taken { (past : List K) → IsPass K.eq past self.old → OnOk result (IsPass K.eq (key ∷ past) self.new) }
+        ensures refused { (past : List K) → IsPass K.eq past self.old → OnErr result (IsPass K.eq past self.new) }
+        ensures given_back { IfErr result (λ back. back ≡ key) }
+    {
+        let Ok(()) = self.latest.make_ready() else {
+            return Err(key);
+        };
+        let number = self.latest.requests;
+        match move_place(&mut self.places, &key, number) {
+            Some(place) => {
+                let distance = self.latest.count_after(place);
+                self.latest.push();
+                self.latest.clear(place);
+                self.histogram[distance] += 1;
+                Ok(Some(distance))
+            }
+            None => {
+                let Ok(()) = self.histogram.reserve(1) else {
+                    return Err(key);
+                };
+                if let Err((key, _)) = self.places.put(key, number) {
+                    return Err(key);
+                }
+                self.latest.push();
+                self.histogram.push_reserved(0);
+                Ok(None)
+            }
+        }
+    }
+
+    /// Returns the curve of the requests so far. It takes no memory; the cost goes with the number of distinct keys.
+    pub fn into_curve(self) -> MissCurve<A>
+    where
+        K: Drop,
+        S: Drop,
+        ensures misses { (past : List K) → IsPass K.eq past self → HasMissesOf K.eq (reverse past) result }
+        ensures distinct { (past : List K) → IsPass K.eq past self → length result ≡ distinct K.eq past }
+    {
+        let DistancePass {
+            latest,
+            mut histogram,
+            ..
+        } = self;
+        misses_of(&mut histogram, latest.requests);
+        MissCurve::from_misses(histogram)
+    }
+
+    /// Returns the curve of the requests so far, and lets the pass go on. It takes memory for a number for each distinct key,
+    /// and its cost goes with them.
+    pub fn curve(&self, alloc: A) -> Result<MissCurve<A>, NoMemory>
+        ensures misses { (past : List K) → IsPass K.eq past self.now → IfOk result (λ c. HasMissesOf K.eq (reverse past) c) }
+        ensures distinct { (past : List K) → IsPass K.eq past self.now → IfOk result (λ c. length c ≡ distinct K.eq past) }
+    {
+        let Ok(mut misses) = Vec::from_slice(alloc, self.histogram.as_slice()) else {
+            return Err(NoMemory);
+        };
+        misses_of(&mut misses, self.latest.requests);
+        Ok(MissCurve::from_misses(misses))
+    }
+}
+
+/// Gives a key that is held another number, and returns the one that it had.
+fn move_place<K: Eq + Hash, S: BuildHasher, A: Allocator + Copy>(
+    places: &mut CLruCache<K, usize, S, ZeroWeightScale, A>,
+    key: &K,
+    number: usize,
+) -> Option<usize>
+    ensures found { result ≡ lookup (K.eq key.now) places.old.entries }
+    ensures same { IsNone result → places.new ≡ places.old }
+    ensures moved { IsSome result → places.new ≡ with_entries places.old (set_value (K.eq key.now) places.old.entries number) }
+{
+    match places.peek_mut(key) {
+        Some(place) => Some(mem::replace(place, number)),
+        None => None,
+    }
+}
+
+/// Turns the number of requests at each distance into the misses at each capacity.
+fn misses_of(histogram: &mut [usize], requests: usize)
+    requires within { (k : ℕ) → sum (take k histogram.old) ≤ requests }
+    ensures len { length histogram.new ≡ length histogram.old }
+    ensures misses { (i : ℕ) → i < length histogram.old
+        → slice_index histogram.new i + sum (take (suc i) histogram.old) ≡ requests }
+{
+    let mut misses = requests;
+    for number in histogram.iter_mut() {
+        misses -= *number;
+        *number = misses;
+    }
+}

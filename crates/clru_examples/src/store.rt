@@ -1,0 +1,97 @@
+//! A store of pages, which are fetched by name.
+ghost use Rattle.std.specs.Prelude.{◌≡◌, ℕ, ◌+◌, ◌-◌, ◌^◌, [], ◌∷◌, ◌++◌, List, Some, IfOk, is_some, length, min};
+ghost use Rattle.std.specs.Map.{lookup};
+ghost use Rattle.std.specs.String.{string_bytes, string_eq};
+ghost use Rattle.std.specs.Cmp.Rules.{comparing};
+ghost use Rattle.std.proofs.Common.{rules};
+
+use clru::{CLruCache, NonZeroUsize};
+use clru_through::{Loaded, Source, Through};
+use std::alloc::{AllocError, Global};
+use std::marker::Model;
+
+/// A page. Contracts see its bytes alone, so that two fetches of one name give the same value.
+#[derive(Drop)]
+pub struct Page {
+    bytes: Vec<u8>,
+}
+
+impl Model for Page {
+    ghost Value = { List ℕ };
+
+    ghost view = { λ page. page.bytes.items };
+}
+
+/// Gives a page for each name, and counts the fetches.
+#[derive(Drop)]
+pub struct Shelf {
+    alloc: Global,
+    fetches: u64,
+}
+
+impl Source<String, Page, AllocError> for Shelf {
+    // The page of a name has the name's bytes and a full stop.
+    ghost value = { λ _ name. Some (string_bytes name ++ 46 ∷ []) };
+
+    // Each fetch is counted, whether it succeeds or fails.
+    ghost fetches = { λ old _ _ new. new.fetches ≡ min (old.fetches + 1) (2 ^ 64 - 1) };
+
+    fn fetch(&mut self, name: &String) -> Result<Page, AllocError> {
+        self.fetches = self.fetches.saturating_add(1);
+        let mut bytes = Vec::from_slice(self.alloc, name.as_bytes())?;
+        bytes.push(b'.')?;
+        Ok(Page { bytes })
+    }
+
+    ghost same = { Prim.search (rules, comparing) };
+}
+
+/// The pages that were asked for last.
+pub type Pages = Through<String, Page, AllocError, Shelf>;
+
+/// Makes a store of so many pages. It takes no memory yet.
+pub fn pages_of(alloc: Global, capacity: NonZeroUsize) -> Pages {
+    Through::new(CLruCache::new(alloc, capacity), Shelf { alloc, fetches: 0 })
+}
+
+/// The length of a page, and whether it was held.
+pub fn length_of(pages: &mut Pages, name: String) -> Result<(usize, bool), AllocError>
+    ensures length { IfOk result (λ found. found.0 ≡ length (string_bytes name) + 1) }
+    ensures held { IfOk result (λ found. found.1 ≡ is_some (lookup (string_eq name) pages.old.cache.entries)) }
+{
+    match pages.load(name)? {
+        Loaded::Passed(page) => Ok((page.bytes.len(), false)),
+        Loaded::Held { fetched } => match pages.front() {
+            Some((_, page)) => Ok((page.bytes.len(), !fetched)),
+            None => unreachable!(),
+        },
+    }
+}
+
+#[cfg(test)]
+mod tests {
+    use super::*;
+    use std::test::Fail;
+
+    #[test]
+    fn a_page_is_fetched_once_and_the_last_ones_are_held(rt: HostRuntime) -> Result<(), Fail> {
+        let room = NonZeroUsize::new(2).ok_or("a capacity is no 0")?;
+        let mut pages = pages_of(rt.alloc(), room);
+        let mut hits = 0u64;
+        for name in ["home", "home", "about", "home", "contact"] {
+            let (length, held) = length_of(&mut pages, name.to_string(rt.alloc())?)?;
+            assert_eq!(rt; length, name.len() + 1);
+            if held {
+                hits = hits.saturating_add(1);
+            }
+        }
+        assert_eq!(rt; (hits, pages.source().fetches), (2, 3));
+
+        let mut last = Vec::new(rt.alloc());
+        for (name, _) in pages.cache().iter().take(10) {
+            last.push(name.as_str())?;
+        }
+        assert_eq!(rt; last.as_slice(), ["contact", "home"].as_slice());
+        Ok(())
+    }
+}

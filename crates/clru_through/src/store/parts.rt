@@ -1,0 +1,42 @@
+//! The cache and the source of a store.
+ghost use Rattle.std.specs.Prelude.{◌≡◌};
+ghost use Rattle.clru_through.specs.Store.{AllFrom};
+
+use crate::source::Source;
+use crate::store::Through;
+use clru::{CLruCache, WeightScale};
+use std::alloc::Allocator;
+use std::hash::{BuildHasher, Hash};
+
+impl<
+    K: Eq + Hash,
+    V,
+    E,
+    R: Source<K, V, E>,
+    S: BuildHasher,
+    W: WeightScale<K, V>,
+    A: Allocator + Copy,
+> Through<K, V, E, R, S, W, A> {
+    /// Lends the cache for reading: its walks, `contains`, `is_full` and the like are its own.
+    pub fn cache(&self) -> &CLruCache<K, V, S, W, A>
+        ensures cache { result.now ≡ self.now.cache }
+        ensures from_source { AllFrom (R.value self.now.source) self.now.cache.entries }
+    {
+        &self.cache
+    }
+
+    /// Lends the source for reading, as what it counts.
+    pub fn source(&self) -> &R
+        ensures { result.now ≡ self.now.source }
+    {
+        &self.source
+    }
+
+    /// Takes the store apart.
+    pub fn into_parts(self) -> (CLruCache<K, V, S, W, A>, R)
+        ensures parts { result ≡ (self.cache, self.source) }
+        ensures from_source { AllFrom (R.value self.source) self.cache.entries }
+    {
+        (self.cache, self.source)
+    }
+}

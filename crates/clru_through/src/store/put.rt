@@ -1,0 +1,45 @@
+//! A put of a value that the caller has already.
+ghost use Rattle.std.specs.Prelude.{◌≡◌, Some, IfErr, OnOk};
+ghost use Rattle.clru_through.specs.Steps.{IsPassed, IsPut};
+ghost use Rattle.clru_through.specs.Store.{AllFrom};
+
+use crate::answer::Loaded;
+use crate::source::Source;
+use crate::store::Through;
+use crate::store::load::taken;
+use clru::WeightScale;
+use std::alloc::Allocator;
+use std::hash::{BuildHasher, Hash};
+
+impl<
+    K: Eq + Hash,
+    V,
+    E,
+    R: Source<K, V, E>,
+    S: BuildHasher,
+    W: WeightScale<K, V>,
+    A: Allocator + Copy,
+> Through<K, V, E, R, S, W, A> {
+    /// Puts the value of the key, which the caller has already and shows to be the source's, and makes it the most recently
+    /// used. Nothing is fetched.
+    ///
+    /// What does not fit beside it is dropped, as in a load. A value that is too heavy, and one for which no memory was found,
+    /// comes back, and no entry changes.
+    pub fn put(&mut self, key: K, value: V) -> Result<(), V>
+    where
+        K: Drop,
+        V: Drop,
+        requires sourced { R.value self.old.source key ≡ Some value }
+        ensures held { OnOk result
+            (IsPut K.eq (W.weight self.old.cache.scale) self.old.cache key value self.new.cache) }
+        ensures refused { IfErr result (λ back.
+            IsPassed K.eq (W.weight self.old.cache.scale) self.old.cache key value back self.new.cache) }
+        ensures source { self.new.source ≡ self.old.source }
+        ensures from_source { AllFrom (R.value self.new.source) self.new.cache.entries }
+    {
+        match taken(&mut self.cache, key, value) {
+            Loaded::Held { .. } => Ok(()),
+            Loaded::Passed(value) => Err(value),
+        }
+    }
+}

@@ -1,0 +1,62 @@
+//! The calls after which less is held. Nothing is fetched, and the source is as it was.
+ghost use Rattle.std.specs.Prelude.{◌≡◌, [], Some, IfSome};
+ghost use Rattle.std.specs.Int.NonZero.{non_zero_usize_get};
+ghost use Rattle.std.specs.Map.{lookup};
+ghost use Rattle.clru.specs.Cache.{cache as cache_of, with_entries};
+ghost use Rattle.clru.specs.Entries.{fit, without};
+ghost use Rattle.clru_through.specs.Store.{AllFrom, store};
+
+use crate::source::Source;
+use crate::store::Through;
+use clru::{NonZeroUsize, WeightScale};
+use std::alloc::Allocator;
+use std::hash::{BuildHasher, Hash};
+
+impl<
+    K: Eq + Hash,
+    V,
+    E,
+    R: Source<K, V, E>,
+    S: BuildHasher,
+    W: WeightScale<K, V>,
+    A: Allocator + Copy,
+> Through<K, V, E, R, S, W, A> {
+    /// Takes the value of the key out, and returns it. The next load of the key fetches it again.
+    ///
+    /// Its place stays ready.
+    pub fn pop(&mut self, key: &K) -> Option<V>
+    where
+        K: Drop,
+        ensures held { result ≡ lookup (K.eq key.now) self.old.cache.entries }
+        ensures value { IfSome result (λ v. R.value self.old.source key.now ≡ Some v) }
+        ensures ends { let old = self.old.cache in
+            self.new ≡ store (with_entries old (without K.eq key.now old.entries)) self.old.source }
+        ensures from_source { AllFrom (R.value self.new.source) self.new.cache.entries }
+    {
+        self.cache.pop(key)
+    }
+
+    /// Takes all values out. Their places stay ready.
+    pub fn clear(&mut self)
+    where
+        K: Drop,
+        V: Drop,
+        ensures { self.new ≡ store (with_entries self.old.cache []) self.old.source }
+    {
+        self.cache.clear();
+    }
+
+    /// Sets the capacity, and drops what does not fit it, the least recently used value first and nothing else.
+    ///
+    /// It takes no memory and gives none back.
+    pub fn resize(&mut self, capacity: NonZeroUsize)
+    where
+        K: Drop,
+        V: Drop,
+        ensures ends { let size = non_zero_usize_get capacity in let old = self.old.cache in
+            self.new ≡ store (cache_of (fit (W.weight old.scale) size old.entries) size old.scale old.places) self.old.source }
+        ensures from_source { AllFrom (R.value self.new.source) self.new.cache.entries }
+    {
+        self.cache.resize(capacity);
+    }
+}
