@@ -14,9 +14,8 @@ use std::hash::{BuildHasher, Hash};
 use std::marker::Model;
 use std::num::NonZeroUsize;
 
-/// A list of requests, with the next request of each key: it answers the least number of misses for any room.
-///
-/// A clause sees it as the list of requests.
+/// A list of requests, with the place of the next request of each key. Made once, it answers the least number of misses for
+/// any room. It borrows the requests; a clause sees it as their list.
 #[derive(Drop)]
 pub struct Foresight<'a, K: Eq, A: Allocator + Copy> {
     keys: &'a [K],
@@ -41,8 +40,8 @@ impl<'a, K: Eq, A: Allocator + Copy> Model for Foresight<'a, K, A> {
 impl<'a, K: Eq, A: Allocator + Copy> Foresight<'a, K, A> {
     /// Looks up where the key of each request is requested next.
     ///
-    /// Each key is hashed once with `hash_builder`. Memory is taken for a number for each request, and meanwhile for a table
-    /// of the keys; where it is refused, there is no answer. Without requests no memory is asked for.
+    /// Each request costs a look-up in a table of the keys, which are hashed with `hash_builder`. Memory is taken for a number
+    /// for each request, and meanwhile for the table; it may be refused. Without requests none is asked for.
     pub fn new<S: BuildHasher + Drop>(
         alloc: A,
         keys: &'a [K],
@@ -57,7 +56,14 @@ impl<'a, K: Eq, A: Allocator + Copy> Foresight<'a, K, A> {
         Ok(Foresight { keys, nexts, alloc })
     }
 
-    /// Answers the least number of misses of the requests with room for so many keys.
+    /// Answers the least number of misses that any way to choose what to hold has on the requests, with room for so many keys,
+    /// also one that knows all requests beforehand. It starts with nothing held, and takes in the requested key alone.
+    ///
+    /// One that starts with keys has at most `room` fewer; a replay of that capacity has no fewer.
+    ///
+    /// No key is hashed or compared. The time grows with the requests, and with the logarithm of their number. Memory is taken
+    /// at the start, for a mark and a number for each request, and given back; it may be refused. Without requests none is
+    /// asked for.
     pub fn least(&self, room: NonZeroUsize) -> Result<usize, AllocError>
         ensures least { IfOk result (IsLeast K.eq (non_zero_usize_get room) self.now) }
         ensures any_start { IfOk result (IsNearFromAnyStart K.eq (non_zero_usize_get room) self.now) }
@@ -114,7 +120,11 @@ fn mark<A: Allocator>(kept: &mut Vec<bool, A>, place: usize, value: bool)
     }
 }
 
-/// Answers the least number of misses of the requests with room for so many keys.
+/// Answers the least number of misses that any way to choose what to hold has on the requests, with room for so many keys,
+/// also one that knows all requests beforehand: `Foresight` for one room.
+///
+/// Where memory is refused, the keys come back as they were. Without keys none is asked for. Each key costs a look-up in a
+/// table, with `hash_builder`.
 pub fn least<K: Eq + Hash + Drop, S: BuildHasher + Drop, A: Allocator + Copy>(
     alloc: A,
     room: NonZeroUsize,

@@ -8,7 +8,7 @@ use std::hash::{BuildHasher, Hash};
 
 /// Answers for each request the place of the next one of its key, or the number of requests where there is none.
 ///
-/// Each key is hashed once, the last one first. Without keys no memory is asked for.
+/// Each key is looked up once, from the last to the first. Without keys no memory is asked for.
 pub(crate) fn next_places<K: Eq + Hash, S: BuildHasher + Drop, A: Allocator + Copy>(
     alloc: A,
     keys: &[K],

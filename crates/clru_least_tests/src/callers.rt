@@ -17,7 +17,8 @@ pub fn least_by_place<K: Eq + Hash + Drop, S: BuildHasher + Drop, A: Allocator +
     keys: Vec<K, A>,
     hash_builder: S,
 ) -> Result<usize, Vec<K, A>>
-    ensures none_fewer { IfOk result (λ n. (schedule : List (List K)) → IsScheduleAt K.eq (non_zero_usize_get room) ([] ∷ schedule) keys.items
+    ensures none_fewer { IfOk result (λ n. (schedule : List (List K))
+        → IsScheduleAt K.eq (non_zero_usize_get room) ([] ∷ schedule) keys.items
         → n ≤ schedule_misses K.eq ([] ∷ schedule) keys.items) }
 {
     law_schedules_by_place::<K>();

@@ -10,7 +10,7 @@ use std::test::Fail;
 #[test]
 fn refused_memory_gives_the_keys_back(rt: HostRuntime) -> Result<(), Fail> {
     let heap = Rationed::new(rt.alloc());
-    let mut refusals = 0;
+    let mut refusals = 0u64;
     for n in 0..20u64 {
         let keys = Vec::from_slice(&heap, b"70120304230321201701")?;
         heap.refuse_one_after(n);
@@ -19,13 +19,16 @@ fn refused_memory_gives_the_keys_back(rt: HostRuntime) -> Result<(), Fail> {
         match answer {
             Ok(misses) => equal!(rt; misses, 9),
             Err(left) => {
-                refusals += 1;
+                refusals = refusals.saturating_add(1);
                 equal!(rt; left.as_slice(), b"70120304230321201701".as_slice());
             }
         }
         equal!(rt; heap.blocks(), 0, n);
     }
-    assert!(rt; refusals > 2, "next places, the table, the marks, the queue");
+    assert!(rt;
+        refusals > 2,
+        "next places, the table, the marks, the queue"
+    );
     Ok(())
 }
 

@@ -51,9 +51,8 @@ fn one_look_for_each_room<S: BuildHasher + Copy>(
     law_least::<u8>();
     let keys = *b"70120304230321201701";
     let foresight = Foresight::new(alloc, &keys, builder)?;
-    let mut places = 0;
-    for misses in [20usize, 13, 9, 8, 7, 6, 6] {
-        places += 1;
+    let rows: [(usize, usize); 7] = [(1, 20), (2, 13), (3, 9), (4, 8), (5, 7), (6, 6), (7, 6)];
+    for (places, misses) in rows {
         equal!(rt; foresight.least(room(places)?), Ok(misses), places);
     }
     Ok(())

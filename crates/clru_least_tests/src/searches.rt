@@ -47,7 +47,10 @@ fn searched(keys: &[u8], places: usize) -> usize {
         };
         fewest = after(&fewest, bit, places);
     }
-    fewest.0.iter().fold(UNKNOWN, |least, misses| least.min(*misses))
+    fewest
+        .0
+        .iter()
+        .fold(UNKNOWN, |least, misses| least.min(*misses))
 }
 
 #[test]

@@ -1,0 +1,19 @@
+use Rattle.std.proofs.Common.{[], ◌∷◌, ◌≤◌, ℕ, List}
+use Rattle.std.proofs.lemmas.Result.{IfOk-weaker}
+use Rattle.std.specs.Int.NonZero.{non_zero_usize_get}
+use Rattle.clru_model.specs.ByPlace.{IsScheduleAt}
+use Rattle.clru_model.specs.Least.{IsLeast}
+use Rattle.clru_model.specs.Schedule.{schedule_misses}
+use Rattle.clru_least_tests.proofs.callers.least_by_place.Goals as goal
+
+pub returns : goal.returns
+returns g c =
+    let eq = g.K.PartialEq.eq in
+    let h = non_zero_usize_get c.args.room in
+    record {
+      none_fewer = IfOk-weaker c.least.result (λ n. IsLeast eq h c.args.keys.items n)
+          (λ (n : ℕ). (schedule : List (List g.row.K.Denot)) → IsScheduleAt eq h ([] ∷ schedule) c.args.keys.items
+          → n ≤ schedule_misses eq ([] ∷ schedule) c.args.keys.items)
+          (λ n least schedule serves. least.none_fewer schedule ((c.law_schedules_by_place.ensures.schedules h ([] ∷ schedule) c.args.keys.items).1 serves))
+          c.least.ensures.least;
+    }
