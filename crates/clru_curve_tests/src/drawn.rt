@@ -16,7 +16,7 @@ fn draws(alloc: Global, seed: u64, keys: u64) -> Result<Vec<u64>, Fail> {
     let mut state = seed;
     for _ in 0..700 {
         state = state.wrapping_mul(6364136223846793005).wrapping_add(1);
-        let first = (state >> 33) % keys;
+        let first = (state >> 33) % keys.max(1);
         state = state.wrapping_mul(6364136223846793005).wrapping_add(1);
         drawn.push((state >> 33) % (first + 1))?;
     }
