@@ -5,6 +5,8 @@
 mod asserts;
 pub mod callers;
 #[cfg(test)]
+mod costs;
+#[cfg(test)]
 mod memory;
 #[cfg(test)]
 mod rows;

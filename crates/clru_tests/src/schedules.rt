@@ -4,6 +4,7 @@
 use crate::lists::room;
 use assertions::equal;
 use clru::{DefaultState, replay};
+use clru_least::least;
 use std::alloc::{AllocError, Global};
 use std::convert::AsSlice;
 use std::test::Fail;
@@ -94,6 +95,12 @@ fn replay_misses(alloc: Global, capacity: usize, requests: &[u8]) -> Result<usiz
         Ok(answer) => Ok(answer.misses),
         Err(_) => Err("the keys came back"),
     }
+}
+
+/// The least misses of any way to hold `h` keys.
+fn least_misses(alloc: Global, h: usize, requests: &[u8]) -> Result<usize, &'static str> {
+    let keys = Vec::from_slice(alloc, requests).map_err(|_| "no memory for the keys")?;
+    least(alloc, room(h)?, keys, DefaultState).map_err(|_| "the keys came back")
 }
 
 /// Whether the misses of capacity `k` are at most `k / (k - h + 1)` times those of a schedule of `h` keys.
@@ -244,14 +251,16 @@ fn drawn(
 }
 
 /// The number of pairs of a capacity up to 5 and a number of keys up to it at which the requests keep the bound against
-/// the schedule that drops the furthest next request.
+/// the schedule that drops the furthest next request, and that schedule has the least misses.
 fn pairs_within_the_bound(alloc: Global, requests: &[u8]) -> Result<usize, &'static str> {
     let mut pairs = 0usize;
     for k in 1..6 {
         let misses = replay_misses(alloc, k, requests)?;
         for h in 1..=k {
             let schedule = furthest_next(alloc, h, b"", requests).map_err(|_| "no memory")?;
-            if keeps_the_bound(k, misses, h, schedule_misses(h, b"", &schedule, requests)?) {
+            let fewest = schedule_misses(h, b"", &schedule, requests)?;
+            let is_least = least_misses(alloc, h, requests)? == fewest;
+            if is_least && keeps_the_bound(k, misses, h, fewest) {
                 pairs = pairs.saturating_add(1);
             }
         }
