@@ -1,0 +1,6 @@
+mod CapacityLemmas
+mod KnownLemmas
+mod LeastLemmas
+mod LineLemmas
+mod MarksLemmas
+mod ReportLemmas

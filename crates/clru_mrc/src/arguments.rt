@@ -1,0 +1,159 @@
+//! What the arguments ask for.
+use crate::number::capacity_of;
+use crate::options::{Capacities, Form, Options};
+use std::alloc::{Allocator, Global};
+use std::convert::AsStr;
+use std::num::NonZeroUsize;
+
+/// What the program is to do.
+#[derive(Drop)]
+pub enum Command<A: Allocator = Global> {
+    /// Print how it is used.
+    Help,
+    /// Print its name and version.
+    Version,
+    /// Read the input and write its report.
+    Report(Options<A>),
+}
+
+/// Why the arguments are refused.
+#[derive(Drop)]
+pub enum Refusal<A: Allocator = Global> {
+    /// What is wrong and what would be right, in one line.
+    Wrong(String<A>),
+    /// A request for memory was refused.
+    Memory,
+}
+
+// What was asked for so far.
+#[derive(Drop)]
+struct Draft<A: Allocator> {
+    named: Vec<NonZeroUsize, A>,
+    all: bool,
+    least: bool,
+    svg: bool,
+    summary: bool,
+}
+
+/// Reads the words after the program's name. What follows `--help` or `--version` is not read.
+pub(crate) fn command_of<S: AsStr, A: Allocator + Copy>(
+    alloc: A,
+    words: &[S],
+) -> Result<Command<A>, Refusal<A>> {
+    let mut draft = Draft {
+        named: Vec::new(alloc),
+        all: false,
+        least: false,
+        svg: false,
+        summary: false,
+    };
+    let mut names = false;
+    for word in words {
+        let word = word.as_str();
+        if names {
+            name_capacities(alloc, &mut draft.named, word)?;
+            names = false;
+            continue;
+        }
+        match word {
+            "--help" => return Ok(Command::Help),
+            "--version" => return Ok(Command::Version),
+            "--at" => names = true,
+            "--all" => draft.all = true,
+            "--least" => draft.least = true,
+            "--svg" => draft.svg = true,
+            "--summary" => draft.summary = true,
+            _ => match word.strip_prefix("--at=") {
+                Some(capacities) => name_capacities(alloc, &mut draft.named, capacities)?,
+                None => return Err(unknown(alloc, word)),
+            },
+        }
+    }
+    if names {
+        return Err(wrong(alloc, "--at wants capacities: write --at 100,1000"));
+    }
+    finish(alloc, draft)
+}
+
+// Adds the capacities between commas.
+fn name_capacities<A: Allocator + Copy>(
+    alloc: A,
+    named: &mut Vec<NonZeroUsize, A>,
+    word: &str,
+) -> Result<(), Refusal<A>> {
+    for part in word.split(',') {
+        match capacity_of(part.as_bytes()) {
+            Some(capacity) => {
+                let Ok(()) = named.push(capacity) else {
+                    return Err(Refusal::Memory);
+                };
+            }
+            None => return Err(no_capacity(alloc, part)),
+        }
+    }
+    Ok(())
+}
+
+// Which words do not go together, and what all of them ask for.
+fn finish<A: Allocator + Copy>(alloc: A, draft: Draft<A>) -> Result<Command<A>, Refusal<A>> {
+    let Draft {
+        mut named,
+        all,
+        least,
+        svg,
+        summary,
+    } = draft;
+    let at = !named.is_empty();
+    if all && at {
+        return Err(wrong(alloc, "--all and --at do not go together: leave one out"));
+    }
+    if summary && (all || at || least || svg) {
+        return Err(wrong(alloc, "--summary goes alone: leave the other arguments out"));
+    }
+    named.sort_unstable();
+    named.dedup();
+    let capacities = if all {
+        Capacities::Each
+    } else if at {
+        Capacities::Named(named)
+    } else {
+        Capacities::Usual
+    };
+    let form = if summary {
+        Form::Summary
+    } else if svg {
+        Form::Picture
+    } else {
+        Form::Table
+    };
+    Ok(Command::Report(Options {
+        capacities,
+        least,
+        form,
+    }))
+}
+
+pub(crate) fn wrong<A: Allocator + Copy>(alloc: A, line: &str) -> Refusal<A> {
+    match String::from_str(alloc, line) {
+        Ok(line) => Refusal::Wrong(line),
+        Err(_) => Refusal::Memory,
+    }
+}
+
+// What stands in quotes has its line breaks escaped.
+fn unknown<A: Allocator + Copy>(alloc: A, word: &str) -> Refusal<A> {
+    match format!(in alloc; "{word:?} is no argument: clru_mrc --help names them") {
+        Ok(line) => Refusal::Wrong(line),
+        Err(_) => Refusal::Memory,
+    }
+}
+
+fn no_capacity<A: Allocator + Copy>(alloc: A, part: &str) -> Refusal<A> {
+    let line = format!(in alloc;
+        "{part:?} is no capacity: name numbers from 1 to 18446744073709551615, as in --at 100,1000"
+    );
+    match line {
+        Ok(line) => Refusal::Wrong(line),
+        Err(_) => Refusal::Memory,
+    }
+}

@@ -1,0 +1,50 @@
+//! What can go wrong in a run, and the exit status of each.
+ghost use Rattle.std.specs.Prelude.{◌≡◌, Err, IsOk, Some};
+ghost use Rattle.clru_mrc.specs.Faults.{fault_text};
+
+use std::error::Error;
+use std::fmt;
+
+/// Why a run ends without its whole report.
+#[derive(Clone, Copy, Debug, PartialEq, Eq)]
+pub enum Fault {
+    /// A request for memory was refused.
+    Memory,
+    /// A read answered an error.
+    Reading,
+    /// A write answered an error or took nothing, or the flush failed.
+    Writing,
+    /// The writer is a pipe that nobody reads any more.
+    Closed,
+}
+
+impl fmt::Display for Fault {
+    ghost output = { λ fault. Some (fault_text fault) };
+
+    fn fmt<W: fmt::Write>(&self, f: &mut fmt::Formatter<W>) -> fmt::Result {
+        match self {
+            Fault::Memory => f.write_str("memory ran out"),
+            Fault::Reading => f.write_str("standard input cannot be read"),
+            Fault::Writing => f.write_str("standard output cannot be written"),
+            Fault::Closed => f.write_str("standard output was closed"),
+        }
+    }
+}
+
+impl Error for Fault {}
+
+/// The exit status of a run.
+pub fn exit_status(outcome: &Result<(), Fault>) -> u8
+    ensures success { IsOk outcome.now → result ≡ 0 }
+    ensures memory { outcome.now ≡ Err Fault.Memory → result ≡ 3 }
+    ensures reading { outcome.now ≡ Err Fault.Reading → result ≡ 4 }
+    ensures writing { outcome.now ≡ Err Fault.Writing → result ≡ 5 }
+    ensures closed { outcome.now ≡ Err Fault.Closed → result ≡ 5 }
+{
+    match outcome {
+        Ok(()) => 0,
+        Err(Fault::Memory) => 3,
+        Err(Fault::Reading) => 4,
+        Err(Fault::Writing | Fault::Closed) => 5,
+    }
+}

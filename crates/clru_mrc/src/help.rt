@@ -1,0 +1,25 @@
+//! What `--help` and `--version` print.
+
+pub(crate) const HELP: &str = "\
+clru_mrc tells what an LRU cache of each capacity would miss.
+
+Give it requests on standard input, one a line: the key is the line's bytes.
+It writes a table as CSV: capacity, misses, and misses as a part of all requests.
+
+    awk '{ print $7 }' access.log | clru_mrc
+    awk '{ print $7 }' access.log | clru_mrc --least --svg > curve.svg
+
+    --at N,N,..  these capacities, in keys; else 1, 2, 5, 10, 20, 50 ..
+                 up to the number of distinct keys
+    --all        each capacity at which the misses fall
+    --least      the least possible misses as well: no policy has fewer,
+                 not even one that knows all requests beforehand
+    --svg        a picture in place of the table
+    --summary    how many requests and distinct keys there are, and no table
+    --help, --version
+
+Status: 0 done, 2 wrong arguments, 3 no memory, 4 input not read, 5 output not
+written. A fault is told in one line on standard error.
+";
+
+pub(crate) const VERSION: &str = "clru_mrc 0.1.0\n";

@@ -1,0 +1,87 @@
+//! Tells what an LRU cache of each capacity misses on a list of requests.
+#![tactic(auto)]
+
+mod arguments;
+mod capacities;
+mod fault;
+mod fraction;
+mod help;
+mod input;
+mod lines;
+mod number;
+mod options;
+mod output;
+mod picture;
+mod program;
+mod report;
+mod rows;
+mod table;
+
+use arguments::{Command, Refusal, command_of, wrong};
+use fault::{Fault, exit_status};
+use help::{HELP, VERSION};
+use output::write_text;
+use program::run;
+use std::env;
+use std::io::ErrorKind;
+use std::process::ExitCode;
+
+fn main(rt: HostRuntime) -> ExitCode {
+    match asked(&rt) {
+        Ok(command) => ExitCode::from(done(&rt, &command)),
+        Err(Refusal::Wrong(line)) => {
+            say(&rt, &line);
+            ExitCode::from(2)
+        }
+        Err(Refusal::Memory) => ExitCode::from(told(&rt, &Err(Fault::Memory))),
+    }
+}
+
+// What the arguments ask for.
+fn asked(rt: &HostRuntime) -> Result<Command, Refusal> {
+    match env::args(rt) {
+        Ok(words) => {
+            let mut rest = Vec::new(rt.alloc());
+            for word in words.skip(1) {
+                let Ok(()) = rest.push(word) else {
+                    return Err(Refusal::Memory);
+                };
+            }
+            command_of(rt.alloc(), &rest)
+        }
+        Err(error) if error.kind() == ErrorKind::OutOfMemory => Err(Refusal::Memory),
+        Err(_) => Err(wrong(
+            rt.alloc(),
+            "an argument is no UTF-8 text: clru_mrc --help names them",
+        )),
+    }
+}
+
+// Does it, and gives the exit status.
+fn done(rt: &HostRuntime, command: &Command) -> u8 {
+    let outcome = match command {
+        Command::Help => write_text(&mut rt.stdout(), HELP.as_bytes()),
+        Command::Version => write_text(&mut rt.stdout(), VERSION.as_bytes()),
+        Command::Report(options) => run(rt.alloc(), options, &mut rt.stdin(), &mut rt.stdout()),
+    };
+    told(rt, &outcome)
+}
+
+// Tells of a fault, but for a pipe that was closed, and gives the exit status.
+fn told(rt: &HostRuntime, outcome: &Result<(), Fault>) -> u8 {
+    match outcome {
+        Err(fault) if *fault != Fault::Closed => {
+            let fault = *fault;
+            let _ = eprintln!(rt; "clru_mrc: {fault}");
+        }
+        _ => {}
+    }
+    exit_status(outcome)
+}
+
+fn say(rt: &HostRuntime, line: &str) {
+    let _ = eprintln!(rt; "clru_mrc: {line}");
+}
+
+#[cfg(test)]
+mod tests;

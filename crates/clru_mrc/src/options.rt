@@ -1,0 +1,37 @@
+//! What a report is asked to have.
+
+use std::alloc::{Allocator, Global};
+use std::num::NonZeroUsize;
+
+/// The capacities of a table.
+#[derive(Drop)]
+pub enum Capacities<A: Allocator = Global> {
+    /// 1, 2, 5, 10, 20, 50 and so on up to the number of distinct keys, and that number.
+    Usual,
+    /// 1, and each at which there are fewer misses than at the one before.
+    Each,
+    /// These, in this order.
+    Named(Vec<NonZeroUsize, A>),
+}
+
+/// What is written.
+#[derive(Clone, Copy, Debug, PartialEq, Eq)]
+pub enum Form {
+    /// The table.
+    Table,
+    /// A picture of the curve, with the table in its description.
+    Picture,
+    /// How many requests and distinct keys there are, and the bytes of the input.
+    Summary,
+}
+
+/// What a report is asked to have.
+#[derive(Drop)]
+pub struct Options<A: Allocator = Global> {
+    pub capacities: Capacities<A>,
+
+    /// Whether each line of the table has the least possible misses.
+    pub least: bool,
+
+    pub form: Form,
+}

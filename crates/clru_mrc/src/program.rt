@@ -1,0 +1,41 @@
+//! From the reader to the writer.
+ghost use Rattle.std.specs.Prelude.{◌≡◌, ℕ, List, true, false, take, string_bytes, IfErr, OnOk};
+ghost use Rattle.std.specs.Io.KnownBytes.{Appends, Keeps};
+ghost use Rattle.clru_mrc.specs.Faults.{is_of_writing};
+ghost use Rattle.clru_mrc.specs.Report.{IsReport};
+ghost use Rattle.clru_mrc.specs.Whole.{ReadWhole};
+
+use crate::fault::Fault;
+use crate::input::read_input;
+use crate::options::Options;
+use crate::output::write_text;
+use crate::report::report_on;
+use std::alloc::Allocator;
+use std::io::{Read, Write};
+
+/// Reads the whole input, and then writes its report.
+pub fn run<R: Read, W: Write, A: Allocator + Copy>(
+    alloc: A,
+    options: &Options<A>,
+    reader: &mut R,
+    writer: &mut W,
+) -> Result<(), Fault>
+    // The writer got a report of the whole input.
+    ensures written { OnOk result (ReadWhole (R.remaining reader.old) (R.remaining reader.new)
+        (λ input. (text : List ℕ) × IsReport options.now input text
+        × Appends (W.contents writer.old) (W.contents writer.new) text)) }
+    // The writer got a beginning of a report of the whole input.
+    ensures cut_short { IfErr result (λ fault. is_of_writing fault ≡ true
+        → ReadWhole (R.remaining reader.old) (R.remaining reader.new)
+        (λ input. (text : List ℕ) × IsReport options.now input text
+        × (n : ℕ) × Appends (W.contents writer.old) (W.contents writer.new) (take n text))) }
+    // Any other fault comes before the first write.
+    ensures silent { IfErr result (λ fault. is_of_writing fault ≡ false
+        → Keeps (W.contents writer.old) (W.contents writer.new)) }
+{
+    let input = read_input(alloc, reader)?;
+    let Ok(text) = report_on(alloc, options, &input) else {
+        return Err(Fault::Memory);
+    };
+    write_text(writer, text.as_bytes())
+}
