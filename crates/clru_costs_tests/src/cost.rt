@@ -97,7 +97,7 @@ pub(crate) type Row<'n, C> = (&'n str, C, Looks, Amounts, Amounts, Growth);
 pub(crate) type State = (usize, u64, usize, u64);
 
 /// Full caches, caches with a free place, and caches that have to grow.
-pub(crate) static STATES: [State; 14] = [
+pub(crate) static STATES: [State; 16] = [
     (1, 1, 1, 0),
     (2, 2, 2, 0),
     (3, 3, 3, 0),
@@ -112,6 +112,8 @@ pub(crate) static STATES: [State; 14] = [
     (3, 2, 2, 8),
     (9, 8, 8, 32),
     (9, 5, 5, 32),
+    (100, 100, 100, 0),
+    (100, 99, 100, 0),
 ];
 
 /// The same with many entries.

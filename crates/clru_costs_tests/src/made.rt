@@ -48,9 +48,9 @@ static MAKERS: &[Row] = &[
         "CLruCache::with_memory",
         WithMemory,
         1 << 40,
-        100_000,
-        100_000,
-        262_144,
+        200_000,
+        200_000,
+        524_288,
     ),
     (
         "CLruCache::with_memory",
@@ -186,7 +186,7 @@ fn makers_cost_what_their_rows_say(rt: HostRuntime) -> Result<(), Fail> {
     Ok(())
 }
 
-/// How many pairs are collected, and their comparisons, hashes, requests, and the bytes of the last places and heads.
+/// How many pairs are collected, and their comparisons, hashes and growths.
 static COLLECTED: &[(&str, u64, u64, u64, u64)] = &[
     ("CLruCache::from_iter", 0, 0, 0, 0),
     ("CLruCache::from_iter", 1, 0, 1, 1),

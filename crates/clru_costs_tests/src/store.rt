@@ -94,13 +94,14 @@ pub(crate) enum StoreCall {
     Lent,
     IntoParts,
 
-    /// A load whose fetch fails, where there is one.
+    /// A load whose fetch fails, where there is one, and a get.
     LoadInVain,
+    GetInVain,
 }
 
 use StoreCall::{
-    Cache, Capacity, Clear, Front, Get, IntoParts, Len, Lent, Load, LoadInVain, Peek, Pop, Put,
-    Resize, Weight,
+    Cache, Capacity, Clear, Front, Get, GetInVain, IntoParts, Len, Lent, Load, LoadInVain, Peek,
+    Pop, Put, Resize, Weight,
 };
 
 pub(crate) static STORE: &[Row<'static, StoreCall>] = &[
@@ -112,6 +113,7 @@ pub(crate) static STORE: &[Row<'static, StoreCall>] = &[
     ("Through::load", Load, AgainIfNew, LOAD, LOADED, Grows),
     ("Through::load", LoadInVain, Once, ONE, NONE, Stays),
     ("Through::get", Get, AgainIfNew, LOAD, LOADED, Grows),
+    ("Through::get", GetInVain, Once, ONE, NONE, Stays),
     ("Through::put", Put, Once, PUT, WEIGHED, Grows),
     ("Through::pop", Pop, Once, ONE, IF_HELD, Stays),
     ("Through::clear", Clear, Never, NONE, NONE, Stays),
@@ -150,6 +152,10 @@ impl<'a, S: BuildHasher + Counting<'a>> Makes<'a, Store<'a, S>> for StoreCall {
             LoadInVain => {
                 counts.failing.set(true);
                 drop(store.load(key));
+            }
+            GetInVain => {
+                counts.failing.set(true);
+                drop(store.get(key));
             }
         }
         Ok(Some(store))

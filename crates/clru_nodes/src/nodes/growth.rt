@@ -1,5 +1,6 @@
 //! Memory for more pairs: places in the list, and heads that go with them.
-ghost use Rattle.std.specs.Prelude.{◌≡◌, ℕ, ◌+◌, ◌<◌, ◌≤◌, ◌^◌, Some, length, replicate, IfOk, IfSome, IfNone, IsOk, OnOk, OnErr, IsTrue};
+ghost use Rattle.std.specs.Prelude.{◌≡◌, ℕ, ◌+◌, ◌<◌, ◌≤◌, ◌*◌, ◌^◌, Some, length, replicate, IfOk, IfSome, IfNone, IsOk, OnOk, OnErr, IsTrue};
+ghost use Rattle.std.specs.Int.{IsNextPowerOfTwo};
 ghost use Rattle.clru_nodes.specs.Chained.{nowhere};
 ghost use Rattle.clru_nodes.specs.Growth.{GrowsIf, IsRefused};
 ghost use Rattle.clru_nodes.specs.Heads.{head_at, key_at, placed_of, IsChainedAs, KeepsPlaces};
@@ -98,6 +99,7 @@ impl<K: Eq + Hash, V, S: BuildHasher, A: Allocator + Copy> Nodes<K, V, S, A> {
 /// The number of heads for so many places: the least power of two that is at least twice as many. There is none where it
 /// passes what can be counted.
 pub(crate) fn heads_for(places: usize) -> Option<usize>
+    ensures least { 0 < places → IfSome result (IsNextPowerOfTwo (places * 2)) }
     ensures twice { IfSome result (λ n. places + places ≤ n) }
     ensures none { places ≡ 0 → result ≡ Some 0 }
     ensures countable { IfNone result (2 ^ 62 < places) }
