@@ -1,11 +1,11 @@
-//! What another way to choose what to hold could gain.
+//! What another way to choose what to drop could gain.
 
 use crate::replays::misses_at;
 use clru::{DefaultState, NonZeroUsize};
 use clru_least::Foresight;
 use std::alloc::{AllocError, Global};
 
-/// The misses of a cache on the requests, and the least that any way to choose what to hold has with as much room.
+/// The misses of a cache on the requests, and the least that any way to choose what to drop has with as much room.
 pub fn misses_and_least(
     alloc: Global,
     capacity: NonZeroUsize,

@@ -56,8 +56,8 @@ impl<'a, K: Eq, A: Allocator + Copy> Foresight<'a, K, A> {
         Ok(Foresight { keys, nexts, alloc })
     }
 
-    /// Answers the least number of misses that any way to choose what to hold has on the requests, with room for so many keys,
-    /// also one that knows all requests beforehand. It starts with nothing held, and takes in the requested key alone.
+    /// Answers the least number of misses that any way to choose what to drop has on the requests, with room for so many keys,
+    /// also one that knows all requests beforehand. It starts with nothing held, and takes in each requested key, and no other.
     ///
     /// One that starts with keys has at most `room` fewer; a replay of that capacity has no fewer.
     ///
@@ -120,7 +120,7 @@ fn mark<A: Allocator>(kept: &mut Vec<bool, A>, place: usize, value: bool)
     }
 }
 
-/// Answers the least number of misses that any way to choose what to hold has on the requests, with room for so many keys,
+/// Answers the least number of misses that any way to choose what to drop has on the requests, with room for so many keys,
 /// also one that knows all requests beforehand: `Foresight` for one room.
 ///
 /// Where memory is refused, the keys come back as they were. Without keys none is asked for. Each key costs a look-up in a

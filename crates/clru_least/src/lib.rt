@@ -1,6 +1,6 @@
 //! The least possible misses of a list of requests.
 //!
-//! Room for some number of keys, and a list of requests that is known beforehand: no way of choosing what to hold misses
+//! Room for some number of keys, and a list of requests that is known beforehand: no way of choosing what to drop misses
 //! fewer of them than the number that this crate answers, and one misses as many. Beside the misses of a replay it says how
 //! much another policy could gain at the very most.
 //!

@@ -12,8 +12,8 @@ It writes a table as CSV: capacity, misses, and misses as a part of all requests
     --at N,N,..  these capacities, in keys; else 1, 2, 5, 10, 20, 50 ..
                  up to the number of distinct keys
     --all        each capacity at which the misses fall
-    --least      the least possible misses as well: no policy has fewer,
-                 not even one that knows all requests beforehand
+    --least      the least possible misses as well: no way to choose what to
+                 drop has fewer, also one that knows all requests beforehand
     --svg        a picture in place of the table
     --summary    how many requests and distinct keys there are, and no table
     --help, --version
