@@ -1,5 +1,5 @@
 //! Keys, values, hash builders and a scale whose use is counted. Each key and each value owns a block of memory.
-ghost use Rattle.std.specs.Prelude.{ℕ, nat_eq};
+ghost use Rattle.std.specs.Prelude.{◌≡◌, ℕ, IfOk, nat_eq};
 ghost use Rattle.std.specs.Hash as fed;
 ghost use Rattle.std.specs.Hash.FoldHasher.{initial};
 ghost use Rattle.std.specs.Ordering.{on};
@@ -51,12 +51,13 @@ impl Counts {
     }
 
     /// A value of this weight.
-    pub(crate) fn value(&self, weight: usize) -> Result<Value<'_>, &'static str> {
-        let block = Box::new(&self.owned, 0);
-        Ok(Value {
-            weight,
-            _block: block.map_err(|_| "no memory for a value")?,
-        })
+    pub(crate) fn value(&self, weight: usize) -> Result<Value<'_>, &'static str>
+        ensures { IfOk result (λ value. value ≡ weight) }
+    {
+        match Box::new(&self.owned, 0) {
+            Ok(_block) => Ok(Value { weight, _block }),
+            Err(_) => Err("no memory for a value"),
+        }
     }
 }
 

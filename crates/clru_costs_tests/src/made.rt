@@ -175,7 +175,9 @@ fn makers_cost_what_their_rows_say(rt: HostRuntime) -> Result<(), Fail> {
         let before = counted(&counts);
         let made = makes(&counts, *maker, *capacity, *reserve)?;
         let requests = if *places == 0 { 0 } else { REQUESTS };
-        let bytes = places * OWNED_PLACE_BYTES + heads * HEAD_BYTES;
+        let bytes = places
+            .wrapping_mul(OWNED_PLACE_BYTES)
+            .wrapping_add(heads.wrapping_mul(HEAD_BYTES));
         equal!(rt;
             (made, less(counted(&counts), before)),
             (true, (0, 0, 0, requests, bytes)),

@@ -47,12 +47,12 @@ fn reads_and_retains_are_quick_however_many_entries_there_are(rt: HostRuntime) -
     for key in 0..number {
         cache.put(key, 1u64)?;
     }
-    let mut seen = 0;
+    let mut seen = 0u64;
     for _ in 0..number {
         let empty = cache.is_empty() || !cache.is_full() || cache.len() != number;
         let ends = cache.front().is_none() || cache.back().is_none();
         if empty || ends || cache.weight() > 0 || cache.capacity() != number {
-            seen += 1;
+            seen = seen.wrapping_add(1);
         }
     }
     equal!(rt; seen, 0);

@@ -32,7 +32,10 @@ impl<'a> Source<Key<'a>, Value<'a>, u8> for Origin<'a> {
         if self.counts.failing.get() {
             return Err(7);
         }
-        self.counts.value(0).map_err(|_| 8)
+        match self.counts.value(0) {
+            Ok(value) => Ok(value),
+            Err(_) => Err(8),
+        }
     }
 
     ghost same = { Prim.search (rules, comparing) };

@@ -73,8 +73,12 @@ impl<'a, S: BuildHasher + Counting<'a>, W: WeightScale<Key<'a>, Value<'a>> + Cou
         match self {
             Walk::Made => {}
             Walk::MadeOfReference => drop((&cache).into_iter()),
-            Walk::Next => while iter.next().is_some() {},
-            Walk::NextBack => while iter.next_back().is_some() {},
+            Walk::Next => for _ in 0..=cache.len() {
+                drop(iter.next());
+            },
+            Walk::NextBack => for _ in 0..=cache.len() {
+                drop(iter.next_back());
+            },
             Walk::Len => drop(iter.len()),
             Walk::SizeHint => drop(iter.size_hint()),
             Walk::Clone => drop(iter.clone()?),
@@ -146,11 +150,16 @@ impl<'a, S: BuildHasher + Counting<'a>, W: WeightScale<Key<'a>, Value<'a>> + Cou
         cache: Counted<'a, S, W>,
         _number: u64,
     ) -> Result<Option<Counted<'a, S, W>>, Fail> {
+        let len = cache.len();
         let mut iter = cache.into_iter();
         match self {
             Owned::Made => {}
-            Owned::Next => while iter.next().is_some() {},
-            Owned::NextBack => while iter.next_back().is_some() {},
+            Owned::Next => for _ in 0..=len {
+                drop(iter.next());
+            },
+            Owned::NextBack => for _ in 0..=len {
+                drop(iter.next_back());
+            },
             Owned::Len => drop(iter.len()),
             Owned::SizeHint => drop(iter.size_hint()),
         }
