@@ -22,7 +22,7 @@ mod tests {
     #[test]
     fn a_greater_capacity_misses_less(rt: HostRuntime) -> Result<(), Fail> {
         let curve = miss_curve(rt.alloc(), &[1, 2, 3, 1, 2, 3], DefaultState)?;
-        assert_eq!(rt; curve.as_slice(), &[6, 6, 3]);
+        assert_eq!(rt; curve.as_slice(), [6, 6, 3].as_slice());
         assert_eq!(rt;
             misses_of(rt.alloc(), &[1, 2, 3, 1, 2, 3], NonZeroUsize::MAX)?,
             3
