@@ -111,12 +111,13 @@ head_at-replicate n h heads same =
 module _ {K V S A H : Type 0} (hash : S → K → ℕ) (x : Nodes K V S A H) where
   -- with no pair all chains are empty
   pub indexed_none : x.list.entries ≡ [] → ((h : ℕ) → head_at x.heads.items h ≡ nowhere) → x.places ≤ x.list.places
-      → x.places ≤ length x.heads.items → IsIndexed hash x
-  indexed_none none free reserved headed = record {
+      → x.places ≤ length x.heads.items → x.list.places ≤ x.heads.bound → IsIndexed hash x
+  indexed_none none free reserved headed named = record {
     chained = chained_none (home_at hash x) (head_at x.heads.items) (link_at x.list.entries) (key_at x.list.entries) free (λ q off. rw none refl);
     held = rw none (omega arith);
     reserved = reserved;
     headed = headed;
+    named = named;
   }
 
 -- the head of a hash is one of the heads, where there are any

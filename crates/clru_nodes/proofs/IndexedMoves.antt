@@ -81,6 +81,7 @@ module _ {K V S A H : Type 0} {hash : S → K → ℕ} {x y : Nodes K V S A H} w
     held = omega (arith, same.places, old.held);
     reserved = omega (arith, same.places, same.placed, old.reserved);
     headed = omega (arith, same.places, same.heads, old.headed);
+    named = omega (arith, same.placed, same.bound, old.named);
   }
 
 module _ {K V S A H : Type 0} {hash : S → K → ℕ} {x : Nodes K V S A H} where
@@ -88,7 +89,7 @@ module _ {K V S A H : Type 0} {hash : S → K → ℕ} {x : Nodes K V S A H} whe
   pub indexed_front : (p : ℕ) (i : Item K V) → IsIndexed hash x → IsApart x.list.entries → item_at p x.list.entries ≡ Some i
       → IsIndexed hash (record x { list = with_entries x.list ((p, i) ∷ without p x.list.entries) })
   indexed_front p i old apart held =
-      indexed_from old (record { capacity = refl; placed = refl; builder = refl; places = refl; heads = refl })
+      indexed_from old (record { capacity = refl; placed = refl; builder = refl; places = refl; heads = refl; bound = refl })
       (chained_stays (home_at hash x) x.list.entries ((p, i) ∷ without p x.list.entries) (items_to_front p i x.list.entries apart held) old.chained)
       (omega (arith, length-without_held p x.list.entries i held))
 
@@ -97,7 +98,7 @@ module _ {K V S A H : Type 0} {hash : S → K → ℕ} {x : Nodes K V S A H} whe
       → IsIndexed hash (record x { list = with_entries x.list (with_at p (record { chain = i.chain; key = i.key; value = v }) x.list.entries) })
   indexed_written p i v old held =
       let es = x.list.entries in let w : Item K V = record { chain = i.chain; key = i.key; value = v } in
-      indexed_from old (record { capacity = refl; placed = refl; builder = refl; places = refl; heads = refl })
+      indexed_from old (record { capacity = refl; placed = refl; builder = refl; places = refl; heads = refl; bound = refl })
       (chained_same (home_at hash x) old.chained _ _ _ (λ h. refl)
       (λ q k off is. elim (cases_eq p q) [
         | inl e ↦ rw (item_at-with_at p q w es i held, eq-eqb p q e, ← e, held) refl

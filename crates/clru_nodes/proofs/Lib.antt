@@ -2,6 +2,7 @@ pub mod ChainWalks
 pub mod Chaining
 pub mod Chains
 pub mod Cuts
+pub mod HeadLists
 pub mod Indexed
 pub mod IndexedMoves
 pub mod Lending

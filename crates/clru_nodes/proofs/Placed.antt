@@ -1,5 +1,5 @@
 -- The entries of a list of nodes: what stands at a place once one is written, taken out or put in.
-use Rattle.std.proofs.Common.{◌≡◌, ℕ, suc, ◌==◌, ◌≤◌, true, false, cond, Option, Some, None, IsSome, List, [], ◌∷◌, map, length, refl, sym, ap, ◌∙◌, subst, arith, inl, inr}
+use Rattle.std.proofs.Common.{◌≡◌, ◌<◌, ℕ, suc, ◌==◌, ◌≤◌, true, false, cond, Option, Some, None, IsSome, List, [], ◌∷◌, map, length, refl, sym, ap, ◌∙◌, subst, arith, inl, inr}
 use Rattle.std.proofs.lemmas.Bool.{cases_eq, eq-eqb, ne_eqb}
 use Rattle.std.specs.Option.{option_map}
 use Rattle.clru_list.specs.PlaceList.{PlaceList, item_at, without, with_at, IsApart, IsValid}
@@ -167,10 +167,13 @@ module _ {K V : Type 0} where
   pub not_live : (q : ℕ) (es : List (ℕ × Item K V)) → item_at q es ≡ None → IsLive es q → ⊥
   not_live q es gone live = let both : Some live.0 ≡ None = sym live.1 ∙ gone in cc
 
+  -- an item stands below the number of places
+  pub live_below : (l : PlaceList (Item K V)) → IsValid l → (p : ℕ) → IsLive l.entries p → p < l.places
+  live_below l valid p live = let there : IsSome (item_at p l.entries) = rw live.1 refl in valid.below p there
+
   -- no item stands at the start
   pub none_at_start : (l : PlaceList (Item K V)) → IsValid l → IsLive l.entries nowhere → ⊥
-  none_at_start l valid live =
-      let there : IsSome (item_at nowhere l.entries) = rw live.1 refl in omega (arith, valid.below nowhere there, valid.countable)
+  none_at_start l valid live = omega (arith, live_below l valid nowhere live, valid.countable)
 
   -- from an item a chain goes on along its link
   pub step_of_item : (heads : ℕ → ℕ) (h q : ℕ) (es : List (ℕ × Item K V)) (i : Item K V) → item_at q es ≡ Some i → (q ≡ nowhere → ⊥)

@@ -1,10 +1,14 @@
 -- What stays of nodes, from step to step.
-use Rattle.std.proofs.Common.{refl, ◌∙◌}
-use Rattle.clru_nodes.specs.Nodes.{IsSame}
+use Rattle.std.proofs.Common.{◌≡◌, refl, ap, ◌∙◌}
+use Rattle.clru_list.specs.PlaceList.{PlaceList}
+use Rattle.clru_nodes.specs.Heads.{KeepsPlaces}
+use Rattle.clru_nodes.specs.Nodes.{pairs_of, IsSame, KeepsPairs}
+use Rattle.clru_nodes.specs.declared.nodes.Item.{Item}
 use Rattle.clru_nodes.specs.declared.nodes.Nodes.{Nodes}
+use Rattle.clru_nodes.proofs.Placed.{same_pairs}
 
 pub same_refl : {K V S A H : Type 0} {x : Nodes K V S A H} → IsSame x x
-same_refl = record { capacity = refl; placed = refl; builder = refl; places = refl; heads = refl }
+same_refl = record { capacity = refl; placed = refl; builder = refl; places = refl; heads = refl; bound = refl }
 
 pub same_trans : {K V S A H : Type 0} {x y z : Nodes K V S A H} → IsSame x y → IsSame y z → IsSame x z
 same_trans a b = record {
@@ -13,4 +17,18 @@ same_trans a b = record {
   builder = b.builder ∙ a.builder;
   places = b.places ∙ a.places;
   heads = b.heads ∙ a.heads;
+  bound = b.bound ∙ a.bound;
 }
+
+module _ {K V S A H : Type 0} where
+  -- pairs that stay at their places stay
+  pub pairs_kept : (x y : Nodes K V S A H) → KeepsPlaces x y → KeepsPairs x y
+  pairs_kept x y k = record { pairs = same_pairs y.list.entries x.list.entries k.pairs; capacity = k.capacity; builder = k.builder }
+
+  -- and so they do where the list alone grows
+  pub pairs_grown : (x : Nodes K V S A H) (l : PlaceList (Item K V)) → l.entries ≡ x.list.entries → l.capacity ≡ x.list.capacity
+      → KeepsPairs x (record x { list = l })
+  pairs_grown x l entries capacity = record { pairs = ap (λ es. pairs_of es) entries; capacity = capacity; builder = refl }
+
+  pub pairs_still : (x y z : Nodes K V S A H) → KeepsPairs x y → KeepsPairs y z → KeepsPairs x z
+  pairs_still x y z a b = record { pairs = b.pairs ∙ a.pairs; capacity = b.capacity ∙ a.capacity; builder = b.builder ∙ a.builder }

@@ -86,7 +86,7 @@ module _ {K V S A H : Type 0} {hash : S → K → ℕ} {x : Nodes K V S A H} whe
       → IsIndexed hash (record x { list = with_entries x.list es })
   indexed_frame old {es} same =
       let before = x.list.entries in
-      indexed_from old (record { capacity = refl; placed = refl; builder = refl; places = refl; heads = refl })
+      indexed_from old (record { capacity = refl; placed = refl; builder = refl; places = refl; heads = refl; bound = refl })
       (chained_same (home_at hash x) old.chained _ _ _ (λ h. refl)
       (λ q k off is. link_at-frame q es ∙ ap (λ l. option_map_or (λ (x : ℕ × K). x.0) (item_at q l) nowhere) same ∙ sym (link_at-frame q before))
       (λ q off. key_at-frame q es ∙ ap (λ l. option_map (λ (x : ℕ × K). x.1) (item_at q l)) same ∙ sym (key_at-frame q before)))

@@ -52,7 +52,7 @@ module _ {K V S A H : Type 0} where
       pairs = pairs;
       keys = keys-frame es ∙ ap (λ l. map (λ (d : ℕ × (ℕ × K)). d.1.1) l) framed ∙ sym (keys-frame x.list.entries);
       indexed = λ whole. indexed_frame whole framed;
-      same = record { capacity = refl; placed = refl; builder = refl; places = refl; heads = refl };
+      same = record { capacity = refl; placed = refl; builder = refl; places = refl; heads = refl; bound = refl };
     }
 
     -- to the first item

@@ -70,12 +70,13 @@ module _ {K V S A H : Type 0} where
   abbrev pub with_value_found : (K → Bool) → V → Nodes K V S A H → Nodes K V S A H
   with_value_found test v x = with_items (with_value test v x.list.entries) x
 
-  -- what holds between the calls: each key is found by its hash, and each pair has memory
+  -- what holds between the calls: each key is found by its hash, each pair has memory, and heads can name each place
   pub record IsIndexed (hash : S → K → ℕ) (x : Nodes K V S A H) : Type 0 where
     pub chained : IsChainedAs hash (key_at x.list.entries) x
     pub held : length x.list.entries ≤ x.places
     pub reserved : x.places ≤ x.list.places
     pub headed : x.places ≤ length x.heads.items
+    pub named : x.list.places ≤ x.heads.bound
 
   -- all but the chains, the pairs and their order is as it was
   pub record IsSame (old new : Nodes K V S A H) : Type 0 where
@@ -84,6 +85,7 @@ module _ {K V S A H : Type 0} where
     pub builder : builder_of new ≡ builder_of old
     pub places : places_of new ≡ places_of old
     pub heads : length new.heads.items ≡ length old.heads.items
+    pub bound : new.heads.bound ≡ old.heads.bound
 
   -- no pair, with memory for so many
   pub record IsEmpty (c p : ℕ) (x : Nodes K V S A H) : Type 0 where

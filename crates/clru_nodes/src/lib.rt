@@ -9,6 +9,7 @@
 //! caller to keep: a key that is put in is not looked for.
 #![tactic(auto)]
 
+mod heads;
 mod nodes;
 
 pub use nodes::{Item, Nodes};

@@ -9,7 +9,8 @@ ghost use Rattle.clru_list.specs.PlaceList.{IsValid};
 ghost use Rattle.clru_nodes.specs.Heads.{key_at, IsAt, IsChainedAs};
 ghost use Rattle.clru_nodes.specs.Nodes.{hash_by, pairs_of, pairs_in, builder_of, IsIndexed, IsEmpty};
 
-use crate::nodes::growth::{empty_heads, heads_for};
+use crate::heads::Heads;
+use crate::nodes::growth::heads_for;
 use clru_list::FixedSizeList;
 use std::alloc::Allocator;
 use std::hash::{BuildHasher, Hash};
@@ -35,8 +36,8 @@ pub struct Item<K, V> {
 #[derive(Drop)]
 pub struct Nodes<K: Eq + Hash, V, S: BuildHasher, A: Allocator + Copy> {
     list: FixedSizeList<Item<K, V>, A>,
-    // As many as a power of two, at least twice the places: a key's head is the low bits of its hash.
-    heads: Vec<usize, A>,
+    // As many as a power of two, at least four times the places: a key's head is the low bits of its hash.
+    heads: Heads<A>,
     hash_builder: S,
     // For how many pairs both the list and the heads have memory: a growth of which one half was refused changes nothing.
     places: usize,
@@ -51,7 +52,7 @@ impl<K: Eq + Hash, V, S: BuildHasher, A: Allocator + Copy> Nodes<K, V, S, A> {
     {
         Nodes {
             list: FixedSizeList::new(alloc, capacity),
-            heads: Vec::new(alloc),
+            heads: Heads::new(alloc),
             hash_builder,
             places: 0,
         }
@@ -77,7 +78,7 @@ impl<K: Eq + Hash, V, S: BuildHasher, A: Allocator + Copy> Nodes<K, V, S, A> {
         let Some(size) = heads_for(places) else {
             return Err(hash_builder);
         };
-        let Ok(heads) = empty_heads(alloc, size) else {
+        let Ok(heads) = Heads::empty(alloc, size, places) else {
             return Err(hash_builder);
         };
         // Last, since a list may be let go only where its items may.

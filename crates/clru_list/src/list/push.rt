@@ -1,5 +1,5 @@
 //! The calls that may ask for memory.
-ghost use Rattle.std.specs.Prelude.{◌≡◌, ◌<◌, ◌*◌, ◌∷◌, ◌++◌, [], min, max, length, IfOk, OnOk, IfErr, OnErr};
+ghost use Rattle.std.specs.Prelude.{◌≡◌, ◌<◌, ◌≤◌, ◌*◌, ◌∷◌, ◌++◌, [], min, max, length, IfOk, OnOk, IfErr, OnErr};
 ghost use Rattle.clru_list.specs.PlaceList.{IsValid, NeedsPlace};
 ghost use Rattle.clru_list.specs.Pushes.{GrowsIfNeeded, Refuses};
 
@@ -16,6 +16,7 @@ impl<T, A: Allocator + Copy> FixedSizeList<T, A> {
         ensures ready { OnOk result (length self.old.entries < self.old.capacity → length self.old.entries < self.new.places) }
         ensures refused { OnErr result (NeedsPlace self.old × (self.new ≡ self.old)) }
         ensures places { GrowsIfNeeded self.old self.new }
+        ensures reach { self.new.places ≤ max 4 (4 * self.old.places) }
         ensures valid { IsValid self.new }
     {
         if self.len == self.capacity {

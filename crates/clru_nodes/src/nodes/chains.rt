@@ -1,16 +1,14 @@
 //! The chains: for each head the places of its keys, linked from one to the next.
-ghost use Rattle.std.specs.Prelude.{◌≡◌, ℕ, ◌<◌, length};
+ghost use Rattle.std.specs.Prelude.{◌≡◌, ◌⊎◌, ℕ, ◌<◌, ◌≤◌, length};
 ghost use Rattle.clru_list.specs.PlaceList.{IsApart};
 ghost use Rattle.clru_nodes.specs.Chained.{nowhere, IsCut, IsLinked, IsWalk};
 ghost use Rattle.clru_nodes.specs.Heads.{head_by, head_at, link_at, key_at, placed_of, steps_at, IsLive, IsPlace, IsChainedAs, IsChainedBut, HasHome};
 ghost use Rattle.clru_nodes.specs.Nodes.{hash_by, IsSame};
 
+use crate::heads::NOWHERE;
 use crate::nodes::Nodes;
 use std::alloc::Allocator;
 use std::hash::{BuildHasher, Hash};
-
-/// No place: the end of each chain, and in calls its start.
-pub(crate) const NOWHERE: usize = usize::MAX;
 
 impl<K: Eq + Hash, V, S: BuildHasher, A: Allocator + Copy> Nodes<K, V, S, A> {
     /// The head of the keys with the hash.
@@ -26,14 +24,14 @@ impl<K: Eq + Hash, V, S: BuildHasher, A: Allocator + Copy> Nodes<K, V, S, A> {
         requires { head < length self.now.heads.items }
         ensures { result ≡ head_at self.now.heads.items head }
     {
-        self.heads[head]
+        self.heads.get(head)
     }
 
     /// The first place of the chain of a hash. There is none before the first growth.
     pub(crate) fn start(&self, hash: u64) -> usize
         ensures { result ≡ head_at self.now.heads.items (head_by (length self.now.heads.items) hash) }
     {
-        if self.heads.is_empty() {
+        if self.heads.len() == 0 {
             return NOWHERE;
         }
         self.first(self.head_of(hash))
@@ -43,13 +41,14 @@ impl<K: Eq + Hash, V, S: BuildHasher, A: Allocator + Copy> Nodes<K, V, S, A> {
     pub(crate) fn link(&mut self, head: usize, at: usize, to: usize)
         requires head { at ≡ nowhere → head < length self.old.heads.items }
         requires place { (at ≡ nowhere → ⊥) → IsLive self.old.list.entries at }
+        requires named { at ≡ nowhere → (to ≡ nowhere) ⊎ (to < self.old.heads.bound) }
         ensures linked { IsLinked (head_at self.old.heads.items) (link_at self.old.list.entries) head at to
             (head_at self.new.heads.items) (link_at self.new.list.entries) }
         ensures pairs { placed_of self.new.list.entries ≡ placed_of self.old.list.entries }
         ensures same { IsSame self.old self.new }
     {
         if at == NOWHERE {
-            self.heads[head] = to;
+            self.heads.set(head, to);
         } else if let Some(item) = self.list.get_mut(at) {
             item.chain = to;
         }
@@ -79,6 +78,7 @@ impl<K: Eq + Hash, V, S: BuildHasher, A: Allocator + Copy> Nodes<K, V, S, A> {
     pub(crate) fn append(&mut self, head: usize, place: usize)
         requires home { let hash = hash_by S.Hasher.finish S.Hasher.write S.build_hasher K.hash_input in HasHome hash head place self.old }
         requires ends { link_at self.old.list.entries place ≡ nowhere }
+        requires named { place < self.old.heads.bound }
         requires chained { let hash = hash_by S.Hasher.finish S.Hasher.write S.build_hasher K.hash_input in IsChainedBut hash place self.old }
         ensures chained { let hash = hash_by S.Hasher.finish S.Hasher.write S.build_hasher K.hash_input in
             IsChainedAs hash (key_at self.new.list.entries) self.new }
@@ -94,6 +94,7 @@ impl<K: Eq + Hash, V, S: BuildHasher, A: Allocator + Copy> Nodes<K, V, S, A> {
         requires home { let hash = hash_by S.Hasher.finish S.Hasher.write S.build_hasher K.hash_input in HasHome hash head place self.old }
         requires chained { let hash = hash_by S.Hasher.finish S.Hasher.write S.build_hasher K.hash_input in
             IsChainedAs hash (key_at self.old.list.entries) self.old }
+        requires named { self.old.list.places ≤ self.old.heads.bound }
         ensures chained { let hash = hash_by S.Hasher.finish S.Hasher.write S.build_hasher K.hash_input in IsChainedBut hash place self.new }
         ensures pairs { placed_of self.new.list.entries ≡ placed_of self.old.list.entries }
         ensures same { IsSame self.old self.new }

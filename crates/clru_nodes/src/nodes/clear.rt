@@ -3,7 +3,6 @@ ghost use Rattle.std.specs.Prelude.{◌≡◌, []};
 ghost use Rattle.clru_nodes.specs.Nodes.{hash_by, pairs_in, IsIndexed, IsSame};
 
 use crate::nodes::Nodes;
-use crate::nodes::chains::NOWHERE;
 use std::alloc::Allocator;
 use std::hash::{BuildHasher, Hash};
 
@@ -19,6 +18,6 @@ impl<K: Eq + Hash, V, S: BuildHasher, A: Allocator + Copy> Nodes<K, V, S, A> {
         ensures same { IsSame self.old self.new }
     {
         self.list.clear();
-        self.heads.fill(NOWHERE);
+        self.heads.clear();
     }
 }

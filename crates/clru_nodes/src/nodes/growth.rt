@@ -3,11 +3,12 @@ ghost use Rattle.std.specs.Prelude.{◌≡◌, ℕ, ◌+◌, ◌<◌, ◌≤◌,
 ghost use Rattle.std.specs.Int.{IsNextPowerOfTwo};
 ghost use Rattle.clru_nodes.specs.Chained.{nowhere};
 ghost use Rattle.clru_nodes.specs.Growth.{GrowsIf, IsRefused};
+ghost use Rattle.clru_nodes.specs.HeadList.{NamesGrown};
 ghost use Rattle.clru_nodes.specs.Heads.{head_at, key_at, placed_of, IsChainedAs, KeepsPlaces};
 ghost use Rattle.clru_nodes.specs.Nodes.{hash_by, pairs_in, capacity_of, places_of, IsIndexed, IsSame, KeepsPairs};
 
+use crate::heads::{Heads, NOWHERE};
 use crate::nodes::Nodes;
-use crate::nodes::chains::NOWHERE;
 use clru_list::NoMemory;
 use std::alloc::Allocator;
 use std::hash::{BuildHasher, Hash};
@@ -44,6 +45,7 @@ impl<K: Eq + Hash, V, S: BuildHasher, A: Allocator + Copy> Nodes<K, V, S, A> {
         ensures indexed { let hash = hash_by S.Hasher.finish S.Hasher.write S.build_hasher K.hash_input in IsIndexed hash self.new }
         ensures keeps { KeepsPairs self.old self.new }
     {
+        self.widen()?;
         self.list.make_ready()?;
         // The list may have places past the capacity, from a time when that was larger.
         let places = self.list.places().min(self.list.capacity());
@@ -56,9 +58,7 @@ impl<K: Eq + Hash, V, S: BuildHasher, A: Allocator + Copy> Nodes<K, V, S, A> {
     fn make_heads(&mut self, places: usize) -> Result<(), NoMemory>
         requires { let hash = hash_by S.Hasher.finish S.Hasher.write S.build_hasher K.hash_input in IsIndexed hash self.old }
         ensures headed { OnOk result (places ≤ length self.new.heads.items) }
-        ensures never_falls { length self.old.heads.items ≤ length self.new.heads.items }
-        ensures chained { let hash = hash_by S.Hasher.finish S.Hasher.write S.build_hasher K.hash_input in
-            IsChainedAs hash (key_at self.new.list.entries) self.new }
+        ensures indexed { let hash = hash_by S.Hasher.finish S.Hasher.write S.build_hasher K.hash_input in IsIndexed hash self.new }
         ensures keeps { KeepsPlaces self.old self.new }
     {
         let Some(size) = heads_for(places) else {
@@ -67,7 +67,37 @@ impl<K: Eq + Hash, V, S: BuildHasher, A: Allocator + Copy> Nodes<K, V, S, A> {
         if size <= self.heads.len() {
             return Ok(());
         }
-        self.heads = empty_heads(*self.heads.allocator(), size)?;
+        let reach = self.list.places();
+        self.replace_heads(size, reach)
+    }
+
+    /// Has the heads name each place that the list may have after its next growth.
+    fn widen(&mut self) -> Result<(), NoMemory>
+        requires { let hash = hash_by S.Hasher.finish S.Hasher.write S.build_hasher K.hash_input in IsIndexed hash self.old }
+        ensures named { OnOk result (NamesGrown self.old.list.places self.new.heads.bound) }
+        ensures indexed { let hash = hash_by S.Hasher.finish S.Hasher.write S.build_hasher K.hash_input in IsIndexed hash self.new }
+        ensures keeps { KeepsPlaces self.old self.new }
+    {
+        let reach = self.list.places().saturating_mul(4).max(4);
+        if reach <= self.heads.bound() {
+            return Ok(());
+        }
+        let size = self.heads.len().max(1);
+        self.replace_heads(size, reach)
+    }
+
+    /// Takes so many heads, which can name so many places, and chains all keys anew.
+    fn replace_heads(&mut self, size: usize, reach: usize) -> Result<(), NoMemory>
+        requires some { 0 < size }
+        requires named { self.old.list.places ≤ reach }
+        requires more { length self.old.heads.items ≤ size }
+        requires indexed { let hash = hash_by S.Hasher.finish S.Hasher.write S.build_hasher K.hash_input in IsIndexed hash self.old }
+        ensures heads { OnOk result (length self.new.heads.items ≡ size) }
+        ensures named { OnOk result (reach ≤ self.new.heads.bound) }
+        ensures indexed { let hash = hash_by S.Hasher.finish S.Hasher.write S.build_hasher K.hash_input in IsIndexed hash self.new }
+        ensures keeps { KeepsPlaces self.old self.new }
+    {
+        self.heads = Heads::empty(*self.heads.allocator(), size, reach)?;
         self.relink();
         Ok(())
     }
@@ -76,6 +106,7 @@ impl<K: Eq + Hash, V, S: BuildHasher, A: Allocator + Copy> Nodes<K, V, S, A> {
     fn relink(&mut self)
         requires free { (h : ℕ) → head_at self.old.heads.items h ≡ nowhere }
         requires some { 0 < length self.old.heads.items }
+        requires named { self.old.list.places ≤ self.old.heads.bound }
         ensures chained { let hash = hash_by S.Hasher.finish S.Hasher.write S.build_hasher K.hash_input in
             IsChainedAs hash (key_at self.new.list.entries) self.new }
         ensures pairs { placed_of self.new.list.entries ≡ placed_of self.old.list.entries }
@@ -96,33 +127,16 @@ impl<K: Eq + Hash, V, S: BuildHasher, A: Allocator + Copy> Nodes<K, V, S, A> {
     }
 }
 
-/// The number of heads for so many places: the least power of two that is at least twice as many. There is none where it
+/// The number of heads for so many places: the least power of two that is at least four times as many. There is none where it
 /// passes what can be counted.
 pub(crate) fn heads_for(places: usize) -> Option<usize>
-    ensures least { 0 < places → IfSome result (IsNextPowerOfTwo (places * 2)) }
-    ensures twice { IfSome result (λ n. places + places ≤ n) }
+    ensures least { 0 < places → IfSome result (IsNextPowerOfTwo (places * 4)) }
+    ensures enough { IfSome result (λ n. places ≤ n) }
     ensures none { places ≡ 0 → result ≡ Some 0 }
-    ensures countable { IfNone result (2 ^ 62 < places) }
+    ensures countable { IfNone result (2 ^ 61 < places) }
 {
     if places == 0 {
         return Some(0);
     }
-    places.checked_mul(2)?.checked_next_power_of_two()
-}
-
-/// So many heads of empty chains.
-pub(crate) fn empty_heads<A: Allocator + Copy>(
-    alloc: A,
-    size: usize,
-) -> Result<Vec<usize, A>, NoMemory>
-    ensures heads { IfOk result (λ v. v.items ≡ replicate size nowhere) }
-    ensures never_refused { size ≡ 0 → IsOk result }
-{
-    if size == 0 {
-        return Ok(Vec::new(alloc));
-    }
-    match Vec::from_elem(alloc, NOWHERE, size) {
-        Ok(heads) => Ok(heads),
-        Err(_) => Err(NoMemory),
-    }
+    places.checked_mul(4)?.checked_next_power_of_two()
 }

@@ -8,7 +8,7 @@ ghost use Rattle.clru_list.specs.PlaceList.{without};
 ghost use Rattle.clru_nodes.specs.Heads.{placed_of, HasHome, IsLive, IsTaken};
 ghost use Rattle.clru_nodes.specs.Nodes.{hash_by, pairs_of, pairs_in, capacity_of, places_of, builder_of, IsIndexed, IsSame};
 
-use crate::nodes::chains::NOWHERE;
+use crate::heads::NOWHERE;
 use crate::nodes::{Item, Nodes};
 use std::alloc::Allocator;
 use std::hash::{BuildHasher, Hash};

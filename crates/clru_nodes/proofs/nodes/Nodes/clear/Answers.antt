@@ -1,5 +1,6 @@
-use Rattle.std.proofs.Common.{ap, arith}
-use Rattle.std.specs.Vec.{vec_len}
+use Rattle.std.proofs.Common.{length, ap, arith}
+use Rattle.std.proofs.lemmas.List.{length-replicate}
+use Rattle.clru_nodes.specs.Chained.{nowhere}
 use Rattle.clru_nodes.specs.Nodes.{hash_by}
 use Rattle.clru_nodes.proofs.Indexed.{indexed_none, head_at-replicate}
 use Rattle.clru_nodes.proofs.nodes.Nodes.clear.Goals as goal
@@ -8,6 +9,7 @@ pub returns-clause-indexed : goal.returns-clause-indexed
 returns-clause-indexed g c =
     let hash = hash_by g.S.Hasher.Hasher.finish g.S.Hasher.Hasher.write g.S.BuildHasher.build_hasher g.K.Hash.hash_input in
     let x = c.args.self.now in let list = c.clear.ensures.entries in let old = c.requires in
-    indexed_none hash _ (ap (λ l. l.entries) list) (λ h. head_at-replicate (vec_len x.heads) h _ (c.fill.ensures.items (λ y is. is)))
+    indexed_none hash _ (ap (λ l. l.entries) list) (λ h. head_at-replicate (length x.heads.items) h _ (ap (λ l. l.items) c.clear-2.ensures))
     (omega (arith, ap (λ l. l.places) list, old.reserved))
-    (omega (arith, c.fill.ensures.len, old.headed))
+    (omega (arith, ap (λ l. length l.items) c.clear-2.ensures, length-replicate (length x.heads.items) nowhere, old.headed))
+    (omega (arith, ap (λ l. l.places) list, ap (λ l. l.bound) c.clear-2.ensures, old.named))

@@ -36,6 +36,6 @@ returns-clause-indexed g c =
     let same = c.unchain.ensures.same in
     subst (λ l. IsIndexed hash (record u { list = l })) (sym c.in-Some.ensures.entries)
     (indexed_from {x = x} {y = record u { list = with_entries u.list (without p u.list.entries) }} c.requires.indexed
-    (record { capacity = same.capacity; placed = same.placed; builder = same.builder; places = same.places; heads = same.heads })
+    (record { capacity = same.capacity; placed = same.placed; builder = same.builder; places = same.places; heads = same.heads; bound = same.bound })
     (chained_drop (home_at hash u) p u.list.entries c.unchain.ensures.apart c.unchain.ensures.chained)
     (omega (arith, length-without p u.list.entries, same_length u.list.entries x.list.entries c.unchain.ensures.pairs)))

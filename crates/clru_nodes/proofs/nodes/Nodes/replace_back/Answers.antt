@@ -7,7 +7,7 @@ use Rattle.clru_nodes.specs.Nodes.{hash_by, pair_of, pairs_of}
 use Rattle.clru_nodes.specs.declared.nodes.Item.{Item}
 use Rattle.clru_nodes.proofs.Indexed.{head_within}
 use Rattle.clru_nodes.proofs.IndexedMoves.{chained_replace, indexed_from}
-use Rattle.clru_nodes.proofs.Placed.{same_pair, same_pairs, same_without, same_length, length-without_held}
+use Rattle.clru_nodes.proofs.Placed.{live_below, same_pair, same_pairs, same_without, same_length, length-without_held}
 use Rattle.clru_nodes.proofs.PlaceEnds.{last_at, held_last, last_pair, none_at_last}
 use Rattle.clru_nodes.proofs.nodes.Nodes.replace_back.Goals as goal
 
@@ -50,6 +50,12 @@ pub append-requires-clause-ends : goal.append-requires-clause-ends
 append-requires-clause-ends g c =
     let p = c.in-Some.place in rw (eq-eqb p p refl) (ap (λ (i : Item g.row.K.Denot g.row.V.Denot). i.chain) c.replace-old.ensures.after)
 
+pub append-requires-clause-named : goal.append-requires-clause-named
+append-requires-clause-named g c =
+    let h = c.home-old_head.ensures in
+    let below = live_below c.args.self.now.list c.back_idx.ensures.valid c.in-Some.place (h.item, h.held) in
+    omega (arith, below, c.unchain.ensures.same.bound, c.requires.indexed.named)
+
 pub append-requires-clause-chained : goal.append-requires-clause-chained
 append-requires-clause-chained g c =
     let hash = hash_by g.S.Hasher.Hasher.finish g.S.Hasher.Hasher.write g.S.BuildHasher.build_hasher g.K.Hash.hash_input in
@@ -89,6 +95,7 @@ returns-clause-indexed g c =
       builder = b.builder ∙ a.builder;
       places = b.places ∙ a.places;
       heads = b.heads ∙ a.heads;
+      bound = b.bound ∙ a.bound;
     })
     c.append.ensures.chained
     (omega (

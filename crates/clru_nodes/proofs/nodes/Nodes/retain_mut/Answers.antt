@@ -43,7 +43,7 @@ loop-next-preserved-then-kept g c =
           c.next_idx-next.ensures.valid true c.keep-kept.new.arg3 _ _ (shown-written p c.in-Some-get_mut.item.now c.keep-kept.new.arg3 l) refl _ c.next_idx-next.ensures.place _
           (record { key = _; value = _; shows = (refl, refl); left = _; called = c.if-kept.ensures; leaves = refl });
       indexed = indexed_written p i _ inv.indexed held;
-      same = record { capacity = inv.same.capacity; placed = inv.same.placed; builder = inv.same.builder; places = inv.same.places; heads = inv.same.heads };
+      same = record { capacity = inv.same.capacity; placed = inv.same.placed; builder = inv.same.builder; places = inv.same.places; heads = inv.same.heads; bound = inv.same.bound };
     }
 
 pub take_at-requires-clause-place : goal.take_at-requires-clause-place
@@ -74,7 +74,7 @@ loop-next-preserved g c =
           (λ k. place_list (t.placed k) (t.same.capacity k) (t.same.placed k)) _ c.next_idx-next.ensures.place _
           (record { key = _; value = _; shows = (refl, refl); left = _; called = c.if-kept.ensures; leaves = refl });
       indexed = t.indexed;
-      same = same_trans inv.same (record { capacity = t.same.capacity; placed = t.same.placed; builder = t.same.builder; places = t.same.places; heads = t.same.heads });
+      same = same_trans inv.same (record { capacity = t.same.capacity; placed = t.same.placed; builder = t.same.builder; places = t.same.places; heads = t.same.heads; bound = t.same.bound });
     }
 
 pub returns-clause-kept : goal.returns-clause-kept

@@ -1,0 +1,32 @@
+-- Private: what heads are seen as. No public clause cites it.
+use Rattle.std.specs.Prelude.{ℕ, ◌*◌, ◌^◌, ◌<◌, ◌≤◌, ◌==◌, cond, max, List, map, refl}
+use Rattle.std.specs.Coded.{Coded, code_by, coded×, coded_list, coded_ℕ}
+use Rattle.clru_nodes.specs.Chained.{nowhere}
+use Rattle.clru_nodes.specs.declared.heads.Words.{Words}
+use Rattle.clru_nodes.specs.declared.heads.Words.TheVariants.{Narrow, Wide}
+
+-- the place that each head leads to, and the bound of the places that heads can name
+pub record HeadList : Type 0 where
+  pub items : List ℕ
+  pub bound : ℕ
+
+abbrev pub head_list : List ℕ → ℕ → HeadList
+head_list items bound = record { items = items; bound = bound }
+
+abbrev pub head_list_code : Coded HeadList
+head_list_code = code_by (List ℕ × ℕ) (coded× (coded_list coded_ℕ) coded_ℕ) (λ h. (h.items, h.bound)) (λ p. head_list p.0 p.1) (λ _. refl)
+
+-- 4 bytes that are all set stand for no place
+abbrev pub narrow : ℕ
+narrow = 4294967295
+
+abbrev pub wide : ℕ → ℕ
+wide n = cond (n == narrow) nowhere n
+
+abbrev pub list_of : {A : Type 0} → Words A → HeadList
+list_of (Narrow heads) = head_list (map wide heads.items) narrow
+list_of (Wide heads) = head_list heads.items nowhere
+
+-- each place can be named that a list of so many places may have after its next growth
+abbrev pub NamesGrown : ℕ → ℕ → Type 0
+NamesGrown places bound = (grown : ℕ) → grown ≤ max 4 (4 * places) → grown < 2 ^ 63 → grown ≤ bound

@@ -1,0 +1,156 @@
+//! `Heads`: which place each head leads to. A place takes 4 bytes there, or 8 where the places may be more than those name.
+ghost use Rattle.std.specs.Prelude.{◌≡◌, ◌⊎◌, ◌<◌, ◌≤◌, [], length, replicate, set, IfOk, IsOk};
+ghost use Rattle.clru_nodes.specs.Chained.{nowhere};
+ghost use Rattle.clru_nodes.specs.HeadList.{head_list, narrow, wide};
+ghost use Rattle.clru_nodes.specs.Heads.{head_at};
+
+use clru_list::NoMemory;
+use std::alloc::Allocator;
+use std::marker::Model;
+
+/// No place: the end of each chain, and in calls its start.
+pub(crate) const NOWHERE: usize = usize::MAX;
+
+/// The places that 4 bytes can name: `u32::MAX` stands for no place.
+pub(crate) const NARROW: usize = 4294967295;
+
+/// The places by number of their head.
+#[derive(Drop)]
+enum Words<A: Allocator + Copy> {
+    Narrow(Vec<u32, A>),
+    Wide(Vec<usize, A>),
+}
+
+/// A clause sees heads as the places that they lead to, and as the bound of the places that they can name.
+#[derive(Drop)]
+pub(crate) struct Heads<A: Allocator + Copy> {
+    words: Words<A>,
+}
+
+impl<A: Allocator + Copy> Model for Heads<A> {
+    ghost use Rattle.clru_nodes.specs.HeadList.{HeadList, head_list_code, list_of};
+
+    ghost Value = { HeadList };
+
+    ghost coded = { head_list_code };
+
+    ghost view = { λ h. list_of h.words };
+}
+
+impl<A: Allocator + Copy> Heads<A> {
+    /// No heads. They take no memory.
+    pub(crate) fn new(alloc: A) -> Self
+        ensures { result ≡ head_list [] narrow }
+    {
+        Heads {
+            words: Words::Narrow(Vec::new(alloc)),
+        }
+    }
+
+    /// So many heads of empty chains, which can name so many places.
+    pub(crate) fn empty(alloc: A, size: usize, places: usize) -> Result<Self, NoMemory>
+        ensures items { IfOk result (λ h. h.items ≡ replicate size nowhere) }
+        ensures named { IfOk result (λ h. places ≤ h.bound) }
+        ensures never_refused { size ≡ 0 → places ≡ 0 → IsOk result }
+    {
+        if size == 0 && places == 0 {
+            return Ok(Heads::new(alloc));
+        }
+        if places <= NARROW {
+            match Vec::from_elem(alloc, u32::MAX, size) {
+                Ok(heads) => Ok(Heads {
+                    words: Words::Narrow(heads),
+                }),
+                Err(_) => Err(NoMemory),
+            }
+        } else {
+            match Vec::from_elem(alloc, NOWHERE, size) {
+                Ok(heads) => Ok(Heads {
+                    words: Words::Wide(heads),
+                }),
+                Err(_) => Err(NoMemory),
+            }
+        }
+    }
+
+    /// How many heads there are.
+    pub(crate) fn len(&self) -> usize
+        ensures { result ≡ length self.now.items }
+    {
+        match &self.words {
+            Words::Narrow(heads) => heads.len(),
+            Words::Wide(heads) => heads.len(),
+        }
+    }
+
+    /// How many places they can name: those below.
+    pub(crate) fn bound(&self) -> usize
+        ensures { result ≡ self.now.bound }
+    {
+        match &self.words {
+            Words::Narrow(_) => NARROW,
+            Words::Wide(_) => NOWHERE,
+        }
+    }
+
+    pub(crate) fn allocator(&self) -> &A {
+        match &self.words {
+            Words::Narrow(heads) => heads.allocator(),
+            Words::Wide(heads) => heads.allocator(),
+        }
+    }
+
+    /// The place that a head leads to.
+    pub(crate) fn get(&self, head: usize) -> usize
+        requires { head < length self.now.items }
+        ensures { result ≡ head_at self.now.items head }
+    {
+        match &self.words {
+            Words::Narrow(heads) => widened(heads[head]),
+            Words::Wide(heads) => heads[head],
+        }
+    }
+
+    /// Has a head lead to a place, or nowhere.
+    pub(crate) fn set(&mut self, head: usize, to: usize)
+        requires head { head < length self.old.items }
+        requires named { (to ≡ nowhere) ⊎ (to < self.old.bound) }
+        ensures { self.new ≡ head_list (set self.old.items head to) self.old.bound }
+    {
+        match &mut self.words {
+            Words::Narrow(heads) => heads[head] = narrowed(to),
+            Words::Wide(heads) => heads[head] = to,
+        }
+    }
+
+    /// Has all heads lead nowhere.
+    pub(crate) fn clear(&mut self)
+        ensures { self.new ≡ head_list (replicate (length self.old.items) nowhere) self.old.bound }
+    {
+        match &mut self.words {
+            Words::Narrow(heads) => heads.fill(u32::MAX),
+            Words::Wide(heads) => heads.fill(NOWHERE),
+        }
+    }
+}
+
+fn widened(place: u32) -> usize
+    ensures { result ≡ wide place }
+{
+    if place == u32::MAX {
+        NOWHERE
+    } else {
+        place as usize
+    }
+}
+
+fn narrowed(place: usize) -> u32
+    requires { (place ≡ nowhere) ⊎ (place < narrow) }
+    ensures { wide result ≡ place }
+{
+    if place == NOWHERE {
+        u32::MAX
+    } else {
+        place as u32
+    }
+}
