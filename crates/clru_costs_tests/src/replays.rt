@@ -78,9 +78,9 @@ fn replays_cost_what_their_rows_say(rt: HostRuntime) -> Result<(), Fail> {
 #[test]
 fn a_replay_compares_few_keys(rt: HostRuntime) -> Result<(), Fail> {
     let rows = [
-        (1000, 1000, 1, 211, 1000),
-        (1000, 1000, 10, 11_110, 10_000),
-        (100, 1000, 1, 263, 1900),
+        (1000, 1000, 1, 87, 1000),
+        (1000, 1000, 10, 9870, 10_000),
+        (100, 1000, 1, 121, 1900),
     ];
     for (capacity, distinct, rounds, compared, hashed) in rows {
         let counts = Counts::new(rt.alloc());
