@@ -8,3 +8,4 @@ pub mod Refusals
 pub mod Requests
 pub mod Runs
 pub mod Schedule
+pub mod Sizes
