@@ -26,6 +26,7 @@ pub mod Retaining
 pub mod Rows
 pub mod RunRows
 pub mod SchedulesByPlace
+pub mod SizedRuns
 pub mod Sublists
 pub mod Wanted
 pub mod Weights

@@ -8,4 +8,5 @@ pub mod Refusals
 pub mod Requests
 pub mod Runs
 pub mod Schedule
+pub mod SizedRuns
 pub mod Sizes
