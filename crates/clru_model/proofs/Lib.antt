@@ -28,5 +28,6 @@ pub mod RunRows
 pub mod SchedulesByPlace
 pub mod SizedRuns
 pub mod Sublists
+pub mod Totals
 pub mod Wanted
 pub mod Weights

@@ -10,3 +10,4 @@ pub mod Runs
 pub mod Schedule
 pub mod SizedRuns
 pub mod Sizes
+pub mod Spans
