@@ -27,6 +27,7 @@ pub mod Rows
 pub mod RunRows
 pub mod SchedulesByPlace
 pub mod SizedRuns
+pub mod Spans
 pub mod Sublists
 pub mod Totals
 pub mod Wanted
