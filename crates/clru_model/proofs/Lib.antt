@@ -26,6 +26,7 @@ pub mod Retaining
 pub mod Rows
 pub mod RunRows
 pub mod SchedulesByPlace
+pub mod SizeRows
 pub mod SizedRuns
 pub mod Spans
 pub mod Sublists
