@@ -69,7 +69,8 @@ missed_size_of_four_keys = refl
 
 -- d a b d a, each put by its weight at capacity 6
 abbrev five_sized_puts : List (List (ℕ × ℕ))
-five_sized_puts = [] ∷ ((3, 5) ∷ []) ∷ ((0, 5) ∷ (3, 5) ∷ []) ∷ ((1, 5) ∷ (0, 5) ∷ []) ∷ ((3, 5) ∷ (1, 5) ∷ []) ∷ ((0, 5) ∷ (3, 5) ∷ []) ∷ []
+five_sized_puts = [] ∷ ((3, 5) ∷ []) ∷ ((0, 5) ∷ (3, 5) ∷ []) ∷ ((1, 5) ∷ (0, 5) ∷ [])
+    ∷ ((3, 5) ∷ (1, 5) ∷ []) ∷ ((0, 5) ∷ (3, 5) ∷ []) ∷ []
 
 five_sized_puts_are_a_run : IsSizedPutRun nat_eq by_key_alone 6 five_sized_puts greatest_first
 unfolding fit

@@ -1,6 +1,7 @@
 -- Runs of puts by weight hold the keys that hit by size: they hold the longest beginning that fits of all keys that were
 -- requested, the latest first.
-use Rattle.std.proofs.Common.{◌≡◌, ℕ, ◌+◌, ◌-◌, ◌<◌, ◌≤◌, leb, Bool, true, false, cond, not, ◌&&◌, ◌||◌, List, [], ◌∷◌, refl, sym, ap, ◌∙◌, arith}
+use Rattle.std.proofs.Common.{◌≡◌, ℕ, ◌+◌, ◌-◌, ◌<◌, ◌≤◌, leb, Bool, true, false, cond, not, ◌&&◌, ◌||◌, List, [], ◌∷◌}
+use Rattle.std.proofs.Common.{refl, sym, ap, ◌∙◌, arith}
 use Rattle.std.proofs.lemmas.Bool.{leb-true}
 use Rattle.std.proofs.lemmas.Bool.Decides.{nat_tests}
 use Rattle.std.proofs.lemmas.List.Sums.{take_while-cons}
@@ -22,7 +23,8 @@ module _ {K V : Type 0} (eq : K → K → Bool) where
   before x es = take_while (λ e. not (eq x e.0)) es
 
   before-cons : (x : K) (e : K × V) (es : List (K × V)) → before x (e ∷ es) ≡ cond (eq x e.0) [] (e ∷ before x es)
-  before-cons x e es = rw (take_while-cons (λ (d : K × V). not (eq x d.0)) e es) (split (eq x e.0) (λ t. rw t refl) (λ f. rw f refl))
+  before-cons x e es =
+      rw (take_while-cons (λ (d : K × V). not (eq x d.0)) e es) (split (eq x e.0) (λ t. rw t refl) (λ f. rw f refl))
 
 module _ {K V : Type 0} (weight : K → V → ℕ) where
   -- what fits is the same where more fitted first
@@ -36,7 +38,8 @@ module _ {K V : Type 0} (weight : K → V → ℕ) where
       (λ f. let over : leb w i ≡ false = grind (arith, nat_tests) in rw (f, over) refl)
 
   -- an entry that is lighter than the capacity comes first
-  fit-first : (c : ℕ) (e : K × V) (es : List (K × V)) → weight e.0 e.1 < c → fit weight c (e ∷ es) ≡ e ∷ fit weight (c - 1 - weight e.0 e.1) es
+  fit-first : (c : ℕ) (e : K × V) (es : List (K × V)) → weight e.0 e.1 < c
+      → fit weight c (e ∷ es) ≡ e ∷ fit weight (c - 1 - weight e.0 e.1) es
   unfolding fit
   fit-first c e es light =
       let room : leb (1 + weight e.0 e.1) c ≡ true = grind (arith, nat_tests) in
@@ -75,11 +78,14 @@ module _ {K V : Type 0} (eq : K → K → Bool) (laws : IsEquivalence eq) (weigh
       let n = 1 + weight x + size_of pair_weight (before eq x es) in
       split (eq x e.0)
       (λ t. let here : w ≡ 1 + weight x = omega (arith, by_key e.0 e.1, same x e.0 t) in
-      rw (before-cons eq x e es, t) (split (leb w c) (λ u. rw (u, t) (grind (arith, nat_tests))) (λ v. rw v (grind (arith, nat_tests)))))
+      rw (before-cons eq x e es, t) (split (leb w c)
+      (λ u. rw (u, t) (grind (arith, nat_tests)))
+      (λ v. rw v (grind (arith, nat_tests)))))
       (λ f. rw (before-cons eq x e es, f) (
       let sum = size_of-cons pair_weight e (before eq x es) in
       split (leb w c)
-      (λ u. let less : leb (1 + weight x + size_of pair_weight (e ∷ before eq x es)) c ≡ leb n (c - w) = grind (arith, nat_tests) in
+      (λ u. let less : leb (1 + weight x + size_of pair_weight (e ∷ before eq x es)) c ≡ leb n (c - w) =
+      grind (arith, nat_tests) in
       rw (u, f, less) (holds-fit x (c - w) es))
       (λ v. let over : leb (1 + weight x + size_of pair_weight (e ∷ before eq x es)) c ≡ false = grind (arith, nat_tests) in
       rw (v, over) (split (holds eq x (keys_of es)) (λ h. rw h refl) (λ h. rw h refl)))))
@@ -100,14 +106,16 @@ module _ {K V : Type 0} (eq : K → K → Bool) (laws : IsEquivalence eq) (weigh
       (λ f. rw (f, before-cons eq y e es, before-cons eq y e (without eq x es))
       (split (eq y e.0) (λ u. rw u refl) (λ v. rw v (rw f (ap (λ l. e ∷ l) (before-without x y es apart))))))
 
-  holds-without : (x y : K) (es : List (K × V)) → eq x y ≡ false → holds eq y (keys_of (without eq x es)) ≡ holds eq y (keys_of es)
+  holds-without : (x y : K) (es : List (K × V)) → eq x y ≡ false
+      → holds eq y (keys_of (without eq x es)) ≡ holds eq y (keys_of es)
   holds-without x y [] apart = refl
   holds-without x y (e ∷ es) apart =
       split (eq x e.0)
       (λ t. let w : eq y e.0 ≡ false = sym (same_right eq laws x e.0 y t) ∙ laws.symm y x ∙ apart in rw (t, w) refl)
       (λ f. rw f (ap (λ b. eq y e.0 || b) (holds-without x y es apart)))
 
-  size_of-without : (x : K) (es : List (K × V)) → size_of pair_weight (without eq x es) + cond (holds eq x (keys_of es)) (1 + weight x) 0
+  size_of-without : (x : K) (es : List (K × V))
+      → size_of pair_weight (without eq x es) + cond (holds eq x (keys_of es)) (1 + weight x) 0
       ≡ size_of pair_weight es
   size_of-without x [] = refl
   size_of-without x (e ∷ es) =
@@ -123,7 +131,11 @@ module _ {K V : Type 0} (eq : K → K → Bool) (laws : IsEquivalence eq) (weigh
   -- after a request of x its entry comes first
   order_cons : {past : List K} {es : List (K × V)} (x key : K) (value : V) → eq x key ≡ true → IsOrder past es
       → IsOrder (x ∷ past) ((key, value) ∷ without eq key es)
-  order_cons {past} {es} x key value e order = record { held = held; held_before_it = held_before_it; size_before_it = size_before_it }
+  order_cons {past} {es} x key value e order = record {
+    held = held;
+    held_before_it = held_before_it;
+    size_before_it = size_before_it;
+  }
     where
       rest : List (K × V)
       rest = without eq key es
@@ -163,19 +175,24 @@ module _ {K V : Type 0} (eq : K → K → Bool) (laws : IsEquivalence eq) (weigh
     -- what fits of those entries holds the keys that hit
     held_hits : {past : List K} {all es : List (K × V)} (x : K) → IsOrder past all → es ≡ fit pair_weight c all
         → holds eq x (keys_of es) ≡ hit_by_size eq weight c x past
-    held_hits {past} {all} x order is = ap (λ l. holds eq x (keys_of l)) is ∙ holds-fit x c all ∙ rw (order.held x, order.size_before_it x) refl
+    held_hits {past} {all} x order is =
+        ap (λ l. holds eq x (keys_of l)) is ∙ holds-fit x c all ∙ rw (order.held x, order.size_before_it x) refl
 
     -- and what a put leaves is what fits of the entries with its own first
-    fits_next : {x : K} {es next : List (K × V)} (all : List (K × V)) (p : IsSizedPut eq pair_weight c x es next) → es ≡ fit pair_weight c all
-        → next ≡ fit pair_weight c ((p.key, p.value) ∷ without eq p.key all)
+    fits_next : {x : K} {es next : List (K × V)} (all : List (K × V)) (p : IsSizedPut eq pair_weight c x es next)
+        → es ≡ fit pair_weight c all → next ≡ fit pair_weight c ((p.key, p.value) ∷ without eq p.key all)
     fits_next all p is =
         let i : ℕ = c - 1 - pair_weight p.key p.value in
         let room : c ≡ i + (1 + weight p.key) = omega (arith, by_key p.key p.value, p.light) in
-        let kept = ap (λ l. fit pair_weight i (without eq p.key l)) (is ∙ ap (λ n. fit pair_weight n all) room) ∙ fit-without-fit p.key i all in
-        p.entries ∙ ap (λ l. (p.key, p.value) ∷ l) kept ∙ sym (fit-first pair_weight c (p.key, p.value) (without eq p.key all) p.light)
+        let kept =
+        ap (λ l. fit pair_weight i (without eq p.key l)) (is ∙ ap (λ n. fit pair_weight n all) room)
+        ∙ fit-without-fit p.key i all in
+        p.entries ∙ ap (λ l. (p.key, p.value) ∷ l) kept
+        ∙ sym (fit-first pair_weight c (p.key, p.value) (without eq p.key all) p.light)
 
-    held_after : (past : List K) (all es : List (K × V)) (later : List (List (K × V))) (rs : List K) → IsOrder past all → es ≡ fit pair_weight c all
-        → IsSizedPutRun eq pair_weight c (es ∷ later) rs → held_before eq (es ∷ later) rs ≡ marks_by_size_after eq weight c past rs
+    held_after : (past : List K) (all es : List (K × V)) (later : List (List (K × V))) (rs : List K) → IsOrder past all
+        → es ≡ fit pair_weight c all → IsSizedPutRun eq pair_weight c (es ∷ later) rs
+        → held_before eq (es ∷ later) rs ≡ marks_by_size_after eq weight c past rs
     held_after past all es later [] order is run = refl
     held_after past all es [] (x ∷ rs) order is run = absurd run.0
     held_after past all es (next ∷ later) (x ∷ rs) order is run =

@@ -1,12 +1,14 @@
 -- Requests by size: their spans, greater sizes, room for all, and sizes that are numbers of keys.
-use Rattle.std.proofs.Common.{◌≡◌, ℕ, zero, suc, ◌+◌, ◌≤◌, Bool, true, cond, not, Some, List, [], ◌∷◌, ◌++◌, map, reverse, leb, leb-true, append-nil, refl, sym, ap, arith}
+use Rattle.std.proofs.Common.{◌≡◌, ℕ, zero, suc, ◌+◌, ◌≤◌, Bool, true, cond, not, Some, List, [], ◌∷◌, ◌++◌, map, reverse}
+use Rattle.std.proofs.Common.{leb, leb-true, append-nil, refl, sym, ap, arith}
 use Rattle.std.proofs.lemmas.Bool.{and_parts, and_from, le-leb}
 use Rattle.std.proofs.lemmas.Bool.Decides.{nat_tests}
 use Rattle.std.proofs.lemmas.Option.{same_Some}
 use Rattle.std.specs.Cmp.{IsEquivalence}
 use Rattle.std.specs.List.{slice_get, count_by}
 use Rattle.clru_model.specs.Requests.{holds, distinct, since, hit, marks_after}
-use Rattle.clru_model.specs.Sizes.{SameWeights, total, span, spans_after, hit_by_size, marks_by_size_after, misses_by_size, missed_size_after, missed_size}
+use Rattle.clru_model.specs.Sizes.{SameWeights, total, span, spans_after, hit_by_size, marks_by_size_after}
+use Rattle.clru_model.specs.Sizes.{misses_by_size, missed_size_after, missed_size}
 use Rattle.clru_model.specs.Spans.{is_within, size_of_misses}
 use Rattle.clru_model.proofs.Bound.{miss-le-one}
 use Rattle.clru_model.proofs.Cases.{split}
@@ -25,9 +27,11 @@ module _ {K : Type 0} (eq : K → K → Bool) (weight : K → ℕ) where
 
   -- the size that is missed is that of the false marks
   pub missed_by_marks : (c : ℕ) (past requests : List K)
-      → missed_size_after eq weight c past requests ≡ size_of_misses weight (marks_by_size_after eq weight c past requests) requests
+      → missed_size_after eq weight c past requests
+      ≡ size_of_misses weight (marks_by_size_after eq weight c past requests) requests
   missed_by_marks c past [] = refl
-  missed_by_marks c past (x ∷ rs) = ap (λ n. cond (hit_by_size eq weight c x past) 0 (1 + weight x) + n) (missed_by_marks c (x ∷ past) rs)
+  missed_by_marks c past (x ∷ rs) =
+      ap (λ n. cond (hit_by_size eq weight c x past) 0 (1 + weight x) + n) (missed_by_marks c (x ∷ past) rs)
 
   module _ {c d : ℕ} (more : c ≤ d) where
     -- what hits still does at a greater size
@@ -48,7 +52,8 @@ module _ {K : Type 0} (eq : K → K → Bool) (weight : K → ℕ) where
     misses_by_size_fall past [] = omega arith
     misses_by_size_fall past (x ∷ rs) =
         let ih = misses_by_size_fall (x ∷ past) rs in
-        rw (count_by-not-cons (hit_by_size eq weight d x past), count_by-not-cons (hit_by_size eq weight c x past)) (split (hit_by_size eq weight c x past)
+        rw (count_by-not-cons (hit_by_size eq weight d x past), count_by-not-cons (hit_by_size eq weight c x past))
+        (split (hit_by_size eq weight c x past)
         (λ t. rw (t, hit_by_size_grows past x t) (omega (arith, ih)))
         (λ f. rw f (omega (arith, ih, miss-le-one (hit_by_size eq weight d x past)))))
 
@@ -67,16 +72,20 @@ module _ {K : Type 0} (eq : K → K → Bool) (weight : K → ℕ) where
         rw (none x, total_weightless past) (split (holds eq x past) (λ t. rw t refl) (λ f. rw f (omega arith)))
 
     hit_weightless : (c : ℕ) (x : K) (past : List K) → hit_by_size eq weight c x past ≡ hit eq c x past
-    hit_weightless c x past = rw (none x, total_weightless (since eq x past)) (split (holds eq x past) (λ t. rw t (grind (arith, nat_tests))) (λ f. rw f refl))
+    hit_weightless c x past = rw (none x, total_weightless (since eq x past)) (split (holds eq x past)
+        (λ t. rw t (grind (arith, nat_tests)))
+        (λ f. rw f refl))
 
     pub marks_weightless : (c : ℕ) (past rs : List K) → marks_by_size_after eq weight c past rs ≡ marks_after eq c past rs
     marks_weightless c past [] = refl
     marks_weightless c past (x ∷ rs) = cc (hit_weightless c x past, marks_weightless c (x ∷ past) rs)
 
-    pub missed_weightless : (c : ℕ) (past rs : List K) → missed_size_after eq weight c past rs ≡ count_by not (marks_after eq c past rs)
+    pub missed_weightless : (c : ℕ) (past rs : List K)
+        → missed_size_after eq weight c past rs ≡ count_by not (marks_after eq c past rs)
     missed_weightless c past [] = refl
     missed_weightless c past (x ∷ rs) =
-        rw (hit_weightless c x past, none x, missed_weightless c (x ∷ past) rs) (sym (count_by-not-cons (hit eq c x past) (marks_after eq c (x ∷ past) rs)))
+        rw (hit_weightless c x past, none x, missed_weightless c (x ∷ past) rs)
+        (sym (count_by-not-cons (hit eq c x past) (marks_after eq c (x ∷ past) rs)))
 
 module _ {K : Type 0} (eq : K → K → Bool) (laws : IsEquivalence eq) (weight : K → ℕ) (same : SameWeights eq weight) (c : ℕ) where
   -- with room for the requests of the past and those to come, a request hits where its key was requested
@@ -89,10 +98,12 @@ module _ {K : Type 0} (eq : K → K → Bool) (laws : IsEquivalence eq) (weight 
       let within : total eq weight (reverse rs ++ (x ∷ past)) ≤ c = omega (arith, room, ap (total eq weight) turned) in
       let ih = first_misses (x ∷ past) rs within in
       let here : total eq weight (x ∷ past) ≤ c = omega (arith, ih.1, within) in
-      rw (turned, count_by-not-cons (hit_by_size eq weight c x past) (marks_by_size_after eq weight c (x ∷ past) rs)) (split (holds eq x past)
+      rw (turned, count_by-not-cons (hit_by_size eq weight c x past) (marks_by_size_after eq weight c (x ∷ past) rs))
+      (split (holds eq x past)
       (λ t. let span_fits = span_within eq laws weight same x past t in
       let before : total eq weight past ≤ c = rw t at here in
-      let low : leb (1 + weight x + total eq weight (since eq x past)) c ≡ true = le-leb (1 + weight x + total eq weight (since eq x past)) c (omega (arith, span_fits, before)) in
+      let n : ℕ = 1 + weight x + total eq weight (since eq x past) in
+      let low : leb n c ≡ true = le-leb n c (omega (arith, span_fits, before)) in
       let parts = rw t at ih in
       rw (t, low) (omega (arith, parts.0), omega (arith, parts.1)))
       (λ f. let parts = rw f at ih in

@@ -17,14 +17,17 @@ module _ {K : Type 0} (eq : K → K → Bool) (laws : IsEquivalence eq) (weight 
       split (eq x y)
       (λ t. let e = holds_same eq laws x y ks t in
       let w = same x y t in
-      split (holds eq x ks) (λ h. rw (t, ← e, h) (rw h at ih)) (λ h. rw (t, ← e, h) (let rest = rw h at ih in omega (arith, w, rest))))
+      split (holds eq x ks)
+      (λ h. rw (t, ← e, h) (rw h at ih))
+      (λ h. rw (t, ← e, h) (let rest = rw h at ih in omega (arith, w, rest))))
       (λ f. let e : holds eq y (others eq x ks) ≡ holds eq y ks = rw (holds-others eq laws y x ks, f) refl in
       rw (f, e) (split (holds eq y ks)
       (λ u. rw u ih)
       (λ v. rw v (omega (arith, ih)))))
 
   -- a list whose keys are all held in another is of no greater size
-  pub total_mono : (xs ys : List K) → ((z : K) → holds eq z xs ≡ true → holds eq z ys ≡ true) → total eq weight xs ≤ total eq weight ys
+  pub total_mono : (xs ys : List K) → ((z : K) → holds eq z xs ≡ true → holds eq z ys ≡ true)
+      → total eq weight xs ≤ total eq weight ys
   total_mono [] ys within = omega arith
   total_mono (x ∷ xs) ys within =
       split (holds eq x xs)
@@ -40,9 +43,12 @@ module _ {K : Type 0} (eq : K → K → Bool) (laws : IsEquivalence eq) (weight 
 
   -- a list that holds x and all that is requested since x has at least the size of those and of x
   pub total_since_less : (x : K) (past ks : List K) → holds eq x ks ≡ true
-      → ((z : K) → holds eq z (since eq x past) ≡ true → holds eq z ks ≡ true) → 1 + weight x + total eq weight (since eq x past) ≤ total eq weight ks
+      → ((z : K) → holds eq z (since eq x past) ≡ true → holds eq z ks ≡ true)
+      → 1 + weight x + total eq weight (since eq x past) ≤ total eq weight ks
   total_since_less x past ks held within =
-      let m = total_mono (x ∷ since eq x past) ks (λ z g. split (eq z x) (λ t. holds_same eq laws z x ks t ∙ held) (λ f. within z (rw f at g))) in
+      let m = total_mono (x ∷ since eq x past) ks (λ z g. split (eq z x)
+      (λ t. holds_same eq laws z x ks t ∙ held)
+      (λ f. within z (rw f at g))) in
       rw (not_since eq laws x past) at m
 
   -- where x is requested since y, its span has room before y
@@ -51,5 +57,6 @@ module _ {K : Type 0} (eq : K → K → Bool) (laws : IsEquivalence eq) (weight 
   total_since_since x y past h = total_since_less x past (since eq y past) h (λ z g. since_since eq laws x y z past h g)
 
   -- the span of a key that was requested is at most the size of all keys
-  pub span_within : (x : K) (past : List K) → holds eq x past ≡ true → 1 + weight x + total eq weight (since eq x past) ≤ total eq weight past
+  pub span_within : (x : K) (past : List K) → holds eq x past ≡ true
+      → 1 + weight x + total eq weight (since eq x past) ≤ total eq weight past
   span_within x past held = total_since_less x past past held (λ z g. since_within eq laws x z past g)

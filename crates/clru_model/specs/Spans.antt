@@ -18,11 +18,13 @@ size_of_misses weight (mark ∷ ms) (x ∷ rs) = cond mark 0 (1 + weight x) + si
 module _ {K : Type 0} (eq : K → K → Bool) where
   -- a request hits at the sizes from its span on, and at no other
   abbrev pub HitsAreWithin : Type 0
-  HitsAreWithin = (weight : K → ℕ) (c : ℕ) (x : K) (past : List K) → hit_by_size eq weight c x past ≡ is_within c (span eq weight x past)
+  HitsAreWithin = (weight : K → ℕ) (c : ℕ) (x : K) (past : List K)
+      → hit_by_size eq weight c x past ≡ is_within c (span eq weight x past)
 
   -- and so the marks at a size are those of the spans
   abbrev pub MarksAreWithin : Type 0
-  MarksAreWithin = (weight : K → ℕ) (c : ℕ) (requests : List K) → marks_by_size eq weight c requests ≡ map (is_within c) (spans eq weight requests)
+  MarksAreWithin = (weight : K → ℕ) (c : ℕ) (requests : List K)
+      → marks_by_size eq weight c requests ≡ map (is_within c) (spans eq weight requests)
 
   -- the size that is missed is that of the requests whose mark is false
   abbrev pub MissedSizeIsOfMarks : Type 0
@@ -31,7 +33,8 @@ module _ {K : Type 0} (eq : K → K → Bool) where
 
   -- a request that hits at a size hits at each greater one
   abbrev pub HitsBySizeGrow : Type 0
-  HitsBySizeGrow = (weight : K → ℕ) (c d i : ℕ) (requests : List K) → c ≤ d → slice_get (marks_by_size eq weight c requests) i ≡ Some true
+  HitsBySizeGrow = (weight : K → ℕ) (c d i : ℕ) (requests : List K) → c ≤ d
+      → slice_get (marks_by_size eq weight c requests) i ≡ Some true
       → slice_get (marks_by_size eq weight d requests) i ≡ Some true
 
   -- a greater size has no more misses
@@ -46,13 +49,15 @@ module _ {K : Type 0} (eq : K → K → Bool) where
 
   -- at a size with room for all keys the first request of each key misses, and no other
   abbrev pub RoomForTotalMissesFirst : Type 0
-  RoomForTotalMissesFirst = (weight : K → ℕ) (c : ℕ) (requests : List K) → SameWeights eq weight → total eq weight (reverse requests) ≤ c
+  RoomForTotalMissesFirst = (weight : K → ℕ) (c : ℕ) (requests : List K) → SameWeights eq weight
+      → total eq weight (reverse requests) ≤ c
       → (misses_by_size eq weight c requests ≡ distinct eq (reverse requests))
       × (missed_size eq weight c requests ≡ total eq weight (reverse requests))
 
   -- where each key weighs 0, a size is a number of keys
   abbrev pub WeightlessTotalIsDistinct : Type 0
-  WeightlessTotalIsDistinct = (weight : K → ℕ) (past : List K) → ((k : K) → weight k ≡ 0) → total eq weight past ≡ distinct eq past
+  WeightlessTotalIsDistinct = (weight : K → ℕ) (past : List K) → ((k : K) → weight k ≡ 0)
+      → total eq weight past ≡ distinct eq past
 
   -- and the marks by size are those of the capacity
   abbrev pub WeightlessMarksAreMarks : Type 0

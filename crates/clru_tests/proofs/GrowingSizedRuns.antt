@@ -12,7 +12,8 @@ use Rattle.clru_tests.proofs.GrowingRuns.{last_of, last_of-push}
 
 not_held_push : (held : List Bool) (before : Bool) → count_by not (held ++ before ∷ []) ≡ count_by not held + cond before 0 1
 not_held_push held before =
-    sum_by_push (λ b. cond (not b) 1 0) held before ∙ ap (λ n. count_by not held + n) (elim before as (λ b. cond (not b) 1 0 ≡ cond b 0 1) [
+    sum_by_push (λ b. cond (not b) 1 0) held before
+    ∙ ap (λ n. count_by not held + n) (elim before as (λ b. cond (not b) 1 0 ≡ cond b 0 1) [
       | true ↦ refl
       | false ↦ refl
     ])
@@ -42,12 +43,14 @@ module _ {K V : Type 0} (eq : K → K → Bool) (weight : K → V → ℕ) (c : 
     pub missed : misses ≡ count_by not (held_before eq ([] ∷ later) rs)
 
   -- one more put
-  pub SizedRuns-push : {rs : List K} {es next : List (K × V)} {misses misses' : ℕ} (x : K) (v : V) (before : Bool) → SizedRuns rs es misses
-      → eq x x ≡ true → before ≡ is_some (lookup (eq x) es) → weight x v < c → next ≡ weighted_put eq weight c x v es
+  pub SizedRuns-push : {rs : List K} {es next : List (K × V)} {misses misses' : ℕ} (x : K) (v : V) (before : Bool)
+      → SizedRuns rs es misses → eq x x ≡ true → before ≡ is_some (lookup (eq x) es)
+      → weight x v < c → next ≡ weighted_put eq weight c x v es
       → misses' ≡ misses + cond before 0 1 → SizedRuns (rs ++ x ∷ []) next misses'
   SizedRuns-push {rs} {es} {next} x v before r itself is light put counted = record {
     later = r.later ++ next ∷ [];
-    run = run_push [] r.later rs x next r.run (record { key = x; value = v; same = itself; light = light; entries = rw r.ends put });
+    run = run_push [] r.later rs x next r.run
+        (record { key = x; value = v; same = itself; light = light; entries = rw r.ends put });
     ends = last_of-push [] r.later next;
     missed = counted ∙ ap (λ n. n + cond before 0 1) r.missed ∙ sym (not_held_push (held_before eq ([] ∷ r.later) rs) before)
         ∙ ap (λ b. count_by not (held_before eq ([] ∷ r.later) rs ++ b ∷ []))

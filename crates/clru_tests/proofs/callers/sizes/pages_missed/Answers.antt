@@ -13,7 +13,8 @@ loop-page-preserved-in-Ok-Some g c =
     record {
       next = tt;
       ends = tt;
-      runs = SizedRuns-push _ _ _ c.in-Some.page tt true before.runs (search rules) held (omega (arith, light)) entries (omega arith);
+      runs = SizedRuns-push _ _ _ c.in-Some.page tt true before.runs (search rules) held
+          (omega (arith, light)) entries (omega arith);
       fewer = omega (arith, before.fewer, length_push c.loop-page.yielded c.in-Some.page);
       capacity = put.places.capacity ∙ before.capacity;
       scale = put.places.scale ∙ before.scale;
@@ -29,7 +30,8 @@ loop-page-preserved g c =
     record {
       next = tt;
       ends = tt;
-      runs = SizedRuns-push _ _ _ c.in-Some.page tt false before.runs (search rules) held (omega (arith, light)) entries refl;
+      runs = SizedRuns-push _ _ _ c.in-Some.page tt false before.runs (search rules) held
+          (omega (arith, light)) entries refl;
       fewer = omega (arith, before.fewer, length_push c.loop-page.yielded c.in-Some.page);
       capacity = put.places.capacity ∙ before.capacity;
       scale = put.places.scale ∙ before.scale;
