@@ -23,6 +23,8 @@ mod removals;
 #[cfg(test)]
 mod replays;
 #[cfg(test)]
+mod sizes;
+#[cfg(test)]
 mod walks;
 #[cfg(test)]
 mod words;

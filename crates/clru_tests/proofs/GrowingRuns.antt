@@ -6,11 +6,11 @@ use Rattle.clru.specs.Requests.{holds}
 use Rattle.clru.specs.Runs.{IsPut, IsPutRun, held_before}
 
 -- the last of some elements
-abbrev last_of : {X : Type 0} → X → List X → X
+abbrev pub last_of : {X : Type 0} → X → List X → X
 last_of x [] = x
 last_of x (y ∷ ys) = last_of y ys
 
-last_of-push : {X : Type 0} (x : X) (ys : List X) (z : X) → last_of x (ys ++ z ∷ []) ≡ z
+pub last_of-push : {X : Type 0} (x : X) (ys : List X) (z : X) → last_of x (ys ++ z ∷ []) ≡ z
 last_of-push x [] z = refl
 last_of-push x (y ∷ ys) z = last_of-push y ys z
 

@@ -1,2 +1,3 @@
 mod Failing
 pub mod GrowingRuns
+pub mod GrowingSizedRuns

@@ -12,6 +12,7 @@ pub mod makers;
 pub mod puts;
 pub mod removals;
 pub mod runs;
+pub mod sizes;
 pub mod walks;
 
 use clru::{CLruCache, DefaultState, PutError, WeightScale};

@@ -1,11 +1,11 @@
 //! The laws, at types of a caller's, and the callers that show what they speak of.
 
-use crate::callers::{calls, puts, runs};
+use crate::callers::{calls, puts, runs, sizes};
 use crate::lists::room;
 use assertions::equal;
 use clru::{
-    CLruCache, ZeroWeightScale, law_by_place, law_dropped, law_growth, law_inclusion,
-    law_longest_fit, law_requests, law_schedules_by_place,
+    CLruCache, CLruCacheConfig, ZeroWeightScale, law_by_place, law_dropped, law_growth,
+    law_inclusion, law_longest_fit, law_requests, law_schedules_by_place, law_sizes,
 };
 use std::test::Fail;
 
@@ -17,6 +17,7 @@ fn laws_do_nothing() {
     law_inclusion::<u64, &'static str>();
     law_longest_fit::<u64, &'static str>();
     law_requests::<&'static str, u64>();
+    law_sizes::<usize, &'static str>();
     law_of_drops(&|_, _| {});
 }
 
@@ -59,5 +60,18 @@ fn puts_in_any_form_hold_what_a_replay_hits(rt: HostRuntime) -> Result<(), Fail>
     equal!(rt; puts::put(&mut cache, "c", 5), Ok(Some(3)));
     equal!(rt; cache.pop_front(), Some(("c", 5)));
     equal!(rt; cache.pop_front(), Some(("a", 4)));
+    Ok(())
+}
+
+#[test]
+fn a_run_of_puts_by_weight_misses_by_size(rt: HostRuntime) -> Result<(), Fail> {
+    for (capacity, missed) in [(7, Some(3)), (6, Some(5)), (4, Some(5)), (3, None)] {
+        let config = CLruCacheConfig::new(room(capacity)?).with_scale(sizes::ByPage);
+        let Ok(mut cache) = CLruCache::with_config(rt.alloc(), config) else {
+            return Err(Fail::from("no reserve is asked for"));
+        };
+        let pages = Vec::from_array(rt.alloc(), [3, 0, 1, 3, 0])?;
+        equal!(rt; sizes::pages_missed(&mut cache, pages), missed, capacity);
+    }
     Ok(())
 }
