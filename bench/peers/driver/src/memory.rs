@@ -1,13 +1,61 @@
 //! Resident memory, as Linux counts it.
 
-use std::fs::read_to_string;
+use std::fs::{read_to_string, File};
+use std::io::Read;
+use std::os::unix::io::AsRawFd;
+use std::str;
 
-/// The highest resident memory while the call fills a cache, less what was resident before, in bytes.
-pub fn grown_by(fill: impl FnOnce() -> usize) -> u64 {
+const PAGE_BYTES: u64 = 4096;
+
+/// The highest resident memory during the call, less what was resident before, in bytes.
+pub fn grown_by(call: impl FnOnce()) -> u64 {
     let before = bytes_of("VmRSS:");
-    let entries = fill();
-    assert!(entries > 0, "the cache is empty");
+    call();
     bytes_of("VmHWM:").saturating_sub(before)
+}
+
+/// What a fill takes at its highest, and with all entries held, in bytes.
+pub fn print_memory(fill: impl FnOnce(&mut Resident) -> usize) {
+    let mut resident = Resident::new();
+    let before = bytes_of("VmRSS:");
+    let highest = grown_by(|| {
+        let entries = fill(&mut resident);
+        assert!(entries > 0, "the cache is empty");
+    });
+    println!("{} {}", highest, resident.bytes().saturating_sub(before));
+}
+
+/// The file that tells the resident memory, and what was read of it: our side reads it by its number, while it holds its
+/// entries.
+pub struct Resident {
+    file: File,
+    seen: [u8; 128],
+}
+
+impl Resident {
+    fn new() -> Resident {
+        Resident {
+            file: File::open("/proc/self/statm").expect("/proc is there"),
+            seen: [0; 128],
+        }
+    }
+
+    pub fn look(&mut self) {
+        let _ = self.file.read(&mut self.seen).expect("/proc can be read");
+    }
+
+    pub fn parts(&mut self) -> (i32, &mut [u8]) {
+        (self.file.as_raw_fd(), &mut self.seen)
+    }
+
+    fn bytes(&self) -> u64 {
+        let text = str::from_utf8(&self.seen).expect("numbers");
+        let pages = text
+            .split_whitespace()
+            .nth(1)
+            .and_then(|it| it.parse::<u64>().ok());
+        pages.expect("a number of pages") * PAGE_BYTES
+    }
 }
 
 fn bytes_of(field: &str) -> u64 {
