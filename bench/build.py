@@ -104,11 +104,11 @@ def lay_crate(crate, to):
     to.mkdir(parents=True, exist_ok=True)
     for part in ("src", "specs", "proofs"):
         replace(crate / part, to / part)
-    stamp = "out/rlib/stamp"
+    stamp = "out/rlib/stamp"  # (a program has none)
     lock = os.open(crate, os.O_RDONLY)
     try:
         fcntl.flock(lock, fcntl.LOCK_EX | fcntl.LOCK_NB)
-        if time_of(crate / stamp) > time_of(to / stamp):
+        if time_of(crate / stamp) > time_of(to / stamp) or not (to / "out").exists():
             replace(crate / "out", to / "out")
     except BlockingIOError:
         pass

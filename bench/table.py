@@ -80,9 +80,11 @@ BYTES = ["bytes a", "ours", "plain", "replay"]
 
 
 def bytes_of(stage, replay, ours, plain):
-    """The highest memory by what it goes with: distinct keys, or requests, of which a line of a program is one."""
+    """The highest memory by what it goes with: distinct keys, or requests, of which a line of a program is one. A replay in one
+    process with its requests holds them twice, so its memory says something for programs alone."""
     unit, by = ("key", ours.distinct) if stage == "curve" else ("request", ours.calls)
-    return [unit, *(f"{max(it.bytes) / by:.1f}" for it in (ours, plain, replay))]
+    beside = "" if ours.distinct else f"{max(replay.bytes) / by:.1f}"
+    return [unit, *(f"{max(it.bytes) / by:.1f}" for it in (ours, plain)), beside]
 
 
 def print_aligned(rows):

@@ -5,8 +5,6 @@ use std::io::Read;
 use std::os::unix::io::AsRawFd;
 use std::str;
 
-const PAGE_BYTES: u64 = 4096;
-
 /// The highest resident memory during the call, less what was resident before, in bytes.
 pub fn grown_by(call: impl FnOnce()) -> u64 {
     let before = bytes_of("VmRSS:");
@@ -17,7 +15,9 @@ pub fn grown_by(call: impl FnOnce()) -> u64 {
 /// What a fill takes at its highest, and with all entries held, in bytes.
 pub fn print_memory(fill: impl FnOnce(&mut Resident) -> usize) {
     let mut resident = Resident::new();
-    let before = bytes_of("VmRSS:");
+    resident.look();
+    let before = resident.bytes();
+    let mut resident = Resident::new();
     let highest = grown_by(|| {
         let entries = fill(&mut resident);
         assert!(entries > 0, "the cache is empty");
@@ -25,18 +25,18 @@ pub fn print_memory(fill: impl FnOnce(&mut Resident) -> usize) {
     println!("{} {}", highest, resident.bytes().saturating_sub(before));
 }
 
-/// The file that tells the resident memory, and what was read of it: our side reads it by its number, while it holds its
-/// entries.
+/// The file that tells the resident memory to the page, and what was read of it: our side reads it by its number, while it
+/// holds its entries. It can be read once.
 pub struct Resident {
     file: File,
-    seen: [u8; 128],
+    seen: [u8; 256],
 }
 
 impl Resident {
     fn new() -> Resident {
         Resident {
-            file: File::open("/proc/self/statm").expect("/proc is there"),
-            seen: [0; 128],
+            file: File::open("/proc/self/smaps_rollup").expect("/proc is there"),
+            seen: [0; 256],
         }
     }
 
@@ -49,21 +49,23 @@ impl Resident {
     }
 
     fn bytes(&self) -> u64 {
-        let text = str::from_utf8(&self.seen).expect("numbers");
-        let pages = text
-            .split_whitespace()
-            .nth(1)
-            .and_then(|it| it.parse::<u64>().ok());
-        pages.expect("a number of pages") * PAGE_BYTES
+        field_of(str::from_utf8(&self.seen).expect("a text"), "Rss:")
     }
 }
 
 fn bytes_of(field: &str) -> u64 {
-    let status = read_to_string("/proc/self/status").expect("/proc is there");
-    let line = status
+    field_of(
+        &read_to_string("/proc/self/status").expect("/proc is there"),
+        field,
+    )
+}
+
+// A number of kilobytes, in bytes.
+fn field_of(text: &str, field: &str) -> u64 {
+    let line = text
         .lines()
         .find(|it| it.starts_with(field))
-        .expect("a field of status");
+        .expect("a field of the text");
     let kilobytes = line
         .split_whitespace()
         .nth(1)
