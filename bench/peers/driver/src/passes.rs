@@ -60,11 +60,7 @@ fn plain_least(rooms: &[usize], requests: &[u64]) -> Tally {
     let nanoseconds = now() - start;
     Tally {
         nanoseconds,
-        ..tally_at(
-            misses[rooms.len() - 1],
-            misses.iter().sum(),
-            requests.len(),
-        )
+        ..tally_at(misses[rooms.len() - 1], misses.iter().sum(), requests.len())
     }
 }
 
