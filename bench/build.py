@@ -12,7 +12,8 @@ from dataclasses import dataclass
 from pathlib import Path
 
 CRATE = "clru_bench"
-PROGRAM = "clru_replay"
+LIBRARIES = ("clru", "clru_curve", "clru_least")
+PROGRAMS = ("clru_replay", "clru_mrc")
 PACKAGES = ("lru", "hashlink")
 REGISTRY = Path("/usr/share/cargo/registry")
 LOCKED = re.compile(r'name = "(.*)"\nversion = "(.*)"')
@@ -22,7 +23,7 @@ LOCKED = re.compile(r'name = "(.*)"\nversion = "(.*)"')
 class Built:
     work: Path
     driver: Path
-    program: Path
+    programs: list
     names: dict  # by cache, ours first: what its column is headed by
     tools: str
 
@@ -31,24 +32,24 @@ def stop(why):
     sys.exit(f"bench: {why}")
 
 
-def build_all(bench, work, clru, program=True):
+def build_all(bench, work, clru, programs=PROGRAMS):
     kit = kit_of()
     missing = [it for it in PACKAGES if not any(REGISTRY.glob(f"{it}-[0-9]*"))]
     if missing or not shutil.which("cargo"):
         stop(f"install cargo, {', '.join(f'librust-{it}-dev' for it in PACKAGES)}")
-    lay_ours(bench, work / "ours", [PROGRAM, "clru"] if program else ["clru"])
+    lay_ours(bench, work / "ours", [*programs, *LIBRARIES])
     print("bench: proving and building our side", file=sys.stderr)
     crates = work / "ours" / "crates"
     call(work, ["rt", "lib"], crates / CRATE)
-    if program:
-        call(work, ["rt", "run"], crates / PROGRAM, given="1\n")
+    for program in programs:
+        call(work, ["rt", "run"], crates / program, given="1\n")
     print("bench: building the peers", file=sys.stderr)
     libraries = [crates / CRATE / "out" / f"lib{CRATE}.a", kit / "c" / "liblibc_c.a"]
     names = build_peers(bench, work, clru, libraries)
     driver = work / "peers" / "target" / "release" / "driver"
-    command = crates / PROGRAM / "out" / PROGRAM
+    commands = [crates / it / "out" / it for it in programs]
     tools = f"{first_line('rt', 'version')}; {first_line('rustc', '--version')}"
-    return Built(work, driver, command, {"ours": "ours", **names}, tools)
+    return Built(work, driver, commands, {"ours": "ours", **names}, tools)
 
 
 def kit_of():
@@ -89,7 +90,7 @@ def lay_ours(bench, ours, wanted):
     for name in wanted:
         lay_crate(top / "crates" / name, ours / "crates" / name)
     lines = [f"{it}: {' '.join(uses[it])}\n" for it in wanted]
-    (ours / "crates.txt").write_text("".join([*lines, f"{CRATE} staticlib: clru libc\n"]))
+    (ours / "crates.txt").write_text("".join([*lines, f"{CRATE} staticlib: {' '.join(LIBRARIES)} libc\n"]))
     source = ours / "crates" / CRATE / "src"
     shutil.rmtree(source, ignore_errors=True)
     source.mkdir(parents=True)
@@ -103,11 +104,11 @@ def lay_crate(crate, to):
     to.mkdir(parents=True, exist_ok=True)
     for part in ("src", "specs", "proofs"):
         replace(crate / part, to / part)
-    stamp = "out/rlib/stamp"
+    stamp = "out/rlib/stamp"  # (a program has none)
     lock = os.open(crate, os.O_RDONLY)
     try:
         fcntl.flock(lock, fcntl.LOCK_EX | fcntl.LOCK_NB)
-        if time_of(crate / stamp) > time_of(to / stamp):
+        if time_of(crate / stamp) > time_of(to / stamp) or not (to / "out").exists():
             replace(crate / "out", to / "out")
     except BlockingIOError:
         pass

@@ -6,8 +6,8 @@ use std::hash::{Hash, Hasher};
 use std::io::{stdin, stdout, Read, Write};
 use std::str;
 
-#[derive(PartialEq, Eq)]
-pub struct Key<'a>(&'a [u8]);
+#[derive(Clone, Copy, PartialEq, Eq)]
+pub struct Key<'a>(pub &'a [u8]);
 
 // The bytes go to the hasher in one call, as in our program.
 impl<'a> Hash for Key<'a> {

@@ -1,28 +1,59 @@
 //! One measurement in one process, so that no cache meets the heap that another one left.
 //!
-//! `stages CACHE CAPACITY CALLS` prints a line for each stage: its name, the calls, nanoseconds, hits, misses and the sum
-//! of the values found. `reserved CACHE CAPACITY` prints such a line of a fill of reserved memory. `memory CACHE CAPACITY` prints the growth of the resident memory by a fill, in bytes.
-//! `hashes` tests that all hash alike. `lines CACHE` is the program that replays the lines of standard input. `input CAPACITY LINES` prints such an input.
+//! Each of these prints lines of a name, the calls, nanoseconds, hits, misses and the sum of the values found:
+//!
+//! - `stages CACHE CAPACITY CALLS`: the stages over one cache
+//! - `reserved CACHE CAPACITY`: a fill of reserved memory
+//! - `made CACHE CAPACITY`: a fill with the making of the cache
+//! - `texts CACHE CAPACITY CALLS`: stages over texts as keys
+//! - `pass ROW WHO CAPACITY CALLS`: a replay, a curve, the least possible misses for one room or for 20 (`rooms`), by `ours` or
+//!   in `plain` Rust; behind the sum stand the growth of the resident memory and the number of distinct keys
+//!
+//! `memory CACHE CAPACITY` prints the growth of the resident memory by a fill, at its highest and at the end, in bytes. `hashes`
+//! tests that all hash alike. `lines CACHE` is the program that replays the lines of standard input, and `table [ROOMS]` the one
+//! that makes a table of many capacities. `input CAPACITY LINES` prints an input of the first.
 
 mod cache;
 mod clock;
+mod curve;
 mod hash;
+mod least;
 mod lines;
 mod memory;
 mod ours;
+mod passes;
 mod replay;
 mod stages;
+mod table;
 mod tally;
+mod texts;
 mod workload;
 
 #[cfg(feature = "clru")]
 use cache::Clru;
 use cache::{Cache, Hashlink, Lru};
+use memory::print_memory;
+use passes::print_pass;
 use replay::{replay, timed};
+use stages::{fill, fill_made, fill_reserved};
 use std::env;
 use std::process::exit;
 use tally::{print_line, Found};
+use texts::Texts;
 use workload::{first_keys, Workload};
+
+/// Calls a function for the type of the peer of that name.
+macro_rules! of_peer {
+    ($name:expr, $call:ident, $($argument:expr),*) => {
+        match $name {
+            "lru" => $call::<Lru<_, _>>($($argument),*),
+            "hashlink" => $call::<Hashlink<_, _>>($($argument),*),
+            #[cfg(feature = "clru")]
+            "clru" => $call::<Clru<_, _>>($($argument),*),
+            _ => stop("no such cache"),
+        }
+    };
+}
 
 fn main() {
     let words: Vec<String> = env::args().skip(1).collect();
@@ -30,12 +61,20 @@ fn main() {
     match words[..] {
         ["stages", cache, capacity, calls] => print_stages(cache, number(capacity), number(calls)),
         ["reserved", cache, capacity] => print_reserved(cache, number(capacity)),
-        ["memory", cache, capacity] => print_memory(cache, number(capacity)),
+        ["made", cache, capacity] => print_made(cache, number(capacity)),
+        ["texts", cache, capacity, calls] => print_texts(cache, number(capacity), number(calls)),
+        ["memory", cache, capacity] => print_resident(cache, number(capacity)),
+        ["pass", row, who, capacity, calls] => {
+            print_pass(row, who, number(capacity), number(calls))
+                .unwrap_or_else(|| stop("no such row"))
+        }
         ["hashes"] if ours::hashes_alike() => {}
         ["hashes"] => stop("our cache hashes otherwise"),
         ["lines", cache] => replay_lines(cache),
+        ["table"] => table::run(&[]),
+        ["table", rooms] => table::run(&rooms.split(',').map(number).collect::<Vec<_>>()),
         ["input", capacity, count] => lines::print_input(number(capacity), number(count)),
-        _ => stop("give stages, reserved, memory, lines or input, and what it takes"),
+        _ => stop("give stages, reserved, made, texts, memory, pass, lines, table or input, and what it takes"),
     }
 }
 
@@ -63,26 +102,35 @@ fn print_reserved(cache: &str, capacity: usize) {
     let keys = first_keys(capacity);
     let tally = match cache {
         "ours" => ours::fill_reserved(capacity, &keys),
-        "lru" => stages::fill_reserved::<Lru<_, _>>(capacity, &keys),
-        "hashlink" => stages::fill_reserved::<Hashlink<_, _>>(capacity, &keys),
-        #[cfg(feature = "clru")]
-        "clru" => stages::fill_reserved::<Clru<_, _>>(capacity, &keys),
-        _ => stop("no such cache"),
+        _ => of_peer!(cache, fill_reserved, capacity, &keys),
     };
     print_line("reserved", keys.len(), &tally);
 }
 
-fn print_memory(cache: &str, capacity: usize) {
+fn print_made(cache: &str, capacity: usize) {
     let keys = first_keys(capacity);
-    let grown = match cache {
-        "ours" => memory::grown_by(|| ours::fill(capacity, &keys)),
-        "lru" => memory::grown_by(|| stages::fill::<Lru<_, _>>(capacity, &keys)),
-        "hashlink" => memory::grown_by(|| stages::fill::<Hashlink<_, _>>(capacity, &keys)),
-        #[cfg(feature = "clru")]
-        "clru" => memory::grown_by(|| stages::fill::<Clru<_, _>>(capacity, &keys)),
-        _ => stop("no such cache"),
+    let tally = match cache {
+        "ours" => ours::fill_made(capacity, &keys),
+        _ => of_peer!(cache, fill_made, capacity, &keys),
     };
-    println!("{}", grown);
+    print_line("made", keys.len(), &tally);
+}
+
+fn print_texts(cache: &str, capacity: usize, calls: usize) {
+    use texts::{run, run_ours};
+    let texts = Texts::new(capacity, calls);
+    texts.print(|texts| match cache {
+        "ours" => run_ours(texts),
+        _ => of_peer!(cache, run, texts),
+    });
+}
+
+fn print_resident(cache: &str, capacity: usize) {
+    let keys = first_keys(capacity);
+    print_memory(|resident| match cache {
+        "ours" => ours::fill(capacity, &keys, resident),
+        _ => of_peer!(cache, fill, capacity, &keys, resident),
+    });
 }
 
 fn replay_lines(cache: &str) {

@@ -43,7 +43,17 @@ pub struct Steps {
     pub get: Tally,
     pub evict: Tally,
     pub pop: Tally,
+    pub absent: Tally,
     pub check: Tally,
+}
+
+/// The stages over texts as keys.
+#[repr(C)]
+#[derive(Clone, Copy, Default)]
+pub struct TextSteps {
+    pub fill: Tally,
+    pub get: Tally,
+    pub evict: Tally,
 }
 
 pub struct Found {
@@ -57,6 +67,7 @@ impl Found {
         print_line("get", workload.gets.len(), &self.steps.get);
         print_line("evict", workload.evictions.len(), &self.steps.evict);
         print_line("pop", workload.pops.len(), &self.steps.pop);
+        print_line("absent", workload.gets.len(), &self.steps.absent);
         print_line("fill", workload.fills.len(), &self.steps.fill);
         print_line("check", 0, &self.steps.check);
     }

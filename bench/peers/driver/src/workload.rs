@@ -29,6 +29,11 @@ impl Workload {
     }
 }
 
+/// The requests of a pass, for four times as many keys as the capacity.
+pub fn requests_of(capacity: usize, calls: usize) -> Vec<u64> {
+    Random { state: 1 }.skewed_keys(capacity, calls)
+}
+
 /// As many different keys as the capacity.
 pub fn first_keys(capacity: usize) -> Vec<u64> {
     (0..capacity as u64).map(scrambled).collect()
