@@ -1,7 +1,8 @@
 /* The proved numbers of an LRU cache, from an array of 64-bit keys.
  *
  * The array has the requests in order, each the key that is asked for. A key means nothing but whether it equals another one:
- * numbers of pages, hashes of names, codes of a column all do. Nothing outlives a call, and no call prints, waits or ends the process.
+ * numbers of pages, hashes of names, codes of a column all do. Nothing outlives a call, and no call prints, waits or ends the
+ * process.
  *
  * What each call writes is proved of its code in Rattle (the clauses stand in src/exports.rt). That a caller does what he owes
  * is not checked by anything, nor is this header, which is written by hand; tools/foreign calls each function and sees each code.
@@ -18,7 +19,7 @@
  * The seed: 0, 0 hashes keys with a fixed seed, which is the fastest. Where somebody who means you ill picks the keys, give two
  * words that he can't know, as from getrandom: the keys are then hashed by SipHash-1-3 under them. The answers are the same.
  *
- * Every call answers CLRU_OK or why it didn't answer. But for CLRU_OK, nothing was written.
+ * Every call answers CLRU_OK or why it didn't answer. But for CLRU_OK nothing was written, which is proved too.
  */
 #ifndef CLRU_H
 #define CLRU_H
@@ -52,8 +53,8 @@ extern "C" {
  * one that knows them all beforehand.
  *
  * Codes: CLRU_NO_CAPACITY, CLRU_WRONG_LENGTH, CLRU_NO_MEMORY.
- * Cost: a look-up for each request. Memory, until it returns: a copy of the keys, a byte for each, and a cache of as many entries as
- * there are keys, capacity at most. */
+ * Cost: a look-up for each request. Memory, until it returns: a copy of the keys, a byte for each, and a cache of as many
+ * entries as there are keys, capacity at most. */
 uint32_t clru_hits_at(const uint64_t *keys, size_t keys_len, size_t capacity, uint64_t seed_low, uint64_t seed_high,
                       bool *hits, size_t hits_len, size_t *misses);
 
