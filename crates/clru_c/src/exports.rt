@@ -1,4 +1,6 @@
 //! What C calls.
+//!
+//! Calls for the two kinds of seeds share no code, since one takes the allocator by reference: what has one caller is inlined.
 ghost use Rattle.std.specs.Prelude.{◌≡◌, ◌≢◌, ◌↔◌, [], length, nat_eq, reverse};
 ghost use Rattle.clru_model.specs.Requests.{distinct, marks, misses};
 ghost use Rattle.clru_model.specs.Schedule.{IsCompetitive, IsCompetitiveFromAnyStart};
@@ -63,7 +65,7 @@ pub extern "C" fn clru_misses_by_capacity(
     if low == 0 && high == 0 {
         misses_by_capacity(alloc, keys, DefaultState, missed, kinds)
     } else {
-        misses_by_capacity(alloc, keys, KeyedState { low, high }, missed, kinds)
+        misses_by_capacity(&alloc, keys, KeyedState { low, high }, missed, kinds)
     }
 }
 
@@ -85,6 +87,6 @@ pub extern "C" fn clru_least_by_room(
     if low == 0 && high == 0 {
         least_by_room(alloc, keys, rooms, DefaultState, least)
     } else {
-        least_by_room(alloc, keys, rooms, KeyedState { low, high }, least)
+        least_by_room(&alloc, keys, rooms, KeyedState { low, high }, least)
     }
 }
