@@ -35,7 +35,7 @@ pub extern "C" fn clru_hits_at(
         hits_at(alloc, keys, capacity, DefaultState, hits, missed)
     } else {
         hits_at(
-            alloc,
+            &alloc,
             keys,
             capacity,
             KeyedState { low, high },
