@@ -1,0 +1,51 @@
+/* Prints a small table of the keys in its input, one number of 64 bits a line: at the capacities 1, 2, 4 and so on. */
+#include "clru.h"
+
+#include <inttypes.h>
+#include <stdio.h>
+#include <stdlib.h>
+
+#define ROWS 64
+
+static int refused(uint32_t code) {
+    fprintf(stderr, "curve: code %" PRIu32 "\n", code);
+    return 1;
+}
+
+int main(void) {
+    size_t count = 0, places = 1024;
+    uint64_t *keys = malloc(places * sizeof *keys);
+    while (keys && scanf("%" SCNu64, &keys[count]) == 1) {
+        if (++count == places) {
+            keys = realloc(keys, (places *= 2) * sizeof *keys);
+        }
+    }
+    if (!keys) {
+        return refused(CLRU_NO_MEMORY);
+    }
+
+    /* As many places as there are keys, so that the array reaches the number of distinct keys. */
+    size_t distinct, *misses = calloc(count ? count : 1, sizeof *misses);
+    if (!misses) {
+        return refused(CLRU_NO_MEMORY);
+    }
+    uint32_t code = clru_misses_by_capacity(keys, count, 0, 0, misses, count, &distinct);
+    if (code != CLRU_OK) {
+        return refused(code);
+    }
+    size_t rooms[ROWS], least[ROWS], rows = 0;
+    for (size_t room = 1; rows < ROWS && room <= distinct; room *= 2) {
+        rooms[rows++] = room;
+    }
+    code = clru_least_by_room(keys, count, rooms, rows, 0, 0, least, rows);
+    if (code != CLRU_OK) {
+        return refused(code);
+    }
+    puts("capacity,misses,least_misses");
+    for (size_t row = 0; row < rows; row++) {
+        printf("%zu,%zu,%zu\n", rooms[row], misses[rooms[row] - 1], least[row]);
+    }
+    free(misses);
+    free(keys);
+    return 0;
+}

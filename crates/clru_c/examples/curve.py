@@ -1,0 +1,68 @@
+#!/usr/bin/env python3
+"""Prints a small table of the keys in its input, one number a line, at the capacities 1, 2, 4 and so on:
+
+    curve.py LIBCLRU.SO < KEYS
+
+It takes numpy where it is there, and plain arrays where not. For your own use take `curve` and `least`.
+"""
+import ctypes
+import sys
+
+try:
+    import numpy
+except ImportError:
+    numpy = None
+
+CODES = {1: "a capacity or a room is 0", 2: "an array has a wrong length", 3: "memory was refused"}
+SEED = (ctypes.c_uint64(0), ctypes.c_uint64(0))
+
+
+def passed(array):
+    """A pointer and a length, as a call takes an array of 64 bits. One of no elements has a pointer too."""
+    if numpy is not None and isinstance(array, numpy.ndarray):
+        return ctypes.c_void_p(array.ctypes.data), ctypes.c_size_t(array.size)
+    return array, ctypes.c_size_t(len(array))
+
+
+def numbers(values):
+    """An array of 64-bit numbers in one block."""
+    if numpy is not None:
+        return numpy.ascontiguousarray(values, dtype=numpy.uint64)
+    return (ctypes.c_uint64 * len(values))(*values)
+
+
+def zeros(count):
+    return numpy.zeros(count, dtype=numpy.uint64) if numpy is not None else (ctypes.c_uint64 * count)()
+
+
+def checked(code):
+    if code:
+        raise ValueError(CODES[code])
+
+
+def curve(library, keys, capacities):
+    """The misses at the capacities 1 to `capacities`, and the number of distinct keys."""
+    keys, misses, distinct = numbers(keys), zeros(capacities), ctypes.c_size_t()
+    checked(library.clru_misses_by_capacity(*passed(keys), *SEED, *passed(misses), ctypes.byref(distinct)))
+    return misses, distinct.value
+
+
+def least(library, keys, rooms):
+    """The least possible misses for each of the rooms."""
+    keys, rooms, answers = numbers(keys), numbers(rooms), zeros(len(rooms))
+    checked(library.clru_least_by_room(*passed(keys), *passed(rooms), *SEED, *passed(answers)))
+    return answers
+
+
+def main():
+    library = ctypes.CDLL(sys.argv[1])
+    keys = [int(line) for line in sys.stdin]
+    misses, distinct = curve(library, keys, len(keys))
+    rooms = [2**power for power in range(64) if 2**power <= distinct]
+    print("capacity,misses,least_misses")
+    for room, fewest in zip(rooms, least(library, keys, rooms)):
+        print(f"{room},{misses[room - 1]},{fewest}")
+
+
+if __name__ == "__main__":
+    main()

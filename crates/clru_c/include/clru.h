@@ -1,0 +1,92 @@
+/* The proved numbers of an LRU cache, from an array of 64-bit keys.
+ *
+ * The array has the requests in order, each the key that is asked for. A key means nothing but whether it equals another one:
+ * numbers of pages, hashes of names, codes of a column all do. Nothing outlives a call, and no call prints, waits or ends the
+ * process.
+ *
+ * What each call writes is proved of its code in Rattle (the clauses stand in src/exports.rt). That a caller does what he owes
+ * is not checked by anything, nor is this header, which is written by hand; tools/foreign calls each function and sees each code.
+ *
+ * What the caller owes:
+ * - Each pointer is valid for its length and is not NULL, not even where the length is 0. An array that is written overlaps no
+ *   other argument. Arrays are shorter than 2^63 bytes.
+ * - Each bool of an array that is passed in is 0 or 1: zero the array first.
+ * - No other thread writes the arrays during a call, and none reads those that are written. Calls on arrays of their own may run
+ *   side by side in as many threads as you like.
+ * - malloc, realloc and free come from one allocator, which aligns a block to each power of two up to 16 that divides its size.
+ * - No call from a signal handler, nor in the forked child of a process that has threads.
+ *
+ * The seed: 0, 0 hashes keys with a fixed seed, which is the fastest. Where somebody who means you ill picks the keys, give two
+ * words that he can't know, as from getrandom: the keys are then hashed by SipHash-1-3 under them. The answers are the same.
+ *
+ * Every call answers CLRU_OK or why it didn't answer. But for CLRU_OK nothing was written, which is proved too.
+ */
+#ifndef CLRU_H
+#define CLRU_H
+
+#include <stdbool.h>
+#include <stddef.h>
+#include <stdint.h>
+
+/* The release of the Rust crate whose behaviour this is, and our own number behind it. */
+#define CLRU_VERSION_MAJOR 0
+#define CLRU_VERSION_MINOR 6
+#define CLRU_VERSION_PATCH 3
+#define CLRU_VERSION_NUMBER 2
+#define CLRU_VERSION "0.6.3+2"
+
+#define CLRU_OK 0u           /* all was written */
+#define CLRU_NO_CAPACITY 1u  /* a capacity or a room was 0 */
+#define CLRU_WRONG_LENGTH 2u /* an array that is written is shorter or longer than it has to be */
+#define CLRU_NO_MEMORY 3u    /* memory was refused */
+
+#ifdef __cplusplus
+extern "C" {
+#endif
+
+/* Which requests hit in an LRU cache of the capacity, in keys, that starts empty, and how many don't.
+ *
+ * hits has as many places as keys: true where the request hits. *misses is the number of the others.
+ *
+ * Proved: a request hits exactly where its key was requested before, and fewer than capacity distinct keys since. And the misses
+ * are at most capacity / (capacity - h + 1) times those of every way to serve the requests with h keys, h up to capacity, also of
+ * one that knows them all beforehand.
+ *
+ * Codes: CLRU_NO_CAPACITY, CLRU_WRONG_LENGTH, CLRU_NO_MEMORY.
+ * Cost: a look-up for each request. Memory, until it returns: a copy of the keys, a byte for each, and a cache of as many
+ * entries as there are keys, capacity at most. */
+uint32_t clru_hits_at(const uint64_t *keys, size_t keys_len, size_t capacity, uint64_t seed_low, uint64_t seed_high,
+                      bool *hits, size_t hits_len, size_t *misses);
+
+/* The misses at every capacity, from one pass.
+ *
+ * misses[i] is the number at capacity i + 1, for each place of the array, which may be of any length. *distinct is the number of
+ * distinct keys: from that capacity on the misses stay the same, and are that number.
+ *
+ * Proved: misses[i] is the number of requests that don't hit, as clru_hits_at says it, at capacity i + 1.
+ *
+ * Codes: CLRU_NO_MEMORY, and never where there are no keys.
+ * Cost: for each request a look-up, and steps that go with the logarithm of their number. Memory, until it returns: an entry
+ * and a number for each distinct key, and a quarter of a byte for each request. */
+uint32_t clru_misses_by_capacity(const uint64_t *keys, size_t keys_len, uint64_t seed_low, uint64_t seed_high,
+                                 size_t *misses, size_t misses_len, size_t *distinct);
+
+/* The least number of misses that any way to choose what to drop has, also one that knows all requests beforehand, for each of
+ * the rooms, in keys.
+ *
+ * least has as many places as rooms: least[i] is for room rooms[i]. Rooms may stand in any order, and twice.
+ *
+ * Proved: some way that starts empty has least[i] misses, and none has fewer; one that starts with keys has at most rooms[i]
+ * fewer; LRU of that capacity has no fewer.
+ *
+ * Codes: CLRU_NO_CAPACITY, CLRU_WRONG_LENGTH, CLRU_NO_MEMORY.
+ * Cost: a look-up for each request, once; and for each room a pass whose steps go with the logarithm of the number of
+ * requests. Memory, until it returns: some tens of bytes for each request. */
+uint32_t clru_least_by_room(const uint64_t *keys, size_t keys_len, const size_t *rooms, size_t rooms_len,
+                            uint64_t seed_low, uint64_t seed_high, size_t *least, size_t least_len);
+
+#ifdef __cplusplus
+}
+#endif
+
+#endif

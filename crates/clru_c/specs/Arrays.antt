@@ -1,0 +1,23 @@
+-- What stands in arrays of answers. Public clauses cite them.
+use Rattle.std.specs.Prelude.{◌≡◌, ℕ, suc, ◌<◌, ◌≤◌, Bool, List, length, slice_index}
+use Rattle.clru_model.specs.Requests.{misses}
+use Rattle.clru_model.specs.Least.{IsLeast, IsNearFromAnyStart}
+
+-- at each place below n stands a number of which P holds at that place
+abbrev pub AreBelow : (ℕ → ℕ → Type 0) → List ℕ → ℕ → Type 0
+AreBelow P array n = (i : ℕ) → i < n → P i (slice_index array i)
+
+module _ {K : Type 0} (eq : K → K → Bool) where
+  -- at each place the misses at the capacity one above it: at capacity 1, 2 and so on
+  abbrev pub AreMisses : List K → List ℕ → Type 0
+  AreMisses requests array = AreBelow (λ i n. n ≡ misses eq (suc i) requests) array (length array)
+
+  -- what is known of the least number of misses n for a room
+  pub record IsLeastOf (requests : List K) (room n : ℕ) : Type 0 where
+    pub least : IsLeast eq room requests n
+    pub any_start : IsNearFromAnyStart eq room requests n
+    pub beside_lru : n ≤ misses eq room requests
+
+  -- at each place the least number of misses for the room at that place
+  abbrev pub AreLeast : List K → List ℕ → List ℕ → Type 0
+  AreLeast requests rooms array = AreBelow (λ i n. IsLeastOf requests (slice_index rooms i) n) array (length array)
