@@ -27,5 +27,6 @@ pub mod Rows
 pub mod RunRows
 pub mod SchedulesByPlace
 pub mod Sublists
+pub mod Views
 pub mod Wanted
 pub mod Weights

@@ -1,6 +1,6 @@
 //! What the arguments ask for.
-use crate::number::capacity_of;
 use crate::options::{Capacities, Form, Options};
+use clru_lines::capacity_of;
 use std::alloc::{Allocator, Global};
 use std::convert::AsStr;
 use std::num::NonZeroUsize;
