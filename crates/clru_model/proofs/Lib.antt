@@ -31,5 +31,6 @@ pub mod SizedRuns
 pub mod Spans
 pub mod Sublists
 pub mod Totals
+pub mod Views
 pub mod Wanted
 pub mod Weights

@@ -8,7 +8,7 @@ use Rattle.clru_model.proofs.Cases.{split}
 use Rattle.clru_model.specs.Requests.{holds}
 use Rattle.clru_model.specs.Schedule.{IsSchedule, schedule_marks, schedule_misses}
 use Rattle.clru_model.specs.Least.{IsAttained, IsLeast}
-use Rattle.clru_mrc.proofs.MarksLemmas.{same, holds-map}
+use Rattle.clru_model.proofs.Views.{same, holds-map}
 
 or_left : (a b : Bool) → a ≡ true → (a || b) ≡ true
 or_left true b h = refl

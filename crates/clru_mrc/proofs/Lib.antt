@@ -1,6 +1,3 @@
 mod CapacityLemmas
-mod KnownLemmas
 mod LeastLemmas
-mod LineLemmas
-mod MarksLemmas
 mod ReportLemmas

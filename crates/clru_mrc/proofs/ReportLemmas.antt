@@ -5,16 +5,16 @@ use Rattle.std.proofs.lemmas.List.{length-map}
 use Rattle.std.proofs.lemmas.Slice.Eq.{bytes_eq-Decides}
 use Rattle.clru_model.specs.Requests.{distinct, misses}
 use Rattle.clru_model.specs.Least.{IsLeast}
+use Rattle.clru_model.proofs.Views.{same, misses-map, distinct-map, map-reverse}
+use Rattle.clru_lines.specs.Lines.{lines_of}
 use Rattle.clru_mrc.specs.Capacities.{capacities_of}
 use Rattle.clru_mrc.specs.Report.{AreRows, HasLeast, IsInForm, IsReport, IsRow, IsTable}
 use Rattle.clru_mrc.specs.Tables.{capacity_of_row, summary_text, table_text}
-use Rattle.clru_mrc.specs.Lines.{lines_of}
 use Rattle.clru_mrc.specs.declared.options.Form.TheVariants.{Table, Picture, Summary}
 use Rattle.clru_mrc.specs.declared.options.Options.{Options}
 use Rattle.clru_mrc.specs.declared.rows.Row.{Row}
 use Rattle.clru_mrc.proofs.CapacityLemmas.{capacities-alike}
 use Rattle.clru_mrc.proofs.LeastLemmas.{least-view}
-use Rattle.clru_mrc.proofs.MarksLemmas.{same, misses-map, distinct-map, map-reverse}
 
 module _ {K : Type 0} (view : K → List ℕ) (keys : List K) where
   -- the least of the keys is that of what they show

@@ -3,8 +3,8 @@ use Rattle.std.specs.Prelude.{◌≡◌, ℕ, Bool, true, false, List, ◌++◌,
 use Rattle.std.specs.List.{All}
 use Rattle.clru_model.specs.Requests.{distinct, misses}
 use Rattle.clru_model.specs.Least.{IsLeast}
+use Rattle.clru_lines.specs.Lines.{lines_of}
 use Rattle.clru_mrc.specs.Capacities.{capacities_of}
-use Rattle.clru_mrc.specs.Lines.{lines_of}
 use Rattle.clru_mrc.specs.Tables.{capacity_of_row, table_text, summary_text}
 use Rattle.clru_mrc.specs.declared.options.Form.{Form}
 use Rattle.clru_mrc.specs.declared.options.Form.TheVariants.{Table, Picture, Summary}

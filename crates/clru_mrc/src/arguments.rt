@@ -1,6 +1,6 @@
 //! What the arguments ask for.
-use crate::number::capacity_of;
 use crate::options::{Capacities, Form, Options};
+use clru_lines::capacity_of;
 use std::alloc::{Allocator, Global};
 use std::convert::AsStr;
 use std::num::NonZeroUsize;
@@ -47,18 +47,19 @@ pub(crate) fn command_of<S: AsStr, A: Allocator + Copy>(
         svg: false,
         summary: false,
     };
-    let mut names = false;
+    // The word after `--at`.
+    let mut capacities_follow = false;
     for word in words {
         let word = word.as_str();
-        if names {
+        if capacities_follow {
             name_capacities(alloc, &mut draft.named, word)?;
-            names = false;
+            capacities_follow = false;
             continue;
         }
         match word {
             "--help" => return Ok(Command::Help),
             "--version" => return Ok(Command::Version),
-            "--at" => names = true,
+            "--at" => capacities_follow = true,
             "--all" => draft.all = true,
             "--least" => draft.least = true,
             "--svg" => draft.svg = true,
@@ -69,13 +70,13 @@ pub(crate) fn command_of<S: AsStr, A: Allocator + Copy>(
             },
         }
     }
-    if names {
+    if capacities_follow {
         return Err(wrong(alloc, "--at wants capacities: write --at 100,1000"));
     }
     finish(alloc, draft)
 }
 
-// Adds the capacities between commas.
+// Each `--at` adds to those before it.
 fn name_capacities<A: Allocator + Copy>(
     alloc: A,
     named: &mut Vec<NonZeroUsize, A>,
@@ -94,7 +95,7 @@ fn name_capacities<A: Allocator + Copy>(
     Ok(())
 }
 
-// Which words do not go together, and what all of them ask for.
+// Once all words are read, since the order of words is free.
 fn finish<A: Allocator + Copy>(alloc: A, draft: Draft<A>) -> Result<Command<A>, Refusal<A>> {
     let Draft {
         mut named,
@@ -103,18 +104,18 @@ fn finish<A: Allocator + Copy>(alloc: A, draft: Draft<A>) -> Result<Command<A>, 
         svg,
         summary,
     } = draft;
-    let at = !named.is_empty();
-    if all && at {
+    let some_named = !named.is_empty();
+    if all && some_named {
         return Err(wrong(alloc, "--all and --at do not go together: leave one out"));
     }
-    if summary && (all || at || least || svg) {
+    if summary && (all || some_named || least || svg) {
         return Err(wrong(alloc, "--summary goes alone: leave the other arguments out"));
     }
     named.sort_unstable();
     named.dedup();
     let capacities = if all {
         Capacities::Each
-    } else if at {
+    } else if some_named {
         Capacities::Named(named)
     } else {
         Capacities::Usual

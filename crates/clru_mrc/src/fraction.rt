@@ -20,10 +20,21 @@ impl fmt::Display for Millionths {
     ghost output = { λ n. Some (fraction_text n.0) };
 
     fn fmt<W: fmt::Write>(&self, f: &mut fmt::Formatter<W>) -> fmt::Result {
-        let n = self.0;
-        let ones = n / 1_000_000;
-        let [a, b, c] = [n / 100_000 % 10, n / 10_000 % 10, n / 1000 % 10];
-        let [d, e, g] = [n / 100 % 10, n / 10 % 10, n % 10];
-        write!(f, "{ones}.{a}{b}{c}{d}{e}{g}")
+        let millionths = self.0;
+        let ones = millionths / 1_000_000;
+        let [tenth, hundredth, thousandth] = [
+            millionths / 100_000 % 10,
+            millionths / 10_000 % 10,
+            millionths / 1000 % 10,
+        ];
+        let [ten_thousandth, hundred_thousandth, millionth] = [
+            millionths / 100 % 10,
+            millionths / 10 % 10,
+            millionths % 10,
+        ];
+        write!(
+            f,
+            "{ones}.{tenth}{hundredth}{thousandth}{ten_thousandth}{hundred_thousandth}{millionth}"
+        )
     }
 }

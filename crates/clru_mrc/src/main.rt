@@ -6,9 +6,6 @@ mod capacities;
 mod fault;
 mod fraction;
 mod help;
-mod input;
-mod lines;
-mod number;
 mod options;
 mod output;
 mod picture;
@@ -20,7 +17,7 @@ mod table;
 use arguments::{Command, Refusal, command_of, wrong};
 use fault::{Fault, exit_status};
 use help::{HELP, VERSION};
-use output::write_text;
+use output::write_report;
 use program::run;
 use std::env;
 use std::io::ErrorKind;
@@ -60,8 +57,8 @@ fn asked(rt: &HostRuntime) -> Result<Command, Refusal> {
 // Does it, and gives the exit status.
 fn done(rt: &HostRuntime, command: &Command) -> u8 {
     let outcome = match command {
-        Command::Help => write_text(&mut rt.stdout(), HELP.as_bytes()),
-        Command::Version => write_text(&mut rt.stdout(), VERSION.as_bytes()),
+        Command::Help => write_report(&mut rt.stdout(), HELP.as_bytes()),
+        Command::Version => write_report(&mut rt.stdout(), VERSION.as_bytes()),
         Command::Report(options) => run(rt.alloc(), options, &mut rt.stdin(), &mut rt.stdout()),
     };
     told(rt, &outcome)

@@ -4,24 +4,17 @@ ghost use Rattle.std.specs.Io.KnownBytes.{Appends};
 ghost use Rattle.clru_mrc.specs.Faults.{is_of_writing};
 
 use crate::fault::Fault;
+use clru_lines::write_text;
 use std::io::{Error, ErrorKind, Write};
 
-/// Writes the text, each call being offered all that is left of it, and then flushes.
-pub(crate) fn write_text<W: Write>(writer: &mut W, text: &[u8]) -> Result<(), Fault>
+/// Writes the text whole, or says why not.
+pub(crate) fn write_report<W: Write>(writer: &mut W, text: &[u8]) -> Result<(), Fault>
     ensures written { OnOk result (Appends (W.contents writer.old) (W.contents writer.new) text.now) }
     ensures cut_short { IfErr result (λ _. (n : ℕ)
         × Appends (W.contents writer.old) (W.contents writer.new) (take n text.now)) }
     ensures fault { IfErr result (λ fault. is_of_writing fault ≡ true) }
 {
-    let mut left = text;
-    'writes: while !left.is_empty() {
-        match writer.write(left) {
-            Ok(0) => return Err(Fault::Writing),
-            Ok(count) => left = &left[count..],
-            Err(error) => return Err(fault_of(&error)),
-        }
-    }
-    match writer.flush() {
+    match write_text(writer, text) {
         Ok(()) => Ok(()),
         Err(error) => Err(fault_of(&error)),
     }

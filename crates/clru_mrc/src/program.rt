@@ -1,15 +1,15 @@
 //! From the reader to the writer.
 ghost use Rattle.std.specs.Prelude.{◌≡◌, ℕ, List, true, false, take, string_bytes, IfErr, OnOk};
 ghost use Rattle.std.specs.Io.KnownBytes.{Appends, Keeps};
+ghost use Rattle.clru_lines.specs.Whole.{ReadWhole};
 ghost use Rattle.clru_mrc.specs.Faults.{is_of_writing};
 ghost use Rattle.clru_mrc.specs.Report.{IsReport};
-ghost use Rattle.clru_mrc.specs.Whole.{ReadWhole};
 
 use crate::fault::Fault;
-use crate::input::read_input;
 use crate::options::Options;
-use crate::output::write_text;
+use crate::output::write_report;
 use crate::report::report_on;
+use clru_lines::{ReadError, read_input};
 use std::alloc::Allocator;
 use std::io::{Read, Write};
 
@@ -33,9 +33,13 @@ pub fn run<R: Read, W: Write, A: Allocator + Copy>(
     ensures silent { IfErr result (λ fault. is_of_writing fault ≡ false
         → Keeps (W.contents writer.old) (W.contents writer.new)) }
 {
-    let input = read_input(alloc, reader)?;
+    let input = match read_input(alloc, reader) {
+        Ok(input) => input,
+        Err(ReadError::Memory) => return Err(Fault::Memory),
+        Err(ReadError::Reading) => return Err(Fault::Reading),
+    };
     let Ok(text) = report_on(alloc, options, &input) else {
         return Err(Fault::Memory);
     };
-    write_text(writer, text.as_bytes())
+    write_report(writer, text.as_bytes())
 }

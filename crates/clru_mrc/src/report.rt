@@ -2,12 +2,12 @@
 ghost use Rattle.std.specs.Prelude.{◌≡◌, IfOk, string_bytes};
 ghost use Rattle.clru_mrc.specs.Report.{IsReport};
 
-use crate::lines::keys_of;
 use crate::options::{Form, Options};
 use crate::picture::picture_of;
 use crate::rows::rows_for;
 use crate::table::{summary_of, table_of};
 use clru_curve::miss_curve;
+use clru_lines::keys_of;
 use clru_model::DefaultState;
 use std::alloc::{AllocError, Allocator};
 

@@ -56,6 +56,11 @@ fn worked_inputs_give_their_tables(rt: HostRuntime) -> Result<(), Fail> {
             "capacity,misses,miss_ratio\n2,2,0.666667\n",
         ),
         (
+            ["--at=2,2"].as_slice(),
+            TEN,
+            "capacity,misses,miss_ratio\n2,8,0.800000\n",
+        ),
+        (
             ["--summary"].as_slice(),
             TEN,
             "requests,distinct_keys,input_bytes\n10,5,20\n",

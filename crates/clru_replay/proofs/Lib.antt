@@ -1,5 +1,2 @@
-mod KnownLemmas
-mod LineLemmas
-mod MarksLemmas
 mod ReportLemmas
 mod Rows

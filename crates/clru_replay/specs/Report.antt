@@ -1,29 +1,8 @@
 -- The report of an input: one text, or nothing where the first line is no capacity.
-use Rattle.std.specs.Prelude.{ℕ, ◌^◌, Bool, ◌&&◌, List, [], ◌∷◌, ◌++◌, length, Option, None, Some, flat_map, codes, decimal, bytes_eq, ◌==◌, nat_lt, nat_le, if◌then◌else◌}
-use Rattle.std.specs.List.{list_all, slice_split}
-use Rattle.std.specs.Char.{is_ascii_digit}
+use Rattle.std.specs.Prelude.{ℕ, Bool, List, [], ◌∷◌, ◌++◌, Option, None, Some, flat_map, codes, decimal, bytes_eq, if◌then◌else◌}
 use Rattle.std.specs.Str.Parse.{digits_value}
 use Rattle.clru.specs.Requests.{marks, misses}
-
--- what follows the last newline is a line where it is not empty
-abbrev pub unless_empty : List ℕ → List (List ℕ)
-unless_empty [] = []
-unless_empty (b ∷ bs) = (b ∷ bs) ∷ []
-
--- the lines in the parts between newlines
-abbrev pub lines_of_parts : List (List ℕ) → List (List ℕ)
-lines_of_parts [] = []
-lines_of_parts (part ∷ []) = unless_empty part
-lines_of_parts (part ∷ next ∷ more) = part ∷ lines_of_parts (next ∷ more)
-
--- the lines of an input, each without its newline; a carriage return is a byte like others
-abbrev pub lines_of : List ℕ → List (List ℕ)
-lines_of bytes = lines_of_parts (slice_split (λ b. b == 10) bytes)
-
--- 1 to 20 digits and nothing else, with a value from 1 to the greatest `usize`
-abbrev pub is_capacity : List ℕ → Bool
-is_capacity line = (nat_lt 0 (length line) && (nat_le (length line) 20 && list_all is_ascii_digit line))
-    && (nat_lt 0 (digits_value 10 line) && nat_lt (digits_value 10 line) (2 ^ 64))
+use Rattle.clru_lines.specs.Lines.{is_capacity, lines_of}
 
 -- the line of one request
 abbrev pub mark_line : Bool → List ℕ

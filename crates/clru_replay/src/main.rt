@@ -1,11 +1,7 @@
 //! Replays a list of requests through a cache of the given capacity, and reports which of them hit.
 #![tactic(auto)]
 
-mod capacity;
 mod fault;
-mod input;
-mod lines;
-mod output;
 mod program;
 mod report;
 

@@ -1,13 +1,12 @@
 //! From the reader to the writer.
 ghost use Rattle.std.specs.Prelude.{◌≡◌, ◌≢◌, ℕ, Err, None, take, IfErr, IsSomeAnd, OnOk};
 ghost use Rattle.std.specs.Io.KnownBytes.{Appends, Keeps};
+ghost use Rattle.clru_lines.specs.Whole.{ReadWhole};
 ghost use Rattle.clru_replay.specs.Report.{report};
-ghost use Rattle.clru_replay.specs.Whole.{ReadWhole};
 
 use crate::fault::Fault;
-use crate::input::read_input;
-use crate::output::write_text;
 use crate::report::report_on;
+use clru_lines::{ReadError, read_input, write_text};
 use std::alloc::Allocator;
 use std::io::{Read, Write};
 
@@ -30,7 +29,14 @@ pub fn run<R: Read, W: Write, A: Allocator + Copy>(
     // Any other fault comes before the first write.
     ensures silent { IfErr result (λ fault. fault ≢ Fault.Writing → Keeps (W.contents writer.old) (W.contents writer.new)) }
 {
-    let input = read_input(alloc, reader)?;
+    let input = match read_input(alloc, reader) {
+        Ok(input) => input,
+        Err(ReadError::Memory) => return Err(Fault::Memory),
+        Err(ReadError::Reading) => return Err(Fault::Reading),
+    };
     let text = report_on(alloc, &input)?;
-    write_text(writer, &text)
+    match write_text(writer, &text) {
+        Ok(()) => Ok(()),
+        Err(_) => Err(Fault::Writing),
+    }
 }

@@ -2,10 +2,9 @@
 ghost use Rattle.std.specs.Prelude.{◌≡◌, ◌⊎◌, Err, Some, None, IfOk, IfErr, IsSome, string_bytes};
 ghost use Rattle.clru_replay.specs.Report.{misses_line, report, text_of};
 
-use crate::capacity::capacity_of;
 use crate::fault::Fault;
-use crate::lines::{keys_of, next_line};
 use clru::{DefaultState, replay};
+use clru_lines::{capacity_of, keys_of, next_line};
 use std::alloc::{AllocError, Allocator};
 
 /// The report of an input. The first line is tested before any memory is asked for.

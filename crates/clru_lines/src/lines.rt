@@ -1,0 +1,56 @@
+//! The lines of the input, each a key without a copy of its bytes.
+ghost use Rattle.std.specs.Prelude.{◌≡◌, ◌==◌, ◌<◌, [], ◌∷◌, map, length, position, IfOk, IfSome, IfNone};
+ghost use Rattle.std.specs.Cmp.Rules.{hashing};
+ghost use Rattle.std.proofs.Common.{rules};
+ghost use Rattle.clru_lines.specs.Lines.{lines_of};
+
+use std::alloc::{AllocError, Allocator};
+use std::hash::{Hash, Hasher};
+
+/// The key of a request: the bytes of its line.
+#[derive(Clone, Copy, PartialEq, Eq)]
+pub struct Key<'a>(pub &'a [u8]);
+
+// The bytes go to the hasher in one call. A slice's own `Hash` gives it one byte a call.
+impl<'a> Hash for Key<'a> {
+    ghost hash_input = { λ key. key.0.now ∷ [] };
+
+    ghost respects_eq = { Prim.search (hashing, rules) };
+
+    fn hash<H: Hasher>(&self, state: &mut H) {
+        state.write(self.0);
+    }
+}
+
+// Where the first newline stands.
+fn newline_at(bytes: &[u8]) -> Option<usize>
+    ensures { result ≡ position (λ b. b == 10) bytes.now }
+{
+    bytes.iter().position(|byte| *byte == b'\n')
+}
+
+/// The first line of the bytes and what follows its newline, or `None` where there is no line.
+pub fn next_line(bytes: &[u8]) -> Option<(&[u8], &[u8])>
+    ensures line { IfSome result (λ found. lines_of bytes.now ≡ found.0.now ∷ lines_of found.1.now) }
+    ensures shorter { IfSome result (λ found. length found.1.now < length bytes.now) }
+    ensures none { IfNone result (lines_of bytes.now ≡ []) }
+{
+    match newline_at(bytes) {
+        Some(at) => Some((&bytes[..at], &bytes[at + 1..])),
+        None if bytes.is_empty() => None,
+        None => Some((bytes, &[])),
+    }
+}
+
+/// The lines of the bytes, as keys.
+pub fn keys_of<'a, A: Allocator>(alloc: A, bytes: &'a [u8]) -> Result<Vec<Key<'a>, A>, AllocError>
+    ensures { IfOk result (λ keys. map (λ key. key.0.now) keys.items ≡ lines_of bytes.now) }
+{
+    let mut keys = Vec::new(alloc);
+    let mut left = bytes;
+    'lines: while let Some((line, rest)) = next_line(left) {
+        keys.push(Key(line))?;
+        left = rest;
+    }
+    Ok(keys)
+}

@@ -1,0 +1,25 @@
+//! Writing a whole text.
+ghost use Rattle.std.specs.Prelude.{ℕ, take, IfErr, OnOk};
+ghost use Rattle.std.specs.Io.KnownBytes.{Appends};
+
+use std::io::{self, Error, ErrorKind, Write};
+
+/// Writes the text, each call being offered all that is left of it, and then flushes once.
+///
+/// The first call that answers an error is the last, whatever the kind, and its error is the answer. A write that takes nothing
+/// is an error of the kind `WriteZero`. An empty text is a flush alone.
+pub fn write_text<W: Write>(writer: &mut W, text: &[u8]) -> io::Result<()>
+    ensures written { OnOk result (Appends (W.contents writer.old) (W.contents writer.new) text.now) }
+    ensures cut_short { IfErr result (λ _. (n : ℕ) × Appends (W.contents writer.old) (W.contents writer.new) (take n text.now)) }
+{
+    let mut left = text;
+    'writes: while !left.is_empty() {
+        match writer.write(left) {
+            Ok(0) => return Err(Error::from(ErrorKind::WriteZero)),
+            Ok(count) => left = &left[count..],
+            Err(error) => return Err(error),
+        }
+    }
+    writer.flush()?;
+    Ok(())
+}
