@@ -9,3 +9,5 @@ mod drawn;
 mod memory;
 #[cfg(test)]
 mod rows;
+#[cfg(test)]
+mod sized_drawn;

@@ -1,7 +1,7 @@
 use Rattle.std.proofs.Common.{◌-◌, arith}
 use Rattle.std.proofs.lemmas.Nat.{or_lt}
 use Rattle.clru_curve.proofs.Nodes.{node_after-greater}
-use Rattle.clru_curve.proofs.latest.nodes.count_from.Goals as goal
+use Rattle.clru_curve.proofs.tree.count_from.Goals as goal
 
 pub overflow_add-node : goal.overflow_add-node
 overflow_add-node c =

@@ -1,6 +1,6 @@
 use Rattle.std.proofs.Common.{◌≡◌, ◌+◌, ◌<◌, ℕ, length, ◌-◌}
-use Rattle.clru_curve.specs.Latest.{IsCounted}
-use Rattle.clru_curve.proofs.latest.nodes.count_from.Given as goal
+use Rattle.clru_curve.specs.Tree.{IsCounted}
+use Rattle.clru_curve.proofs.tree.count_from.Given as goal
 
 abbrev pub invariant-loop-node : goal.invariant-loop-node
 invariant-loop-node l = record {
