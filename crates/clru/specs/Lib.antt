@@ -5,6 +5,9 @@ pub use Rattle.clru_model.specs.Refusals
 pub use Rattle.clru_model.specs.Requests
 pub use Rattle.clru_model.specs.Runs
 pub use Rattle.clru_model.specs.Schedule
+pub use Rattle.clru_model.specs.SizedRuns
+pub use Rattle.clru_model.specs.Sizes
+pub use Rattle.clru_model.specs.Spans
 pub use Rattle.clru_nodes.specs.Retains
 pub mod Cache
 pub mod Closures

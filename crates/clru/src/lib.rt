@@ -23,7 +23,7 @@ pub use cache::{CLruCache, Put};
 pub use clru_list::NoMemory;
 pub use clru_model::{
     DefaultState, PutError, TryPutError, WeightScale, ZeroWeightScale, law_by_place, law_growth,
-    law_inclusion, law_longest_fit, law_requests, law_schedules_by_place,
+    law_inclusion, law_longest_fit, law_requests, law_schedules_by_place, law_sizes,
 };
 pub use config::CLruCacheConfig;
 pub use entry::EntryMut;

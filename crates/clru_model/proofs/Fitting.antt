@@ -6,7 +6,7 @@ use Rattle.clru_model.proofs.Sublists.{IsSublist, sublist_front, length-sublist}
 use Rattle.clru_model.proofs.Weights.{weight_of-cons, weight_of-push}
 
 module _ {K V : Type 0} (weight : K → V → ℕ) where
-  size_of-cons : (e : K × V) (es : List (K × V)) → size_of weight (e ∷ es) ≡ 1 + weight e.0 e.1 + size_of weight es
+  pub size_of-cons : (e : K × V) (es : List (K × V)) → size_of weight (e ∷ es) ≡ 1 + weight e.0 e.1 + size_of weight es
   size_of-cons e es = omega (arith, weight_of-cons weight e es)
 
   too_long : (c : ℕ) (e : K × V) (es q back : List (K × V)) → c < 1 + weight e.0 e.1 → e ∷ es ≡ q ++ back → size_of weight q ≤ c → length q ≤ 0

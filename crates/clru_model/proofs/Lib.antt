@@ -26,6 +26,10 @@ pub mod Retaining
 pub mod Rows
 pub mod RunRows
 pub mod SchedulesByPlace
+pub mod SizeRows
+pub mod SizedRuns
+pub mod Spans
 pub mod Sublists
+pub mod Totals
 pub mod Wanted
 pub mod Weights

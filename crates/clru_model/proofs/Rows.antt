@@ -10,7 +10,7 @@ abbrev a_again_after_two_others : List ℕ
 a_again_after_two_others = 0 ∷ 1 ∷ 2 ∷ 0 ∷ []
 
 -- a b c a d b a c
-abbrev four_keys : List ℕ
+abbrev pub four_keys : List ℕ
 four_keys = 0 ∷ 1 ∷ 2 ∷ 0 ∷ 3 ∷ 1 ∷ 0 ∷ 2 ∷ []
 
 -- a key hits no more after as many other keys as the capacity

@@ -8,3 +8,6 @@ pub mod Refusals
 pub mod Requests
 pub mod Runs
 pub mod Schedule
+pub mod SizedRuns
+pub mod Sizes
+pub mod Spans

@@ -6,6 +6,10 @@ ghost use Rattle.clru_model.specs.Laws.{HitsGrow, MissesFall};
 ghost use Rattle.clru_model.specs.Laws.{LesserBeginsGreater};
 ghost use Rattle.clru_model.specs.Laws.{PutsHit, PutsCompete, PutsCompeteFromAnyStart};
 ghost use Rattle.clru_model.specs.Laws.{FitIsLongest, OnlyFitIsLongest};
+ghost use Rattle.clru_model.specs.SizedRuns.{SizedPutsHit};
+ghost use Rattle.clru_model.specs.Spans.{HitsAreWithin, MarksAreWithin, MissedSizeIsOfMarks, RoomForTotalMissesFirst};
+ghost use Rattle.clru_model.specs.Spans.{HitsBySizeGrow, MissesBySizeFall, MissedSizeFalls};
+ghost use Rattle.clru_model.specs.Spans.{WeightlessTotalIsDistinct, WeightlessMarksAreMarks, WeightlessMissedSizeIsMisses};
 ghost use Rattle.clru_model.specs.Least.{LeastIsOne, LeastFalls, ReplayIsSchedule, LeastIsBelowReplay, ReplayIsNearLeast};
 
 /// Does nothing at run time. Its contract says that the hits, misses and numbers of distinct keys that the other contracts
@@ -77,4 +81,29 @@ pub fn law_distances<K: Eq>()
     ensures hits { HitsAreBelow K.eq }
     ensures marks { MarksAreBelow K.eq }
     ensures beyond { RoomForAllMissesFirst K.eq }
+{}
+
+/// Does nothing at run time. Its contract says where requests hit by size, for keys that each weigh something: an entry's size
+/// is 1 and the weight of its key.
+///
+/// A cache, empty at first, that takes each key of a list in turn by `put_with_weight`, under a scale by which a pair weighs
+/// what its key does, holds a key before its put exactly where the request hits by size at the cache's capacity. No put is
+/// refused, so the capacity is above each weight, and no other call changes the cache. A request hits at the sizes from its
+/// span on, so one list of spans has the hits at every size. Where each key weighs 0, all this is what it is for numbers of
+/// keys.
+///
+/// Of keys whose weight changes between their puts it says nothing: what room an entry gave up does not bring back what went
+/// for it. Nor does it at a capacity that is not above each weight, where puts are refused.
+pub fn law_sizes<K: Eq, V>()
+    ensures puts { SizedPutsHit K.eq V }
+    ensures hits { HitsAreWithin K.eq }
+    ensures marks { MarksAreWithin K.eq }
+    ensures missed_size { MissedSizeIsOfMarks K.eq }
+    ensures grows { HitsBySizeGrow K.eq }
+    ensures falls { MissesBySizeFall K.eq }
+    ensures size_falls { MissedSizeFalls K.eq }
+    ensures beyond { RoomForTotalMissesFirst K.eq }
+    ensures weightless_total { WeightlessTotalIsDistinct K.eq }
+    ensures weightless_marks { WeightlessMarksAreMarks K.eq }
+    ensures weightless_size { WeightlessMissedSizeIsMisses K.eq }
 {}

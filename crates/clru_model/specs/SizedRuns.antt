@@ -1,0 +1,35 @@
+-- Runs of puts by weight, where the weight of a pair is that of its key. Public clauses cite them.
+use Rattle.std.specs.Prelude.{◌≡◌, ℕ, ◌<◌, Bool, true, List, [], ◌∷◌}
+use Rattle.clru_model.specs.Entries.{weighted_put}
+use Rattle.clru_model.specs.Runs.{held_before}
+use Rattle.clru_model.specs.Sizes.{SameWeights, marks_by_size}
+
+module _ {K V : Type 0} (eq : K → K → Bool) (weight : K → V → ℕ) (c : ℕ) where
+  -- the entries after a put of the key x by its weight under the capacity c, which takes the pair: those after a weighted put
+  -- of some pair whose key is the same
+  pub record IsSizedPut (x : K) (es next : List (K × V)) : Type 0 where
+    pub key : K
+    pub value : V
+    pub same : eq x key ≡ true
+    pub light : weight key value < c
+    pub entries : next ≡ weighted_put eq weight c key value es
+
+  -- the first of the later lists is the one after such a put of x
+  abbrev pub SizedPutsNext : List (K × V) → K → List (List (K × V)) → Type 0
+  SizedPutsNext es x [] = ⊥
+  SizedPutsNext es x (next ∷ later) = IsSizedPut x es next
+
+  -- the entries before each request and at the end, where each request in turn is a put of its key by its weight
+  abbrev pub IsSizedPutRun : List (List (K × V)) → List K → Type 0
+  IsSizedPutRun [] requests = ⊥
+  IsSizedPutRun (es ∷ later) [] = later ≡ []
+  IsSizedPutRun (es ∷ later) (x ∷ requests) = SizedPutsNext es x later × IsSizedPutRun later requests
+
+module _ {K : Type 0} (eq : K → K → Bool) (V : Type 0) where
+  -- where each pair weighs what its key does, a run of puts by weight from the empty list holds a key before its put exactly
+  -- where the request hits by size
+  abbrev pub SizedPutsHit : Type 0
+  SizedPutsHit = (weight : K → ℕ) (pair_weight : K → V → ℕ) (c : ℕ) (requests : List K) (later : List (List (K × V)))
+      → SameWeights eq weight → ((k : K) (v : V) → pair_weight k v ≡ weight k)
+      → IsSizedPutRun eq pair_weight c ([] ∷ later) requests
+      → held_before eq ([] ∷ later) requests ≡ marks_by_size eq weight c requests
