@@ -1,5 +1,5 @@
 -- Sums of sizes from a request on, and what one more size and one less keep of them and of the nodes.
-use Rattle.std.proofs.Common.{◌≡◌, ℕ, zero, suc, ◌+◌, ◌*◌, ◌/◌, ◌%◌, ◌<◌, ◌≤◌, List, [], ◌∷◌, ◌++◌, length, get_or, set, inl, inr, refl, sym, ap, ◌∙◌, arith, length-set}
+use Rattle.std.proofs.Common.{◌≡◌, ℕ, zero, suc, ◌+◌, ◌*◌, ◌/◌, ◌<◌, ◌≤◌, List, [], ◌∷◌, ◌++◌, length, get_or, set, inl, inr, refl, ap, arith, length-set}
 use Rattle.std.proofs.lemmas.Bool.{cases_lt}
 use Rattle.std.proofs.lemmas.Nat.{mod_below, div-add-mod'}
 use Rattle.std.proofs.lemmas.List.{get_or_past, length_push}
@@ -25,6 +25,10 @@ sizes_none (s ∷ ss) (suc j) past = sizes_none ss j (omega (arith, past))
 -- no sum from a request on passes that of all
 pub sizes_few : (ss : List ℕ) (j : ℕ) → sizes_from ss j ≤ sizes_from ss 0
 sizes_few ss j = falls_far (sizes_from ss) (sizes_fall ss) 0 j (omega arith)
+
+-- nor from a block on
+pub blocks_fall : (ss : List ℕ) → Falls (λ j. sizes_from ss (16 * j))
+blocks_fall ss j = falls_far (sizes_from ss) (sizes_fall ss) (16 * j) (16 * suc j) (omega arith)
 
 -- one more size at the end
 pub sizes_push : (ss : List ℕ) (s j : ℕ) → sizes_from (ss ++ s ∷ []) j ≡ sizes_from ss j + up_by s j (length ss)
@@ -85,24 +89,22 @@ module _ (sizes nodes : List ℕ) (kept : IsSummed sizes nodes) where
   pub block_inside : (p : ℕ) → p < 16 * length nodes → p / 16 < length nodes
   block_inside p within = omega (arith, div-add-mod' p 16, within)
 
-  -- sums of blocks fall
-  pub blocks_fall : Falls (λ j. sizes_from sizes (16 * j))
-  blocks_fall j = falls_far (sizes_from sizes) (sizes_fall sizes) (16 * j) (16 * suc j) (omega arith)
-
-  pub IsSummed-push : (size : ℕ) (nodes' : List ℕ) → length nodes' ≡ length nodes → length sizes < 16 * length nodes
-      → IsCounted (λ j. sizes_from sizes (16 * j) + up_by size j (length sizes / 16)) nodes' → IsSummed (sizes ++ size ∷ []) nodes'
-  IsSummed-push size nodes' same room counted = record {
-    counted = IsCounted-same _ _ nodes' (λ j. let p = sizes_push sizes size (16 * j) in let b = up_by-block size j (length sizes) in
-        let e : sizes_from sizes (16 * j) + up_by size j (length sizes / 16) ≡ sizes_from (sizes ++ size ∷ []) (16 * j) = omega (arith, p, b) in e) counted;
+  pub IsSummed-push : (size n : ℕ) (nodes' : List ℕ) → n ≡ length sizes → length nodes' ≡ length nodes → length sizes < 16 * length nodes
+      → IsCounted (λ j. sizes_from sizes (16 * j) + up_by size j (n / 16)) nodes' → IsSummed (sizes ++ size ∷ []) nodes'
+  IsSummed-push size n nodes' all same room counted = record {
+    counted = IsCounted-same _ _ nodes' (λ j. let p = sizes_push sizes size (16 * j) in let b = up_by-block size j n in
+        let u = ap (λ k. up_by size (16 * j) k) all in
+        let e : sizes_from sizes (16 * j) + up_by size j (n / 16) ≡ sizes_from (sizes ++ size ∷ []) (16 * j) = omega (arith, p, b, u) in e) counted;
     covers = omega (arith, same, length_push sizes size, room);
     tight = omega (arith, same, length_push sizes size, kept.tight);
   }
 
   module _ (p : ℕ) (inside : p < length sizes) where
     -- the nodes as they were sum one size more
-    pub clear_counted : IsCounted (λ j. sizes_from (set sizes p 0) (16 * j) + up_by (get_or sizes p 0) j (p / 16)) nodes
-    clear_counted = IsCounted-same _ _ nodes (λ j. let s = sizes_clear sizes p (16 * j) inside in let b = up_by-block (get_or sizes p 0) j p in
-        let e : sizes_from sizes (16 * j) ≡ sizes_from (set sizes p 0) (16 * j) + up_by (get_or sizes p 0) j (p / 16) = omega (arith, s, b) in e) kept.counted
+    pub clear_counted : (size : ℕ) → size ≡ get_or sizes p 0 → IsCounted (λ j. sizes_from (set sizes p 0) (16 * j) + up_by size j (p / 16)) nodes
+    clear_counted size is = IsCounted-same _ _ nodes (λ j. let s = sizes_clear sizes p (16 * j) inside in let b = up_by-block size j p in
+        let u = ap (λ a. up_by a (16 * j) p) is in
+        let e : sizes_from sizes (16 * j) ≡ sizes_from (set sizes p 0) (16 * j) + up_by size j (p / 16) = omega (arith, s, b, u) in e) kept.counted
 
     pub IsSummed-clear : (nodes' : List ℕ) → length nodes' ≡ length nodes → IsCounted (λ j. sizes_from (set sizes p 0) (16 * j)) nodes'
         → IsSummed (set sizes p 0) nodes'

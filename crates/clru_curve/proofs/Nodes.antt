@@ -1,10 +1,10 @@
--- Which nodes count a word.
+-- Which nodes sum a count.
 use Rattle.std.proofs.Common.{◌≡◌, ◌≢◌, ℕ, zero, suc, ◌+◌, ◌*◌, ◌-◌, ◌/◌, ◌%◌, ◌^◌, ◌<◌, ◌≤◌, List, length, get_or, set, inl, inr, ap, ◌∙◌, subst, arith, add-zero, get_or-set_other, get_or-set_same}
 use Rattle.std.proofs.lemmas.Bool.{cases_lt}
 use Rattle.std.proofs.lemmas.Nat.{or_block, and_block}
 use Rattle.std.proofs.Math.Nat.{div-add-mod, mod-lt}
 use Rattle.std.specs.Int.Bits.{bit_and, bit_or, and_self, or_self}
-use Rattle.clru_curve.specs.Tree.{up_by, up_to, node_after, node_before, Falls}
+use Rattle.clru_curve.specs.Tree.{up_by, node_after, node_before, Falls}
 use Rattle.clru_curve.proofs.UpTo.{up_by-le, up_by-gt}
 
 node_before-even : (m : ℕ) → 0 < m → node_before (2 * m) ≡ 2 * node_before m
@@ -98,7 +98,7 @@ counts_by (suc fuel) j i low some_j some_i =
     some_j)
     low some_i
 
--- so of the words that node j counts, the word i is one more than the node before i
+-- so of the counts that node j sums, an amount at the count i is one more than at the node before i
 pub counts_before : (a j i : ℕ) → 0 < j → 0 < i → j ≢ i
     → up_by a j i + up_by a (node_after j) (node_before i) ≡ up_by a j (node_before i) + up_by a (node_after j) i
 counts_before a j i some_j some_i other =
@@ -119,7 +119,7 @@ counts_before a j i some_j some_i other =
       ]
     ]
 
--- and node i counts the word i and none before
+-- and node i sums the count i and none before
 pub counts_own : (a i : ℕ) → 0 < i
     → up_by a i i + up_by a (node_after i) (node_before i) ≡ a + (up_by a i (node_before i) + up_by a (node_after i) i)
 counts_own a i some =

@@ -1,8 +1,7 @@
 -- What a pass has taken note of, request by request. Public clauses cite it.
-use Rattle.std.specs.Prelude.{◌≡◌, ℕ, suc, ◌+◌, ◌-◌, ◌^◌, ◌<◌, ◌≤◌, Bool, List, length, take, sum, reverse, is_some, Some, refl}
+use Rattle.std.specs.Prelude.{◌≡◌, ℕ, ◌+◌, ◌-◌, ◌^◌, Bool, List, length, take, sum, reverse, refl}
 use Rattle.std.specs.Coded.{Coded, code_by, coded×, coded_list, coded_ℕ}
-use Rattle.std.specs.Map.{lookup}
-use Rattle.clru_model.specs.Requests.{holds, distinct, since, misses}
+use Rattle.clru_model.specs.Requests.{distinct, misses}
 use Rattle.clru_curve.specs.Latest.{ones_from, IsLatest}
 use Rattle.clru_curve.specs.Ranked.{IsRanked}
 

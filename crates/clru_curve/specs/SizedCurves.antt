@@ -3,7 +3,7 @@ use Rattle.std.specs.Prelude.{◌≡◌, ℕ, zero, suc, ◌+◌, ◌-◌, ◌<�
 use Rattle.std.specs.Coded.{Coded, code_by, coded×, coded_list, coded_ℕ}
 use Rattle.std.specs.List.{count_by, sum_by}
 use Rattle.std.specs.List.Sorted.{IsPermutation, IsNonDecreasingBy}
-use Rattle.clru_curve.specs.Sizes.{total, misses_by_size, missed_size}
+use Rattle.clru_model.specs.Sizes.{total, misses_by_size, missed_size}
 
 -- for each request that can hit the capacity from which on it does, with the size that misses there, the least capacity first;
 -- the number of requests, their size, that of the distinct keys, and the greatest weight
@@ -73,4 +73,4 @@ pub record IsSizedCurveOf {K : Type 0} (eq : K → K → Bool) (weight : K → �
   pub requests_in_all : curve.requests ≡ length requests
   pub size : curve.size ≡ size_of_all weight requests
   pub distinct_size : curve.distinct_size ≡ total eq weight (reverse requests)
-  pub greatest_weight : curve.greatest_weight ≡ greatest_of weight requests
+  pub greatest_weight : curve.greatest_weight ≡ greatest_of weight (reverse requests)

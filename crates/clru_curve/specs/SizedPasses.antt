@@ -8,7 +8,7 @@ use Rattle.clru_curve.specs.declared.sized.error.SizedRequestError.TheVariants.{
 use Rattle.clru_curve.specs.LatestSizes.{sizes_from, IsSummed}
 use Rattle.clru_curve.specs.Ranked.{IsRanked}
 use Rattle.clru_curve.specs.SizedCurves.{hits_within, size_of_all, greatest_of}
-use Rattle.clru_curve.specs.Sizes.{total, misses_by_size, missed_size}
+use Rattle.clru_model.specs.Sizes.{total, misses_by_size, missed_size}
 
 -- each key with the number of its latest request; for each request the size of its key where it is the latest of it, else 0;
 -- for each request that can hit its span and its size; the size of all requests, and the greatest weight

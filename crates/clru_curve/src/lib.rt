@@ -18,7 +18,7 @@ mod sized;
 mod tree;
 
 pub use clru::{DefaultState, NoMemory, WeightScale};
-pub use clru_model::law_distances;
+pub use clru_model::{law_distances, law_sizes};
 pub use curve::MissCurve;
 pub use list::miss_curve;
 pub use pass::DistancePass;

@@ -56,7 +56,7 @@ impl<A: Allocator> SizedCurve<A> {
         ensures answer { self.now.greatest_weight < non_zero_usize_get capacity
             → result ≡ Some (missed_size_within self.now (non_zero_usize_get capacity)) }
     {
-        if capacity.get() <= self.greatest_weight {
+        if self.greatest_weight >= capacity.get() {
             return None;
         }
         match hits_at(&self.steps, capacity.get()) {

@@ -1,12 +1,12 @@
 //! `SizedPass`, which takes requests of keys with sizes one by one.
-ghost use Rattle.std.specs.Prelude.{◌≡◌, ℕ, ◌+◌, ◌^◌, ◌<◌, List, [], ◌∷◌, reverse, IfOk, IfErr, OnOk, OnErr};
-ghost use Rattle.clru_curve.specs.Sizes.{SameWeights, span};
+ghost use Rattle.std.specs.Prelude.{◌≡◌, ℕ, ◌^◌, ◌<◌, nat_lt, List, [], ◌∷◌, reverse, IfOk, IfErr, OnOk, OnErr, if◌then◌else◌};
+ghost use Rattle.clru_model.specs.Sizes.{SameWeights, span};
 ghost use Rattle.clru_curve.specs.SizedPasses.{IsSizedPass, key_of, IsNoMemory};
 ghost use Rattle.clru_curve.specs.SizedCurves.{IsSizedCurveOf, size_of_all};
 
-use crate::sized::error::SizedRequestError;
 use crate::pass::move_place;
 use crate::sized::curve::SizedCurve;
+use crate::sized::error::SizedRequestError;
 use crate::sized::sizes::Sizes;
 use clru::{CLruCache, DefaultState, NoMemory, ZeroWeightScale};
 use std::alloc::{Allocator, Global};
@@ -76,11 +76,7 @@ impl<K: Eq + Hash, S: BuildHasher, A: Allocator + Copy> SizedPass<K, S, A> {
     /// Where memory is refused, or the sizes of all requests, this one among them, pass `usize::MAX`, the key comes back and
     /// the pass is as before. The cost is a look-up, and for a new key a put, besides steps that go with the logarithm of the
     /// number of requests.
-    pub fn request(
-        &mut self,
-        key: K,
-        weight: usize,
-    ) -> Result<Option<usize>, SizedRequestError<K>>
+    pub fn request(&mut self, key: K, weight: usize) -> Result<Option<usize>, SizedRequestError<K>>
     where
         K: Drop,
         ensures span { (w : K → ℕ) (past : List K) → SameWeights K.eq w → IsSizedPass K.eq w past self.old → w key ≡ weight
@@ -97,6 +93,7 @@ impl<K: Eq + Hash, S: BuildHasher, A: Allocator + Copy> SizedPass<K, S, A> {
             return Err(SizedRequestError::TooLarge(key));
         }
         let size = weight + 1;
+        let greatest = greater(self.greatest, weight);
         let Ok(()) = self.latest.make_ready() else {
             return Err(SizedRequestError::NoMemory(key));
         };
@@ -104,26 +101,26 @@ impl<K: Eq + Hash, S: BuildHasher, A: Allocator + Copy> SizedPass<K, S, A> {
             return Err(SizedRequestError::NoMemory(key));
         };
         let number = self.latest.sizes.len();
-        let answer = match move_place(&mut self.places, &key, number) {
+        match move_place(&mut self.places, &key, number) {
             Some(place) => {
                 let span = self.latest.total_from(place);
+                self.latest.push(size);
                 self.latest.clear(place);
                 self.hits.push_reserved((span, size));
-                Some(span)
+                self.size += size;
+                self.greatest = greatest;
+                Ok(Some(span))
             }
             None => {
                 if let Err((key, _)) = self.places.put(key, number) {
                     return Err(SizedRequestError::NoMemory(key));
                 }
-                None
+                self.latest.push(size);
+                self.size += size;
+                self.greatest = greatest;
+                Ok(None)
             }
-        };
-        self.latest.push(size);
-        self.size += size;
-        if self.greatest < weight {
-            self.greatest = weight;
         }
-        Ok(answer)
     }
 
     /// Returns the curve of the requests so far. It takes no memory; the spans are sorted.
@@ -160,4 +157,11 @@ impl<K: Eq + Hash, S: BuildHasher, A: Allocator + Copy> SizedPass<K, S, A> {
             self.greatest,
         ))
     }
+}
+
+/// The greater of two numbers.
+fn greater(x: usize, y: usize) -> usize
+    ensures { result ≡ (if nat_lt x y then y else x) }
+{
+    if x < y { y } else { x }
 }

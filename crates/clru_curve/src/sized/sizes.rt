@@ -1,6 +1,5 @@
 //! For each request the size of its key, where the request is the latest of it, and else 0.
-ghost use Rattle.std.specs.Prelude.{◌≡◌, ℕ, ◌+◌, ◌*◌, ◌^◌, ◌<◌, ◌≤◌, [], ◌∷◌, ◌++◌, length, slice_index, vec_len, vec_capacity, OnOk};
-ghost use Rattle.clru_curve.specs.Tree.{up_by};
+ghost use Rattle.std.specs.Prelude.{◌≡◌, ◌+◌, ◌*◌, ◌^◌, ◌<◌, ◌≤◌, [], ◌∷◌, ◌++◌, length, slice_set, vec_len, vec_capacity, OnOk};
 ghost use Rattle.clru_curve.specs.LatestSizes.{sizes_from, IsSummed};
 
 use crate::tree::{add_at, count_from, subtract_at};
@@ -66,9 +65,7 @@ impl<A: Allocator + Copy> Sizes<A> {
         requires kept { IsSummed self.old.sizes.items self.old.nodes.items }
         requires before { request < length self.old.sizes.items }
         ensures kept { IsSummed self.new.sizes.items self.new.nodes.items }
-        ensures sizes { (p : ℕ) → sizes_from self.old.sizes.items p
-            ≡ sizes_from self.new.sizes.items p + up_by (slice_index self.old.sizes.items request) p request }
-        ensures length { length self.new.sizes.items ≡ length self.old.sizes.items }
+        ensures sizes { self.new.sizes.items ≡ slice_set self.old.sizes.items request 0 }
     {
         let size = self.sizes[request];
         self.sizes[request] = 0;

@@ -1,4 +1,4 @@
-use Rattle.std.proofs.Common.{◌≡◌, ◌+◌, ◌-◌, ◌<◌, ◌≤◌, get_or, arith, length-set}
+use Rattle.std.proofs.Common.{◌≡◌, ◌+◌, ◌-◌, ◌≤◌, get_or, arith, length-set}
 use Rattle.clru_curve.proofs.Nodes.{subtracts_step, node_before-less, node_after-greater, falls_far}
 use Rattle.clru_curve.proofs.UpTo.{up_by-le, up_by-gt}
 use Rattle.clru_curve.specs.Tree.{node_after}
