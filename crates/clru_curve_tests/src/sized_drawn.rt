@@ -1,4 +1,5 @@
 //! Drawn lists of keys with sizes: spans, misses and missed sizes beside a direct simulation in bytes, and beside a cache.
+ghost use Rattle.std.specs.Prelude.{◌%◌};
 
 use crate::drawn::draws;
 use assertions::equal;
