@@ -4,7 +4,7 @@ use Rattle.std.proofs.lemmas.Bool.{cases_lt}
 use Rattle.std.proofs.lemmas.Nat.{pow-add, pow_pos, shr-shr, shr_split, shr_below, mod_below, div-mul-add, ones_cat, ones_le_self, zero_from_ones}
 use Rattle.std.specs.Int.Count.{ones-ones}
 use Rattle.std.specs.Prelude.{count_ones}
-use Rattle.clru_curve.specs.Latest.{up_to}
+use Rattle.clru_curve.specs.Tree.{up_to}
 use Rattle.clru_curve.proofs.UpTo.{up_to-le, up_to-gt}
 
 pub ones-zero : count_ones 0 ≡ 0

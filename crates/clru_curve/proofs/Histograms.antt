@@ -9,7 +9,7 @@ use Rattle.std.specs.Cmp.{IsEquivalence}
 use Rattle.clru_model.specs.Requests.{holds, distinct, since, hit, misses}
 use Rattle.clru_model.proofs.Distinct.{since_within, distinct_since_less}
 use Rattle.clru_curve.specs.Curves.{HasMissesOf}
-use Rattle.clru_curve.specs.Latest.{up_to}
+use Rattle.clru_curve.specs.Tree.{up_to}
 use Rattle.clru_curve.specs.Passes.{IsHistogram}
 use Rattle.clru_model.proofs.Distances.{misses-cons, misses-room}
 use Rattle.clru_curve.proofs.UpTo.{up_to-le, up_to-gt}

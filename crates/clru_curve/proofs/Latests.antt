@@ -4,7 +4,8 @@ use Rattle.std.proofs.lemmas.Bool.{cases_lt}
 use Rattle.std.proofs.lemmas.Nat.{zero_from_ones, one_shl, pow_below, mod_below, div-add-mod', div_below}
 use Rattle.std.proofs.lemmas.List.{set-get_or, get_or_past, get_or_read, length_push, take-append-le, take_all}
 use Rattle.std.specs.Prelude.{count_ones}
-use Rattle.clru_curve.specs.Latest.{up_to, words_from, ones_from, node_after, IsCounted, IsLatest}
+use Rattle.clru_curve.specs.Latest.{words_from, ones_from, IsLatest}
+use Rattle.clru_curve.specs.Tree.{up_to, node_after, IsCounted}
 use Rattle.clru_curve.proofs.Bits.{ones-zero, ones_upper, ones_set, Loses, ones_loses, no_ones_below}
 use Rattle.clru_curve.proofs.Nodes.{falls_far, node_after-greater}
 use Rattle.clru_curve.proofs.UpTo.{up_to-gt}

@@ -1,8 +1,13 @@
 pub mod Bits
 pub mod Histograms
+pub mod LatestSizes
 pub mod Latests
 pub mod Nodes
 pub mod Passing
 pub mod Ranks
+pub mod SizedCurves
+pub mod SizedHits
+pub mod SizedPassing
+pub mod Totals
 pub mod UpTo
 pub mod Words

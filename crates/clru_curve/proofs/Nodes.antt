@@ -1,11 +1,11 @@
--- Which nodes count a word.
+-- Which nodes sum a count.
 use Rattle.std.proofs.Common.{◌≡◌, ◌≢◌, ℕ, zero, suc, ◌+◌, ◌*◌, ◌-◌, ◌/◌, ◌%◌, ◌^◌, ◌<◌, ◌≤◌, List, length, get_or, set, inl, inr, ap, ◌∙◌, subst, arith, add-zero, get_or-set_other, get_or-set_same}
 use Rattle.std.proofs.lemmas.Bool.{cases_lt}
 use Rattle.std.proofs.lemmas.Nat.{or_block, and_block}
 use Rattle.std.proofs.Math.Nat.{div-add-mod, mod-lt}
 use Rattle.std.specs.Int.Bits.{bit_and, bit_or, and_self, or_self}
-use Rattle.clru_curve.specs.Latest.{up_to, node_after, node_before, Falls}
-use Rattle.clru_curve.proofs.UpTo.{up_to-le, up_to-gt}
+use Rattle.clru_curve.specs.Tree.{up_by, node_after, node_before, Falls}
+use Rattle.clru_curve.proofs.UpTo.{up_by-le, up_by-gt}
 
 node_before-even : (m : ℕ) → 0 < m → node_before (2 * m) ≡ 2 * node_before m
 node_before-even m some =
@@ -98,33 +98,33 @@ counts_by (suc fuel) j i low some_j some_i =
     some_j)
     low some_i
 
--- so of the words that node j counts, the word i is one more than the node before i
-pub counts_before : (j i : ℕ) → 0 < j → 0 < i → j ≢ i
-    → up_to j i + up_to (node_after j) (node_before i) ≡ up_to j (node_before i) + up_to (node_after j) i
-counts_before j i some_j some_i other =
+-- so of the counts that node j sums, an amount at the count i is one more than at the node before i
+pub counts_before : (a j i : ℕ) → 0 < j → 0 < i → j ≢ i
+    → up_by a j i + up_by a (node_after j) (node_before i) ≡ up_by a j (node_before i) + up_by a (node_after j) i
+counts_before a j i some_j some_i other =
     let c = counts_by i j i (omega arith) some_j some_i in
     let less = node_before-less i some_i in let more = node_after-greater j some_j in
     elim (cases_lt i j) [
-      | inl out ↦ omega (arith, up_to-gt j i out, up_to-gt (node_after j) i (omega arith), up_to-gt j (node_before i) (omega arith), up_to-gt (node_after j) (node_before i) (omega arith))
+      | inl out ↦ omega (arith, up_by-gt a j i out, up_by-gt a (node_after j) i (omega arith), up_by-gt a j (node_before i) (omega arith), up_by-gt a (node_after j) (node_before i) (omega arith))
       | inr le ↦ elim (cases_lt i (node_after j)) [
         | inl lt ↦ let b = c.back other le lt in
-            omega (arith, up_to-le j i le, up_to-gt (node_after j) i lt, up_to-le j (node_before i) b, up_to-gt (node_after j) (node_before i) (omega arith))
+            omega (arith, up_by-le a j i le, up_by-gt a (node_after j) i lt, up_by-le a j (node_before i) b, up_by-gt a (node_after j) (node_before i) (omega arith))
         | inr past ↦ elim (cases_lt (node_before i) j) [
-          | inl low ↦ omega (arith, up_to-le j i le, up_to-le (node_after j) i past, up_to-gt j (node_before i) low, up_to-gt (node_after j) (node_before i) (omega arith))
+          | inl low ↦ omega (arith, up_by-le a j i le, up_by-le a (node_after j) i past, up_by-gt a j (node_before i) low, up_by-gt a (node_after j) (node_before i) (omega arith))
           | inr high ↦ elim (cases_lt (node_before i) (node_after j)) [
             | inl bad ↦ let x = c.forth high bad in omega arith
-            | inr far ↦ omega (arith, up_to-le j i le, up_to-le (node_after j) i past, up_to-le j (node_before i) high, up_to-le (node_after j) (node_before i) far)
+            | inr far ↦ omega (arith, up_by-le a j i le, up_by-le a (node_after j) i past, up_by-le a j (node_before i) high, up_by-le a (node_after j) (node_before i) far)
           ]
         ]
       ]
     ]
 
--- and node i counts the word i and none before
-pub counts_own : (i : ℕ) → 0 < i
-    → up_to i i + up_to (node_after i) (node_before i) ≡ suc (up_to i (node_before i) + up_to (node_after i) i)
-counts_own i some =
+-- and node i sums the count i and none before
+pub counts_own : (a i : ℕ) → 0 < i
+    → up_by a i i + up_by a (node_after i) (node_before i) ≡ a + (up_by a i (node_before i) + up_by a (node_after i) i)
+counts_own a i some =
     let less = node_before-less i some in let more = node_after-greater i some in
-    omega (arith, up_to-le i i (omega arith), up_to-gt (node_after i) (node_before i) (omega arith), up_to-gt i (node_before i) less, up_to-gt (node_after i) i more)
+    omega (arith, up_by-le a i i (omega arith), up_by-gt a (node_after i) (node_before i) (omega arith), up_by-gt a i (node_before i) less, up_by-gt a (node_after i) i more)
 
 -- a count falls from any number to a later one
 falls_by : (f : ℕ → ℕ) → Falls f → (i d : ℕ) → f (i + d) ≤ f i
@@ -136,13 +136,13 @@ falls_by f falls i (suc d) =
 pub falls_far : (f : ℕ → ℕ) → Falls f → (i j : ℕ) → i ≤ j → f j ≤ f i
 falls_far f falls i j le = let e : i + (j - i) ≡ j = omega arith in subst (λ x. f x ≤ f i) e (falls_by f falls i (j - i))
 
--- while a word i gets one more, from node i to the nodes before: what n stands for at node j, as far as node `at`
-abbrev pub Adds : (ℕ → ℕ) → ℕ → ℕ → ℕ → ℕ → Type 0
-Adds f i at j n = n + (f (node_after j) + up_to j at + up_to (node_after j) i) ≡ f j + up_to j i + up_to (node_after j) at
+-- while the count i gets so much more, from node i to the nodes before: what n stands for at node j, as far as node `at`
+abbrev pub Adds : ℕ → (ℕ → ℕ) → ℕ → ℕ → ℕ → ℕ → Type 0
+Adds a f i at j n = n + (f (node_after j) + up_by a j at + up_by a (node_after j) i) ≡ f j + up_by a j i + up_by a (node_after j) at
 
--- while it gets one less
-abbrev pub Subtracts : (ℕ → ℕ) → ℕ → ℕ → ℕ → Type 0
-Subtracts f at j n = n + (f (node_after j) + up_to (node_after j) at) ≡ f j + up_to j at
+-- while it gets so much less
+abbrev pub Subtracts : ℕ → (ℕ → ℕ) → ℕ → ℕ → ℕ → Type 0
+Subtracts a f at j n = n + (f (node_after j) + up_by a (node_after j) at) ≡ f j + up_by a j at
 
 -- a change of one node, at that node and at the others
 changes_at : (P Q : ℕ → ℕ → Type 0) (nodes : List ℕ) (at v j : ℕ) → at < length nodes → (P at (get_or nodes at 0) → Q at v)
@@ -156,14 +156,14 @@ changes_at P Q nodes at v j inside own other before = elim (cases_lt j at) [
   ]
 ]
 
-module _ (f : ℕ → ℕ) (nodes : List ℕ) (at j : ℕ) (inside : at < length nodes) (some_at : 0 < at) (some_j : 0 < j) where
-  pub adds_step : (i : ℕ) → Adds f i at j (get_or nodes j 0) → Adds f i (node_before at) j (get_or (set nodes at (get_or nodes at 0 + 1)) j 0)
-  adds_step i = changes_at (Adds f i at) (Adds f i (node_before at)) nodes at (get_or nodes at 0 + 1) j inside
-      (λ b. let own = counts_own at some_at in omega (arith, b, own))
-      (λ ne b. let c = counts_before j at some_j some_at ne in omega (arith, b, c))
+module _ (a : ℕ) (f : ℕ → ℕ) (nodes : List ℕ) (at j : ℕ) (inside : at < length nodes) (some_at : 0 < at) (some_j : 0 < j) where
+  pub adds_step : (i : ℕ) → Adds a f i at j (get_or nodes j 0) → Adds a f i (node_before at) j (get_or (set nodes at (get_or nodes at 0 + a)) j 0)
+  adds_step i = changes_at (Adds a f i at) (Adds a f i (node_before at)) nodes at (get_or nodes at 0 + a) j inside
+      (λ b. let own = counts_own a at some_at in omega (arith, b, own))
+      (λ ne b. let c = counts_before a j at some_j some_at ne in omega (arith, b, c))
 
-  pub subtracts_step : 0 < get_or nodes at 0 → Subtracts f at j (get_or nodes j 0)
-      → Subtracts f (node_before at) j (get_or (set nodes at (get_or nodes at 0 - 1)) j 0)
-  subtracts_step some = changes_at (Subtracts f at) (Subtracts f (node_before at)) nodes at (get_or nodes at 0 - 1) j inside
-      (λ b. let own = counts_own at some_at in omega (arith, b, own, some))
-      (λ ne b. let c = counts_before j at some_j some_at ne in omega (arith, b, c))
+  pub subtracts_step : a ≤ get_or nodes at 0 → Subtracts a f at j (get_or nodes j 0)
+      → Subtracts a f (node_before at) j (get_or (set nodes at (get_or nodes at 0 - a)) j 0)
+  subtracts_step some = changes_at (Subtracts a f at) (Subtracts a f (node_before at)) nodes at (get_or nodes at 0 - a) j inside
+      (λ b. let own = counts_own a at some_at in omega (arith, b, own, some))
+      (λ ne b. let c = counts_before a j at some_j some_at ne in omega (arith, b, c))

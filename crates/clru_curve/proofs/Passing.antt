@@ -9,11 +9,12 @@ use Rattle.clru_model.specs.Requests.{holds, distinct}
 use Rattle.clru_model.proofs.Finding.{missed, plain_put-missed}
 use Rattle.clru_curve.specs.Curves.{HasMissesOf}
 use Rattle.clru_model.specs.Distances.{distance}
-use Rattle.clru_curve.specs.Latest.{up_to, ones_from}
+use Rattle.clru_curve.specs.Latest.{ones_from}
+use Rattle.clru_curve.specs.Tree.{up_to}
 use Rattle.clru_curve.specs.Passes.{Pass, pass, IsPass}
 use Rattle.clru_curve.proofs.Bits.{ones-zero, ones_upper}
 use Rattle.clru_curve.proofs.Histograms.{IsHistogram-none, IsHistogram-new, IsHistogram-again, distance_inside, distance_few, HasMissesOf-by}
-use Rattle.clru_curve.proofs.Ranks.{IsRanked-new, IsRanked-again}
+use Rattle.clru_curve.proofs.Ranks.{distinct_measures, IsRanked-new, IsRanked-again}
 
 module _ {K : Type 0} (eq : K → K → Bool) where
   -- before the first request
@@ -45,7 +46,7 @@ module _ {K : Type 0} (eq : K → K → Bool) where
     ranked = record {
       known = is.ranked.known;
       before = is.ranked.before;
-      latest = λ x p at. same p ∙ is.ranked.latest x p at ∙ ap suc (sym (same (suc p)));
+      latest = λ x p at. omega (arith, same p, is.ranked.latest x p at, same (suc p));
       rank = λ x p at. same (suc p) ∙ is.ranked.rank x p at;
       falls = λ p. omega (arith, same p, same (suc p), is.ranked.falls p);
       none = same n ∙ is.ranked.none;
@@ -73,7 +74,7 @@ module _ {K : Type 0} (eq : K → K → Bool) (laws : IsEquivalence eq) (past : 
       let moved : (y : K) → lookup (eq y) ((x, n) ∷ places) ≡ cond (eq x y) (Some n) (lookup (eq y) places) =
       λ y. ap (λ b. cond b (Some n) (lookup (eq y) places)) (laws.symm y x) in
       rw (put, one) (record {
-        ranked = IsRanked-new eq laws past places ((x, n) ∷ places) n (ones_from ws) (ones_from vs) x is.ranked moved (not_held absent) counts
+        ranked = IsRanked-new eq laws (λ x. 1) (distinct eq) (distinct_measures eq laws) past places ((x, n) ∷ places) n (ones_from ws) (ones_from vs) x is.ranked moved (not_held absent) counts
             (omega (arith, is.ranked.few));
         counted = IsHistogram-new eq laws past h x is.counted (not_held absent);
         requests = ap suc is.requests;
@@ -103,7 +104,7 @@ module _ {K : Type 0} (eq : K → K → Bool) (laws : IsEquivalence eq) (past : 
         let moved : (y : K) → lookup (eq y) (set_value (eq x) places n) ≡ cond (eq x y) (Some n) (lookup (eq y) places) =
         λ y. lookup-set_value laws (eq x) (λ z w t. laws.congr x z w t) y n places (rw found refl) in
         rw (one, rank) (record {
-          ranked = IsRanked-again eq laws past places (set_value (eq x) places n) n (ones_from ws) (ones_from vs) x is.ranked moved p found counts
+          ranked = IsRanked-again eq laws (λ x. 1) (distinct eq) (distinct_measures eq laws) past places (set_value (eq x) places n) n (ones_from ws) (ones_from vs) x is.ranked moved p found counts
               (omega (arith, length-set_value (eq x) places n, is.ranked.few));
           counted = IsHistogram-again eq laws past h x is.counted was_held;
           requests = ap suc is.requests;

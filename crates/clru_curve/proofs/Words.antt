@@ -3,7 +3,8 @@ use Rattle.std.proofs.Common.{◌≡◌, ◌≢◌, ℕ, zero, suc, ◌+◌, ◌
 use Rattle.std.proofs.lemmas.Bool.{cases_lt}
 use Rattle.std.proofs.lemmas.Nat.{shr-shr, mod_below, div-mul-add, mod-mul-add, div-add-mod'}
 use Rattle.std.specs.Prelude.{count_ones}
-use Rattle.clru_curve.specs.Latest.{up_to, words_from, ones_from, node_after, Falls, IsCounted}
+use Rattle.clru_curve.specs.Latest.{words_from, ones_from}
+use Rattle.clru_curve.specs.Tree.{up_to, node_after, Falls, IsCounted}
 use Rattle.clru_curve.proofs.Bits.{ones-zero}
 use Rattle.clru_curve.proofs.UpTo.{up_to-le, up_to-gt}
 

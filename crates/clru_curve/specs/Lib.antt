@@ -1,3 +1,9 @@
 pub mod Curves
+pub mod Errors
 pub mod Latest
+pub mod LatestSizes
 pub mod Passes
+pub mod Ranked
+pub mod SizedCurves
+pub mod SizedPasses
+pub mod Tree

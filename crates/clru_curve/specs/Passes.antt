@@ -1,9 +1,9 @@
 -- What a pass has taken note of, request by request. Public clauses cite it.
-use Rattle.std.specs.Prelude.{◌≡◌, ℕ, suc, ◌+◌, ◌-◌, ◌^◌, ◌<◌, ◌≤◌, Bool, List, length, take, sum, reverse, is_some, Some, refl}
+use Rattle.std.specs.Prelude.{◌≡◌, ℕ, ◌+◌, ◌-◌, ◌^◌, Bool, List, length, take, sum, reverse, refl}
 use Rattle.std.specs.Coded.{Coded, code_by, coded×, coded_list, coded_ℕ}
-use Rattle.std.specs.Map.{lookup}
-use Rattle.clru_model.specs.Requests.{holds, distinct, since, misses}
+use Rattle.clru_model.specs.Requests.{distinct, misses}
 use Rattle.clru_curve.specs.Latest.{ones_from, IsLatest}
+use Rattle.clru_curve.specs.Ranked.{IsRanked}
 
 -- each key with the number of its latest request, a bit for each request, how many requests there were, and how many at each
 -- distance
@@ -23,17 +23,6 @@ module _ {K : Type 0} where
       (λ p. (p.places, (p.words, (p.requests, p.histogram)))) (λ t. pass t.0 t.1.0 t.1.1.0 t.1.1.1) (λ _. refl)
 
 module _ {K : Type 0} (eq : K → K → Bool) where
-  -- after n requests, the latest first: each key that was requested has the number of its latest request, after which f counts
-  -- the distinct keys that were requested since
-  pub record IsRanked (past : List K) (places : List (K × ℕ)) (n : ℕ) (f : ℕ → ℕ) : Type 0 where
-    pub known : (x : K) → is_some (lookup (eq x) places) ≡ holds eq x past
-    pub before : (x : K) (p : ℕ) → lookup (eq x) places ≡ Some p → p < n
-    pub latest : (x : K) (p : ℕ) → lookup (eq x) places ≡ Some p → f p ≡ suc (f (suc p))
-    pub rank : (x : K) (p : ℕ) → lookup (eq x) places ≡ Some p → f (suc p) ≡ distinct eq (since eq x past)
-    pub falls : (p : ℕ) → f (suc p) ≤ f p
-    pub none : f n ≡ 0
-    pub few : length places ≤ n
-
   -- as many numbers as distinct keys, of which the first k sum up to the hits at capacity k
   pub record IsHistogram (past : List K) (histogram : List ℕ) : Type 0 where
     pub distinct : length histogram ≡ distinct eq past
@@ -41,7 +30,7 @@ module _ {K : Type 0} (eq : K → K → Bool) where
 
   -- a pass that has taken these requests, the latest first
   pub record IsPass (past : List K) (p : Pass K) : Type 0 where
-    pub ranked : IsRanked past p.places p.requests (ones_from p.words)
+    pub ranked : IsRanked eq (λ x. 1) (distinct eq) past p.places p.requests (ones_from p.words)
     pub counted : IsHistogram past p.histogram
     pub requests : p.requests ≡ length past
 

@@ -1,10 +1,9 @@
 //! For each request a bit, which is set where the request is the latest of its key.
 ghost use Rattle.std.specs.Prelude.{◌≡◌, ℕ, suc, ◌+◌, ◌*◌, ◌^◌, ◌<◌, [], length, OnOk};
-ghost use Rattle.clru_curve.specs.Latest.{up_to, ones_from, IsLatest};
+ghost use Rattle.clru_curve.specs.Latest.{ones_from, IsLatest};
+ghost use Rattle.clru_curve.specs.Tree.{up_to};
 
-mod nodes;
-
-use nodes::{add_at, count_from, subtract_at};
+use crate::tree::{add_at, count_from, subtract_at};
 use std::alloc::{AllocError, Allocator};
 
 /// How many requests share a word.
@@ -67,7 +66,7 @@ impl<A: Allocator + Copy> Latest<A> {
     {
         let word = self.requests / BITS;
         self.words[word] += 1 << (self.requests % BITS);
-        add_at(&mut self.nodes, word);
+        add_at(&mut self.nodes, word, 1);
         self.requests += 1;
     }
 
@@ -82,7 +81,7 @@ impl<A: Allocator + Copy> Latest<A> {
     {
         let word = request / BITS;
         self.words[word] -= 1 << (request % BITS);
-        subtract_at(&mut self.nodes, word);
+        subtract_at(&mut self.nodes, word, 1);
     }
 
     /// How many later requests are the latest of their keys.

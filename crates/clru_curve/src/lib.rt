@@ -6,16 +6,21 @@
 //! which is set where that request is the latest of its key. The distance of a request is the number of bits after the one
 //! of its key; a tree over the words of bits counts them. A request costs a look-up, and steps that go with the logarithm of
 //! the number of requests; memory goes with the distinct keys, besides a quarter of a byte for each request.
+//!
+//! Where keys weigh something a sized pass does the same with a size in place of each bit, and sums in place of numbers of bits.
 #![tactic(auto)]
 
 mod curve;
 mod latest;
 mod list;
 mod pass;
+mod sized;
+mod tree;
 
-pub use clru::{DefaultState, NoMemory};
-pub use clru_model::law_distances;
+pub use clru::{DefaultState, NoMemory, WeightScale};
+pub use clru_model::{law_distances, law_sizes};
 pub use curve::MissCurve;
 pub use list::miss_curve;
 pub use pass::DistancePass;
+pub use sized::{SizedCurve, SizedPass, SizedRequestError, sized_curve};
 pub use std::num::NonZeroUsize;

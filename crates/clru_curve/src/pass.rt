@@ -135,7 +135,7 @@ impl<K: Eq + Hash, S: BuildHasher, A: Allocator + Copy> DistancePass<K, S, A> {
 }
 
 /// Gives a key that is held another number, and returns the one that it had.
-fn move_place<K: Eq + Hash, S: BuildHasher, A: Allocator + Copy>(
+pub(crate) fn move_place<K: Eq + Hash, S: BuildHasher, A: Allocator + Copy>(
     places: &mut CLruCache<K, usize, S, ZeroWeightScale, A>,
     key: &K,
     number: usize,

@@ -11,7 +11,7 @@ use std::process::Abort;
 use std::test::Fail;
 
 /// Draws 700 keys, of which small ones come more often.
-fn draws(alloc: Global, seed: u64, keys: u64) -> Result<Vec<u64>, Fail> {
+pub(crate) fn draws(alloc: Global, seed: u64, keys: u64) -> Result<Vec<u64>, Fail> {
     let mut drawn = Vec::new(alloc);
     let mut state = seed;
     for _ in 0..700 {

@@ -8,4 +8,10 @@ mod drawn;
 #[cfg(test)]
 mod memory;
 #[cfg(test)]
+mod refusals;
+#[cfg(test)]
 mod rows;
+#[cfg(test)]
+mod sized_drawn;
+#[cfg(test)]
+mod sized_rows;

@@ -1,7 +1,7 @@
 //! Worked rows: a list of requests, the distance of each, and the misses at the capacities 1, 2 and so on.
 
 use assertions::equal;
-use clru_curve::{DistancePass, NonZeroUsize, miss_curve};
+use clru_curve::{DistancePass, NonZeroUsize, law_distances, law_sizes, miss_curve};
 use clru_fixtures::sizes::room;
 use clru_fixtures::with_each_builder;
 use std::alloc::Global;
@@ -80,4 +80,11 @@ fn beyond_the_keys_each_misses_once(rt: HostRuntime) -> Result<(), Fail> {
     equal!(rt; curve.misses(room(3)?), 2);
     equal!(rt; curve.misses(NonZeroUsize::MAX), 2);
     Ok(())
+}
+
+/// They do nothing; a caller that is proved learns what they say.
+#[test]
+fn laws_are_called(_rt: HostRuntime) {
+    law_distances::<u64>();
+    law_sizes::<u64, ()>();
 }

@@ -1,6 +1,6 @@
 use Rattle.std.proofs.Common.{suc, ◌<◌, ◌∷◌, Some, get_or, refl, sym, ap, ◌∙◌, subst, arith, length}
 use Rattle.std.proofs.lemmas.List.{get_or_read}
-use Rattle.clru_curve.specs.Latest.{up_to}
+use Rattle.clru_curve.specs.Tree.{up_to}
 use Rattle.clru_curve.specs.Passes.{IsPass}
 use Rattle.clru_curve.proofs.Passing.{IsPass-same, IsPass-new, IsPass-again, distance_none, distance_some, distance_below, number_few}
 use Rattle.clru_curve.proofs.UpTo.{up_to-le}

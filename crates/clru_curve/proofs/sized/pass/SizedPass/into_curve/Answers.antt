@@ -1,0 +1,10 @@
+use Rattle.std.proofs.Common.{refl, sym, subst, arith}
+use Rattle.clru_curve.proofs.SizedCurves.{IsSizedCurveOf-by}
+use Rattle.clru_curve.specs.SizedPasses.{IsSizedPass}
+use Rattle.clru_curve.proofs.sized.pass.SizedPass.into_curve.Goals as goal
+
+pub returns : goal.returns
+returns g c w past is =
+    let eq = g.K.PartialEq.eq in
+    IsSizedCurveOf-by eq w past _ c.from_hits.result c.self.inside.hits.items c.len.result c.total.result (subst (λ v. IsSizedPass eq w past v) (sym c.self.view_is) is)
+    refl (omega (arith, c.len.ensures, c.self.inside.latest.sizes.ok.0)) c.total.ensures c.from_hits.ensures

@@ -1,0 +1,9 @@
+use Rattle.std.proofs.Common.{arith}
+use Rattle.clru_curve.proofs.LatestSizes.{IsSummed-node}
+use Rattle.clru_curve.proofs.sized.sizes.Sizes.make_ready.Goals as goal
+
+pub returns-clause-kept : goal.returns-clause-kept
+returns-clause-kept g c =
+    let self = c.args.self.now in
+    rw (c.in-Ok-push.ensures.items, c.reserve.ensures.items)
+    (IsSummed-node self.sizes.items self.nodes.items c.requires.kept (omega (arith, c.if-len.false, c.reserve.ensures.len, self.sizes.ok.0)))

@@ -1,0 +1,12 @@
+//! The same pass over requests of keys that weigh something.
+
+mod curve;
+mod error;
+mod list;
+mod pass;
+mod sizes;
+
+pub use curve::SizedCurve;
+pub use error::SizedRequestError;
+pub use list::sized_curve;
+pub use pass::SizedPass;

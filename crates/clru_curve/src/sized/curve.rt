@@ -1,0 +1,150 @@
+//! `SizedCurve`: what a pass over keys with sizes answers.
+ghost use Rattle.std.specs.Prelude.{◌≡◌, ◌<◌, ◌≤◌, nat_le, length, IsNone, Some};
+ghost use Rattle.std.specs.Int.NonZero.{non_zero_usize_get};
+ghost use Rattle.std.specs.List.{sum_by};
+ghost use Rattle.std.specs.List.Sorted.{IsNonDecreasingBy};
+ghost use Rattle.clru_curve.specs.SizedCurves.{misses_within, missed_size_within, hits_within, IsCurveOfHits, IsMissed};
+
+use std::alloc::{Allocator, Global};
+use std::marker::Model;
+use std::num::NonZeroUsize;
+
+/// The misses of a list of requests, and the size that they miss, at every capacity above the greatest weight that was
+/// requested: the capacity is a number of bytes, say, and not of entries.
+///
+/// At a capacity that is no more than the greatest weight a cache refuses the puts of some keys, and what it misses of the
+/// others need not be what a curve would say; so there is no answer there.
+#[derive(Drop)]
+pub struct SizedCurve<A: Allocator = Global> {
+    steps: Vec<(usize, usize), A>,
+    requests: usize,
+    size: usize,
+    distinct_size: usize,
+    greatest_weight: usize,
+}
+
+impl<A: Allocator> Model for SizedCurve<A> {
+    ghost use Rattle.std.specs.Prelude.{ℕ, List, length, ◌≤◌};
+    ghost use Rattle.std.specs.List.Sorted.{IsNonDecreasingBy};
+    ghost use Rattle.clru_curve.specs.SizedCurves.{CurveBySize, curve_by_size, curve_by_size_code};
+
+    ghost Value = { CurveBySize };
+
+    ghost coded = { curve_by_size_code };
+
+    ghost view = { λ c. curve_by_size c.steps.items c.requests c.size c.distinct_size c.greatest_weight };
+
+    ghost invariant = { λ c. IsNonDecreasingBy (λ s. s.0) c.steps.items × (length c.steps.items ≤ c.requests) };
+}
+
+impl<A: Allocator> SizedCurve<A> {
+    /// Returns the number of misses at the capacity, or `None` where that is not above the greatest weight.
+    pub fn misses(&self, capacity: NonZeroUsize) -> Option<usize>
+        ensures refused { non_zero_usize_get capacity ≤ self.now.greatest_weight → IsNone result }
+        ensures answer { self.now.greatest_weight < non_zero_usize_get capacity
+            → result ≡ Some (misses_within self.now (non_zero_usize_get capacity)) }
+    {
+        if capacity.get() <= self.greatest_weight {
+            return None;
+        }
+        Some(self.requests - hits_at(&self.steps, capacity.get()))
+    }
+
+    /// Returns the size of the requests that miss at the capacity, or `None` where that is not above the greatest weight.
+    pub fn missed_size(&self, capacity: NonZeroUsize) -> Option<usize>
+        ensures refused { non_zero_usize_get capacity ≤ self.now.greatest_weight → IsNone result }
+        ensures answer { self.now.greatest_weight < non_zero_usize_get capacity
+            → result ≡ Some (missed_size_within self.now (non_zero_usize_get capacity)) }
+    {
+        if self.greatest_weight >= capacity.get() {
+            return None;
+        }
+        match hits_at(&self.steps, capacity.get()) {
+            0 => Some(self.size),
+            hits => Some(self.steps[hits - 1].1),
+        }
+    }
+
+    /// Returns the number of requests.
+    pub fn requests(&self) -> usize
+        ensures { result ≡ self.now.requests }
+    {
+        self.requests
+    }
+
+    /// Returns the size of all requests together.
+    pub fn size(&self) -> usize
+        ensures { result ≡ self.now.size }
+    {
+        self.size
+    }
+
+    /// Returns the size of the distinct keys together: from that capacity on the misses stay the same.
+    pub fn distinct_size(&self) -> usize
+        ensures { result ≡ self.now.distinct_size }
+    {
+        self.distinct_size
+    }
+
+    /// Returns the greatest weight that was requested, or 0 where there were no requests.
+    pub fn greatest_weight(&self) -> usize
+        ensures { result ≡ self.now.greatest_weight }
+    {
+        self.greatest_weight
+    }
+
+    /// Returns the capacities at which the numbers fall, each with the size that is missed from there on, the least first.
+    /// There is one for each request that can hit at all; where a capacity comes several times, its last one counts.
+    pub fn as_slice(&self) -> &[(usize, usize)]
+        ensures { result.now ≡ self.now.steps }
+    {
+        self.steps.as_slice()
+    }
+
+    pub(crate) fn from_hits(
+        hits: Vec<(usize, usize), A>,
+        requests: usize,
+        size: usize,
+        distinct_size: usize,
+        greatest_weight: usize,
+    ) -> Self
+        requires few { length hits.items ≤ requests }
+        requires within { sum_by (λ h. h.1) hits.items ≤ size }
+        ensures { IsCurveOfHits hits.items requests size distinct_size greatest_weight result }
+    {
+        let mut steps = hits;
+        steps.sort_unstable_by_key(|hit| hit.0);
+        miss_sizes(&mut steps, size);
+        SizedCurve {
+            steps,
+            requests,
+            size,
+            distinct_size,
+            greatest_weight,
+        }
+    }
+}
+
+/// How many steps there are up to the capacity.
+fn hits_at(steps: &[(usize, usize)], capacity: usize) -> usize
+    requires { IsNonDecreasingBy (λ s. s.0) steps.now }
+    ensures { result ≡ hits_within capacity steps.now }
+{
+    steps.partition_point(
+        |step: &(usize, usize)| -> bool
+            ensures { result ≡ nat_le step.now.0 capacity }
+        { step.0 <= capacity },
+    )
+}
+
+/// Turns the size of each hit into the size that misses where it hits, and those before it.
+fn miss_sizes(hits: &mut [(usize, usize)], size: usize)
+    requires within { sum_by (λ h. h.1) hits.old ≤ size }
+    ensures { IsMissed size hits.old hits.new }
+{
+    let mut missed = size;
+    for hit in hits.iter_mut() {
+        missed -= hit.1;
+        *hit = (hit.0, missed);
+    }
+}

@@ -1,0 +1,46 @@
+//! The curve of a whole list of requests for keys with sizes.
+ghost use Rattle.std.specs.Prelude.{◌≡◌, ◌^◌, ◌<◌, [], IfOk, IfErr, IsOk};
+ghost use Rattle.clru_model.specs.Sizes.{SameWeights};
+ghost use Rattle.clru_curve.specs.SizedCurves.{IsSizedCurveOf, size_of_all};
+ghost use Rattle.clru_curve.specs.SizedPasses.{IsNoMemory};
+
+use crate::sized::curve::SizedCurve;
+use crate::sized::error::SizedRequestError;
+use crate::sized::pass::SizedPass;
+use clru_model::WeightScale;
+use std::alloc::Allocator;
+use std::hash::{BuildHasher, Hash};
+
+/// Returns the misses of the requests at every capacity above the greatest weight, and the size that they miss, from one pass
+/// over them.
+///
+/// A key weighs what the scale says of it with the value `()`, and keys that are the same weigh the same. Keys that are not
+/// `Copy` are passed as references. The keys stay the caller's, and without keys no memory is asked for. Where memory is
+/// refused, or the sizes of all requests pass `usize::MAX`, the first key that was not taken comes back. Cost and memory are
+/// those of a `SizedPass`, which also takes requests one by one.
+pub fn sized_curve<K, W, S, A>(
+    alloc: A,
+    keys: &[K],
+    scale: W,
+    hash_builder: S,
+) -> Result<SizedCurve<A>, SizedRequestError<K>>
+where
+    K: Eq + Hash + Copy,
+    W: WeightScale<K, ()> + Drop,
+    S: BuildHasher + Drop,
+    A: Allocator + Copy,
+    ensures curve { SameWeights K.eq (λ x. W.weight scale x tt)
+        → IfOk result (λ c. IsSizedCurveOf K.eq (λ x. W.weight scale x tt) keys.now c) }
+    ensures too_large { SameWeights K.eq (λ x. W.weight scale x tt)
+        → size_of_all (λ x. W.weight scale x tt) keys.now < 2 ^ 64 → IfErr result IsNoMemory }
+    ensures never_refused { keys.now ≡ [] → IsOk result }
+{
+    let mut pass = SizedPass::with_hasher(alloc, hash_builder);
+    for key in keys {
+        match pass.request(*key, scale.weight(key, &())) {
+            Ok(_) => {}
+            Err(refusal) => return Err(refusal),
+        }
+    }
+    Ok(pass.into_curve())
+}

@@ -1,0 +1,167 @@
+//! `SizedPass`, which takes requests of keys with sizes one by one.
+ghost use Rattle.std.specs.Prelude.{◌≡◌, ℕ, ◌^◌, ◌<◌, nat_lt, List, [], ◌∷◌, reverse, IfOk, IfErr, OnOk, OnErr, if◌then◌else◌};
+ghost use Rattle.clru_model.specs.Sizes.{SameWeights, span};
+ghost use Rattle.clru_curve.specs.SizedPasses.{IsSizedPass, key_of, IsNoMemory};
+ghost use Rattle.clru_curve.specs.SizedCurves.{IsSizedCurveOf, size_of_all};
+
+use crate::pass::move_place;
+use crate::sized::curve::SizedCurve;
+use crate::sized::error::SizedRequestError;
+use crate::sized::sizes::Sizes;
+use clru::{CLruCache, DefaultState, NoMemory, ZeroWeightScale};
+use std::alloc::{Allocator, Global};
+use std::hash::{BuildHasher, Hash};
+use std::marker::Model;
+use std::num::NonZeroUsize;
+
+/// A pass over requests of keys that weigh something, which takes them one by one and answers the span of each.
+///
+/// The size of a request is 1 and the weight of its key, as an entry takes it of a cache's capacity; for bytes the weight is
+/// the number of bytes less 1. Clauses speak of any function that gives the weight of each request by its key: keys that are
+/// the same are to weigh the same each time. Where a key comes with another weight than before they say nothing, and the calls
+/// are as safe as ever. They speak of the requests that were taken by `IsSizedPass`, the latest first. A curve can be had at
+/// any time.
+///
+/// Memory goes with the requests, nine bytes for each, and sixteen more for each that asks for a key again, besides a place in
+/// a cache for each distinct key.
+#[derive(Drop)]
+pub struct SizedPass<K: Eq + Hash, S: BuildHasher = DefaultState, A: Allocator + Copy = Global> {
+    places: CLruCache<K, usize, S, ZeroWeightScale, A>,
+    latest: Sizes<A>,
+    hits: Vec<(usize, usize), A>,
+    size: usize,
+    greatest: usize,
+}
+
+impl<K: Eq + Hash, S: BuildHasher, A: Allocator + Copy> Model for SizedPass<K, S, A> {
+    ghost use Rattle.clru_curve.specs.SizedPasses.{PassBySize, pass_by_size, pass_by_size_code, IsSoundBySize};
+
+    ghost Value = { PassBySize K };
+
+    ghost coded = { pass_by_size_code K.code };
+
+    ghost view = { λ p. pass_by_size p.places.entries p.latest.sizes.items p.hits.items p.size p.greatest };
+
+    ghost invariant = { λ p. IsSoundBySize K.eq p.places.capacity p.latest.nodes.items
+        (pass_by_size p.places.entries p.latest.sizes.items p.hits.items p.size p.greatest) };
+}
+
+impl<K: Eq + Hash, A: Allocator + Copy> SizedPass<K, DefaultState, A> {
+    /// Creates a pass that has taken no request. It takes no memory.
+    pub fn new(alloc: A) -> Self
+        ensures { (w : K → ℕ) → IsSizedPass K.eq w [] result }
+    {
+        SizedPass::with_hasher(alloc, DefaultState)
+    }
+}
+
+impl<K: Eq + Hash, S: BuildHasher, A: Allocator + Copy> SizedPass<K, S, A> {
+    /// Creates a pass that has taken no request and hashes keys with `hash_builder`. It takes no memory.
+    pub fn with_hasher(alloc: A, hash_builder: S) -> Self
+        ensures { (w : K → ℕ) → IsSizedPass K.eq w [] result }
+    {
+        SizedPass {
+            places: CLruCache::with_hasher(alloc, NonZeroUsize::MAX, hash_builder),
+            latest: Sizes::new(alloc),
+            hits: Vec::new(alloc),
+            size: 0,
+            greatest: 0,
+        }
+    }
+
+    /// Takes one more request, of a key of this weight, and answers its span: the size of the key and of the distinct keys that
+    /// were requested since its latest request, or `None` where there was none. Where each key fits, the request hits at the
+    /// capacities from the span on, and at no other.
+    ///
+    /// Where memory is refused, or the sizes of all requests, this one among them, pass `usize::MAX`, the key comes back and
+    /// the pass is as before. The cost is a look-up, and for a new key a put, besides steps that go with the logarithm of the
+    /// number of requests.
+    pub fn request(&mut self, key: K, weight: usize) -> Result<Option<usize>, SizedRequestError<K>>
+    where
+        K: Drop,
+        ensures span { (w : K → ℕ) (past : List K) → SameWeights K.eq w → IsSizedPass K.eq w past self.old → w key ≡ weight
+            → IfOk result (λ s. s ≡ span K.eq w key past) }
+        ensures taken { (w : K → ℕ) (past : List K) → SameWeights K.eq w → IsSizedPass K.eq w past self.old → w key ≡ weight
+            → OnOk result (IsSizedPass K.eq w (key ∷ past) self.new) }
+        ensures refused { (w : K → ℕ) (past : List K) → IsSizedPass K.eq w past self.old
+            → OnErr result (IsSizedPass K.eq w past self.new) }
+        ensures given_back { IfErr result (λ e. key_of e ≡ key) }
+        ensures too_large { (w : K → ℕ) (past : List K) → IsSizedPass K.eq w past self.old → w key ≡ weight
+            → size_of_all w (key ∷ past) < 2 ^ 64 → IfErr result IsNoMemory }
+    {
+        if weight >= usize::MAX - self.size {
+            return Err(SizedRequestError::TooLarge(key));
+        }
+        let size = weight + 1;
+        let greatest = greater(self.greatest, weight);
+        let Ok(()) = self.latest.make_ready() else {
+            return Err(SizedRequestError::NoMemory(key));
+        };
+        let Ok(()) = self.hits.reserve(1) else {
+            return Err(SizedRequestError::NoMemory(key));
+        };
+        let number = self.latest.sizes.len();
+        match move_place(&mut self.places, &key, number) {
+            Some(place) => {
+                let span = self.latest.total_from(place);
+                self.latest.push(size);
+                self.latest.clear(place);
+                self.hits.push_reserved((span, size));
+                self.size += size;
+                self.greatest = greatest;
+                Ok(Some(span))
+            }
+            None => {
+                if let Err((key, _)) = self.places.put(key, number) {
+                    return Err(SizedRequestError::NoMemory(key));
+                }
+                self.latest.push(size);
+                self.size += size;
+                self.greatest = greatest;
+                Ok(None)
+            }
+        }
+    }
+
+    /// Returns the curve of the requests so far. It takes no memory; the spans are sorted.
+    pub fn into_curve(self) -> SizedCurve<A>
+    where
+        K: Drop,
+        S: Drop,
+        ensures { (w : K → ℕ) (past : List K) → IsSizedPass K.eq w past self → IsSizedCurveOf K.eq w (reverse past) result }
+    {
+        let SizedPass {
+            latest,
+            hits,
+            size,
+            greatest,
+            ..
+        } = self;
+        SizedCurve::from_hits(hits, latest.sizes.len(), size, latest.total(), greatest)
+    }
+
+    /// Returns the curve of the requests so far, and lets the pass go on. It takes memory for two numbers for each request that
+    /// asked for a key again; the spans are sorted.
+    pub fn curve(&self, alloc: A) -> Result<SizedCurve<A>, NoMemory>
+        ensures { (w : K → ℕ) (past : List K) → IsSizedPass K.eq w past self.now
+            → IfOk result (λ c. IsSizedCurveOf K.eq w (reverse past) c) }
+    {
+        let Ok(hits) = Vec::from_slice(alloc, self.hits.as_slice()) else {
+            return Err(NoMemory);
+        };
+        Ok(SizedCurve::from_hits(
+            hits,
+            self.latest.sizes.len(),
+            self.size,
+            self.latest.total(),
+            self.greatest,
+        ))
+    }
+}
+
+/// The greater of two numbers.
+fn greater(x: usize, y: usize) -> usize
+    ensures { result ≡ (if nat_lt x y then y else x) }
+{
+    if x < y { y } else { x }
+}
