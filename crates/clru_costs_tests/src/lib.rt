@@ -8,27 +8,9 @@ mod asserts;
 #[cfg(test)]
 mod calls;
 #[cfg(test)]
-mod cost;
-#[cfg(test)]
-mod counted;
-#[cfg(test)]
-mod growths;
-#[cfg(test)]
-mod made;
-#[cfg(test)]
-mod makers;
-#[cfg(test)]
 mod plain;
 #[cfg(test)]
-mod replays;
-#[cfg(test)]
-mod reserves;
-#[cfg(test)]
 mod retains;
-#[cfg(test)]
-mod runs;
-#[cfg(test)]
-mod store;
 #[cfg(test)]
 mod tables;
 #[cfg(test)]

@@ -1,11 +1,11 @@
 //! The calls of a cache whose pairs weigh nothing, with what each costs.
 
-use crate::calls::Counted;
-use crate::cost::Growth::{Grows, Stays};
-use crate::cost::Looks::{Never, Once};
-use crate::cost::{EACH, Makes, NONE, ONE, PUT, Row};
-use crate::counted::{Counting, Counts, Value};
 use clru::{CLruCache, ZeroWeightScale};
+use clru_counted::cache::Counted;
+use clru_counted::cost::Growth::{Grows, Stays};
+use clru_counted::cost::Looks::{Never, Once};
+use clru_counted::cost::{EACH, Makes, NONE, ONE, PUT, Row};
+use clru_counted::counted::{Counting, Counts, Value};
 use std::alloc::Allocator;
 use std::hash::{BuildHasher, Hash};
 use std::test::Fail;

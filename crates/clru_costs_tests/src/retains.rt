@@ -1,10 +1,10 @@
 //! What a retain removes is gone before it goes on, and its time does not grow with the square of the entries.
 
-use crate::calls::Counted;
-use crate::cost::Subject;
-use crate::counted::{Counts, OneChain};
 use assertions::equal;
 use clru::{CLruCache, ZeroWeightScale};
+use clru_counted::cache::Counted;
+use clru_counted::cost::Subject;
+use clru_counted::counted::{Counts, OneChain};
 use clru_fixtures::sizes::room;
 use std::process::Abort;
 use std::test::Fail;

@@ -1,11 +1,11 @@
 //! Walks over a cache of any scale, with what each costs.
 
-use crate::calls::Counted;
-use crate::cost::Growth::Stays;
-use crate::cost::Looks::Never;
-use crate::cost::{EACH, Makes, NONE, Row};
-use crate::counted::{Counting, Counts, Key, Value};
 use clru::WeightScale;
+use clru_counted::cache::Counted;
+use clru_counted::cost::Growth::Stays;
+use clru_counted::cost::Looks::Never;
+use clru_counted::cost::{EACH, Makes, NONE, Row};
+use clru_counted::counted::{Counting, Counts, Key, Value};
 use std::hash::BuildHasher;
 use std::test::Fail;
 

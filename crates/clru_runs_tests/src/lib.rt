@@ -1,4 +1,4 @@
-//! Tests of `clru_runs`: worked lists of calls, drawn ones beside a plain list of pairs, and memory that is refused.
+//! Worked lists of calls as tables, under each hash builder.
 #![tactic(auto)]
 
 /// The answer of a plain put: what it replaced, and what it dropped.
@@ -26,27 +26,14 @@ macro_rules! weighed {
 
 #[cfg(test)]
 mod asserts;
-pub mod callers;
-#[cfg(test)]
-mod calls;
-#[cfg(test)]
-mod drawn;
 #[cfg(test)]
 mod ends;
 #[cfg(test)]
 mod extends;
 #[cfg(test)]
-mod fails;
-#[cfg(test)]
-mod lawful;
-#[cfg(test)]
 mod laws;
 #[cfg(test)]
 mod lends;
-#[cfg(test)]
-mod memory;
-#[cfg(test)]
-mod pairs;
 #[cfg(test)]
 mod plain;
 #[cfg(test)]

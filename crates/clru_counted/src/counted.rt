@@ -16,20 +16,20 @@ use std::marker::Model;
 
 /// What was done so far, and what is to be done.
 #[derive(Drop)]
-pub(crate) struct Counts {
-    pub(crate) compared: Cell<u64>,
-    pub(crate) hashed: Cell<u64>,
-    pub(crate) weighed: Cell<u64>,
+pub struct Counts {
+    pub compared: Cell<u64>,
+    pub hashed: Cell<u64>,
+    pub weighed: Cell<u64>,
     /// Whether a fetch is to fail.
-    pub(crate) failing: Cell<bool>,
+    pub failing: Cell<bool>,
     /// The memory of caches, and
-    pub(crate) heap: Rationed<Global>,
+    pub heap: Rationed<Global>,
     /// that of keys and values.
-    pub(crate) owned: Rationed<Global>,
+    pub owned: Rationed<Global>,
 }
 
 impl Counts {
-    pub(crate) fn new(alloc: Global) -> Counts {
+    pub fn new(alloc: Global) -> Counts {
         Counts {
             compared: Cell::new(0),
             hashed: Cell::new(0),
@@ -41,7 +41,7 @@ impl Counts {
     }
 
     /// The key of this number.
-    pub(crate) fn key(&self, number: u64) -> Result<Key<'_>, &'static str> {
+    pub fn key(&self, number: u64) -> Result<Key<'_>, &'static str> {
         let block = Box::new(&self.owned, number);
         Ok(Key {
             number,
@@ -51,7 +51,7 @@ impl Counts {
     }
 
     /// A value of this weight.
-    pub(crate) fn value(&self, weight: usize) -> Result<Value<'_>, &'static str>
+    pub fn value(&self, weight: usize) -> Result<Value<'_>, &'static str>
         ensures { IfOk result (λ value. value ≡ weight) }
     {
         match Box::new(&self.owned, 0) {
@@ -62,7 +62,7 @@ impl Counts {
 }
 
 /// A builder or a scale that counts there.
-pub(crate) trait Counting<'a>: Copy {
+pub trait Counting<'a>: Copy {
     fn there(counts: &'a Counts) -> Self;
 }
 
@@ -96,14 +96,14 @@ impl<'a> Counting<'a> for OneChain<'a> {
 }
 
 /// Counts one more.
-pub(crate) fn add(count: &Cell<u64>) {
+pub fn add(count: &Cell<u64>) {
     count.set(count.get().wrapping_add(1));
 }
 
 /// A number as a key.
 #[derive(Drop)]
-pub(crate) struct Key<'a> {
-    pub(crate) number: u64,
+pub struct Key<'a> {
+    pub number: u64,
     counts: &'a Counts,
     _block: Box<u64, &'a Rationed<Global>>,
 }
@@ -135,7 +135,7 @@ impl<'a> Hash for Key<'a> {
 
 /// A weight as a value. Contracts see the weight alone, so that two fetches of one key can give the same value.
 #[derive(Drop)]
-pub(crate) struct Value<'a> {
+pub struct Value<'a> {
     weight: usize,
     _block: Box<u64, &'a Rationed<Global>>,
 }
@@ -148,8 +148,8 @@ impl<'a> Model for Value<'a> {
 
 /// A value weighs what it says.
 #[derive(Clone, Copy)]
-pub(crate) struct Scale<'a> {
-    pub(crate) counts: &'a Counts,
+pub struct Scale<'a> {
+    pub counts: &'a Counts,
 }
 
 impl<'a, K> WeightScale<K, Value<'a>> for Scale<'a> {
@@ -163,8 +163,8 @@ impl<'a, K> WeightScale<K, Value<'a>> for Scale<'a> {
 
 /// Hashes as a cache does where no builder is given.
 #[derive(Clone, Copy)]
-pub(crate) struct Spread<'a> {
-    pub(crate) hashed: &'a Cell<u64>,
+pub struct Spread<'a> {
+    pub hashed: &'a Cell<u64>,
 }
 
 impl<'a> BuildHasher for Spread<'a> {
@@ -180,7 +180,7 @@ impl<'a> BuildHasher for Spread<'a> {
 
 /// Has one hash for all keys, so that they stand in one chain: those that came first stand first in it.
 #[derive(Clone, Copy)]
-pub(crate) struct OneChain<'a> {
+pub struct OneChain<'a> {
     hashed: &'a Cell<u64>,
     hash: Constant,
 }

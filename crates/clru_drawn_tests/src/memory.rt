@@ -1,38 +1,43 @@
 //! Memory that is refused.
 
-use crate::tables::{Table, runs};
 use assertions::equal;
 use clru::{CLruCache, PutError};
 use clru_fixtures::sizes::room;
-use clru_runs::Answer::{Lent, Number, Stored, Value, Weighed};
+use clru_runs::Answer::{self, Lent, Number, Stored, Value, Weighed};
 use clru_runs::Call::{Len, Peek, PutWithWeight};
 use clru_runs::PlainCall::{self, Any, Put, PutOrModify};
 use clru_runs::perform_all;
 use ration::Rationed;
 use std::test::Fail;
 
-static REFUSED: Table<'static, PlainCall<&'static str, u64>, &'static str, u64> = Table {
-    name: "a_put_that_wants_memory_ends_no_run",
-    capacity: 3,
-    rows: &[
-        (Put("a", 1), Stored(Err(("a", 1)))),
-        (PutOrModify("b", 2), Lent(Err(("b", 2)))),
-        (
-            Any(PutWithWeight("c", 3)),
-            Weighed(Err(PutError::NoMemory("c", 3))),
-        ),
-        (Any(Peek("a")), Value(None)),
-        (Any(Len), Number(0)),
-    ],
-    list: &[],
-};
+/// Calls of a cache that finds no memory, with their answers.
+static REFUSED: &[(PlainCall<&str, u64>, Answer<&str, u64>)] = &[
+    (Put("a", 1), Stored(Err(("a", 1)))),
+    (PutOrModify("b", 2), Lent(Err(("b", 2)))),
+    (
+        Any(PutWithWeight("c", 3)),
+        Weighed(Err(PutError::NoMemory("c", 3))),
+    ),
+    (Any(Peek("a")), Value(None)),
+    (Any(Len), Number(0)),
+];
 
 #[test]
 fn a_put_that_wants_memory_ends_no_run(rt: HostRuntime) -> Result<(), Fail> {
     let heap = Rationed::new(rt.alloc());
-    let mut cache = CLruCache::new(&heap, room(REFUSED.capacity)?);
+    let mut cache = CLruCache::new(&heap, room(3)?);
+    let mut calls = Vec::new(rt.alloc());
+    for (call, _) in REFUSED.iter() {
+        calls.push(call.clone()?)?;
+    }
     heap.refuse_after(0);
-    runs(&rt, rt.alloc(), &REFUSED, &mut cache)?;
+    let Ok(answers) = perform_all(rt.alloc(), &mut cache, calls) else {
+        return Err(Fail::from("there is memory for the answers"));
+    };
+    equal!(rt; answers.len(), REFUSED.len());
+    for (given, (call, answer)) in answers.into_iter().zip(REFUSED) {
+        assert!(rt; given == *answer, "{call:?}");
+    }
     equal!(rt; heap.asked(), 3, "one request for each put");
     Ok(())
 }

@@ -1,10 +1,11 @@
 //! Closures that fail at each call in turn.
 
+use crate::drawn::is_whole;
 use crate::pairs::Pairs;
-use crate::tables::holds;
 use clru::CLruCache;
 use clru_fixtures::sizes::room;
 use clru_runs::{Attempt, Perform, PlainCall};
+use ration::Rationed;
 use std::test::Fail;
 
 /// New keys, held ones and such as drop another, in a cache for two.
@@ -14,7 +15,8 @@ const KEYS: [usize; 9] = [1, 2, 1, 3, 2, 2, 4, 1, 4];
 fn each_call_of_a_closure_fails_in_turn(rt: HostRuntime) -> Result<(), Fail> {
     for n in 0..=KEYS.len() {
         for left in [None, Some(9)] {
-            let mut cache = CLruCache::new(rt.alloc(), room(2)?);
+            let heap = Rationed::new(rt.alloc());
+            let mut cache = CLruCache::new(&heap, room(2)?);
             let mut pairs = Pairs {
                 list: Vec::new(rt.alloc()),
                 capacity: 2,
@@ -32,7 +34,7 @@ fn each_call_of_a_closure_fails_in_turn(rt: HostRuntime) -> Result<(), Fail> {
                     call.perform(&mut cache) == wanted,
                     "call {i}, and {n} fails"
                 );
-                holds(&rt, &cache, &pairs.list, "closures that fail");
+                is_whole(&rt, &cache, &pairs);
             }
         }
     }

@@ -1,10 +1,10 @@
 //! What it costs to make a cache, a configuration or a store.
 
-use crate::cost::{OWNED_PLACE_BYTES, counted, less};
-use crate::counted::{Counting, Counts, Key, OneChain, Scale, Value};
 use crate::store::Origin;
 use assertions::equal;
 use clru::{CLruCache, CLruCacheConfig, NonZeroUsize};
+use clru_counted::cost::{OWNED_PLACE_BYTES, counted, less};
+use clru_counted::counted::{Counting, Counts, Key, OneChain, Scale, Value};
 use clru_fixtures::costs::{HEAD_BYTES, REQUESTS};
 use clru_fixtures::sizes::room;
 use clru_through::Through;

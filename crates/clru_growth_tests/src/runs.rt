@@ -1,9 +1,9 @@
 //! What the calls of `clru_runs` cost, each of which is to make the call of its name. A body that makes another call of the same
 //! contract and of the same cost can't be told from it: `Contains` by `peek`, `PutOrModify` by `put`, `Front` by a walk.
 
-use crate::counted::{Counting, Counts, Spread};
 use assertions::equal;
 use clru::{CLruCache, CLruCacheConfig};
+use clru_counted::counted::{Counting, Counts, Spread};
 use clru_fixtures::sizes::room;
 use clru_runs::Attempt::{Fail as Fails, Store};
 use clru_runs::Call::{

@@ -1,9 +1,9 @@
 //! The memory of a replay.
 
-use crate::cost::{counted, less};
-use crate::counted::{Counting, Counts, Key, OneChain, Spread};
 use assertions::equal;
 use clru::{DefaultState, replay};
+use clru_counted::cost::{counted, less};
+use clru_counted::counted::{Counting, Counts, Key, OneChain, Spread};
 use clru_fixtures::costs::{HEAD_BYTES, PLACE_BYTES, REQUESTS};
 use clru_fixtures::sizes::room;
 use ration::Rationed;

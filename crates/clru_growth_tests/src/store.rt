@@ -3,13 +3,14 @@ ghost use Rattle.std.specs.Prelude.{Some, ⊤};
 ghost use Rattle.std.specs.Cmp.Rules.{comparing};
 ghost use Rattle.std.proofs.Common.{rules};
 
-use crate::cost::Growth::{Grows, Stays};
-use crate::cost::Looks::{AgainIfNew, Never, Once};
-use crate::cost::{
-    IF_HELD, LOAD, LOADED, Makes, NONE, ONE, OTHERS, PUT, Row, State, Subject, WEIGHED,
-};
-use crate::counted::{Counting, Counts, Key, Scale, Value};
 use clru::{CLruCache, CLruCacheConfig};
+use clru_counted::cost::Growth::{Grows, Stays};
+use clru_counted::cost::Looks::{AgainIfNew, Never, Once};
+use clru_counted::cost::{
+    IF_HELD, LARGE, LOAD, LOADED, Makes, NONE, ONE, OTHERS, PUT, Row, STATES, State, Subject,
+    WEIGHED, costs_hold,
+};
+use clru_counted::counted::{Counting, Counts, Key, OneChain, Scale, Spread, Value};
 use clru_fixtures::sizes::room;
 use clru_through::{Source, Through};
 use ration::Rationed;
@@ -42,15 +43,10 @@ impl<'a> Source<Key<'a>, Value<'a>, u8> for Origin<'a> {
 }
 
 /// A store over what is counted.
-pub(crate) type Store<'a, S> = Through<
-    Key<'a>,
-    Value<'a>,
-    u8,
-    Origin<'a>,
-    S,
-    Scale<'a>,
-    &'a Rationed<Global>,
->;
+#[derive(Drop)]
+pub(crate) struct Store<'a, S: BuildHasher> {
+    through: Through<Key<'a>, Value<'a>, u8, Origin<'a>, S, Scale<'a>, &'a Rationed<Global>>,
+}
 
 impl<'a, S: BuildHasher + Counting<'a>> Subject<'a> for Store<'a, S> {
     fn filled(
@@ -65,17 +61,17 @@ impl<'a, S: BuildHasher + Counting<'a>> Subject<'a> for Store<'a, S> {
             return Err("no memory for the places".into());
         };
         counts.failing.set(false);
-        let mut store = Through::new(cache, Origin { counts });
+        let mut through = Through::new(cache, Origin { counts });
         for number in 0..entries {
-            if store.load(counts.key(number)?).is_err() {
+            if through.load(counts.key(number)?).is_err() {
                 return Err("a fetch failed".into());
             }
         }
-        Ok(store)
+        Ok(Store { through })
     }
 
     fn pairs(&self) -> u64 {
-        self.len() as u64
+        self.through.len() as u64
     }
 }
 
@@ -130,10 +126,11 @@ impl<'a, S: BuildHasher + Counting<'a>> Makes<'a, Store<'a, S>> for StoreCall {
     fn make(
         self,
         counts: &'a Counts,
-        mut store: Store<'a, S>,
+        store: Store<'a, S>,
         number: u64,
     ) -> Result<Option<Store<'a, S>>, Fail> {
         let key = counts.key(number)?;
+        let mut store = store.through;
         match self {
             Len => drop(store.len()),
             Weight => drop(store.weight()),
@@ -161,6 +158,13 @@ impl<'a, S: BuildHasher + Counting<'a>> Makes<'a, Store<'a, S>> for StoreCall {
                 drop(store.get(key));
             }
         }
-        Ok(Some(store))
+        Ok(Some(Store { through: store }))
     }
+}
+
+#[test]
+fn calls_of_a_store_cost_what_their_rows_say(rt: HostRuntime) -> Result<(), Fail> {
+    let counts = Counts::new(rt.alloc());
+    costs_hold::<Store<OneChain>, _>(&counts, true, &STATES, STORE)?;
+    costs_hold::<Store<Spread>, _>(&counts, false, &LARGE, STORE)
 }

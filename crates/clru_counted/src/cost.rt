@@ -1,14 +1,12 @@
 //! What a call costs, as a row says it: exactly, and by the number of entries that the cache holds.
 
 use crate::counted::Counts;
-use assertions::equal;
 use clru_fixtures::costs::{HEAD_BYTES, PLACE_BYTES, REQUESTS};
-use std::process::Abort;
 use std::test::Fail;
 
 /// A number that depends on the number of entries before the call.
 #[derive(Clone, Copy, Debug)]
-pub(crate) enum Amount {
+pub enum Amount {
     Zero,
     One,
     Two,
@@ -39,41 +37,41 @@ impl Amount {
 }
 
 /// The amounts at a held key, at a new key of a full cache, and at a new key of one that is not full.
-pub(crate) type Amounts = [Amount; 3];
+pub type Amounts = [Amount; 3];
 
-pub(crate) const NONE: Amounts = [Amount::Zero; 3];
+pub const NONE: Amounts = [Amount::Zero; 3];
 
-pub(crate) const ONE: Amounts = [Amount::One; 3];
+pub const ONE: Amounts = [Amount::One; 3];
 
-pub(crate) const FIRST: Amounts = [Amount::First; 3];
+pub const FIRST: Amounts = [Amount::First; 3];
 
-pub(crate) const EACH: Amounts = [Amount::Each; 3];
+pub const EACH: Amounts = [Amount::Each; 3];
 
-pub(crate) const OTHERS: Amounts = [Amount::Others; 3];
+pub const OTHERS: Amounts = [Amount::Others; 3];
 
-pub(crate) const IF_HELD: Amounts = [Amount::One, Amount::Zero, Amount::Zero];
+pub const IF_HELD: Amounts = [Amount::One, Amount::Zero, Amount::Zero];
 
 /// The key of a put, and of the entry that goes.
-pub(crate) const PUT: Amounts = [Amount::One, Amount::Two, Amount::One];
+pub const PUT: Amounts = [Amount::One, Amount::Two, Amount::One];
 
 /// The pair of a put, and the one that it takes out.
-pub(crate) const WEIGHED: Amounts = [Amount::Two, Amount::Two, Amount::One];
+pub const WEIGHED: Amounts = [Amount::Two, Amount::Two, Amount::One];
 
 /// The key of a load, again in the put of its value, and the key that goes.
-pub(crate) const LOAD: Amounts = [Amount::One, Amount::Three, Amount::Two];
+pub const LOAD: Amounts = [Amount::One, Amount::Three, Amount::Two];
 
 /// The pair that a load puts, and the one that goes.
-pub(crate) const LOADED: Amounts = [Amount::Zero, Amount::Two, Amount::One];
+pub const LOADED: Amounts = [Amount::Zero, Amount::Two, Amount::One];
 
 /// The key of a put beside which nothing stays, and of each other entry.
-pub(crate) const TAKES: Amounts = [Amount::Each, Amount::EachAndOne, Amount::EachAndOne];
+pub const TAKES: Amounts = [Amount::Each, Amount::EachAndOne, Amount::EachAndOne];
 
 /// The pair of such a put, and each that was held.
-pub(crate) const DROPS: Amounts = [Amount::EachAndOne; 3];
+pub const DROPS: Amounts = [Amount::EachAndOne; 3];
 
 /// How often a call looks for its key, along the chain.
 #[derive(Clone, Copy, Debug)]
-pub(crate) enum Looks {
+pub enum Looks {
     Never,
     Once,
     /// Once where the key is held, twice where it is not.
@@ -82,7 +80,7 @@ pub(crate) enum Looks {
 
 /// Whether a call asks for memory, for a new key where no place is free.
 #[derive(Clone, Copy, Debug)]
-pub(crate) enum Growth {
+pub enum Growth {
     Stays,
     /// It does where the cache is not full,
     Grows,
@@ -91,13 +89,13 @@ pub(crate) enum Growth {
 }
 
 /// A public call by its name, the call, its look-ups, hashes, weighings by the scale, and requests for memory.
-pub(crate) type Row<'n, C> = (&'n str, C, Looks, Amounts, Amounts, Growth);
+pub type Row<'n, C> = (&'n str, C, Looks, Amounts, Amounts, Growth);
 
 /// The capacity of a cache, its entries, its places, and the heads of a growth to as many places as its capacity.
-pub(crate) type State = (usize, u64, usize, u64);
+pub type State = (usize, u64, usize, u64);
 
 /// Full caches, caches with a free place, and caches that have to grow.
-pub(crate) static STATES: [State; 16] = [
+pub static STATES: [State; 16] = [
     (1, 1, 1, 0),
     (2, 2, 2, 0),
     (3, 3, 3, 0),
@@ -117,10 +115,10 @@ pub(crate) static STATES: [State; 16] = [
 ];
 
 /// The same with many entries.
-pub(crate) static LARGE: [State; 2] = [(5000, 5000, 5000, 0), (5000, 4999, 5000, 0)];
+pub static LARGE: [State; 2] = [(5000, 5000, 5000, 0), (5000, 4999, 5000, 0)];
 
 /// What calls are made of, over what is counted.
-pub(crate) trait Subject<'a>: Sized {
+pub trait Subject<'a>: Sized {
     /// One that holds the keys below the number of entries, the highest first, with values that weigh nothing.
     fn filled(counts: &'a Counts, state: State) -> Result<Self, Fail>;
 
@@ -129,15 +127,15 @@ pub(crate) trait Subject<'a>: Sized {
 }
 
 /// A call, as a value.
-pub(crate) trait Makes<'a, T: Subject<'a>> {
+pub trait Makes<'a, T: Subject<'a>> {
     /// Makes the call with the key of this number, drops what it answers, and gives back what is left.
     fn make(self, counts: &'a Counts, subject: T, number: u64) -> Result<Option<T>, Fail>;
 }
 
 /// What was counted: comparisons, hashes, weighings, requests and their bytes.
-pub(crate) type Cost = (u64, u64, u64, u64, u64);
+pub type Cost = (u64, u64, u64, u64, u64);
 
-pub(crate) fn counted(counts: &Counts) -> Cost {
+pub fn counted(counts: &Counts) -> Cost {
     (
         counts.compared.get(),
         counts.hashed.get(),
@@ -147,7 +145,7 @@ pub(crate) fn counted(counts: &Counts) -> Cost {
     )
 }
 
-pub(crate) fn less(after: Cost, before: Cost) -> Cost {
+pub fn less(after: Cost, before: Cost) -> Cost {
     (
         after.0.wrapping_sub(before.0),
         after.1.wrapping_sub(before.1),
@@ -204,13 +202,12 @@ fn cost_of<C>(row: &Row<'_, C>, state: State, number: u64) -> Cost {
 }
 
 /// The bytes of a place for a key of four words and a value of three, which are two words in `PLACE_BYTES`.
-pub(crate) const OWNED_PLACE_BYTES: u64 = PLACE_BYTES + 40;
+pub const OWNED_PLACE_BYTES: u64 = PLACE_BYTES + 40;
 
-/// Makes the call of each row in each state, with the oldest key, the newest and a new one, and asserts that it costs what its
-/// row says, and that the blocks of what is held then are left, and at the end none. Comparisons are counted where all keys
-/// have one chain.
-pub(crate) fn costs_hold<'a, 'n, T: Subject<'a> + Drop, C: Makes<'a, T> + Copy>(
-    rt: &impl Abort,
+/// Makes the call of each row in each state, with the oldest key, the newest and a new one. Fails where one costs other than its
+/// row says, or where other blocks are left than those of what is held then, and at the end none. Comparisons are counted where
+/// all keys have one chain.
+pub fn costs_hold<'a, 'n, T: Subject<'a> + Drop, C: Makes<'a, T> + Copy>(
     counts: &'a Counts,
     one_chain: bool,
     states: &[State],
@@ -220,27 +217,44 @@ pub(crate) fn costs_hold<'a, 'n, T: Subject<'a> + Drop, C: Makes<'a, T> + Copy>(
         for state in states {
             let entries = state.1;
             for number in [0, entries.saturating_sub(1), entries] {
-                if !one_chain && 0 < number && number < entries {
-                    continue;
+                if one_chain || number == 0 || number >= entries {
+                    cost_holds(counts, one_chain, *state, row, number)?;
                 }
-                let subject = T::filled(counts, *state)?;
-                let before = counted(counts);
-                let left = row.1.make(counts, subject, number)?;
-                let mut cost = less(counted(counts), before);
-                let mut wanted = cost_of(row, *state, number);
-                if !one_chain {
-                    (cost.0, wanted.0) = (0, 0);
-                }
-                equal!(rt; cost, wanted, (row.0, *state, number));
-                let pairs = match &left {
-                    Some(subject) => subject.pairs(),
-                    None => 0,
-                };
-                equal!(rt; counts.owned.blocks(), pairs.wrapping_mul(2), (row.0, *state, number));
-                drop(left);
-                equal!(rt; (counts.owned.blocks(), counts.heap.blocks()), (0, 0), (row.0, *state, number));
             }
         }
     }
     Ok(())
+}
+
+/// One of these calls.
+fn cost_holds<'a, 'n, T: Subject<'a> + Drop, C: Makes<'a, T> + Copy>(
+    counts: &'a Counts,
+    one_chain: bool,
+    state: State,
+    row: &Row<'n, C>,
+    number: u64,
+) -> Result<(), Fail> {
+    let subject = T::filled(counts, state)?;
+    let before = counted(counts);
+    let left = row.1.make(counts, subject, number)?;
+    let mut cost = less(counted(counts), before);
+    let mut wanted = cost_of(row, state, number);
+    if !one_chain {
+        (cost.0, wanted.0) = (0, 0);
+    }
+    let pairs = match &left {
+        Some(subject) => subject.pairs(),
+        None => 0,
+    };
+    let owned = counts.owned.blocks();
+    drop(left);
+    let blocks = (owned, counts.owned.blocks(), counts.heap.blocks());
+    let held = (pairs.wrapping_mul(2), 0, 0);
+    if cost == wanted && blocks == held {
+        return Ok(());
+    }
+    let name = row.0;
+    Err(Fail::new(format_args!(
+        "{name} of {number} in {state:?}: {cost:?} and blocks {blocks:?}, not {wanted:?} and {held:?}"
+    )))
 }

@@ -3,7 +3,7 @@ use Rattle.clru_runs.specs.Run.{Run}
 use Rattle.clru_runs.specs.Step.{Step}
 use Rattle.clru_runs.specs.declared.call.Call.{Call}
 use Rattle.clru_runs.proofs.Running.{Run-map}
-use Rattle.clru_runs_tests.proofs.callers.perform_at_both.Goals as goal
+use Rattle.clru_drawn_tests.proofs.callers.perform_at_both.Goals as goal
 
 pub returns : goal.returns
 returns g c =

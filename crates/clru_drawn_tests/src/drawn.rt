@@ -19,7 +19,7 @@ use std::test::Fail;
 type Refusing<'a, S, W> = CLruCache<usize, usize, S, W, &'a Rationed<Global>>;
 
 /// Asserts that the cache holds the pairs of the list and no other: from the front, from the back, and by a look-up of each key.
-fn is_whole<S: BuildHasher, W: WeightScale<usize, usize>>(
+pub(crate) fn is_whole<S: BuildHasher, W: WeightScale<usize, usize>>(
     rt: &impl Abort,
     cache: &Refusing<S, W>,
     pairs: &Pairs,

@@ -1,6 +1,6 @@
 use Rattle.clru_runs.specs.Step.{PlainStep}
 use Rattle.clru_runs.proofs.Running.{Run-map}
-use Rattle.clru_runs_tests.proofs.callers.perform_puts.Goals as goal
+use Rattle.clru_drawn_tests.proofs.callers.perform_puts.Goals as goal
 
 pub returns-in-Ok-clause-hits : goal.returns-in-Ok-clause-hits
 returns-in-Ok-clause-hits g c requests puts =
