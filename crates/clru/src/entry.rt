@@ -33,7 +33,7 @@ pub struct EntryMut<
     S: BuildHasher = DefaultState,
     A: Allocator + Copy = Global,
 > {
-    // The cache whole, and not the value in it: what a caller's cache ends as is known only of its own reference.
+    // The whole cache, and not its value alone: a caller learns what his cache ends as only from the reference to it.
     pub(crate) cache: &'a mut CLruCache<K, V, S, ZeroWeightScale, A>,
     pub(crate) end: End,
     ghost some: { 0 < length cache.now.entries },

@@ -1,4 +1,7 @@
 //! Texts as keys.
+ghost use Rattle.std.specs.Prelude.{◌≡◌, Some, OnOk, OnErr};
+ghost use Rattle.std.specs.Map.{lookup};
+ghost use Rattle.std.specs.String.{string_eq};
 
 use clru::CLruCache;
 use std::alloc::{AllocError, Global};
@@ -32,6 +35,21 @@ pub fn look(
     }
 }
 
+/// Remembers how often a page was looked at. A look-up of the same text then finds it.
+pub fn remember_looks(
+    looks: &mut CLruCache<String, u64>,
+    page: String,
+    times: u64,
+) -> Result<(), (String, u64)>
+    ensures stored { OnOk result (lookup (string_eq page) looks.new.entries ≡ Some times) }
+    ensures kept { OnErr result (looks.new.entries ≡ looks.old.entries) }
+{
+    match looks.put(page, times) {
+        Ok(_) => Ok(()),
+        Err(pair) => Err(pair),
+    }
+}
+
 #[cfg(test)]
 mod tests {
     use super::*;
@@ -49,6 +67,16 @@ mod tests {
                 "{page}"
             );
         }
+        Ok(())
+    }
+
+    #[test]
+    fn looks_are_found_by_the_same_text(rt: HostRuntime) -> Result<(), Fail> {
+        let mut looks = CLruCache::new(rt.alloc(), NonZeroUsize::MIN);
+        let page = "/about".to_string(rt.alloc())?;
+        assert_eq!(rt; remember_looks(&mut looks, page, 3), Ok(()));
+        assert_eq!(rt; looks_at(&mut looks, rt.alloc(), "/about")?, Some(3));
+        assert_eq!(rt; looks_at(&mut looks, rt.alloc(), "/")?, None);
         Ok(())
     }
 }

@@ -2,8 +2,8 @@
 //! scales, capacities, and what a cache asks for.
 #![tactic(auto)]
 
-/// Makes a check, a function of runtime, allocator and builder, with the default builder and with those that give all keys one
-/// hash, and answers `Ok(())` where each did.
+/// Calls a check with the default builder, and with each of those that give all keys one hash. A check is a function that
+/// takes the runtime, an allocator and a builder. The first check that fails ends the caller with its error.
 #[macro_export]
 macro_rules! with_each_builder {
     ($rt:ident, $check:ident) => {{

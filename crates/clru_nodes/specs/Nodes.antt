@@ -87,7 +87,7 @@ module _ {K V S A H : Type 0} where
     pub heads : length new.heads.items ≡ length old.heads.items
     pub bound : new.heads.bound ≡ old.heads.bound
 
-  -- no pair, with memory for so many
+  -- no pair is held, the capacity is c, and memory was found for p pairs
   pub record IsEmpty (c p : ℕ) (x : Nodes K V S A H) : Type 0 where
     pub none : pairs_in x ≡ []
     pub capacity : capacity_of x ≡ c

@@ -138,7 +138,7 @@ fn put_with_weight<
 >(cache: &mut CLruCache<K, V, S, W, A>, key: K, value: V) -> Answer<K, V>
     ensures { Step K.eq W.weight cache.old (Call.PutWithWeight key value) result cache.new }
 {
-    // It tells that the entries can be counted.
+    // Its answer is a `usize`, so there are fewer than 2^64 entries.
     let _len = cache.len();
     let mut weighing = Weighing {
         replaced: None,

@@ -15,6 +15,11 @@ impl<K: Eq + Hash, V, S: BuildHasher, A: Allocator + Copy> CLruCache<K, V, S, Ze
     /// Puts each of the items in turn, as `put` does.
     ///
     /// The first refused put ends it: its pair comes back, the items before it stay put, and no later one is drawn.
+    ///
+    /// ```rust
+    /// let pages = Vec::from_array(rt.alloc(), [(1, 10), (2, 20), (3, 30)])?;
+    /// assert_eq!(rt; sizes.extend(pages), Ok(()));
+    /// ```
     pub fn extend<I: IntoIterator<Item = (K, V)>>(&mut self, items: I) -> Result<(), (K, V)>
     where
         K: Drop,
@@ -35,6 +40,13 @@ impl<K: Eq + Hash, V, S: BuildHasher, A: Allocator + Copy> CLruCache<K, V, S, Ze
     /// capacity is then the number of its entries, or 1 where there is none.
     ///
     /// The first put for which memory is refused ends it, and what was put is dropped.
+    ///
+    /// ```rust
+    /// let Ok(looks) = Vec::from_array(alloc, [(1, 10), (2, 20), (1, 30)]) else {
+    ///     return Err(NoMemory);
+    /// };
+    /// CLruCache::from_iter(alloc, hash_builder, looks)
+    /// ```
     pub fn from_iter<I: IntoIterator<Item = (K, V)>>(
         alloc: A,
         hash_builder: S,

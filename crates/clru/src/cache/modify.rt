@@ -20,6 +20,13 @@ impl<K: Eq + Hash, V, S: BuildHasher, A: Allocator + Copy> CLruCache<K, V, S, Ze
     ///
     /// A new entry drops the least recently used one of a full cache, after `put_op` has answered. Where memory is
     /// refused, the key and the data come back and no closure was called.
+    ///
+    /// ```rust
+    /// let one_more = |_: &_, count: &mut u64, _| *count = count.saturating_add(1);
+    /// if counts.put_or_modify(word, |_, _| 1, one_more, ()).is_err() {
+    ///     return Err(AllocError);
+    /// }
+    /// ```
     pub fn put_or_modify<T, P: FnMut(&K, T) -> V, M: FnMut(&K, &mut V, T)>(
         &mut self,
         key: K,
@@ -55,10 +62,27 @@ impl<K: Eq + Hash, V, S: BuildHasher, A: Allocator + Copy> CLruCache<K, V, S, Ze
         Ok(&mut self.nodes.front_item().value)
     }
 
-    /// Does the same with closures that may fail, and answers the error of the one that was called.
+    /// Puts a new entry with the value that `put_op` makes of the key and the data, or has `modify_op` change the value
+    /// of a held key, by closures that may fail. The entry is then the most recently used, and its value is lent.
     ///
-    /// Where `put_op` fails no entry has changed, and none has gone from a full cache. Where `modify_op` fails its entry is
-    /// the most recently used, with what it has written. Places for which memory was found stay.
+    /// Where the closure that was called fails, its error is the answer. If it is `put_op`, no entry has changed, and none
+    /// has gone from a full cache. If it is `modify_op`, its entry is the most recently used, with what it has written.
+    /// Where memory is refused, the key and the data come back and no closure was called. Places for which memory was
+    /// found stay.
+    ///
+    /// ```rust
+    /// let add = |_: &u64, size: &mut u64, bytes| match size.checked_add(bytes) {
+    ///     Some(sum) => {
+    ///         *size = sum;
+    ///         Ok(())
+    ///     }
+    ///     None => Err(TooLarge),
+    /// };
+    /// match sizes.try_put_or_modify(page, |_, bytes| Ok(bytes), add, bytes) {
+    ///     Ok(size) => Ok(*size),
+    ///     Err(refusal) => Err(refusal),
+    /// }
+    /// ```
     pub fn try_put_or_modify<
         T,
         E,

@@ -25,6 +25,13 @@ where
     /// the capacity or more is refused as too heavy, whether its key is held or not. A refused pair comes back, and
     /// `on_drop` is not called. The cost grows with the number of entries that are dropped, and no memory is taken for
     /// handing them out.
+    ///
+    /// ```rust
+    /// match pages.put_with_weight(page, bytes, |_, _| {}) {
+    ///     Ok(_) => Ok(()),
+    ///     Err(refusal) => Err(refusal),
+    /// }
+    /// ```
     pub fn put_with_weight<F: FnMut(K, V)>(
         &mut self,
         key: K,

@@ -19,6 +19,10 @@ where
     ///
     /// It takes no memory and gives none back: the places stay, also where they are more than the new capacity. The cost
     /// grows with the number of entries that are dropped.
+    ///
+    /// ```rust
+    /// sizes.resize(NonZeroUsize::MIN);
+    /// ```
     pub fn resize(&mut self, capacity: NonZeroUsize)
     where
         K: Drop,

@@ -15,6 +15,10 @@ where
 {
     /// Calls a closure at each entry once, the most recently used first, and removes those at which it answers `false`. The
     /// others stay in their order.
+    ///
+    /// ```rust
+    /// sizes.retain(|_, size| *size > 4096);
+    /// ```
     pub fn retain<F: FnMut(&K, &V) -> bool>(&mut self, keep: F)
     where
         K: Drop,

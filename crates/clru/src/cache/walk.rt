@@ -59,7 +59,7 @@ impl<K: Eq + Hash, V, S: BuildHasher, A: Allocator + Copy> CLruCache<K, V, S, Ze
         (&item.key, &mut item.value)
     }
 
-    /// Does the same for a walk that goes down by one.
+    /// Lends the entry with a number, with its value for writing. It is quick for a walk that goes down by one.
     pub(crate) fn entry_at_back(&mut self, number: usize) -> (&K, &mut V)
         requires { number < length self.old.entries }
         ensures* lends { sem 𝓛 (lends_at K.row V.row S.row A.row S.Hasher.row K.Hash S.BuildHasher S.Hasher.Hasher

@@ -23,7 +23,10 @@ impl<T, A: Allocator + Copy> FixedSizeList<T, A> {
         Some(place)
     }
 
-    /// Does the same for a walk downwards, from the last number.
+    /// Returns the place of the entry with a number, counted from the front, for a walk downwards from the last number.
+    ///
+    /// A walk that asks for one number after another, downwards, takes the same short time for each: the list keeps where it
+    /// stands until the order changes. Any other number costs a walk from the back.
     pub fn place_at_back(&mut self, number: usize) -> Option<usize>
         ensures place { result ≡ slice_get (keys_of self.old.entries) number }
         ensures same { self.new ≡ self.old }

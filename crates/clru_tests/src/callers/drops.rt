@@ -48,7 +48,7 @@ pub fn number_forgotten<W: WeightScale<u64, u64>>(
     ensures number { let weight = W.weight sizes.old.scale in IfOk result
         (λ n. n ≡ length (weighted_drops nat_eq weight sizes.old.capacity page size sizes.old.entries)) }
 {
-    // It tells that the entries can be counted.
+    // Its answer is a `usize`, so there are fewer than 2^64 entries.
     let _ = sizes.len();
     let mut number = 0usize;
     match sizes.put_with_weight_handing_to(page, size, &mut |_, _| number += 1) {

@@ -1,0 +1,47 @@
+//! A place list: who waits in a line, each by the ticket that he was given.
+ghost use Rattle.std.specs.Prelude.{◌≡◌, ◌∷◌, ◌++◌, [], IfOk, OnErr};
+ghost use Rattle.clru_list.specs.PlaceList.{item_at, without};
+
+use clru_list::{FixedSizeList, PushError};
+
+/// Joins the line at its end. The answer is the ticket: the place, which is this one's until he leaves.
+pub fn join(line: &mut FixedSizeList<u64>, who: u64) -> Result<usize, PushError<u64>>
+    ensures joined { IfOk result (λ ticket. line.new.entries ≡ line.old.entries ++ (ticket, who) ∷ []) }
+    ensures kept { OnErr result (line.new ≡ line.old) }
+{
+    line.push_back(who)
+}
+
+/// Leaves the line, wherever he stands. The others stay in their order, each with his ticket.
+pub fn leave(line: &mut FixedSizeList<u64>, ticket: usize) -> Option<u64>
+    ensures who { result ≡ item_at ticket line.old.entries }
+    ensures others { line.new.entries ≡ without ticket line.old.entries }
+{
+    line.remove(ticket)
+}
+
+#[cfg(test)]
+mod tests {
+    use super::*;
+    use std::test::Fail;
+
+    #[test]
+    fn a_ticket_stays_until_its_holder_leaves(rt: HostRuntime) -> Result<(), Fail> {
+        let mut line = FixedSizeList::new(rt.alloc(), 3);
+        let ann = join(&mut line, 1)?;
+        let bob = join(&mut line, 2)?;
+        let cid = join(&mut line, 3)?;
+        assert_eq!(rt; join(&mut line, 4), Err(PushError::Full(4)));
+        assert_eq!(rt; leave(&mut line, bob), Some(2));
+        assert_eq!(rt; line.get(bob).copied(), None);
+        assert_eq!(rt; line.move_front(cid).copied(), Some(3));
+        assert_eq!(rt; line.next_idx(cid), Some(ann));
+
+        let mut waiting = Vec::new(rt.alloc());
+        for (_, who) in &line {
+            waiting.push(*who)?;
+        }
+        assert_eq!(rt; waiting.as_slice(), [3, 1].as_slice());
+        Ok(())
+    }
+}
