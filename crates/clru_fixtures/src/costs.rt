@@ -13,7 +13,7 @@ pub const REQUESTS: u64 = 2;
 pub const PLACE_BYTES: u64 = 48;
 
 /// The bytes of a head.
-pub const HEAD_BYTES: u64 = 8;
+pub const HEAD_BYTES: u64 = 4;
 
 /// How many new keys go in before one is refused or the first one goes, where each request is refused.
 pub fn free_places<S: BuildHasher>(

@@ -95,14 +95,14 @@ fn a_replay_compares_few_keys(rt: HostRuntime) -> Result<(), Fail> {
 #[test]
 fn a_replay_asks_for_its_places_and_its_marks(rt: HostRuntime) -> Result<(), Fail> {
     let rows = [
-        (10, 10, 10u64, 10, 32, 10u64),
-        (10, 10, 20_000, 10, 32, 10),
-        (8, 10, 20_000, 8, 16, 20_000),
-        (9, 10, 20_000, 9, 32, 20_000),
-        (20_000, 10, 10, 10, 32, 10),
-        (20_000, 10, 20_000, 20_000, 65_536, 10),
-        (usize::MAX, 10, 20_000, 20_000, 65_536, 10),
-        (usize::MAX, 2, 3, 3, 8, 2),
+        (10, 10, 10u64, 10, 64, 10u64),
+        (10, 10, 20_000, 10, 64, 10),
+        (8, 10, 20_000, 8, 32, 20_000),
+        (9, 10, 20_000, 9, 64, 20_000),
+        (20_000, 10, 10, 10, 64, 10),
+        (20_000, 10, 20_000, 20_000, 131_072, 10),
+        (usize::MAX, 10, 20_000, 20_000, 131_072, 10),
+        (usize::MAX, 2, 3, 3, 16, 2),
     ];
     for (capacity, distinct, count, places, heads, misses) in rows {
         let heap = Rationed::new(rt.alloc());
