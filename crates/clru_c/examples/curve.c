@@ -1,6 +1,7 @@
 /* Prints a small table of the keys in its input, one number of 64 bits a line: at the capacities 1, 2, 4 and so on. */
 #include "clru.h"
 
+#include <errno.h>
 #include <inttypes.h>
 #include <stdio.h>
 #include <stdlib.h>
@@ -12,10 +13,23 @@ static int refused(uint32_t code) {
     return 1;
 }
 
+/* Whether the word is a number below 2^64, in digits alone. */
+static bool is_number(const char *word, uint64_t *number) {
+    char *end;
+    errno = 0;
+    *number = strtoull(word, &end, 10);
+    return errno == 0 && *end == '\0' && word[0] >= '0' && word[0] <= '9';
+}
+
 int main(void) {
     size_t count = 0, places = 1024;
     uint64_t *keys = malloc(places * sizeof *keys);
-    while (keys && scanf("%" SCNu64, &keys[count]) == 1) {
+    char word[32];
+    while (keys && scanf("%31s", word) == 1) {
+        if (!is_number(word, &keys[count])) {
+            fprintf(stderr, "curve: no number below 2^64: %s\n", word);
+            return 1;
+        }
         if (++count == places) {
             keys = realloc(keys, (places *= 2) * sizeof *keys);
         }

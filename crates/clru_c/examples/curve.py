@@ -25,9 +25,14 @@ def passed(array):
 
 
 def numbers(values):
-    """An array of 64-bit numbers in one block."""
+    """An array of 64-bit numbers in one aligned block. Numbers that would be cut are refused, since keys would become one."""
     if numpy is not None:
-        return numpy.ascontiguousarray(values, dtype=numpy.uint64)
+        values = numpy.asarray(values)
+        if values.size and values.dtype.kind not in "iu":
+            raise TypeError(f"keys must be integers below 2^64, not {values.dtype}")
+        return numpy.require(values, dtype=numpy.uint64, requirements="CA")
+    if any(it != it & 0xFFFF_FFFF_FFFF_FFFF for it in values):
+        raise TypeError("keys must be integers below 2^64")
     return (ctypes.c_uint64 * len(values))(*values)
 
 
@@ -57,6 +62,8 @@ def least(library, keys, rooms):
 def main():
     library = ctypes.CDLL(sys.argv[1])
     keys = [int(line) for line in sys.stdin]
+    if numpy is not None:
+        keys = numpy.array(keys, dtype=numpy.uint64)
     misses, distinct = curve(library, keys, len(keys))
     rooms = [2**power for power in range(64) if 2**power <= distinct]
     print("capacity,misses,least_misses")

@@ -8,8 +8,8 @@
  * is not checked by anything, nor is this header, which is written by hand; tools/foreign calls each function and sees each code.
  *
  * What the caller owes:
- * - Each pointer is valid for its length and is not NULL, not even where the length is 0. An array that is written overlaps no
- *   other argument. Arrays are shorter than 2^63 bytes.
+ * - Each pointer is valid for its length, aligned for its type, and not NULL, not even where the length is 0. An array that is
+ *   written overlaps no other argument. Arrays are shorter than 2^63 bytes.
  * - Each bool of an array that is passed in is 0 or 1: zero the array first.
  * - No other thread writes the arrays during a call, and none reads those that are written. Calls on arrays of their own may run
  *   side by side in as many threads as you like.
@@ -19,7 +19,8 @@
  * The seed: 0, 0 hashes keys with a fixed seed, which is the fastest. Where somebody who means you ill picks the keys, give two
  * words that he can't know, as from getrandom: the keys are then hashed by SipHash-1-3 under them. The answers are the same.
  *
- * Every call answers CLRU_OK or why it didn't answer. But for CLRU_OK nothing was written, which is proved too.
+ * Every call answers CLRU_OK or why it didn't answer. But for CLRU_OK nothing was written, which is proved too. Where several
+ * codes apply, the least is answered. Built and tried on Linux x86-64.
  */
 #ifndef CLRU_H
 #define CLRU_H
@@ -28,7 +29,7 @@
 #include <stddef.h>
 #include <stdint.h>
 
-/* The release of the Rust crate whose behaviour this is, and our own number behind it. */
+/* The release of the Rust crate clru whose behaviour this is, and our own number behind it. */
 #define CLRU_VERSION_MAJOR 0
 #define CLRU_VERSION_MINOR 6
 #define CLRU_VERSION_PATCH 3
@@ -48,13 +49,13 @@ extern "C" {
  *
  * hits has as many places as keys: true where the request hits. *misses is the number of the others.
  *
- * Proved: a request hits exactly where its key was requested before, and fewer than capacity distinct keys since. And the misses
- * are at most capacity / (capacity - h + 1) times those of every way to serve the requests with h keys, h up to capacity, also of
- * one that knows them all beforehand.
+ * Proved: a request hits exactly where its key was requested before, and fewer than capacity distinct keys since. And for h from 1
+ * to capacity the misses are at most capacity / (capacity - h + 1) times those of each way that starts empty, holds at most h
+ * keys, and takes in each key that is asked for and no other, also of one that knows all requests beforehand.
  *
  * Codes: CLRU_NO_CAPACITY, CLRU_WRONG_LENGTH, CLRU_NO_MEMORY.
  * Cost: a look-up for each request. Memory, until it returns: a copy of the keys, a byte for each, and a cache of as many
- * entries as there are keys, capacity at most. */
+ * entries as there are keys, capacity at most, 64 to 80 bytes each. */
 uint32_t clru_hits_at(const uint64_t *keys, size_t keys_len, size_t capacity, uint64_t seed_low, uint64_t seed_high,
                       bool *hits, size_t hits_len, size_t *misses);
 
@@ -66,13 +67,14 @@ uint32_t clru_hits_at(const uint64_t *keys, size_t keys_len, size_t capacity, ui
  * Proved: misses[i] is the number of requests that don't hit, as clru_hits_at says it, at capacity i + 1.
  *
  * Codes: CLRU_NO_MEMORY, and never where there are no keys.
- * Cost: for each request a look-up, and steps that go with the logarithm of their number. Memory, until it returns: an entry
- * and a number for each distinct key, and a quarter of a byte for each request. */
+ * Cost: for each request a look-up, and steps that go with the logarithm of their number. Memory, until it returns: a
+ * quarter of a byte for each request, and 70 to 280 bytes for each distinct key, the most just as its table has grown fourfold. */
 uint32_t clru_misses_by_capacity(const uint64_t *keys, size_t keys_len, uint64_t seed_low, uint64_t seed_high,
                                  size_t *misses, size_t misses_len, size_t *distinct);
 
-/* The least number of misses that any way to choose what to drop has, also one that knows all requests beforehand, for each of
- * the rooms, in keys.
+/* The least number of misses for each of the rooms, which are capacities in keys: that of the best way to choose what to drop,
+ * which may know all requests beforehand. A way takes in each key that is asked for and no other. One that may let a key pass by
+ * misses no fewer than the least with room for one key more.
  *
  * least has as many places as rooms: least[i] is for room rooms[i]. Rooms may stand in any order, and twice.
  *
@@ -81,7 +83,7 @@ uint32_t clru_misses_by_capacity(const uint64_t *keys, size_t keys_len, uint64_t
  *
  * Codes: CLRU_NO_CAPACITY, CLRU_WRONG_LENGTH, CLRU_NO_MEMORY.
  * Cost: a look-up for each request, once; and for each room a pass whose steps go with the logarithm of the number of
- * requests. Memory, until it returns: some tens of bytes for each request. */
+ * requests. Memory, until it returns: 17 to 54 bytes for each request. */
 uint32_t clru_least_by_room(const uint64_t *keys, size_t keys_len, const size_t *rooms, size_t rooms_len,
                             uint64_t seed_low, uint64_t seed_high, size_t *least, size_t least_len);
 
