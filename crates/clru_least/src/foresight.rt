@@ -121,7 +121,8 @@ fn mark<A: Allocator>(kept: &mut Vec<bool, A>, place: usize, value: bool)
 }
 
 /// Answers the least number of misses that any way to choose what to drop has on the requests, with room for so many keys,
-/// also one that knows all requests beforehand: `Foresight` for one room.
+/// also one that knows all requests beforehand, where each key that is asked for is taken in, and no other: `Foresight` for
+/// one room.
 ///
 /// Where memory is refused, the keys come back as they were. Without keys none is asked for. Each key costs a look-up in a
 /// table, with `hash_builder`.

@@ -4,7 +4,8 @@
 //! fewer of them than the number that this crate answers, and one misses as many. Beside the misses of a replay it says how
 //! much another policy could gain at the very most.
 //!
-//! Contracts say it by schedules, the keys held before each request, and name no method.
+//! Contracts say it by schedules, the keys held before each request, and name no method. A schedule takes in each key that is
+//! asked for, and no other: a cache that may let a key pass by misses no fewer than the least with room for one key more.
 #![tactic(auto)]
 
 mod foresight;

@@ -29,7 +29,7 @@ module _ {K : Type 0} (eq : K → K → Bool) where
   abbrev pub MarksAreBelow : Type 0
   MarksAreBelow = (k : ℕ) (requests : List K) → marks eq k requests ≡ map (is_below k) (distances requests)
 
-  -- at a capacity with room for all keys the first request of each key misses, and no other
+  -- at a capacity with room for all keys there are as many misses as distinct keys
   abbrev pub RoomForAllMissesFirst : Type 0
   RoomForAllMissesFirst = (k : ℕ) (requests : List K) → distinct eq (reverse requests) ≤ k
       → misses eq k requests ≡ distinct eq (reverse requests)

@@ -4,7 +4,7 @@ use Rattle.clru_model.specs.Requests.{misses}
 use Rattle.clru_model.specs.Schedule.{IsSchedule, schedule_misses}
 
 module _ {K : Type 0} (eq : K → K → Bool) where
-  -- some schedule of h keys that starts empty has n misses
+  -- some schedule of h keys that starts empty has n misses; it takes in each key that is asked for, and no other
   pub record IsAttained (h : ℕ) (requests : List K) (n : ℕ) : Type 0 where
     pub schedule : List (List K)
     pub serves : IsSchedule eq h ([] ∷ schedule) requests

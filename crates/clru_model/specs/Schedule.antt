@@ -5,7 +5,7 @@ use Rattle.std.specs.List.{list_all, count_by}
 use Rattle.clru_model.specs.Requests.{holds}
 
 module _ {K : Type 0} (eq : K → K → Bool) where
-  -- after the request of x at the keys ks, x is held, and no other key came in
+  -- after the request of x at the keys ks, x is held, and no other key came in: no key passes by, and none comes unasked
   abbrev pub Serves : List K → K → List (List K) → Type 0
   Serves ks x [] = ⊥
   Serves ks x (next ∷ later) = (list_all (λ q. holds eq q (x ∷ ks)) next ≡ true) × (holds eq x next ≡ true)

@@ -9,7 +9,7 @@ module _ {K : Type 0} (eq : K → K → Bool) (weight : K → ℕ) where
   abbrev pub SameWeights : Type 0
   SameWeights = (x y : K) → eq x y ≡ true → weight x ≡ weight y
 
-  -- the size of all distinct keys of the requests, the latest first: 1 and the weight of each
+  -- the size of all distinct keys of the requests, the latest first: 1 and the weight of each, by its first request
   abbrev pub total : List K → ℕ
   total [] = 0
   total (x ∷ earlier) = cond (holds eq x earlier) (total earlier) (1 + weight x + total earlier)

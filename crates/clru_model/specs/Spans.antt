@@ -47,7 +47,7 @@ module _ {K : Type 0} (eq : K → K → Bool) where
   MissedSizeFalls = (weight : K → ℕ) (c d : ℕ) (requests : List K) → c ≤ d
       → missed_size eq weight d requests ≤ missed_size eq weight c requests
 
-  -- at a size with room for all keys the first request of each key misses, and no other
+  -- at a size with room for all keys there are as many misses as distinct keys, and their size is missed
   abbrev pub RoomForTotalMissesFirst : Type 0
   RoomForTotalMissesFirst = (weight : K → ℕ) (c : ℕ) (requests : List K) → SameWeights eq weight
       → total eq weight (reverse requests) ≤ c

@@ -88,7 +88,8 @@ pub fn law_distances<K: Eq>()
 ///
 /// A cache, empty at first, that takes each key of a list in turn by `put_with_weight`, under a scale by which a pair weighs
 /// what its key does, holds a key before its put exactly where the request hits by size at the cache's capacity. No put is
-/// refused, so the capacity is above each weight, and no other call changes the cache. A request hits at the sizes from its
+/// refused, so the capacity is above each weight, and no other call changes the cache, but that a `get` of a held key leaves
+/// what a put of its value would. A request hits at the sizes from its
 /// span on, so one list of spans has the hits at every size. Where each key weighs 0, all this is what it is for numbers of
 /// keys.
 ///

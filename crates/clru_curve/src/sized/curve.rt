@@ -94,7 +94,8 @@ impl<A: Allocator> SizedCurve<A> {
     }
 
     /// Returns the capacities at which the numbers fall, each with the size that is missed from there on, the least first.
-    /// There is one for each request that can hit at all; where a capacity comes several times, its last one counts.
+    /// There is one for each request that can hit at all; where a capacity comes several times, its last one counts. Those that
+    /// are not above the greatest weight are no answers: there a cache refuses puts.
     pub fn as_slice(&self) -> &[(usize, usize)]
         ensures { result.now ≡ self.now.steps }
     {
