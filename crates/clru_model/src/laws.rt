@@ -75,8 +75,8 @@ pub fn law_least<K: Eq>()
 {}
 
 /// Does nothing at run time. Its contract says that a request hits at exactly the capacities above its distance, so that one
-/// list of distances has the marks of `replay` at every capacity, and that no capacity with room for all keys has other misses
-/// than the first request of each.
+/// list of distances has the marks of `replay` at every capacity, and that a capacity with room for all keys has as many misses
+/// as there are distinct keys.
 pub fn law_distances<K: Eq>()
     ensures hits { HitsAreBelow K.eq }
     ensures marks { MarksAreBelow K.eq }
@@ -89,9 +89,8 @@ pub fn law_distances<K: Eq>()
 /// A cache, empty at first, that takes each key of a list in turn by `put_with_weight`, under a scale by which a pair weighs
 /// what its key does, holds a key before its put exactly where the request hits by size at the cache's capacity. No put is
 /// refused, so the capacity is above each weight, and no other call changes the cache, but that a `get` of a held key leaves
-/// what a put of its value would. A request hits at the sizes from its
-/// span on, so one list of spans has the hits at every size. Where each key weighs 0, all this is what it is for numbers of
-/// keys.
+/// what a put of its value would. A request hits at the sizes from its span on, so one list of spans has the hits at every
+/// size. Where each key weighs 0, all this is what it is for numbers of keys.
 ///
 /// Of keys whose weight changes between their puts it says nothing: what room an entry gave up does not bring back what went
 /// for it. Nor does it at a capacity that is not above each weight, where puts are refused.

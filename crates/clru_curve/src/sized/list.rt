@@ -15,9 +15,9 @@ use std::hash::{BuildHasher, Hash};
 /// over them.
 ///
 /// A key weighs what the scale says of it with the value `()`. Keys that are the same are to weigh the same: else nothing is
-/// said of the curve. Keys that are not `Copy` are passed as references. The keys stay the caller's, and without keys no memory is asked for. Where memory is
-/// refused, or the sizes of all requests pass `usize::MAX`, the first key that was not taken comes back. Cost and memory are
-/// those of a `SizedPass`, which also takes requests one by one.
+/// said of the curve. Keys that are not `Copy` are passed as references. The keys stay the caller's, and without keys no
+/// memory is asked for. Where memory is refused, or the sizes of all requests pass `usize::MAX`, the first key that was not
+/// taken comes back. Cost and memory are those of a `SizedPass`, which also takes requests one by one.
 pub fn sized_curve<K, W, S, A>(
     alloc: A,
     keys: &[K],
