@@ -33,8 +33,8 @@
 #define CLRU_VERSION_MAJOR 0
 #define CLRU_VERSION_MINOR 6
 #define CLRU_VERSION_PATCH 3
-#define CLRU_VERSION_NUMBER 2
-#define CLRU_VERSION "0.6.3+2"
+#define CLRU_VERSION_NUMBER 3
+#define CLRU_VERSION "0.6.3+3"
 
 #define CLRU_OK 0u           /* all was written */
 #define CLRU_NO_CAPACITY 1u  /* a capacity or a room was 0 */
