@@ -4,6 +4,8 @@
 #[cfg(test)]
 mod asserts;
 #[cfg(test)]
+mod costs;
+#[cfg(test)]
 mod drawn;
 #[cfg(test)]
 mod memory;

@@ -1,7 +1,7 @@
-use Rattle.std.proofs.Common.{[], ◌∷◌, ◌≤◌, ℕ, List}
+use Rattle.std.proofs.Common.{[], ◌∷◌, ◌≤◌, ℕ, List, subst}
 use Rattle.std.proofs.lemmas.Result.{IfOk-weaker}
 use Rattle.std.specs.Int.NonZero.{non_zero_usize_get}
-use Rattle.clru_model.specs.ByPlace.{IsScheduleAt}
+use Rattle.clru_model.specs.ByPlace.{IsCountOf, IsScheduleAt, IsScheduleMissAt}
 use Rattle.clru_model.specs.Least.{IsLeast}
 use Rattle.clru_model.specs.Schedule.{schedule_misses}
 use Rattle.clru_least_tests.proofs.callers.least_by_place.Goals as goal
@@ -11,6 +11,16 @@ returns g c =
     let eq = g.K.PartialEq.eq in
     let h = non_zero_usize_get c.args.room in
     record {
+      attained = IfOk-weaker c.least.result (λ n. IsLeast eq h c.args.keys.items n)
+          (λ (n : ℕ). (schedule : List (List g.row.K.Denot)) × IsScheduleAt eq h ([] ∷ schedule) c.args.keys.items
+          × IsCountOf (IsScheduleMissAt eq ([] ∷ schedule) c.args.keys.items) n)
+          (λ n least.
+          let a = least.attained in let held = [] ∷ a.schedule in let rs = c.args.keys.items in (
+            a.schedule,
+            (c.law_schedules_by_place.ensures.schedules h held rs).0 a.serves,
+            subst (λ m. IsCountOf (IsScheduleMissAt eq held rs) m) a.misses (c.law_schedules_by_place.ensures.misses held rs),
+          ))
+          c.least.ensures.least;
       none_fewer = IfOk-weaker c.least.result (λ n. IsLeast eq h c.args.keys.items n)
           (λ (n : ℕ). (schedule : List (List g.row.K.Denot)) → IsScheduleAt eq h ([] ∷ schedule) c.args.keys.items
           → n ≤ schedule_misses eq ([] ∷ schedule) c.args.keys.items)
