@@ -7,8 +7,10 @@ from rounds import PASS_CALLS, PASS_CAPACITIES, PASSES
 from table import PASSES as NAMES
 from table import STAGES, print_aligned
 
-# A first and a second level of cache: 32 KB in sets of 8 lines, and 2 MB in sets of 16.
-CACHES = ["--I1=32768,8,64", "--D1=32768,8,64", "--LL=2097152,16,64"]
+# The level that valgrind's names of options and of events have in them; the second cache is its last level, LL.
+FIRST = 1
+# A first and a second cache: 32 KB in sets of 8 lines, and 2 MB in sets of 16.
+CACHES = [f"--I{FIRST}=32768,8,64", f"--D{FIRST}=32768,8,64", "--LL=2097152,16,64"]
 # As they come one after another: a dump ends at each look at the clock, which a stage takes at its start and at its end.
 ORDER = {
     "stages": ["replay", "fill", "get", "evict", "pop", "absent"],
@@ -21,8 +23,8 @@ RUNS = {"stages": ["stages"], "fills": ["reserved", "made"], "texts": ["texts"]}
 COUNTED = {
     "instructions": ["Ir"],
     "mispredicted": ["Bcm", "Bim"],
-    "L1 misses": ["D1mr", "D1mw"],
-    "L2 misses": ["DLmr", "DLmw"],
+    "first-cache misses": [f"D{FIRST}mr", f"D{FIRST}mw"],
+    "second-cache misses": ["DLmr", "DLmw"],
 }
 
 
