@@ -71,10 +71,12 @@ pub(crate) fn command_of<S: AsStr, A: Allocator + Copy>(
         }
     }
     if capacities_follow {
-        return Err(wrong(alloc, "--at wants capacities: write --at 100,1000"));
+        return Err(wrong(alloc, NO_VALUE));
     }
     finish(alloc, draft)
 }
+
+const NO_VALUE: &str = "--at wants capacities: write --at 100,1000";
 
 // Each `--at` adds to those before it.
 fn name_capacities<A: Allocator + Copy>(
@@ -141,15 +143,31 @@ pub(crate) fn wrong<A: Allocator + Copy>(alloc: A, line: &str) -> Refusal<A> {
     }
 }
 
-// What stands in quotes has its line breaks escaped.
+// What stands in quotes has its line breaks escaped. A word that looks like no option is mostly the name of a file.
 fn unknown<A: Allocator + Copy>(alloc: A, word: &str) -> Refusal<A> {
-    match format!(in alloc; "{word:?} is no argument: clru_mrc --help names them") {
+    let line = if word.starts_with('-') && word != "-" {
+        format!(in alloc; "{word:?} is no argument: clru_mrc --help names them")
+    } else {
+        format!(in alloc;
+            "{word:?} is no argument: the log goes to standard input, as in clru_mrc < FILE"
+        )
+    };
+    match line {
         Ok(line) => Refusal::Wrong(line),
         Err(_) => Refusal::Memory,
     }
 }
 
 fn no_capacity<A: Allocator + Copy>(alloc: A, part: &str) -> Refusal<A> {
+    if part.is_empty() {
+        return wrong(
+            alloc,
+            "--at has an empty number: write numbers with commas and no blanks, as in --at 100,1000",
+        );
+    }
+    if part.starts_with("--") {
+        return wrong(alloc, NO_VALUE);
+    }
     let line = format!(in alloc;
         "{part:?} is no capacity: name numbers from 1 to 18446744073709551615, as in --at 100,1000"
     );

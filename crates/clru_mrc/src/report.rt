@@ -31,7 +31,14 @@ pub(crate) fn report_on<A: Allocator + Copy>(
         Form::Picture => {
             let rows = rows_for(alloc, &keys, &curve, options)?;
             let table = table_of(alloc, &rows, keys.len(), options.least)?;
-            picture_of(alloc, curve.as_slice(), keys.len(), &rows, &table)
+            picture_of(
+                alloc,
+                curve.as_slice(),
+                keys.len(),
+                options.least,
+                &rows,
+                &table,
+            )
         }
         Form::Summary => summary_of(alloc, keys.len(), curve.distinct(), input.len()),
     }

@@ -84,10 +84,18 @@ fn words_that_do_not_fit_are_refused_by_a_line(rt: HostRuntime) -> Result<(), Fa
         ),
         (
             ["a\nb"].as_slice(),
-            "\"a\\nb\" is no argument: clru_mrc --help names them",
+            "\"a\\nb\" is no argument: the log goes to standard input, as in clru_mrc < FILE",
+        ),
+        (
+            ["--all", "-"].as_slice(),
+            "\"-\" is no argument: the log goes to standard input, as in clru_mrc < FILE",
         ),
         (
             ["--at"].as_slice(),
+            "--at wants capacities: write --at 100,1000",
+        ),
+        (
+            ["--at", "--least"].as_slice(),
             "--at wants capacities: write --at 100,1000",
         ),
         (
@@ -96,7 +104,11 @@ fn words_that_do_not_fit_are_refused_by_a_line(rt: HostRuntime) -> Result<(), Fa
         ),
         (
             ["--at="].as_slice(),
-            "\"\" is no capacity: name numbers from 1 to 18446744073709551615, as in --at 100,1000",
+            "--at has an empty number: write numbers with commas and no blanks, as in --at 100,1000",
+        ),
+        (
+            ["--at", "1,", "2"].as_slice(),
+            "--at has an empty number: write numbers with commas and no blanks, as in --at 100,1000",
         ),
         (
             ["--all", "--at=5"].as_slice(),

@@ -1,48 +1,23 @@
 //! The axes of the picture, with their numbers and words.
 
-use super::scale::{HEIGHT, LEFT, Scale, TOP, WIDTH};
+use super::numbers::{Room, last_place, write_number, write_short};
+use super::scale::{BOTTOM, HEIGHT, LEFT, RIGHT, Scale, TOP};
+use super::style::{LARGE_LETTERS, LETTERS};
 use crate::capacities::{ROUND_NUMBERS, round_at};
 use std::fmt::{self, Write};
 
-const RIGHT: u128 = LEFT + WIDTH;
-
-const BOTTOM: u128 = TOP + HEIGHT;
-
-/// The axes, and above them what the lines are.
-pub(super) fn draw_axes<W: Write>(
-    text: &mut W,
-    scale: &Scale,
-    distinct: usize,
-    least: bool,
-) -> fmt::Result {
+/// The axes and the lines between them.
+pub(super) fn draw_axes<W: Write>(text: &mut W, scale: &Scale) -> fmt::Result {
     draw_ratios(text)?;
     draw_capacities(text, scale)?;
     write!(
         text,
         "<path class=\"axis\" d=\"M{LEFT} {TOP}V{BOTTOM}H{RIGHT}\"/>\n"
     )?;
-    let requests = scale.requests;
-    write!(
-        text,
-        "<text x=\"{LEFT}\" y=\"290\">{requests} requests, {distinct} distinct keys</text>\n"
-    )?;
-    draw_legend(text, least)?;
-    text.write_str("<text x=\"4210\" y=\"4430\" text-anchor=\"middle\">capacity in keys</text>\n")?;
+    text.write_str("<text x=\"4210\" y=\"4510\" text-anchor=\"middle\">capacity in keys</text>\n")?;
     text.write_str(
-        "<text transform=\"translate(200 2250) rotate(-90)\" text-anchor=\"middle\">miss ratio</text>\n",
+        "<text transform=\"translate(200 2310) rotate(-90)\" text-anchor=\"middle\">miss ratio</text>\n",
     )
-}
-
-fn draw_legend<W: Write>(text: &mut W, least: bool) -> fmt::Result {
-    text.write_str(
-        "<path class=\"lru\" d=\"M5300 245h400\"/>\n<text x=\"5780\" y=\"290\">LRU</text>\n",
-    )?;
-    if least {
-        text.write_str(
-            "<circle class=\"least\" cx=\"6560\" cy=\"245\" r=\"45\"/>\n<text x=\"6680\" y=\"290\">least possible</text>\n",
-        )?;
-    }
-    Ok(())
 }
 
 fn draw_ratios<W: Write>(text: &mut W) -> fmt::Result {
@@ -52,56 +27,78 @@ fn draw_ratios<W: Write>(text: &mut W) -> fmt::Result {
             text,
             "<path class=\"grid\" d=\"M{LEFT} {down}H{RIGHT}\"/>\n"
         )?;
-        let middle = down.saturating_add(45);
         write!(
             text,
-            "<text x=\"660\" y=\"{middle}\" text-anchor=\"end\">{label}</text>\n"
+            "<text x=\"680\" y=\"{down}\" dy=\".36em\" text-anchor=\"end\">{label}</text>\n"
         )?;
         down = down.saturating_sub(HEIGHT / 5);
     }
     Ok(())
 }
 
-// Up to here there is room for a number at 2 and 5 too.
-const FEW: usize = 2000;
-
-// As far as two numbers stand apart at least.
-const ROOM: u128 = 550;
+// Where powers of ten stand so far apart, there is room for lines at 2 and 5 between them.
+const ROOMY: u128 = 500;
 
 fn draw_capacities<W: Write>(text: &mut W, scale: &Scale) -> fmt::Result {
-    let mut free = 0;
+    let room = Room::new(scale, LETTERS);
+    let little_room = Room::new(scale, LARGE_LETTERS);
+    let short = room.every == 9;
     for place in 0..ROUND_NUMBERS {
         let capacity = round_at(place);
-        if capacity > scale.greatest as u128 {
+        if capacity >= scale.greatest as u128 {
             break;
         }
         let across = scale.across(capacity as usize);
-        if place % 3 == 0 || scale.greatest <= FEW {
-            write!(
-                text,
-                "<path class=\"grid\" d=\"M{across} {TOP}V{BOTTOM}\"/>\n"
-            )?;
-            if across >= free {
-                draw_capacity(text, across, capacity)?;
-                free = across.saturating_add(ROOM);
-            }
+        if place % 3 == 0 {
+            draw_line(text, "grid", across)?;
+        } else if scale.decade() >= ROOMY {
+            draw_line(text, "between", across)?;
+        }
+        // A digit and a letter are no wider than three digits.
+        let as_wide = if short { 100 } else { capacity };
+        if room.has(place, as_wide, across) {
+            let small_too = little_room.has(place, as_wide, across);
+            draw_capacity(text, across, capacity, short, small_too)?;
         }
     }
-    Ok(())
+    draw_last(text, scale.greatest)
 }
 
-fn draw_capacity<W: Write>(text: &mut W, across: u128, capacity: u128) -> fmt::Result {
-    let (number, letter) = match capacity.max(1).ilog10() / 3 {
-        0 => (capacity, ""),
-        1 => (capacity / 1_000, "k"),
-        2 => (capacity / 1_000_000, "M"),
-        3 => (capacity / 1_000_000_000, "G"),
-        4 => (capacity / 1_000_000_000_000, "T"),
-        5 => (capacity / 1_000_000_000_000_000, "P"),
-        _ => (capacity / 1_000_000_000_000_000_000, "E"),
-    };
+fn draw_line<W: Write>(text: &mut W, class: &str, across: u128) -> fmt::Result {
     write!(
         text,
-        "<text x=\"{across}\" y=\"4190\" text-anchor=\"middle\">{number}{letter}</text>\n"
+        "<path class=\"{class}\" d=\"M{across} {TOP}V{BOTTOM}\"/>\n"
     )
+}
+
+fn draw_capacity<W: Write>(
+    text: &mut W,
+    across: u128,
+    capacity: u128,
+    short: bool,
+    small_too: bool,
+) -> fmt::Result {
+    let class = if small_too { "" } else { " class=\"wide\"" };
+    write!(
+        text,
+        "<text{class} x=\"{across}\" y=\"4270\" text-anchor=\"middle\">"
+    )?;
+    if short {
+        write_short(text, capacity)?;
+    } else {
+        write_number(text, capacity)?;
+    }
+    text.write_str("</text>\n")
+}
+
+// The right end of the axis.
+fn draw_last<W: Write>(text: &mut W, greatest: usize) -> fmt::Result {
+    let (across, anchor) = last_place(greatest);
+    draw_line(text, "grid", RIGHT)?;
+    write!(
+        text,
+        "<text x=\"{across}\" y=\"4270\" text-anchor=\"{anchor}\">"
+    )?;
+    write_number(text, greatest as u128)?;
+    text.write_str("</text>\n")
 }

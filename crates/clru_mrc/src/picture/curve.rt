@@ -1,19 +1,16 @@
 //! The lines of the picture.
 
-use super::scale::{LEFT, Scale, WIDTH};
+use super::scale::{LEFT, RIGHT, Scale};
 use crate::rows::Row;
 use std::fmt::{self, Write};
 
 // Steps that are nearer to one another than a pixel are drawn as one.
 const NEAR: u128 = 10;
 
-/// The steps of the misses at 1, 2 and so on.
+/// The steps of the misses at 1, 2 and so on. Without requests nothing is missed.
 pub(super) fn draw_curve<W: Write>(text: &mut W, scale: &Scale, curve: &[usize]) -> fmt::Result {
-    let Some(first) = curve.first() else {
-        return Ok(());
-    };
     let mut across = LEFT;
-    let mut down = scale.down(*first);
+    let mut down = scale.down(*curve.first().unwrap_or(&0));
     write!(text, "<path class=\"lru\" d=\"M{across} {down}")?;
     for (index, misses) in curve.iter().enumerate() {
         let next_across = scale.across(index.saturating_add(1));
@@ -25,8 +22,7 @@ pub(super) fn draw_curve<W: Write>(text: &mut W, scale: &Scale, curve: &[usize])
             down = next_down;
         }
     }
-    let end = LEFT + WIDTH;
-    write!(text, "H{end}\"/>\n")
+    write!(text, "H{RIGHT}\"/>\n")
 }
 
 /// A dot at each row that has the least possible misses. Between two of them it is not known, so no line joins them.

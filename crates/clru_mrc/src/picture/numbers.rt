@@ -1,0 +1,90 @@
+//! The numbers at the axis of capacities: how they are written, and which of them there is room for.
+
+use super::scale::{RIGHT, Scale};
+use std::fmt::{self, Write};
+
+// Between two numbers.
+const GAP: u128 = 60;
+
+// As far right as a number may reach.
+const EDGE: u128 = 7960;
+
+/// A number with a comma before each three digits.
+pub(super) fn write_number<W: Write>(text: &mut W, number: u128) -> fmt::Result {
+    if number < 1000 {
+        return write!(text, "{number}");
+    }
+    write_number(text, number / 1000)?;
+    let rest = number % 1000;
+    write!(text, ",{rest:03}")
+}
+
+/// A round number, shortened by a letter.
+pub(super) fn write_short<W: Write>(text: &mut W, number: u128) -> fmt::Result {
+    let (count, letter) = match number.max(1).ilog10() / 3 {
+        0 => (number, ""),
+        1 => (number / 1_000, "k"),
+        2 => (number / 1_000_000, "M"),
+        3 => (number / 1_000_000_000, "G"),
+        4 => (number / 1_000_000_000_000, "T"),
+        5 => (number / 1_000_000_000_000_000, "P"),
+        _ => (number / 1_000_000_000_000_000_000, "E"),
+    };
+    write!(text, "{count}{letter}")
+}
+
+/// Where the number at the right end stands, and which part of it: the middle of a short one, the end of a long one.
+pub(super) fn last_place(greatest: usize) -> (u128, &'static str) {
+    if greatest < 10_000 {
+        (RIGHT, "middle")
+    } else {
+        (EDGE, "end")
+    }
+}
+
+/// The numbers that there is room for, in letters of a size.
+#[derive(Clone, Copy, Debug)]
+pub(super) struct Room {
+    letters: u128,
+    /// From one round number that is written to the next: 1, or 3 where only powers of ten are, or 9 where only those
+    /// of a thousand are.
+    pub(super) every: usize,
+    end: u128,
+}
+
+impl Room {
+    pub(super) fn new(scale: &Scale, letters: u128) -> Room {
+        let widest = breadth(scale.greatest as u128, letters);
+        let wanted = widest.saturating_add(GAP);
+        let decade = scale.decade();
+        let every = if wanted <= decade / 10 * 3 {
+            1
+        } else if wanted <= decade {
+            3
+        } else {
+            9
+        };
+        let begin = match last_place(scale.greatest) {
+            (across, "middle") => across.saturating_sub(widest / 2),
+            (across, _) => across.saturating_sub(widest),
+        };
+        Room {
+            letters,
+            every,
+            end: begin.saturating_sub(GAP),
+        }
+    }
+
+    /// Whether a round number as wide as this one is written, the middle of it so far from the left edge.
+    pub(super) fn has(&self, place: usize, number: u128, across: u128) -> bool {
+        let half = breadth(number, self.letters) / 2;
+        place % self.every.max(1) == 0 && across.saturating_add(half) <= self.end
+    }
+}
+
+// How wide a number is in common fonts, at most.
+fn breadth(number: u128, letters: u128) -> u128 {
+    let digits = number.max(1).ilog10() as u128 + 1;
+    let commas = (digits - 1) / 3;
+    letters.saturating_mul(64 * digits + 32 * commas) / 100
+}

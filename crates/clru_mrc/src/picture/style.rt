@@ -1,0 +1,33 @@
+//! How the picture looks. Each rule is for pictures of this program alone, so that one can stand in a page as it is.
+
+/// A picture that is shown small has larger letters, and fewer of the numbers. The marks can be told apart without
+/// their colours, and the page behind the picture shows nowhere. On paper it is as on a light page.
+pub(crate) const STYLE: &str = "<style>
+.clru_mrc{max-width:100%;height:auto}
+.clru_mrc text{font-family:sans-serif;font-size:150px;fill:#222}
+.clru_mrc .page{fill:#fff}
+.clru_mrc .grid{stroke:#ccc;stroke-width:8}
+.clru_mrc .between{stroke:#e8e8e8;stroke-width:8}
+.clru_mrc .axis{stroke:#222;stroke-width:12;fill:none}
+.clru_mrc .lru{stroke:#0b5cad;stroke-width:28;fill:none}
+.clru_mrc .least{fill:#b3410e}
+@media(max-width:500px){
+.clru_mrc text{font-size:220px}
+.clru_mrc .wide{display:none}
+}
+@media screen and (prefers-color-scheme:dark){
+.clru_mrc text{fill:#ddd}
+.clru_mrc .page{fill:#161616}
+.clru_mrc .grid{stroke:#484848}
+.clru_mrc .between{stroke:#2a2a2a}
+.clru_mrc .axis{stroke:#ddd}
+.clru_mrc .lru{stroke:#6cb2ff}
+.clru_mrc .least{fill:#ff9a5c}
+}
+</style>
+";
+
+/// The sizes of the letters, and of those of a picture that is shown small.
+pub(super) const LETTERS: u128 = 150;
+
+pub(super) const LARGE_LETTERS: u128 = 220;
