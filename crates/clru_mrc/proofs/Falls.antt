@@ -1,7 +1,6 @@
 -- At which capacities the misses of a curve fall: at the steps, and nowhere else.
-use Rattle.std.proofs.Common.{◌≡◌, ◌≢◌, ℕ, zero, suc, ◌+◌, ◌-◌, ◌<◌, ◌≤◌, Bool, true, false, cond, ◌||◌, nat_le, nat_lt, leb, leb-true, leb-false, List, [], ◌∷◌, ◌++◌, length, get_or, inl, inr, refl, sym, ap, ◌∙◌, subst, arith}
+use Rattle.std.proofs.Common.{◌≡◌, ◌≢◌, ℕ, zero, suc, ◌+◌, ◌-◌, ◌<◌, ◌≤◌, Bool, true, false, cond, ◌||◌, nat_le, nat_lt, leb-true, leb-false, List, [], ◌∷◌, ◌++◌, length, get_or, inl, inr, refl, sym, ap, ◌∙◌, arith}
 use Rattle.std.specs.Prelude.{◌==◌}
-use Rattle.std.specs.List.{count_by}
 use Rattle.std.specs.List.Sorted.{IsNonDecreasingBy}
 use Rattle.std.proofs.lemmas.Bool.{cases_lt, le-leb, lt-leb, le-ltb, lt-ltb, ne_eqb, eq-eqb, or_left, or_right, or_from}
 use Rattle.std.proofs.lemmas.List.{append-nil}
@@ -94,12 +93,14 @@ module _ (curve : CurveBySize) (settled : IsSettled curve) (rising : IsNonDecrea
 
   falls_at : (i c : ℕ) → i < length curve.steps → span curve i ≡ suc c → falls curve (suc c) ≡ true
   falls_at i c low here =
-      falls-suc curve c ∙ or_right (suc c == (first curve)) _ (lt-ltb (misses_within curve (suc c)) (misses_within curve c) (fewer i c low here))
+      falls-suc curve c ∙ or_right (suc c == (first curve)) _
+      (lt-ltb (misses_within curve (suc c)) (misses_within curve c) (fewer i c low here))
 
   stays : (c : ℕ) → (first curve) < suc c → ((i : ℕ) → i < length curve.steps → span curve i ≢ suc c) → falls curve (suc c) ≡ false
   stays c past none =
       let same : misses_within curve (suc c) ≡ misses_within curve c = ap (λ h. curve.requests - h) (hits_same c curve.steps none) in
-      falls-suc curve c ∙ or_from (suc c == (first curve)) _ (ne_eqb (suc c) (first curve) (λ e. omega (arith, e, past))) (le-ltb (misses_within curve (suc c)) (misses_within curve c) (omega (arith, same)))
+      falls-suc curve c ∙ or_from (suc c == (first curve)) _ (ne_eqb (suc c) (first curve) (λ e. omega (arith, e, past)))
+      (le-ltb (misses_within curve (suc c)) (misses_within curve c) (omega (arith, same)))
 
   -- each step is within the size of all keys
   within : (i : ℕ) → i < length curve.steps → curve.greatest_weight < curve.distinct_size → span curve i ≤ curve.distinct_size
@@ -115,7 +116,8 @@ module _ (curve : CurveBySize) (settled : IsSettled curve) (rising : IsNonDecrea
   ]
 
   -- none falls between the last capacity and the next step
-  gap : (last i next : ℕ) (chosen : List ℕ) → IsChosen curve last i chosen → last < next → ((j : ℕ) → i ≤ j → j < length curve.steps → next ≤ span curve j)
+  gap : (last i next : ℕ) (chosen : List ℕ) → IsChosen curve last i chosen → last < next
+      → ((j : ℕ) → i ≤ j → j < length curve.steps → next ≤ span curve j)
       → passing (falls curve) (from curve) (next - (first curve)) ≡ chosen
   gap last i next chosen is more later =
       let n = next - (last + 1) in
@@ -135,7 +137,8 @@ module _ (curve : CurveBySize) (settled : IsSettled curve) (rising : IsNonDecrea
     capacities =
         let one : (first curve) + 1 - (first curve) ≡ 0 + 1 = omega arith in
         let here : from curve 0 ≡ (first curve) = omega arith in
-        sym (ap (passing (falls curve) (from curve)) one ∙ passing_one (falls curve) (from curve) 0 (ap (falls curve) here ∙ or_left ((first curve) == (first curve)) _ (eq-eqb (first curve) (first curve) refl))
+        sym (ap (passing (falls curve) (from curve)) one ∙ passing_one (falls curve) (from curve) 0
+        (ap (falls curve) here ∙ or_left ((first curve) == (first curve)) _ (eq-eqb (first curve) (first curve) refl))
         ∙ ap (λ n. n ∷ []) here);
     low = omega arith;
     high = omega (arith, some);
@@ -187,5 +190,7 @@ module _ (curve : CurveBySize) (settled : IsSettled curve) (rising : IsNonDecrea
         let here : from curve k ≡ suc c = omega arith in
         ap (falls curve) here ∙ stays c (omega (arith, above, is.low))
         (λ j inside e. omega (arith, is.done j (omega (arith, inside, all)), e, above, is.low))) ∙ sym is.capacities)
-    | inr less ↦ is.capacities ∙ ap (λ n. passing (falls curve) (from curve) (n + 1 - (first curve))) (let same : last ≡ curve.distinct_size = omega (arith, less, is.high) in same)
+    | inr less ↦
+        let same : last ≡ curve.distinct_size = omega (arith, less, is.high) in
+        is.capacities ∙ ap (λ n. passing (falls curve) (from curve) (n + 1 - (first curve))) same
   ]

@@ -1,10 +1,9 @@
 -- What is true of the curve of any lines: from which capacity on it answers, and from which on nothing changes.
-use Rattle.std.proofs.Common.{◌≡◌, ℕ, ◌+◌, ◌-◌, ◌<◌, ◌≤◌, Bool, true, false, cond, nat_lt, List, [], ◌∷◌, reverse, refl, sym, ap, ◌∙◌, arith}
+use Rattle.std.proofs.Common.{◌≡◌, ℕ, ◌+◌, ◌-◌, ◌≤◌, Bool, true, nat_lt, List, [], ◌∷◌, reverse, refl, sym, ap, ◌∙◌, arith}
 use Rattle.std.specs.Cmp.{IsEquivalence}
 use Rattle.std.specs.Prelude.{bytes_eq}
-use Rattle.std.proofs.lemmas.Bool.{true_from_ne_false}
 use Rattle.std.proofs.lemmas.Slice.Eq.{bytes_eq-Decides}
-use Rattle.clru_curve.specs.SizedCurves.{CurveBySize, IsSizedCurveOf, greatest_of, misses_within}
+use Rattle.clru_curve.specs.SizedCurves.{CurveBySize, IsSizedCurveOf, greatest_of}
 use Rattle.clru_model.proofs.Cases.{split}
 use Rattle.clru_model.proofs.Spans.{room_misses_first}
 use Rattle.clru_model.proofs.Totals.{total_by_key}

@@ -1,12 +1,12 @@
 -- Requests by size that are compared by a view of them hit as their views do.
-use Rattle.std.proofs.Common.{◌≡◌, ℕ, ◌+◌, ◌≤◌, Bool, cond, not, ◌&&◌, List, [], ◌∷◌, map, length, reverse, take, nat_le, nat_lt, refl, sym, ap, ◌∙◌, arith}
-use Rattle.std.specs.List.{count_by, prefix_len, sum_by}
+use Rattle.std.proofs.Common.{◌≡◌, ℕ, ◌+◌, Bool, cond, not, ◌&&◌, List, [], ◌∷◌, map, reverse, take, nat_le, nat_lt, refl, sym, ap, ◌∙◌, arith}
+use Rattle.std.specs.List.{count_by, prefix_len}
 use Rattle.std.proofs.lemmas.List.{length-map, take-map}
 use Rattle.std.proofs.lemmas.List.Sums.{sum_by-cons}
 use Rattle.clru_curve.specs.SizedCurves.{CurveBySize, IsSizedCurveOf, greatest_of, size_of_all}
 use Rattle.clru_model.proofs.Views.{same, distinct-map, holds-map, map-reverse}
 use Rattle.clru_model.specs.Requests.{distinct, holds, since}
-use Rattle.clru_model.specs.Sizes.{total, hit_by_size, marks_by_size_after, misses_by_size, missed_size_after, missed_size}
+use Rattle.clru_model.specs.Sizes.{total, hit_by_size, marks_by_size_after, missed_size_after}
 
 module _ {X Y : Type 0} (eq : Y → Y → Bool) (weight : Y → ℕ) (view : X → Y) where
   -- a request weighs what its view does

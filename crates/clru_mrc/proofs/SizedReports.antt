@@ -1,5 +1,5 @@
 -- From a curve and its rows to the report of the lines that it is of, and to why there is none.
-use Rattle.std.proofs.Common.{◌≡◌, ℕ, zero, suc, ◌+◌, ◌-◌, ◌≤◌, ◌<◌, Bool, true, false, cond, List, [], ◌∷◌, ◌++◌, append-nil, map, min, length, reverse, Result, Ok, Err, refl, sym, ap, ◌∙◌, subst, arith}
+use Rattle.std.proofs.Common.{◌≡◌, ℕ, ◌+◌, ◌≤◌, Bool, true, false, List, [], ◌∷◌, min, length, reverse, refl, sym, ap, ◌∙◌, arith}
 use Rattle.std.specs.Prelude.{bytes_eq, ◌==◌}
 use Rattle.std.proofs.lemmas.Bool.{eqb-true}
 use Rattle.std.proofs.lemmas.List.Elements.{All-weaker}
@@ -10,9 +10,9 @@ use Rattle.clru_model.specs.Requests.{distinct, holds}
 use Rattle.clru_model.specs.Sizes.{total, misses_by_size}
 use Rattle.clru_mrc.specs.Capacities.{sized_capacities_of}
 use Rattle.clru_mrc.specs.Faults.{is_of_writing}
-use Rattle.clru_mrc.specs.Passes.{AreRowsOf, IsOfCapacities, IsOfLines, IsRowOf, IsTableOf, capacities_on, distinct_in}
+use Rattle.clru_mrc.specs.Passes.{IsOfCapacities, IsOfLines, IsRowOf, IsTableOf, capacities_on, distinct_in}
 use Rattle.clru_mrc.specs.Refusals.{IsRefusedFor, is_of_input}
-use Rattle.clru_mrc.specs.SizedReport.{IsReportBySize, IsInFormBySize, IsSizedRow, IsSizedTable, distinct_size, summary_by_size}
+use Rattle.clru_mrc.specs.SizedReport.{IsSizedRow, IsSizedTable, distinct_size, summary_by_size}
 use Rattle.clru_mrc.specs.SizedTables.{capacity_of_sized_row, sized_summary_text, sized_table_text}
 use Rattle.clru_mrc.specs.Sizes.{HaveSizes, greatest_size, size_of_lines, weight_of_line}
 use Rattle.clru_mrc.specs.declared.fault.Fault.{Fault}

@@ -7,7 +7,7 @@ use Rattle.std.proofs.lemmas.List.{map-append}
 use Rattle.std.proofs.lemmas.List.Elements.{All-push}
 use Rattle.std.proofs.lemmas.List.Sorted.{sum_by-IsPermutation, IsPermutation-reverse}
 use Rattle.std.proofs.lemmas.List.Sums.{sum_by-append, sum_by-cons}
-use Rattle.clru_curve.specs.SizedCurves.{CurveBySize, IsSizedCurveOf, size_of_all}
+use Rattle.clru_curve.specs.SizedCurves.{CurveBySize, IsSizedCurveOf}
 use Rattle.clru_curve.specs.SizedPasses.{PassBySize, IsSizedPass}
 use Rattle.clru_lines.specs.declared.lines.Key.{Key}
 use Rattle.clru_mrc.proofs.SizeViews.{curve-view, size-view}

@@ -1,5 +1,5 @@
 -- What a pass over lines with sizes has taken, and what it answers. No public clause cites it.
-use Rattle.std.specs.Prelude.{◌≡◌, ℕ, ◌+◌, ◌<◌, ◌≤◌, ◌^◌, Bool, List, length, map, reverse, bytes_eq, ◌==◌, if◌then◌else◌, ⊤}
+use Rattle.std.specs.Prelude.{◌≡◌, ℕ, ◌+◌, ◌<◌, ◌≤◌, ◌^◌, List, map, reverse, bytes_eq, ◌==◌, if◌then◌else◌, ⊤}
 use Rattle.std.specs.List.{All, Contains}
 use Rattle.clru_curve.specs.SizedCurves.{CurveBySize, misses_within, missed_size_within}
 use Rattle.clru_curve.specs.SizedPasses.{PassBySize, IsSizedPass}

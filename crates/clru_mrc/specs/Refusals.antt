@@ -1,5 +1,5 @@
 -- Which inputs have no report by size, and why. Public clauses cite them.
-use Rattle.std.specs.Prelude.{◌≡◌, ℕ, ◌+◌, ◌<◌, ◌≤◌, ◌^◌, Bool, true, false, List, length, map, take, IsNone, IsSomeAnd}
+use Rattle.std.specs.Prelude.{◌≡◌, ℕ, ◌+◌, ◌<◌, ◌≤◌, ◌^◌, Bool, true, false, List, map, take, IsNone, IsSomeAnd}
 use Rattle.std.specs.Int.NonZero.{non_zero_usize_get}
 use Rattle.std.specs.List.{Contains, slice_get}
 use Rattle.clru_lines.specs.Lines.{lines_of}

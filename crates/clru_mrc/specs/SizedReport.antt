@@ -1,6 +1,6 @@
 -- What is written for lines that begin with sizes, where capacities are sums of sizes. The numbers are those of the definitions
 -- of requests by size: no cache is in sight.
-use Rattle.std.specs.Prelude.{◌≡◌, ℕ, ◌≤◌, Bool, List, ◌++◌, length, map, min, reverse, bytes_eq}
+use Rattle.std.specs.Prelude.{◌≡◌, ℕ, ◌≤◌, List, ◌++◌, length, map, min, reverse, bytes_eq}
 use Rattle.std.specs.List.{All}
 use Rattle.clru_model.specs.Requests.{distinct}
 use Rattle.clru_model.specs.Sizes.{total, misses_by_size, missed_size as missed_size_of}

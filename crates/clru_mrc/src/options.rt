@@ -6,8 +6,8 @@ use std::num::NonZeroUsize;
 /// The capacities of a table.
 #[derive(Drop)]
 pub enum Capacities<A: Allocator = Global> {
-    /// 1, 2, 5, 10, 20, 50 and so on up to the number of distinct keys, and that number. By size: those from the greatest size
-    /// up to the size of the distinct keys together, and that size.
+    /// 1, 2, 5, 10, 20, 50 and so on up to the number of distinct keys, and that number. By size: those from the greatest
+    /// size up to the size of the distinct keys together, and that size.
     Usual,
     /// 1, or the greatest size, and each from there on at which there are fewer misses than at the one before.
     Each,
@@ -20,7 +20,7 @@ pub enum Capacities<A: Allocator = Global> {
 pub enum Form {
     /// The table.
     Table,
-    /// A picture of the curve, with the table in its description.
+    /// A picture of the curve, with the table in its description. By size it is the table alone.
     Picture,
     /// How many requests and distinct keys there are, and the bytes of the input.
     Summary,

@@ -26,8 +26,10 @@ pub(crate) fn sized_report_on<A: Allocator + Copy>(
     options: &Options<A>,
     input: &[u8],
 ) -> Result<String<A>, Fault>
-    ensures report { IfOk result (λ text. IsReportBySize options.now input.now (lines_of input.now) (string_bytes text)) }
-    ensures refused { IfErr result (λ fault. is_of_input fault ≡ true → IsRefusedFor fault options.now (lines_of input.now)) }
+    ensures report { IfOk result (λ text.
+        IsReportBySize options.now input.now (lines_of input.now) (string_bytes text)) }
+    ensures refused { IfErr result (λ fault. is_of_input fault ≡ true
+        → IsRefusedFor fault options.now (lines_of input.now)) }
     ensures fault { IfErr result (λ fault. is_of_writing fault ≡ false) }
 {
     let curve = curve_of(alloc, input)?;
@@ -48,7 +50,8 @@ fn sized_table_for<A: Allocator + Copy>(
     curve: &SizedCurve<A>,
 ) -> Result<String<A>, Fault>
     requires { IsSettled curve.now }
-    ensures table { IfOk result (λ text. IsTableOf curve.now (capacities_on curve.now capacities.now) (string_bytes text)) }
+    ensures table { IfOk result (λ text.
+        IsTableOf curve.now (capacities_on curve.now capacities.now) (string_bytes text)) }
     ensures refused { IfErr result (λ fault. IsOfCapacities curve.now fault (capacities_on curve.now capacities.now)) }
 {
     let rows = sized_rows_for(alloc, curve, capacities)?;

@@ -37,7 +37,8 @@ fn take_line<'a, A: Allocator + Copy>(
     key: Key<'a>,
     number: usize,
 ) -> Result<(), Fault>
-    ensures taken { (lines : List (List ℕ)) → HasTaken lines pass.old → OnOk result (HasTaken (lines ++ key.entry.0.now ∷ []) pass.new) }
+    ensures taken { (lines : List (List ℕ)) → HasTaken lines pass.old
+        → OnOk result (HasTaken (lines ++ key.entry.0.now ∷ []) pass.new) }
     ensures refused { (lines rest : List (List ℕ)) → HasTaken lines pass.old → number ≡ length lines + 1
         → IfErr result (λ fault. IsOfLines fault (lines ++ key.entry.0.now ∷ rest)) }
 {

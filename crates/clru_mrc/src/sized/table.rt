@@ -53,8 +53,8 @@ pub(crate) fn sized_summary_of<A: Allocator + Copy>(
     bytes: usize,
 ) -> Result<String<A>, AllocError>
     requires { IsSettled curve.now }
-    ensures { IfOk result (λ text. string_bytes text ≡ sized_summary_text curve.now.requests (distinct_in curve.now) bytes
-        curve.now.size curve.now.distinct_size (min (1 + curve.now.greatest_weight) curve.now.distinct_size)) }
+    ensures { IfOk result (λ text. string_bytes text ≡ sized_summary_text curve.now.requests (distinct_in curve.now)
+        bytes curve.now.size curve.now.distinct_size (min (1 + curve.now.greatest_weight) curve.now.distinct_size)) }
 {
     let keys = three_numbers(alloc, curve.requests(), distinct_of(curve), bytes)?;
     let sizes = three_numbers(

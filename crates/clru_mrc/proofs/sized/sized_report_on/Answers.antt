@@ -3,7 +3,7 @@ use Rattle.clru_lines.specs.Lines.{lines_of}
 use Rattle.clru_mrc.specs.Passes.{capacities_on}
 use Rattle.clru_mrc.specs.SizedReport.{IsInFormBySize}
 use Rattle.clru_mrc.proofs.ReportLemmas.{err_map, ok_map}
-use Rattle.clru_mrc.proofs.SizedReports.{capacities_refused, capacities_unwritten, lines_refused, lines_unwritten, summary_is, table_is}
+use Rattle.clru_mrc.proofs.SizedReports.{capacities_refused, capacities_unwritten, summary_is, table_is}
 use Rattle.clru_mrc.proofs.sized.sized_report_on.Goals as goal
 
 pub returns-in-Table : goal.returns-in-Table

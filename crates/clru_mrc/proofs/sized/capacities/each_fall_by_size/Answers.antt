@@ -1,7 +1,6 @@
-use Rattle.std.proofs.Common.{◌≡◌, ℕ, List, ◌<◌, ◌≤◌, ◌+◌, ◌++◌, ◌∷◌, [], get_or, length, map, sym, ap, ◌∙◌, subst, arith, rules}
+use Rattle.std.proofs.Common.{ℕ, List, ◌<◌, ◌≤◌, ◌+◌, ◌++◌, ◌∷◌, [], get_or, length, map, sym, ap, ◌∙◌, subst, arith}
 use Rattle.std.specs.Int.NonZero.{non_zero_usize_get}
 use Rattle.std.specs.List.Sorted.{IsNonDecreasingBy}
-use Rattle.clru_mrc.specs.Capacities.{falls_from}
 use Rattle.clru_mrc.proofs.Falls.{IsChosen, chosen_all, chosen_first, chosen_same, chosen_step, span}
 use Rattle.clru_mrc.proofs.sized.capacities.each_fall_by_size.Goals as goal
 use Rattle.clru_mrc.proofs.sized.capacities.each_fall_by_size.Goals.{then-step-last+in_ok-push_capacity-2, else-step-last}

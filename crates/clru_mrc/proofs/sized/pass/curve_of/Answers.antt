@@ -1,10 +1,10 @@
-use Rattle.std.proofs.Common.{◌≡◌, ◌+◌, ◌++◌, ◌∷◌, [], append_assoc, append-nil, IsSome, refl, sym, ap, ◌∙◌, subst, arith, rules}
+use Rattle.std.proofs.Common.{◌≡◌, ◌++◌, ◌∷◌, [], append_assoc, append-nil, IsSome, refl, sym, ap, ◌∙◌, subst, arith, rules}
 use Rattle.std.specs.Prelude.{bytes_eq}
 use Rattle.std.proofs.lemmas.List.{length-append}
 use Rattle.std.proofs.lemmas.List.Elements.{All-nil}
 use Rattle.clru_curve.specs.SizedCurves.{IsSizedCurveOf}
 use Rattle.clru_lines.specs.Lines.{lines_of}
-use Rattle.clru_mrc.specs.Sizes.{HaveSizes, size_of_line, weight_of_line}
+use Rattle.clru_mrc.specs.Sizes.{size_of_line, weight_of_line}
 use Rattle.clru_mrc.proofs.SettledCurves.{settled_curve}
 use Rattle.clru_mrc.proofs.TakenLines.{curve_taken, weight_of_key}
 use Rattle.clru_mrc.proofs.sized.pass.curve_of.Goals as goal

@@ -1,8 +1,7 @@
-use Rattle.std.proofs.Common.{ℕ, ◌-◌, Some, None, IsNone, IsSome, refl, sym, ap, ◌∙◌, subst}
+use Rattle.std.proofs.Common.{ℕ, ◌-◌, IsNone, IsSome, refl, sym, ap, ◌∙◌, subst}
 use Rattle.std.specs.Option.{option_map_or}
 use Rattle.clru_curve.specs.SizedPasses.{IsTooLarge}
 use Rattle.clru_mrc.specs.Passes.{line_of}
-use Rattle.clru_mrc.specs.Sizes.{size_of_line}
 use Rattle.clru_mrc.proofs.SettledCurves.{same_weights}
 use Rattle.clru_mrc.proofs.TakenLines.{first_without, taken_more, too_large_more, weight_of_key}
 use Rattle.clru_mrc.proofs.sized.pass.take_line.Goals as goal
