@@ -5,6 +5,7 @@ pub mod Latests
 pub mod Nodes
 pub mod Passing
 pub mod Ranks
+pub mod Refusals
 pub mod SizedCurves
 pub mod SizedHits
 pub mod SizedPassing

@@ -7,6 +7,7 @@ use Rattle.std.proofs.lemmas.List.Sorted.{sum_by-IsPermutation, IsPermutation-re
 use Rattle.std.specs.List.{count_by, sum_by}
 use Rattle.std.specs.List.Sorted.{IsNonDecreasingBy}
 use Rattle.clru_model.proofs.Cases.{split}
+use Rattle.clru_model.specs.Requests.{distinct}
 use Rattle.clru_model.specs.Sizes.{total}
 use Rattle.clru_curve.specs.SizedCurves.{CurveBySize, hits_within, size_after, greatest_of, IsMissed, IsCurveOfHits, IsSizedCurveOf}
 use Rattle.clru_curve.specs.SizedPasses.{PassBySize, hit_size, IsSizedPass}
@@ -171,6 +172,18 @@ IsSizedCurveOf-by eq weight past p curve hits n d is from all held of =
           let here = size_left_within curve.size of.sorted curve.steps left c of.rising in
           let same = sum_by-IsPermutation (λ h. cond (nat_le h.0 c) h.1 0) hits of.sorted of.permutation ∙ ap (hit_size c) from in
           omega (arith, here, same, of.size_in_all, is.size, is.hits.size c);
+      again =
+          let turned = ap (distinct eq) (reverse-reverse past) in
+          let hits_all = length_permutation hits of.sorted of.permutation in
+          omega (
+            arith,
+            of.steps.same_length,
+            hits_all,
+            ap (λ l. length l) from,
+            is.hits.again,
+            turned,
+            length_permutation past (reverse past) (IsPermutation-reverse past),
+          );
       requests_in_all = omega (arith, of.requests_in_all, all, is.requests, length_permutation past (reverse past) (IsPermutation-reverse past));
       size = omega (arith, of.size_in_all, is.size, sum_by-IsPermutation (λ x. 1 + weight x) past (reverse past) (IsPermutation-reverse past));
       distinct_size = of.distinct_size_in_all ∙ held ∙ is.held ∙ ap (total eq weight) (sym (reverse-reverse past));

@@ -1,11 +1,11 @@
 -- The hits by size of requests, after one more request, and what sorted hits make of a curve.
-use Rattle.std.proofs.Common.{◌≡◌, ℕ, ◌+◌, Bool, true, false, cond, not, nat_le, List, [], ◌∷◌, ◌++◌, reverse, append-nil, refl, sym, ap, ◌∙◌, arith}
-use Rattle.std.proofs.lemmas.List.{reverse-append, reverse-reverse}
+use Rattle.std.proofs.Common.{◌≡◌, ℕ, suc, ◌+◌, Bool, true, false, cond, not, nat_le, List, [], ◌∷◌, ◌++◌, reverse, append-nil, refl, sym, ap, ◌∙◌, arith}
+use Rattle.std.proofs.lemmas.List.{length_push, reverse-append, reverse-reverse}
 use Rattle.std.proofs.lemmas.List.Sums.{sum_by-cons, sum_by_push}
 use Rattle.std.specs.List.{count_by}
 use Rattle.clru_model.proofs.Cases.{split}
 use Rattle.clru_model.proofs.Marks.{count_by-not-push, reverse-cons-append}
-use Rattle.clru_model.specs.Requests.{holds, since}
+use Rattle.clru_model.specs.Requests.{holds, since, distinct}
 use Rattle.clru_model.specs.Sizes.{total, hit_by_size, marks_by_size_after, misses_by_size, missed_size_after, missed_size}
 use Rattle.clru_curve.specs.SizedCurves.{hits_within}
 use Rattle.clru_curve.specs.SizedPasses.{hit_size, AreHits}
@@ -52,7 +52,7 @@ module _ {K : Type 0} (eq : K → K → Bool) (weight : K → ℕ) (c : ℕ) whe
 
 module _ {K : Type 0} (eq : K → K → Bool) (weight : K → ℕ) where
   pub AreHits-none : AreHits eq weight [] []
-  AreHits-none = record { misses = λ c. refl; size = λ c. refl }
+  AreHits-none = record { misses = λ c. refl; size = λ c. refl; again = refl }
 
   -- a key that was not requested before
   pub AreHits-new : (past : List K) (hits : List (ℕ × ℕ)) (x : K) → AreHits eq weight past hits → holds eq x past ≡ false
@@ -68,6 +68,9 @@ module _ {K : Type 0} (eq : K → K → Bool) (weight : K → ℕ) where
         let miss : hit_by_size eq weight c x past ≡ false = rw absent refl in
         let one : missed_size eq weight c (reverse (x ∷ past)) ≡ missed_size eq weight c (reverse past) + (1 + weight x) = rw miss at pushed in
         omega (arith, one, are.size c, sum_by-cons (λ y. 1 + weight y) x past);
+    again =
+        let more : distinct eq (x ∷ past) ≡ suc (distinct eq past) = rw absent refl in
+        omega (arith, more, are.again);
   }
 
   -- a key that was requested before, and its span
@@ -102,4 +105,7 @@ module _ {K : Type 0} (eq : K → K → Bool) (weight : K → ℕ) where
             let one : missed_size eq weight c (reverse (x ∷ past)) ≡ missed_size eq weight c (reverse past) + (1 + weight x) = rw here at pushed in
             let same : hit_size c (hits ++ h ∷ []) ≡ hit_size c hits + 0 = rw f at more in
             omega (arith, same, one, all, are.size c));
+        again =
+            let same : distinct eq (x ∷ past) ≡ distinct eq past = rw held refl in
+            omega (arith, same, length_push hits h, are.again);
       }

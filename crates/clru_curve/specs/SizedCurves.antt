@@ -3,6 +3,7 @@ use Rattle.std.specs.Prelude.{◌≡◌, ℕ, zero, suc, ◌+◌, ◌-◌, ◌<�
 use Rattle.std.specs.Coded.{Coded, code_by, coded×, coded_list, coded_ℕ}
 use Rattle.std.specs.List.{count_by, sum_by}
 use Rattle.std.specs.List.Sorted.{IsPermutation, IsNonDecreasingBy}
+use Rattle.clru_model.specs.Requests.{distinct}
 use Rattle.clru_model.specs.Sizes.{total, misses_by_size, missed_size}
 
 -- for each request that can hit the capacity from which on it does, with the size that misses there, the least capacity first;
@@ -66,10 +67,11 @@ pub record IsCurveOfHits (hits : List (ℕ × ℕ)) (requests size distinct_size
   pub distinct_size_in_all : curve.distinct_size ≡ distinct_size
   pub greatest : curve.greatest_weight ≡ greatest_weight
 
--- the curve has at each capacity the misses of the requests, and their size
+-- the curve has at each capacity the misses of the requests, and their size; and a step for each request whose key came before
 pub record IsSizedCurveOf {K : Type 0} (eq : K → K → Bool) (weight : K → ℕ) (requests : List K) (curve : CurveBySize) : Type 0 where
   pub misses : (c : ℕ) → misses_within curve c ≡ misses_by_size eq weight c requests
   pub missed_size : (c : ℕ) → missed_size_within curve c ≡ missed_size eq weight c requests
+  pub again : length curve.steps + distinct eq (reverse requests) ≡ length requests
   pub requests_in_all : curve.requests ≡ length requests
   pub size : curve.size ≡ size_of_all weight requests
   pub distinct_size : curve.distinct_size ≡ total eq weight (reverse requests)

@@ -1,5 +1,5 @@
 -- What a pass over keys with sizes has taken note of, request by request. Public clauses cite it.
-use Rattle.std.specs.Prelude.{◌≡◌, ℕ, ◌+◌, ◌-◌, ◌^◌, ◌<◌, ◌≤◌, nat_le, Bool, cond, List, length, reverse, Some, refl, ⊤}
+use Rattle.std.specs.Prelude.{◌≡◌, ℕ, ◌+◌, ◌-◌, ◌^◌, ◌<◌, ◌≤◌, ◌↔◌, nat_le, Bool, cond, List, ◌∷◌, ◌++◌, length, reverse, Some, refl, ⊤}
 use Rattle.std.specs.Coded.{Coded, code_by, coded×, coded_list, coded_ℕ}
 use Rattle.std.specs.List.{sum_by}
 use Rattle.std.specs.Map.{lookup}
@@ -8,6 +8,7 @@ use Rattle.clru_curve.specs.declared.sized.error.SizedRequestError.TheVariants.{
 use Rattle.clru_curve.specs.LatestSizes.{sizes_from, IsSummed}
 use Rattle.clru_curve.specs.Ranked.{IsRanked}
 use Rattle.clru_curve.specs.SizedCurves.{hits_within, size_of_all, greatest_of}
+use Rattle.clru_model.specs.Requests.{distinct}
 use Rattle.clru_model.specs.Sizes.{total, misses_by_size, missed_size}
 
 -- each key with the number of its latest request; for each request the size of its key where it is the latest of it, else 0;
@@ -38,16 +39,31 @@ module _ {K : Type 0} where
   IsNoMemory (NoMemory x) = ⊤
   IsNoMemory (TooLarge x) = ⊥
 
+  -- the sizes of all requests are too large for a number
+  abbrev pub IsTooLarge : SizedRequestError K → Type 0
+  IsTooLarge (NoMemory x) = ⊥
+  IsTooLarge (TooLarge x) = ⊤
+
+  -- of a list of requests the first that was not taken came back: the sizes of those before it fit, and with its own they are
+  -- too large exactly where that is what was answered
+  pub record IsFirstRefused (weight : K → ℕ) (requests : List K) (refusal : SizedRequestError K) : Type 0 where
+    pub taken : List K
+    pub rest : List K
+    pub first : requests ≡ taken ++ key_of refusal ∷ rest
+    pub fits : size_of_all weight taken < 2 ^ 64
+    pub too_large : IsTooLarge refusal ↔ (2 ^ 64 ≤ size_of_all weight taken + (1 + weight (key_of refusal)))
+
 -- the size of those hits whose span is within the capacity
 abbrev pub hit_size : ℕ → List (ℕ × ℕ) → ℕ
 hit_size c hits = sum_by (λ h. cond (nat_le h.0 c) h.1 0) hits
 
 module _ {K : Type 0} (eq : K → K → Bool) where
   module _ (weight : K → ℕ) where
-    -- each span is that of a request, and at each capacity these are the hits
+    -- each span is that of a request for a key that came before, and at each capacity these are the hits
     pub record AreHits (past : List K) (hits : List (ℕ × ℕ)) : Type 0 where
       pub misses : (c : ℕ) → misses_by_size eq weight c (reverse past) + hits_within c hits ≡ length past
       pub size : (c : ℕ) → missed_size eq weight c (reverse past) + hit_size c hits ≡ size_of_all weight past
+      pub again : length hits + distinct eq past ≡ length past
 
     -- a pass that has taken these requests, the latest first
     pub record IsSizedPass (past : List K) (p : PassBySize K) : Type 0 where

@@ -1,5 +1,5 @@
 //! For each request a bit, which is set where the request is the latest of its key.
-ghost use Rattle.std.specs.Prelude.{◌≡◌, ℕ, suc, ◌+◌, ◌*◌, ◌^◌, ◌<◌, [], length, OnOk};
+ghost use Rattle.std.specs.Prelude.{◌≡◌, ℕ, suc, ◌+◌, ◌*◌, ◌%◌, ◌^◌, ◌<◌, [], length, OnOk, IsOk};
 ghost use Rattle.clru_curve.specs.Latest.{ones_from, IsLatest};
 ghost use Rattle.clru_curve.specs.Tree.{up_to};
 
@@ -38,6 +38,7 @@ impl<A: Allocator + Copy> Latest<A> {
         ensures requests { self.new.requests ≡ self.old.requests }
         ensures room { OnOk result (self.new.requests < 64 * length self.new.words.items) }
         ensures countable { OnOk result (self.new.requests + 1 < 2 ^ 64) }
+        ensures memory { 0 < self.old.requests % 64 → self.old.requests + 1 < 2 ^ 64 → IsOk result }
     {
         if self.requests == usize::MAX {
             return Err(AllocError);

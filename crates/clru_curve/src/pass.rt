@@ -1,7 +1,7 @@
 //! `DistancePass`, which takes requests one by one.
-ghost use Rattle.std.specs.Prelude.{◌≡◌, ℕ, suc, ◌+◌, ◌<◌, ◌≤◌, List, [], ◌∷◌, length, take, sum, reverse, slice_index, IfOk, IfErr, OnOk, OnErr, IsNone, IsSome};
+ghost use Rattle.std.specs.Prelude.{◌≡◌, ℕ, suc, ◌+◌, ◌%◌, ◌^◌, ◌<◌, ◌≤◌, List, [], ◌∷◌, length, take, sum, reverse, slice_index, IfOk, IfErr, OnOk, OnErr, IsOk, IsNone, IsSome, true};
 ghost use Rattle.std.specs.Map.{lookup, set_value};
-ghost use Rattle.clru_model.specs.Requests.{distinct};
+ghost use Rattle.clru_model.specs.Requests.{holds, distinct};
 ghost use Rattle.clru.specs.Cache.{with_entries};
 ghost use Rattle.clru_curve.specs.Curves.{HasMissesOf};
 ghost use Rattle.clru_model.specs.Distances.{distance};
@@ -76,6 +76,8 @@ impl<K: Eq + Hash, S: BuildHasher, A: Allocator + Copy> DistancePass<K, S, A> {
         ensures taken { (past : List K) → IsPass K.eq past self.old → OnOk result (IsPass K.eq (key ∷ past) self.new) }
         ensures refused { (past : List K) → IsPass K.eq past self.old → OnErr result (IsPass K.eq past self.new) }
         ensures given_back { IfErr result (λ back. back ≡ key) }
+        ensures memory { (past : List K) → IsPass K.eq past self.old → holds K.eq key past ≡ true
+            → 0 < length past % 64 → length past + 1 < 2 ^ 64 → IsOk result }
     {
         let Ok(()) = self.latest.make_ready() else {
             return Err(key);
@@ -121,12 +123,13 @@ impl<K: Eq + Hash, S: BuildHasher, A: Allocator + Copy> DistancePass<K, S, A> {
     }
 
     /// Returns the curve of the requests so far, and lets the pass go on. It takes memory for a number for each distinct key,
-    /// and its cost goes with them.
+    /// and none without requests; its cost goes with them.
     pub fn curve(&self, alloc: A) -> Result<MissCurve<A>, NoMemory>
         ensures misses { (past : List K) → IsPass K.eq past self.now → IfOk result (λ c. HasMissesOf K.eq (reverse past) c) }
         ensures distinct { (past : List K) → IsPass K.eq past self.now → IfOk result (λ c. length c ≡ distinct K.eq past) }
+        ensures never_refused { IsPass K.eq [] self.now → IsOk result }
     {
-        let Ok(mut misses) = Vec::from_slice(alloc, self.histogram.as_slice()) else {
+        let Ok(mut misses) = copied(alloc, &self.histogram) else {
             return Err(NoMemory);
         };
         misses_of(&mut misses, self.latest.requests);
@@ -147,6 +150,20 @@ pub(crate) fn move_place<K: Eq + Hash, S: BuildHasher, A: Allocator + Copy>(
     match places.peek_mut(key) {
         Some(place) => Some(mem::replace(place, number)),
         None => None,
+    }
+}
+
+/// A copy of the items, for which no memory is asked for where there are none.
+pub(crate) fn copied<T: Copy, A: Allocator>(alloc: A, items: &[T]) -> Result<Vec<T, A>, NoMemory>
+    ensures items { IfOk result (λ v. v.items ≡ items.now) }
+    ensures never_refused { items.now ≡ [] → IsOk result }
+{
+    let Ok(mut copy) = Vec::with_capacity(alloc, items.len()) else {
+        return Err(NoMemory);
+    };
+    match copy.extend_from_slice(items) {
+        Ok(()) => Ok(copy),
+        Err(_) => Err(NoMemory),
     }
 }
 

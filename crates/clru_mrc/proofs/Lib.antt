@@ -1,3 +1,8 @@
 mod CapacityLemmas
+mod Falls
 mod LeastLemmas
 mod ReportLemmas
+mod SettledCurves
+mod SizeViews
+mod SizedReports
+mod TakenLines

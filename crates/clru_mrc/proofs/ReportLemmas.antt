@@ -1,5 +1,5 @@
 -- From rows of keys to the table of the lines that they stand for.
-use Rattle.std.proofs.Common.{◌≡◌, ℕ, Bool, true, false, List, ◌++◌, map, length, reverse, Option, Some, None, Result, Ok, Err, IfOk, sym, ap, subst, ◌∙◌}
+use Rattle.std.proofs.Common.{◌≡◌, ℕ, Bool, true, false, List, ◌++◌, map, length, reverse, Option, Some, None, Result, Ok, Err, IfErr, IfOk, sym, ap, subst, ◌∙◌}
 use Rattle.std.specs.Prelude.{bytes_eq, IsSomeAnd}
 use Rattle.std.proofs.lemmas.List.{length-map}
 use Rattle.std.proofs.lemmas.Slice.Eq.{bytes_eq-Decides}
@@ -8,7 +8,7 @@ use Rattle.clru_model.specs.Least.{IsLeast}
 use Rattle.clru_model.proofs.Views.{same, misses-map, distinct-map, map-reverse}
 use Rattle.clru_lines.specs.Lines.{lines_of}
 use Rattle.clru_mrc.specs.Capacities.{capacities_of}
-use Rattle.clru_mrc.specs.Report.{AreRows, HasLeast, IsInForm, IsReport, IsRow, IsTable}
+use Rattle.clru_mrc.specs.Report.{AreRows, HasLeast, IsInForm, IsRow, IsTable}
 use Rattle.clru_mrc.specs.Tables.{capacity_of_row, summary_text, table_text}
 use Rattle.clru_mrc.specs.declared.options.Form.TheVariants.{Table, Picture, Summary}
 use Rattle.clru_mrc.specs.declared.options.Options.{Options}
@@ -50,9 +50,13 @@ module _ {K : Type 0} (view : K → List ℕ) (keys : List K) where
       )
 
 -- what holds of an answer holds of what follows from it
-ok_map : {T E : Type 0} {P Q : T → Type 0} (r : Result T E) → ((x : T) → P x → Q x) → IfOk r P → IfOk r Q
+pub ok_map : {T E : Type 0} {P Q : T → Type 0} (r : Result T E) → ((x : T) → P x → Q x) → IfOk r P → IfOk r Q
 ok_map (Ok x) f p = f x p
 ok_map (Err e) f p = p
+
+pub err_map : {T E : Type 0} {P Q : E → Type 0} (r : Result T E) → ((e : E) → P e → Q e) → IfErr r P → IfErr r Q
+err_map (Ok x) f p = p
+err_map (Err e) f p = f e p
 
 module _ {K A : Type 0} (view : K → List ℕ) (keys : List K) (input : List ℕ) (shown : map view keys ≡ lines_of input) where
   -- the rows of the keys
@@ -68,7 +72,7 @@ module _ {K A : Type 0} (view : K → List ℕ) (keys : List K) (input : List �
         (written ∙ ap (λ n. table_text options.least n lent) counted ∙ ap (table_text options.least (length keys)) rows_lent)
 
     pub table_report : {T E : Type 0} (bytes : T → List ℕ) (r : Result T E) → options.form ≡ Table
-        → IfOk r (λ text. bytes text ≡ table_text options.least count lent) → IfOk r (λ text. IsReport options input (bytes text))
+        → IfOk r (λ text. bytes text ≡ table_text options.least count lent) → IfOk r (λ text. IsInForm options.form options input (bytes text))
     table_report bytes r form written =
         subst (λ f. IfOk r (λ text. IsInForm f options input (bytes text))) (sym form)
         (ok_map r (λ text h. table (bytes text) h) written)
@@ -76,14 +80,14 @@ module _ {K A : Type 0} (view : K → List ℕ) (keys : List K) (input : List �
     pub picture_report : {T E : Type 0} (bytes : T → List ℕ) (r : Result T E) (tabled drawn : List ℕ) → options.form ≡ Picture
         → tabled ≡ table_text options.least count lent → drawn ≡ tabled
         → IfOk r (λ text. (before : List ℕ) × (after : List ℕ) × (bytes text ≡ before ++ (drawn ++ after)))
-        → IfOk r (λ text. IsReport options input (bytes text))
+        → IfOk r (λ text. IsInForm options.form options input (bytes text))
     picture_report bytes r tabled drawn form written same_text pictured =
         subst (λ f. IfOk r (λ text. IsInForm f options input (bytes text))) (sym form)
         (ok_map r (λ text h. (h.0, drawn, h.1, table drawn (same_text ∙ written), h.2)) pictured)
 
   pub summary_report : {T E : Type 0} (options : Options A) (bytes : T → List ℕ) (r : Result T E) (slice : List K) (requests distincts : ℕ)
       → options.form ≡ Summary → slice ≡ keys → requests ≡ length keys → distincts ≡ distinct (same bytes_eq view) (reverse slice)
-      → IfOk r (λ text. bytes text ≡ summary_text requests distincts (length input)) → IfOk r (λ text. IsReport options input (bytes text))
+      → IfOk r (λ text. bytes text ≡ summary_text requests distincts (length input)) → IfOk r (λ text. IsInForm options.form options input (bytes text))
   summary_report options bytes r slice requests distincts form borrowed counted counted_apart written =
       let lines = counted ∙ sym (length-map keys view) ∙ ap length shown in
       let apart =

@@ -1,5 +1,5 @@
 -- Which capacities a table has. Public clauses cite them.
-use Rattle.std.specs.Prelude.{ℕ, ◌+◌, ◌-◌, ◌*◌, ◌/◌, ◌%◌, ◌^◌, Bool, ◌||◌, ◌==◌, nat_lt, List, [], ◌∷◌, ◌++◌, map, if◌then◌else◌}
+use Rattle.std.specs.Prelude.{ℕ, ◌+◌, ◌-◌, ◌*◌, ◌/◌, ◌%◌, ◌^◌, Bool, ◌||◌, ◌==◌, nat_lt, nat_le, List, [], ◌∷◌, ◌++◌, map, if◌then◌else◌}
 use Rattle.std.specs.List.{filter, range_with_len}
 use Rattle.std.specs.Int.NonZero.{non_zero_usize_get}
 use Rattle.clru_mrc.specs.declared.options.Capacities.{Capacities}
@@ -30,3 +30,13 @@ abbrev pub capacities_of : {A : Type 0} → Capacities A → (ℕ → ℕ) → �
 capacities_of Usual misses n = usual n
 capacities_of Each misses n = falls misses n
 capacities_of (Named named) misses n = map non_zero_usize_get named.items
+
+-- the greatest size g, and each such capacity from there up to n
+abbrev pub falls_from : (ℕ → ℕ) → ℕ → ℕ → List ℕ
+falls_from misses g n = filter (λ c. (c == g) || nat_lt (misses c) (misses (c - 1))) (map (λ k. g + k) (range_with_len 0 (n + 1 - g)))
+
+-- the capacities for requests of the greatest size g, whose distinct keys have the size n together, with so many misses at each
+abbrev pub sized_capacities_of : {A : Type 0} → Capacities A → (ℕ → ℕ) → ℕ → ℕ → List ℕ
+sized_capacities_of Usual misses g n = filter (λ c. nat_le g c) (usual n)
+sized_capacities_of Each misses g n = falls_from misses g n
+sized_capacities_of (Named named) misses g n = map non_zero_usize_get named.items

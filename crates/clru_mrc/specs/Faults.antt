@@ -1,13 +1,17 @@
 -- What is printed of a fault, and which of them come once the report is made. Public clauses cite them.
-use Rattle.std.specs.Prelude.{ℕ, List, Bool, true, false, codes}
+use Rattle.std.specs.Prelude.{ℕ, List, Bool, true, false, ◌++◌, codes, decimal}
 use Rattle.clru_mrc.specs.declared.fault.Fault.{Fault}
-use Rattle.clru_mrc.specs.declared.fault.Fault.TheVariants.{Memory, Reading, Writing, Closed}
+use Rattle.clru_mrc.specs.declared.fault.Fault.TheVariants.{Memory, Reading, Writing, Closed, NoSize, TooLarge, TooSmall}
 
 abbrev pub fault_text : Fault → List ℕ
 fault_text Memory = codes "memory ran out"
 fault_text Reading = codes "standard input cannot be read"
 fault_text Writing = codes "standard output cannot be written"
 fault_text Closed = codes "standard output was closed"
+fault_text (NoSize n) = codes "line " ++ (decimal n
+    ++ codes " has no size: with --sizes each begins with one and a blank, as in 512 /index.html")
+fault_text TooLarge = codes "the sizes of all lines add up to more than 18446744073709551615"
+fault_text (TooSmall n) = codes "--at names a capacity below the greatest size: name numbers from " ++ (decimal n ++ codes " on")
 
 -- the writer took a part of the report at most
 abbrev pub is_of_writing : Fault → Bool
@@ -15,3 +19,6 @@ is_of_writing Memory = false
 is_of_writing Reading = false
 is_of_writing Writing = true
 is_of_writing Closed = true
+is_of_writing (NoSize n) = false
+is_of_writing TooLarge = false
+is_of_writing (TooSmall n) = false

@@ -1,4 +1,9 @@
 pub mod Capacities
 pub mod Faults
+pub mod Passes
+pub mod Refusals
 pub mod Report
+pub mod SizedReport
+pub mod SizedTables
+pub mod Sizes
 pub mod Tables

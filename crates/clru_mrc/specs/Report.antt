@@ -5,6 +5,7 @@ use Rattle.clru_model.specs.Requests.{distinct, misses}
 use Rattle.clru_model.specs.Least.{IsLeast}
 use Rattle.clru_lines.specs.Lines.{lines_of}
 use Rattle.clru_mrc.specs.Capacities.{capacities_of}
+use Rattle.clru_mrc.specs.SizedReport.{IsReportBySize}
 use Rattle.clru_mrc.specs.Tables.{capacity_of_row, table_text, summary_text}
 use Rattle.clru_mrc.specs.declared.options.Form.{Form}
 use Rattle.clru_mrc.specs.declared.options.Form.TheVariants.{Table, Picture, Summary}
@@ -43,6 +44,11 @@ IsInForm Picture options input text = IsPicture options (lines_of input) text
 IsInForm Summary options input text =
     text ≡ summary_text (length (lines_of input)) (distinct bytes_eq (reverse (lines_of input))) (length input)
 
+-- the same by size, where lines begin with sizes
+abbrev pub IsReportBy : {A : Type 0} → Bool → Options A → List ℕ → List ℕ → Type 0
+IsReportBy false options input text = IsInForm options.form options input text
+IsReportBy true options input text = IsReportBySize options input (lines_of input) text
+
 -- the text that the options ask for, of an input whose lines are the requests
 abbrev pub IsReport : {A : Type 0} → Options A → List ℕ → List ℕ → Type 0
-IsReport options input text = IsInForm options.form options input text
+IsReport options input text = IsReportBy options.sizes options input text

@@ -30,6 +30,7 @@ pub enum Refusal<A: Allocator = Global> {
 struct Draft<A: Allocator> {
     named: Vec<NonZeroUsize, A>,
     all: bool,
+    sizes: bool,
     least: bool,
     svg: bool,
     summary: bool,
@@ -43,6 +44,7 @@ pub(crate) fn command_of<S: AsStr, A: Allocator + Copy>(
     let mut draft = Draft {
         named: Vec::new(alloc),
         all: false,
+        sizes: false,
         least: false,
         svg: false,
         summary: false,
@@ -61,6 +63,7 @@ pub(crate) fn command_of<S: AsStr, A: Allocator + Copy>(
             "--version" => return Ok(Command::Version),
             "--at" => capacities_follow = true,
             "--all" => draft.all = true,
+            "--sizes" => draft.sizes = true,
             "--least" => draft.least = true,
             "--svg" => draft.svg = true,
             "--summary" => draft.summary = true,
@@ -102,6 +105,7 @@ fn finish<A: Allocator + Copy>(alloc: A, draft: Draft<A>) -> Result<Command<A>, 
     let Draft {
         mut named,
         all,
+        sizes,
         least,
         svg,
         summary,
@@ -111,7 +115,22 @@ fn finish<A: Allocator + Copy>(alloc: A, draft: Draft<A>) -> Result<Command<A>, 
         return Err(wrong(alloc, "--all and --at do not go together: leave one out"));
     }
     if summary && (all || some_named || least || svg) {
-        return Err(wrong(alloc, "--summary goes alone: leave the other arguments out"));
+        return Err(wrong(
+            alloc,
+            "--summary goes alone, or with --sizes: leave the other arguments out",
+        ));
+    }
+    if sizes && least {
+        return Err(wrong(
+            alloc,
+            "--least and --sizes do not go together: the least in bytes is too hard to compute, so leave one out",
+        ));
+    }
+    if sizes && svg {
+        return Err(wrong(
+            alloc,
+            "--svg and --sizes do not go together: leave one out, and draw the table of --sizes --all",
+        ));
     }
     named.sort_unstable();
     named.dedup();
@@ -131,6 +150,7 @@ fn finish<A: Allocator + Copy>(alloc: A, draft: Draft<A>) -> Result<Command<A>, 
     };
     Ok(Command::Report(Options {
         capacities,
+        sizes,
         least,
         form,
     }))

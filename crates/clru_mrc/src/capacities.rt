@@ -41,7 +41,7 @@ pub(crate) fn round_at(place: usize) -> u128
     digit * 10u128.pow((place / 3) as u32)
 }
 
-fn usual_capacities<A: Allocator>(
+pub(crate) fn usual_capacities<A: Allocator>(
     alloc: A,
     distinct: usize,
 ) -> Result<Vec<NonZeroUsize, A>, AllocError>
@@ -81,7 +81,7 @@ fn falls_at(curve: &[usize], index: usize) -> bool
     index == 0 || curve[index] < curve[index - 1]
 }
 
-fn push_capacity<A: Allocator>(
+pub(crate) fn push_capacity<A: Allocator>(
     chosen: &mut Vec<NonZeroUsize, A>,
     capacity: usize,
 ) -> Result<(), AllocError>

@@ -1,5 +1,5 @@
 //! What can go wrong in a run, and the exit status of each.
-ghost use Rattle.std.specs.Prelude.{◌≡◌, Err, IsOk, Some};
+ghost use Rattle.std.specs.Prelude.{◌≡◌, ℕ, Err, IsOk, Some};
 ghost use Rattle.clru_mrc.specs.Faults.{fault_text};
 
 use std::error::Error;
@@ -16,6 +16,12 @@ pub enum Fault {
     Writing,
     /// The writer is a pipe that nobody reads any more.
     Closed,
+    /// The line of this number, counted from 1, begins with no size.
+    NoSize(usize),
+    /// The sizes of all lines together pass the greatest `usize`.
+    TooLarge,
+    /// A capacity that was named is below this one, which is the greatest size.
+    TooSmall(usize),
 }
 
 impl fmt::Display for Fault {
@@ -27,6 +33,17 @@ impl fmt::Display for Fault {
             Fault::Reading => f.write_str("standard input cannot be read"),
             Fault::Writing => f.write_str("standard output cannot be written"),
             Fault::Closed => f.write_str("standard output was closed"),
+            Fault::NoSize(number) => write!(
+                f,
+                "line {number} has no size: with --sizes each begins with one and a blank, as in 512 /index.html"
+            ),
+            Fault::TooLarge => {
+                f.write_str("the sizes of all lines add up to more than 18446744073709551615")
+            }
+            Fault::TooSmall(first) => write!(
+                f,
+                "--at names a capacity below the greatest size: name numbers from {first} on"
+            ),
         }
     }
 }
@@ -40,11 +57,16 @@ pub fn exit_status(outcome: &Result<(), Fault>) -> u8
     ensures reading { outcome.now ≡ Err Fault.Reading → result ≡ 4 }
     ensures writing { outcome.now ≡ Err Fault.Writing → result ≡ 5 }
     ensures closed { outcome.now ≡ Err Fault.Closed → result ≡ 5 }
+    ensures no_size { (n : ℕ) → outcome.now ≡ Err (Fault.NoSize n) → result ≡ 6 }
+    ensures too_large { outcome.now ≡ Err Fault.TooLarge → result ≡ 6 }
+    ensures too_small { (n : ℕ) → outcome.now ≡ Err (Fault.TooSmall n) → result ≡ 2 }
 {
     match outcome {
         Ok(()) => 0,
         Err(Fault::Memory) => 3,
         Err(Fault::Reading) => 4,
         Err(Fault::Writing | Fault::Closed) => 5,
+        Err(Fault::NoSize(_) | Fault::TooLarge) => 6,
+        Err(Fault::TooSmall(_)) => 2,
     }
 }

@@ -8,18 +8,23 @@ It writes a table as CSV: capacity, misses, and misses as a part of all requests
 
     awk '{ print $7 }' access.log | clru_mrc
     awk '{ print $7 }' access.log | clru_mrc --least --svg > curve.svg
+    awk '$9 == 200 { print $10, $7 }' access.log | clru_mrc --sizes
 
     --at N,N,..  these capacities, in keys; else 1, 2, 5, 10, 20, 50 ..
                  up to the number of distinct keys
     --all        each capacity at which the misses fall
+    --sizes      each line begins with the object's size and a blank, and is the
+                 key as a whole; capacities are in bytes, from the greatest
+                 size on, and missed bytes stand beside misses; 0 counts as 1
     --least      the least possible misses as well: no way to choose what to
                  drop has fewer, also one that knows all requests beforehand
     --svg        a picture in place of the table
-    --summary    how many requests and distinct keys there are, and no table
+    --summary    how many requests and distinct keys there are, and no table;
+                 with --sizes their bytes and the greatest size as well
     --help, --version
 
 Status: 0 done, 2 wrong arguments, 3 no memory, 4 input not read, 5 output not
-written. A fault is told in one line on standard error.
+written, 6 a line without a size. A fault is told in one line on standard error.
 ";
 
 pub(crate) const VERSION: &str = "clru_mrc 0.1.0\n";

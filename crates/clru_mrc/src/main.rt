@@ -12,6 +12,7 @@ mod picture;
 mod program;
 mod report;
 mod rows;
+mod sized;
 mod table;
 
 use arguments::{Command, Refusal, command_of, wrong};

@@ -3,6 +3,7 @@ ghost use Rattle.std.specs.Prelude.{◌≡◌, ℕ, List, true, false, take, str
 ghost use Rattle.std.specs.Io.KnownBytes.{Appends, Keeps};
 ghost use Rattle.clru_lines.specs.Whole.{ReadWhole};
 ghost use Rattle.clru_mrc.specs.Faults.{is_of_writing};
+ghost use Rattle.clru_mrc.specs.Refusals.{is_of_input, IsRefused};
 ghost use Rattle.clru_mrc.specs.Report.{IsReport};
 
 use crate::fault::Fault;
@@ -29,7 +30,10 @@ pub fn run<R: Read, W: Write, A: Allocator + Copy>(
         → ReadWhole (R.remaining reader.old) (R.remaining reader.new)
         (λ input. (text : List ℕ) × IsReport options.now input text
         × (n : ℕ) × Appends (W.contents writer.old) (W.contents writer.new) (take n text))) }
-    // Any other fault comes before the first write.
+    // The input, or a capacity beside it, is not what sizes want, for the reason that the fault says.
+    ensures refused { IfErr result (λ fault. is_of_input fault ≡ true
+        → ReadWhole (R.remaining reader.old) (R.remaining reader.new) (λ input. IsRefused fault options.now input)) }
+    // Any fault but those of writing comes before the first write.
     ensures silent { IfErr result (λ fault. is_of_writing fault ≡ false
         → Keeps (W.contents writer.old) (W.contents writer.new)) }
 {
@@ -38,8 +42,9 @@ pub fn run<R: Read, W: Write, A: Allocator + Copy>(
         Err(ReadError::Memory) => return Err(Fault::Memory),
         Err(ReadError::Reading) => return Err(Fault::Reading),
     };
-    let Ok(text) = report_on(alloc, options, &input) else {
-        return Err(Fault::Memory);
+    let text = match report_on(alloc, options, &input) {
+        Ok(text) => text,
+        Err(fault) => return Err(fault),
     };
     write_report(writer, text.as_bytes())
 }

@@ -1,10 +1,14 @@
 //! The text of the report, taken whole before any of it is written.
-ghost use Rattle.std.specs.Prelude.{◌≡◌, IfOk, string_bytes};
-ghost use Rattle.clru_mrc.specs.Report.{IsReport};
+ghost use Rattle.std.specs.Prelude.{◌≡◌, true, false, IfErr, IfOk, string_bytes};
+ghost use Rattle.clru_mrc.specs.Faults.{is_of_writing};
+ghost use Rattle.clru_mrc.specs.Refusals.{is_of_input, IsRefused};
+ghost use Rattle.clru_mrc.specs.Report.{IsInForm, IsReport};
 
+use crate::fault::Fault;
 use crate::options::{Form, Options};
 use crate::picture::picture_of;
 use crate::rows::rows_for;
+use crate::sized::sized_report_on;
 use crate::table::{summary_of, table_of};
 use clru_curve::miss_curve;
 use clru_lines::keys_of;
@@ -16,8 +20,27 @@ pub(crate) fn report_on<A: Allocator + Copy>(
     alloc: A,
     options: &Options<A>,
     input: &[u8],
+) -> Result<String<A>, Fault>
+    ensures report { IfOk result (λ text. IsReport options.now input.now (string_bytes text)) }
+    ensures refused { IfErr result (λ fault. is_of_input fault ≡ true → IsRefused fault options.now input.now) }
+    ensures fault { IfErr result (λ fault. is_of_writing fault ≡ false) }
+{
+    if options.sizes {
+        return sized_report_on(alloc, options, input);
+    }
+    match report_by_keys(alloc, options, input) {
+        Ok(text) => Ok(text),
+        Err(_) => Err(Fault::Memory),
+    }
+}
+
+// Where each key takes one place.
+fn report_by_keys<A: Allocator + Copy>(
+    alloc: A,
+    options: &Options<A>,
+    input: &[u8],
 ) -> Result<String<A>, AllocError>
-    ensures { IfOk result (λ text. IsReport options.now input.now (string_bytes text)) }
+    ensures { IfOk result (λ text. IsInForm options.now.form options.now input.now (string_bytes text)) }
 {
     let keys = keys_of(alloc, input)?;
     let Ok(curve) = miss_curve(alloc, &keys, DefaultState) else {

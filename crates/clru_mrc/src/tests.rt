@@ -1,6 +1,7 @@
 // What the program answers for worked arguments and inputs.
 mod faults;
 mod pictures;
+mod sizes;
 
 use crate::arguments::{Command, Refusal, command_of};
 use crate::fault::{Fault, exit_status};
@@ -79,8 +80,8 @@ fn words_that_do_not_fit_are_refused_by_a_line(rt: HostRuntime) -> Result<(), Fa
         (["--help", "--no"].as_slice(), "help"),
         (["--least", "--version"].as_slice(), "version"),
         (
-            ["--size"].as_slice(),
-            "\"--size\" is no argument: clru_mrc --help names them",
+            ["--bytes"].as_slice(),
+            "\"--bytes\" is no argument: clru_mrc --help names them",
         ),
         (
             ["a\nb"].as_slice(),
@@ -116,7 +117,15 @@ fn words_that_do_not_fit_are_refused_by_a_line(rt: HostRuntime) -> Result<(), Fa
         ),
         (
             ["--summary", "--svg"].as_slice(),
-            "--summary goes alone: leave the other arguments out",
+            "--summary goes alone, or with --sizes: leave the other arguments out",
+        ),
+        (
+            ["--least", "--sizes"].as_slice(),
+            "--least and --sizes do not go together: the least in bytes is too hard to compute, so leave one out",
+        ),
+        (
+            ["--sizes", "--svg"].as_slice(),
+            "--svg and --sizes do not go together: leave one out, and draw the table of --sizes --all",
         ),
     ];
     for (words, line) in rows {
@@ -133,6 +142,9 @@ fn each_fault_has_its_status(rt: HostRuntime) {
         (Fault::Reading, 4),
         (Fault::Writing, 5),
         (Fault::Closed, 5),
+        (Fault::NoSize(7), 6),
+        (Fault::TooLarge, 6),
+        (Fault::TooSmall(7), 2),
     ];
     for (fault, number) in rows {
         assert_eq!(rt; exit_status(&Err(fault)), number, "at {fault:?}");

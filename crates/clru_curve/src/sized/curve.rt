@@ -97,7 +97,9 @@ impl<A: Allocator> SizedCurve<A> {
     /// There is one for each request that can hit at all; where a capacity comes several times, its last one counts. Those that
     /// are not above the greatest weight are no answers: there a cache refuses puts.
     pub fn as_slice(&self) -> &[(usize, usize)]
-        ensures { result.now ≡ self.now.steps }
+        ensures steps { result.now ≡ self.now.steps }
+        ensures rising { IsNonDecreasingBy (λ s. s.0) result.now }
+        ensures few { length result.now ≤ self.now.requests }
     {
         self.steps.as_slice()
     }

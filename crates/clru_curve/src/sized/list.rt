@@ -1,8 +1,8 @@
 //! The curve of a whole list of requests for keys with sizes.
-ghost use Rattle.std.specs.Prelude.{◌≡◌, ◌^◌, ◌<◌, [], IfOk, IfErr, IsOk};
+ghost use Rattle.std.specs.Prelude.{◌≡◌, ◌^◌, ◌<◌, ◌≤◌, [], IfOk, IfErr, IsOk, IsErr};
 ghost use Rattle.clru_model.specs.Sizes.{SameWeights};
 ghost use Rattle.clru_curve.specs.SizedCurves.{IsSizedCurveOf, size_of_all};
-ghost use Rattle.clru_curve.specs.SizedPasses.{IsNoMemory};
+ghost use Rattle.clru_curve.specs.SizedPasses.{IsNoMemory, IsFirstRefused};
 
 use crate::sized::curve::SizedCurve;
 use crate::sized::error::SizedRequestError;
@@ -31,8 +31,9 @@ where
     A: Allocator + Copy,
     ensures curve { SameWeights K.eq (λ x. W.weight scale x tt)
         → IfOk result (λ c. IsSizedCurveOf K.eq (λ x. W.weight scale x tt) keys.now c) }
-    ensures too_large { SameWeights K.eq (λ x. W.weight scale x tt)
-        → size_of_all (λ x. W.weight scale x tt) keys.now < 2 ^ 64 → IfErr result IsNoMemory }
+    ensures too_large { size_of_all (λ x. W.weight scale x tt) keys.now < 2 ^ 64 → IfErr result IsNoMemory }
+    ensures passes { 2 ^ 64 ≤ size_of_all (λ x. W.weight scale x tt) keys.now → IsErr result }
+    ensures given_back { IfErr result (λ e. IsFirstRefused (λ x. W.weight scale x tt) keys.now e) }
     ensures never_refused { keys.now ≡ [] → IsOk result }
 {
     let mut pass = SizedPass::with_hasher(alloc, hash_builder);

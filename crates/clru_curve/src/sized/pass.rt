@@ -1,10 +1,10 @@
 //! `SizedPass`, which takes requests of keys with sizes one by one.
-ghost use Rattle.std.specs.Prelude.{◌≡◌, ℕ, ◌^◌, ◌<◌, nat_lt, List, [], ◌∷◌, reverse, IfOk, IfErr, OnOk, OnErr, if◌then◌else◌};
+ghost use Rattle.std.specs.Prelude.{◌≡◌, ℕ, ◌+◌, ◌^◌, ◌≤◌, ◌↔◌, nat_lt, List, [], ◌∷◌, reverse, IfOk, IfErr, IsErrAnd, OnOk, OnErr, IsOk, if◌then◌else◌};
 ghost use Rattle.clru_model.specs.Sizes.{SameWeights, span};
-ghost use Rattle.clru_curve.specs.SizedPasses.{IsSizedPass, key_of, IsNoMemory};
-ghost use Rattle.clru_curve.specs.SizedCurves.{IsSizedCurveOf, size_of_all};
+ghost use Rattle.clru_curve.specs.SizedPasses.{IsSizedPass, key_of, IsTooLarge};
+ghost use Rattle.clru_curve.specs.SizedCurves.{IsSizedCurveOf};
 
-use crate::pass::move_place;
+use crate::pass::{copied, move_place};
 use crate::sized::curve::SizedCurve;
 use crate::sized::error::SizedRequestError;
 use crate::sized::sizes::Sizes;
@@ -83,11 +83,10 @@ impl<K: Eq + Hash, S: BuildHasher, A: Allocator + Copy> SizedPass<K, S, A> {
             → IfOk result (λ s. s ≡ span K.eq w key past) }
         ensures taken { (w : K → ℕ) (past : List K) → SameWeights K.eq w → IsSizedPass K.eq w past self.old → w key ≡ weight
             → OnOk result (IsSizedPass K.eq w (key ∷ past) self.new) }
-        ensures refused { (w : K → ℕ) (past : List K) → IsSizedPass K.eq w past self.old
-            → OnErr result (IsSizedPass K.eq w past self.new) }
+        ensures size { OnOk result (self.new.size ≡ self.old.size + (1 + weight)) }
+        ensures refused { OnErr result (self.new ≡ self.old) }
         ensures given_back { IfErr result (λ e. key_of e ≡ key) }
-        ensures too_large { (w : K → ℕ) (past : List K) → IsSizedPass K.eq w past self.old → w key ≡ weight
-            → size_of_all w (key ∷ past) < 2 ^ 64 → IfErr result IsNoMemory }
+        ensures too_large { IsErrAnd result IsTooLarge ↔ (2 ^ 64 ≤ self.old.size + (1 + weight)) }
     {
         if weight >= usize::MAX - self.size {
             return Err(SizedRequestError::TooLarge(key));
@@ -141,12 +140,13 @@ impl<K: Eq + Hash, S: BuildHasher, A: Allocator + Copy> SizedPass<K, S, A> {
     }
 
     /// Returns the curve of the requests so far, and lets the pass go on. It takes memory for two numbers for each request that
-    /// asked for a key again; the spans are sorted.
+    /// asked for a key again, and none without requests; the spans are sorted.
     pub fn curve(&self, alloc: A) -> Result<SizedCurve<A>, NoMemory>
-        ensures { (w : K → ℕ) (past : List K) → IsSizedPass K.eq w past self.now
+        ensures curve { (w : K → ℕ) (past : List K) → IsSizedPass K.eq w past self.now
             → IfOk result (λ c. IsSizedCurveOf K.eq w (reverse past) c) }
+        ensures never_refused { (w : K → ℕ) → IsSizedPass K.eq w [] self.now → IsOk result }
     {
-        let Ok(hits) = Vec::from_slice(alloc, self.hits.as_slice()) else {
+        let Ok(hits) = copied(alloc, &self.hits) else {
             return Err(NoMemory);
         };
         Ok(SizedCurve::from_hits(

@@ -1,5 +1,6 @@
 // Readers, writers and memory that fail.
 use super::TEN;
+use super::sizes::SIZED;
 use crate::fault::Fault;
 use crate::options::{Capacities, Form, Options};
 use crate::program::run;
@@ -10,6 +11,7 @@ use std::io::{self, ErrorKind, Read, Write};
 fn with_least<A: Allocator>() -> Options<A> {
     Options {
         capacities: Capacities::Usual,
+        sizes: false,
         least: true,
         form: Form::Picture,
     }
@@ -86,23 +88,35 @@ fn a_failed_write_is_a_fault_and_a_closed_pipe_another(rt: HostRuntime) {
     }
 }
 
+fn by_size<A: Allocator>() -> Options<A> {
+    Options {
+        capacities: Capacities::Each,
+        sizes: true,
+        least: false,
+        form: Form::Table,
+    }
+}
+
 #[test]
 fn each_refused_request_is_want_of_memory(rt: HostRuntime) {
-    let mut met_none = false;
-    for n in 0..1000u64 {
-        let heap = Rationed::new(rt.alloc());
-        heap.refuse_one_after(n);
-        let mut reader = TEN;
-        let mut written = Vec::new(rt.alloc());
-        let outcome = run(&heap, &with_least(), &mut reader, &mut written);
-        assert_eq!(rt; heap.blocks(), 0, "after {n}");
-        if heap.refused() == 0 {
-            assert_eq!(rt; outcome, Ok(()), "after {n}");
-            met_none = true;
-            break;
+    for (sizes, input) in [(false, TEN), (true, SIZED)] {
+        let mut met_none = false;
+        for n in 0..1000u64 {
+            let heap = Rationed::new(rt.alloc());
+            heap.refuse_one_after(n);
+            let mut reader = input;
+            let mut written = Vec::new(rt.alloc());
+            let options = if sizes { by_size() } else { with_least() };
+            let outcome = run(&heap, &options, &mut reader, &mut written);
+            assert_eq!(rt; heap.blocks(), 0, "after {n}");
+            if heap.refused() == 0 {
+                assert_eq!(rt; outcome, Ok(()), "after {n}");
+                met_none = true;
+                break;
+            }
+            assert_eq!(rt; outcome, Err(Fault::Memory), "after {n}");
+            assert!(rt; written.is_empty(), "after {n}");
         }
-        assert_eq!(rt; outcome, Err(Fault::Memory), "after {n}");
-        assert!(rt; written.is_empty(), "after {n}");
+        assert!(rt; met_none);
     }
-    assert!(rt; met_none);
 }

@@ -7,13 +7,13 @@ use Rattle.clru_curve.proofs.pass.DistancePass.curve.Goals as goal
 pub misses_of-requires : goal.misses_of-requires
 misses_of-requires g c =
     let eq = g.K.PartialEq.eq in
-    let from = c.deref_mut.ensures.value ∙ c.in-Ok.ensures.items ∙ c.as_slice.ensures.value in
+    let from = c.deref_mut.ensures.value ∙ c.in-Ok.ensures.items ∙ c.deref.ensures.value in
     record { within = sums_within eq c.self.invariant.past _ c.deref_mut.result.now [] [] c.self.invariant.taken from }
 
 pub returns-clause-misses : goal.returns-clause-misses
 returns-clause-misses g c past is =
     let eq = g.K.PartialEq.eq in let vec = c.in-Ok.misses in
-    let from = c.deref_mut.ensures.value ∙ c.in-Ok.ensures.items ∙ c.as_slice.ensures.value in
+    let from = c.deref_mut.ensures.value ∙ c.in-Ok.ensures.items ∙ c.deref.ensures.value in
     let to = c.from_misses.ensures ∙ written_back c.misses_of.new.histogram vec.items vec.len (c.misses_of.ensures.len ∙ c.deref_mut.ensures.len) in
     curve_misses eq past _ c.deref_mut.result.now c.misses_of.new.histogram c.from_misses.result (subst (λ v. IsPass eq past v) (sym c.self.view_is) is) from to
     c.misses_of.ensures.len g.met.K.Eq.laws c.misses_of.ensures.misses
@@ -21,7 +21,7 @@ returns-clause-misses g c past is =
 pub returns-clause-distinct : goal.returns-clause-distinct
 returns-clause-distinct g c past is =
     let eq = g.K.PartialEq.eq in let vec = c.in-Ok.misses in
-    let from = c.deref_mut.ensures.value ∙ c.in-Ok.ensures.items ∙ c.as_slice.ensures.value in
+    let from = c.deref_mut.ensures.value ∙ c.in-Ok.ensures.items ∙ c.deref.ensures.value in
     let to = c.from_misses.ensures ∙ written_back c.misses_of.new.histogram vec.items vec.len (c.misses_of.ensures.len ∙ c.deref_mut.ensures.len) in
     curve_distinct eq past _ c.deref_mut.result.now c.misses_of.new.histogram c.from_misses.result (subst (λ v. IsPass eq past v) (sym c.self.view_is) is) from to
     c.misses_of.ensures.len

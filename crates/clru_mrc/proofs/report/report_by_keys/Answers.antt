@@ -1,6 +1,6 @@
 use Rattle.std.proofs.Common.{string_bytes, arith, ◌∙◌}
 use Rattle.clru_mrc.proofs.ReportLemmas.{picture_report, summary_report, table_report}
-use Rattle.clru_mrc.proofs.report.report_on.Goals as goal
+use Rattle.clru_mrc.proofs.report.report_by_keys.Goals as goal
 
 pub returns-in-Table : goal.returns-in-Table
 returns-in-Table g c =

@@ -1,0 +1,51 @@
+use Rattle.std.proofs.Common.{[], append-nil, string_bytes, sym, subst}
+use Rattle.clru_lines.specs.Lines.{lines_of}
+use Rattle.clru_mrc.specs.Passes.{capacities_on}
+use Rattle.clru_mrc.specs.SizedReport.{IsInFormBySize}
+use Rattle.clru_mrc.proofs.ReportLemmas.{err_map, ok_map}
+use Rattle.clru_mrc.proofs.SizedReports.{capacities_refused, capacities_unwritten, summary_is, table_is}
+use Rattle.clru_mrc.proofs.sized.sized_report_on.Goals as goal
+
+pub returns-in-Table : goal.returns-in-Table
+returns-in-Table g c =
+    let options = c.args.options.now in let input = c.args.input.now in let lines = lines_of input in
+    let curve = c.in_ok-curve.curve in let known = c.in_ok-curve.ensures in
+    record {
+      report = ok_map c.sized_table_for.result
+          (λ text t. (
+            known.sizes,
+            subst (λ f. IsInFormBySize f options input lines (string_bytes text)) (sym c.in-Table.is)
+                (table_is lines curve known.curve options (string_bytes text) t),
+          )) c.sized_table_for.ensures.table;
+      refused = err_map c.sized_table_for.result (λ fault why. capacities_refused lines curve known.curve options fault known.sizes why)
+          c.sized_table_for.ensures.refused;
+      fault = err_map c.sized_table_for.result (λ fault why. capacities_unwritten curve (capacities_on curve options.capacities) fault why)
+          c.sized_table_for.ensures.refused;
+    }
+
+pub returns-in-Picture : goal.returns-in-Picture
+returns-in-Picture g c =
+    let options = c.args.options.now in let input = c.args.input.now in let lines = lines_of input in
+    let curve = c.in_ok-curve.curve in let known = c.in_ok-curve.ensures in
+    record {
+      report = ok_map c.sized_table_for-in-Picture.result
+          (λ text t. (
+            known.sizes,
+            subst (λ f. IsInFormBySize f options input lines (string_bytes text)) (sym c.in-Picture.is)
+                ([], string_bytes text, [], table_is lines curve known.curve options (string_bytes text) t, sym (append-nil (string_bytes text))),
+          ))
+          c.sized_table_for-in-Picture.ensures.table;
+      refused = err_map c.sized_table_for-in-Picture.result
+          (λ fault why. capacities_refused lines curve known.curve options fault known.sizes why) c.sized_table_for-in-Picture.ensures.refused;
+      fault = err_map c.sized_table_for-in-Picture.result
+          (λ fault why. capacities_unwritten curve (capacities_on curve options.capacities) fault why) c.sized_table_for-in-Picture.ensures.refused;
+    }
+
+pub returns-in-Ok-clause-report : goal.returns-in-Ok-clause-report
+returns-in-Ok-clause-report g c =
+    let options = c.args.options.now in let input = c.args.input.now in let lines = lines_of input in
+    let known = c.in_ok-curve.ensures in (
+      known.sizes,
+      subst (λ f. IsInFormBySize f options input lines (string_bytes c.in-Ok.text)) (sym c.in-Summary.is)
+          (summary_is lines c.in_ok-curve.curve known.curve input (string_bytes c.in-Ok.text) c.in-Ok.ensures),
+    )
