@@ -13,6 +13,7 @@ use std::num::NonZeroUsize;
 
 /// Which requests hit at the capacity, and how many don't.
 #[tactic(auto, using(crate::proofs::Marked::length_marks))]
+#[inline(never)]
 pub(crate) fn hits_at<S: BuildHasher + Drop, A: Allocator + Copy>(
     alloc: A,
     keys: &[u64],
