@@ -108,7 +108,8 @@ uint32_t clru_least_by_room(const uint64_t *keys, size_t keys_len, const size_t 
  * answered only where the sizes (0 as 1) pass 2^64 - 1 together, CLRU_TOO_SMALL only where a capacity is less than the greatest
  * size, and CLRU_OK in neither case.
  * Cost: for each request a look-up, and steps that go with the logarithm of their number; then two searches for each capacity.
- * Memory, until it returns: MEMORY_REQUEST bytes for each request and MEMORY_OBJECT for each distinct object. */
+ * Memory, until it returns: 25 to 35 bytes for each request, 16 to 32 for each that asks for an object again, and 80 to 320 for
+ * each distinct object; 71 MB for a million requests of 304,200 objects. */
 uint32_t clru_misses_by_size(const uint64_t *keys, size_t keys_len, const size_t *sizes, size_t sizes_len,
                              const size_t *capacities, size_t capacities_len, uint64_t seed_low, uint64_t seed_high,
                              size_t *misses, size_t misses_len, size_t *missed_sizes, size_t missed_sizes_len,
