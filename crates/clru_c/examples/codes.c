@@ -7,6 +7,7 @@
 #include <string.h>
 
 #define KEYS 500
+#define LARGEST 50
 
 /* So many requests for memory pass; those after them are refused. */
 static size_t passing = (size_t)-1;
@@ -35,13 +36,15 @@ static void expect(bool holds, const char *what) {
 }
 
 static uint64_t keys[KEYS];
-static size_t misses[KEYS], least[2], number;
+static size_t misses[KEYS], missed_sizes[KEYS], least[2], number;
 static bool hits[KEYS];
+static size_t sizes[KEYS], capacities[KEYS];
 static const size_t rooms[2] = {3, 70};
 
 /* Arrays that no call has written. */
 static void reset(void) {
     memset(misses, 0x55, sizeof misses);
+    memset(missed_sizes, 0x55, sizeof missed_sizes);
     memset(least, 0x55, sizeof least);
     memset(&number, 0x55, sizeof number);
     memset(hits, 1, sizeof hits);
@@ -49,11 +52,37 @@ static void reset(void) {
 
 static bool untouched(void) {
     for (size_t i = 0; i < KEYS; i++) {
-        if (misses[i] != 0x5555555555555555u || !hits[i]) {
+        if (misses[i] != 0x5555555555555555u || missed_sizes[i] != misses[i] || !hits[i]) {
             return false;
         }
     }
     return number == 0x5555555555555555u && least[0] == number && least[1] == number;
+}
+
+/* A call by size, with so many places of each array. */
+static uint32_t by_size(size_t sizes_len, size_t misses_len, size_t missed_sizes_len) {
+    return clru_misses_by_size(keys, KEYS, sizes, sizes_len, capacities, KEYS, 0, 0, misses, misses_len, missed_sizes,
+                               missed_sizes_len, &number);
+}
+
+/* The same, where one size or one capacity is another one. */
+static uint32_t by_size_with(size_t *place, size_t value) {
+    size_t before = *place;
+    *place = value;
+    uint32_t code = by_size(KEYS, KEYS, KEYS);
+    *place = before;
+    return code;
+}
+
+static void codes_of_sizes(void) {
+    reset();
+    expect(by_size_with(&capacities[KEYS - 1], 0) == CLRU_NO_CAPACITY, "a capacity by size of 0");
+    expect(by_size_with(&capacities[KEYS - 1], LARGEST - 1) == CLRU_TOO_SMALL, "a capacity less than the greatest size");
+    expect(by_size(KEYS - 1, KEYS, KEYS) == CLRU_WRONG_LENGTH, "too few sizes");
+    expect(by_size(KEYS, KEYS - 1, KEYS) == CLRU_WRONG_LENGTH, "misses by size too short");
+    expect(by_size(KEYS, KEYS, KEYS - 1) == CLRU_WRONG_LENGTH, "missed sizes too short");
+    expect(by_size_with(&sizes[KEYS - 1], SIZE_MAX) == CLRU_TOO_LARGE, "sizes that pass 2^64 - 1");
+    expect(untouched(), "something was written with a code by size");
 }
 
 static void codes_of_arguments(void) {
@@ -73,6 +102,8 @@ static uint32_t call(int which) {
         return clru_hits_at(keys, KEYS, 3, 0, 0, hits, KEYS, &number);
     case 1:
         return clru_misses_by_capacity(keys, KEYS, 0, 0, misses, KEYS, &number);
+    case 2:
+        return by_size(KEYS, KEYS, KEYS);
     default:
         return clru_least_by_room(keys, KEYS, rooms, 2, 0, 0, least, 2);
     }
@@ -80,7 +111,7 @@ static uint32_t call(int which) {
 
 /* Refuses each request for memory in turn, until the call meets no refusal. */
 static void code_of_refused_memory(void) {
-    for (int which = 0; which < 3; which++) {
+    for (int which = 0; which < 4; which++) {
         size_t granted = 0;
         for (;; granted++) {
             reset();
@@ -110,10 +141,29 @@ static void calls_agree(uint64_t low) {
     }
 }
 
+/* Where all sizes are 1, or 0, which counts as 1, a capacity by size is a number of keys. */
+static void sizes_of_1_agree(uint64_t low) {
+    for (size_t i = 0; i < KEYS; i++) {
+        sizes[i] = keys[i] % 2;
+    }
+    static size_t by_number[KEYS];
+    expect(clru_misses_by_capacity(keys, KEYS, low, low, by_number, KEYS, &number) == CLRU_OK, "misses");
+    size_t distinct = number;
+    expect(clru_misses_by_size(keys, KEYS, sizes, KEYS, capacities, KEYS, low, low, misses, KEYS, missed_sizes, KEYS, &number)
+               == CLRU_OK, "misses by size");
+    expect(number == distinct, "the size of the distinct keys of size 1");
+    for (size_t i = 0; i < KEYS; i++) {
+        size_t wanted = by_number[capacities[i] - 1];
+        expect(misses[i] == wanted && missed_sizes[i] == wanted, "misses by size and by number differ");
+    }
+}
+
 static void no_keys(void) {
     expect(clru_misses_by_capacity(keys, 0, 0, 0, misses, 2, &number) == CLRU_OK && number == 0 && misses[1] == 0, "no keys");
     expect(clru_hits_at(keys, 0, 5, 0, 0, hits, 0, &number) == CLRU_OK && number == 0, "hits of no keys");
     expect(clru_least_by_room(keys, 0, rooms, 2, 0, 0, least, 2) == CLRU_OK && least[0] == 0, "the least of no keys");
+    expect(clru_misses_by_size(keys, 0, sizes, 0, capacities, 1, 0, 0, misses, 1, missed_sizes, 1, &number) == CLRU_OK
+               && number == 0 && misses[0] == 0 && missed_sizes[0] == 0, "misses by size of no keys");
 }
 
 int main(void) {
@@ -121,11 +171,17 @@ int main(void) {
     for (size_t i = 0; i < KEYS; i++) {
         drawn = drawn * 16807 % 2147483647;
         keys[i] = drawn % 90 * (drawn % 7);
+        sizes[i] = keys[i] % LARGEST;
+        capacities[i] = LARGEST + i % 400;
     }
+    sizes[0] = LARGEST;
     codes_of_arguments();
+    codes_of_sizes();
     code_of_refused_memory();
     calls_agree(0);
     calls_agree(0x1234567890abcdefu);
     no_keys();
+    sizes_of_1_agree(0);
+    sizes_of_1_agree(0x1234567890abcdefu);
     return faults != 0;
 }

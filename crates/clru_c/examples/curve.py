@@ -3,7 +3,7 @@
 
     curve.py LIBCLRU.SO < KEYS
 
-It takes numpy where it is there, and plain arrays where not. For your own use take `curve` and `least`.
+It takes numpy where it is there, and plain arrays where not. For your own use take `curve`, `least` and `curve_by_size`.
 """
 import ctypes
 import sys
@@ -13,7 +13,13 @@ try:
 except ImportError:
     numpy = None
 
-CODES = {1: "a capacity or a room is 0", 2: "an array has a wrong length", 3: "memory was refused"}
+CODES = {
+    1: "a capacity or a room is 0",
+    2: "an array has a wrong length",
+    3: "memory was refused",
+    4: "the sizes together pass 2^64 - 1",
+    5: "a capacity is less than the greatest size",
+}
 SEED = (ctypes.c_uint64(0), ctypes.c_uint64(0))
 
 
@@ -57,6 +63,15 @@ def least(library, keys, rooms):
     keys, rooms, answers = numbers(keys), numbers(rooms), zeros(len(rooms))
     checked(library.clru_least_by_room(*passed(keys), *passed(rooms), *SEED, *passed(answers)))
     return answers
+
+
+def curve_by_size(library, keys, sizes, capacities):
+    """The misses and the missed size at each of the capacities, which are sums of sizes, and the size of the distinct objects."""
+    keys, sizes, capacities = numbers(keys), numbers(sizes), numbers(capacities)
+    misses, missed_sizes, distinct_size = zeros(len(capacities)), zeros(len(capacities)), ctypes.c_size_t()
+    given = [*passed(keys), *passed(sizes), *passed(capacities), *SEED, *passed(misses), *passed(missed_sizes)]
+    checked(library.clru_misses_by_size(*given, ctypes.byref(distinct_size)))
+    return misses, missed_sizes, distinct_size.value
 
 
 def main():

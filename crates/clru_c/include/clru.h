@@ -38,8 +38,10 @@
 
 #define CLRU_OK 0u           /* all was written */
 #define CLRU_NO_CAPACITY 1u  /* a capacity or a room was 0 */
-#define CLRU_WRONG_LENGTH 2u /* an array that is written is shorter or longer than it has to be */
+#define CLRU_WRONG_LENGTH 2u /* an array is shorter or longer than it has to be beside another one */
 #define CLRU_NO_MEMORY 3u    /* memory was refused */
+#define CLRU_TOO_LARGE 4u    /* the sizes of all requests together pass 2^64 - 1 */
+#define CLRU_TOO_SMALL 5u    /* a capacity was less than the greatest size */
 
 #ifdef __cplusplus
 extern "C" {
@@ -86,6 +88,32 @@ uint32_t clru_misses_by_capacity(const uint64_t *keys, size_t keys_len, uint64_t
  * requests. Memory, until it returns: 17 to 54 bytes for each request. */
 uint32_t clru_least_by_room(const uint64_t *keys, size_t keys_len, const size_t *rooms, size_t rooms_len,
                             uint64_t seed_low, uint64_t seed_high, size_t *least, size_t least_len);
+
+/* The misses where keys have sizes: the requests that miss at each of the capacities, and the size that they miss.
+ *
+ * A capacity is a sum of sizes, in bytes say. sizes has as many places as keys: sizes[i] is the size of what request i asks for.
+ * A key that comes with another size is another object, so that a size never changes. A size of 0 counts as 1.
+ *
+ * misses and missed_sizes have as many places as capacities: misses[i] is the number of requests that miss at capacities[i], and
+ * missed_sizes[i] the sum of their sizes. Capacities may stand in any order, and twice. *distinct_size is the sum of the sizes of
+ * the distinct objects: from that capacity on both stay the same, and the missed size is that sum. It can be had alone, with
+ * arrays of length 0.
+ *
+ * Proved: a request hits exactly where its object was requested before, and its size and those of the distinct objects since are
+ * at most the capacity together; misses[i] is the number of the others, missed_sizes[i] the sum of their sizes. That is an LRU
+ * cache that drops the objects that were not used for longest, until what it holds has at most that size together. One of a
+ * capacity below the greatest size can't take in some object, and there is no answer then.
+ *
+ * Codes: CLRU_NO_CAPACITY, CLRU_WRONG_LENGTH, CLRU_NO_MEMORY, CLRU_TOO_LARGE, CLRU_TOO_SMALL. Proved too: CLRU_TOO_LARGE is
+ * answered only where the sizes (0 as 1) pass 2^64 - 1 together, CLRU_TOO_SMALL only where a capacity is less than the greatest
+ * size, and CLRU_OK in neither case.
+ * Cost: for each request a look-up, and steps that go with the logarithm of their number; then two searches for each capacity.
+ * Memory, until it returns: 25 to 35 bytes for each request, 16 to 32 for each that asks for an object again, and 80 to 320 for
+ * each distinct object; 71 MB for a million requests of 304,200 objects. */
+uint32_t clru_misses_by_size(const uint64_t *keys, size_t keys_len, const size_t *sizes, size_t sizes_len,
+                             const size_t *capacities, size_t capacities_len, uint64_t seed_low, uint64_t seed_high,
+                             size_t *misses, size_t misses_len, size_t *missed_sizes, size_t missed_sizes_len,
+                             size_t *distinct_size);
 
 #ifdef __cplusplus
 }

@@ -1,6 +1,7 @@
 -- What stands in arrays of answers. Public clauses cite them.
-use Rattle.std.specs.Prelude.{◌≡◌, ℕ, suc, ◌<◌, ◌≤◌, Bool, List, length, slice_index}
-use Rattle.clru_model.specs.Requests.{misses}
+use Rattle.std.specs.Prelude.{◌≡◌, ℕ, suc, ◌<◌, ◌≤◌, Bool, List, length, slice_index, reverse}
+use Rattle.clru_model.specs.Requests.{distinct, marks, misses}
+use Rattle.clru_model.specs.Schedule.{IsCompetitive, IsCompetitiveFromAnyStart}
 use Rattle.clru_model.specs.Least.{IsLeast, IsNearFromAnyStart}
 
 -- at each place below n stands a number of which P holds at that place
@@ -8,9 +9,21 @@ abbrev pub AreBelow : (ℕ → ℕ → Type 0) → List ℕ → ℕ → Type 0
 AreBelow P array n = (i : ℕ) → i < n → P i (slice_index array i)
 
 module _ {K : Type 0} (eq : K → K → Bool) where
+  -- for each request whether it hits at the capacity, and how many don't
+  pub record AreHits (capacity : ℕ) (requests : List K) (array : List Bool) (n : ℕ) : Type 0 where
+    pub hits : array ≡ marks eq capacity requests
+    pub missed : n ≡ misses eq capacity requests
+    pub bound : IsCompetitive eq capacity requests n
+    pub bound_any_start : IsCompetitiveFromAnyStart eq capacity requests n
+
   -- at each place the misses at the capacity one above it: at capacity 1, 2 and so on
   abbrev pub AreMisses : List K → List ℕ → Type 0
   AreMisses requests array = AreBelow (λ i n. n ≡ misses eq (suc i) requests) array (length array)
+
+  -- these, and the number of distinct keys
+  pub record IsCurve (requests : List K) (array : List ℕ) (n : ℕ) : Type 0 where
+    pub missed : AreMisses requests array
+    pub distinct_keys : n ≡ distinct eq (reverse requests)
 
   -- what is known of the least number of misses n for a room
   pub record IsLeastOf (requests : List K) (room n : ℕ) : Type 0 where

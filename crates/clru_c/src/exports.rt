@@ -1,13 +1,16 @@
 //! What C calls.
 //!
 //! Calls for the two kinds of seeds share no code, since one takes the allocator by reference: what has one caller is inlined.
-ghost use Rattle.std.specs.Prelude.{◌≡◌, ◌≢◌, ◌↔◌, [], length, nat_eq, reverse};
-ghost use Rattle.clru_model.specs.Requests.{distinct, marks, misses};
-ghost use Rattle.clru_model.specs.Schedule.{IsCompetitive, IsCompetitiveFromAnyStart};
-ghost use Rattle.clru_c.specs.Arrays.{AreMisses, AreLeast};
+ghost use Rattle.std.specs.Prelude.{◌≡◌, ◌≢◌, [], length, nat_eq, Contains};
+ghost use Rattle.std.specs.List.{zip};
+ghost use Rattle.clru_c.specs.Arrays.{AreHits, IsCurve, AreLeast};
+ghost use Rattle.clru_c.specs.Codes.{IsCode};
+ghost use Rattle.clru_c.specs.Objects.{AreSizedMisses, IsSizedCode};
 
 use crate::arrays::{hits_at, least_by_room, misses_by_capacity};
+use crate::codes::OK;
 use crate::keyed::KeyedState;
+use crate::sized::misses_by_size;
 use clru::DefaultState;
 use std::alloc::Global;
 
@@ -22,25 +25,20 @@ pub extern "C" fn clru_hits_at(
     hits: &mut [bool],
     missed: &mut usize,
 ) -> u32
-    ensures hits { result ≡ 0 → hits.new ≡ marks nat_eq capacity keys.now }
-    ensures misses { result ≡ 0 → missed.new ≡ misses nat_eq capacity keys.now }
-    ensures bound { result ≡ 0 → IsCompetitive nat_eq capacity keys.now missed.new }
-    ensures bound_any_start { result ≡ 0 → IsCompetitiveFromAnyStart nat_eq capacity keys.now missed.new }
-    ensures hits_left { result ≢ 0 → hits.new ≡ hits.old }
-    ensures misses_left { result ≢ 0 → missed.new ≡ missed.old }
-    ensures no_capacity { result ≡ 1 ↔ capacity ≡ 0 }
-    ensures wrong_length { result ≡ 2 → length hits.old ≢ length keys.now }
+    ensures hits { result ≡ OK → AreHits nat_eq capacity keys.now hits.new missed.new }
+    ensures left { result ≢ OK → (hits.new ≡ hits.old) × (missed.new ≡ missed.old) }
+    ensures codes { IsCode (capacity ≡ 0) (length hits.old ≡ length keys.now) result }
 {
     if low == 0 && high == 0 {
-        hits_at(alloc, keys, capacity, DefaultState, hits, missed)
+        hits_at(alloc, keys, capacity, hits, missed, DefaultState)
     } else {
         hits_at(
             &alloc,
             keys,
             capacity,
-            KeyedState { low, high },
             hits,
             missed,
+            KeyedState { low, high },
         )
     }
 }
@@ -55,17 +53,16 @@ pub extern "C" fn clru_misses_by_capacity(
     missed: &mut [usize],
     kinds: &mut usize,
 ) -> u32
-    ensures misses { result ≡ 0 → AreMisses nat_eq keys.now missed.new }
-    ensures distinct { result ≡ 0 → kinds.new ≡ distinct nat_eq (reverse keys.now) }
-    ensures misses_left { result ≢ 0 → missed.new ≡ missed.old }
-    ensures distinct_left { result ≢ 0 → kinds.new ≡ kinds.old }
+    ensures misses { result ≡ OK → IsCurve nat_eq keys.now missed.new kinds.new }
+    ensures left { result ≢ OK → (missed.new ≡ missed.old) × (kinds.new ≡ kinds.old) }
+    ensures codes { IsCode ⊥ Unit result }
+    ensures never_refused { keys.now ≡ [] → result ≡ OK }
     ensures length { length missed.new ≡ length missed.old }
-    ensures never_refused { keys.now ≡ [] → result ≡ 0 }
 {
     if low == 0 && high == 0 {
-        misses_by_capacity(alloc, keys, DefaultState, missed, kinds)
+        misses_by_capacity(alloc, keys, missed, kinds, DefaultState)
     } else {
-        misses_by_capacity(&alloc, keys, KeyedState { low, high }, missed, kinds)
+        misses_by_capacity(&alloc, keys, missed, kinds, KeyedState { low, high })
     }
 }
 
@@ -79,14 +76,49 @@ pub extern "C" fn clru_least_by_room(
     high: u64,
     least: &mut [usize],
 ) -> u32
-    ensures least { result ≡ 0 → AreLeast nat_eq keys.now rooms.now least.new }
-    ensures least_left { result ≢ 0 → least.new ≡ least.old }
+    ensures least { result ≡ OK → AreLeast nat_eq keys.now rooms.now least.new }
+    ensures left { result ≢ OK → least.new ≡ least.old }
+    ensures codes { IsCode (Contains rooms.now 0) (length least.old ≡ length rooms.now) result }
     ensures length { length least.new ≡ length least.old }
-    ensures wrong_length { result ≡ 2 → length least.old ≢ length rooms.now }
 {
     if low == 0 && high == 0 {
-        least_by_room(alloc, keys, rooms, DefaultState, least)
+        least_by_room(alloc, keys, rooms, least, DefaultState)
     } else {
-        least_by_room(&alloc, keys, rooms, KeyedState { low, high }, least)
+        least_by_room(&alloc, keys, rooms, least, KeyedState { low, high })
+    }
+}
+
+/// Writes the misses and the missed size at each of the capacities, where each key comes with a size, and the size of the
+/// distinct objects.
+#[unsafe(no_mangle)]
+pub extern "C" fn clru_misses_by_size(
+    alloc: Global,
+    keys: &[u64],
+    sizes: &[usize],
+    capacities: &[usize],
+    low: u64,
+    high: u64,
+    missed: &mut [usize],
+    lost: &mut [usize],
+    size: &mut usize,
+) -> u32
+    ensures misses { result ≡ OK → AreSizedMisses (zip keys.now sizes.now) capacities.now missed.new lost.new size.new }
+    ensures left { result ≢ OK → (missed.new ≡ missed.old) × (lost.new ≡ lost.old) × (size.new ≡ size.old) }
+    ensures codes { IsSizedCode keys.now sizes.now capacities.now missed.old lost.old result }
+{
+    if low == 0 && high == 0 {
+        misses_by_size(
+            alloc,
+            keys,
+            sizes,
+            capacities,
+            missed,
+            lost,
+            size,
+            DefaultState,
+        )
+    } else {
+        let state = KeyedState { low, high };
+        misses_by_size(&alloc, keys, sizes, capacities, missed, lost, size, state)
     }
 }

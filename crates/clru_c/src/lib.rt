@@ -4,7 +4,9 @@
 #![tactic(auto)]
 
 mod arrays;
+mod codes;
 mod exports;
 mod keyed;
+mod sized;
 #[cfg(test)]
 mod tests;

@@ -1,12 +1,27 @@
 // What each call answers at concrete arrays, with std's seed and with one of the caller's, and each code.
 use crate::arrays::{hits_at, least_by_room, misses_by_capacity};
-use crate::exports::{clru_hits_at, clru_least_by_room, clru_misses_by_capacity};
+use crate::exports::{
+    clru_hits_at, clru_least_by_room, clru_misses_by_capacity, clru_misses_by_size,
+};
+use crate::sized::misses_by_size;
 use clru::DefaultState;
 use ration::Rationed;
 use std::test::Fail;
 
 // a b a c b a d a b e
 const TEN: &[u64] = &[1, 2, 1, 3, 2, 1, 4, 1, 2, 5];
+
+// how large each of them is: a 2, b 3, c 4, d 5, e 1, but for the last a, of size 0, which is an object of its own
+const SIZES: &[usize] = &[2, 3, 2, 4, 3, 2, 5, 0, 3, 1];
+
+// of sizes and capacities the code
+static REFUSED: &[(&[usize], &[usize], u32)] = &[
+    (SIZES, &[9, 0], 1),
+    (&[1, 2], &[9, 9], 2),
+    (SIZES, &[9], 2),
+    (&[2, 3, 2, 4, usize::MAX, 2, 5, 0, 3, 1], &[9, 9], 4),
+    (SIZES, &[5, 4], 5),
+];
 
 #[test]
 fn hits_are_written(rt: HostRuntime) -> Result<(), Fail> {
@@ -48,6 +63,29 @@ fn the_least_is_written(rt: HostRuntime) -> Result<(), Fail> {
 }
 
 #[test]
+fn misses_by_size_are_written(rt: HostRuntime) -> Result<(), Fail> {
+    for low in 0..2u64 {
+        let mut missed = [0; 4];
+        let mut missed_sizes = [0; 4];
+        let mut size = 0;
+        let code = clru_misses_by_size(
+            rt.alloc(),
+            TEN,
+            SIZES,
+            &[9, 5, 6, 16],
+            low,
+            0,
+            &mut missed,
+            &mut missed_sizes,
+            &mut size,
+        );
+        assert_eq!(rt; (code, size), (0, 16));
+        assert_eq!(rt; (missed, missed_sizes), ([7, 9, 9, 6], [19, 24, 24, 16]));
+    }
+    Ok(())
+}
+
+#[test]
 fn a_wrong_argument_has_its_code(rt: HostRuntime) -> Result<(), Fail> {
     let mut missed = 9;
     let mut hits = [true; 2];
@@ -74,28 +112,67 @@ fn a_wrong_argument_has_its_code(rt: HostRuntime) -> Result<(), Fail> {
 }
 
 #[test]
+fn a_wrong_size_has_its_code(rt: HostRuntime) -> Result<(), Fail> {
+    let mut missed = [8; 2];
+    let mut missed_sizes = [8; 2];
+    let mut size = 9;
+    for (sizes, capacities, wanted) in REFUSED {
+        let code = clru_misses_by_size(
+            rt.alloc(),
+            TEN,
+            sizes,
+            capacities,
+            0,
+            0,
+            &mut missed,
+            &mut missed_sizes,
+            &mut size,
+        );
+        assert_eq!(rt; code, *wanted);
+    }
+    assert_eq!(rt; (missed, missed_sizes, size), ([8, 8], [8, 8], 9));
+    Ok(())
+}
+
+#[test]
 fn refused_memory_has_its_code(rt: HostRuntime) -> Result<(), Fail> {
     let heap = Rationed::new(rt.alloc());
     let mut numbers = [9; 2];
+    let mut sizes = [9; 2];
     let mut number = 9;
     let mut hits = [true; 10];
     for granted in 0..2u64 {
         heap.refuse_after(granted);
         assert_eq!(rt;
-            hits_at(&heap, TEN, 3, DefaultState, &mut hits, &mut number),
+            hits_at(&heap, TEN, 3, &mut hits, &mut number, DefaultState),
             3
         );
         heap.refuse_after(granted);
         assert_eq!(rt;
-            misses_by_capacity(&heap, TEN, DefaultState, &mut numbers, &mut number),
+            misses_by_capacity(&heap, TEN, &mut numbers, &mut number, DefaultState),
             3
         );
         heap.refuse_after(granted);
         assert_eq!(rt;
-            least_by_room(&heap, TEN, &[2, 1], DefaultState, &mut numbers),
+            least_by_room(&heap, TEN, &[2, 1], &mut numbers, DefaultState),
             3
         );
+        heap.refuse_after(granted);
+        let code = misses_by_size(
+            &heap,
+            TEN,
+            SIZES,
+            &[9, 5],
+            &mut numbers,
+            &mut sizes,
+            &mut number,
+            DefaultState,
+        );
+        assert_eq!(rt; code, 3);
     }
-    assert_eq!(rt; (hits, numbers, number), ([true; 10], [9, 9], 9));
+    assert_eq!(rt;
+        (hits, numbers, sizes, number),
+        ([true; 10], [9, 9], [9, 9], 9)
+    );
     Ok(())
 }

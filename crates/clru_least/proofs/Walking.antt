@@ -17,7 +17,7 @@ use Rattle.clru_least.specs.Next.{until, next_from}
 use Rattle.clru_least.proofs.Due.{count_by-cons, length-others}
 use Rattle.clru_least.proofs.Furthest.{best_keeps, best_drops}
 use Rattle.clru_least.proofs.Held.{queued_at, IsHeld, IsOnTheWay, IsHeld_next, marked_held, IsDropped, IsDropped_from, due_queued}
-use Rattle.clru_least.proofs.Until.{drop-next_from, length-next_from}
+use Rattle.clru_least.proofs.Until.{drop-next_from, length-next_from, until-le-length}
 
 module _ {K : Type 0} (eq : K → K → Bool) where
   -- A request at the place i of x, with rs behind it, of n requests. Its next place is written and queued.
@@ -222,6 +222,15 @@ module _ {K : Type 0} (eq : K → K → Bool) where
     pub within : i < length nexts
     pub wrote : marks ≡ set kept (get_or nexts i 0) true
     pub moved : IsPermutation (get_or nexts i 0 ∷ queue) more
+
+  -- the place that is written and queued is within the requests, or at their end
+  pub next_within : (i : ℕ) (requests : List K) (nexts : List ℕ) → nexts ≡ next_from eq 0 requests → i < length nexts
+      → get_or nexts i 0 ≤ length requests
+  next_within i requests nexts are within =
+      let many : length nexts ≡ length requests = ap (λ l. length l) are ∙ length-next_from eq 0 requests in
+      let (x, rs, here, behind) = request_at i requests (omega (arith, many, within)) in
+      let left : length rs ≡ length requests - (i + 1) = sym (ap (λ l. length l) behind) ∙ length-drop (i + 1) requests in
+      omega (arith, next_at eq i x rs requests nexts (get_or nexts i 0) are here refl, until-le-length eq x rs, left, many, within)
 
   IsStep_within : (i : ℕ) (requests : List K) (nexts : List ℕ) (kept marks : List Bool) (queue more : List ℕ)
       → IsStep i requests nexts kept marks queue more → i < length requests

@@ -1,11 +1,12 @@
 //! The least number of misses, for any room.
-ghost use Rattle.std.specs.Prelude.{◌≡◌, ◌<◌, ◌≤◌, [], ◌∷◌, false, slice_set, IfOk, IfErr, IsOk};
+ghost use Rattle.std.specs.Prelude.{◌≡◌, ◌+◌, ◌-◌, ◌^◌, ◌<◌, ◌≤◌, [], ◌∷◌, false, true, length, slice_set, All, IfOk, IfErr, OnOk, IsOk};
 ghost use Rattle.std.specs.BinaryHeap.{IsHeap, IsUpperBound, heap_items, heap_len};
 ghost use Rattle.std.specs.List.Sorted.{IsPermutation};
 ghost use Rattle.std.specs.Ordering.{nat_cmp};
 ghost use Rattle.std.specs.Int.NonZero.{non_zero_usize_get};
 ghost use Rattle.clru_model.specs.Least.{IsLeast, IsNearFromAnyStart};
 ghost use Rattle.clru_model.specs.Requests.{misses};
+ghost use Rattle.clru_least.specs.Queue.{queue_of};
 
 use crate::nexts::next_places;
 use std::alloc::{AllocError, Allocator};
@@ -77,6 +78,7 @@ impl<'a, K: Eq, A: Allocator + Copy> Foresight<'a, K, A> {
         let mut kept = Vec::new(self.alloc);
         kept.resize(count, false)?;
         let mut ahead = BinaryHeap::with_capacity(self.alloc, count)?;
+        let mut done = 0;
         let mut held = 0;
         let mut misses = 0;
         for (place, next) in self.nexts.iter().enumerate() {
@@ -85,30 +87,73 @@ impl<'a, K: Eq, A: Allocator + Copy> Foresight<'a, K, A> {
                 if held < room.get() {
                     held += 1;
                 } else {
-                    drop_latest(&mut ahead, &mut kept);
+                    drop_latest(&mut ahead, &mut done, &mut kept, count);
                 }
             }
-            mark(&mut kept, *next, true);
-            ahead.push(*next)?;
+            keep(&mut ahead, &mut done, &mut kept, count, *next)?;
         }
         Ok(misses)
     }
 }
 
 /// Takes the greatest place from the queue, and its mark away. Returns it.
-fn drop_latest<A: Allocator>(ahead: &mut BinaryHeap<usize, A>, kept: &mut Vec<bool, A>) -> usize
-    requires some { 0 < heap_len ahead.old }
+///
+/// A key that is not requested again has its next place at the end. Those are the greatest, and only counted, as `done`.
+fn drop_latest<A: Allocator>(
+    ahead: &mut BinaryHeap<usize, A>,
+    done: &mut usize,
+    kept: &mut Vec<bool, A>,
+    end: usize,
+) -> usize
+    requires some { 0 < length (queue_of end done.old (heap_items ahead.old)) }
     requires ordered { IsHeap nat_cmp (heap_items ahead.old) }
-    ensures taken { IsPermutation (heap_items ahead.old) (result ∷ heap_items ahead.new) }
-    ensures latest { IsUpperBound nat_cmp result (heap_items ahead.old) }
+    requires inside { All (λ p. p ≤ end) (heap_items ahead.old) }
+    requires marks { length kept.old.items ≡ end }
+    ensures taken { IsPermutation (queue_of end done.old (heap_items ahead.old)) (result ∷ queue_of end done.new (heap_items ahead.new)) }
+    ensures latest { IsUpperBound nat_cmp result (queue_of end done.old (heap_items ahead.old)) }
     ensures ordered { IsHeap nat_cmp (heap_items ahead.new) }
+    ensures inside { All (λ p. p ≤ end) (heap_items ahead.new) }
+    ensures fewer { done.new ≤ done.old }
     ensures marks { kept.new.items ≡ slice_set kept.old.items result false }
 {
+    if *done > 0 {
+        *done -= 1;
+        return end;
+    }
     let Some(latest) = ahead.pop() else {
         unreachable!();
     };
     mark(kept, latest, false);
     latest
+}
+
+/// Puts the place into the queue, and its mark there if it has one.
+fn keep<A: Allocator>(
+    ahead: &mut BinaryHeap<usize, A>,
+    done: &mut usize,
+    kept: &mut Vec<bool, A>,
+    end: usize,
+    place: usize,
+) -> Result<(), AllocError>
+    requires within { place ≤ end }
+    requires few { done.old < 2 ^ 64 - 1 }
+    requires ordered { IsHeap nat_cmp (heap_items ahead.old) }
+    requires inside { All (λ p. p ≤ end) (heap_items ahead.old) }
+    requires marks { length kept.old.items ≡ end }
+    ensures queued { OnOk result (IsPermutation (place ∷ queue_of end done.old (heap_items ahead.old))
+        (queue_of end done.new (heap_items ahead.new))) }
+    ensures ordered { OnOk result (IsHeap nat_cmp (heap_items ahead.new)) }
+    ensures inside { OnOk result (All (λ p. p ≤ end) (heap_items ahead.new)) }
+    ensures few { done.new ≤ done.old + 1 }
+    ensures marks { OnOk result (kept.new.items ≡ slice_set kept.old.items place true) }
+{
+    if place >= end {
+        *done += 1;
+        return Ok(());
+    }
+    kept[place] = true;
+    ahead.push(place)?;
+    Ok(())
 }
 
 /// Writes the mark of the place, if there is one.

@@ -1,14 +1,20 @@
 use Rattle.std.proofs.Common.{◌≡◌, ◌≤◌, length}
 use Rattle.std.specs.BinaryHeap.{IsHeap, heap_items}
 use Rattle.std.specs.Int.NonZero.{non_zero_usize_get}
+use Rattle.std.specs.List.{All}
 use Rattle.std.specs.Ordering.{nat_cmp}
+use Rattle.clru_least.specs.Queue.{queue_of}
 use Rattle.clru_least.proofs.Held.{IsOnTheWay}
 use Rattle.clru_least.proofs.foresight.Foresight.least.Given as goal
 
 abbrev pub invariant-loop-place : goal.invariant-loop-place
 invariant-loop-place g l = record {
-  way : IsOnTheWay g.K.PartialEq.eq (non_zero_usize_get l.room) l.place l.self l.kept.items (heap_items l.ahead) l.held l.misses;
+  way : IsOnTheWay g.K.PartialEq.eq (non_zero_usize_get l.room) l.place l.self l.kept.items (queue_of l.count l.done (heap_items l.ahead)) l.held
+      l.misses;
   ordered : IsHeap nat_cmp (heap_items l.ahead);
-  marks : length l.kept.items ≡ length l.self;
+  inside : All (λ p. p ≤ l.count) (heap_items l.ahead);
+  marks : length l.kept.items ≡ l.count;
+  end : l.count ≡ length l.self;
   few : l.misses ≤ l.place;
+  few_done : l.done ≤ l.place;
 }

@@ -1,0 +1,49 @@
+#!/usr/bin/env python3
+"""Compares the misses by size with those of a plain simulation, and prints the table of `by_size.c`:
+
+    simulated.py LIBCLRU.SO < KEYS_AND_SIZES
+
+Each line has a key and a size. It fails where a number differs, with and without a seed.
+"""
+import collections
+import ctypes
+import sys
+
+import curve
+
+
+def simulated(requests, capacity):
+    """The misses and the missed size of an LRU cache of objects, whose sizes together are at most the capacity."""
+    held, room, misses, missed = collections.OrderedDict(), capacity, 0, 0
+    for request in requests:
+        size = max(request[1], 1)
+        if request in held:
+            held.move_to_end(request)
+            continue
+        misses, missed, room = misses + 1, missed + size, room - size
+        held[request] = size
+        while room < 0:
+            room += held.popitem(last=False)[1]
+    return misses, missed
+
+
+def main():
+    library = ctypes.CDLL(sys.argv[1])
+    requests = [tuple(map(int, line.split())) for line in sys.stdin]
+    keys, sizes = [list(column) for column in zip(*requests)]
+    greatest, whole = max([1, *sizes]), sum(max(size, 1) for _, size in set(requests))
+    capacities = [greatest << power for power in range(64) if power == 0 or greatest << power - 1 < whole]
+    wanted = [simulated(requests, capacity) for capacity in capacities]
+    for seed in (0, 0), (1, 2**63):
+        curve.SEED = tuple(map(ctypes.c_uint64, seed))
+        misses, missed, distinct_size = curve.curve_by_size(library, keys, sizes, capacities)
+        found = [(int(a), int(b)) for a, b in zip(misses, missed)]
+        if found != wanted or distinct_size != whole:
+            sys.exit(f"simulated: {found} and {distinct_size} with seed {seed}, and not {wanted} and {whole}")
+    print("capacity,misses,missed_size")
+    for capacity, numbers in zip(capacities, wanted):
+        print(capacity, *numbers, sep=",")
+
+
+if __name__ == "__main__":
+    main()
