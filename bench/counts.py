@@ -66,7 +66,7 @@ def per_call(total, calls):
 def pass_rows(given, built):
     """The rows of a list of requests: ours and plain Rust, and one replay of ours."""
     rows = [["", "keys", "by", *COUNTED]]
-    passes = [it for it in ("curve", "least") if it in given.only]
+    passes = [it for it in ("curve", "sizes", "least") if it in given.only]
     for capacity in PASS_CAPACITIES if passes else []:
         for row, who in [("replay", "ours"), *((row, who) for row in passes for who in PASSES[row])]:
             print(f"bench: counting {row} of {who} at {capacity}", file=sys.stderr)

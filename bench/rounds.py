@@ -6,7 +6,7 @@ import sys
 from measure import Measured, answer, run_program, turned
 
 # The rows of a list of requests, and who answers each.
-PASSES = {"curve": ("ours", "plain"), "least": ("ours", "plain"), "rooms": ("ours", "plain")}
+PASSES = {it: ("ours", "plain") for it in ("curve", "sizes", "least", "rooms")}
 PASS_CAPACITIES = (10**4, 10**5)  # for four times as many keys
 PASS_CALLS = 10**6
 MEMORY_CAPACITY = 10**5
@@ -69,6 +69,11 @@ def curve(measured, given, built, at):
         add_passes(measured, built, at, ["curve"], PASS_CAPACITIES[-1], 10 * PASS_CALLS)
 
 
+def sizes(measured, given, built, at):
+    for capacity in PASS_CAPACITIES:
+        add_passes(measured, built, at, ["sizes"], capacity, PASS_CALLS)
+
+
 def least(measured, given, built, at):
     for capacity in PASS_CAPACITIES:
         add_passes(measured, built, at, ["least", "rooms"], capacity, PASS_CALLS)
@@ -126,4 +131,4 @@ def input_of(given, built, capacity):
     return source
 
 
-GROUPS = {it.__name__: it for it in (stages, fills, texts, memory, program, curve, least, mrc)}
+GROUPS = {it.__name__: it for it in (stages, fills, texts, memory, program, curve, sizes, least, mrc)}

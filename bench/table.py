@@ -18,6 +18,7 @@ MEMORY = {"highest": "bytes an entry, at most", "rest": "bytes an entry, at rest
 # A row of many capacities, and the row of the replay that it stands beside.
 PASSES = {
     "curve": ("curve", "beside curve"),
+    "sizes": ("sizes", "beside sizes"),
     "least": ("least, a room", "beside least"),
     "rooms": ("least, 20 rooms", "beside rooms"),
     "table": ("clru_mrc", "replayed"),

@@ -14,6 +14,8 @@ fn no_requests_ask_for_no_memory(rt: HostRuntime) -> Result<(), Fail> {
     let none: [u64; 0] = [];
     let curve = miss_curve(&heap, &none, clru_curve::DefaultState)?;
     equal!(rt; (curve.distinct(), heap.asked()), (0, 0));
+    let pass = DistancePass::<u64, _, _>::new(&heap);
+    equal!(rt; (pass.curve(&heap)?.distinct(), heap.asked()), (0, 0));
     Ok(())
 }
 

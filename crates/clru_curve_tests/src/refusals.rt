@@ -132,5 +132,7 @@ fn no_sized_requests_ask_for_no_memory(rt: HostRuntime) -> Result<(), Fail> {
         Ok(curve) => equal!(rt; (curve.requests(), heap.asked()), (0, 0)),
         Err(_) => return Err("refused".into()),
     }
+    let pass = SizedPass::<u64, _, _>::new(&heap);
+    equal!(rt; (pass.curve(&heap)?.requests(), heap.asked()), (0, 0));
     Ok(())
 }

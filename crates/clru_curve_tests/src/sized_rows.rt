@@ -173,3 +173,39 @@ fn sizes_that_pass_the_greatest_number_are_refused(rt: HostRuntime) -> Result<()
     equal!(rt; curve.misses(NonZeroUsize::MAX), Some(2));
     Ok(())
 }
+
+/// Key 1 takes the half of what a number holds, and key 2 all of it but two; key 3 weighs 1, and other keys nothing.
+#[derive(Clone, Copy, Drop)]
+struct Huge;
+
+impl WeightScale<u64, ()> for Huge {
+    ghost weight = { λ _ key _. slice_index_or (0 ∷ 9223372036854775807 ∷ 18446744073709551612 ∷ 1 ∷ []) key 0 };
+
+    fn weight(&self, key: &u64, _value: &()) -> usize {
+        match *key {
+            1 => 9223372036854775807,
+            2 => 18446744073709551612,
+            3 => 1,
+            _ => 0,
+        }
+    }
+}
+
+const TOO_LARGE: [(&[u64], u64); 5] = [
+    (&[1, 1], 1),
+    (&[0, 1, 0, 0, 1, 2], 1),
+    (&[2, 0, 0, 0], 0),
+    (&[2, 0, 3, 0], 3),
+    (&[3, 1, 2, 1], 2),
+];
+
+#[test]
+fn the_first_key_that_was_not_taken_comes_back(rt: HostRuntime) -> Result<(), Fail> {
+    for (requests, key) in TOO_LARGE.iter() {
+        match sized_curve(rt.alloc(), requests, Huge, clru_curve::DefaultState) {
+            Err(refusal) => equal!(rt; refusal, SizedRequestError::TooLarge(*key), key),
+            Ok(_) => return Err("taken".into()),
+        }
+    }
+    Ok(())
+}

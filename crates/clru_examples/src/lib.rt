@@ -14,5 +14,6 @@ pub mod pages;
 pub mod replays;
 pub mod scale;
 pub mod seed;
+pub mod sized_curves;
 pub mod store;
 pub mod texts;

@@ -6,8 +6,9 @@
 //! - `reserved CACHE CAPACITY`: a fill of reserved memory
 //! - `made CACHE CAPACITY`: a fill with the making of the cache
 //! - `texts CACHE CAPACITY CALLS`: stages over texts as keys
-//! - `pass ROW WHO CAPACITY CALLS`: a replay, a curve, the least possible misses for one room or for 20 (`rooms`), by `ours` or
-//!   in `plain` Rust; behind the sum stand the growth of the resident memory and the number of distinct keys
+//! - `pass ROW WHO CAPACITY CALLS`: a replay, a curve, one by size (`sizes`), the least possible misses for one room or for 20
+//!   (`rooms`), by `ours` or in `plain` Rust; behind the sum stand the growth of the resident memory and the number of distinct
+//!   keys
 //!
 //! `memory CACHE CAPACITY` prints the growth of the resident memory by a fill, at its highest and at the end, in bytes. `hashes`
 //! tests that all hash alike. `lines CACHE` is the program that replays the lines of standard input, and `table [ROOMS]` the one

@@ -12,6 +12,7 @@ extern "C" {
     fn clru_bench_hash_of_text(bytes: *const u8, count: usize) -> u64;
     fn clru_bench_replay(capacity: usize, keys: *const u64, count: usize, out: *mut Tally);
     fn clru_bench_curve(capacity: usize, keys: *const u64, count: usize, out: *mut Tally);
+    fn clru_bench_sizes(capacity: usize, keys: *const u64, count: usize, out: *mut Tally);
     fn clru_bench_least(
         rooms: *const usize,
         room_count: usize,
@@ -92,6 +93,12 @@ pub fn replay(capacity: usize, keys: &[u64]) -> Tally {
 pub fn curve(capacity: usize, keys: &[u64]) -> Tally {
     let mut tally = Tally::default();
     unsafe { clru_bench_curve(capacity, keys.as_ptr(), keys.len(), &mut tally) };
+    tally
+}
+
+pub fn sizes(capacity: usize, keys: &[u64]) -> Tally {
+    let mut tally = Tally::default();
+    unsafe { clru_bench_sizes(capacity, keys.as_ptr(), keys.len(), &mut tally) };
     tally
 }
 
