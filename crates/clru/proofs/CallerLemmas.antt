@@ -10,7 +10,7 @@ use Rattle.std.specs.declared.hash.Hasher as hasher
 use Rattle.std.proofs.lemmas.Fn.{chained_keeps}
 use Rattle.clru_model.specs.Entries.{with_value_at}
 use Rattle.clru.specs.Drops.{TakesOver, HandsOutTo, TakesEach}
-use Rattle.clru.specs.Guards.{place_of, length-with_value_at, place, pair, with_value}
+use Rattle.clru.specs.EntryMut.{index_of, length-with_value_at, index, pair, with_value}
 use Rattle.clru.specs.declared.entry.End.TheVariants.{Front, Back}
 use Rattle.clru.specs.declared.entry.EntryMut.{EntryMut}
 pub use Rattle.clru_model.proofs.Dropping.{length-weighted_drops}
@@ -30,15 +30,15 @@ key-with_value_at (suc i) (suc j) v (e ∷ es) = key-with_value_at i j v es
 
 module _ {K V S A H : Type 0} {g : eq.Ghosts K} {h : hash.Ghosts K} {b : builder.Ghosts S H} {w : hasher.Ghosts H}
     (e : EntryMut K V S A H g h b w) (v : V) where
-  -- an entry that is lent keeps its place and its key, whatever is written to its value
-  pub place-written : place (with_value e v) ≡ place e
-  place-written = let es = e.cache.now.entries in (elim e.end as (λ end. place_of end (with_value_at (place e) v es) ≡ place_of end es) [
+  -- an entry that is lent keeps its index and its key, whatever is written to its value
+  pub index-written : index (with_value e v) ≡ index e
+  index-written = let es = e.cache.now.entries in (elim e.end as (λ end. index_of end (with_value_at (index e) v es) ≡ index_of end es) [
     | Front ↦ refl
-    | Back ↦ ap (λ n. n - 1) (length-with_value_at (place e) v es)
+    | Back ↦ ap (λ n. n - 1) (length-with_value_at (index e) v es)
   ])
 
   pub key-written : option_map (λ (p : K × V). p.0) (pair (with_value e v)) ≡ option_map (λ (p : K × V). p.0) (pair e)
-  key-written = rw place-written (key-with_value_at (place e) (place e) v e.cache.now.entries)
+  key-written = rw index-written (key-with_value_at (index e) (index e) v e.cache.now.entries)
 
 module _ {F K V : Type 0} (g : Mut F (K × (V × Unit {0})) (Unit {0})) where
   -- what each call of the closure keeps, of its state at the start, the pairs that it took since and its state now, holds after

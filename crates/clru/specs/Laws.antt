@@ -9,7 +9,7 @@ use Rattle.clru.specs.Cache.{Cache, IsValid}
 use Rattle.clru.specs.Drops.{HandsOutTo}
 use Rattle.clru.specs.declared.cache.answer.Put.{Put}
 pub use Rattle.clru_model.specs.Laws.{TrueMarksAreHits, OneMarkForEach, MissesAreFalseMarks, DistinctCountsFirst}
-pub use Rattle.clru_model.specs.Laws.{SchedulesAreByPlace, FalseMarksAreMisses, ScheduleMissesAreByPlace}
+pub use Rattle.clru_model.specs.Laws.{SchedulesAreByPosition, FalseMarksAreMisses, ScheduleMissesAreByPosition}
 pub use Rattle.clru_model.specs.Laws.{HitsGrow, MissesFall, LesserBeginsGreater}
 pub use Rattle.clru_model.specs.Laws.{PutsHit, PutsCompete, PutsCompeteFromAnyStart}
 pub use Rattle.clru_model.specs.Laws.{FitIsLongest, OnlyFitIsLongest}

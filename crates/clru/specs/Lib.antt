@@ -1,4 +1,4 @@
-pub use Rattle.clru_model.specs.ByPlace
+pub use Rattle.clru_model.specs.ByPosition
 pub use Rattle.clru_model.specs.Entries
 pub use Rattle.clru_model.specs.Errors
 pub use Rattle.clru_model.specs.Refusals
@@ -14,9 +14,9 @@ pub mod Closures
 pub mod Collecting
 pub mod Config
 pub mod Drops
+pub mod EntryMut
+pub mod EntryMutLends
 pub mod Fields
-pub mod GuardLends
-pub mod Guards
 pub mod Laws
 pub mod Lends
 pub mod Memory

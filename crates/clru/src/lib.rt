@@ -22,8 +22,8 @@ mod shrink;
 pub use cache::{CLruCache, Put};
 pub use clru_list::NoMemory;
 pub use clru_model::{
-    DefaultState, PutError, TryPutError, WeightScale, ZeroWeightScale, law_by_place, law_growth,
-    law_inclusion, law_longest_fit, law_requests, law_schedules_by_place, law_sizes,
+    DefaultState, PutError, TryPutError, WeightScale, ZeroWeightScale, law_by_position, law_growth,
+    law_inclusion, law_longest_fit, law_requests, law_schedules_by_position, law_sizes,
 };
 pub use config::CLruCacheConfig;
 pub use entry::EntryMut;

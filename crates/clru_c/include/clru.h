@@ -49,7 +49,7 @@ extern "C" {
 
 /* Which requests hit in an LRU cache of the capacity, in keys, that starts empty, and how many don't.
  *
- * hits has as many places as keys: true where the request hits. *misses is the number of the others.
+ * hits has as many elements as keys: true where the request hits. *misses is the number of the others.
  *
  * Proved: a request hits exactly where its key was requested before, and fewer than capacity distinct keys since. And for h from 1
  * to capacity the misses are at most capacity / (capacity - h + 1) times those of each way that starts empty, holds at most h
@@ -63,7 +63,7 @@ uint32_t clru_hits_at(const uint64_t *keys, size_t keys_len, size_t capacity, ui
 
 /* The misses at every capacity, from one pass.
  *
- * misses[i] is the number at capacity i + 1, for each place of the array, which may be of any length. *distinct is the number of
+ * misses[i] is the number at capacity i + 1, for each element of the array, which may be of any length. *distinct is the number of
  * distinct keys: from that capacity on the misses stay the same, and are that number.
  *
  * Proved: misses[i] is the number of requests that don't hit, as clru_hits_at says it, at capacity i + 1.
@@ -78,7 +78,7 @@ uint32_t clru_misses_by_capacity(const uint64_t *keys, size_t keys_len, uint64_t
  * which may know all requests beforehand. A way takes in each key that is asked for and no other. One that may let a key pass by
  * misses no fewer than the least with room for one key more.
  *
- * least has as many places as rooms: least[i] is for room rooms[i]. Rooms may stand in any order, and twice.
+ * least has as many elements as rooms: least[i] is for room rooms[i]. Rooms may stand in any order, and twice.
  *
  * Proved: some way that starts empty has least[i] misses, and none has fewer; one that starts with keys has at most rooms[i]
  * fewer; LRU of that capacity has no fewer.
@@ -91,10 +91,10 @@ uint32_t clru_least_by_room(const uint64_t *keys, size_t keys_len, const size_t 
 
 /* The misses where keys have sizes: the requests that miss at each of the capacities, and the size that they miss.
  *
- * A capacity is a sum of sizes, in bytes say. sizes has as many places as keys: sizes[i] is the size of what request i asks for.
+ * A capacity is a sum of sizes, in bytes say. sizes has as many elements as keys: sizes[i] is the size of what request i asks for.
  * A key that comes with another size is another object, so that a size never changes. A size of 0 counts as 1.
  *
- * misses and missed_sizes have as many places as capacities: misses[i] is the number of requests that miss at capacities[i], and
+ * misses and missed_sizes have as many elements as capacities: misses[i] is the number of requests that miss at capacities[i], and
  * missed_sizes[i] the sum of their sizes. Capacities may stand in any order, and twice. *distinct_size is the sum of the sizes of
  * the distinct objects: from that capacity on both stay the same, and the missed size is that sum. It can be had alone, with
  * arrays of length 0.

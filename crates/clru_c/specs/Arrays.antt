@@ -4,7 +4,7 @@ use Rattle.clru_model.specs.Requests.{distinct, marks, misses}
 use Rattle.clru_model.specs.Schedule.{IsCompetitive, IsCompetitiveFromAnyStart}
 use Rattle.clru_model.specs.Least.{IsLeast, IsNearFromAnyStart}
 
--- at each place below n stands a number of which P holds at that place
+-- at each index below n stands a number of which P holds at that index
 abbrev pub AreBelow : (ℕ → ℕ → Type 0) → List ℕ → ℕ → Type 0
 AreBelow P array n = (i : ℕ) → i < n → P i (slice_index array i)
 
@@ -16,7 +16,7 @@ module _ {K : Type 0} (eq : K → K → Bool) where
     pub bound : IsCompetitive eq capacity requests n
     pub bound_any_start : IsCompetitiveFromAnyStart eq capacity requests n
 
-  -- at each place the misses at the capacity one above it: at capacity 1, 2 and so on
+  -- at each index the misses at the capacity one above it: at capacity 1, 2 and so on
   abbrev pub AreMisses : List K → List ℕ → Type 0
   AreMisses requests array = AreBelow (λ i n. n ≡ misses eq (suc i) requests) array (length array)
 
@@ -31,6 +31,6 @@ module _ {K : Type 0} (eq : K → K → Bool) where
     pub any_start : IsNearFromAnyStart eq room requests n
     pub beside_lru : n ≤ misses eq room requests
 
-  -- at each place the least number of misses for the room at that place
+  -- at each index the least number of misses for the room at that index
   abbrev pub AreLeast : List K → List ℕ → List ℕ → Type 0
   AreLeast requests rooms array = AreBelow (λ i n. IsLeastOf requests (slice_index rooms i) n) array (length array)

@@ -15,7 +15,7 @@ same_object x y = nat_eq x.0 y.0 && nat_eq x.1 y.1
 abbrev pub weight_of : ℕ × ℕ → ℕ
 weight_of object = object.1 - 1
 
--- at each place the requests that miss at the capacity at that place, and their size; beside them the size of the distinct objects
+-- at each index the requests that miss at the capacity at that index, and their size; beside them the size of the distinct objects
 pub record AreSizedMisses (requests : List (ℕ × ℕ)) (capacities misses sizes : List ℕ) (n : ℕ) : Type 0 where
   pub missed : AreBelow (λ i m. m ≡ misses_by_size same_object weight_of (slice_index capacities i) requests) misses (length misses)
   pub missed_sizes : AreBelow (λ i m. m ≡ missed_size same_object weight_of (slice_index capacities i) requests) sizes (length sizes)

@@ -43,7 +43,7 @@ pub(crate) fn hits_at<S: BuildHasher + Drop, A: Allocator + Copy>(
     OK
 }
 
-/// The misses at the capacities 1, 2 and so on, one for each place of the array, and the number of distinct keys.
+/// The misses at the capacities 1, 2 and so on, one for each element of the array, and the number of distinct keys.
 pub(crate) fn misses_by_capacity<S: BuildHasher + Drop, A: Allocator + Copy>(
     alloc: A,
     keys: &[u64],
@@ -59,8 +59,8 @@ pub(crate) fn misses_by_capacity<S: BuildHasher + Drop, A: Allocator + Copy>(
     let Ok(curve) = miss_curve(alloc, keys, hash_builder) else {
         return NO_MEMORY;
     };
-    for place in 0..missed.len() {
-        missed[place] = curve.misses(NonZeroUsize::MIN.saturating_add(place));
+    for index in 0..missed.len() {
+        missed[index] = curve.misses(NonZeroUsize::MIN.saturating_add(index));
     }
     *kinds = curve.distinct();
     OK
@@ -90,14 +90,14 @@ pub(crate) fn least_by_room<S: BuildHasher + Drop, A: Allocator + Copy>(
     let Ok(mut answers) = Vec::from_elem(alloc, 0usize, rooms.len()) else {
         return NO_MEMORY;
     };
-    for place in 0..rooms.len() {
-        let Some(room) = NonZeroUsize::new(rooms[place]) else {
+    for index in 0..rooms.len() {
+        let Some(room) = NonZeroUsize::new(rooms[index]) else {
             unreachable!();
         };
         let Ok(misses) = foresight.least(room) else {
             return NO_MEMORY;
         };
-        answers[place] = misses;
+        answers[index] = misses;
     }
     least.copy_from_slice(&answers);
     OK

@@ -43,7 +43,7 @@ pub extern "C" fn clru_hits_at(
     }
 }
 
-/// Writes the misses at the capacities 1, 2 and so on, one for each place of the array, and the number of distinct keys.
+/// Writes the misses at the capacities 1, 2 and so on, one for each element of the array, and the number of distinct keys.
 #[unsafe(no_mangle)]
 pub extern "C" fn clru_misses_by_capacity(
     alloc: Global,

@@ -71,8 +71,8 @@ fn has_within(capacities: &[usize], weight: usize) -> bool
     ensures some { result ≡ true → SomeIndex capacities.now (λ i. slice_index capacities.now i ≤ weight) }
     ensures none { result ≡ false → EachIndex capacities.now (λ i. weight < slice_index capacities.now i) }
 {
-    for place in 0..capacities.len() {
-        if capacities[place] <= weight {
+    for index in 0..capacities.len() {
+        if capacities[index] <= weight {
             return true;
         }
     }
@@ -94,16 +94,16 @@ fn write_misses<A: Allocator>(
     ensures lost { AreBelow (λ i m. m ≡ missed_size_within curve.now (slice_index capacities.now i)) lost.new
         (length lost.new) }
 {
-    for place in 0..capacities.len() {
-        let Some(capacity) = NonZeroUsize::new(capacities[place]) else {
+    for index in 0..capacities.len() {
+        let Some(capacity) = NonZeroUsize::new(capacities[index]) else {
             unreachable!();
         };
         let (Some(misses), Some(size)) = (curve.misses(capacity), curve.missed_size(capacity))
         else {
             unreachable!();
         };
-        missed[place] = misses;
-        lost[place] = size;
+        missed[index] = misses;
+        lost[index] = size;
     }
 }
 
@@ -117,8 +117,8 @@ fn objects_of<A: Allocator>(
     ensures { IfOk result (λ objects. objects.items ≡ zip keys.now sizes.now) }
 {
     let mut objects = Vec::with_capacity(alloc, keys.len())?;
-    for place in 0..keys.len() {
-        objects.push((keys[place], sizes[place]))?;
+    for index in 0..keys.len() {
+        objects.push((keys[index], sizes[index]))?;
     }
     Ok(objects)
 }

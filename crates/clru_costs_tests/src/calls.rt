@@ -8,7 +8,7 @@ use clru_counted::cost::{
     DROPS, EACH, FIRST, IF_HELD, Makes, NONE, ONE, OTHERS, PUT, Row, TAKES, WEIGHED,
 };
 use clru_counted::counted::{Counting, Counts, Key, Value};
-use clru_fixtures::sizes::room;
+use clru_fixtures::sizes::capacity_of;
 use std::hash::BuildHasher;
 use std::test::Fail;
 
@@ -157,7 +157,7 @@ impl<'a, S: BuildHasher + Counting<'a>, W: WeightScale<Key<'a>, Value<'a>> + Cou
             PopFront => drop(cache.pop_front()),
             PopBack => drop(cache.pop_back()),
             Clear => cache.clear(),
-            Resize(capacity) => cache.resize(room(capacity)?),
+            Resize(capacity) => cache.resize(capacity_of(capacity)?),
             Retain(keeps) => cache.retain(|_, _| keeps),
             PutWithWeight(load) => {
                 let value = counts.value(load.of(cache.capacity()))?;

@@ -5,7 +5,7 @@ use clru::{CLruCache, ZeroWeightScale};
 use clru_counted::cache::Counted;
 use clru_counted::cost::Subject;
 use clru_counted::counted::{Counts, OneChain};
-use clru_fixtures::sizes::room;
+use clru_fixtures::sizes::capacity_of;
 use std::process::Abort;
 use std::test::Fail;
 
@@ -43,7 +43,7 @@ fn what_a_retain_removes_is_gone_at_the_next_entry(rt: HostRuntime) -> Result<()
 #[test]
 fn reads_and_retains_are_quick_however_many_entries_there_are(rt: HostRuntime) -> Result<(), Fail> {
     let number = 200_000;
-    let mut cache = CLruCache::new(rt.alloc(), room(number)?);
+    let mut cache = CLruCache::new(rt.alloc(), capacity_of(number)?);
     for key in 0..number {
         cache.put(key, 1u64)?;
     }

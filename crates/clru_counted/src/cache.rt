@@ -3,7 +3,7 @@
 use crate::cost::{State, Subject};
 use crate::counted::{Counting, Counts, Key, Value};
 use clru::{CLruCache, CLruCacheConfig, WeightScale};
-use clru_fixtures::sizes::room;
+use clru_fixtures::sizes::capacity_of;
 use ration::Rationed;
 use std::alloc::Global;
 use std::hash::BuildHasher;
@@ -19,7 +19,7 @@ impl<'a, S: BuildHasher + Counting<'a>, W: WeightScale<Key<'a>, Value<'a>> + Cou
         counts: &'a Counts,
         (capacity, entries, places, _): State,
     ) -> Result<Counted<'a, S, W>, Fail> {
-        let config = CLruCacheConfig::new(room(capacity)?)
+        let config = CLruCacheConfig::new(capacity_of(capacity)?)
             .with_hasher(S::there(counts))
             .with_scale(W::there(counts))
             .with_memory(places);

@@ -21,7 +21,7 @@ take-nil : (k : ℕ) → take {A = ℕ} k [] ≡ []
 take-nil zero = refl
 take-nil (suc k) = refl
 
--- one more at a place counts in the sums that pass it
+-- one more at a position counts in the sums that pass it
 sum-take-set : (k : ℕ) (h : List ℕ) (d : ℕ) → d < length h → sum (take k (set h d (get_or h d 0 + 1))) ≡ sum (take k h) + up_to (suc d) k
 sum-take-set zero h d inside = refl
 sum-take-set (suc k) [] d inside = omega (arith, inside)

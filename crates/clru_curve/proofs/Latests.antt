@@ -68,8 +68,8 @@ power_low b low = elim (cases_lt b 63) [
 ]
 
 module _ (words nodes : List ℕ) (n : ℕ) (kept : IsLatest words nodes n) where
-  place : (p : ℕ) → 64 * (p / 64) + p % 64 ≡ p
-  place p = omega (arith, div-add-mod' p 64)
+  position : (p : ℕ) → 64 * (p / 64) + p % 64 ≡ p
+  position p = omega (arith, div-add-mod' p 64)
 
   pub inside : (p : ℕ) → p < 64 * length words → p / 64 < length words
   inside p within = div_below p 64 (length words) (omega arith) (omega (arith, within))
@@ -97,7 +97,7 @@ module _ (words nodes : List ℕ) (n : ℕ) (kept : IsLatest words nodes n) wher
     push_sets =
         let w = get_or words (n / 64) 0 in let i = n / 64 in
         let s = sets words i w (w + 2 ^ (n % 64)) (n % 64) (inside n room) (mod_below n 64 (omega arith)) (ones_set w (n % 64) low_word) in
-        subst (λ p. Sets words (set words i (w + 2 ^ (n % 64))) i p) (place n)
+        subst (λ p. Sets words (set words i (w + 2 ^ (n % 64))) i p) (position n)
         (subst (λ l. Sets l (set words i (w + 2 ^ (n % 64))) i (64 * i + n % 64)) (set-get_or words i 0) s)
 
     pub IsLatest-push : (nodes' : List ℕ) → length nodes' ≡ length nodes → IsCounted (λ j. words_from words j + up_to j (n / 64)) nodes'
@@ -134,7 +134,7 @@ module _ (words nodes : List ℕ) (n : ℕ) (kept : IsLatest words nodes n) wher
     clear_sets =
         let w = get_or words (p / 64) 0 in let i = p / 64 in let loses = clear_loses in
         let s = sets words i (w - 2 ^ (p % 64)) w (p % 64) (inside p within) (mod_below p 64 (omega arith)) loses.fewer in
-        subst (λ q. Sets (set words i (w - 2 ^ (p % 64))) words i q) (place p)
+        subst (λ q. Sets (set words i (w - 2 ^ (p % 64))) words i q) (position p)
         (subst (λ l. Sets (set words i (w - 2 ^ (p % 64))) l i (64 * i + p % 64)) (set-get_or words i 0) s)
 
     -- the nodes as they were count one more

@@ -40,9 +40,9 @@ module _ {K : Type 0} (eq : K → K → Bool) where
       empty p = omega (arith, ones_upper 0 (p % 64), ones-zero)
 
   -- the same bits in other words
-  pub IsPass-same : (past : List K) (places : List (K × ℕ)) (ws vs : List ℕ) (n : ℕ) (h : List ℕ) → ((p : ℕ) → ones_from vs p ≡ ones_from ws p)
-      → IsPass eq past (pass places ws n h) → IsPass eq past (pass places vs n h)
-  IsPass-same past places ws vs n h same is = record {
+  pub IsPass-same : (past : List K) (positions : List (K × ℕ)) (ws vs : List ℕ) (n : ℕ) (h : List ℕ) → ((p : ℕ) → ones_from vs p ≡ ones_from ws p)
+      → IsPass eq past (pass positions ws n h) → IsPass eq past (pass positions vs n h)
+  IsPass-same past positions ws vs n h same is = record {
     ranked = record {
       known = is.ranked.known;
       before = is.ranked.before;
@@ -56,32 +56,32 @@ module _ {K : Type 0} (eq : K → K → Bool) where
     requests = is.requests;
   }
 
-module _ {K : Type 0} (eq : K → K → Bool) (laws : IsEquivalence eq) (past : List K) (places : List (K × ℕ)) (ws : List ℕ) (n : ℕ) (h : List ℕ)
-    (x : K) (is : IsPass eq past (pass places ws n h)) where
+module _ {K : Type 0} (eq : K → K → Bool) (laws : IsEquivalence eq) (past : List K) (positions : List (K × ℕ)) (ws : List ℕ) (n : ℕ) (h : List ℕ)
+    (x : K) (is : IsPass eq past (pass positions ws n h)) where
   -- a key that is not known was not requested
-  not_held : lookup (eq x) places ≡ None → holds eq x past ≡ false
+  not_held : lookup (eq x) positions ≡ None → holds eq x past ≡ false
   not_held absent = sym (is.ranked.known x) ∙ ap is_some absent
 
-  pub distance_none : lookup (eq x) places ≡ None → None ≡ distance eq x past
+  pub distance_none : lookup (eq x) positions ≡ None → None ≡ distance eq x past
   distance_none absent = rw (not_held absent) refl
 
-  pub IsPass-new : (c : ℕ) (vs : List ℕ) → lookup (eq x) places ≡ None → n < c → ((p : ℕ) → ones_from vs p ≡ ones_from ws p + up_to p n)
-      → IsPass eq (x ∷ past) (pass (plain_put eq c x n places) vs (n + 1) (h ++ 0 ∷ []))
+  pub IsPass-new : (c : ℕ) (vs : List ℕ) → lookup (eq x) positions ≡ None → n < c → ((p : ℕ) → ones_from vs p ≡ ones_from ws p + up_to p n)
+      → IsPass eq (x ∷ past) (pass (plain_put eq c x n positions) vs (n + 1) (h ++ 0 ∷ []))
   IsPass-new c vs absent room counts =
-      let put : plain_put eq c x n places ≡ (x, n) ∷ places =
-      plain_put-missed eq x (missed (eq x) (sym (ap is_some absent))) c n ∙ ap (λ l. (x, n) ∷ l) (take_all (c - 1) places (omega (arith, room, is.ranked.few))) in
+      let put : plain_put eq c x n positions ≡ (x, n) ∷ positions =
+      plain_put-missed eq x (missed (eq x) (sym (ap is_some absent))) c n ∙ ap (λ l. (x, n) ∷ l) (take_all (c - 1) positions (omega (arith, room, is.ranked.few))) in
       let one : n + 1 ≡ suc n = omega arith in
-      let moved : (y : K) → lookup (eq y) ((x, n) ∷ places) ≡ cond (eq x y) (Some n) (lookup (eq y) places) =
-      λ y. ap (λ b. cond b (Some n) (lookup (eq y) places)) (laws.symm y x) in
+      let moved : (y : K) → lookup (eq y) ((x, n) ∷ positions) ≡ cond (eq x y) (Some n) (lookup (eq y) positions) =
+      λ y. ap (λ b. cond b (Some n) (lookup (eq y) positions)) (laws.symm y x) in
       rw (put, one) (record {
-        ranked = IsRanked-new eq laws (λ x. 1) (distinct eq) (distinct_measures eq laws) past places ((x, n) ∷ places) n (ones_from ws) (ones_from vs) x is.ranked moved (not_held absent) counts
+        ranked = IsRanked-new eq laws (λ x. 1) (distinct eq) (distinct_measures eq laws) past positions ((x, n) ∷ positions) n (ones_from ws) (ones_from vs) x is.ranked moved (not_held absent) counts
             (omega (arith, is.ranked.few));
         counted = IsHistogram-new eq laws past h x is.counted (not_held absent);
         requests = ap suc is.requests;
       })
 
-  -- a key with a place was requested there
-  module _ (p : ℕ) (found : lookup (eq x) places ≡ Some p) where
+  -- a key with a position was requested there
+  module _ (p : ℕ) (found : lookup (eq x) positions ≡ Some p) where
     was_held : holds eq x past ≡ true
     was_held = sym (is.ranked.known x) ∙ ap is_some found
 
@@ -97,15 +97,15 @@ module _ {K : Type 0} (eq : K → K → Bool) (laws : IsEquivalence eq) (past : 
         omega (arith, few, is.requests, ap (λ d. get_or h d 0) (is.ranked.rank x p found))
 
     pub IsPass-again : (vs : List ℕ) → ((q : ℕ) → ones_from vs q + up_to q p ≡ ones_from ws q + up_to q n)
-        → IsPass eq (x ∷ past) (pass (set_value (eq x) places n) vs (n + 1) (set h (ones_from ws (suc p)) (get_or h (ones_from ws (suc p)) 0 + 1)))
+        → IsPass eq (x ∷ past) (pass (set_value (eq x) positions n) vs (n + 1) (set h (ones_from ws (suc p)) (get_or h (ones_from ws (suc p)) 0 + 1)))
     IsPass-again vs counts =
         let one : n + 1 ≡ suc n = omega arith in
         let rank = is.ranked.rank x p found in
-        let moved : (y : K) → lookup (eq y) (set_value (eq x) places n) ≡ cond (eq x y) (Some n) (lookup (eq y) places) =
-        λ y. lookup-set_value laws (eq x) (λ z w t. laws.congr x z w t) y n places (rw found refl) in
+        let moved : (y : K) → lookup (eq y) (set_value (eq x) positions n) ≡ cond (eq x y) (Some n) (lookup (eq y) positions) =
+        λ y. lookup-set_value laws (eq x) (λ z w t. laws.congr x z w t) y n positions (rw found refl) in
         rw (one, rank) (record {
-          ranked = IsRanked-again eq laws (λ x. 1) (distinct eq) (distinct_measures eq laws) past places (set_value (eq x) places n) n (ones_from ws) (ones_from vs) x is.ranked moved p found counts
-              (omega (arith, length-set_value (eq x) places n, is.ranked.few));
+          ranked = IsRanked-again eq laws (λ x. 1) (distinct eq) (distinct_measures eq laws) past positions (set_value (eq x) positions n) n (ones_from ws) (ones_from vs) x is.ranked moved p found counts
+              (omega (arith, length-set_value (eq x) positions n, is.ranked.few));
           counted = IsHistogram-again eq laws past h x is.counted was_held;
           requests = ap suc is.requests;
         })

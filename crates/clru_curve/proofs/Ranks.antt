@@ -1,4 +1,4 @@
--- The places of keys, and what the requests after each measure, after one more request.
+-- The positions of keys, and what the requests after each measure, after one more request.
 use Rattle.std.proofs.Common.{◌≡◌, ℕ, suc, ◌+◌, ◌<◌, ◌≤◌, Bool, true, false, cond, List, [], ◌∷◌, length, Some, is_some, inl, inr, refl, sym, ap, ◌∙◌, subst, arith}
 use Rattle.std.proofs.lemmas.Bool.{cases_lt}
 use Rattle.std.specs.Cmp.{IsEquivalence}
@@ -50,34 +50,34 @@ module _ {K : Type 0} (eq : K → K → Bool) (laws : IsEquivalence eq) (size : 
       let back : eq y x ≡ true = laws.symm y x ∙ same in
       rw (since-cons eq y x past, back) sums.none
 
-  module _ (past : List K) (places places' : List (K × ℕ)) (n : ℕ) (f f' : ℕ → ℕ) (x : K) (r : IsRanked eq size measure past places n f)
-      (moved : (y : K) → lookup (eq y) places' ≡ cond (eq x y) (Some n) (lookup (eq y) places)) where
-    known_by : (y : K) → is_some (lookup (eq y) places') ≡ holds eq y (x ∷ past)
+  module _ (past : List K) (positions positions' : List (K × ℕ)) (n : ℕ) (f f' : ℕ → ℕ) (x : K) (r : IsRanked eq size measure past positions n f)
+      (moved : (y : K) → lookup (eq y) positions' ≡ cond (eq x y) (Some n) (lookup (eq y) positions)) where
+    known_by : (y : K) → is_some (lookup (eq y) positions') ≡ holds eq y (x ∷ past)
     known_by y = split (eq x y)
         (λ t. let back : eq y x ≡ true = laws.symm y x ∙ t in rw (moved y, t, back) refl)
         (λ f. let back : eq y x ≡ false = laws.symm y x ∙ f in rw (moved y, f, back) (r.known y))
 
-    -- what holds at the new place, and at the places of other keys
-    by_place : (P : K → ℕ → Type 0) → ((y : K) → eq x y ≡ true → P y n)
-        → ((y : K) (q : ℕ) → eq x y ≡ false → lookup (eq y) places ≡ Some q → P y q)
-        → (y : K) (q : ℕ) → lookup (eq y) places' ≡ Some q → P y q
-    by_place P new old y q at = split (eq x y)
+    -- what holds at the new position, and at the positions of other keys
+    by_position : (P : K → ℕ → Type 0) → ((y : K) → eq x y ≡ true → P y n)
+        → ((y : K) (q : ℕ) → eq x y ≡ false → lookup (eq y) positions ≡ Some q → P y q)
+        → (y : K) (q : ℕ) → lookup (eq y) positions' ≡ Some q → P y q
+    by_position P new old y q at = split (eq x y)
         (λ t. let e : Some n ≡ Some q = rw (moved y, t) at at in rw (← same_some e) (new y t))
-        (λ f. let e : lookup (eq y) places ≡ Some q = rw (moved y, f) at at in old y q f e)
+        (λ f. let e : lookup (eq y) positions ≡ Some q = rw (moved y, f) at at in old y q f e)
 
     after_last : f (suc n) ≡ 0
     after_last = omega (arith, r.falls n, r.none)
 
     -- a key that was not requested before
-    module _ (absent : holds eq x past ≡ false) (counts : (p : ℕ) → f' p ≡ f p + up_by (size x) p n) (few : length places' ≤ suc n) where
-      new_latest : (y : K) (q : ℕ) → lookup (eq y) places' ≡ Some q → f' q ≡ size y + f' (suc q)
-      new_latest = by_place (λ y q. f' q ≡ size y + f' (suc q))
+    module _ (absent : holds eq x past ≡ false) (counts : (p : ℕ) → f' p ≡ f p + up_by (size x) p n) (few : length positions' ≤ suc n) where
+      new_latest : (y : K) (q : ℕ) → lookup (eq y) positions' ≡ Some q → f' q ≡ size y + f' (suc q)
+      new_latest = by_position (λ y q. f' q ≡ size y + f' (suc q))
           (λ y t. omega (arith, sums.same x y t, counts n, counts (suc n), r.none, after_last, up_by-le (size x) n n (omega arith), up_by-gt (size x) (suc n) n (omega arith)))
           (λ y q apart at. let low = r.before y q at in
           omega (arith, counts q, counts (suc q), r.latest y q at, up_by-le (size x) q n (omega arith), up_by-le (size x) (suc q) n (omega arith)))
 
-      new_rank : (y : K) (q : ℕ) → lookup (eq y) places' ≡ Some q → f' (suc q) ≡ measure (since eq y (x ∷ past))
-      new_rank = by_place (λ y q. f' (suc q) ≡ measure (since eq y (x ∷ past)))
+      new_rank : (y : K) (q : ℕ) → lookup (eq y) positions' ≡ Some q → f' (suc q) ≡ measure (since eq y (x ∷ past))
+      new_rank = by_position (λ y q. f' (suc q) ≡ measure (since eq y (x ∷ past)))
           (λ y t. omega (arith, counts (suc n), after_last, up_by-gt (size x) (suc n) n (omega arith), measure_since-same x y past t))
           (λ y q apart at. let low = r.before y q at in
           let out : holds eq x (since eq y past) ≡ false = split (holds eq x (since eq y past))
@@ -86,10 +86,10 @@ module _ {K : Type 0} (eq : K → K → Bool) (laws : IsEquivalence eq) (size : 
           let one : measure (since eq y (x ∷ past)) ≡ size x + measure (since eq y past) = rw out at more in
           omega (arith, counts (suc q), r.rank y q at, one, up_by-le (size x) (suc q) n (omega arith)))
 
-      pub IsRanked-new : IsRanked eq size measure (x ∷ past) places' (suc n) f'
+      pub IsRanked-new : IsRanked eq size measure (x ∷ past) positions' (suc n) f'
       IsRanked-new = record {
         known = known_by;
-        before = by_place (λ y q. q < suc n) (λ y t. omega arith) (λ y q apart at. omega (arith, r.before y q at));
+        before = by_position (λ y q. q < suc n) (λ y t. omega arith) (λ y q apart at. omega (arith, r.before y q at));
         latest = new_latest;
         rank = new_rank;
         falls = λ j. omega (arith, counts j, counts (suc j), r.falls j, up_by-falls (size x) j n);
@@ -97,17 +97,17 @@ module _ {K : Type 0} (eq : K → K → Bool) (laws : IsEquivalence eq) (size : 
         few = few;
       }
 
-    -- a key that was requested before, and its place
-    module _ (p : ℕ) (found : lookup (eq x) places ≡ Some p) (counts : (q : ℕ) → f' q + up_by (size x) q p ≡ f q + up_by (size x) q n)
-        (few : length places' ≤ suc n) where
+    -- a key that was requested before, and its position
+    module _ (p : ℕ) (found : lookup (eq x) positions ≡ Some p) (counts : (q : ℕ) → f' q + up_by (size x) q p ≡ f q + up_by (size x) q n)
+        (few : length positions' ≤ suc n) where
       low : p < n
       low = r.before x p found
 
-      held : (y : K) (q : ℕ) → lookup (eq y) places ≡ Some q → holds eq y past ≡ true
+      held : (y : K) (q : ℕ) → lookup (eq y) positions ≡ Some q → holds eq y past ≡ true
       held y q at = sym (r.known y) ∙ ap is_some at
 
       -- a key before it was passed by, and a key after it has one more distinct key since
-      others : (y : K) (q : ℕ) → eq x y ≡ false → lookup (eq y) places ≡ Some q
+      others : (y : K) (q : ℕ) → eq x y ≡ false → lookup (eq y) positions ≡ Some q
           → (f' q ≡ size y + f' (suc q)) × (f' (suc q) ≡ measure (since eq y (x ∷ past)))
       others y q apart at =
           let low_q = r.before y q at in let more = measure_since-other x y past apart in
@@ -133,8 +133,8 @@ module _ {K : Type 0} (eq : K → K → Bool) (laws : IsEquivalence eq) (size : 
           let out = up_by-gt (size x) q p after in let out_next = up_by-gt (size x) (suc q) p (omega arith) in
           (omega (arith, here, next, latest, all_q, all_next, out, out_next), omega (arith, next, one, rank, all_next, out_next)))
 
-      again_latest : (y : K) (q : ℕ) → lookup (eq y) places' ≡ Some q → f' q ≡ size y + f' (suc q)
-      again_latest = by_place (λ y q. f' q ≡ size y + f' (suc q))
+      again_latest : (y : K) (q : ℕ) → lookup (eq y) positions' ≡ Some q → f' q ≡ size y + f' (suc q)
+      again_latest = by_position (λ y q. f' q ≡ size y + f' (suc q))
           (λ y t. omega (
             arith,
             sums.same x y t,
@@ -149,8 +149,8 @@ module _ {K : Type 0} (eq : K → K → Bool) (laws : IsEquivalence eq) (size : 
           ))
           (λ y q apart at. (others y q apart at).0)
 
-      again_rank : (y : K) (q : ℕ) → lookup (eq y) places' ≡ Some q → f' (suc q) ≡ measure (since eq y (x ∷ past))
-      again_rank = by_place (λ y q. f' (suc q) ≡ measure (since eq y (x ∷ past)))
+      again_rank : (y : K) (q : ℕ) → lookup (eq y) positions' ≡ Some q → f' (suc q) ≡ measure (since eq y (x ∷ past))
+      again_rank = by_position (λ y q. f' (suc q) ≡ measure (since eq y (x ∷ past)))
           (λ y t. omega (arith, counts (suc n), after_last, up_by-gt (size x) (suc n) n (omega arith), up_by-gt (size x) (suc n) p (omega (arith, low)), measure_since-same x y past t))
           (λ y q apart at. (others y q apart at).1)
 
@@ -176,10 +176,10 @@ module _ {K : Type 0} (eq : K → K → Bool) (laws : IsEquivalence eq) (size : 
         ]
       ]
 
-      pub IsRanked-again : IsRanked eq size measure (x ∷ past) places' (suc n) f'
+      pub IsRanked-again : IsRanked eq size measure (x ∷ past) positions' (suc n) f'
       IsRanked-again = record {
         known = known_by;
-        before = by_place (λ y q. q < suc n) (λ y t. omega arith) (λ y q apart at. omega (arith, r.before y q at));
+        before = by_position (λ y q. q < suc n) (λ y t. omega arith) (λ y q apart at. omega (arith, r.before y q at));
         latest = again_latest;
         rank = again_rank;
         falls = again_falls;

@@ -59,32 +59,32 @@ module _ {K : Type 0} (eq : K → K → Bool) where
       let same = ap (λ a. up_by a q p) (get_or-before ss s p low) in
       omega (arith, less, same, sizes_push ss s q)
 
-module _ {K : Type 0} (eq : K → K → Bool) (laws : IsEquivalence eq) (places : List (K × ℕ)) (ss : List ℕ) (hs : List (ℕ × ℕ)) (a g : ℕ) (x : K) where
+module _ {K : Type 0} (eq : K → K → Bool) (laws : IsEquivalence eq) (positions : List (K × ℕ)) (ss : List ℕ) (hs : List (ℕ × ℕ)) (a g : ℕ) (x : K) where
   -- the entries after a put of a new key
-  put_new : (c n : ℕ) → lookup (eq x) places ≡ None → length places < c → plain_put eq c x n places ≡ (x, n) ∷ places
+  put_new : (c n : ℕ) → lookup (eq x) positions ≡ None → length positions < c → plain_put eq c x n positions ≡ (x, n) ∷ positions
   put_new c n absent room =
-      plain_put-missed eq x (missed (eq x) (sym (ap is_some absent))) c n ∙ ap (λ l. (x, n) ∷ l) (take_all (c - 1) places (omega (arith, room)))
+      plain_put-missed eq x (missed (eq x) (sym (ap is_some absent))) c n ∙ ap (λ l. (x, n) ∷ l) (take_all (c - 1) positions (omega (arith, room)))
 
-  module _ (weight : K → ℕ) (past : List K) (is : IsSizedPass eq weight past (pass_by_size places ss hs a g)) where
+  module _ (weight : K → ℕ) (past : List K) (is : IsSizedPass eq weight past (pass_by_size positions ss hs a g)) where
     -- a key that is not known was not requested
-    not_held : lookup (eq x) places ≡ None → holds eq x past ≡ false
+    not_held : lookup (eq x) positions ≡ None → holds eq x past ≡ false
     not_held absent = sym (is.ranked.known x) ∙ ap is_some absent
 
-    pub span_none : lookup (eq x) places ≡ None → None ≡ span eq weight x past
+    pub span_none : lookup (eq x) positions ≡ None → None ≡ span eq weight x past
     span_none absent = rw (not_held absent) refl
 
     module _ (same : SameWeights eq weight) (w : ℕ) (weighs : weight x ≡ w) (g' : ℕ) (greater : g' ≡ cond (nat_lt g w) w g) where
-      pub IsSizedPass-new : (c : ℕ) → lookup (eq x) places ≡ None → length ss < c
-          → IsSizedPass eq weight (x ∷ past) (pass_by_size (plain_put eq c x (length ss) places) (ss ++ (w + 1) ∷ []) hs (a + (w + 1)) g')
+      pub IsSizedPass-new : (c : ℕ) → lookup (eq x) positions ≡ None → length ss < c
+          → IsSizedPass eq weight (x ∷ past) (pass_by_size (plain_put eq c x (length ss) positions) (ss ++ (w + 1) ∷ []) hs (a + (w + 1)) g')
       IsSizedPass-new c absent room =
           let n = length ss in
           let size : w + 1 ≡ 1 + weight x = omega (arith, weighs) in
           let put = put_new c n absent (omega (arith, room, is.ranked.few)) in
           let long : length (ss ++ (1 + weight x) ∷ []) ≡ suc n = omega (arith, length_push ss (1 + weight x)) in
-          let moved : (y : K) → lookup (eq y) ((x, n) ∷ places) ≡ cond (eq x y) (Some n) (lookup (eq y) places) =
-          λ y. ap (λ b. cond b (Some n) (lookup (eq y) places)) (laws.symm y x) in
+          let moved : (y : K) → lookup (eq y) ((x, n) ∷ positions) ≡ cond (eq x y) (Some n) (lookup (eq y) positions) =
+          λ y. ap (λ b. cond b (Some n) (lookup (eq y) positions)) (laws.symm y x) in
           rw (put, size) (record {
-            ranked = rw long (IsRanked-new eq laws (λ y. 1 + weight y) (total eq weight) (total_measures eq laws weight same) past places ((x, n) ∷ places) n (sizes_from ss)
+            ranked = rw long (IsRanked-new eq laws (λ y. 1 + weight y) (total eq weight) (total_measures eq laws weight same) past positions ((x, n) ∷ positions) n (sizes_from ss)
                 (sizes_from (ss ++ (1 + weight x) ∷ [])) x is.ranked moved (not_held absent) (λ q. sizes_push ss (1 + weight x) q)
                 (omega (arith, is.ranked.few)));
             hits = AreHits-new eq weight past hs x is.hits (not_held absent);
@@ -94,8 +94,8 @@ module _ {K : Type 0} (eq : K → K → Bool) (laws : IsEquivalence eq) (places 
             greatest = rw (greater, is.greatest, ← weighs) refl;
           })
 
-      -- a key with a place was requested there
-      module _ (p : ℕ) (found : lookup (eq x) places ≡ Some p) where
+      -- a key with a position was requested there
+      module _ (p : ℕ) (found : lookup (eq x) positions ≡ Some p) where
         was_held : holds eq x past ≡ true
         was_held = sym (is.ranked.known x) ∙ ap is_some found
 
@@ -109,7 +109,7 @@ module _ {K : Type 0} (eq : K → K → Bool) (laws : IsEquivalence eq) (places 
         span_some = rw was_held (ap (λ d. Some d) span_there)
 
         pub IsSizedPass-again : IsSizedPass eq weight (x ∷ past)
-            (pass_by_size (set_value (eq x) places (length ss)) (set (ss ++ (w + 1) ∷ []) p 0) (hs ++ (sizes_from ss p, w + 1) ∷ []) (a + (w + 1)) g')
+            (pass_by_size (set_value (eq x) positions (length ss)) (set (ss ++ (w + 1) ∷ []) p 0) (hs ++ (sizes_from ss p, w + 1) ∷ []) (a + (w + 1)) g')
         IsSizedPass-again =
             let n = length ss in
             let size : w + 1 ≡ 1 + weight x = omega (arith, weighs) in
@@ -117,12 +117,12 @@ module _ {K : Type 0} (eq : K → K → Bool) (laws : IsEquivalence eq) (places 
             let long : length (set (ss ++ (1 + weight x) ∷ []) p 0) ≡ suc n = omega (arith, length-set (ss ++ (1 + weight x) ∷ []) p 0, length_push ss (1 + weight x)) in
             let counts : (q : ℕ) → sizes_from (set (ss ++ (1 + weight x) ∷ []) p 0) q + up_by (1 + weight x) q p ≡ sizes_from ss q + up_by (1 + weight x) q n =
             λ q. let m = moved_sizes eq ss (1 + weight x) p low q in omega (arith, m, ap (λ b. up_by b q p) size_there) in
-            let moved : (y : K) → lookup (eq y) (set_value (eq x) places n) ≡ cond (eq x y) (Some n) (lookup (eq y) places) =
-            λ y. lookup-set_value laws (eq x) (λ z v t. laws.congr x z v t) y n places (rw found refl) in
+            let moved : (y : K) → lookup (eq y) (set_value (eq x) positions n) ≡ cond (eq x y) (Some n) (lookup (eq y) positions) =
+            λ y. lookup-set_value laws (eq x) (λ z v t. laws.congr x z v t) y n positions (rw found refl) in
             rw (size, span_there) (record {
-              ranked = rw long (IsRanked-again eq laws (λ y. 1 + weight y) (total eq weight) (total_measures eq laws weight same) past places (set_value (eq x) places n) n (sizes_from ss)
+              ranked = rw long (IsRanked-again eq laws (λ y. 1 + weight y) (total eq weight) (total_measures eq laws weight same) past positions (set_value (eq x) positions n) n (sizes_from ss)
                   (sizes_from (set (ss ++ (1 + weight x) ∷ []) p 0)) x is.ranked moved p found counts
-                  (omega (arith, length-set_value (eq x) places n, is.ranked.few)));
+                  (omega (arith, length-set_value (eq x) positions n, is.ranked.few)));
               hits = AreHits-again eq weight past hs x is.hits was_held;
               requests = long ∙ ap suc is.requests;
               held = rw was_held (omega (arith, counts 0, up_by-le (1 + weight x) 0 n (omega arith), up_by-le (1 + weight x) 0 p (omega arith), is.held));
@@ -131,9 +131,9 @@ module _ {K : Type 0} (eq : K → K → Bool) (laws : IsEquivalence eq) (places 
             })
 
   -- whatever the keys weigh
-  module _ (room : ℕ) (nodes : List ℕ) (sound : IsSoundBySize eq room nodes (pass_by_size places ss hs a g)) (w g' : ℕ) (fits : a + (w + 1) < 2 ^ 64) (nodes' : List ℕ) where
-    pub IsSoundBySize-new : (c : ℕ) → c ≡ room → lookup (eq x) places ≡ None → IsSummed (ss ++ (w + 1) ∷ []) nodes'
-        → IsSoundBySize eq c nodes' (pass_by_size (plain_put eq c x (length ss) places) (ss ++ (w + 1) ∷ []) hs (a + (w + 1)) g')
+  module _ (room : ℕ) (nodes : List ℕ) (sound : IsSoundBySize eq room nodes (pass_by_size positions ss hs a g)) (w g' : ℕ) (fits : a + (w + 1) < 2 ^ 64) (nodes' : List ℕ) where
+    pub IsSoundBySize-new : (c : ℕ) → c ≡ room → lookup (eq x) positions ≡ None → IsSummed (ss ++ (w + 1) ∷ []) nodes'
+        → IsSoundBySize eq c nodes' (pass_by_size (plain_put eq c x (length ss) positions) (ss ++ (w + 1) ∷ []) hs (a + (w + 1)) g')
     IsSoundBySize-new c same absent summed =
         let n = length ss in let long = length_push ss (w + 1) in
         let put = put_new c n absent (omega (arith, same, sound.greatest_room, sound.few_keys, sound.many, fits)) in
@@ -142,7 +142,7 @@ module _ {K : Type 0} (eq : K → K → Bool) (laws : IsEquivalence eq) (places 
           summed = summed;
           before = λ y q at. split (eq y x)
               (λ t. let e : Some n ≡ Some q = rw t at at in omega (arith, same_some e, long))
-              (λ f. let e : lookup (eq y) places ≡ Some q = rw f at at in omega (arith, sound.before y q e, long));
+              (λ f. let e : lookup (eq y) positions ≡ Some q = rw f at at in omega (arith, sound.before y q e, long));
           few_keys = omega (arith, sound.few_keys, long);
           few_hits = omega (arith, sound.few_hits, long);
           many = omega (arith, sound.many, long);
@@ -151,8 +151,8 @@ module _ {K : Type 0} (eq : K → K → Bool) (laws : IsEquivalence eq) (places 
           fits = fits;
         })
 
-    pub IsSoundBySize-again : (c p s : ℕ) → c ≡ room → lookup (eq x) places ≡ Some p → IsSummed (set (ss ++ (w + 1) ∷ []) p 0) nodes'
-        → IsSoundBySize eq c nodes' (pass_by_size (set_value (eq x) places (length ss)) (set (ss ++ (w + 1) ∷ []) p 0) (hs ++ (s, w + 1) ∷ []) (a + (w + 1)) g')
+    pub IsSoundBySize-again : (c p s : ℕ) → c ≡ room → lookup (eq x) positions ≡ Some p → IsSummed (set (ss ++ (w + 1) ∷ []) p 0) nodes'
+        → IsSoundBySize eq c nodes' (pass_by_size (set_value (eq x) positions (length ss)) (set (ss ++ (w + 1) ∷ []) p 0) (hs ++ (s, w + 1) ∷ []) (a + (w + 1)) g')
     IsSoundBySize-again c p s same found summed =
         let n = length ss in let long = length_push ss (w + 1) in let len = length-set (ss ++ (w + 1) ∷ []) p 0 in
         let low = sound.before x p found in
@@ -161,12 +161,12 @@ module _ {K : Type 0} (eq : K → K → Bool) (laws : IsEquivalence eq) (places 
           greatest_room = omega (arith, same, sound.greatest_room);
           summed = summed;
           before = λ y q at.
-              let moved = lookup-set_value laws (eq x) (λ z v t. laws.congr x z v t) y n places (rw found refl) in
+              let moved = lookup-set_value laws (eq x) (λ z v t. laws.congr x z v t) y n positions (rw found refl) in
               let there = sym moved ∙ at in
               split (eq x y)
               (λ t. let e : Some n ≡ Some q = rw t at there in omega (arith, same_some e, long, len))
-              (λ f. let e : lookup (eq y) places ≡ Some q = rw f at there in omega (arith, sound.before y q e, long, len));
-          few_keys = omega (arith, sound.few_keys, length-set_value (eq x) places n, long, len);
+              (λ f. let e : lookup (eq y) positions ≡ Some q = rw f at there in omega (arith, sound.before y q e, long, len));
+          few_keys = omega (arith, sound.few_keys, length-set_value (eq x) positions n, long, len);
           few_hits = omega (arith, sound.few_hits, long, len, more);
           many = omega (arith, sound.many, long, len);
           held = omega (arith, sound.held, moved_sizes eq ss (w + 1) p low 0, up_by-le (w + 1) 0 n (omega arith));

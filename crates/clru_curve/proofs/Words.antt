@@ -50,7 +50,7 @@ ones_from_push ws p = cc (ap (λ w. count_ones (w / 2 ^ (p % 64))) (get_or_push 
 pub ones_from-zero : (ws : List ℕ) → ones_from ws 0 ≡ words_from ws 0
 ones_from-zero ws = ap (λ w. count_ones w + words_from ws 1) (div-one (get_or ws 0 0)) ∙ sym (words_step ws 0)
 
--- the word and the bit of the next place
+-- the word and the bit of the next position
 next_same : (p : ℕ) → p % 64 < 63 → (suc p / 64 ≡ p / 64) × (suc p % 64 ≡ suc (p % 64))
 next_same p low =
     let whole : p / 64 * 64 + suc (p % 64) ≡ suc p = omega (arith, div-add-mod' p 64) in (

@@ -8,19 +8,19 @@ use Rattle.clru_curve.specs.Ranked.{IsRanked}
 -- each key with the number of its latest request, a bit for each request, how many requests there were, and how many at each
 -- distance
 pub record Pass (K : Type 0) : Type 0 where
-  pub places : List (K × ℕ)
+  pub positions : List (K × ℕ)
   pub words : List ℕ
   pub requests : ℕ
   pub histogram : List ℕ
 
 module _ {K : Type 0} where
   abbrev pub pass : List (K × ℕ) → List ℕ → ℕ → List ℕ → Pass K
-  pass ps ws n h = record { places = ps; words = ws; requests = n; histogram = h }
+  pass ps ws n h = record { positions = ps; words = ws; requests = n; histogram = h }
 
   abbrev pub pass_code : Coded K → Coded (Pass K)
   pass_code k =
       code_by (List (K × ℕ) × (List ℕ × (ℕ × List ℕ))) (coded× (coded_list (coded× k coded_ℕ)) (coded× (coded_list coded_ℕ) (coded× coded_ℕ (coded_list coded_ℕ))))
-      (λ p. (p.places, (p.words, (p.requests, p.histogram)))) (λ t. pass t.0 t.1.0 t.1.1.0 t.1.1.1) (λ _. refl)
+      (λ p. (p.positions, (p.words, (p.requests, p.histogram)))) (λ t. pass t.0 t.1.0 t.1.1.0 t.1.1.1) (λ _. refl)
 
 module _ {K : Type 0} (eq : K → K → Bool) where
   -- as many numbers as distinct keys, of which the first k sum up to the hits at capacity k
@@ -30,7 +30,7 @@ module _ {K : Type 0} (eq : K → K → Bool) where
 
   -- a pass that has taken these requests, the latest first
   pub record IsPass (past : List K) (p : Pass K) : Type 0 where
-    pub ranked : IsRanked eq (λ x. 1) (distinct eq) past p.places p.requests (ones_from p.words)
+    pub ranked : IsRanked eq (λ x. 1) (distinct eq) past p.positions p.requests (ones_from p.words)
     pub counted : IsHistogram past p.histogram
     pub requests : p.requests ≡ length past
 

@@ -1,5 +1,5 @@
 -- What a curve of keys with sizes is seen as, and its numbers at a capacity. Public clauses cite it.
-use Rattle.std.specs.Prelude.{◌≡◌, ℕ, zero, suc, ◌+◌, ◌-◌, ◌<◌, nat_le, nat_lt, Bool, cond, List, [], ◌∷◌, length, reverse, take, slice_index_or, refl}
+use Rattle.std.specs.Prelude.{◌≡◌, ℕ, zero, suc, ◌+◌, ◌-◌, ◌<◌, nat_le, nat_lt, Bool, if◌then◌else◌, List, [], ◌∷◌, length, reverse, take, slice_index_or, refl}
 use Rattle.std.specs.Coded.{Coded, code_by, coded×, coded_list, coded_ℕ}
 use Rattle.std.specs.List.{count_by, sum_by}
 use Rattle.std.specs.List.Sorted.{IsPermutation, IsNonDecreasingBy}
@@ -48,7 +48,7 @@ module _ {K : Type 0} (weight : K → ℕ) where
   -- the greatest weight that is requested, or 0
   abbrev pub greatest_of : List K → ℕ
   greatest_of [] = 0
-  greatest_of (x ∷ rs) = cond (nat_lt (greatest_of rs) (weight x)) (weight x) (greatest_of rs)
+  greatest_of (x ∷ rs) = if nat_lt (greatest_of rs) (weight x) then weight x else greatest_of rs
 
 -- the steps of hits that are sorted: the size that each leaves, of so much in all
 pub record IsMissed (size : ℕ) (hits steps : List (ℕ × ℕ)) : Type 0 where

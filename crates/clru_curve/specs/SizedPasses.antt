@@ -1,5 +1,5 @@
 -- What a pass over keys with sizes has taken note of, request by request. Public clauses cite it.
-use Rattle.std.specs.Prelude.{◌≡◌, ℕ, ◌+◌, ◌-◌, ◌^◌, ◌<◌, ◌≤◌, ◌↔◌, nat_le, Bool, cond, List, ◌∷◌, ◌++◌, length, reverse, Some, refl, ⊤}
+use Rattle.std.specs.Prelude.{◌≡◌, ℕ, ◌+◌, ◌-◌, ◌^◌, ◌<◌, ◌≤◌, ◌↔◌, nat_le, Bool, if◌then◌else◌, List, ◌∷◌, ◌++◌, length, reverse, Some, refl, ⊤}
 use Rattle.std.specs.Coded.{Coded, code_by, coded×, coded_list, coded_ℕ}
 use Rattle.std.specs.List.{sum_by}
 use Rattle.std.specs.Map.{lookup}
@@ -14,7 +14,7 @@ use Rattle.clru_model.specs.Sizes.{total, misses_by_size, missed_size}
 -- each key with the number of its latest request; for each request the size of its key where it is the latest of it, else 0;
 -- for each request that can hit its span and its size; the size of all requests, and the greatest weight
 pub record PassBySize (K : Type 0) : Type 0 where
-  pub places : List (K × ℕ)
+  pub positions : List (K × ℕ)
   pub sizes : List ℕ
   pub hits : List (ℕ × ℕ)
   pub size : ℕ
@@ -22,12 +22,12 @@ pub record PassBySize (K : Type 0) : Type 0 where
 
 module _ {K : Type 0} where
   abbrev pub pass_by_size : List (K × ℕ) → List ℕ → List (ℕ × ℕ) → ℕ → ℕ → PassBySize K
-  pass_by_size ps ss hs a g = record { places = ps; sizes = ss; hits = hs; size = a; greatest = g }
+  pass_by_size ps ss hs a g = record { positions = ps; sizes = ss; hits = hs; size = a; greatest = g }
 
   abbrev pub pass_by_size_code : Coded K → Coded (PassBySize K)
   pass_by_size_code k =
       code_by (List (K × ℕ) × (List ℕ × (List (ℕ × ℕ) × (ℕ × ℕ)))) (coded× (coded_list (coded× k coded_ℕ)) (coded× (coded_list coded_ℕ) (coded× (coded_list (coded× coded_ℕ coded_ℕ)) (coded× coded_ℕ coded_ℕ))))
-      (λ p. (p.places, (p.sizes, (p.hits, (p.size, p.greatest))))) (λ t. pass_by_size t.0 t.1.0 t.1.1.0 t.1.1.1.0 t.1.1.1.1) (λ _. refl)
+      (λ p. (p.positions, (p.sizes, (p.hits, (p.size, p.greatest))))) (λ t. pass_by_size t.0 t.1.0 t.1.1.0 t.1.1.1.0 t.1.1.1.1) (λ _. refl)
 
   -- the key that a refusal hands back
   abbrev pub key_of : SizedRequestError K → K
@@ -55,7 +55,7 @@ module _ {K : Type 0} where
 
 -- the size of those hits whose span is within the capacity
 abbrev pub hit_size : ℕ → List (ℕ × ℕ) → ℕ
-hit_size c hits = sum_by (λ h. cond (nat_le h.0 c) h.1 0) hits
+hit_size c hits = sum_by (λ h. if nat_le h.0 c then h.1 else 0) hits
 
 module _ {K : Type 0} (eq : K → K → Bool) where
   module _ (weight : K → ℕ) where
@@ -67,7 +67,7 @@ module _ {K : Type 0} (eq : K → K → Bool) where
 
     -- a pass that has taken these requests, the latest first
     pub record IsSizedPass (past : List K) (p : PassBySize K) : Type 0 where
-      pub ranked : IsRanked eq (λ x. 1 + weight x) (total eq weight) past p.places (length p.sizes) (sizes_from p.sizes)
+      pub ranked : IsRanked eq (λ x. 1 + weight x) (total eq weight) past p.positions (length p.sizes) (sizes_from p.sizes)
       pub hits : AreHits past p.hits
       pub requests : length p.sizes ≡ length past
       pub held : sizes_from p.sizes 0 ≡ total eq weight past
@@ -78,8 +78,8 @@ module _ {K : Type 0} (eq : K → K → Bool) where
   pub record IsSoundBySize (room : ℕ) (nodes : List ℕ) (p : PassBySize K) : Type 0 where
     pub greatest_room : room ≡ 2 ^ 64 - 1
     pub summed : IsSummed p.sizes nodes
-    pub before : (x : K) (n : ℕ) → lookup (eq x) p.places ≡ Some n → n < length p.sizes
-    pub few_keys : length p.places ≤ length p.sizes
+    pub before : (x : K) (n : ℕ) → lookup (eq x) p.positions ≡ Some n → n < length p.sizes
+    pub few_keys : length p.positions ≤ length p.sizes
     pub few_hits : length p.hits ≤ length p.sizes
     pub many : length p.sizes ≤ p.size
     pub held : sizes_from p.sizes 0 ≤ p.size

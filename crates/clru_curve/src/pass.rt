@@ -21,10 +21,10 @@ use std::num::NonZeroUsize;
 /// Clauses speak of the requests that it has taken by `IsPass`, the latest first: there are none at first, and each request
 /// that is taken comes in front. A curve can be had at any time.
 ///
-/// Memory goes with the distinct keys, a place in a cache and a number for each, besides 16 bytes for each 64 requests.
+/// Memory goes with the distinct keys, a position in a cache and a number for each, besides 16 bytes for each 64 requests.
 #[derive(Drop)]
 pub struct DistancePass<K: Eq + Hash, S: BuildHasher = DefaultState, A: Allocator + Copy = Global> {
-    places: CLruCache<K, usize, S, ZeroWeightScale, A>,
+    positions: CLruCache<K, usize, S, ZeroWeightScale, A>,
     latest: Latest<A>,
     histogram: Vec<usize, A>,
 }
@@ -36,10 +36,10 @@ impl<K: Eq + Hash, S: BuildHasher, A: Allocator + Copy> Model for DistancePass<K
 
     ghost coded = { pass_code K.code };
 
-    ghost view = { λ p. pass p.places.entries p.latest.words.items p.latest.requests p.histogram.items };
+    ghost view = { λ p. pass p.positions.entries p.latest.words.items p.latest.requests p.histogram.items };
 
-    ghost invariant = { λ p. IsSound K.eq p.places.capacity p.latest.nodes.items
-        (pass p.places.entries p.latest.words.items p.latest.requests p.histogram.items) };
+    ghost invariant = { λ p. IsSound K.eq p.positions.capacity p.latest.nodes.items
+        (pass p.positions.entries p.latest.words.items p.latest.requests p.histogram.items) };
 }
 
 impl<K: Eq + Hash, A: Allocator + Copy> DistancePass<K, DefaultState, A> {
@@ -57,7 +57,7 @@ impl<K: Eq + Hash, S: BuildHasher, A: Allocator + Copy> DistancePass<K, S, A> {
         ensures { IsPass K.eq [] result }
     {
         DistancePass {
-            places: CLruCache::with_hasher(alloc, NonZeroUsize::MAX, hash_builder),
+            positions: CLruCache::with_hasher(alloc, NonZeroUsize::MAX, hash_builder),
             latest: Latest::new(alloc),
             histogram: Vec::new(alloc),
         }
@@ -83,11 +83,11 @@ impl<K: Eq + Hash, S: BuildHasher, A: Allocator + Copy> DistancePass<K, S, A> {
             return Err(key);
         };
         let number = self.latest.requests;
-        match move_place(&mut self.places, &key, number) {
-            Some(place) => {
-                let distance = self.latest.count_after(place);
+        match move_position(&mut self.positions, &key, number) {
+            Some(position) => {
+                let distance = self.latest.count_after(position);
                 self.latest.push();
-                self.latest.clear(place);
+                self.latest.clear(position);
                 self.histogram[distance] += 1;
                 Ok(Some(distance))
             }
@@ -95,7 +95,7 @@ impl<K: Eq + Hash, S: BuildHasher, A: Allocator + Copy> DistancePass<K, S, A> {
                 let Ok(()) = self.histogram.reserve(1) else {
                     return Err(key);
                 };
-                if let Err((key, _)) = self.places.put(key, number) {
+                if let Err((key, _)) = self.positions.put(key, number) {
                     return Err(key);
                 }
                 self.latest.push();
@@ -138,17 +138,17 @@ impl<K: Eq + Hash, S: BuildHasher, A: Allocator + Copy> DistancePass<K, S, A> {
 }
 
 /// Gives a key that is held another number, and returns the one that it had.
-pub(crate) fn move_place<K: Eq + Hash, S: BuildHasher, A: Allocator + Copy>(
-    places: &mut CLruCache<K, usize, S, ZeroWeightScale, A>,
+pub(crate) fn move_position<K: Eq + Hash, S: BuildHasher, A: Allocator + Copy>(
+    positions: &mut CLruCache<K, usize, S, ZeroWeightScale, A>,
     key: &K,
     number: usize,
 ) -> Option<usize>
-    ensures found { result ≡ lookup (K.eq key.now) places.old.entries }
-    ensures same { IsNone result → places.new ≡ places.old }
-    ensures moved { IsSome result → places.new ≡ with_entries places.old (set_value (K.eq key.now) places.old.entries number) }
+    ensures found { result ≡ lookup (K.eq key.now) positions.old.entries }
+    ensures same { IsNone result → positions.new ≡ positions.old }
+    ensures moved { IsSome result → positions.new ≡ with_entries positions.old (set_value (K.eq key.now) positions.old.entries number) }
 {
-    match places.peek_mut(key) {
-        Some(place) => Some(mem::replace(place, number)),
+    match positions.peek_mut(key) {
+        Some(position) => Some(mem::replace(position, number)),
         None => None,
     }
 }

@@ -19,28 +19,28 @@ pub(crate) fn count_from(nodes: &[usize], first: usize) -> usize
     count
 }
 
-/// The count at `place` has so much more.
-pub(crate) fn add_at(nodes: &mut [usize], place: usize, amount: usize)
-    requires inside { place < length nodes.old }
+/// The count at `position` has so much more.
+pub(crate) fn add_at(nodes: &mut [usize], position: usize, amount: usize)
+    requires inside { position < length nodes.old }
     requires counted { (f : ℕ → ℕ) × (IsCounted f nodes.old × ((j : ℕ) → f j + amount < 2 ^ 64)) }
     ensures length { length nodes.new ≡ length nodes.old }
-    ensures counted { (f : ℕ → ℕ) → IsCounted f nodes.old → IsCounted (λ j. f j + up_by amount j place) nodes.new }
+    ensures counted { (f : ℕ → ℕ) → IsCounted f nodes.old → IsCounted (λ j. f j + up_by amount j position) nodes.new }
 {
-    let mut node = place;
+    let mut node = position;
     while node > 0 {
         nodes[node] += amount;
         node &= node - 1;
     }
 }
 
-/// The count at `place` has so much less.
-pub(crate) fn subtract_at(nodes: &mut [usize], place: usize, amount: usize)
-    requires inside { place < length nodes.old }
-    requires counted { (f : ℕ → ℕ) × (Falls f × IsCounted (λ j. f j + up_by amount j place) nodes.old) }
+/// The count at `position` has so much less.
+pub(crate) fn subtract_at(nodes: &mut [usize], position: usize, amount: usize)
+    requires inside { position < length nodes.old }
+    requires counted { (f : ℕ → ℕ) × (Falls f × IsCounted (λ j. f j + up_by amount j position) nodes.old) }
     ensures length { length nodes.new ≡ length nodes.old }
-    ensures counted { (f : ℕ → ℕ) → IsCounted (λ j. f j + up_by amount j place) nodes.old → IsCounted f nodes.new }
+    ensures counted { (f : ℕ → ℕ) → IsCounted (λ j. f j + up_by amount j position) nodes.old → IsCounted f nodes.new }
 {
-    let mut node = place;
+    let mut node = position;
     while node > 0 {
         nodes[node] -= amount;
         node &= node - 1;

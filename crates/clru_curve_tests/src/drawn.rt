@@ -3,7 +3,7 @@
 use assertions::equal;
 use clru::replay;
 use clru_curve::miss_curve;
-use clru_fixtures::sizes::room;
+use clru_fixtures::sizes::capacity_of;
 use clru_fixtures::with_each_builder;
 use std::alloc::Global;
 use std::hash::BuildHasher;
@@ -36,8 +36,8 @@ fn equals_replay<S: BuildHasher + Copy>(
             1, 2, 3, 4, 5, 6, 8, 11, 15, 20, 27, 36, 48, 64, 85, 113, 151, 201, 268, 700,
         ] {
             let keys = Vec::from_slice(alloc, &requests)?;
-            match replay(alloc, room(capacity)?, keys, builder) {
-                Ok(answer) => equal!(rt; curve.misses(room(capacity)?), answer.misses, capacity),
+            match replay(alloc, capacity_of(capacity)?, keys, builder) {
+                Ok(answer) => equal!(rt; curve.misses(capacity_of(capacity)?), answer.misses, capacity),
                 Err(_) => return Err("memory".into()),
             }
         }

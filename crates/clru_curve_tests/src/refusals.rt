@@ -4,7 +4,7 @@
 use assertions::equal;
 use clru::WeightScale;
 use clru_curve::{DefaultState, DistancePass, SizedPass, miss_curve, sized_curve};
-use clru_fixtures::sizes::room;
+use clru_fixtures::sizes::capacity_of;
 use ration::Rationed;
 use std::test::Fail;
 
@@ -50,8 +50,8 @@ fn a_pass_goes_on_after_each_refusal(rt: HostRuntime) -> Result<(), Fail> {
             Ok(curve) => curve,
             Err(_) => pass.curve(&heap)?,
         };
-        equal!(rt; curve.misses(room(69)?), 210, passing);
-        equal!(rt; curve.misses(room(70)?), 70, passing);
+        equal!(rt; curve.misses(capacity_of(69)?), 210, passing);
+        equal!(rt; curve.misses(capacity_of(70)?), 70, passing);
         drop(curve);
         drop(pass);
         equal!(rt; heap.held_bytes(), 0, passing);
@@ -82,8 +82,8 @@ fn a_sized_pass_goes_on_after_each_refusal(rt: HostRuntime) -> Result<(), Fail> 
             Ok(curve) => curve,
             Err(_) => pass.curve(&heap)?,
         };
-        equal!(rt; curve.misses(room(209)?), Some(210), passing);
-        equal!(rt; curve.missed_size(room(210)?), Some(210), passing);
+        equal!(rt; curve.misses(capacity_of(209)?), Some(210), passing);
+        equal!(rt; curve.missed_size(capacity_of(210)?), Some(210), passing);
         drop(curve);
         drop(pass);
         equal!(rt; heap.held_bytes(), 0, passing);
@@ -106,13 +106,13 @@ fn a_curve_of_a_list_is_refused_or_right(rt: HostRuntime) -> Result<(), Fail> {
         let before = heap.refused();
         heap.refuse_one_after(passing);
         match miss_curve(&heap, &keys, DefaultState) {
-            Ok(curve) => equal!(rt; (curve.distinct(), curve.misses(room(70)?)), (70, 70), passing),
+            Ok(curve) => equal!(rt; (curve.distinct(), curve.misses(capacity_of(70)?)), (70, 70), passing),
             Err(_) => equal!(rt; heap.refused() > before, true, passing),
         }
         heap.refuse_one_after(passing);
         match sized_curve(&heap, &keys, Two, DefaultState) {
             Ok(curve) => {
-                equal!(rt; (curve.distinct_size(), curve.misses(room(210)?)), (210, Some(70)), passing)
+                equal!(rt; (curve.distinct_size(), curve.misses(capacity_of(210)?)), (210, Some(70)), passing)
             }
             Err(_) => equal!(rt; heap.refused() > before, true, passing),
         }

@@ -2,7 +2,7 @@
 
 use assertions::equal;
 use clru_curve::{DistancePass, NonZeroUsize, law_distances, law_sizes, miss_curve};
-use clru_fixtures::sizes::room;
+use clru_fixtures::sizes::capacity_of;
 use clru_fixtures::with_each_builder;
 use std::alloc::Global;
 use std::hash::BuildHasher;
@@ -76,8 +76,8 @@ fn worked_rows(rt: HostRuntime) -> Result<(), Fail> {
 fn beyond_the_keys_each_misses_once(rt: HostRuntime) -> Result<(), Fail> {
     let curve = miss_curve(rt.alloc(), &["a", "b", "a"], clru_curve::DefaultState)?;
     equal!(rt; curve.distinct(), 2);
-    equal!(rt; curve.misses(room(1)?), 3);
-    equal!(rt; curve.misses(room(3)?), 2);
+    equal!(rt; curve.misses(capacity_of(1)?), 3);
+    equal!(rt; curve.misses(capacity_of(3)?), 2);
     equal!(rt; curve.misses(NonZeroUsize::MAX), 2);
     Ok(())
 }

@@ -5,7 +5,7 @@ use crate::drawn::draws;
 use assertions::equal;
 use clru::{CLruCache, CLruCacheConfig, WeightScale};
 use clru_curve::{SizedPass, sized_curve};
-use clru_fixtures::sizes::room;
+use clru_fixtures::sizes::capacity_of;
 use clru_fixtures::with_each_builder;
 use std::alloc::Global;
 use std::hash::BuildHasher;
@@ -69,7 +69,7 @@ fn cached<S: BuildHasher + Copy>(
     capacity: usize,
     builder: S,
 ) -> Result<(usize, usize), Fail> {
-    let config = CLruCacheConfig::new(room(capacity)?)
+    let config = CLruCacheConfig::new(capacity_of(capacity)?)
         .with_hasher(builder)
         .with_scale(ByKey);
     let Ok(mut cache) = CLruCache::with_config(alloc, config) else {
@@ -105,11 +105,11 @@ fn equals_cache<S: BuildHasher + Copy>(
         for capacity in CAPACITIES {
             let missed = simulated(alloc, &requests, capacity)?;
             equal!(rt; cached(alloc, &requests, capacity, builder)?, missed, capacity);
-            equal!(rt; curve.misses(room(capacity)?), Some(missed.0), capacity);
-            equal!(rt; curve.missed_size(room(capacity)?), Some(missed.1), capacity);
+            equal!(rt; curve.misses(capacity_of(capacity)?), Some(missed.0), capacity);
+            equal!(rt; curve.missed_size(capacity_of(capacity)?), Some(missed.1), capacity);
         }
         equal!(rt; curve.requests(), 700);
-        equal!(rt; curve.misses(room(curve.greatest_weight())?), None);
+        equal!(rt; curve.misses(capacity_of(curve.greatest_weight())?), None);
     }
     Ok(())
 }

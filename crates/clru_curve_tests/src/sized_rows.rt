@@ -4,7 +4,7 @@ ghost use Rattle.std.specs.Prelude.{slice_index_or, [], ◌∷◌};
 use assertions::equal;
 use clru::WeightScale;
 use clru_curve::{NonZeroUsize, SizedPass, SizedRequestError, miss_curve, sized_curve};
-use clru_fixtures::sizes::room;
+use clru_fixtures::sizes::capacity_of;
 use clru_fixtures::with_each_builder;
 use std::alloc::Global;
 use std::hash::BuildHasher;
@@ -102,7 +102,7 @@ fn rows_with<S: BuildHasher + Copy>(
         };
         for curve in [&early, &late, &whole] {
             for (capacity, misses, missed_size) in row.missed {
-                let capacity = room(*capacity)?;
+                let capacity = capacity_of(*capacity)?;
                 equal!(rt; curve.misses(capacity), Some(*misses));
                 equal!(rt; curve.missed_size(capacity), Some(*missed_size));
             }
@@ -123,9 +123,9 @@ fn no_answer_up_to_the_greatest_weight(rt: HostRuntime) -> Result<(), Fail> {
     let Ok(curve) = sized_curve(rt.alloc(), &[2, 4, 2], Table, clru_curve::DefaultState) else {
         return Err("refused".into());
     };
-    equal!(rt; curve.misses(room(1)?), None);
-    equal!(rt; curve.missed_size(room(9)?), None);
-    equal!(rt; curve.misses(room(10)?), Some(3));
+    equal!(rt; curve.misses(capacity_of(1)?), None);
+    equal!(rt; curve.missed_size(capacity_of(9)?), None);
+    equal!(rt; curve.misses(capacity_of(10)?), Some(3));
     equal!(rt; curve.missed_size(NonZeroUsize::MAX), Some(11));
     equal!(rt; curve.as_slice(), [(11, 11)].as_slice());
     Ok(())
@@ -152,7 +152,7 @@ fn without_weights_it_is_the_miss_curve(rt: HostRuntime) -> Result<(), Fail> {
     };
     equal!(rt; sized.distinct_size(), plain.distinct());
     for capacity in 1..=61 {
-        let capacity = room(capacity)?;
+        let capacity = capacity_of(capacity)?;
         equal!(rt; sized.misses(capacity), Some(plain.misses(capacity)), capacity);
         equal!(rt; sized.missed_size(capacity), Some(plain.misses(capacity)), capacity);
     }

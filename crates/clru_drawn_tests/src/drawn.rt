@@ -6,7 +6,7 @@ use assertions::equal;
 use clru::{CLruCache, CLruCacheConfig, DefaultState, WeightScale, ZeroWeightScale};
 use clru_fixtures::builders::CONSTANTS;
 use clru_fixtures::scales::ByValue;
-use clru_fixtures::sizes::room;
+use clru_fixtures::sizes::capacity_of;
 use clru_runs::{Answer, Call, Perform, PlainCall};
 use ration::Rationed;
 use std::alloc::Global;
@@ -91,7 +91,7 @@ where
 {
     for _ in 0..67u32 {
         let capacity = draws.capacity();
-        let config = CLruCacheConfig::new(room(capacity)?).with_memory(draws.below(9));
+        let config = CLruCacheConfig::new(capacity_of(capacity)?).with_memory(draws.below(9));
         let config = config.with_hasher(builder).with_scale(scale);
         heap.refuse_none();
         let Ok(mut cache) = CLruCache::with_config(heap, config) else {

@@ -3,7 +3,7 @@
 use crate::drawn::is_whole;
 use crate::pairs::Pairs;
 use clru::CLruCache;
-use clru_fixtures::sizes::room;
+use clru_fixtures::sizes::capacity_of;
 use clru_runs::{Attempt, Perform, PlainCall};
 use ration::Rationed;
 use std::test::Fail;
@@ -16,7 +16,7 @@ fn each_call_of_a_closure_fails_in_turn(rt: HostRuntime) -> Result<(), Fail> {
     for n in 0..=KEYS.len() {
         for left in [None, Some(9)] {
             let heap = Rationed::new(rt.alloc());
-            let mut cache = CLruCache::new(&heap, room(2)?);
+            let mut cache = CLruCache::new(&heap, capacity_of(2)?);
             let mut pairs = Pairs {
                 list: Vec::new(rt.alloc()),
                 capacity: 2,

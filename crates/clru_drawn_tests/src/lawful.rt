@@ -3,7 +3,7 @@
 use crate::callers::{perform_at_both, perform_puts};
 use assertions::equal;
 use clru::CLruCache;
-use clru_fixtures::sizes::room;
+use clru_fixtures::sizes::capacity_of;
 use clru_runs::Answer::{Lent, Pair};
 use clru_runs::Call::{self, PopBack, PutWithWeight};
 use clru_runs::PlainCall::{Put, PutOrModify};
@@ -20,8 +20,8 @@ fn three_calls(alloc: Global) -> Result<Vec<Call<u32, u32>>, AllocError> {
 
 #[test]
 fn the_lesser_of_two_begins_the_greater(rt: HostRuntime) -> Result<(), Fail> {
-    let mut lesser = CLruCache::new(rt.alloc(), room(1)?);
-    let mut greater = CLruCache::new(rt.alloc(), room(3)?);
+    let mut lesser = CLruCache::new(rt.alloc(), capacity_of(1)?);
+    let mut greater = CLruCache::new(rt.alloc(), capacity_of(3)?);
     let (once, again) = (three_calls(rt.alloc())?, three_calls(rt.alloc())?);
     let Some(answers) = perform_at_both(rt.alloc(), &mut lesser, &mut greater, once, again) else {
         return Err("want of memory".into());
@@ -33,7 +33,7 @@ fn the_lesser_of_two_begins_the_greater(rt: HostRuntime) -> Result<(), Fail> {
 
 #[test]
 fn puts_are_made_of_an_empty_cache(rt: HostRuntime) -> Result<(), Fail> {
-    let mut cache = CLruCache::new(rt.alloc(), room(1)?);
+    let mut cache = CLruCache::new(rt.alloc(), capacity_of(1)?);
     let mut puts = Vec::new(rt.alloc());
     puts.push(Put(1u32, 10u32))?;
     puts.push(PutOrModify(1, 20))?;

@@ -2,7 +2,7 @@
 
 use assertions::equal;
 use clru::{CLruCache, PutError};
-use clru_fixtures::sizes::room;
+use clru_fixtures::sizes::capacity_of;
 use clru_runs::Answer::{self, Lent, Number, Stored, Value, Weighed};
 use clru_runs::Call::{Len, Peek, PutWithWeight};
 use clru_runs::PlainCall::{self, Any, Put, PutOrModify};
@@ -25,7 +25,7 @@ static REFUSED: &[(PlainCall<&str, u64>, Answer<&str, u64>)] = &[
 #[test]
 fn a_put_that_wants_memory_ends_no_run(rt: HostRuntime) -> Result<(), Fail> {
     let heap = Rationed::new(rt.alloc());
-    let mut cache = CLruCache::new(&heap, room(3)?);
+    let mut cache = CLruCache::new(&heap, capacity_of(3)?);
     let mut calls = Vec::new(rt.alloc());
     for (call, _) in REFUSED.iter() {
         calls.push(call.clone()?)?;
@@ -45,7 +45,7 @@ fn a_put_that_wants_memory_ends_no_run(rt: HostRuntime) -> Result<(), Fail> {
 #[test]
 fn the_calls_come_back_where_answers_find_no_memory(rt: HostRuntime) -> Result<(), Fail> {
     let heap = Rationed::new(rt.alloc());
-    let mut cache = CLruCache::new(rt.alloc(), room(3)?);
+    let mut cache = CLruCache::new(rt.alloc(), capacity_of(3)?);
     let calls = vec![in &heap; Put("a", 1), Put("b", 2)]?;
     heap.refuse_after(0);
     let Err(calls) = perform_all(&heap, &mut cache, calls) else {
@@ -63,7 +63,7 @@ fn the_calls_come_back_where_answers_find_no_memory(rt: HostRuntime) -> Result<(
 #[test]
 fn a_long_run_makes_one_request_for_its_answers(rt: HostRuntime) -> Result<(), Fail> {
     let heap = Rationed::new(rt.alloc());
-    let mut cache = CLruCache::new(rt.alloc(), room(100)?);
+    let mut cache = CLruCache::new(rt.alloc(), capacity_of(100)?);
     let mut calls = Vec::with_capacity(&heap, 20_000)?;
     for n in 0..20_000u32 {
         calls.push(Put(n, n))?;

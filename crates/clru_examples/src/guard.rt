@@ -17,8 +17,8 @@ mod tests {
 
     #[test]
     fn the_last_size_is_doubled(rt: HostRuntime) -> Result<(), Fail> {
-        let room = NonZeroUsize::new(2).ok_or("a capacity is no 0")?;
-        let mut sizes = CLruCache::new(rt.alloc(), room);
+        let capacity = NonZeroUsize::new(2).ok_or("a capacity is no 0")?;
+        let mut sizes = CLruCache::new(rt.alloc(), capacity);
         assert_eq!(rt; double_last(&mut sizes), None);
         assert!(rt; sizes.put(1, 10).is_ok() && sizes.put(2, 20).is_ok());
         assert_eq!(rt; double_last(&mut sizes), Some(2));

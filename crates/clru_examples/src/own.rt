@@ -12,10 +12,10 @@ use std::alloc::Global;
 pub type Pages = CLruCache<u64, Vec<u8>, FnvState, ByLength>;
 
 /// Makes the cache. Without a reserve it asks for no memory, so nothing can be refused.
-pub fn empty(alloc: Global, room: NonZeroUsize) -> Pages
+pub fn empty(alloc: Global, capacity: NonZeroUsize) -> Pages
     ensures { result.entries ≡ [] }
 {
-    let config = CLruCacheConfig::new(room)
+    let config = CLruCacheConfig::new(capacity)
         .with_hasher(FnvState)
         .with_scale(ByLength);
     match CLruCache::with_config(alloc, config) {
@@ -43,8 +43,8 @@ mod tests {
 
     #[test]
     fn pages_are_held_within_a_number_of_bytes(rt: HostRuntime) -> Result<(), Fail> {
-        let room = NonZeroUsize::new(10).ok_or("a capacity is no 0")?;
-        let mut pages = empty(rt.alloc(), room);
+        let capacity = NonZeroUsize::new(10).ok_or("a capacity is no 0")?;
+        let mut pages = empty(rt.alloc(), capacity);
         for page in [1, 2, 3] {
             let bytes = Vec::from_slice(rt.alloc(), b"four")?;
             assert!(rt; hold(&mut pages, page, bytes).is_ok());

@@ -45,8 +45,8 @@ mod tests {
 
     #[test]
     fn the_page_looked_at_last_stays(rt: HostRuntime) -> Result<(), Fail> {
-        let room = NonZeroUsize::new(2).ok_or("a capacity is no 0")?;
-        let mut sizes = CLruCache::new(rt.alloc(), room);
+        let capacity = NonZeroUsize::new(2).ok_or("a capacity is no 0")?;
+        let mut sizes = CLruCache::new(rt.alloc(), capacity);
         assert_eq!(rt; remember(&mut sizes, 1, 10), Ok(None));
         assert_eq!(rt; remember(&mut sizes, 2, 20), Ok(None));
         assert_eq!(rt; sizes.get(&1).copied(), Some(10));
@@ -57,8 +57,8 @@ mod tests {
 
     #[test]
     fn a_page_is_forgotten_and_the_others_halved(rt: HostRuntime) -> Result<(), Fail> {
-        let room = NonZeroUsize::new(2).ok_or("a capacity is no 0")?;
-        let mut sizes = CLruCache::new(rt.alloc(), room);
+        let capacity = NonZeroUsize::new(2).ok_or("a capacity is no 0")?;
+        let mut sizes = CLruCache::new(rt.alloc(), capacity);
         assert_eq!(rt; remember(&mut sizes, 1, 10), Ok(None));
         assert_eq!(rt; remember(&mut sizes, 2, 20), Ok(None));
         assert_eq!(rt; forget(&mut sizes, 1), Some(10));

@@ -23,8 +23,8 @@ mod tests {
 
     #[test]
     fn what_does_not_fit_beside_a_page_is_handed_out(rt: HostRuntime) -> Result<(), Fail> {
-        let room = NonZeroUsize::new(10).ok_or("a capacity is no 0")?;
-        let mut pages = CLruCache::with_scale(rt.alloc(), room, ByLength);
+        let capacity = NonZeroUsize::new(10).ok_or("a capacity is no 0")?;
+        let mut pages = CLruCache::with_scale(rt.alloc(), capacity, ByLength);
         for page in [1, 2] {
             let bytes = Vec::from_slice(rt.alloc(), b"four")?;
             let put = pages.put_with_weight(page, bytes, |_, _| {});

@@ -75,8 +75,8 @@ mod tests {
 
     #[test]
     fn a_page_is_fetched_once_and_the_last_ones_are_held(rt: HostRuntime) -> Result<(), Fail> {
-        let room = NonZeroUsize::new(2).ok_or("a capacity is no 0")?;
-        let mut pages = pages_of(rt.alloc(), room);
+        let capacity = NonZeroUsize::new(2).ok_or("a capacity is no 0")?;
+        let mut pages = pages_of(rt.alloc(), capacity);
         let mut hits = 0u64;
         for name in ["home", "home", "about", "home", "contact"] {
             let (length, held) = length_of(&mut pages, name.to_string(rt.alloc())?)?;

@@ -3,7 +3,7 @@
 use assertions::equal;
 use clru::{CLruCache, DefaultState, ZeroWeightScale};
 use clru_fixtures::costs::{HEAD_BYTES, PLACE_BYTES, REQUESTS};
-use clru_fixtures::sizes::room;
+use clru_fixtures::sizes::capacity_of;
 use ration::Rationed;
 use std::alloc::Global;
 use std::process::Abort;
@@ -69,7 +69,7 @@ fn a_refused_growth_leaves_each_key_in_its_place(rt: HostRuntime) -> Result<(), 
         for n in 0..2 {
             let heap = Rationed::new(rt.alloc());
             {
-                let mut cache = CLruCache::new(&heap, room(5000)?);
+                let mut cache = CLruCache::new(&heap, capacity_of(5000)?);
                 refuses_a_growth(&rt, &heap, &mut cache, held, n);
             }
             equal!(rt; (heap.refused(), heap.blocks()), (1, 0), (held, n));
@@ -94,7 +94,7 @@ fn places_and_heads_grow_fourfold(rt: HostRuntime) -> Result<(), Fail> {
     ];
     for (capacity, end, places, heads, growths) in rows {
         let heap = Rationed::new(rt.alloc());
-        let mut cache = CLruCache::new(&heap, room(capacity)?);
+        let mut cache = CLruCache::new(&heap, capacity_of(capacity)?);
         puts(&rt, &mut cache, 0, end);
         equal!(rt;
             (heap.held_bytes(), heap.asked()),

@@ -6,7 +6,7 @@ use clru::{CLruCache, CLruCacheConfig, NonZeroUsize};
 use clru_counted::cost::{OWNED_PLACE_BYTES, counted, less};
 use clru_counted::counted::{Counting, Counts, Key, OneChain, Scale, Value};
 use clru_fixtures::costs::{HEAD_BYTES, REQUESTS};
-use clru_fixtures::sizes::room;
+use clru_fixtures::sizes::capacity_of;
 use clru_through::Through;
 use std::test::Fail;
 
@@ -138,7 +138,7 @@ fn config<'a>(
 
 /// Makes what the row says, and drops it. Returns whether it was made.
 fn makes(counts: &Counts, maker: Maker, capacity: usize, reserve: usize) -> Result<bool, Fail> {
-    let capacity = room(capacity)?;
+    let capacity = capacity_of(capacity)?;
     let heap = &counts.heap;
     Ok(match maker {
         New => CLruCache::<Key, Value, _, _, _>::new(heap, capacity).is_empty(),

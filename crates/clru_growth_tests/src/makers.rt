@@ -4,7 +4,7 @@ use crate::growths::Plain;
 use assertions::equal;
 use clru::{CLruCache, CLruCacheConfig, NoMemory, NonZeroUsize};
 use clru_fixtures::costs::{REQUESTS, free_places};
-use clru_fixtures::sizes::room;
+use clru_fixtures::sizes::capacity_of;
 use ration::Rationed;
 use std::alloc::Global;
 use std::process::Abort;
@@ -52,7 +52,7 @@ fn a_reserve_is_room_for_as_many(rt: HostRuntime) -> Result<(), Fail> {
         for (capacity, reserve, places) in rows {
             let heap = Rationed::new(rt.alloc());
             {
-                let mut cache = makes(&heap, maker, room(capacity)?, reserve)?;
+                let mut cache = makes(&heap, maker, capacity_of(capacity)?, reserve)?;
                 equal!(rt;
                     free_places(&heap, &mut cache),
                     places,
@@ -71,7 +71,7 @@ fn each_refusal_leaves_no_block(rt: HostRuntime) -> Result<(), Fail> {
         for n in 0..=REQUESTS {
             let heap = Rationed::new(rt.alloc());
             heap.refuse_after(n);
-            let made = makes(&heap, maker, room(4)?, 3).is_ok();
+            let made = makes(&heap, maker, capacity_of(4)?, 3).is_ok();
             equal!(rt; made, n == REQUESTS, (maker, n));
             equal!(rt;
                 (heap.asked(), heap.refused() == 0),
@@ -106,7 +106,7 @@ fn a_refused_configuration_comes_back_as_it_was(rt: HostRuntime) -> Result<(), F
     for n in 0..REQUESTS {
         let heap = Rationed::new(rt.alloc());
         for (reserve, places) in [(None, 3), (Some(2), 2), (Some(0), 0)] {
-            let config = CLruCacheConfig::new(room(4)?).with_memory(3);
+            let config = CLruCacheConfig::new(capacity_of(4)?).with_memory(3);
             heap.refuse_after(n);
             let Err(config) = CLruCache::with_config(&heap, config) else {
                 return Err("a request was refused".into());

@@ -5,7 +5,7 @@ use clru::{DefaultState, replay};
 use clru_counted::cost::{counted, less};
 use clru_counted::counted::{Counting, Counts, Key, OneChain, Spread};
 use clru_fixtures::costs::{HEAD_BYTES, PLACE_BYTES, REQUESTS};
-use clru_fixtures::sizes::room;
+use clru_fixtures::sizes::capacity_of;
 use ration::Rationed;
 use std::alloc::{AllocError, Global};
 use std::test::Fail;
@@ -58,7 +58,7 @@ fn replays_cost_what_their_rows_say(rt: HostRuntime) -> Result<(), Fail> {
         let before = counted(&counts);
         let answer = replay(
             &counts.heap,
-            room(*capacity)?,
+            capacity_of(*capacity)?,
             keys,
             OneChain::there(&counts),
         );
@@ -85,7 +85,7 @@ fn a_replay_compares_few_keys(rt: HostRuntime) -> Result<(), Fail> {
     for (capacity, distinct, rounds, compared, hashed) in rows {
         let counts = Counts::new(rt.alloc());
         let keys = rounds_of(&counts, distinct, rounds)?;
-        let answer = replay(&counts.heap, room(capacity)?, keys, Spread::there(&counts));
+        let answer = replay(&counts.heap, capacity_of(capacity)?, keys, Spread::there(&counts));
         equal!(rt; answer.is_ok(), true, (capacity, rounds));
         equal!(rt; (counts.compared.get(), counts.hashed.get()), (compared, hashed), (capacity, rounds));
     }
@@ -108,7 +108,7 @@ fn a_replay_asks_for_its_places_and_its_marks(rt: HostRuntime) -> Result<(), Fai
         let heap = Rationed::new(rt.alloc());
         let keys = round_of(&heap, distinct, count)?;
         let (asked, bytes) = (heap.asked(), heap.asked_bytes());
-        let answer = replay(&heap, room(capacity)?, keys, DefaultState);
+        let answer = replay(&heap, capacity_of(capacity)?, keys, DefaultState);
         let answer = answer.map_err(|_| "the keys came back")?;
         equal!(rt;
             (answer.marks.len() as u64, answer.misses as u64),
@@ -135,7 +135,7 @@ fn a_replay_gives_the_keys_back(rt: HostRuntime) -> Result<(), Fail> {
         let heap = Rationed::new(rt.alloc());
         let keys = Vec::from_slice(&heap, &[1u64, 2, 3, 1])?;
         heap.refuse_after(n);
-        match replay(&heap, room(2)?, keys, DefaultState) {
+        match replay(&heap, capacity_of(2)?, keys, DefaultState) {
             Ok(answer) => {
                 equal!(rt; (n, heap.refused()), (REQUESTS + 1, 0));
                 equal!(rt; (answer.marks.len(), answer.misses), (4, 4));
@@ -160,7 +160,7 @@ fn a_replay_of_no_keys_asks_for_nothing(rt: HostRuntime) -> Result<(), Fail> {
     let heap = Rationed::new(rt.alloc());
     heap.refuse_after(0);
     let keys: Vec<u64, &Rationed<Global>> = Vec::new(&heap);
-    let answer = replay(&heap, room(2)?, keys, DefaultState).map_err(|_| "the keys came back")?;
+    let answer = replay(&heap, capacity_of(2)?, keys, DefaultState).map_err(|_| "the keys came back")?;
     equal!(rt;
         (answer.marks.len(), answer.misses, heap.asked()),
         (0, 0, 0)

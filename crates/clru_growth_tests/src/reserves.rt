@@ -3,7 +3,7 @@
 use assertions::equal;
 use clru::{CLruCache, CLruCacheConfig, DefaultState, Put, ZeroWeightScale};
 use clru_fixtures::builders::CONSTANTS;
-use clru_fixtures::sizes::room;
+use clru_fixtures::sizes::capacity_of;
 use ration::Rationed;
 use std::alloc::Global;
 use std::hash::BuildHasher;
@@ -46,7 +46,7 @@ fn holds_two<S: BuildHasher>(rt: &impl Abort, heap: &Rationed<Global>, cache: &m
 #[test]
 fn a_reserve_of_two_holds_two(rt: HostRuntime) -> Result<(), Fail> {
     let heap = Rationed::new(rt.alloc());
-    let mut cache: Over<DefaultState> = CLruCache::with_memory(&heap, room(4)?, 2)?;
+    let mut cache: Over<DefaultState> = CLruCache::with_memory(&heap, capacity_of(4)?, 2)?;
     holds_two(&rt, &heap, &mut cache);
     Ok(())
 }
@@ -55,7 +55,7 @@ fn a_reserve_of_two_holds_two(rt: HostRuntime) -> Result<(), Fail> {
 fn a_reserve_of_two_holds_two_where_the_hashes_are_alike(rt: HostRuntime) -> Result<(), Fail> {
     for builder in CONSTANTS {
         let heap = Rationed::new(rt.alloc());
-        let config = CLruCacheConfig::new(room(4)?)
+        let config = CLruCacheConfig::new(capacity_of(4)?)
             .with_hasher(builder)
             .with_memory(2);
         let Ok(mut cache) = CLruCache::with_config(&heap, config) else {

@@ -4,7 +4,7 @@
 use assertions::equal;
 use clru::{CLruCache, CLruCacheConfig};
 use clru_counted::counted::{Counting, Counts, Spread};
-use clru_fixtures::sizes::room;
+use clru_fixtures::sizes::capacity_of;
 use clru_runs::Attempt::{Fail as Fails, Store};
 use clru_runs::Call::{
     Back, Capacity, Clear, Contains, Front, Get, IsEmpty, IsFull, Len, Nth, NthBack, Peek, Pop,
@@ -61,7 +61,7 @@ static RUNS: &[(PlainCall<u64, u64>, u64)] = &[
 fn calls_of_a_run_hash_what_their_rows_say(rt: HostRuntime) -> Result<(), Fail> {
     for (call, hashed) in RUNS.iter() {
         let counts = Counts::new(rt.alloc());
-        let config = CLruCacheConfig::new(room(3)?)
+        let config = CLruCacheConfig::new(capacity_of(3)?)
             .with_hasher(Spread::there(&counts))
             .with_memory(3);
         let Ok(mut cache) = CLruCache::with_config(&counts.heap, config) else {

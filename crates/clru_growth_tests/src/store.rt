@@ -11,7 +11,7 @@ use clru_counted::cost::{
     WEIGHED, costs_hold,
 };
 use clru_counted::counted::{Counting, Counts, Key, OneChain, Scale, Spread, Value};
-use clru_fixtures::sizes::room;
+use clru_fixtures::sizes::capacity_of;
 use clru_through::{Source, Through};
 use ration::Rationed;
 use std::alloc::Global;
@@ -53,7 +53,7 @@ impl<'a, S: BuildHasher + Counting<'a>> Subject<'a> for Store<'a, S> {
         counts: &'a Counts,
         (capacity, entries, places, _): State,
     ) -> Result<Store<'a, S>, Fail> {
-        let config = CLruCacheConfig::new(room(capacity)?)
+        let config = CLruCacheConfig::new(capacity_of(capacity)?)
             .with_hasher(S::there(counts))
             .with_scale(Scale { counts })
             .with_memory(places);
@@ -142,7 +142,7 @@ impl<'a, S: BuildHasher + Counting<'a>> Makes<'a, Store<'a, S>> for StoreCall {
             Put => drop(store.put(key, counts.value(0)?)),
             Pop => drop(store.pop(&key)),
             Clear => store.clear(),
-            Resize => store.resize(room(1)?),
+            Resize => store.resize(capacity_of(1)?),
             Cache => drop(store.cache()),
             Lent => drop(store.source()),
             IntoParts => {

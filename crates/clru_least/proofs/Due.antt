@@ -1,4 +1,4 @@
--- How many of the keys held are requested next at a place.
+-- How many of the keys held are requested next at a position.
 use Rattle.std.proofs.Common.{◌≡◌, ℕ, suc, ◌+◌, ◌<◌, Bool, true, false, cond, eqb}
 use Rattle.std.proofs.Common.{List, [], ◌∷◌, length, refl, sym, ap, ◌∙◌, arith}
 use Rattle.std.proofs.lemmas.Bool.{ne_eqb}
@@ -17,7 +17,7 @@ pub count_by-cons : {X : Type 0} (f : X → Bool) (x : X) (xs : List X) → coun
 count_by-cons f x xs = sum_by-cons (λ y. cond (f y) 1 0) x xs
 
 module _ {K : Type 0} (eq : K → K → Bool) where
-  -- whether z, where the requests rs begin at the place i, is requested next at p
+  -- whether z, where the requests rs begin at the position i, is requested next at p
   abbrev pub is_due : ℕ → List K → ℕ → K → Bool
   is_due i rs p z = eqb (i + until eq z rs) p
 
@@ -88,7 +88,7 @@ module _ {K : Type 0} (eq : K → K → Bool) (laws : IsEquivalence eq) where
   is_due_same : (i : ℕ) (rs : List K) (p : ℕ) (z y : K) → eq z y ≡ true → is_due eq i rs p z ≡ is_due eq i rs p y
   is_due_same i rs p z y t = ap (λ (n : ℕ). eqb (i + n) p) (until_same eq laws z y rs t)
 
-  -- what is due at a place, by whether z is
+  -- what is due at a position, by whether z is
   pub due_by_key : (i : ℕ) (rs : List K) (p : ℕ) (z : K) (ks : List K) → AreApart eq ks → holds eq z ks ≡ true
       → due eq i rs ks p ≡ cond (is_due eq i rs p z) 1 0 + due eq i rs (others eq z ks) p
   due_by_key i rs p z ks apart held = count_by_key (is_due eq i rs p) z ks (is_due_same i rs p z) apart held

@@ -1,5 +1,5 @@
 -- The state of the walk from the first request to the last: the keys held, the marks of the requests that will hit, and the
--- queue of next places.
+-- queue of next positions.
 use Rattle.std.proofs.Common.{◌≡◌, ℕ, ◌+◌, ◌-◌, ◌<◌, ◌≤◌, Bool, true, false, cond, eqb, ltb}
 use Rattle.std.proofs.Common.{List, [], ◌∷◌, length, drop, get_or, refl, inl, inr, sym, ap, ◌∙◌, subst, arith}
 use Rattle.std.proofs.lemmas.Bool.{eq-eqb, eqb-true, lt-ltb, le-ltb, cases_lt}
@@ -12,13 +12,13 @@ use Rattle.clru_model.proofs.Optimum.{IsBest}
 use Rattle.clru_least.specs.Next.{until}
 use Rattle.clru_least.proofs.Due.{count_by-cons, is_due, due, AreApart, AreApart_first, AreApart_others, length-others, due_key, due_by_key, due_alone, due_after}
 
--- how often a place stands in a queue
+-- how often a position stands in a queue
 abbrev pub queued_at : List ℕ → ℕ → ℕ
 queued_at queue p = count_by (λ q. eqb q p) queue
 
 module _ {K : Type 0} (eq : K → K → Bool) where
-  -- The keys held, where the requests rs begin at the place i and end at n: as many as were counted. A request to come is marked where one of the keys
-  -- is requested next there, and the queue has the next places of the keys, from i on.
+  -- The keys held, where the requests rs begin at the position i and end at n: as many as were counted. A request to come is marked where one of the keys
+  -- is requested next there, and the queue has the next positions of the keys, from i on.
   pub record IsHeld (i n : ℕ) (rs keys : List K) (kept : List Bool) (queue : List ℕ) (held : ℕ) : Type 0 where
     pub apart : AreApart eq keys
     pub counted : held ≡ length keys
@@ -62,7 +62,7 @@ module _ {K : Type 0} (eq : K → K → Bool) (laws : IsEquivalence eq) where
         | inr few ↦ few
       ]
 
-  -- after a request of x, with its next place written and queued
+  -- after a request of x, with its next position written and queued
   pub IsHeld_next : (i n : ℕ) (x : K) (rs keys : List K) (kept marks : List Bool) (queue more : List ℕ) (held : ℕ)
       → IsHeld eq i n (x ∷ rs) keys kept queue held
       → ((p : ℕ) → i < p → p < n → get_or marks p false ≡ cond (eqb (i + 1 + until eq x rs) p) true (get_or kept p false))
@@ -96,7 +96,7 @@ module _ {K : Type 0} (eq : K → K → Bool) (laws : IsEquivalence eq) where
           let one = first p ∙ ap (λ b. cond b 1 0 + due eq (i + 1) rs (others eq x keys) p) f in
           omega (arith, one, due_after eq laws i x rs keys p later)
 
-  -- a place that is due stands in the queue
+  -- a position that is due stands in the queue
   pub due_queued : (i n : ℕ) (rs keys : List K) (kept : List Bool) (queue : List ℕ) (held : ℕ) (z : K)
       → IsHeld eq i n rs keys kept queue held → holds eq z keys ≡ true → 0 < queued_at queue (i + until eq z rs)
   due_queued i n rs keys kept queue held z s at =
@@ -106,7 +106,7 @@ module _ {K : Type 0} (eq : K → K → Bool) (laws : IsEquivalence eq) where
       = e ∙ ap (λ b. cond b 1 0 + due eq i rs (others eq z keys) p) (eq-eqb p p refl) in
       omega (arith, one, s.queued p (omega arith))
 
-  -- after the greatest place was taken from the queue, and its mark away: a key is dropped whose next request is the furthest
+  -- after the greatest position was taken from the queue, and its mark away: a key is dropped whose next request is the furthest
   pub record IsDropped (i n : ℕ) (rs keys : List K) (marks : List Bool) (less : List ℕ) (held : ℕ) : Type 0 where
     pub key : K
     pub was_held : holds eq key keys ≡ true

@@ -5,11 +5,11 @@ use Rattle.std.specs.Prelude.{replicate}
 use Rattle.std.specs.List.Sorted.{IsPermutation}
 use Rattle.clru_least.specs.Queue.{queue_of}
 
--- a place that joins the others joins the queue
-pub queue_push : (end done place : ℕ) (places more : List ℕ) → IsPermutation (place ∷ places) more
-    → IsPermutation (place ∷ queue_of end done places) (queue_of end done more)
-queue_push end done place places more moved =
+-- a position that joins the others joins the queue
+pub queue_push : (end done position : ℕ) (positions more : List ℕ) → IsPermutation (position ∷ positions) more
+    → IsPermutation (position ∷ queue_of end done positions) (queue_of end done more)
+queue_push end done position positions more moved =
     let ends = replicate done end in
-    IsPermutation-trans (place ∷ (ends ++ places)) (ends ++ place ∷ places) (ends ++ more)
-    (IsPermutation-sym (ends ++ place ∷ places) (place ∷ (ends ++ places)) (IsPermutation-middle ends place places))
-    (IsPermutation-append ends ends (place ∷ places) more (IsPermutation-refl ends) moved)
+    IsPermutation-trans (position ∷ (ends ++ positions)) (ends ++ position ∷ positions) (ends ++ more)
+    (IsPermutation-sym (ends ++ position ∷ positions) (position ∷ (ends ++ positions)) (IsPermutation-middle ends position positions))
+    (IsPermutation-append ends ends (position ∷ positions) more (IsPermutation-refl ends) moved)

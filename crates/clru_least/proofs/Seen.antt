@@ -11,7 +11,7 @@ use Rattle.clru_least.specs.Next.{until, next_from}
 use Rattle.clru_least.proofs.Until.{until_not_held}
 
 module _ {K : Type 0} (eq : K → K → Bool) where
-  -- of the requests from the place i on the next places stand in nexts, and find has the first place of each key
+  -- of the requests from the position i on the next positions stand in nexts, and find has the first position of each key
   pub record IsSeen (i : ℕ) (requests : List K) (nexts : List ℕ) (find : Bor K → Option ℕ) : Type 0 where
     pub within : i ≤ length requests
     pub as_many : length nexts ≡ length requests
@@ -40,14 +40,14 @@ module _ {K : Type 0} (eq : K → K → Bool) where
       → nexts ≡ next_from eq 0 requests
   IsSeen_end requests nexts find seen = seen.found
 
-  -- the place that was found of a key
+  -- the position that was found of a key
   pub next_of : (i : ℕ) (requests : List K) (nexts : List ℕ) (find : Bor K → Option ℕ) (z : Bor K) (p : ℕ)
       → IsSeen i requests nexts find → find z ≡ Some p → p ≡ i + until eq z.now (drop i requests)
   next_of i requests nexts find z p seen at =
       let k = seen.known z in
       split (holds eq z.now (drop i requests)) (λ t. let e = rw t at k in cc) (λ f. let e = rw f at k in cc)
 
-  -- a key that was not found is not requested, and its next place is the number of requests
+  -- a key that was not found is not requested, and its next position is the number of requests
   pub next_of_none : (i : ℕ) (requests : List K) (nexts : List ℕ) (find : Bor K → Option ℕ) (z : Bor K)
       → IsSeen i requests nexts find → find z ≡ None → length requests ≡ i + until eq z.now (drop i requests)
   next_of_none i requests nexts find z seen at =
@@ -85,11 +85,11 @@ module _ {K : Type 0} (eq : K → K → Bool) (laws : IsEquivalence eq) where
             (λ u. rw u refl))));
       }
 
-  -- one request before, of a key that was found: its place there is written
-  pub IsSeen_again : (place p : ℕ) (requests : List K) (nexts : List ℕ) (find known : Bor K → Option ℕ) (x : Bor K) → 0 < place
-      → IsSeen eq place requests nexts find → x.now ≡ get_or requests (place - 1) x.now → find x ≡ Some p
-      → ((z : Bor K) → known z ≡ cond (eq x.now z.now) (Some (place - 1)) (find z))
-      → IsSeen eq (place - 1) requests (set nexts (place - 1) p) known
+  -- one request before, of a key that was found: its position there is written
+  pub IsSeen_again : (position p : ℕ) (requests : List K) (nexts : List ℕ) (find known : Bor K → Option ℕ) (x : Bor K) → 0 < position
+      → IsSeen eq position requests nexts find → x.now ≡ get_or requests (position - 1) x.now → find x ≡ Some p
+      → ((z : Bor K) → known z ≡ cond (eq x.now z.now) (Some (position - 1)) (find z))
+      → IsSeen eq (position - 1) requests (set nexts (position - 1) p) known
   IsSeen_again zero p requests nexts find known x pos seen at old update = absurd (omega arith)
   IsSeen_again (suc i) p requests nexts find known x pos seen at old update =
       let e : suc i - 1 ≡ i = omega arith in
@@ -102,9 +102,9 @@ module _ {K : Type 0} (eq : K → K → Bool) (laws : IsEquivalence eq) where
       (λ j less. get_or-set_other nexts i j p 0 (λ same. absurd (omega arith))) put)
 
   -- and of one that was not: the number of requests stands there already
-  pub IsSeen_first : (place : ℕ) (requests : List K) (nexts : List ℕ) (find known : Bor K → Option ℕ) (x : Bor K) → 0 < place
-      → IsSeen eq place requests nexts find → x.now ≡ get_or requests (place - 1) x.now → find x ≡ None
-      → ((z : Bor K) → known z ≡ cond (eq x.now z.now) (Some (place - 1)) (find z)) → IsSeen eq (place - 1) requests nexts known
+  pub IsSeen_first : (position : ℕ) (requests : List K) (nexts : List ℕ) (find known : Bor K → Option ℕ) (x : Bor K) → 0 < position
+      → IsSeen eq position requests nexts find → x.now ≡ get_or requests (position - 1) x.now → find x ≡ None
+      → ((z : Bor K) → known z ≡ cond (eq x.now z.now) (Some (position - 1)) (find z)) → IsSeen eq (position - 1) requests nexts known
   IsSeen_first zero requests nexts find known x pos seen at old update = absurd (omega arith)
   IsSeen_first (suc i) requests nexts find known x pos seen at old update =
       let e : suc i - 1 ≡ i = omega arith in

@@ -45,7 +45,7 @@ module _ {K : Type 0} (eq : K → K → Bool) where
       let parts = or_parts (eq z x) (holds eq z rs) h in
       rw parts.0 (ap suc (until_not_held z rs parts.1))
 
-  -- the places of the next requests, one by one
+  -- the positions of the next requests, one by one
   pub length-next_from : (i : ℕ) (rs : List K) → length (next_from eq i rs) ≡ length rs
   length-next_from i [] = refl
   length-next_from i (x ∷ rs) = ap suc (length-next_from (i + 1) rs)

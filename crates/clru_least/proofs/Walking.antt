@@ -20,7 +20,7 @@ use Rattle.clru_least.proofs.Held.{queued_at, IsHeld, IsOnTheWay, IsHeld_next, m
 use Rattle.clru_least.proofs.Until.{drop-next_from, length-next_from, until-le-length}
 
 module _ {K : Type 0} (eq : K → K → Bool) where
-  -- A request at the place i of x, with rs behind it, of n requests. Its next place is written and queued.
+  -- A request at the position i of x, with rs behind it, of n requests. Its next position is written and queued.
   pub record IsWritten (i n : ℕ) (x : K) (rs : List K) (kept marks : List Bool) (queue more : List ℕ) : Type 0 where
     pub written : (p : ℕ) → i < p → p < n → get_or marks p false ≡ cond (eqb (i + 1 + until eq x rs) p) true (get_or kept p false)
     pub pushed : (p : ℕ) → queued_at more p ≡ cond (eqb (i + 1 + until eq x rs) p) 1 0 + queued_at queue p
@@ -113,7 +113,7 @@ module _ {K : Type 0} (eq : K → K → Bool) (laws : IsEquivalence eq) where
         let step = on_the_way_keeps kept marks queue more held misses (λ f. room) w (rw (k, q) at written) in
         rw (c, m) (rw miss at step)
 
--- a place that stands in a queue is no greater than an upper bound
+-- a position that stands in a queue is no greater than an upper bound
 pub queued_below : (latest : ℕ) (queue : List ℕ) → IsUpperBound nat_cmp latest queue → (p : ℕ) → 0 < queued_at queue p → p ≤ latest
 queued_below latest [] bound p some = absurd (omega (arith, some))
 queued_below latest (q ∷ queue) bound p some =
@@ -127,7 +127,7 @@ queued_below latest (q ∷ queue) bound p some =
     let none : cond (eqb q p) 1 0 + queued_at queue p ≡ queued_at queue p = rw f (omega arith) in
     queued_below latest queue bound.1 p (omega (arith, e, none, some)))
 
--- a place that was put into a queue, or taken from it
+-- a position that was put into a queue, or taken from it
 pub queued_more : (q : ℕ) (queue more : List ℕ) → IsPermutation (q ∷ queue) more
     → (p : ℕ) → queued_at more p ≡ cond (eqb q p) 1 0 + queued_at queue p
 queued_more q queue more moved p =
@@ -148,7 +148,7 @@ marked_at q b kept p within =
     rw t (subst (λ r. get_or (set kept q b) r false ≡ b) same at))
     (λ f. rw f (get_or-set_other kept q p b false (λ same. eqb-false q p f (sym same))))
 
--- the first of the requests from a place on, and those behind it
+-- the first of the requests from a position on, and those behind it
 pub request_at : {K : Type 0} (i : ℕ) (requests : List K) → i < length requests
     → (x : K) × (rs : List K) × (drop i requests ≡ x ∷ rs) × (drop (i + 1) requests ≡ rs)
 request_at i [] within = absurd (omega (arith, within))
@@ -159,7 +159,7 @@ request_at (suc i) (x ∷ rs) within =
     (y, ys, here, rw e behind)
 
 module _ {K : Type 0} (eq : K → K → Bool) where
-  -- the place that is written there
+  -- the position that is written there
   pub next_at : (i : ℕ) (x : K) (rs requests : List K) (nexts : List ℕ) (next : ℕ) → nexts ≡ next_from eq 0 requests
       → drop i requests ≡ x ∷ rs → next ≡ get_or nexts i 0 → next ≡ i + 1 + until eq x rs
   next_at i x rs requests nexts next are here at =
@@ -193,7 +193,7 @@ module _ {K : Type 0} (eq : K → K → Bool) (laws : IsEquivalence eq) where
 
   module _ (h i : ℕ) (requests : List K) (x : K) (rs : List K) (here : drop i requests ≡ x ∷ rs) (behind : drop (i + 1) requests ≡ rs)
       (within : i < length requests) where
-    -- the key whose place was the greatest of the queue is dropped
+    -- the key whose position was the greatest of the queue is dropped
     pub on_the_way_full : (kept at_join marks : List Bool) (queue queue_at_join more : List ℕ) (held counted misses missed latest : ℕ)
         → get_or kept i false ≡ false → h ≤ held → 0 < h → length kept ≡ length requests
         → IsPermutation queue (latest ∷ queue_at_join) → IsUpperBound nat_cmp latest queue → at_join ≡ set kept latest false
@@ -216,14 +216,14 @@ mark_read (m ∷ kept) zero b at within = sym at
 mark_read (m ∷ kept) (suc i) b at within = mark_read kept i b at (omega (arith, within))
 
 module _ {K : Type 0} (eq : K → K → Bool) where
-  -- What the code does at each request, whether it dropped a key or not: the next place is marked and queued.
+  -- What the code does at each request, whether it dropped a key or not: the next position is marked and queued.
   pub record IsStep (i : ℕ) (requests : List K) (nexts : List ℕ) (kept marks : List Bool) (queue more : List ℕ) : Type 0 where
     pub are : nexts ≡ next_from eq 0 requests
     pub within : i < length nexts
     pub wrote : marks ≡ set kept (get_or nexts i 0) true
     pub moved : IsPermutation (get_or nexts i 0 ∷ queue) more
 
-  -- the place that is written and queued is within the requests, or at their end
+  -- the position that is written and queued is within the requests, or at their end
   pub next_within : (i : ℕ) (requests : List K) (nexts : List ℕ) → nexts ≡ next_from eq 0 requests → i < length nexts
       → get_or nexts i 0 ≤ length requests
   next_within i requests nexts are within =

@@ -1,6 +1,6 @@
--- The queue of next places, as the walk keeps it. No public clause cites it.
+-- The queue of next positions, as the walk keeps it. No public clause cites it.
 use Rattle.std.specs.Prelude.{ℕ, List, ◌++◌, replicate}
 
--- so many places at the end, of keys that are not requested again, and the other places
+-- so many positions at the end, of keys that are not requested again, and the other positions
 abbrev pub queue_of : ℕ → ℕ → List ℕ → List ℕ
-queue_of end done places = replicate done end ++ places
+queue_of end done positions = replicate done end ++ positions

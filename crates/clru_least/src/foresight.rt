@@ -8,14 +8,14 @@ ghost use Rattle.clru_model.specs.Least.{IsLeast, IsNearFromAnyStart};
 ghost use Rattle.clru_model.specs.Requests.{misses};
 ghost use Rattle.clru_least.specs.Queue.{queue_of};
 
-use crate::nexts::next_places;
+use crate::nexts::next_positions;
 use std::alloc::{AllocError, Allocator};
 use std::collections::BinaryHeap;
 use std::hash::{BuildHasher, Hash};
 use std::marker::Model;
 use std::num::NonZeroUsize;
 
-/// A list of requests, with the place of the next request of each key. Made once, it answers the least number of misses for
+/// A list of requests, with the position of the next request of each key. Made once, it answers the least number of misses for
 /// any room. It borrows the requests; a clause sees it as their list.
 #[derive(Drop)]
 pub struct Foresight<'a, K: Eq, A: Allocator + Copy> {
@@ -53,7 +53,7 @@ impl<'a, K: Eq, A: Allocator + Copy> Foresight<'a, K, A> {
         ensures requests { IfOk result (λ f. f ≡ keys.now) }
         ensures never_refused { keys.now ≡ [] → IsOk result }
     {
-        let nexts = next_places(alloc, keys, hash_builder)?;
+        let nexts = next_positions(alloc, keys, hash_builder)?;
         Ok(Foresight { keys, nexts, alloc })
     }
 
@@ -81,8 +81,8 @@ impl<'a, K: Eq, A: Allocator + Copy> Foresight<'a, K, A> {
         let mut done = 0;
         let mut held = 0;
         let mut misses = 0;
-        for (place, next) in self.nexts.iter().enumerate() {
-            if !kept[place] {
+        for (position, next) in self.nexts.iter().enumerate() {
+            if !kept[position] {
                 misses += 1;
                 if held < room.get() {
                     held += 1;
@@ -96,9 +96,9 @@ impl<'a, K: Eq, A: Allocator + Copy> Foresight<'a, K, A> {
     }
 }
 
-/// Takes the greatest place from the queue, and its mark away. Returns it.
+/// Takes the greatest position from the queue, and its mark away. Returns it.
 ///
-/// A key that is not requested again has its next place at the end. Those are the greatest, and only counted, as `done`.
+/// A key that is not requested again has its next position at the end. Those are the greatest, and only counted, as `done`.
 fn drop_latest<A: Allocator>(
     ahead: &mut BinaryHeap<usize, A>,
     done: &mut usize,
@@ -127,41 +127,41 @@ fn drop_latest<A: Allocator>(
     latest
 }
 
-/// Puts the place into the queue, and its mark there if it has one.
+/// Puts the position into the queue, and its mark there if it has one.
 fn keep<A: Allocator>(
     ahead: &mut BinaryHeap<usize, A>,
     done: &mut usize,
     kept: &mut Vec<bool, A>,
     end: usize,
-    place: usize,
+    position: usize,
 ) -> Result<(), AllocError>
-    requires within { place ≤ end }
+    requires within { position ≤ end }
     requires few { done.old < 2 ^ 64 - 1 }
     requires ordered { IsHeap nat_cmp (heap_items ahead.old) }
     requires inside { All (λ p. p ≤ end) (heap_items ahead.old) }
     requires marks { length kept.old.items ≡ end }
-    ensures queued { OnOk result (IsPermutation (place ∷ queue_of end done.old (heap_items ahead.old))
+    ensures queued { OnOk result (IsPermutation (position ∷ queue_of end done.old (heap_items ahead.old))
         (queue_of end done.new (heap_items ahead.new))) }
     ensures ordered { OnOk result (IsHeap nat_cmp (heap_items ahead.new)) }
     ensures inside { OnOk result (All (λ p. p ≤ end) (heap_items ahead.new)) }
     ensures few { done.new ≤ done.old + 1 }
-    ensures marks { OnOk result (kept.new.items ≡ slice_set kept.old.items place true) }
+    ensures marks { OnOk result (kept.new.items ≡ slice_set kept.old.items position true) }
 {
-    if place >= end {
+    if position >= end {
         *done += 1;
         return Ok(());
     }
-    kept[place] = true;
-    ahead.push(place)?;
+    kept[position] = true;
+    ahead.push(position)?;
     Ok(())
 }
 
-/// Writes the mark of the place, if there is one.
-fn mark<A: Allocator>(kept: &mut Vec<bool, A>, place: usize, value: bool)
-    ensures { kept.new.items ≡ slice_set kept.old.items place value }
+/// Writes the mark of the position, if there is one.
+fn mark<A: Allocator>(kept: &mut Vec<bool, A>, position: usize, value: bool)
+    ensures { kept.new.items ≡ slice_set kept.old.items position value }
 {
-    if place < kept.len() {
-        kept[place] = value;
+    if position < kept.len() {
+        kept[position] = value;
     }
 }
 

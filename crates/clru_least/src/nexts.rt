@@ -6,10 +6,10 @@ use std::alloc::{AllocError, Allocator};
 use std::collections::HashMap;
 use std::hash::{BuildHasher, Hash};
 
-/// Answers for each request the place of the next one of its key, or the number of requests where there is none.
+/// Answers for each request the position of the next one of its key, or the number of requests where there is none.
 ///
 /// Each key is looked up once, from the last to the first. Without keys no memory is asked for.
-pub(crate) fn next_places<K: Eq + Hash, S: BuildHasher + Drop, A: Allocator + Copy>(
+pub(crate) fn next_positions<K: Eq + Hash, S: BuildHasher + Drop, A: Allocator + Copy>(
     alloc: A,
     keys: &[K],
     hash_builder: S,
@@ -23,9 +23,9 @@ pub(crate) fn next_places<K: Eq + Hash, S: BuildHasher + Drop, A: Allocator + Co
     }
     nexts.resize(keys.len(), keys.len())?;
     let mut seen = HashMap::with_hasher(alloc, hash_builder);
-    for place in (0..keys.len()).rev() {
-        match seen.insert(&keys[place], place) {
-            Ok(Some(next)) => nexts[place] = next,
+    for position in (0..keys.len()).rev() {
+        match seen.insert(&keys[position], position) {
+            Ok(Some(next)) => nexts[position] = next,
             Ok(None) => {}
             Err(_) => return Err(AllocError),
         }

@@ -3,7 +3,7 @@
 ghost use Rattle.std.specs.Hash.FoldHasher.{initial};
 
 use assertions::equal;
-use clru_fixtures::sizes::room;
+use clru_fixtures::sizes::capacity_of;
 use clru_least::Foresight;
 use ration::Rationed;
 use std::cell::Cell;
@@ -41,7 +41,7 @@ fn each_request_is_hashed_once(rt: HostRuntime) -> Result<(), Fail> {
         equal!(rt; (hashed.get(), heap.held_bytes()), (count, count.wrapping_mul(8)), count);
         for places in [1, 2, 500, usize::MAX] {
             let (asked, bytes) = (heap.asked(), heap.asked_bytes());
-            equal!(rt; foresight.least(room(places)?).is_ok(), true, (count, places));
+            equal!(rt; foresight.least(capacity_of(places)?).is_ok(), true, (count, places));
             equal!(rt;
                 (heap.asked().wrapping_sub(asked), heap.asked_bytes().wrapping_sub(bytes)),
                 (if count == 0 { 0 } else { 2 }, count.wrapping_mul(9)),

@@ -2,7 +2,7 @@
 
 use assertions::equal;
 use clru::DefaultState;
-use clru_fixtures::sizes::room;
+use clru_fixtures::sizes::capacity_of;
 use clru_least::least;
 use ration::Rationed;
 use std::test::Fail;
@@ -14,7 +14,7 @@ fn refused_memory_gives_the_keys_back(rt: HostRuntime) -> Result<(), Fail> {
     for n in 0..20u64 {
         let keys = Vec::from_slice(&heap, b"70120304230321201701")?;
         heap.refuse_one_after(n);
-        let answer = least(&heap, room(3)?, keys, DefaultState);
+        let answer = least(&heap, capacity_of(3)?, keys, DefaultState);
         heap.refuse_none();
         match answer {
             Ok(misses) => equal!(rt; misses, 9),
@@ -37,7 +37,7 @@ fn no_requests_take_no_memory(rt: HostRuntime) -> Result<(), Fail> {
     let heap = Rationed::new(rt.alloc());
     heap.refuse_after(0);
     let none: Vec<u8, _> = Vec::new(&heap);
-    equal!(rt; least(&heap, room(5)?, none, DefaultState), Ok(0));
+    equal!(rt; least(&heap, capacity_of(5)?, none, DefaultState), Ok(0));
     equal!(rt; heap.asked(), 0);
     Ok(())
 }

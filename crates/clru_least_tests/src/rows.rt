@@ -1,7 +1,7 @@
 //! Worked rows: lists of requests, and the least misses that they are known to have.
 
 use assertions::equal;
-use clru_fixtures::sizes::room;
+use clru_fixtures::sizes::capacity_of;
 use clru_fixtures::with_each_builder;
 use clru_least::{Foresight, law_least, least};
 use std::alloc::Global;
@@ -32,7 +32,7 @@ fn rows_have_their_least<S: BuildHasher + Copy>(
     ];
     for (keys, places, misses) in rows {
         let keys = Vec::from_slice(alloc, keys)?;
-        equal!(rt; least(alloc, room(places)?, keys, builder), Ok(misses));
+        equal!(rt; least(alloc, capacity_of(places)?, keys, builder), Ok(misses));
     }
     Ok(())
 }
@@ -53,7 +53,7 @@ fn one_look_for_each_room<S: BuildHasher + Copy>(
     let foresight = Foresight::new(alloc, &keys, builder)?;
     let rows: [(usize, usize); 7] = [(1, 20), (2, 13), (3, 9), (4, 8), (5, 7), (6, 6), (7, 6)];
     for (places, misses) in rows {
-        equal!(rt; foresight.least(room(places)?), Ok(misses), places);
+        equal!(rt; foresight.least(capacity_of(places)?), Ok(misses), places);
     }
     Ok(())
 }

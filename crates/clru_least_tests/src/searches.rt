@@ -2,7 +2,7 @@
 
 use assertions::equal;
 use clru::DefaultState;
-use clru_fixtures::sizes::room;
+use clru_fixtures::sizes::capacity_of;
 use clru_least::least;
 use std::test::Fail;
 
@@ -66,7 +66,7 @@ fn no_way_to_hold_keys_misses_fewer(rt: HostRuntime) -> Result<(), Fail> {
         }
         let places = row % 3 + 1;
         let fewest = searched(&keys, places);
-        let answer = least(rt.alloc(), room(places)?, keys, DefaultState);
+        let answer = least(rt.alloc(), capacity_of(places)?, keys, DefaultState);
         equal!(rt; answer, Ok(fewest), row);
     }
     Ok(())

@@ -1,5 +1,5 @@
 -- How a list's nodes are linked. No public clause cites it.
-use Rattle.std.specs.Prelude.{◌≡◌, ◌⊎◌, ℕ, zero, suc, ◌+◌, ◌<◌, ◌≤◌, ◌==◌, ◌^◌, cond, List, [], ◌∷◌, map, length, Option, Some, None, slice_index_or, vec_len}
+use Rattle.std.specs.Prelude.{◌≡◌, ◌⊎◌, ℕ, zero, suc, ◌+◌, ◌<◌, ◌≤◌, ◌==◌, ◌^◌, if◌then◌else◌, List, [], ◌∷◌, map, length, Option, Some, None, slice_index_or, vec_len}
 use Rattle.std.specs.Option.{option_map_or}
 use Rattle.std.specs.Map.{keys_of}
 use Rattle.clru_list.specs.PlaceList.{item_at}
@@ -11,7 +11,7 @@ nowhere = 18446744073709551615
 
 -- f with v at a
 abbrev pub put : {X : Type 0} → (ℕ → X) → ℕ → X → ℕ → X
-put f a v k = cond (a == k) v (f k)
+put f a v k = if a == k then v else f k
 
 -- the links and the item at each place. At `nowhere` the next place is the front and the one before is the back
 pub record Links (T : Type 0) : Type 0 where
@@ -62,7 +62,7 @@ module _ {T : Type 0} where
 
   -- where an item goes: to the first free place, or to a new node
   abbrev pub spot : Links T → ℕ
-  spot l = cond (nowhere == l.free) l.size l.free
+  spot l = if nowhere == l.free then l.size else l.free
 
   abbrev pub appended : Links T → T → Links T
   appended l x = record {
@@ -77,7 +77,7 @@ module _ {T : Type 0} where
   filled l x = record (set_item l l.free (Some x)) { free = l.next l.free }
 
   abbrev pub occupied : Links T → T → Links T
-  occupied l x = cond (nowhere == l.free) (appended l x) (filled l x)
+  occupied l x = if nowhere == l.free then appended l x else filled l x
 
   -- so many entries along the next places, from a place on
   abbrev pub walk : Links T → ℕ → ℕ → List (ℕ × T)
@@ -86,12 +86,12 @@ module _ {T : Type 0} where
 
 -- a link as a place
 abbrev pub place_of : ℕ → Option ℕ
-place_of k = cond (nowhere == k) None (Some k)
+place_of k = if nowhere == k then None else Some k
 
 -- how often a number is in a list
 abbrev pub count : ℕ → List ℕ → ℕ
 count k [] = 0
-count k (p ∷ ps) = cond (k == p) 1 0 + count k ps
+count k (p ∷ ps) = (if k == p then 1 else 0) + count k ps
 
 -- f leads from a along the places to b
 abbrev pub IsPath : (ℕ → ℕ) → ℕ → List ℕ → ℕ → Type 0

@@ -1,5 +1,5 @@
 -- What a contract sees of a list. Public clauses cite it.
-use Rattle.std.specs.Prelude.{◌≡◌, ℕ, ◌^◌, ◌<◌, ◌≤◌, ◌==◌, cond, List, [], ◌∷◌, length, Option, Some, None, IsSome, refl}
+use Rattle.std.specs.Prelude.{◌≡◌, ℕ, ◌^◌, ◌<◌, ◌≤◌, ◌==◌, if◌then◌else◌, List, [], ◌∷◌, length, Option, Some, None, IsSome, refl}
 use Rattle.std.specs.Option.{option_map, option_map_or}
 use Rattle.std.specs.Map.{lookup, remove_entry, set_value}
 use Rattle.std.specs.Coded.{Coded, code_by, coded×, coded_list, coded_ℕ}
@@ -60,12 +60,12 @@ module _ {T : Type 0} where
   -- the place behind a place
   abbrev pub place_after : ℕ → List (ℕ × T) → Option ℕ
   place_after p [] = None
-  place_after p (e ∷ es) = cond (p == e.0) (first_place es) (place_after p es)
+  place_after p (e ∷ es) = if p == e.0 then first_place es else place_after p es
 
   -- the place before a place, where the entries come after those that end with `before`
   abbrev pub place_before_from : Option ℕ → ℕ → List (ℕ × T) → Option ℕ
   place_before_from before p [] = None
-  place_before_from before p (e ∷ es) = cond (p == e.0) before (place_before_from (Some e.0) p es)
+  place_before_from before p (e ∷ es) = if p == e.0 then before else place_before_from (Some e.0) p es
 
   abbrev pub place_before : ℕ → List (ℕ × T) → Option ℕ
   place_before p es = place_before_from None p es

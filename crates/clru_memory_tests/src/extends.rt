@@ -6,7 +6,7 @@ use crate::whole::holds_those_below;
 use assertions::equal;
 use clru::{CLruCache, DefaultState, NoMemory};
 use clru_fixtures::costs::REQUESTS;
-use clru_fixtures::sizes::room;
+use clru_fixtures::sizes::capacity_of;
 use ration::Rationed;
 use std::alloc::{AllocError, Global};
 use std::cell::Cell;
@@ -31,7 +31,7 @@ fn each_refusal_ends_an_extend(rt: HostRuntime) -> Result<(), Fail> {
         let heap = Rationed::new(rt.alloc());
         {
             let (stored, drawn) = (stored_after(n), Cell::new(0));
-            let mut cache = CLruCache::new(&heap, room(9)?);
+            let mut cache = CLruCache::new(&heap, capacity_of(9)?);
             heap.refuse_after(n);
             let refused = extends(&mut cache, 0, 9, &drawn);
             if n == 2 * REQUESTS {
@@ -101,7 +101,7 @@ fn each_refusal_ends_a_from_iter(rt: HostRuntime) -> Result<(), Fail> {
 fn a_thousand_items_go_in(rt: HostRuntime) -> Result<(), Fail> {
     let heap = Rationed::new(rt.alloc());
     let drawn = Cell::new(0);
-    let mut cache = CLruCache::new(&heap, room(1000)?);
+    let mut cache = CLruCache::new(&heap, capacity_of(1000)?);
     equal!(rt; extends(&mut cache, 0, 1000, &drawn), Ok(()));
     // The places are 4, 16, 64, 256, and then 1,000, or 1,024 where the capacity comes last.
     equal!(rt; (cache.len(), heap.asked()), (1000, 5 * REQUESTS));
@@ -133,7 +133,7 @@ fn a_refused_extend_forgets_no_item(rt: HostRuntime) -> Result<(), Fail> {
         let heap = Rationed::new(rt.alloc());
         let pairs = texts(&heap, &["a", "b", "c", "b", "d", "e", "f"])?;
         {
-            let mut cache = CLruCache::new(&heap, room(9)?);
+            let mut cache = CLruCache::new(&heap, capacity_of(9)?);
             heap.refuse_after(n);
             let refused = cache.extend(pairs);
             equal!(rt; refused.is_ok(), n == 2 * REQUESTS, n);

@@ -4,7 +4,7 @@ use crate::adding::{ADDING, adds};
 use assertions::equal;
 use clru::CLruCache;
 use clru_fixtures::costs::REQUESTS;
-use clru_fixtures::sizes::room;
+use clru_fixtures::sizes::capacity_of;
 use ration::Rationed;
 use std::test::Fail;
 
@@ -13,7 +13,7 @@ fn a_thousand_entries_go_in_one_by_one(rt: HostRuntime) -> Result<(), Fail> {
     for call in ADDING {
         let heap = Rationed::new(rt.alloc());
         {
-            let mut cache = CLruCache::new(&heap, room(1000)?);
+            let mut cache = CLruCache::new(&heap, capacity_of(1000)?);
             for key in 0..1000u64 {
                 equal!(rt; adds(&mut cache, call, key, key), Ok(None), (call, key));
             }

@@ -6,7 +6,7 @@ use crate::whole::is_whole;
 use assertions::equal;
 use clru::{CLruCache, DefaultState, TryPutError, ZeroWeightScale};
 use clru_fixtures::costs::REQUESTS;
-use clru_fixtures::sizes::room;
+use clru_fixtures::sizes::capacity_of;
 use ration::Rationed;
 use std::alloc::{Allocator, Global};
 use std::cell::Cell;
@@ -26,7 +26,7 @@ fn if_even(key: u64, more: u64) -> Result<u64, u64> {
 fn no_closure_is_called_by_a_refused_try(rt: HostRuntime) -> Result<(), Fail> {
     let heap = Rationed::new(rt.alloc());
     let calls = Cell::new(0u64);
-    let mut cache = CLruCache::new(&heap, room(2)?);
+    let mut cache = CLruCache::new(&heap, capacity_of(2)?);
     let rows = [
         (
             1u64,
@@ -85,7 +85,7 @@ fn fails<K: Eq + Hash + Drop, V: Drop, A: Allocator + Copy>(
 fn closures_that_fail_forget_nothing(rt: HostRuntime) -> Result<(), Fail> {
     let heap = Rationed::new(rt.alloc());
     {
-        let mut cache = CLruCache::new(&heap, room(2)?);
+        let mut cache = CLruCache::new(&heap, capacity_of(2)?);
         // The first finds memory for places, which stay; of a full cache nothing goes, before the closure or after it.
         let (key, value) = (text(&heap, "a")?, text(&heap, "value")?);
         equal!(rt; fails(&heap, &mut cache, key, value), Some(blocks_of(1)));

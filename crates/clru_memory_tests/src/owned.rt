@@ -5,7 +5,7 @@ use crate::adding::{ADDING, adds};
 use assertions::equal;
 use clru::{CLruCache, DefaultState, PutError, WeightScale, ZeroWeightScale, replay};
 use clru_fixtures::costs::REQUESTS;
-use clru_fixtures::sizes::room;
+use clru_fixtures::sizes::capacity_of;
 use ration::Rationed;
 use std::alloc::{AllocError, Allocator, Global};
 use std::cell::Cell;
@@ -29,7 +29,7 @@ pub(crate) fn blocks_of(entries: u64) -> u64 {
 fn what_is_refused_is_given_back(rt: HostRuntime) -> Result<(), Fail> {
     for call in ADDING {
         let heap = Rationed::new(rt.alloc());
-        let mut cache = CLruCache::new(&heap, room(2)?);
+        let mut cache = CLruCache::new(&heap, capacity_of(2)?);
         let (key, value) = (text(&heap, "key")?, text(&heap, "value")?);
         heap.refuse_after(0);
         assert!(rt; adds(&mut cache, call, key, value).is_err(), "{call:?}");
@@ -54,7 +54,7 @@ impl<K, A: Allocator> WeightScale<K, String<A>> for ByLength {
 fn a_pair_that_a_put_drops_is_held_by_its_answer_alone(rt: HostRuntime) -> Result<(), Fail> {
     let heap = Rationed::new(rt.alloc());
     {
-        let mut cache = CLruCache::new(&heap, room(2)?);
+        let mut cache = CLruCache::new(&heap, capacity_of(2)?);
         // The entries after each put, and the texts that its answer holds.
         let rows = [
             ("a", 1, 0),
@@ -106,7 +106,7 @@ fn a_pair_that_a_weighted_put_drops_is_held_by_its_taker_alone(
 ) -> Result<(), Fail> {
     let heap = Rationed::new(rt.alloc());
     {
-        let mut cache = CLruCache::with_scale(&heap, room(8)?, ByLength);
+        let mut cache = CLruCache::with_scale(&heap, capacity_of(8)?, ByLength);
         // The entries after each put, and the pairs that it hands out.
         let rows = [
             ("a", "1", 1, 0),
@@ -143,7 +143,7 @@ fn the_keys_of_a_replay_are_given_back(rt: HostRuntime) -> Result<(), Fail> {
     for letters in ["a", "b", "c", "b", "a"] {
         keys.push(text(&heap, letters)?)?;
     }
-    let answer = replay(&heap, room(2)?, keys, DefaultState).map_err(|_| "the keys came back")?;
+    let answer = replay(&heap, capacity_of(2)?, keys, DefaultState).map_err(|_| "the keys came back")?;
     equal!(rt;
         (answer.misses, heap.blocks()),
         (4, 1),
@@ -173,7 +173,7 @@ fn blocks_seen<K: Eq + Hash + Drop, V: Drop, A: Allocator + Copy>(
 #[test]
 fn put_op_answers_before_the_oldest_entry_goes(rt: HostRuntime) -> Result<(), Fail> {
     let heap = Rationed::new(rt.alloc());
-    let mut cache = CLruCache::new(&heap, room(2)?);
+    let mut cache = CLruCache::new(&heap, capacity_of(2)?);
     for (key, entries) in [("a", 1), ("b", 2), ("c", 3)] {
         let (key, value) = (text(&heap, key)?, text(&heap, "value")?);
         let seen = blocks_seen(&heap, &mut cache, key, value);

@@ -7,7 +7,7 @@ use crate::whole::{holds_those_below, is_whole};
 use assertions::equal;
 use clru::CLruCache;
 use clru_fixtures::costs::REQUESTS;
-use clru_fixtures::sizes::room;
+use clru_fixtures::sizes::capacity_of;
 use ration::Rationed;
 use std::alloc::Global;
 use std::cell::Cell;
@@ -50,7 +50,7 @@ fn each_refusal_gives_the_pair_back(rt: HostRuntime) -> Result<(), Fail> {
         for n in 0..=2 * REQUESTS {
             let heap = Rationed::new(rt.alloc());
             {
-                let mut cache = CLruCache::new(&heap, room(9)?);
+                let mut cache = CLruCache::new(&heap, capacity_of(9)?);
                 heap.refuse_after(n);
                 let stored = adds_nine(&rt, &heap, &mut cache, call);
                 heap.refuse_none();
@@ -91,7 +91,7 @@ fn a_refused_put_can_be_made_again(rt: HostRuntime) -> Result<(), Fail> {
         for n in 0..REQUESTS {
             let heap = Rationed::new(rt.alloc());
             {
-                let mut cache = CLruCache::new(&heap, room(9)?);
+                let mut cache = CLruCache::new(&heap, capacity_of(9)?);
                 let met = refused_keys(&rt, &heap, &mut cache, call, n);
                 heap.refuse_none();
                 for (key, refused) in met.iter().enumerate() {
@@ -109,7 +109,7 @@ fn a_refused_put_can_be_made_again(rt: HostRuntime) -> Result<(), Fail> {
 fn no_closure_is_called_by_a_refused_call(rt: HostRuntime) -> Result<(), Fail> {
     let heap = Rationed::new(rt.alloc());
     let (made, modified) = (Cell::new(0u64), Cell::new(0u64));
-    let mut cache = CLruCache::new(&heap, room(2)?);
+    let mut cache = CLruCache::new(&heap, capacity_of(2)?);
     let rows = [
         (1u64, true, Err((1u64, 10u64)), 0, 0, &[] as &[(u64, u64)]),
         (1, false, Ok(11), 1, 0, &[(1, 11)]),

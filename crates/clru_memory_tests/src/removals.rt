@@ -3,7 +3,7 @@
 use crate::adding::{ADDED, Plain};
 use assertions::equal;
 use clru::CLruCache;
-use clru_fixtures::sizes::room;
+use clru_fixtures::sizes::capacity_of;
 use ration::Rationed;
 use std::alloc::Global;
 use std::process::Abort;
@@ -46,9 +46,9 @@ fn takes(cache: &mut Plain, call: Taking) -> Result<(), &'static str> {
         PopFront => drop(cache.pop_front()),
         PopBack => drop(cache.pop_back()),
         Clear => cache.clear(),
-        ResizeLess => cache.resize(room(4)?),
-        ResizeSame => cache.resize(room(9)?),
-        ResizeMore => cache.resize(room(20)?),
+        ResizeLess => cache.resize(capacity_of(4)?),
+        ResizeSame => cache.resize(capacity_of(9)?),
+        ResizeMore => cache.resize(capacity_of(20)?),
         Retain => cache.retain(|key, _| *key % 2 == 0),
         RetainMut => cache.retain_mut(|key, _| *key % 2 == 0),
     }
@@ -56,7 +56,7 @@ fn takes(cache: &mut Plain, call: Taking) -> Result<(), &'static str> {
 }
 
 fn filled<'a>(heap: &'a Rationed<Global>, rt: &impl Abort) -> Result<Plain<'a>, &'static str> {
-    let mut cache = CLruCache::new(heap, room(9)?);
+    let mut cache = CLruCache::new(heap, capacity_of(9)?);
     for key in 0..9u64 {
         equal!(rt; cache.put(key, key), Ok(ADDED), key);
     }
@@ -73,7 +73,7 @@ fn taking_out_asks_for_nothing_and_leaves_the_places(rt: HostRuntime) -> Result<
         takes(&mut cache, call)?;
         equal!(rt; (cache.len(), heap.asked()), (left, asked), call);
         // As many new entries as there were are put into the places.
-        cache.resize(room(9)?);
+        cache.resize(capacity_of(9)?);
         for key in 100..109u64 {
             assert!(rt; cache.put(key, key).is_ok(), "{key} after {call:?}");
         }
@@ -89,14 +89,14 @@ fn places_above_the_capacity_stay(rt: HostRuntime) -> Result<(), Fail> {
     let asked = heap.asked();
     heap.refuse_after(0);
     for (capacity, key) in [(1, 10), (5, 20), (3, 30), (1, 40), (9, 50)] {
-        cache.resize(room(capacity)?);
+        cache.resize(capacity_of(capacity)?);
         for n in 0..9u64 {
             assert!(rt; cache.put(key + n, n).is_ok(), "{n} at {capacity}");
         }
         equal!(rt; (cache.len(), heap.asked()), (capacity, asked));
     }
     // A place more is asked for once the capacity is greater than the places.
-    cache.resize(room(usize::MAX)?);
+    cache.resize(capacity_of(usize::MAX)?);
     assert!(rt; cache.put(1000, 1).is_err());
     equal!(rt; cache.len(), 9);
     Ok(())

@@ -8,7 +8,7 @@ use clru::{CLruCache, CLruCacheConfig, NoMemory, Put, PutError, TryPutError, Zer
 use clru_fixtures::builders::CONSTANTS;
 use clru_fixtures::costs::free_places;
 use clru_fixtures::scales::ByLength;
-use clru_fixtures::sizes::room;
+use clru_fixtures::sizes::capacity_of;
 use clru_fixtures::with_each_builder;
 use ration::Rationed;
 use std::alloc::Global;
@@ -174,7 +174,7 @@ fn stays_as_it_was<S: BuildHasher>(
 fn what_is_refused_leaves_a_cache_as_it_was(rt: HostRuntime) -> Result<(), Fail> {
     for row in ROWS {
         let heap = Rationed::new(rt.alloc());
-        let size = room(row.capacity)?;
+        let size = capacity_of(row.capacity)?;
         stays_as_it_was(
             &rt,
             &heap,
@@ -253,7 +253,7 @@ fn weighs_without_a_place<S: BuildHasher + Copy>(
     builder: S,
 ) -> Result<(), Fail> {
     let heap = Rationed::new(alloc);
-    let config = CLruCacheConfig::new(room(8)?)
+    let config = CLruCacheConfig::new(capacity_of(8)?)
         .with_hasher(builder)
         .with_scale(ByLength)
         .with_memory(2);
@@ -295,7 +295,7 @@ fn counts_no_further<S: BuildHasher + Copy>(
     builder: S,
 ) -> Result<(), Fail> {
     let heap = Rationed::new(alloc);
-    let most = room(usize::MAX)?;
+    let most = capacity_of(usize::MAX)?;
     let made: Result<Plain, NoMemory> = CLruCache::with_memory(&heap, most, usize::MAX);
     equal!(rt; made.err(), Some(NoMemory));
     let config: CLruCacheConfig<u64, u64, S> = CLruCacheConfig::new(most).with_hasher(builder);

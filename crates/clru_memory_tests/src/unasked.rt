@@ -3,7 +3,7 @@
 use crate::adding::{ADDING, Adding, Plain, adds, takes_out_those_below};
 use assertions::equal;
 use clru::CLruCache;
-use clru_fixtures::sizes::room;
+use clru_fixtures::sizes::capacity_of;
 use ration::Rationed;
 use std::process::Abort;
 use std::test::Fail;
@@ -19,7 +19,7 @@ fn adds_nine(rt: &impl Abort, cache: &mut Plain, call: Adding) {
 fn a_free_place_is_used_without_a_request(rt: HostRuntime) -> Result<(), Fail> {
     for call in ADDING {
         let heap = Rationed::new(rt.alloc());
-        let mut cache = CLruCache::new(&heap, room(9)?);
+        let mut cache = CLruCache::new(&heap, capacity_of(9)?);
         adds_nine(&rt, &mut cache, call);
         let asked = heap.asked();
         heap.refuse_after(0);

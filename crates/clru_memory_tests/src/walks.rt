@@ -4,7 +4,7 @@ use crate::owned::text;
 use assertions::equal;
 use clru::CLruCache;
 use clru_fixtures::costs::REQUESTS;
-use clru_fixtures::sizes::room;
+use clru_fixtures::sizes::capacity_of;
 use ration::Rationed;
 use std::test::Fail;
 
@@ -13,7 +13,7 @@ fn a_half_walked_iterator_forgets_nothing(rt: HostRuntime) -> Result<(), Fail> {
     for handed in 0..4u64 {
         let heap = Rationed::new(rt.alloc());
         {
-            let mut cache = CLruCache::new(&heap, room(4)?);
+            let mut cache = CLruCache::new(&heap, capacity_of(4)?);
             for key in ["a", "b", "c", "d"] {
                 let put = cache.put(text(&heap, key)?, text(&heap, "value")?);
                 assert!(rt; put.is_ok(), "{key}");
@@ -42,7 +42,7 @@ fn a_half_walked_iterator_forgets_nothing(rt: HostRuntime) -> Result<(), Fail> {
 fn what_a_cursor_replaces_is_given_back(rt: HostRuntime) -> Result<(), Fail> {
     let heap = Rationed::new(rt.alloc());
     {
-        let mut cache = CLruCache::new(&heap, room(2)?);
+        let mut cache = CLruCache::new(&heap, capacity_of(2)?);
         for key in ["a", "b"] {
             let put = cache.put(text(&heap, key)?, text(&heap, "value")?);
             assert!(rt; put.is_ok(), "{key}");

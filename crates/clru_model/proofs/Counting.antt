@@ -1,4 +1,4 @@
--- How many places have a property.
+-- How many positions have a property.
 use Rattle.std.proofs.Common.{◌≡◌, ℕ, zero, suc, ◌<◌, ◌≤◌, true, false, ◌⊎◌, List, [], ◌∷◌, length, inl, inr}
 use Rattle.std.proofs.Common.{refl, sym, ap, ◌∙◌, subst, arith, get_or}
 use Rattle.std.proofs.lemmas.Bool.{eqb-true, eq-eqb}
@@ -12,18 +12,18 @@ use Rattle.std.specs.List.{AllByRecursion, Contains, IsDistinct}
 use Rattle.clru_model.specs.Requests.{holds, distinct}
 use Rattle.clru_model.proofs.Bound.{distinct-le-length}
 use Rattle.clru_model.proofs.Distinct.{distinct_mono}
-use Rattle.clru_model.specs.ByPlace.{IsCountOf}
-use Rattle.clru_model.proofs.Places.{HasKey_from_holds}
+use Rattle.clru_model.specs.ByPosition.{IsCountOf}
+use Rattle.clru_model.proofs.Positions.{HasKey_from_holds}
 
--- no place
+-- no position
 pub count_none : (P : ℕ → Type 0) → ((p : ℕ) → P p → ⊥) → IsCountOf P 0
 unfolding IsDistinct
-count_none P none = record { places = []; many = refl; different = tt; each = λ p. (λ c. absurd (omega (arith, c.1)), λ h. absurd (none p h)) }
+count_none P none = record { positions = []; many = refl; different = tt; each = λ p. (λ c. absurd (omega (arith, c.1)), λ h. absurd (none p h)) }
 
--- the same places
+-- the same positions
 pub count_same : {P Q : ℕ → Type 0} {n : ℕ} → IsCountOf P n → ((p : ℕ) → P p → Q p) → ((p : ℕ) → Q p → P p) → IsCountOf Q n
 count_same c there back = record {
-  places = c.places;
+  positions = c.positions;
   many = c.many;
   different = c.different;
   each = λ p. (λ h. there p ((c.each p).0 h), λ h. (c.each p).1 (back p h));
@@ -33,22 +33,22 @@ Contains-one : (n p : ℕ) → Contains (n ∷ []) p → n ≡ p
 Contains-one n p (zero, within, same) = same
 Contains-one n p (suc k, within, same) = absurd (omega arith)
 
--- one more place, past the others
+-- one more position, past the others
 pub count_next : {P Q : ℕ → Type 0} {m : ℕ} (n : ℕ) → IsCountOf P m → ((p : ℕ) → P p → p < n) → ((p : ℕ) → P p → Q p) → Q n
     → ((p : ℕ) → Q p → P p ⊎ (p ≡ n)) → IsCountOf Q (suc m)
 count_next {P} {Q} {m} n c below there last cases = record {
-  places = n ∷ c.places;
+  positions = n ∷ c.positions;
   many = ap suc c.many;
-  different = IsDistinct-cons nat_eq n c.places (recursion_from_All (λ y. nat_eq n y ≡ false) c.places (λ k d within.
-      let less : get_or c.places k d < n = below (get_or c.places k d) ((c.each (get_or c.places k d)).0 (Contains-get_or c.places k d within)) in
+  different = IsDistinct-cons nat_eq n c.positions (recursion_from_All (λ y. nat_eq n y ≡ false) c.positions (λ k d within.
+      let less : get_or c.positions k d < n = below (get_or c.positions k d) ((c.each (get_or c.positions k d)).0 (Contains-get_or c.positions k d within)) in
       grind (arith, nat_tests))) c.different;
   each = λ p. (
-    λ h. elim (Contains-append_cases (n ∷ []) c.places p h) [
+    λ h. elim (Contains-append_cases (n ∷ []) c.positions p h) [
       | inl first ↦ subst Q (Contains-one n p first) last
       | inr later ↦ there p ((c.each p).0 later)
     ],
     λ h. elim (cases p h) [
-      | inl old ↦ Contains-append_right (n ∷ []) c.places p ((c.each p).1 old)
+      | inl old ↦ Contains-append_right (n ∷ []) c.positions p ((c.each p).1 old)
       | inr new ↦ (0, omega arith, sym new)
     ],
   );
@@ -78,9 +78,9 @@ Contains_from_holds xs x h =
 -- of two counts of one property neither is greater
 count_le : {P : ℕ → Type 0} {m n : ℕ} → IsCountOf P m → IsCountOf P n → m ≤ n
 count_le a b =
-    let less = distinct_mono nat_eq nat_eq_equiv a.places b.places (λ z h.
-    holds_from_Contains b.places z ((b.each z).1 ((a.each z).0 (Contains_from_holds a.places z h)))) in
-    omega (arith, a.many, b.many, distinct_numbers a.places a.different, distinct-le-length nat_eq b.places)
+    let less = distinct_mono nat_eq nat_eq_equiv a.positions b.positions (λ z h.
+    holds_from_Contains b.positions z ((b.each z).1 ((a.each z).0 (Contains_from_holds a.positions z h)))) in
+    omega (arith, a.many, b.many, distinct_numbers a.positions a.different, distinct-le-length nat_eq b.positions)
 
 -- a property has one count
 pub count_unique : {P : ℕ → Type 0} {m n : ℕ} → IsCountOf P m → IsCountOf P n → m ≡ n

@@ -31,8 +31,8 @@ plain_drop_of_a_full_list = refl
 plain_drop_on_a_held_key : plain_drop {V = ℕ} last_digit 2 12 ((1, 10) ∷ (2, 20) ∷ []) ≡ None
 plain_drop_on_a_held_key = refl
 
-plain_drop_of_a_free_place : plain_drop {V = ℕ} nat_eq 3 3 ((2, 20) ∷ (1, 10) ∷ []) ≡ None
-plain_drop_of_a_free_place = refl
+plain_drop_with_room_left : plain_drop {V = ℕ} nat_eq 3 3 ((2, 20) ∷ (1, 10) ∷ []) ≡ None
+plain_drop_with_room_left = refl
 
 -- the longest beginning that fits ends before the first pair that does not, though a later one would
 fit_ends_at_the_first_that_does_not : fit itself 6 ((1, 2) ∷ (2, 5) ∷ (3, 0) ∷ []) ≡ (1, 2) ∷ []

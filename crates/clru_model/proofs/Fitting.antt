@@ -134,7 +134,7 @@ module _ {K V : Type 0} (weight : K → V → ℕ) where
   weighted_front {x} {v} {rest = rest} room c is same put = put ∙ ap (λ r. (x, v) ∷ fit weight r rest) is ∙ ap
       (λ l. (x, v) ∷ fit weight (c - 1 - weight x v) l) same
 
-  -- a place is free for the new pair
+  -- there is room for the new pair
   pub free_after_fit : (c p : ℕ) (es : List (K × V)) → (size_of weight es ≤ c → length es < p) → length es ≤ p → length (fit weight c es) < p
   free_after_fit c p es free held = elim (cases_lt c (size_of weight es)) [
     | inl over ↦ omega (arith, length-fit c es over)

@@ -1,10 +1,10 @@
 pub mod Bound
-pub mod ByPlace
+pub mod ByPosition
 pub mod Cases
 pub mod Counting
 pub mod Distances
 pub mod Distinct
-pub mod DistinctByPlace
+pub mod DistinctByPosition
 pub mod Dropping
 pub mod Ends
 pub mod EntryRows
@@ -17,7 +17,7 @@ pub mod Least
 pub mod Lookups
 pub mod Marks
 pub mod Optimum
-pub mod Places
+pub mod Positions
 pub mod PutRuns
 pub mod PutSteps
 pub mod Putting
@@ -25,7 +25,7 @@ pub mod ReplaySchedules
 pub mod Retaining
 pub mod Rows
 pub mod RunRows
-pub mod SchedulesByPlace
+pub mod SchedulesByPosition
 pub mod SizeRows
 pub mod SizedRuns
 pub mod Spans

@@ -1,5 +1,5 @@
 -- How many distinct keys lie between two requests of one key. No cache is in sight here. Public clauses cite them.
-use Rattle.std.specs.Prelude.{◌≡◌, ℕ, ◌≤◌, Bool, false, cond, nat_lt, Option, Some, None, List, [], ◌∷◌, map, reverse}
+use Rattle.std.specs.Prelude.{◌≡◌, ℕ, ◌≤◌, Bool, false, if◌then◌else◌, nat_lt, Option, Some, None, List, [], ◌∷◌, map, reverse}
 use Rattle.std.specs.Option.{option_map_or}
 use Rattle.clru_model.specs.Requests.{holds, distinct, since, hit, marks, misses}
 
@@ -10,7 +10,7 @@ is_below k d = option_map_or (λ n. nat_lt n k) d false
 module _ {K : Type 0} (eq : K → K → Bool) where
   -- the number of distinct keys that were requested since the latest request of x, if there was one
   abbrev pub distance : K → List K → Option ℕ
-  distance x past = cond (holds eq x past) (Some (distinct eq (since eq x past))) None
+  distance x past = if holds eq x past then Some (distinct eq (since eq x past)) else None
 
   -- the distance of each request in order, after the requests of the past, the latest first
   abbrev pub distances_after : List K → List K → List (Option ℕ)

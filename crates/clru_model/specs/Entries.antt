@@ -1,6 +1,6 @@
 -- Entry lists: pairs of a key and a value, the most recently used first, the keys pairwise not the same. Public clauses cite
 -- them.
-use Rattle.std.specs.Prelude.{◌≡◌, ℕ, zero, suc, ◌+◌, ◌-◌, ◌≤◌, nat_le, Bool, cond, Option, None, is_some, List, [], ◌∷◌, ◌++◌, length, take, drop, reverse, slice_get}
+use Rattle.std.specs.Prelude.{◌≡◌, ℕ, zero, suc, ◌+◌, ◌-◌, ◌≤◌, nat_le, Bool, if◌then◌else◌, Option, None, is_some, List, [], ◌∷◌, ◌++◌, length, take, drop, reverse, slice_get}
 use Rattle.std.specs.List.{sum_by}
 use Rattle.std.specs.Option.{option_map_or}
 use Rattle.std.specs.Map.{lookup, lookup_entry, remove_entry}
@@ -21,14 +21,14 @@ module _ {K V : Type 0} where
 
     -- the pair that a plain put of x drops: the last one, where x is not held and the list has c pairs
     abbrev pub plain_drop : ℕ → K → List (K × V) → Option (K × V)
-    plain_drop c x es = cond (is_some (lookup (eq x) es)) None (slice_get es (c - 1))
+    plain_drop c x es = if is_some (lookup (eq x) es) then None else slice_get es (c - 1)
 
   -- the pairs with another value in front
   abbrev pub with_front : V → List (K × V) → List (K × V)
   with_front v [] = []
   with_front v (e ∷ es) = (e.0, v) ∷ es
 
-  -- the pairs with another value at a place, which is counted from 0
+  -- the pairs with another value at an index, which is counted from 0
   abbrev pub with_value_at : ℕ → V → List (K × V) → List (K × V)
   with_value_at i v [] = []
   with_value_at zero v (e ∷ es) = (e.0, v) ∷ es
@@ -46,7 +46,7 @@ module _ {K V : Type 0} where
     -- the longest beginning whose size is at most c
     unfoldable pub fit : ℕ → List (K × V) → List (K × V)
     fit c [] = []
-    fit c (e ∷ es) = cond (nat_le (1 + weight e.0 e.1) c) (e ∷ fit (c - (1 + weight e.0 e.1)) es) []
+    fit c (e ∷ es) = if nat_le (1 + weight e.0 e.1) c then e ∷ fit (c - (1 + weight e.0 e.1)) es else []
 
     -- what comes after it
     abbrev pub past_fit : ℕ → List (K × V) → List (K × V)

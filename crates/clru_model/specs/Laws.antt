@@ -5,7 +5,7 @@ use Rattle.clru_model.specs.Entries.{fit, IsLongestFit}
 use Rattle.clru_model.specs.Requests.{distinct, marks, misses}
 use Rattle.clru_model.specs.Runs.{Call, after_all, AreTaken, IsPutRun, held_before}
 use Rattle.clru_model.specs.Schedule.{IsSchedule, schedule_marks, schedule_misses, IsCompetitive, IsCompetitiveFromAnyStart}
-use Rattle.clru_model.specs.ByPlace.{IsCountOf, IsFirstAt, IsHitAt, IsScheduleAt, IsScheduleMissAt}
+use Rattle.clru_model.specs.ByPosition.{IsCountOf, IsFirstAt, IsHitAt, IsScheduleAt, IsScheduleMissAt}
 
 module _ {K : Type 0} (eq : K → K → Bool) where
   -- the mark at i is true exactly where the request at i hits
@@ -20,13 +20,13 @@ module _ {K : Type 0} (eq : K → K → Bool) where
   abbrev pub MissesAreFalseMarks : Type 0
   MissesAreFalseMarks = (k : ℕ) (requests : List K) → IsCountOf (λ i. slice_get (marks eq k requests) i ≡ Some false) (misses eq k requests)
 
-  -- `distinct`, which takes requests the latest first, counts the places at which a key stands first
+  -- `distinct`, which takes requests the latest first, counts the positions at which a key stands first
   abbrev pub DistinctCountsFirst : Type 0
   DistinctCountsFirst = (requests : List K) → IsCountOf (IsFirstAt eq requests) (distinct eq (reverse requests))
 
-  -- the schedules are the schedules by places
-  abbrev pub SchedulesAreByPlace : Type 0
-  SchedulesAreByPlace = (h : ℕ) (held : List (List K)) (requests : List K) → IsSchedule eq h held requests ↔ IsScheduleAt eq h held requests
+  -- the schedules are the schedules by positions
+  abbrev pub SchedulesAreByPosition : Type 0
+  SchedulesAreByPosition = (h : ℕ) (held : List (List K)) (requests : List K) → IsSchedule eq h held requests ↔ IsScheduleAt eq h held requests
 
   -- a schedule's mark at i is false exactly where it misses the request at i
   abbrev pub FalseMarksAreMisses : Type 0
@@ -34,8 +34,8 @@ module _ {K : Type 0} (eq : K → K → Bool) where
       → (slice_get (schedule_marks eq held requests) i ≡ Some false) ↔ IsScheduleMissAt eq held requests i
 
   -- a schedule's misses are the requests that it misses
-  abbrev pub ScheduleMissesAreByPlace : Type 0
-  ScheduleMissesAreByPlace = (held : List (List K)) (requests : List K)
+  abbrev pub ScheduleMissesAreByPosition : Type 0
+  ScheduleMissesAreByPosition = (held : List (List K)) (requests : List K)
       → IsCountOf (IsScheduleMissAt eq held requests) (schedule_misses eq held requests)
 
   -- a request that hits at a capacity hits at each greater one

@@ -1,4 +1,4 @@
-pub mod ByPlace
+pub mod ByPosition
 pub mod Distances
 pub mod Entries
 pub mod Errors

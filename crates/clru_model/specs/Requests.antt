@@ -1,5 +1,5 @@
 -- Requests for keys: which of them hit. No cache is in sight here. Public clauses cite them.
-use Rattle.std.specs.Prelude.{ℕ, suc, Bool, cond, not, ◌&&◌, nat_lt, List, [], ◌∷◌}
+use Rattle.std.specs.Prelude.{ℕ, suc, Bool, if◌then◌else◌, not, ◌&&◌, nat_lt, List, [], ◌∷◌}
 use Rattle.std.specs.List.{list_any, take_while, count_by}
 
 module _ {K : Type 0} (eq : K → K → Bool) where
@@ -10,7 +10,7 @@ module _ {K : Type 0} (eq : K → K → Bool) where
   -- how many requests, the latest first, ask for a key that no earlier one asked for
   abbrev pub distinct : List K → ℕ
   distinct [] = 0
-  distinct (x ∷ earlier) = cond (holds x earlier) (distinct earlier) (suc (distinct earlier))
+  distinct (x ∷ earlier) = if holds x earlier then distinct earlier else suc (distinct earlier)
 
   -- of the requests, the latest first, those after the latest one of x
   abbrev pub since : K → List K → List K

@@ -1,6 +1,6 @@
 -- Requests for keys that weigh something, where the sizes of the held keys together are bounded: which of them hit. No cache is
 -- in sight here. Public clauses cite them.
-use Rattle.std.specs.Prelude.{◌≡◌, ℕ, ◌+◌, Bool, true, cond, not, ◌&&◌, nat_le, Option, Some, None, List, [], ◌∷◌}
+use Rattle.std.specs.Prelude.{◌≡◌, ℕ, ◌+◌, Bool, true, if◌then◌else◌, not, ◌&&◌, nat_le, Option, Some, None, List, [], ◌∷◌}
 use Rattle.std.specs.List.{count_by}
 use Rattle.clru_model.specs.Requests.{holds, since}
 
@@ -12,11 +12,11 @@ module _ {K : Type 0} (eq : K → K → Bool) (weight : K → ℕ) where
   -- the size of all distinct keys of the requests, the latest first: 1 and the weight of each, by its first request
   abbrev pub total : List K → ℕ
   total [] = 0
-  total (x ∷ earlier) = cond (holds eq x earlier) (total earlier) (1 + weight x + total earlier)
+  total (x ∷ earlier) = if holds eq x earlier then total earlier else 1 + weight x + total earlier
 
   -- the size of x and of the distinct keys that were requested since the latest request of x, if there was one
   abbrev pub span : K → List K → Option ℕ
-  span x past = cond (holds eq x past) (Some (1 + weight x + total (since eq x past))) None
+  span x past = if holds eq x past then Some (1 + weight x + total (since eq x past)) else None
 
   -- the span of each request in order, after the requests of the past, the latest first
   abbrev pub spans_after : List K → List K → List (Option ℕ)
@@ -47,7 +47,7 @@ module _ {K : Type 0} (eq : K → K → Bool) (weight : K → ℕ) where
   -- the size of the requests that don't hit, after the requests of the past
   abbrev pub missed_size_after : ℕ → List K → List K → ℕ
   missed_size_after c past [] = 0
-  missed_size_after c past (x ∷ rs) = cond (hit_by_size c x past) 0 (1 + weight x) + missed_size_after c (x ∷ past) rs
+  missed_size_after c past (x ∷ rs) = (if hit_by_size c x past then 0 else 1 + weight x) + missed_size_after c (x ∷ past) rs
 
   -- the size of the requests that don't hit
   abbrev pub missed_size : ℕ → List K → ℕ

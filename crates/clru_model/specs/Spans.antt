@@ -1,5 +1,5 @@
 -- The laws of requests by size: what their spans say, and how sizes stand beside numbers of keys. Public clauses cite them.
-use Rattle.std.specs.Prelude.{◌≡◌, ℕ, ◌+◌, ◌≤◌, Bool, true, false, cond, nat_le, Option, Some, List, [], ◌∷◌, map, reverse}
+use Rattle.std.specs.Prelude.{◌≡◌, ℕ, ◌+◌, ◌≤◌, Bool, true, false, if◌then◌else◌, nat_le, Option, Some, List, [], ◌∷◌, map, reverse}
 use Rattle.std.specs.List.{slice_get}
 use Rattle.std.specs.Option.{option_map_or}
 use Rattle.clru_model.specs.Requests.{distinct, marks, misses}
@@ -13,7 +13,7 @@ is_within c s = option_map_or (λ n. nat_le n c) s false
 abbrev pub size_of_misses : {K : Type 0} → (K → ℕ) → List Bool → List K → ℕ
 size_of_misses weight [] requests = 0
 size_of_misses weight (mark ∷ ms) [] = 0
-size_of_misses weight (mark ∷ ms) (x ∷ rs) = cond mark 0 (1 + weight x) + size_of_misses weight ms rs
+size_of_misses weight (mark ∷ ms) (x ∷ rs) = (if mark then 0 else 1 + weight x) + size_of_misses weight ms rs
 
 module _ {K : Type 0} (eq : K → K → Bool) where
   -- a request hits at the sizes from its span on, and at no other

@@ -1,7 +1,7 @@
 //! Laws of the definitions that the contracts cite. They do nothing at run time.
 ghost use Rattle.clru_model.specs.Distances.{HitsAreBelow, MarksAreBelow, RoomForAllMissesFirst};
 ghost use Rattle.clru_model.specs.Laws.{TrueMarksAreHits, OneMarkForEach, MissesAreFalseMarks, DistinctCountsFirst};
-ghost use Rattle.clru_model.specs.Laws.{SchedulesAreByPlace, FalseMarksAreMisses, ScheduleMissesAreByPlace};
+ghost use Rattle.clru_model.specs.Laws.{SchedulesAreByPosition, FalseMarksAreMisses, ScheduleMissesAreByPosition};
 ghost use Rattle.clru_model.specs.Laws.{HitsGrow, MissesFall};
 ghost use Rattle.clru_model.specs.Laws.{LesserBeginsGreater};
 ghost use Rattle.clru_model.specs.Laws.{PutsHit, PutsCompete, PutsCompeteFromAnyStart};
@@ -13,8 +13,8 @@ ghost use Rattle.clru_model.specs.Spans.{WeightlessTotalIsDistinct, WeightlessMa
 ghost use Rattle.clru_model.specs.Least.{LeastIsOne, LeastFalls, ReplayIsSchedule, LeastIsBelowReplay, ReplayIsNearLeast};
 
 /// Does nothing at run time. Its contract says that the hits, misses and numbers of distinct keys that the other contracts
-/// cite, which are defined by computing, are those that a sentence about places describes.
-pub fn law_by_place<K: Eq>()
+/// cite, which are defined by computing, are those that a sentence about positions describes.
+pub fn law_by_position<K: Eq>()
     ensures hits { TrueMarksAreHits K.eq }
     ensures one_mark_each { OneMarkForEach K.eq }
     ensures misses { MissesAreFalseMarks K.eq }
@@ -22,10 +22,10 @@ pub fn law_by_place<K: Eq>()
 {}
 
 /// Does nothing at run time. Its contract says the same of schedules and of their misses.
-pub fn law_schedules_by_place<K: Eq>()
-    ensures schedules { SchedulesAreByPlace K.eq }
+pub fn law_schedules_by_position<K: Eq>()
+    ensures schedules { SchedulesAreByPosition K.eq }
     ensures marks { FalseMarksAreMisses K.eq }
-    ensures misses { ScheduleMissesAreByPlace K.eq }
+    ensures misses { ScheduleMissesAreByPosition K.eq }
 {}
 
 /// Does nothing at run time. Its contract says that a replay of a greater capacity hits wherever one of a lesser capacity

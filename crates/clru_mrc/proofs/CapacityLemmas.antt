@@ -18,7 +18,7 @@ power_positive zero = omega arith
 power_positive (suc k) = subst (λ n. 0 < n) (sym (pow-suc 10 k)) (mul-pos (power_positive k) (omega arith))
 
 module _ (p : ℕ → Bool) (f : ℕ → ℕ) where
-  -- the numbers of the places before i that pass
+  -- the numbers of the indices before i that pass
   abbrev pub passing : ℕ → List ℕ
   passing i = filter p (map f (range_with_len 0 i))
 
@@ -80,7 +80,7 @@ none_below Each m g d n low is =
     omega (arith, low, high)
 none_below (Named named) m g d n low is = (n, is, low)
 
--- what is at a place is shown among all
+-- what is at an index is shown among all
 shown_at : {X : Type 0} (f : X → ℕ) (xs : List X) (i : ℕ) (x : X) → get_or (map f xs) i (f x) ≡ f (get_or xs i x)
 shown_at f [] i x = refl
 shown_at f (y ∷ xs) zero x = refl

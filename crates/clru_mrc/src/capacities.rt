@@ -27,18 +27,18 @@ pub(crate) fn capacities_for<A: Allocator + Copy>(
 // How many round numbers there are up to the greatest `usize`, and two more.
 pub(crate) const ROUND_NUMBERS: usize = 60;
 
-// The round number of a place, counted from 0.
-pub(crate) fn round_at(place: usize) -> u128
-    requires { place < 60 }
-    ensures value { result ≡ round_number place }
+// The round number of an index, counted from 0.
+pub(crate) fn round_at(index: usize) -> u128
+    requires { index < 60 }
+    ensures value { result ≡ round_number index }
     ensures positive { 0 < result }
 {
-    let digit = match place % 3 {
+    let digit = match index % 3 {
         0 => 1,
         1 => 2,
         _ => 5,
     };
-    digit * 10u128.pow((place / 3) as u32)
+    digit * 10u128.pow((index / 3) as u32)
 }
 
 pub(crate) fn usual_capacities<A: Allocator>(
@@ -48,8 +48,8 @@ pub(crate) fn usual_capacities<A: Allocator>(
     ensures { IfOk result (λ chosen. map non_zero_usize_get chosen.items ≡ usual distinct) }
 {
     let mut chosen = Vec::new(alloc);
-    for place in 0..ROUND_NUMBERS {
-        let capacity = round_at(place);
+    for index in 0..ROUND_NUMBERS {
+        let capacity = round_at(index);
         if capacity < distinct as u128 {
             push_capacity(&mut chosen, capacity as usize)?;
         }

@@ -34,7 +34,7 @@ pub(crate) fn report_on<A: Allocator + Copy>(
     }
 }
 
-// Where each key takes one place.
+// Where each key takes a place.
 fn report_by_keys<A: Allocator + Copy>(
     alloc: A,
     options: &Options<A>,

@@ -1,5 +1,5 @@
 -- Chains of places: walks along a function from each place to the next. No public clause cites this file.
-use Rattle.std.specs.Prelude.{◌≡◌, ℕ, zero, suc, ◌+◌, ◌==◌, ◌<◌, ◌≤◌, cond, Option, Some, None, List, [], ◌∷◌, length}
+use Rattle.std.specs.Prelude.{◌≡◌, ℕ, zero, suc, ◌+◌, ◌==◌, ◌<◌, ◌≤◌, if◌then◌else◌, Option, Some, None, List, [], ◌∷◌, length}
 
 -- the number that is no place: it ends each chain, and stands for its start
 abbrev pub nowhere : ℕ
@@ -7,12 +7,12 @@ nowhere = 18446744073709551615
 
 -- the function with another value at one place
 abbrev pub put : {X : Type 0} → (ℕ → X) → ℕ → X → ℕ → X
-put f at v q = cond (at == q) v (f q)
+put f at v q = if at == q then v else f q
 
 -- how often a place stands in a list
 abbrev pub count : ℕ → List ℕ → ℕ
 count q [] = 0
-count q (p ∷ ps) = cond (p == q) 1 0 + count q ps
+count q (p ∷ ps) = (if p == q then 1 else 0) + count q ps
 
 -- a walk from the first place passes those of the list, and stands at the last place then
 abbrev pub Reaches : (ℕ → ℕ) → ℕ → List ℕ → ℕ → Type 0
@@ -40,7 +40,7 @@ module _ {K : Type 0} (home : K → ℕ) where
   -- 1 where a key has the head h
   abbrev pub is_of : ℕ → Option K → ℕ
   is_of h None = 0
-  is_of h (Some k) = cond (home k == h) 1 0
+  is_of h (Some k) = if home k == h then 1 else 0
 
   -- 1 at the start and at the places whose keys have the head h, and 0 elsewhere
   abbrev pub of_head : ℕ → (ℕ → Option K) → ℕ → ℕ
@@ -66,4 +66,4 @@ pub record IsWalk (f : ℕ → ℕ) (alive wanted : ℕ → Type 0) (next len : 
 -- how many places a walk passes that comes to the place next, at most n
 abbrev pub steps_left : (ℕ → ℕ) → ℕ → ℕ → ℕ
 steps_left f next zero = 0
-steps_left f next (suc n) = cond (next == nowhere) 0 (suc (steps_left f (f next) n))
+steps_left f next (suc n) = if next == nowhere then 0 else suc (steps_left f (f next) n)

@@ -1,5 +1,5 @@
 -- Private: what heads are seen as. No public clause cites it.
-use Rattle.std.specs.Prelude.{ℕ, ◌*◌, ◌^◌, ◌<◌, ◌≤◌, ◌==◌, cond, max, List, map, refl}
+use Rattle.std.specs.Prelude.{ℕ, ◌*◌, ◌^◌, ◌<◌, ◌≤◌, ◌==◌, if◌then◌else◌, max, List, map, refl}
 use Rattle.std.specs.Coded.{Coded, code_by, coded×, coded_list, coded_ℕ}
 use Rattle.clru_nodes.specs.Chained.{nowhere}
 use Rattle.clru_nodes.specs.declared.heads.Words.{Words}
@@ -21,7 +21,7 @@ abbrev pub narrow : ℕ
 narrow = 4294967295
 
 abbrev pub wide : ℕ → ℕ
-wide n = cond (n == narrow) nowhere n
+wide n = if n == narrow then nowhere else n
 
 abbrev pub list_of : {A : Type 0} → Words A → HeadList
 list_of (Narrow heads) = head_list (map wide heads.items) narrow

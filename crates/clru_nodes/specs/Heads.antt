@@ -1,5 +1,5 @@
 -- Private: how the heads, the links and the places of nodes go together. No public clause cites it.
-use Rattle.std.specs.Prelude.{◌≡◌, ℕ, zero, suc, ◌-◌, ◌<◌, Bool, true, cond, Option, Some, None, List, [], ◌∷◌, map, length, slice_index_or, bit_and}
+use Rattle.std.specs.Prelude.{◌≡◌, ℕ, zero, suc, ◌-◌, ◌<◌, Bool, true, if◌then◌else◌, Option, Some, None, List, [], ◌∷◌, map, length, slice_index_or, bit_and}
 use Rattle.std.specs.Option.{option_map, option_map_or}
 use Rattle.clru_list.specs.PlaceList.{item_at}
 use Rattle.clru_nodes.specs.Chained.{nowhere, put, steps_of, IsChained}
@@ -20,7 +20,7 @@ module _ {K V : Type 0} where
   with_value test v [] = []
   with_value test v (e ∷ es) =
       let written : Item K V = record { chain = e.1.chain; key = e.1.key; value = v } in
-      cond (test e.1.key) ((e.0, written) ∷ es) (e ∷ with_value test v es)
+      if test e.1.key then ((e.0, written) ∷ es) else e ∷ with_value test v es
 
   abbrev pub link_at : List (ℕ × Item K V) → ℕ → ℕ
   link_at es q = option_map_or (λ i. i.chain) (item_at q es) nowhere

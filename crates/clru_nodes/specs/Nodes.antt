@@ -3,6 +3,9 @@
 use Rattle.std.specs.Prelude.{◌≡◌, ℕ, ◌≤◌, Bool, Option, List, [], map, length, slice_get}
 use Rattle.std.specs.List.{fold}
 use Rattle.std.specs.Option.{option_map}
+use Rattle.std.specs.HashMap.Lent.{HashMembers}
+use Rattle.std.specs.declared.hash.BuildHasher as builder
+use Rattle.std.specs.declared.hash.Hasher as hasher
 use Rattle.clru_list.specs.PlaceList.{first_entry, last_entry, with_entries, with_first, with_last}
 use Rattle.clru_nodes.specs.Heads.{key_at, with_item_at, with_value, IsChainedAs}
 use Rattle.clru_nodes.specs.declared.nodes.Item.{Item}
@@ -11,6 +14,10 @@ use Rattle.clru_nodes.specs.declared.nodes.Nodes.{Nodes}
 -- the hash of a key, by what the builder, its hasher and the key's writes say
 abbrev pub hash_by : {S H W K : Type 0} → (H → ℕ) → (H → W → H) → (S → H) → (K → List W) → S → K → ℕ
 hash_by finish write build input builder k = finish (fold write (build builder) (input k))
+
+-- the same by the members of the traits, as a clause has them
+abbrev pub hash_of : {K S H : Type 0} → HashMembers K → builder.Ghosts S H → hasher.Ghosts H → S → K → ℕ
+hash_of key build hash = hash_by hash.finish hash.write build.build_hasher key.hash_input
 
 module _ {K V : Type 0} where
   abbrev pub pair_of : Item K V → K × V

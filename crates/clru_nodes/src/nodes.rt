@@ -7,7 +7,7 @@ ghost use Rattle.std.specs.List.{IsDistinct};
 ghost use Rattle.std.specs.Map.{keys_of, lookup, lookup_entry};
 ghost use Rattle.clru_list.specs.PlaceList.{IsValid};
 ghost use Rattle.clru_nodes.specs.Heads.{key_at, IsAt, IsChainedAs};
-ghost use Rattle.clru_nodes.specs.Nodes.{hash_by, pairs_of, pairs_in, builder_of, IsIndexed, IsEmpty};
+ghost use Rattle.clru_nodes.specs.Nodes.{hash_of, pairs_of, pairs_in, builder_of, IsIndexed, IsEmpty};
 
 use crate::heads::Heads;
 use crate::nodes::growth::heads_for;
@@ -48,7 +48,7 @@ impl<K: Eq + Hash, V, S: BuildHasher, A: Allocator + Copy> Nodes<K, V, S, A> {
     pub fn new(alloc: A, capacity: usize, hash_builder: S) -> Self
         ensures empty { IsEmpty capacity 0 result }
         ensures builder { builder_of result ≡ hash_builder }
-        ensures indexed { let hash = hash_by S.Hasher.finish S.Hasher.write S.build_hasher K.hash_input in IsIndexed hash result }
+        ensures indexed { IsIndexed (hash_of K.Hash S.BuildHasher S.Hasher.Hasher) result }
     {
         Nodes {
             list: FixedSizeList::new(alloc, capacity),
@@ -68,8 +68,7 @@ impl<K: Eq + Hash, V, S: BuildHasher, A: Allocator + Copy> Nodes<K, V, S, A> {
     ) -> Result<Self, S>
         ensures empty { IfOk result (λ x. IsEmpty capacity (min reserve capacity) x) }
         ensures builder { IfOk result (λ x. builder_of x ≡ hash_builder) }
-        ensures indexed { let hash = hash_by S.Hasher.finish S.Hasher.write S.build_hasher K.hash_input in
-            IfOk result (λ x. IsIndexed hash x) }
+        ensures indexed { IfOk result (λ x. IsIndexed (hash_of K.Hash S.BuildHasher S.Hasher.Hasher) x) }
         ensures given_back { IfErr result (λ back. back ≡ hash_builder) }
         ensures never_refused { min reserve capacity ≡ 0 → IsOk result }
         ensures countable { OnOk result (min reserve capacity < 2 ^ 63) }
@@ -102,16 +101,15 @@ impl<K: Eq + Hash, V, S: BuildHasher, A: Allocator + Copy> Nodes<K, V, S, A> {
 
     /// Returns the hash of a key.
     pub fn hash(&self, key: &K) -> u64
-        ensures { result ≡ hash_by S.Hasher.finish S.Hasher.write S.build_hasher K.hash_input (builder_of self.now) key.now }
+        ensures { result ≡ hash_of K.Hash S.BuildHasher S.Hasher.Hasher (builder_of self.now) key.now }
     {
         self.hash_builder.hash_one(key)
     }
 
     /// Returns the place of the pair with the key, whose hash is given.
     fn find(&self, hash: u64, key: &K) -> Option<usize>
-        requires hash { hash ≡ hash_by S.Hasher.finish S.Hasher.write S.build_hasher K.hash_input self.now.hash_builder key.now }
-        requires chained { let hash = hash_by S.Hasher.finish S.Hasher.write S.build_hasher K.hash_input in
-            IsChainedAs hash (key_at self.now.list.entries) self.now }
+        requires hash { hash ≡ hash_of K.Hash S.BuildHasher S.Hasher.Hasher self.now.hash_builder key.now }
+        requires chained { IsChainedAs (hash_of K.Hash S.BuildHasher S.Hasher.Hasher) (key_at self.now.list.entries) self.now }
         ensures found { IfSome result (λ p. IsAt K.eq key.now p self.now.list.entries) }
         ensures valid { IsValid self.now.list }
         ensures absent { IfNone result (lookup_entry (K.eq key.now) (pairs_of self.now.list.entries) ≡ None) }
@@ -128,8 +126,8 @@ impl<K: Eq + Hash, V, S: BuildHasher, A: Allocator + Copy> Nodes<K, V, S, A> {
 
     /// Returns the value of the key, whose hash is given.
     pub fn get(&self, hash: u64, key: &K) -> Option<&V>
-        requires hash { hash ≡ hash_by S.Hasher.finish S.Hasher.write S.build_hasher K.hash_input (builder_of self.now) key.now }
-        requires indexed { let hash = hash_by S.Hasher.finish S.Hasher.write S.build_hasher K.hash_input in IsIndexed hash self.now }
+        requires hash { hash ≡ hash_of K.Hash S.BuildHasher S.Hasher.Hasher (builder_of self.now) key.now }
+        requires indexed { IsIndexed (hash_of K.Hash S.BuildHasher S.Hasher.Hasher) self.now }
         requires distinct { IsDistinct K.eq (keys_of (pairs_in self.now)) }
         ensures { option_copied result ≡ lookup (K.eq key.now) (pairs_in self.now) }
     {

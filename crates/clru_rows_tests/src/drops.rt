@@ -4,7 +4,7 @@ use crate::lists::{holds, scaled};
 use assertions::equal;
 use clru::{CLruCache, PutError, WeightScale};
 use clru_fixtures::scales::{ByLength, ByValue};
-use clru_fixtures::sizes::room;
+use clru_fixtures::sizes::capacity_of;
 use clru_fixtures::with_each_builder;
 use std::alloc::Global;
 use std::fmt::Debug;
@@ -159,8 +159,8 @@ fn puts_in_both_forms<S: BuildHasher + Copy>(
     alloc: Global,
     builder: S,
 ) -> Result<(), Fail> {
-    let mut plain = CLruCache::with_hasher(alloc, room(2)?, builder);
-    let mut weighted = CLruCache::with_hasher(alloc, room(2)?, builder);
+    let mut plain = CLruCache::with_hasher(alloc, capacity_of(2)?, builder);
+    let mut weighted = CLruCache::with_hasher(alloc, capacity_of(2)?, builder);
     for (key, value) in [("a", 1), ("b", 2), ("c", 3), ("b", 4), ("a", 5), ("a", 6)] {
         let mut gone = None;
         let put = plain.put(key, value)?;

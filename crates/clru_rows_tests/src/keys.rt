@@ -4,7 +4,7 @@ use crate::replays::marks;
 use assertions::equal;
 use clru::CLruCache;
 use clru_fixtures::letters::Letter;
-use clru_fixtures::sizes::room;
+use clru_fixtures::sizes::capacity_of;
 use clru_fixtures::with_each_builder;
 use std::alloc::Global;
 use std::hash::BuildHasher;
@@ -17,7 +17,7 @@ fn puts_both_cases<S: BuildHasher + Copy>(
     alloc: Global,
     builder: S,
 ) -> Result<(), Fail> {
-    let mut cache = CLruCache::with_hasher(alloc, room(2)?, builder);
+    let mut cache = CLruCache::with_hasher(alloc, capacity_of(2)?, builder);
     equal!(rt; cache.put(Letter(b'A'), 1)?.replaced, None);
     equal!(rt; cache.put(Letter(b'a'), 2)?.replaced, Some(1));
     let front = cache.iter().next().map(|(key, value)| (key.0, *value));
@@ -36,7 +36,7 @@ fn weighs_both_cases<S: BuildHasher + Copy>(
     alloc: Global,
     builder: S,
 ) -> Result<(), Fail> {
-    let mut cache = CLruCache::with_hasher(alloc, room(2)?, builder);
+    let mut cache = CLruCache::with_hasher(alloc, capacity_of(2)?, builder);
     for (letter, value, old) in [(b'A', 1, None), (b'a', 2, Some(1))] {
         let put = cache.put_with_weight(Letter(letter), value, |_, _| {});
         equal!(rt; put.map_err(|_| "refused")?, old, letter);

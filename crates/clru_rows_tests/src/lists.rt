@@ -2,7 +2,7 @@
 
 use assertions::equal;
 use clru::{CLruCache, CLruCacheConfig, WeightScale};
-use clru_fixtures::sizes::room;
+use clru_fixtures::sizes::capacity_of;
 use std::alloc::Global;
 use std::fmt::Debug;
 use std::hash::{BuildHasher, Hash};
@@ -32,7 +32,7 @@ pub(crate) fn scaled<K: Eq + Hash, V, S: BuildHasher + Copy, W: WeightScale<K, V
     builder: S,
     scale: W,
 ) -> Result<CLruCache<K, V, S, W>, Fail> {
-    let config = CLruCacheConfig::new(room(capacity)?).with_hasher(builder);
+    let config = CLruCacheConfig::new(capacity_of(capacity)?).with_hasher(builder);
     match CLruCache::with_config(alloc, config.with_scale(scale)) {
         Ok(cache) => Ok(cache),
         Err(_) => Err(Fail::from("no reserve is asked for")),

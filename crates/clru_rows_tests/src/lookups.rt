@@ -2,7 +2,7 @@
 
 use assertions::equal;
 use clru::CLruCache;
-use clru_fixtures::sizes::room;
+use clru_fixtures::sizes::capacity_of;
 use clru_fixtures::with_each_builder;
 use std::alloc::Global;
 use std::hash::{BuildHasher, BuildHasherDefault, FoldHasher};
@@ -15,7 +15,7 @@ fn gets_by_an_equal_key<S: BuildHasher + Copy>(
     alloc: Global,
     builder: S,
 ) -> Result<(), Fail> {
-    let mut cache = CLruCache::with_hasher(alloc, room(2)?, builder);
+    let mut cache = CLruCache::with_hasher(alloc, capacity_of(2)?, builder);
     let key = String::from_str(alloc, "apple")?;
     equal!(rt; cache.put(key, "red")?.replaced, None);
     let key = String::from_str(alloc, "apple")?;
@@ -34,7 +34,7 @@ fn gets_mut_by_an_equal_key<S: BuildHasher + Copy>(
     alloc: Global,
     builder: S,
 ) -> Result<(), Fail> {
-    let mut cache = CLruCache::with_hasher(alloc, room(2)?, builder);
+    let mut cache = CLruCache::with_hasher(alloc, capacity_of(2)?, builder);
     let key = String::from_str(alloc, "apple")?;
     equal!(rt; cache.put(key, "red")?.replaced, None);
     let key = String::from_str(alloc, "apple")?;
@@ -50,7 +50,7 @@ fn test_get_mut_with_borrow(rt: HostRuntime) -> Result<(), Fail> {
 #[test]
 fn a_cache_takes_another_hash_builder(rt: HostRuntime) -> Result<(), Fail> {
     let builder = BuildHasherDefault::<FoldHasher>::new();
-    let mut cache = CLruCache::with_hasher(rt.alloc(), room(2)?, builder);
+    let mut cache = CLruCache::with_hasher(rt.alloc(), capacity_of(2)?, builder);
     equal!(rt; (cache.capacity(), cache.len()), (2, 0));
     equal!(rt; cache.put("apple", 3)?.replaced, None);
     equal!(rt; cache.get(&"apple").copied(), Some(3));

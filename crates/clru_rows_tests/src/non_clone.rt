@@ -5,7 +5,7 @@ use crate::non_clone::Step::{
     TryModify, Write,
 };
 use clru::CLruCache;
-use clru_fixtures::sizes::room;
+use clru_fixtures::sizes::capacity_of;
 use clru_fixtures::with_each_builder;
 use std::alloc::{AllocError, Global};
 use std::hash::BuildHasher;
@@ -156,7 +156,7 @@ fn takes_or_reads<S: BuildHasher>(
             cache.clear();
             cache.is_empty()
         }
-        Resize(capacity) => match room(*capacity) {
+        Resize(capacity) => match capacity_of(*capacity) {
             Ok(size) => {
                 cache.resize(size);
                 cache.capacity() == *capacity
@@ -231,7 +231,7 @@ fn is_list<S: BuildHasher>(cache: &CLruCache<NonCloneKey, u64, S>, list: &[(&str
 
 /// Takes all steps.
 fn steps<S: BuildHasher + Copy>(rt: &impl Abort, alloc: Global, builder: S) -> Result<(), Fail> {
-    let mut cache = CLruCache::with_hasher(alloc, room(3)?, builder);
+    let mut cache = CLruCache::with_hasher(alloc, capacity_of(3)?, builder);
     for (i, (step, list)) in STEPS.iter().enumerate() {
         assert!(rt; is_right(alloc, &mut cache, step)?, "step {i}");
         assert!(rt; is_list(&cache, list), "the list after step {i}");

@@ -3,7 +3,7 @@
 use crate::lists::holds;
 use assertions::equal;
 use clru::{CLruCache, TryPutError};
-use clru_fixtures::sizes::room;
+use clru_fixtures::sizes::capacity_of;
 use clru_fixtures::with_each_builder;
 use std::alloc::Global;
 use std::hash::BuildHasher;
@@ -31,7 +31,7 @@ fn puts_or_modifies<S: BuildHasher + Copy>(
     alloc: Global,
     builder: S,
 ) -> Result<(), Fail> {
-    let mut cache = CLruCache::with_hasher(alloc, room(2)?, builder);
+    let mut cache = CLruCache::with_hasher(alloc, capacity_of(2)?, builder);
     let steps = [
         ("a", None, 1, 1),
         ("b", Some(3), 4, 2),
@@ -58,7 +58,7 @@ fn writes_what_is_lent<S: BuildHasher + Copy>(
     alloc: Global,
     builder: S,
 ) -> Result<(), Fail> {
-    let mut cache = CLruCache::with_hasher(alloc, room(2)?, builder);
+    let mut cache = CLruCache::with_hasher(alloc, capacity_of(2)?, builder);
     for (key, value) in [("a", 1), ("b", 2)] {
         equal!(rt; cache.put(key, value)?.replaced, None, key);
     }
@@ -89,7 +89,7 @@ fn tries_to_put_or_modify<S: BuildHasher + Copy>(
     alloc: Global,
     builder: S,
 ) -> Result<(), Fail> {
-    let mut cache = CLruCache::with_hasher(alloc, room(2)?, builder);
+    let mut cache = CLruCache::with_hasher(alloc, capacity_of(2)?, builder);
     let steps: [(_, _, _, &[(&str, u64)]); 4] = [
         ("a", 2, Ok(2), &[("a", 2)]),
         ("b", 4, Ok(4), &[("b", 4), ("a", 2)]),
@@ -115,7 +115,7 @@ fn fails_after_a_write<S: BuildHasher + Copy>(
     alloc: Global,
     builder: S,
 ) -> Result<(), Fail> {
-    let mut cache = CLruCache::with_hasher(alloc, room(2)?, builder);
+    let mut cache = CLruCache::with_hasher(alloc, capacity_of(2)?, builder);
     for (key, value) in [("a", 2), ("b", 4)] {
         equal!(rt; cache.put(key, value)?.replaced, None, key);
     }
@@ -140,7 +140,7 @@ fn lends_both_ends<S: BuildHasher + Copy>(
     alloc: Global,
     builder: S,
 ) -> Result<(), Fail> {
-    let mut cache = CLruCache::with_hasher(alloc, room(2)?, builder);
+    let mut cache = CLruCache::with_hasher(alloc, capacity_of(2)?, builder);
     assert!(rt; cache.front_mut().is_none());
     for (key, value) in [("a", 1), ("b", 2)] {
         equal!(rt; cache.put(key, value)?.replaced, None, key);

@@ -4,7 +4,7 @@ use crate::lists::{holds, scaled};
 use assertions::equal;
 use clru::CLruCache;
 use clru_fixtures::scales::ByLength;
-use clru_fixtures::sizes::room;
+use clru_fixtures::sizes::capacity_of;
 use clru_fixtures::with_each_builder;
 use std::alloc::Global;
 use std::hash::BuildHasher;
@@ -16,7 +16,7 @@ const LETTERS: [(&str, u32); 5] = [("a", 1), ("b", 2), ("c", 3), ("d", 4), ("e",
 
 /// A retain that adds one to each value, one that keeps all, and one that keeps none.
 fn retains<S: BuildHasher + Copy>(rt: &impl Abort, alloc: Global, builder: S) -> Result<(), Fail> {
-    let mut cache = CLruCache::with_hasher(alloc, room(5)?, builder);
+    let mut cache = CLruCache::with_hasher(alloc, capacity_of(5)?, builder);
     for (key, value) in LETTERS {
         equal!(rt; cache.put(key, value)?.replaced, None);
     }
@@ -45,7 +45,7 @@ fn retains_every_second<S: BuildHasher + Copy>(
     builder: S,
 ) -> Result<(), Fail> {
     for written in [false, true] {
-        let mut cache = CLruCache::with_hasher(alloc, room(3)?, builder);
+        let mut cache = CLruCache::with_hasher(alloc, capacity_of(3)?, builder);
         for (key, value) in [("a", 1), ("b", 2), ("c", 3)] {
             equal!(rt; cache.put(key, value)?.replaced, None);
         }

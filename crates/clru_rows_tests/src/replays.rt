@@ -1,7 +1,7 @@
 //! Whole lists of requests.
 
 use clru::{Replay, replay};
-use clru_fixtures::sizes::room;
+use clru_fixtures::sizes::capacity_of;
 use clru_fixtures::with_each_builder;
 use std::alloc::Global;
 use std::hash::{BuildHasher, Hash};
@@ -25,7 +25,7 @@ pub(crate) fn marks<K: Eq + Hash + Drop, S: BuildHasher + Copy>(
     builder: S,
     letters: &str,
 ) -> Result<(), &'static str> {
-    let Ok(answer) = replay(alloc, room(capacity)?, keys, builder) else {
+    let Ok(answer) = replay(alloc, capacity_of(capacity)?, keys, builder) else {
         return Err("the keys came back");
     };
     assert!(rt; is_marked(&answer, letters.as_bytes()), "of {letters}");

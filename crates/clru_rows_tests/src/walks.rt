@@ -5,7 +5,7 @@ use crate::walks::End::{Back, Front};
 use assertions::equal;
 use clru::{CLruCache, CLruCacheIntoIter, CLruCacheIter, WeightScale};
 use clru_fixtures::scales::ByLength;
-use clru_fixtures::sizes::room;
+use clru_fixtures::sizes::capacity_of;
 use clru_fixtures::with_each_builder;
 use std::alloc::Global;
 use std::fmt::Debug;
@@ -180,7 +180,7 @@ fn made<S: BuildHasher + Copy>(
     walk: &Walk<&'static str, usize>,
     builder: S,
 ) -> Result<CLruCache<&'static str, usize, S>, Fail> {
-    let mut cache = CLruCache::with_hasher(alloc, room(walk.capacity)?, builder);
+    let mut cache = CLruCache::with_hasher(alloc, capacity_of(walk.capacity)?, builder);
     for (key, value) in walk.pairs {
         cache.put(*key, *value)?;
     }
@@ -478,7 +478,7 @@ fn a_cursor_writes_to_a_cache_that_was_touched(rt: HostRuntime) -> Result<(), Fa
 #[test]
 fn a_cursor_steps_alike_however_many_entries_there_are(rt: HostRuntime) -> Result<(), Fail> {
     let number = 200_000;
-    let mut cache = CLruCache::new(rt.alloc(), room(number)?);
+    let mut cache = CLruCache::new(rt.alloc(), capacity_of(number)?);
     for key in 0..number {
         cache.put(key, 1u64)?;
     }

@@ -2,7 +2,7 @@
 
 use crate::lists::holds;
 use clru::{CLruCache, NonZeroUsize};
-use clru_fixtures::sizes::room;
+use clru_fixtures::sizes::capacity_of;
 use std::alloc::{AllocError, Global};
 use std::test::Fail;
 
@@ -24,7 +24,7 @@ fn count_words(
 
 #[test]
 fn words_are_counted(rt: HostRuntime) -> Result<(), Fail> {
-    let mut counts = count_words(rt.alloc(), room(3)?, "one two two three two three")?;
+    let mut counts = count_words(rt.alloc(), capacity_of(3)?, "one two two three two three")?;
     let list = [("three", 2), ("two", 3), ("one", 1)];
     holds(&rt, &counts, &list);
     Ok(())
@@ -32,7 +32,7 @@ fn words_are_counted(rt: HostRuntime) -> Result<(), Fail> {
 
 #[test]
 fn the_word_that_was_seen_longest_ago_is_forgotten(rt: HostRuntime) -> Result<(), Fail> {
-    let mut counts = count_words(rt.alloc(), room(2)?, "one two one three two")?;
+    let mut counts = count_words(rt.alloc(), capacity_of(2)?, "one two one three two")?;
     holds(&rt, &counts, &[("two", 1), ("three", 1)]);
     Ok(())
 }

@@ -23,7 +23,7 @@ use Rattle.clru_runs.specs.declared.call.PlainCall.{PlainCall}
 use Rattle.clru_runs.specs.declared.call.PlainCall.TheVariants.{Put, PutOrModify, TryPutOrModify, GetMut, PeekMut, FrontMut, BackMut, RetainMut, Any}
 use Rattle.clru_runs.specs.declared.call.Weighing.{Weighing}
 
--- the value at a place
+-- the value at an index
 abbrev pub value_at : {K V : Type 0} → ℕ → List (K × V) → Option V
 value_at i es = option_map (λ e. e.1) (slice_get es i)
 

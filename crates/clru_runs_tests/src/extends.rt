@@ -3,7 +3,7 @@
 use crate::tables::{Table, runs};
 use clru::CLruCache;
 use clru_fixtures::builders::CONSTANTS;
-use clru_fixtures::sizes::room;
+use clru_fixtures::sizes::capacity_of;
 use clru_runs::Answer::{Extended, Flag};
 use clru_runs::Call::IsFull;
 use clru_runs::ListCall::{Extend, Plain};
@@ -85,7 +85,7 @@ fn pairs_are_put_in_turn(rt: HostRuntime) -> Result<(), Fail> {
             rows: calls.as_slice(),
             list: row.list,
         };
-        let size = room(row.capacity)?;
+        let size = capacity_of(row.capacity)?;
         runs(
             &rt,
             rt.alloc(),

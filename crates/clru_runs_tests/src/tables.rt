@@ -3,7 +3,7 @@
 use assertions::equal;
 use clru::{CLruCache, CLruCacheConfig, WeightScale};
 use clru_fixtures::builders::CONSTANTS;
-use clru_fixtures::sizes::room;
+use clru_fixtures::sizes::capacity_of;
 use clru_runs::{Answer, Call, Perform, PlainCall, perform_all};
 use std::alloc::{Allocator, Global};
 use std::fmt::Debug;
@@ -80,7 +80,7 @@ pub(crate) fn run_on<K: Eq + Hash + Copy + Debug, V: PartialEq + Copy + Debug>(
     alloc: Global,
     tables: &[Table<PlainCall<K, V>, K, V>],
 ) -> Result<(), Fail> {
-    let size = room(tables.first().ok_or("a run has a table")?.capacity)?;
+    let size = capacity_of(tables.first().ok_or("a run has a table")?.capacity)?;
     runs_on(rt, alloc, tables, &mut CLruCache::new(alloc, size))?;
     for builder in CONSTANTS {
         let mut cache = CLruCache::with_hasher(alloc, size, builder);
@@ -113,7 +113,7 @@ where
     V: PartialEq + Copy + Debug,
     W: WeightScale<K, V> + Copy,
 {
-    let size = room(tables.first().ok_or("a run has a table")?.capacity)?;
+    let size = capacity_of(tables.first().ok_or("a run has a table")?.capacity)?;
     let mut cache = CLruCache::with_scale(alloc, size, scale);
     runs_on(rt, alloc, tables, &mut cache)?;
     for builder in CONSTANTS {

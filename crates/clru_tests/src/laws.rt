@@ -1,18 +1,18 @@
 //! The laws, at types of a caller's, and the callers that show what they speak of.
 
 use crate::callers::{calls, puts, runs, sizes};
-use crate::lists::room;
+use crate::lists::capacity_of;
 use assertions::equal;
 use clru::{
-    CLruCache, CLruCacheConfig, ZeroWeightScale, law_by_place, law_dropped, law_growth,
-    law_inclusion, law_longest_fit, law_requests, law_schedules_by_place, law_sizes,
+    CLruCache, CLruCacheConfig, ZeroWeightScale, law_by_position, law_dropped, law_growth,
+    law_inclusion, law_longest_fit, law_requests, law_schedules_by_position, law_sizes,
 };
 use std::test::Fail;
 
 #[test]
 fn laws_do_nothing() {
-    law_by_place::<&'static str>();
-    law_schedules_by_place::<&'static str>();
+    law_by_position::<&'static str>();
+    law_schedules_by_position::<&'static str>();
     law_growth::<&'static str>();
     law_inclusion::<u64, &'static str>();
     law_longest_fit::<u64, &'static str>();
@@ -28,7 +28,7 @@ fn law_of_drops<F: FnMut(u64, u64)>(_on_drop: &F) {
 
 #[test]
 fn calls_of_a_run_at_two_capacities(rt: HostRuntime) -> Result<(), Fail> {
-    let mut cache = CLruCache::new(rt.alloc(), room(2)?);
+    let mut cache = CLruCache::new(rt.alloc(), capacity_of(2)?);
     equal!(rt; calls::put_pair(&mut cache, "a", 1), Ok(None));
     equal!(rt; calls::put_pair(&mut cache, "b", 2), Ok(None));
     equal!(rt; calls::take_first(&mut cache), Some(("b", 2)));
@@ -38,7 +38,7 @@ fn calls_of_a_run_at_two_capacities(rt: HostRuntime) -> Result<(), Fail> {
 
 #[test]
 fn a_run_of_puts_holds_what_a_replay_hits(rt: HostRuntime) -> Result<(), Fail> {
-    let mut cache = CLruCache::new(rt.alloc(), room(2)?);
+    let mut cache = CLruCache::new(rt.alloc(), capacity_of(2)?);
     let keys = Vec::from_array(rt.alloc(), ["a", "b", "c", "a", "c"])?;
     let held = runs::held_before_puts(rt.alloc(), &mut cache, keys).ok_or("no memory")?;
     equal!(rt;
@@ -50,7 +50,7 @@ fn a_run_of_puts_holds_what_a_replay_hits(rt: HostRuntime) -> Result<(), Fail> {
 
 #[test]
 fn puts_in_any_form_hold_what_a_replay_hits(rt: HostRuntime) -> Result<(), Fail> {
-    let mut cache = CLruCache::new(rt.alloc(), room(2)?);
+    let mut cache = CLruCache::new(rt.alloc(), capacity_of(2)?);
     equal!(rt; puts::put(&mut cache, "a", 1), Ok(None));
     equal!(rt; puts::put_with_weight(&mut cache, "b", 2), Ok(None));
     assert!(rt; !cache.contains(&"c"));
@@ -66,7 +66,7 @@ fn puts_in_any_form_hold_what_a_replay_hits(rt: HostRuntime) -> Result<(), Fail>
 #[test]
 fn a_run_of_puts_by_weight_misses_by_size(rt: HostRuntime) -> Result<(), Fail> {
     for (capacity, missed) in [(7, Some(3)), (6, Some(5)), (4, Some(5)), (3, None)] {
-        let config = CLruCacheConfig::new(room(capacity)?).with_scale(sizes::ByPage);
+        let config = CLruCacheConfig::new(capacity_of(capacity)?).with_scale(sizes::ByPage);
         let Ok(mut cache) = CLruCache::with_config(rt.alloc(), config) else {
             return Err(Fail::from("no reserve is asked for"));
         };

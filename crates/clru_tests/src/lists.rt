@@ -3,6 +3,6 @@
 use clru::NonZeroUsize;
 
 /// A capacity.
-pub(crate) fn room(n: usize) -> Result<NonZeroUsize, &'static str> {
+pub(crate) fn capacity_of(n: usize) -> Result<NonZeroUsize, &'static str> {
     NonZeroUsize::new(n).ok_or("a capacity is no 0")
 }

@@ -1,7 +1,7 @@
 //! The competitive bound beside schedules: the keys that a policy holds before each request and at the end, where it may
 //! know all requests beforehand.
 
-use crate::lists::room;
+use crate::lists::capacity_of;
 use assertions::equal;
 use clru::{DefaultState, replay};
 use clru_least::least;
@@ -91,7 +91,7 @@ fn furthest_next(
 /// The misses of a replay.
 fn replay_misses(alloc: Global, capacity: usize, requests: &[u8]) -> Result<usize, &'static str> {
     let keys = Vec::from_slice(alloc, requests).map_err(|_| "no memory for the keys")?;
-    match replay(alloc, room(capacity)?, keys, DefaultState) {
+    match replay(alloc, capacity_of(capacity)?, keys, DefaultState) {
         Ok(answer) => Ok(answer.misses),
         Err(_) => Err("the keys came back"),
     }
@@ -100,7 +100,7 @@ fn replay_misses(alloc: Global, capacity: usize, requests: &[u8]) -> Result<usiz
 /// The least misses of any way to hold `h` keys.
 fn least_misses(alloc: Global, h: usize, requests: &[u8]) -> Result<usize, &'static str> {
     let keys = Vec::from_slice(alloc, requests).map_err(|_| "no memory for the keys")?;
-    least(alloc, room(h)?, keys, DefaultState).map_err(|_| "the keys came back")
+    least(alloc, capacity_of(h)?, keys, DefaultState).map_err(|_| "the keys came back")
 }
 
 /// Whether the misses of capacity `k` are at most `k / (k - h + 1)` times those of a schedule of `h` keys.

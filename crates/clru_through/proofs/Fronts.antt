@@ -5,14 +5,14 @@ use Rattle.std.specs.Cmp.{IsEquivalence}
 use Rattle.std.specs.Map.{lookup}
 use Rattle.std.specs.Map.Iter.{deref_pair}
 use Rattle.std.specs.Option.{option_map}
-use Rattle.clru_through.specs.Steps.{Passes, LoadsBy, Loads}
+use Rattle.clru_through.specs.Steps.{TakesAnswer, LoadsBy, Loads}
 use Rattle.clru_through.specs.Store.{Store}
 use Rattle.clru_through.specs.declared.answer.Loaded.TheVariants.{Held}
 use Rattle.clru_through.proofs.Sourced.{entry_of}
 
 module _ {K V W R E : Type 0} (eq : K → K → Bool) (laws : IsEquivalence eq) (weight : K → V → ℕ) (fetches : R → K → Result V E → R → Type 0)
     (old : Store K V W R) (x : K) (new : Store K V W R) where
-  first_fetched : (f : Bool) (fetched : Result V E) → Passes eq weight old.cache x fetched (Ok (Held f)) new.cache
+  first_fetched : (f : Bool) (fetched : Result V E) → TakesAnswer eq weight old.cache x fetched (Ok (Held f)) new.cache
       → option_map (λ e. e.1) (slice_get new.cache.entries 0) ≡ lookup (eq x) new.cache.entries
   first_fetched f (Ok v) put = rw put.1.entries (rw (laws.refl x) refl)
   first_fetched f (Err d) none = absurd none

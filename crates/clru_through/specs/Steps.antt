@@ -10,7 +10,7 @@ use Rattle.clru_through.specs.declared.answer.Loaded.TheVariants.{Held, Passed}
 
 module _ {K V W : Type 0} (eq : K → K → Bool) (weight : K → V → ℕ) (old : Cache K V W) (x : K) where
   -- the fetched value v is held, in front
-  pub record IsPut (v : V) (new : Cache K V W) : Type 0 where
+  pub record IsStored (v : V) (new : Cache K V W) : Type 0 where
     pub light : weight x v < old.capacity
     pub entries : new.entries ≡ weighted_put eq weight old.capacity x v old.entries
     pub places : GrowsOnlyIf (NeedsPlaceFor eq weight old x v) old new
@@ -24,15 +24,15 @@ module _ {K V W : Type 0} (eq : K → K → Bool) (weight : K → V → ℕ) (ol
 
   -- what becomes of the fetched value v
   abbrev pub Takes : V → Loaded V → Cache K V W → Type 0
-  Takes v (Held fetched) new = (fetched ≡ true) × IsPut v new
+  Takes v (Held fetched) new = (fetched ≡ true) × IsStored v new
   Takes v (Passed given) new = IsPassed v given new
 
   -- what becomes of a fetch's answer
-  abbrev pub Passes : {E : Type 0} → Result V E → Result (Loaded V) E → Cache K V W → Type 0
-  Passes (Ok v) (Ok loaded) new = Takes v loaded new
-  Passes (Ok v) (Err e) new = ⊥
-  Passes (Err d) (Ok loaded) new = ⊥
-  Passes (Err d) (Err e) new = (e ≡ d) × (new ≡ old)
+  abbrev pub TakesAnswer : {E : Type 0} → Result V E → Result (Loaded V) E → Cache K V W → Type 0
+  TakesAnswer (Ok v) (Ok loaded) new = Takes v loaded new
+  TakesAnswer (Ok v) (Err e) new = ⊥
+  TakesAnswer (Err d) (Ok loaded) new = ⊥
+  TakesAnswer (Err d) (Err e) new = (e ≡ d) × (new ≡ old)
 
 module _ {K V W R E : Type 0} (eq : K → K → Bool) (weight : K → V → ℕ) (fetches : R → K → Result V E → R → Type 0)
     (old : Store K V W R) (x : K) (result : Result (Loaded V) E) (new : Store K V W R) where
@@ -45,7 +45,7 @@ module _ {K V W R E : Type 0} (eq : K → K → Bool) (weight : K → V → ℕ)
   pub record Fetches : Type 0 where
     pub fetched : Result V E
     pub fetch : fetches old.source x fetched new.source
-    pub passes : Passes eq weight old.cache x fetched result new.cache
+    pub passes : TakesAnswer eq weight old.cache x fetched result new.cache
 
   abbrev pub LoadsBy : Option V → Type 0
   LoadsBy (Some v) = Hits

@@ -3,7 +3,7 @@
 use crate::sources::Twice;
 use assertions::equal;
 use clru::{CLruCache, DefaultState, ZeroWeightScale};
-use clru_fixtures::sizes::room;
+use clru_fixtures::sizes::capacity_of;
 use clru_through::{Answer, Through};
 use ration::Rationed;
 use std::alloc::Global;
@@ -27,7 +27,7 @@ fn numbers<'a>(
     capacity: usize,
     fetched: &'a Cell<u64>,
 ) -> Result<Numbers<'a>, &'static str> {
-    let cache = CLruCache::new(heap, room(capacity)?);
+    let cache = CLruCache::new(heap, capacity_of(capacity)?);
     Ok(Through::new(cache, Twice { fetched }))
 }
 

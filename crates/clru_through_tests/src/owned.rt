@@ -5,7 +5,7 @@ ghost use Rattle.std.proofs.Common.{rules};
 
 use assertions::equal;
 use clru::{CLruCache, WeightScale};
-use clru_fixtures::sizes::room;
+use clru_fixtures::sizes::capacity_of;
 use clru_through::{Loaded, Source, Through};
 use ration::Rationed;
 use std::alloc::{AllocError, Global};
@@ -61,7 +61,7 @@ impl<'a> Source<Key<'a>, Page<'a>, AllocError> for Pages<'a> {
 /// Loads a few keys, and goes on where memory is refused. Returns how many of the values were passed on, and how many keys
 /// or values could not be made.
 fn loads(rt: &impl Abort, heap: &Rationed<Global>, capacity: usize) -> Result<(u64, u64), Fail> {
-    let cache = CLruCache::with_scale(heap, room(capacity)?, ByBytes);
+    let cache = CLruCache::with_scale(heap, capacity_of(capacity)?, ByBytes);
     let mut store = Through::new(cache, Pages { heap });
     let mut passed = 0u64;
     let mut failed = 0u64;
@@ -115,7 +115,7 @@ fn nothing_is_lost_where_memory_is_refused(rt: HostRuntime) -> Result<(), Fail> 
 #[test]
 fn what_is_taken_out_is_given_back(rt: HostRuntime) -> Result<(), Fail> {
     let heap = Rationed::new(rt.alloc());
-    let cache = CLruCache::with_scale(&heap, room(20)?, ByBytes);
+    let cache = CLruCache::with_scale(&heap, capacity_of(20)?, ByBytes);
     let mut store = Through::new(cache, Pages { heap: &heap });
     for letter in ["a", "b", "c"] {
         assert!(rt; store.load(String::from_str(&heap, letter)?).is_ok());
@@ -124,7 +124,7 @@ fn what_is_taken_out_is_given_back(rt: HostRuntime) -> Result<(), Fail> {
     let (blocks, asked) = (heap.blocks(), heap.asked());
     assert!(rt; store.pop(&key).is_some());
     equal!(rt; (store.len(), blocks.saturating_sub(heap.blocks())), (2, 2));
-    store.resize(room(5)?);
+    store.resize(capacity_of(5)?);
     equal!(rt; (store.len(), blocks.saturating_sub(heap.blocks())), (1, 4));
     store.clear();
     equal!(rt; (store.len(), blocks.saturating_sub(heap.blocks())), (0, 6));

@@ -3,7 +3,7 @@
 use crate::sources::{Failing, Text, one};
 use crate::steps::{Texts, texts};
 use assertions::equal;
-use clru_fixtures::sizes::room;
+use clru_fixtures::sizes::capacity_of;
 use clru_fixtures::with_each_builder;
 use clru_through::Loaded;
 use std::alloc::Global;
@@ -41,7 +41,7 @@ fn performs<S: BuildHasher>(rt: &impl Abort, store: &mut Texts<S>, call: Call) -
             let value = if found { Some(two(letter)) } else { None };
             equal!(rt; store.pop(&one(letter)), value, call);
         }
-        Call::Resize(capacity) => store.resize(room(capacity)?),
+        Call::Resize(capacity) => store.resize(capacity_of(capacity)?),
         Call::Clear => store.clear(),
     }
     Ok(())

@@ -3,7 +3,7 @@
 use crate::sources::{ByLength, Doubler, Failing, Name, Text};
 use assertions::equal;
 use clru::{CLruCache, CLruCacheConfig};
-use clru_fixtures::sizes::room;
+use clru_fixtures::sizes::capacity_of;
 use clru_through::{Answer, Through};
 use std::alloc::Global;
 use std::cell::Cell;
@@ -38,7 +38,7 @@ pub(crate) fn texts<'a, S: BuildHasher + Copy>(
     fetched: &'a Cell<u64>,
     failing: Failing,
 ) -> Result<Texts<'a, S>, Fail> {
-    let config = CLruCacheConfig::new(room(capacity)?).with_hasher(builder);
+    let config = CLruCacheConfig::new(capacity_of(capacity)?).with_hasher(builder);
     let Ok(cache) = CLruCache::with_config(alloc, config.with_scale(ByLength)) else {
         return Err(Fail::from("no reserve is asked for"));
     };

@@ -5,7 +5,7 @@ use std::collections::{BinaryHeap, HashMap};
 use std::hash::Hash;
 
 /// The place of the next request of each key, or the number of requests where there is none.
-pub fn next_places<K: Eq + Hash + Copy>(keys: &[K]) -> Vec<usize> {
+pub fn next_positions<K: Eq + Hash + Copy>(keys: &[K]) -> Vec<usize> {
     let mut ahead: HashMap<K, usize, FoldState> = HashMap::default();
     let mut nexts = vec![keys.len(); keys.len()];
     for (at, key) in keys.iter().enumerate().rev() {

@@ -2,7 +2,7 @@
 
 use crate::clock::now;
 use crate::curve::{curve, sized_curve, Sized};
-use crate::least::{least, next_places};
+use crate::least::{least, next_positions};
 use crate::memory::grown_by;
 use crate::ours;
 use crate::tally::Tally;
@@ -80,7 +80,7 @@ fn sum_of_steps(curve: &Sized) -> usize {
 /// The tally of the least possible misses: the hits and misses at the last room, and the sum of the misses at each.
 fn plain_least(rooms: &[usize], requests: &[u64]) -> Tally {
     let start = now();
-    let nexts = next_places(requests);
+    let nexts = next_positions(requests);
     let misses: Vec<usize> = rooms.iter().map(|room| least(&nexts, *room)).collect();
     drop(nexts);
     let nanoseconds = now() - start;

@@ -1,7 +1,7 @@
 //! The program that makes our `clru_mrc`'s table, in plain Rust: a line for each of the capacities, from the curve.
 
 use crate::curve::curve;
-use crate::least::{least, next_places};
+use crate::least::{least, next_positions};
 use crate::lines::Key;
 use std::io::{stdin, stdout, Read, Write};
 
@@ -37,7 +37,7 @@ fn table_of(capacities: &[usize], misses: &[usize], requests: usize) -> String {
 }
 
 fn table_with_least(capacities: &[usize], misses: &[usize], keys: &[Key]) -> String {
-    let nexts = next_places(keys);
+    let nexts = next_positions(keys);
     let mut text = String::from("capacity,misses,miss_ratio,least_misses\n");
     for capacity in capacities {
         let cells = cells(*capacity, misses, keys.len());

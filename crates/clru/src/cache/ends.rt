@@ -3,8 +3,8 @@ ghost use Rattle.std.specs.Prelude.{◌≡◌, ◌-◌, ◌<◌, Some, [], lengt
 ghost use Rattle.std.specs.Borrow.{sem};
 ghost use Rattle.std.specs.Map.Iter.{deref_pair};
 ghost use Rattle.std.specs.Option.{option_map};
-ghost use Rattle.clru.specs.GuardLends.{lends_end, rests_if_none};
-ghost use Rattle.clru.specs.Guards.{place_of, cache_name, IsEntryAt};
+ghost use Rattle.clru.specs.EntryMutLends.{lends_end, rests_if_none};
+ghost use Rattle.clru.specs.EntryMut.{index_of, cache_name, IsEntryAt};
 
 use crate::cache::CLruCache;
 use crate::entry::{End, EntryMut};
@@ -33,7 +33,7 @@ where
     /// Returns the entry at an end, where there is one.
     pub(crate) fn end_pair(&self, end: End) -> (&K, &V)
         requires { 0 < length self.now.entries }
-        ensures { Some (deref_pair result) ≡ slice_get self.now.entries (place_of end self.now.entries) }
+        ensures { Some (deref_pair result) ≡ slice_get self.now.entries (index_of end self.now.entries) }
     {
         let pair = match end {
             End::Front => self.front(),
@@ -86,7 +86,7 @@ impl<K: Eq + Hash, V, S: BuildHasher, A: Allocator + Copy> CLruCache<K, V, S, Ze
         requires { 0 < length self.old.entries }
         ensures* lends { sem 𝓛 (lends_end K.row V.row S.row A.row S.Hasher.row K.Hash S.BuildHasher S.Hasher.Hasher
             A.Allocator ⟦<ZeroWeightScale as WeightScale<K, V>>⟧ self.entry end result) }
-        ensures value { Some result.now ≡ option_map (λ e. e.1) (slice_get self.old.entries (place_of end self.old.entries)) }
+        ensures value { Some result.now ≡ option_map (λ e. e.1) (slice_get self.old.entries (index_of end self.old.entries)) }
     {
         match end {
             End::Front => &mut self.nodes.front_item().value,

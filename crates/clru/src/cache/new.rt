@@ -1,7 +1,7 @@
 //! The makers.
 ghost use Rattle.std.specs.Prelude.{◌≡◌, ◌<◌, ◌^◌, [], min, IfOk, IfErr, IsOk, OnOk};
 ghost use Rattle.std.specs.Int.NonZero.{non_zero_usize_get};
-ghost use Rattle.clru_nodes.specs.Nodes.{hash_by, IsEmpty, IsIndexed, places_of};
+ghost use Rattle.clru_nodes.specs.Nodes.{hash_of, IsEmpty, IsIndexed, places_of};
 ghost use Rattle.clru.specs.Cache.{cache};
 
 use crate::cache::CLruCache;
@@ -108,7 +108,7 @@ where
 
     fn empty(nodes: Nodes<K, V, S, A>, capacity: NonZeroUsize, scale: W) -> Self
         requires none { IsEmpty (non_zero_usize_get capacity) (places_of nodes) nodes }
-        requires indexed { let hash = hash_by S.Hasher.finish S.Hasher.write S.build_hasher K.hash_input in IsIndexed hash nodes }
+        requires indexed { IsIndexed (hash_of K.Hash S.BuildHasher S.Hasher.Hasher) nodes }
         ensures { result ≡ cache [] (non_zero_usize_get capacity) scale (places_of nodes) }
     {
         CLruCache {

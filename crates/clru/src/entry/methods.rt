@@ -2,8 +2,8 @@
 ghost use Rattle.std.specs.Prelude.{◌≡◌, Some};
 ghost use Rattle.std.specs.Borrow.{sem};
 ghost use Rattle.std.specs.Option.{option_map};
-ghost use Rattle.clru.specs.GuardLends.{lends_entry, lends_cache};
-ghost use Rattle.clru.specs.Guards.{pair};
+ghost use Rattle.clru.specs.EntryMutLends.{lends_entry, lends_cache};
+ghost use Rattle.clru.specs.EntryMut.{pair};
 
 use crate::entry::EntryMut;
 use clru_model::{WeightScale, ZeroWeightScale};

@@ -4,7 +4,7 @@ ghost use Rattle.clru_model.specs.Sizes.{SameWeights, span};
 ghost use Rattle.clru_curve.specs.SizedPasses.{IsSizedPass, key_of, IsTooLarge};
 ghost use Rattle.clru_curve.specs.SizedCurves.{IsSizedCurveOf};
 
-use crate::pass::{copied, move_place};
+use crate::pass::{copied, move_position};
 use crate::sized::curve::SizedCurve;
 use crate::sized::error::SizedRequestError;
 use crate::sized::sizes::Sizes;
@@ -22,11 +22,11 @@ use std::num::NonZeroUsize;
 /// are as safe as ever. They speak of the requests that were taken by `IsSizedPass`, the latest first. A curve can be had at
 /// any time.
 ///
-/// Memory goes with the requests, nine bytes for each, and sixteen more for each that asks for a key again, besides a place in
+/// Memory goes with the requests, nine bytes for each, and sixteen more for each that asks for a key again, besides a position in
 /// a cache for each distinct key.
 #[derive(Drop)]
 pub struct SizedPass<K: Eq + Hash, S: BuildHasher = DefaultState, A: Allocator + Copy = Global> {
-    places: CLruCache<K, usize, S, ZeroWeightScale, A>,
+    positions: CLruCache<K, usize, S, ZeroWeightScale, A>,
     latest: Sizes<A>,
     hits: Vec<(usize, usize), A>,
     size: usize,
@@ -40,10 +40,10 @@ impl<K: Eq + Hash, S: BuildHasher, A: Allocator + Copy> Model for SizedPass<K, S
 
     ghost coded = { pass_by_size_code K.code };
 
-    ghost view = { λ p. pass_by_size p.places.entries p.latest.sizes.items p.hits.items p.size p.greatest };
+    ghost view = { λ p. pass_by_size p.positions.entries p.latest.sizes.items p.hits.items p.size p.greatest };
 
-    ghost invariant = { λ p. IsSoundBySize K.eq p.places.capacity p.latest.nodes.items
-        (pass_by_size p.places.entries p.latest.sizes.items p.hits.items p.size p.greatest) };
+    ghost invariant = { λ p. IsSoundBySize K.eq p.positions.capacity p.latest.nodes.items
+        (pass_by_size p.positions.entries p.latest.sizes.items p.hits.items p.size p.greatest) };
 }
 
 impl<K: Eq + Hash, A: Allocator + Copy> SizedPass<K, DefaultState, A> {
@@ -61,7 +61,7 @@ impl<K: Eq + Hash, S: BuildHasher, A: Allocator + Copy> SizedPass<K, S, A> {
         ensures { (w : K → ℕ) → IsSizedPass K.eq w [] result }
     {
         SizedPass {
-            places: CLruCache::with_hasher(alloc, NonZeroUsize::MAX, hash_builder),
+            positions: CLruCache::with_hasher(alloc, NonZeroUsize::MAX, hash_builder),
             latest: Sizes::new(alloc),
             hits: Vec::new(alloc),
             size: 0,
@@ -100,18 +100,18 @@ impl<K: Eq + Hash, S: BuildHasher, A: Allocator + Copy> SizedPass<K, S, A> {
             return Err(SizedRequestError::NoMemory(key));
         };
         let number = self.latest.sizes.len();
-        match move_place(&mut self.places, &key, number) {
-            Some(place) => {
-                let span = self.latest.total_from(place);
+        match move_position(&mut self.positions, &key, number) {
+            Some(position) => {
+                let span = self.latest.total_from(position);
                 self.latest.push(size);
-                self.latest.clear(place);
+                self.latest.clear(position);
                 self.hits.push_reserved((span, size));
                 self.size += size;
                 self.greatest = greatest;
                 Ok(Some(span))
             }
             None => {
-                if let Err((key, _)) = self.places.put(key, number) {
+                if let Err((key, _)) = self.positions.put(key, number) {
                     return Err(SizedRequestError::NoMemory(key));
                 }
                 self.latest.push(size);

@@ -43,21 +43,21 @@ fn draw_capacities<W: Write>(text: &mut W, scale: &Scale) -> fmt::Result {
     let room = Room::new(scale, LETTERS);
     let little_room = Room::new(scale, LARGE_LETTERS);
     let short = room.every == 9;
-    for place in 0..ROUND_NUMBERS {
-        let capacity = round_at(place);
+    for index in 0..ROUND_NUMBERS {
+        let capacity = round_at(index);
         if capacity >= scale.greatest as u128 {
             break;
         }
         let across = scale.across(capacity as usize);
-        if place % 3 == 0 {
+        if index % 3 == 0 {
             draw_line(text, "grid", across)?;
         } else if scale.decade() >= ROOMY {
             draw_line(text, "between", across)?;
         }
         // A digit and a letter are no wider than three digits.
         let as_wide = if short { 100 } else { capacity };
-        if room.has(place, as_wide, across) {
-            let small_too = little_room.has(place, as_wide, across);
+        if room.has(index, as_wide, across) {
+            let small_too = little_room.has(index, as_wide, across);
             draw_capacity(text, across, capacity, short, small_too)?;
         }
     }

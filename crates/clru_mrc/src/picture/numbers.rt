@@ -76,9 +76,9 @@ impl Room {
     }
 
     /// Whether a round number as wide as this one is written, the middle of it so far from the left edge.
-    pub(super) fn has(&self, place: usize, number: u128, across: u128) -> bool {
+    pub(super) fn has(&self, index: usize, number: u128, across: u128) -> bool {
         let half = breadth(number, self.letters) / 2;
-        place % self.every.max(1) == 0 && across.saturating_add(half) <= self.end
+        index % self.every.max(1) == 0 && across.saturating_add(half) <= self.end
     }
 }
 

@@ -3,7 +3,7 @@ ghost use Rattle.std.specs.Prelude.{◌≡◌, ◌⊎◌, ℕ, ◌<◌, ◌≤�
 ghost use Rattle.clru_list.specs.PlaceList.{IsApart};
 ghost use Rattle.clru_nodes.specs.Chained.{nowhere, IsCut, IsLinked, IsWalk};
 ghost use Rattle.clru_nodes.specs.Heads.{head_by, head_at, link_at, key_at, placed_of, steps_at, IsLive, IsPlace, IsChainedAs, IsChainedBut, HasHome};
-ghost use Rattle.clru_nodes.specs.Nodes.{hash_by, IsSame};
+ghost use Rattle.clru_nodes.specs.Nodes.{hash_of, IsSame};
 
 use crate::heads::NOWHERE;
 use crate::nodes::Nodes;
@@ -76,12 +76,11 @@ impl<K: Eq + Hash, V, S: BuildHasher, A: Allocator + Copy> Nodes<K, V, S, A> {
 
     /// Puts a place to the end of the chain of its key's head.
     pub(crate) fn append(&mut self, head: usize, place: usize)
-        requires home { let hash = hash_by S.Hasher.finish S.Hasher.write S.build_hasher K.hash_input in HasHome hash head place self.old }
+        requires home { HasHome (hash_of K.Hash S.BuildHasher S.Hasher.Hasher) head place self.old }
         requires ends { link_at self.old.list.entries place ≡ nowhere }
         requires named { place < self.old.heads.bound }
-        requires chained { let hash = hash_by S.Hasher.finish S.Hasher.write S.build_hasher K.hash_input in IsChainedBut hash place self.old }
-        ensures chained { let hash = hash_by S.Hasher.finish S.Hasher.write S.build_hasher K.hash_input in
-            IsChainedAs hash (key_at self.new.list.entries) self.new }
+        requires chained { IsChainedBut (hash_of K.Hash S.BuildHasher S.Hasher.Hasher) place self.old }
+        ensures chained { IsChainedAs (hash_of K.Hash S.BuildHasher S.Hasher.Hasher) (key_at self.new.list.entries) self.new }
         ensures pairs { placed_of self.new.list.entries ≡ placed_of self.old.list.entries }
         ensures same { IsSame self.old self.new }
     {
@@ -91,11 +90,10 @@ impl<K: Eq + Hash, V, S: BuildHasher, A: Allocator + Copy> Nodes<K, V, S, A> {
 
     /// Takes a place out of the chain of its key's head.
     pub(crate) fn unchain(&mut self, head: usize, place: usize)
-        requires home { let hash = hash_by S.Hasher.finish S.Hasher.write S.build_hasher K.hash_input in HasHome hash head place self.old }
-        requires chained { let hash = hash_by S.Hasher.finish S.Hasher.write S.build_hasher K.hash_input in
-            IsChainedAs hash (key_at self.old.list.entries) self.old }
+        requires home { HasHome (hash_of K.Hash S.BuildHasher S.Hasher.Hasher) head place self.old }
+        requires chained { IsChainedAs (hash_of K.Hash S.BuildHasher S.Hasher.Hasher) (key_at self.old.list.entries) self.old }
         requires named { self.old.list.places ≤ self.old.heads.bound }
-        ensures chained { let hash = hash_by S.Hasher.finish S.Hasher.write S.build_hasher K.hash_input in IsChainedBut hash place self.new }
+        ensures chained { IsChainedBut (hash_of K.Hash S.BuildHasher S.Hasher.Hasher) place self.new }
         ensures pairs { placed_of self.new.list.entries ≡ placed_of self.old.list.entries }
         ensures same { IsSame self.old self.new }
         ensures apart { IsApart self.new.list.entries }

@@ -1,6 +1,6 @@
 //! Taking all pairs out.
 ghost use Rattle.std.specs.Prelude.{◌≡◌, []};
-ghost use Rattle.clru_nodes.specs.Nodes.{hash_by, pairs_in, IsIndexed, IsSame};
+ghost use Rattle.clru_nodes.specs.Nodes.{hash_of, pairs_in, IsIndexed, IsSame};
 
 use crate::nodes::Nodes;
 use std::alloc::Allocator;
@@ -12,9 +12,9 @@ impl<K: Eq + Hash, V, S: BuildHasher, A: Allocator + Copy> Nodes<K, V, S, A> {
     where
         K: Drop,
         V: Drop,
-        requires { let hash = hash_by S.Hasher.finish S.Hasher.write S.build_hasher K.hash_input in IsIndexed hash self.old }
+        requires { IsIndexed (hash_of K.Hash S.BuildHasher S.Hasher.Hasher) self.old }
         ensures none { pairs_in self.new ≡ [] }
-        ensures indexed { let hash = hash_by S.Hasher.finish S.Hasher.write S.build_hasher K.hash_input in IsIndexed hash self.new }
+        ensures indexed { IsIndexed (hash_of K.Hash S.BuildHasher S.Hasher.Hasher) self.new }
         ensures same { IsSame self.old self.new }
     {
         self.list.clear();

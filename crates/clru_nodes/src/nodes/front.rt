@@ -6,7 +6,7 @@ ghost use Rattle.std.specs.Map.{keys_of, lookup};
 ghost use Rattle.std.specs.Map.Iter.{deref_pair};
 ghost use Rattle.std.specs.Option.{option_copied_mut, option_map};
 ghost use Rattle.clru_model.specs.Entries.{with_front};
-ghost use Rattle.clru_nodes.specs.Nodes.{hash_by, pairs_in, builder_of, first_item, last_item, IsIndexed, IsSame};
+ghost use Rattle.clru_nodes.specs.Nodes.{hash_of, pairs_in, builder_of, first_item, last_item, IsIndexed, IsSame};
 ghost use Rattle.clru_nodes.specs.NodesLends.{lends_front, lends_back, lends_value};
 
 use crate::nodes::{Item, Nodes};
@@ -62,8 +62,8 @@ impl<K: Eq + Hash, V, S: BuildHasher, A: Allocator + Copy> Nodes<K, V, S, A> {
 
     /// Returns the value of the key, whose hash is given, for writing. Its pair stays where it is.
     pub fn get_mut(&mut self, hash: u64, key: &K) -> Option<&mut V>
-        requires hash { hash ≡ hash_by S.Hasher.finish S.Hasher.write S.build_hasher K.hash_input (builder_of self.old) key.now }
-        requires indexed { let hash = hash_by S.Hasher.finish S.Hasher.write S.build_hasher K.hash_input in IsIndexed hash self.old }
+        requires hash { hash ≡ hash_of K.Hash S.BuildHasher S.Hasher.Hasher (builder_of self.old) key.now }
+        requires indexed { IsIndexed (hash_of K.Hash S.BuildHasher S.Hasher.Hasher) self.old }
         requires distinct { IsDistinct K.eq (keys_of (pairs_in self.old)) }
         ensures* lends { sem 𝓛 (lends_value K.row V.row S.row A.row S.Hasher.row A.Allocator self.entry (K.eq key.now) result) }
         ensures value { option_copied_mut result ≡ lookup (K.eq key.now) (pairs_in self.old) }
@@ -78,10 +78,10 @@ impl<K: Eq + Hash, V, S: BuildHasher, A: Allocator + Copy> Nodes<K, V, S, A> {
     /// Writes another value to the first pair, and returns the old one.
     pub fn set_front(&mut self, value: V) -> V
         requires some { 0 < length (pairs_in self.old) }
-        requires indexed { let hash = hash_by S.Hasher.finish S.Hasher.write S.build_hasher K.hash_input in IsIndexed hash self.old }
+        requires indexed { IsIndexed (hash_of K.Hash S.BuildHasher S.Hasher.Hasher) self.old }
         ensures value { Some result ≡ option_map (λ e. e.1) (slice_get (pairs_in self.old) 0) }
         ensures pairs { pairs_in self.new ≡ with_front value (pairs_in self.old) }
-        ensures indexed { let hash = hash_by S.Hasher.finish S.Hasher.write S.build_hasher K.hash_input in IsIndexed hash self.new }
+        ensures indexed { IsIndexed (hash_of K.Hash S.BuildHasher S.Hasher.Hasher) self.new }
         ensures same { IsSame self.old self.new }
     {
         match self.list.front_mut() {

@@ -5,7 +5,7 @@ ghost use Rattle.clru_nodes.specs.Chained.{nowhere};
 ghost use Rattle.clru_nodes.specs.Growth.{GrowsIf, IsRefused};
 ghost use Rattle.clru_nodes.specs.HeadList.{NamesGrown};
 ghost use Rattle.clru_nodes.specs.Heads.{head_at, key_at, placed_of, IsChainedAs, KeepsPlaces};
-ghost use Rattle.clru_nodes.specs.Nodes.{hash_by, pairs_in, capacity_of, places_of, IsIndexed, IsSame, KeepsPairs};
+ghost use Rattle.clru_nodes.specs.Nodes.{hash_of, pairs_in, capacity_of, places_of, IsIndexed, IsSame, KeepsPairs};
 
 use crate::heads::{Heads, NOWHERE};
 use crate::nodes::Nodes;
@@ -18,11 +18,11 @@ impl<K: Eq + Hash, V, S: BuildHasher, A: Allocator + Copy> Nodes<K, V, S, A> {
     /// heads have memory for it; where either is refused, pairs and places stay. Places are taken ahead, up to the capacity.
     pub fn make_ready_if(&mut self, wanted: bool) -> Result<(), NoMemory>
         requires below { IsTrue wanted → length (pairs_in self.old) < capacity_of self.old }
-        requires indexed { let hash = hash_by S.Hasher.finish S.Hasher.write S.build_hasher K.hash_input in IsIndexed hash self.old }
+        requires indexed { IsIndexed (hash_of K.Hash S.BuildHasher S.Hasher.Hasher) self.old }
         ensures ready { OnOk result (IsTrue wanted → length (pairs_in self.new) < places_of self.new) }
         ensures grows { GrowsIf wanted (length (pairs_in self.old)) (capacity_of self.old) (places_of self.old) (places_of self.new) }
         ensures refused { OnErr result (IsRefused wanted (length (pairs_in self.old)) (places_of self.old) (places_of self.new)) }
-        ensures indexed { let hash = hash_by S.Hasher.finish S.Hasher.write S.build_hasher K.hash_input in IsIndexed hash self.new }
+        ensures indexed { IsIndexed (hash_of K.Hash S.BuildHasher S.Hasher.Hasher) self.new }
         ensures keeps { KeepsPairs self.old self.new }
     {
         if !wanted || self.list.len() < self.places {
@@ -37,12 +37,12 @@ impl<K: Eq + Hash, V, S: BuildHasher, A: Allocator + Copy> Nodes<K, V, S, A> {
     fn grow(&mut self) -> Result<(), NoMemory>
         requires below { length (pairs_in self.old) < capacity_of self.old }
         requires taken { places_of self.old ≤ length (pairs_in self.old) }
-        requires indexed { let hash = hash_by S.Hasher.finish S.Hasher.write S.build_hasher K.hash_input in IsIndexed hash self.old }
+        requires indexed { IsIndexed (hash_of K.Hash S.BuildHasher S.Hasher.Hasher) self.old }
         ensures ready { OnOk result (length (pairs_in self.new) < places_of self.new) }
         ensures never_falls { places_of self.old ≤ places_of self.new }
         ensures bounded { places_of self.new ≤ capacity_of self.old }
         ensures refused { OnErr result (places_of self.new ≡ places_of self.old) }
-        ensures indexed { let hash = hash_by S.Hasher.finish S.Hasher.write S.build_hasher K.hash_input in IsIndexed hash self.new }
+        ensures indexed { IsIndexed (hash_of K.Hash S.BuildHasher S.Hasher.Hasher) self.new }
         ensures keeps { KeepsPairs self.old self.new }
     {
         self.widen()?;
@@ -56,9 +56,9 @@ impl<K: Eq + Hash, V, S: BuildHasher, A: Allocator + Copy> Nodes<K, V, S, A> {
 
     /// Finds memory for the heads of so many places, and chains the keys anew where the number of heads changes.
     fn make_heads(&mut self, places: usize) -> Result<(), NoMemory>
-        requires { let hash = hash_by S.Hasher.finish S.Hasher.write S.build_hasher K.hash_input in IsIndexed hash self.old }
+        requires { IsIndexed (hash_of K.Hash S.BuildHasher S.Hasher.Hasher) self.old }
         ensures headed { OnOk result (places ≤ length self.new.heads.items) }
-        ensures indexed { let hash = hash_by S.Hasher.finish S.Hasher.write S.build_hasher K.hash_input in IsIndexed hash self.new }
+        ensures indexed { IsIndexed (hash_of K.Hash S.BuildHasher S.Hasher.Hasher) self.new }
         ensures keeps { KeepsPlaces self.old self.new }
     {
         let Some(size) = heads_for(places) else {
@@ -73,9 +73,9 @@ impl<K: Eq + Hash, V, S: BuildHasher, A: Allocator + Copy> Nodes<K, V, S, A> {
 
     /// Has the heads name each place that the list may have after its next growth.
     fn widen(&mut self) -> Result<(), NoMemory>
-        requires { let hash = hash_by S.Hasher.finish S.Hasher.write S.build_hasher K.hash_input in IsIndexed hash self.old }
+        requires { IsIndexed (hash_of K.Hash S.BuildHasher S.Hasher.Hasher) self.old }
         ensures named { OnOk result (NamesGrown self.old.list.places self.new.heads.bound) }
-        ensures indexed { let hash = hash_by S.Hasher.finish S.Hasher.write S.build_hasher K.hash_input in IsIndexed hash self.new }
+        ensures indexed { IsIndexed (hash_of K.Hash S.BuildHasher S.Hasher.Hasher) self.new }
         ensures keeps { KeepsPlaces self.old self.new }
     {
         let reach = self.list.places().saturating_mul(4).max(4);
@@ -91,10 +91,10 @@ impl<K: Eq + Hash, V, S: BuildHasher, A: Allocator + Copy> Nodes<K, V, S, A> {
         requires some { 0 < size }
         requires named { self.old.list.places ≤ reach }
         requires more { length self.old.heads.items ≤ size }
-        requires indexed { let hash = hash_by S.Hasher.finish S.Hasher.write S.build_hasher K.hash_input in IsIndexed hash self.old }
+        requires indexed { IsIndexed (hash_of K.Hash S.BuildHasher S.Hasher.Hasher) self.old }
         ensures heads { OnOk result (length self.new.heads.items ≡ size) }
         ensures named { OnOk result (reach ≤ self.new.heads.bound) }
-        ensures indexed { let hash = hash_by S.Hasher.finish S.Hasher.write S.build_hasher K.hash_input in IsIndexed hash self.new }
+        ensures indexed { IsIndexed (hash_of K.Hash S.BuildHasher S.Hasher.Hasher) self.new }
         ensures keeps { KeepsPlaces self.old self.new }
     {
         self.heads = Heads::empty(*self.heads.allocator(), size, reach)?;
@@ -107,8 +107,7 @@ impl<K: Eq + Hash, V, S: BuildHasher, A: Allocator + Copy> Nodes<K, V, S, A> {
         requires free { (h : ℕ) → head_at self.old.heads.items h ≡ nowhere }
         requires some { 0 < length self.old.heads.items }
         requires named { self.old.list.places ≤ self.old.heads.bound }
-        ensures chained { let hash = hash_by S.Hasher.finish S.Hasher.write S.build_hasher K.hash_input in
-            IsChainedAs hash (key_at self.new.list.entries) self.new }
+        ensures chained { IsChainedAs (hash_of K.Hash S.BuildHasher S.Hasher.Hasher) (key_at self.new.list.entries) self.new }
         ensures pairs { placed_of self.new.list.entries ≡ placed_of self.old.list.entries }
         ensures same { IsSame self.old self.new }
     {

@@ -6,7 +6,7 @@ ghost use Rattle.clru_model.specs.Entries.{touch};
 ghost use Rattle.clru_model.specs.Entries as entries;
 ghost use Rattle.clru_list.specs.PlaceList.{without};
 ghost use Rattle.clru_nodes.specs.Heads.{placed_of, HasHome, IsLive, IsTaken};
-ghost use Rattle.clru_nodes.specs.Nodes.{hash_by, pairs_of, pairs_in, capacity_of, places_of, builder_of, IsIndexed, IsSame};
+ghost use Rattle.clru_nodes.specs.Nodes.{hash_of, pairs_of, pairs_in, capacity_of, places_of, builder_of, IsIndexed, IsSame};
 
 use crate::heads::NOWHERE;
 use crate::nodes::{Item, Nodes};
@@ -17,12 +17,12 @@ use std::mem;
 impl<K: Eq + Hash, V, S: BuildHasher, A: Allocator + Copy> Nodes<K, V, S, A> {
     /// Moves the pair with the key, whose hash is given, to the front, and answers whether there is one.
     pub fn touch(&mut self, hash: u64, key: &K) -> bool
-        requires hash { hash ≡ hash_by S.Hasher.finish S.Hasher.write S.build_hasher K.hash_input (builder_of self.old) key.now }
-        requires indexed { let hash = hash_by S.Hasher.finish S.Hasher.write S.build_hasher K.hash_input in IsIndexed hash self.old }
+        requires hash { hash ≡ hash_of K.Hash S.BuildHasher S.Hasher.Hasher (builder_of self.old) key.now }
+        requires indexed { IsIndexed (hash_of K.Hash S.BuildHasher S.Hasher.Hasher) self.old }
         requires distinct { IsDistinct K.eq (keys_of (pairs_in self.old)) }
         ensures held { result ≡ is_some (lookup (K.eq key.now) (pairs_in self.old)) }
         ensures pairs { pairs_in self.new ≡ touch K.eq key.now (pairs_in self.old) }
-        ensures indexed { let hash = hash_by S.Hasher.finish S.Hasher.write S.build_hasher K.hash_input in IsIndexed hash self.new }
+        ensures indexed { IsIndexed (hash_of K.Hash S.BuildHasher S.Hasher.Hasher) self.new }
         ensures same { IsSame self.old self.new }
     {
         let Some(place) = self.find(hash, key) else {
@@ -36,12 +36,12 @@ impl<K: Eq + Hash, V, S: BuildHasher, A: Allocator + Copy> Nodes<K, V, S, A> {
 
     /// Takes out the pair with the key, whose hash is given.
     pub fn take(&mut self, hash: u64, key: &K) -> Option<(K, V)>
-        requires hash { hash ≡ hash_by S.Hasher.finish S.Hasher.write S.build_hasher K.hash_input (builder_of self.old) key.now }
-        requires indexed { let hash = hash_by S.Hasher.finish S.Hasher.write S.build_hasher K.hash_input in IsIndexed hash self.old }
+        requires hash { hash ≡ hash_of K.Hash S.BuildHasher S.Hasher.Hasher (builder_of self.old) key.now }
+        requires indexed { IsIndexed (hash_of K.Hash S.BuildHasher S.Hasher.Hasher) self.old }
         requires distinct { IsDistinct K.eq (keys_of (pairs_in self.old)) }
         ensures pair { result ≡ lookup_entry (K.eq key.now) (pairs_in self.old) }
         ensures pairs { pairs_in self.new ≡ entries.without K.eq key.now (pairs_in self.old) }
-        ensures indexed { let hash = hash_by S.Hasher.finish S.Hasher.write S.build_hasher K.hash_input in IsIndexed hash self.new }
+        ensures indexed { IsIndexed (hash_of K.Hash S.BuildHasher S.Hasher.Hasher) self.new }
         ensures same { IsSame self.old self.new }
     {
         let place = self.find(hash, key)?;
@@ -51,10 +51,10 @@ impl<K: Eq + Hash, V, S: BuildHasher, A: Allocator + Copy> Nodes<K, V, S, A> {
 
     /// Takes out the first pair.
     pub fn pop_front(&mut self) -> Option<(K, V)>
-        requires { let hash = hash_by S.Hasher.finish S.Hasher.write S.build_hasher K.hash_input in IsIndexed hash self.old }
+        requires { IsIndexed (hash_of K.Hash S.BuildHasher S.Hasher.Hasher) self.old }
         ensures pair { result ≡ slice_get (pairs_in self.old) 0 }
         ensures pairs { pairs_in self.new ≡ drop 1 (pairs_in self.old) }
-        ensures indexed { let hash = hash_by S.Hasher.finish S.Hasher.write S.build_hasher K.hash_input in IsIndexed hash self.new }
+        ensures indexed { IsIndexed (hash_of K.Hash S.BuildHasher S.Hasher.Hasher) self.new }
         ensures same { IsSame self.old self.new }
     {
         let place = self.list.front_idx()?;
@@ -64,10 +64,10 @@ impl<K: Eq + Hash, V, S: BuildHasher, A: Allocator + Copy> Nodes<K, V, S, A> {
 
     /// Takes out the last pair.
     pub fn pop_back(&mut self) -> Option<(K, V)>
-        requires { let hash = hash_by S.Hasher.finish S.Hasher.write S.build_hasher K.hash_input in IsIndexed hash self.old }
+        requires { IsIndexed (hash_of K.Hash S.BuildHasher S.Hasher.Hasher) self.old }
         ensures pair { result ≡ slice_get (pairs_in self.old) (length (pairs_in self.old) - 1) }
         ensures pairs { let old = pairs_in self.old in pairs_in self.new ≡ take (length old - 1) old }
-        ensures indexed { let hash = hash_by S.Hasher.finish S.Hasher.write S.build_hasher K.hash_input in IsIndexed hash self.new }
+        ensures indexed { IsIndexed (hash_of K.Hash S.BuildHasher S.Hasher.Hasher) self.new }
         ensures same { IsSame self.old self.new }
     {
         let place = self.list.back_idx()?;
@@ -77,12 +77,12 @@ impl<K: Eq + Hash, V, S: BuildHasher, A: Allocator + Copy> Nodes<K, V, S, A> {
 
     /// Puts a pair with a new key, whose hash is given, to the front, where a place is ready.
     pub fn push_front(&mut self, hash: u64, key: K, value: V)
-        requires hash { hash ≡ hash_by S.Hasher.finish S.Hasher.write S.build_hasher K.hash_input (builder_of self.old) key }
-        requires indexed { let hash = hash_by S.Hasher.finish S.Hasher.write S.build_hasher K.hash_input in IsIndexed hash self.old }
+        requires hash { hash ≡ hash_of K.Hash S.BuildHasher S.Hasher.Hasher (builder_of self.old) key }
+        requires indexed { IsIndexed (hash_of K.Hash S.BuildHasher S.Hasher.Hasher) self.old }
         requires ready { length (pairs_in self.old) < places_of self.old }
         requires room { length (pairs_in self.old) < capacity_of self.old }
         ensures pairs { pairs_in self.new ≡ (key, value) ∷ pairs_in self.old }
-        ensures indexed { let hash = hash_by S.Hasher.finish S.Hasher.write S.build_hasher K.hash_input in IsIndexed hash self.new }
+        ensures indexed { IsIndexed (hash_of K.Hash S.BuildHasher S.Hasher.Hasher) self.new }
         ensures same { IsSame self.old self.new }
     {
         let item = Item {
@@ -98,12 +98,12 @@ impl<K: Eq + Hash, V, S: BuildHasher, A: Allocator + Copy> Nodes<K, V, S, A> {
 
     /// Puts a pair with a new key, whose hash is given, to the front, in the place of the last pair, which comes out.
     pub fn replace_back(&mut self, hash: u64, key: K, value: V) -> (K, V)
-        requires hash { hash ≡ hash_by S.Hasher.finish S.Hasher.write S.build_hasher K.hash_input (builder_of self.old) key }
-        requires indexed { let hash = hash_by S.Hasher.finish S.Hasher.write S.build_hasher K.hash_input in IsIndexed hash self.old }
+        requires hash { hash ≡ hash_of K.Hash S.BuildHasher S.Hasher.Hasher (builder_of self.old) key }
+        requires indexed { IsIndexed (hash_of K.Hash S.BuildHasher S.Hasher.Hasher) self.old }
         requires some { 0 < length (pairs_in self.old) }
         ensures pair { Some result ≡ slice_get (pairs_in self.old) (length (pairs_in self.old) - 1) }
         ensures pairs { let old = pairs_in self.old in pairs_in self.new ≡ (key, value) ∷ take (length old - 1) old }
-        ensures indexed { let hash = hash_by S.Hasher.finish S.Hasher.write S.build_hasher K.hash_input in IsIndexed hash self.new }
+        ensures indexed { IsIndexed (hash_of K.Hash S.BuildHasher S.Hasher.Hasher) self.new }
         ensures same { IsSame self.old self.new }
     {
         let Some(place) = self.list.back_idx() else {
@@ -130,12 +130,12 @@ impl<K: Eq + Hash, V, S: BuildHasher, A: Allocator + Copy> Nodes<K, V, S, A> {
     where
         K: Drop,
         V: Drop,
-        requires hash { hash ≡ hash_by S.Hasher.finish S.Hasher.write S.build_hasher K.hash_input (builder_of self.old) key }
-        requires indexed { let hash = hash_by S.Hasher.finish S.Hasher.write S.build_hasher K.hash_input in IsIndexed hash self.old }
+        requires hash { hash ≡ hash_of K.Hash S.BuildHasher S.Hasher.Hasher (builder_of self.old) key }
+        requires indexed { IsIndexed (hash_of K.Hash S.BuildHasher S.Hasher.Hasher) self.old }
         requires ready { length (pairs_in self.old) < capacity_of self.old → length (pairs_in self.old) < places_of self.old }
         requires some { 0 < capacity_of self.old }
         ensures pairs { pairs_in self.new ≡ (key, value) ∷ take (capacity_of self.old - 1) (pairs_in self.old) }
-        ensures indexed { let hash = hash_by S.Hasher.finish S.Hasher.write S.build_hasher K.hash_input in IsIndexed hash self.new }
+        ensures indexed { IsIndexed (hash_of K.Hash S.BuildHasher S.Hasher.Hasher) self.new }
         ensures same { IsSame self.old self.new }
     {
         if self.list.is_full() {
@@ -149,7 +149,7 @@ impl<K: Eq + Hash, V, S: BuildHasher, A: Allocator + Copy> Nodes<K, V, S, A> {
     pub(crate) fn home(&self, place: usize) -> usize
         requires place { IsLive self.now.list.entries place }
         requires headed { length self.now.list.entries ≤ length self.now.heads.items }
-        ensures { let hash = hash_by S.Hasher.finish S.Hasher.write S.build_hasher K.hash_input in HasHome hash result place self.now }
+        ensures { HasHome (hash_of K.Hash S.BuildHasher S.Hasher.Hasher) result place self.now }
     {
         match self.list.get(place) {
             Some(item) => self.head_of(self.hash(&item.key)),
@@ -159,12 +159,12 @@ impl<K: Eq + Hash, V, S: BuildHasher, A: Allocator + Copy> Nodes<K, V, S, A> {
 
     /// Takes out the pair at a place, where the head of its key is given.
     pub(crate) fn remove(&mut self, head: usize, place: usize) -> (K, V)
-        requires home { let hash = hash_by S.Hasher.finish S.Hasher.write S.build_hasher K.hash_input in HasHome hash head place self.old }
-        requires indexed { let hash = hash_by S.Hasher.finish S.Hasher.write S.build_hasher K.hash_input in IsIndexed hash self.old }
+        requires home { HasHome (hash_of K.Hash S.BuildHasher S.Hasher.Hasher) head place self.old }
+        requires indexed { IsIndexed (hash_of K.Hash S.BuildHasher S.Hasher.Hasher) self.old }
         ensures pair { IsTaken result place self.old.list.entries }
         ensures pairs { pairs_of self.new.list.entries ≡ pairs_of (without place self.old.list.entries) }
         ensures placed { placed_of self.new.list.entries ≡ without place (placed_of self.old.list.entries) }
-        ensures indexed { let hash = hash_by S.Hasher.finish S.Hasher.write S.build_hasher K.hash_input in IsIndexed hash self.new }
+        ensures indexed { IsIndexed (hash_of K.Hash S.BuildHasher S.Hasher.Hasher) self.new }
         ensures same { IsSame self.old self.new }
     {
         self.unchain(head, place);

@@ -4,7 +4,7 @@ ghost use Rattle.std.specs.Map.Calls.{CalledAtPair, CallableOnEachPair, RetainsP
 ghost use Rattle.clru_model.specs.Entries.{weight_of};
 ghost use Rattle.clru_list.specs.PlaceList.{without};
 ghost use Rattle.clru_nodes.specs.Heads.{placed_of, IsLive, IsTaken};
-ghost use Rattle.clru_nodes.specs.Nodes.{hash_by, pairs_in, IsIndexed, IsSame};
+ghost use Rattle.clru_nodes.specs.Nodes.{hash_of, pairs_in, IsIndexed, IsSame};
 ghost use Rattle.clru_nodes.specs.Retains.{CalledAtShownPair, TakesShownPair};
 
 use crate::nodes::Nodes;
@@ -20,9 +20,9 @@ impl<K: Eq + Hash, V, S: BuildHasher, A: Allocator + Copy> Nodes<K, V, S, A> {
         K: Drop,
         V: Drop,
         requires callable { CallableOnEachPair (CalledAtPair F.FnMut) (TakesPair F.FnMut) keep (pairs_in self.old) }
-        requires indexed { let hash = hash_by S.Hasher.finish S.Hasher.write S.build_hasher K.hash_input in IsIndexed hash self.old }
+        requires indexed { IsIndexed (hash_of K.Hash S.BuildHasher S.Hasher.Hasher) self.old }
         ensures kept { RetainsPairs (CalledAtPair F.FnMut) keep (pairs_in self.old) (pairs_in self.new) }
-        ensures indexed { let hash = hash_by S.Hasher.finish S.Hasher.write S.build_hasher K.hash_input in IsIndexed hash self.new }
+        ensures indexed { IsIndexed (hash_of K.Hash S.BuildHasher S.Hasher.Hasher) self.new }
         ensures same { IsSame self.old self.new }
     {
         let mut next = self.list.front_idx();
@@ -52,10 +52,10 @@ impl<K: Eq + Hash, V, S: BuildHasher, A: Allocator + Copy> Nodes<K, V, S, A> {
         V: Drop,
         requires callable { CallableOnEachPair (CalledAtShownPair F.FnMut) (TakesShownPair F.FnMut) keep (pairs_in self.old) }
         requires weighs { total_weight.old ≡ weight_of (W.weight scale.now) (pairs_in self.old) }
-        requires indexed { let hash = hash_by S.Hasher.finish S.Hasher.write S.build_hasher K.hash_input in IsIndexed hash self.old }
+        requires indexed { IsIndexed (hash_of K.Hash S.BuildHasher S.Hasher.Hasher) self.old }
         ensures kept { RetainsPairs (CalledAtShownPair F.FnMut) keep (pairs_in self.old) (pairs_in self.new) }
         ensures weighs { total_weight.new ≡ weight_of (W.weight scale.now) (pairs_in self.new) }
-        ensures indexed { let hash = hash_by S.Hasher.finish S.Hasher.write S.build_hasher K.hash_input in IsIndexed hash self.new }
+        ensures indexed { IsIndexed (hash_of K.Hash S.BuildHasher S.Hasher.Hasher) self.new }
         ensures same { IsSame self.old self.new }
     {
         let mut at = self.list.front_idx();
@@ -76,10 +76,10 @@ impl<K: Eq + Hash, V, S: BuildHasher, A: Allocator + Copy> Nodes<K, V, S, A> {
     /// Takes out the pair at a place.
     fn take_at(&mut self, place: usize) -> (K, V)
         requires place { IsLive self.old.list.entries place }
-        requires indexed { let hash = hash_by S.Hasher.finish S.Hasher.write S.build_hasher K.hash_input in IsIndexed hash self.old }
+        requires indexed { IsIndexed (hash_of K.Hash S.BuildHasher S.Hasher.Hasher) self.old }
         ensures pair { IsTaken result place self.old.list.entries }
         ensures placed { placed_of self.new.list.entries ≡ without place (placed_of self.old.list.entries) }
-        ensures indexed { let hash = hash_by S.Hasher.finish S.Hasher.write S.build_hasher K.hash_input in IsIndexed hash self.new }
+        ensures indexed { IsIndexed (hash_of K.Hash S.BuildHasher S.Hasher.Hasher) self.new }
         ensures same { IsSame self.old self.new }
     {
         let head = self.home(place);

@@ -1,6 +1,6 @@
 //! A put of a value that the caller has already.
 ghost use Rattle.std.specs.Prelude.{◌≡◌, Some, IfErr, OnOk};
-ghost use Rattle.clru_through.specs.Steps.{IsPassed, IsPut};
+ghost use Rattle.clru_through.specs.Steps.{IsPassed, IsStored};
 ghost use Rattle.clru_through.specs.Store.{AllFrom};
 
 use crate::answer::Loaded;
@@ -31,7 +31,7 @@ impl<
         V: Drop,
         requires sourced { R.value self.old.source key ≡ Some value }
         ensures held { OnOk result
-            (IsPut K.eq (W.weight self.old.cache.scale) self.old.cache key value self.new.cache) }
+            (IsStored K.eq (W.weight self.old.cache.scale) self.old.cache key value self.new.cache) }
         ensures refused { IfErr result (λ back.
             IsPassed K.eq (W.weight self.old.cache.scale) self.old.cache key value back self.new.cache) }
         ensures source { self.new.source ≡ self.old.source }

@@ -4,16 +4,16 @@ use Rattle.std.proofs.lemmas.List.{take_all}
 use Rattle.std.proofs.lemmas.Slice.Zip.{length-zip, get_or-zip}
 use Rattle.clru_c.proofs.sized.objects_of.Goals as goal
 
-pub loop-place-preserved : goal.loop-place-preserved
-loop-place-preserved g c =
+pub loop-index-preserved : goal.loop-index-preserved
+loop-index-preserved g c =
     let keys = c.args.keys.now in
     let sizes = c.args.sizes.now in
-    let i = c.loop-place.place in
-    let in_keys : i < length keys = c.loop-place-test.true in
+    let i = c.loop-index.index in
+    let in_keys : i < length keys = c.loop-index-test.true in
     let in_sizes : i < length sizes = omega (arith, in_keys, c.requires.equally_long) in
     let inside : i < length (zip keys sizes) = omega (arith, length-zip keys sizes, in_keys, in_sizes) in
     let next : i + 1 ≡ suc i = omega arith in
-    rw next (c.in_ok-push.ensures.items ∙ ap (λ xs. xs ++ (get_or keys i 0, get_or sizes i 0) ∷ []) c.loop-place.invariant
+    rw next (c.in_ok-push.ensures.items ∙ ap (λ xs. xs ++ (get_or keys i 0, get_or sizes i 0) ∷ []) c.loop-index.invariant
     ∙ ap (λ p. take i (zip keys sizes) ++ p ∷ []) (sym (get_or-zip keys sizes i (0, 0) in_keys in_sizes))
     ∙ sym (take-suc (zip keys sizes) i (0, 0) inside))
 
@@ -21,5 +21,5 @@ pub returns : goal.returns
 returns g c =
     let keys = c.args.keys.now in
     let sizes = c.args.sizes.now in
-    c.loop-place.invariant ∙ take_all c.loop-place.place (zip keys sizes)
-    (omega (arith, length-zip keys sizes, c.loop-place-test.false))
+    c.loop-index.invariant ∙ take_all c.loop-index.index (zip keys sizes)
+    (omega (arith, length-zip keys sizes, c.loop-index-test.false))

@@ -13,7 +13,7 @@ overflow_add-nodes c =
       low,
       is,
       up_by-le c.args.amount at at (omega arith),
-      up_by-le c.args.amount at c.args.place (omega arith),
+      up_by-le c.args.amount at c.args.position (omega arith),
       up_by-gt c.args.amount (node_after at) at (node_after-greater at (omega arith)),
     )
 
@@ -24,7 +24,7 @@ loop-node-preserved c =
       inside = omega (arith, node_before-less at c.loop-node-test.true);
       none = λ f is j far. c.loop-node.invariant.none f is j (omega (arith, far, len));
       node = λ f is j some within.
-          adds_step c.args.amount f c.loop-node.nodes at j (omega arith) c.loop-node-test.true some c.args.place
+          adds_step c.args.amount f c.loop-node.nodes at j (omega arith) c.loop-node-test.true some c.args.position
           (c.loop-node.invariant.node f is j some (omega (arith, within, len)));
     }
 
@@ -35,8 +35,8 @@ returns-clause-counted c f is =
       node = λ j some within.
           let whole = c.loop-node.invariant.node f is j some within in
           let low = node_after-greater j some in
-          let e : get_or c.loop-node.nodes j 0 + (f (node_after j) + up_by c.args.amount (node_after j) c.args.place) ≡ f j + up_by c.args.amount j c.args.place
+          let e : get_or c.loop-node.nodes j 0 + (f (node_after j) + up_by c.args.amount (node_after j) c.args.position) ≡ f j + up_by c.args.amount j c.args.position
           = omega (arith, whole, up_by-gt c.args.amount j at (omega arith), up_by-gt c.args.amount (node_after j) at (omega arith)) in e;
       none = λ j far. let less = c.loop-node.invariant.none f is j far in
-          omega (arith, less, up_by-gt c.args.amount j c.args.place (omega (arith, far, c.requires.inside, c.loop-node.auto.nodes)));
+          omega (arith, less, up_by-gt c.args.amount j c.args.position (omega (arith, far, c.requires.inside, c.loop-node.auto.nodes)));
     }

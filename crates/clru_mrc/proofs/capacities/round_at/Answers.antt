@@ -6,7 +6,7 @@ use Rattle.clru_mrc.proofs.capacities.round_at.Goals.{in-0, in-1, in_default}
 
 pub returns-clause-positive : goal.returns-clause-positive
 returns-clause-positive c =
-    let digit : 0 < c.match-place-rem3.digit = elim c.match-place-rem3.branch [
+    let digit : 0 < c.match-index-rem3.digit = elim c.match-index-rem3.branch [
       | in-0 w ↦ omega (arith, w.digit-is)
       | in-1 w ↦ omega (arith, w.digit-is)
       | in_default w ↦ omega (arith, w.digit-is)

@@ -4,6 +4,6 @@ use Rattle.std.specs.List.{filter, range_with_len}
 use Rattle.clru_mrc.specs.Capacities.{round_number}
 use Rattle.clru_mrc.proofs.capacities.usual_capacities.Given as goal
 
-abbrev pub invariant-loop-place : goal.invariant-loop-place
-invariant-loop-place g l =
-    map non_zero_usize_get l.chosen.items ≡ filter (λ c. nat_lt c l.distinct) (map round_number (range_with_len 0 l.place))
+abbrev pub invariant-loop-index : goal.invariant-loop-index
+invariant-loop-index g l =
+    map non_zero_usize_get l.chosen.items ≡ filter (λ c. nat_lt c l.distinct) (map round_number (range_with_len 0 l.index))

@@ -7,14 +7,14 @@ use Rattle.clru_least.specs.Queue.{queue_of}
 use Rattle.clru_least.proofs.Held.{IsOnTheWay}
 use Rattle.clru_least.proofs.foresight.Foresight.least.Given as goal
 
-abbrev pub invariant-loop-place : goal.invariant-loop-place
-invariant-loop-place g l = record {
-  way : IsOnTheWay g.K.PartialEq.eq (non_zero_usize_get l.room) l.place l.self l.kept.items (queue_of l.count l.done (heap_items l.ahead)) l.held
+abbrev pub invariant-loop-position : goal.invariant-loop-position
+invariant-loop-position g l = record {
+  way : IsOnTheWay g.K.PartialEq.eq (non_zero_usize_get l.room) l.position l.self l.kept.items (queue_of l.count l.done (heap_items l.ahead)) l.held
       l.misses;
   ordered : IsHeap nat_cmp (heap_items l.ahead);
   inside : All (λ p. p ≤ l.count) (heap_items l.ahead);
   marks : length l.kept.items ≡ l.count;
   end : l.count ≡ length l.self;
-  few : l.misses ≤ l.place;
-  few_done : l.done ≤ l.place;
+  few : l.misses ≤ l.position;
+  few_done : l.done ≤ l.position;
 }

@@ -7,21 +7,21 @@ use Rattle.clru_curve.proofs.sized.pass.SizedPass.request.Goals as goal
 pub invariant_of-self-in-Some-1 : goal.invariant_of-self-in-Some-1
 invariant_of-self-in-Some-1 g c =
     let eq = g.K.PartialEq.eq in let laws = g.met.K.Eq.laws in let s = c.self.inside in let inv = c.self.invariant in
-    let ss = s.latest.sizes.items in let p = c.in-Some.place in let e = c.make_ready.ensures in
+    let ss = s.latest.sizes.items in let p = c.in-Some.position in let e = c.make_ready.ensures in
     let moved = c.in-Some.ensures.moved refl in
     let number : c.len-number.result ≡ length ss = omega (arith, c.len-number.ensures, c.make_ready.new.self.sizes.ok.0, ap (λ l. length l) e.sizes) in
     let grown = c.push.ensures.sizes ∙ ap (λ l. l ++ (c.args.weight + 1) ∷ []) e.sizes in
     let cleared = c.clear.ensures.sizes ∙ ap (λ l. set l p 0) grown in
     rw (moved, cleared, c.push_reserved.ensures.items, c.reserve.ensures.items, number)
-    (IsSoundBySize-again eq laws s.places.entries ss s.hits.items s.size s.greatest c.args.key s.places.capacity s.latest.nodes.items inv
+    (IsSoundBySize-again eq laws s.positions.entries ss s.hits.items s.size s.greatest c.args.key s.positions.capacity s.latest.nodes.items inv
     c.args.weight c.greater-greatest.result (omega (arith, c.if-weight-self.false, inv.fits)) c.clear.new.self.nodes.items
-    s.places.capacity p c.total_from-span.result refl (sym c.in-Some.ensures.found)
+    s.positions.capacity p c.total_from-span.result refl (sym c.in-Some.ensures.found)
     (subst (λ l. IsSummed l c.clear.new.self.nodes.items) cleared c.clear.ensures.kept))
 
 pub returns-in-Some-clause-taken : goal.returns-in-Some-clause-taken
 returns-in-Some-clause-taken g c w past same before weighs =
     let eq = g.K.PartialEq.eq in let laws = g.met.K.Eq.laws in let s = c.self.inside in
-    let ss = s.latest.sizes.items in let p = c.in-Some.place in let e = c.make_ready.ensures in
+    let ss = s.latest.sizes.items in let p = c.in-Some.position in let e = c.make_ready.ensures in
     let is = subst (λ v. IsSizedPass eq w past v) (sym c.self.view_is) before in
     let moved = c.in-Some.ensures.moved refl in
     let number : c.len-number.result ≡ length ss = omega (arith, c.len-number.ensures, c.make_ready.new.self.sizes.ok.0, ap (λ l. length l) e.sizes) in
@@ -29,7 +29,7 @@ returns-in-Some-clause-taken g c w past same before weighs =
     let cleared = c.clear.ensures.sizes ∙ ap (λ l. set l p 0) grown in
     let span = c.total_from-span.ensures ∙ ap (λ l. sizes_from l p) e.sizes in
     rw (moved, cleared, c.push_reserved.ensures.items, c.reserve.ensures.items, number, span)
-    (IsSizedPass-again eq laws s.places.entries ss s.hits.items s.size s.greatest c.args.key w past is same c.args.weight weighs
+    (IsSizedPass-again eq laws s.positions.entries ss s.hits.items s.size s.greatest c.args.key w past is same c.args.weight weighs
     c.greater-greatest.result c.greater-greatest.ensures p (sym c.in-Some.ensures.found))
 
 pub invariant_of-self-in-None : goal.invariant_of-self-in-None
@@ -40,9 +40,9 @@ invariant_of-self-in-None g c =
     let number : c.len-number.result ≡ length ss = omega (arith, c.len-number.ensures, c.make_ready.new.self.sizes.ok.0, ap (λ l. length l) e.sizes) in
     let grown = c.push-in-None.ensures.sizes ∙ ap (λ l. l ++ (c.args.weight + 1) ∷ []) e.sizes in
     rw (c.in_default-put.ensures.entries, c.put.ensures.places.capacity, same, grown, c.reserve.ensures.items, number)
-    (IsSoundBySize-new eq laws s.places.entries ss s.hits.items s.size s.greatest c.args.key s.places.capacity s.latest.nodes.items inv
+    (IsSoundBySize-new eq laws s.positions.entries ss s.hits.items s.size s.greatest c.args.key s.positions.capacity s.latest.nodes.items inv
     c.args.weight c.greater-greatest.result (omega (arith, c.if-weight-self.false, inv.fits)) c.push-in-None.new.self.nodes.items
-    s.places.capacity refl (sym c.in-None.ensures.found)
+    s.positions.capacity refl (sym c.in-None.ensures.found)
     (subst (λ l. IsSummed l c.push-in-None.new.self.nodes.items) grown c.push-in-None.ensures.kept))
 
 pub returns-in_default-put-clause-taken : goal.returns-in_default-put-clause-taken
@@ -53,7 +53,7 @@ returns-in_default-put-clause-taken g c w past same_weights before weighs =
     let same = c.in-None.ensures.same refl in
     let number : c.len-number.result ≡ length ss = omega (arith, c.len-number.ensures, c.make_ready.new.self.sizes.ok.0, ap (λ l. length l) e.sizes) in
     let grown = c.push-in-None.ensures.sizes ∙ ap (λ l. l ++ (c.args.weight + 1) ∷ []) e.sizes in
-    let room : length ss < s.places.capacity = omega (arith, inv.greatest_room, inv.many, c.if-weight-self.false, inv.fits) in
+    let room : length ss < s.positions.capacity = omega (arith, inv.greatest_room, inv.many, c.if-weight-self.false, inv.fits) in
     rw (c.in_default-put.ensures.entries, same, grown, c.reserve.ensures.items, number)
-    (IsSizedPass-new eq laws s.places.entries ss s.hits.items s.size s.greatest c.args.key w past is same_weights c.args.weight weighs
-    c.greater-greatest.result c.greater-greatest.ensures s.places.capacity (sym c.in-None.ensures.found) room)
+    (IsSizedPass-new eq laws s.positions.entries ss s.hits.items s.size s.greatest c.args.key w past is same_weights c.args.weight weighs
+    c.greater-greatest.result c.greater-greatest.ensures s.positions.capacity (sym c.in-None.ensures.found) room)

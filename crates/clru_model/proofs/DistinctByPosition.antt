@@ -1,4 +1,4 @@
--- The computed numbers of distinct keys and of misses are counts of places.
+-- The computed numbers of distinct keys and of misses are counts of positions.
 use Rattle.std.proofs.Common.{◌≡◌, ℕ, zero, suc, ◌+◌, ◌<◌, Bool, true, false, cond, not, ◌⊎◌, List, [], ◌∷◌, ◌++◌, length, reverse}
 use Rattle.std.proofs.Common.{Some, inl, inr, refl, sym, ap, ◌∙◌, subst, arith, add-one, add-zero}
 use Rattle.std.proofs.lemmas.List.{reverse-append, reverse-reverse}
@@ -8,13 +8,13 @@ use Rattle.clru_model.proofs.Cases.{split}
 use Rattle.clru_model.specs.Requests.{holds, distinct}
 use Rattle.clru_model.specs.Schedule.{schedule_marks, schedule_misses}
 use Rattle.clru_model.proofs.Marks.{count_by-not-push}
-use Rattle.clru_model.specs.ByPlace.{IsCountOf, IsFirstAt, IsScheduleMissAt}
+use Rattle.clru_model.specs.ByPosition.{IsCountOf, IsFirstAt, IsScheduleMissAt}
 use Rattle.clru_model.proofs.Counting.{count_none, count_same, count_next}
-use Rattle.clru_model.proofs.Places.{slice_get-append_left, slice_get_middle, LacksKey_from_holds, holds_from_LacksKey, holds-reverse}
-use Rattle.clru_model.proofs.SchedulesByPlace.{schedule_misses_by_place}
+use Rattle.clru_model.proofs.Positions.{slice_get-append_left, slice_get_middle, LacksKey_from_holds, holds_from_LacksKey, holds-reverse}
+use Rattle.clru_model.proofs.SchedulesByPosition.{schedule_misses_by_position}
 
 module _ {X : Type 0} where
-  -- what stands at a place of a list with one more element at its end
+  -- what stands at a position of a list with one more element at its end
   slice_get_push : (xs : List X) (x y : X) (p : ℕ) → slice_get (xs ++ x ∷ []) p ≡ Some y
       → (slice_get xs p ≡ Some y) ⊎ ((p ≡ length xs) × (x ≡ y))
   slice_get_push [] x y zero h = inr (refl, same_Some _ _ h)
@@ -49,15 +49,15 @@ false_marks_of (m ∷ ms) =
           | inr last ↦ inr last.0
         ]))
 
--- the false marks of a list are as many as their places
-pub false_marks_by_place : (ms : List Bool) → IsCountOf (λ i. slice_get ms i ≡ Some false) (count_by not ms)
-false_marks_by_place ms = subst (λ l. IsCountOf (λ i. slice_get l i ≡ Some false) (count_by not l)) (reverse-reverse ms) (false_marks_of (reverse ms))
+-- the false marks of a list are as many as their positions
+pub false_marks_by_position : (ms : List Bool) → IsCountOf (λ i. slice_get ms i ≡ Some false) (count_by not ms)
+false_marks_by_position ms = subst (λ l. IsCountOf (λ i. slice_get l i ≡ Some false) (count_by not l)) (reverse-reverse ms) (false_marks_of (reverse ms))
 
 module _ {K : Type 0} (eq : K → K → Bool) where
   -- a schedule's misses are as many as the requests that it misses
   pub schedule_misses_counted : (held : List (List K)) (rs : List K) → IsCountOf (IsScheduleMissAt eq held rs) (schedule_misses eq held rs)
-  schedule_misses_counted held rs = count_same (false_marks_by_place (schedule_marks eq held rs))
-      (λ i. (schedule_misses_by_place eq held rs i).0) (λ i. (schedule_misses_by_place eq held rs i).1)
+  schedule_misses_counted held rs = count_same (false_marks_by_position (schedule_marks eq held rs))
+      (λ i. (schedule_misses_by_position eq held rs i).0) (λ i. (schedule_misses_by_position eq held rs i).1)
 
 module _ {K : Type 0} (eq : K → K → Bool) where
   -- a key that stands first still does with one more at the end
@@ -121,6 +121,6 @@ module _ {K : Type 0} (eq : K → K → Bool) where
       (λ f. let new : holds eq x older ≡ false = sym (holds-reverse eq x older) ∙ f in rw new refl))
 
   -- the distinct keys are those that stand somewhere first
-  pub distinct_by_place : (ks : List K) → IsCountOf (IsFirstAt eq ks) (distinct eq (reverse ks))
-  distinct_by_place ks =
+  pub distinct_by_position : (ks : List K) → IsCountOf (IsFirstAt eq ks) (distinct eq (reverse ks))
+  distinct_by_position ks =
       subst (λ l. IsCountOf (IsFirstAt eq l) (distinct eq (reverse ks))) (reverse-reverse ks) (distinct_of_past (reverse ks))

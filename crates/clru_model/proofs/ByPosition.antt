@@ -1,4 +1,4 @@
--- The computed hits are the hits by places.
+-- The computed hits are the hits by positions.
 use Rattle.std.proofs.Common.{◌≡◌, ℕ, zero, suc, ◌+◌, ◌-◌, ◌<◌, Bool, true, false, ◌↔◌, ◌||◌, List, [], ◌∷◌}
 use Rattle.std.proofs.Common.{◌++◌, length, reverse, refl, sym, ap, ◌∙◌, subst₂, arith, append_assoc, append-nil, Some, ltb, ltb-true, lt-ltb, length-append}
 use Rattle.std.proofs.lemmas.List.{reverse-append, reverse-reverse}
@@ -10,11 +10,11 @@ use Rattle.clru_model.proofs.Cases.{split}
 use Rattle.clru_model.specs.Requests.{holds, distinct, since, hit, marks_after, marks}
 use Rattle.clru_model.proofs.Distinct.{holds-append, since-cons, not_since}
 use Rattle.clru_model.proofs.Marks.{reverse-cons-append}
-use Rattle.clru_model.specs.ByPlace.{IsHitAt}
+use Rattle.clru_model.specs.ByPosition.{IsHitAt}
 use Rattle.clru_model.proofs.Counting.{count_unique}
-use Rattle.clru_model.proofs.DistinctByPlace.{distinct_by_place}
-use Rattle.clru_model.proofs.Places.{slice_get-append_right, slice_get_middle, slice_get_between, slice_range_between}
-use Rattle.clru_model.proofs.Places.{split_at_two_places, LacksKey_from_holds, holds_from_LacksKey, holds-reverse}
+use Rattle.clru_model.proofs.DistinctByPosition.{distinct_by_position}
+use Rattle.clru_model.proofs.Positions.{slice_get-append_right, slice_get_middle, slice_get_between, slice_range_between}
+use Rattle.clru_model.proofs.Positions.{split_at_two_positions, LacksKey_from_holds, holds_from_LacksKey, holds-reverse}
 
 module _ {K : Type 0} (eq : K → K → Bool) where
   -- there is one mark for each request
@@ -22,7 +22,7 @@ module _ {K : Type 0} (eq : K → K → Bool) where
   length-marks_after past k [] = refl
   length-marks_after past k (x ∷ rs) = ap suc (length-marks_after (x ∷ past) k rs)
 
-  -- a mark is whether the request at its place hits after those before it
+  -- a mark is whether the request at its position hits after those before it
   marks_after_at : (past : List K) (k : ℕ) (rs : List K) (i : ℕ) (b : Bool) → slice_get (marks_after eq k past rs) i ≡ Some b
       → (before : List K) × (x : K) × (after : List K) × (rs ≡ before ++ x ∷ after) × (length before ≡ i) × (hit eq k x (reverse before ++ past) ≡ b)
   marks_after_at past k [] i b h = cc
@@ -79,7 +79,7 @@ module _ {K : Type 0} (eq : K → K → Bool) where
       (marks_after_next [] k front x after
       ∙ ap Some (ap (λ l. hit eq k x l) (append-nil (reverse front)) ∙ hit_after_middle k before y between x same none few))
 
-  -- the same by places
+  -- the same by positions
   IsHitAt_middle : (k : ℕ) (before : List K) (y : K) (between : List K) (x : K) (after : List K) → eq x y ≡ true → holds eq x between ≡ false
       → distinct eq (reverse between) < k → IsHitAt eq k (before ++ y ∷ (between ++ x ∷ after)) (length before + suc (length between))
   IsHitAt_middle k before y between x after same none few = record {
@@ -97,16 +97,16 @@ module _ {K : Type 0} (eq : K → K → Bool) where
         (sym (slice_get_between before y between (x ∷ after) (p - length before - 1) within)
         ∙ ap (slice_get (before ++ y ∷ (between ++ x ∷ after))) (sym j) ∙ at);
     between = distinct eq (reverse between);
-    distinct_between = rw slice_range_between (distinct_by_place eq between);
+    distinct_between = rw slice_range_between (distinct_by_position eq between);
     few = few;
   }
 
-  -- the same from what the places between tell
-  marks_at_places : (k : ℕ) (before : List K) (y : K) (between : List K) (x : K) (after : List K) (rs : List K) (i : ℕ)
+  -- the same from what the positions between tell
+  marks_at_positions : (k : ℕ) (before : List K) (y : K) (between : List K) (x : K) (after : List K) (rs : List K) (i : ℕ)
       → before ++ y ∷ (between ++ x ∷ after) ≡ rs → length before + suc (length between) ≡ i → eq x y ≡ true
       → ((p : ℕ) (z : K) → length before < p → p < i → slice_get rs p ≡ Some z → eq x z ≡ false)
       → distinct eq (reverse (slice_range rs (length before + 1) i)) < k → slice_get (marks eq k rs) i ≡ Some true
-  marks_at_places k before y between x after rs i e n same =
+  marks_at_positions k before y between x after rs i e n same =
       subst₂ (λ l j. ((p : ℕ) (z : K) → length before < p → p < j → slice_get l p ≡ Some z → eq x z ≡ false)
       → distinct eq (reverse (slice_range l (length before + 1) j)) < k → slice_get (marks eq k l) j ≡ Some true) e n
       (λ latest few.
@@ -116,13 +116,13 @@ module _ {K : Type 0} (eq : K → K → Bool) where
       let less : distinct eq (reverse between) < k = rw slice_range_between at few in
       marks_at_middle k before y between x after same none less)
 
-  -- a hit by places is a mark
+  -- a hit by positions is a mark
   marks_from_IsHitAt : (k : ℕ) (rs : List K) (i : ℕ) → IsHitAt eq k rs i → slice_get (marks eq k rs) i ≡ Some true
   marks_from_IsHitAt k rs i r =
-      let (before, between, after, e, n, m) = split_at_two_places rs r.before i r.key_before r.key r.earlier r.requested_before r.requested in
-      marks_at_places k before r.key_before between r.key after rs i (sym e) (sym m) r.same
+      let (before, between, after, e, n, m) = split_at_two_positions rs r.before i r.key_before r.key r.earlier r.requested_before r.requested in
+      marks_at_positions k before r.key_before between r.key after rs i (sym e) (sym m) r.same
       (λ p z low high at. r.latest p z (rw n at low) high at)
-      (rw (n, ← count_unique r.distinct_between (distinct_by_place eq (slice_range rs (r.before + 1) i))) r.few)
+      (rw (n, ← count_unique r.distinct_between (distinct_by_position eq (slice_range rs (r.before + 1) i))) r.few)
 
 module _ {K : Type 0} (eq : K → K → Bool) (laws : IsEquivalence eq) where
   -- what stands before a hit, split at the latest request of its key
@@ -136,16 +136,16 @@ module _ {K : Type 0} (eq : K → K → Bool) (laws : IsEquivalence eq) where
       let few : distinct eq (reverse (reverse recent)) < k = rw reverse-reverse (ltb-true (distinct eq recent) k parts.1) in
       (reverse older, y, reverse recent, f, same, holds-reverse eq x recent ∙ not_since eq laws x (reverse front), few)
 
-  -- a mark is a hit by places
+  -- a mark is a hit by positions
   IsHitAt_from_marks : (k : ℕ) (rs : List K) (i : ℕ) → slice_get (marks eq k rs) i ≡ Some true → IsHitAt eq k rs i
   IsHitAt_from_marks k rs i h =
       let (front, x, after, e, n, m) = marks_after_at eq [] k rs i true h in
       let (before, y, between, f, same, none, few) = split_at_hit k front x (rw append-nil at m) in
-      let place : length before + suc (length between) ≡ i = sym (length-append before (y ∷ between)) ∙ ap length f ∙ n in
+      let position : length before + suc (length between) ≡ i = sym (length-append before (y ∷ between)) ∙ ap length f ∙ n in
       let list : before ++ y ∷ (between ++ x ∷ after) ≡ rs =
       sym (append_assoc before (y ∷ between) (x ∷ after)) ∙ ap (λ l. l ++ x ∷ after) f ∙ sym e in
-      subst₂ (λ l j. IsHitAt eq k l j) list place (IsHitAt_middle eq k before y between x after same none few)
+      subst₂ (λ l j. IsHitAt eq k l j) list position (IsHitAt_middle eq k before y between x after same none few)
 
-  -- the marks are the hits by places
-  pub marks_by_place : (k i : ℕ) (rs : List K) → (slice_get (marks eq k rs) i ≡ Some true) ↔ IsHitAt eq k rs i
-  marks_by_place k i rs = (IsHitAt_from_marks k rs i, marks_from_IsHitAt eq k rs i)
+  -- the marks are the hits by positions
+  pub marks_by_position : (k i : ℕ) (rs : List K) → (slice_get (marks eq k rs) i ≡ Some true) ↔ IsHitAt eq k rs i
+  marks_by_position k i rs = (IsHitAt_from_marks k rs i, marks_from_IsHitAt eq k rs i)

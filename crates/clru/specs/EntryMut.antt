@@ -13,10 +13,10 @@ use Rattle.clru.specs.declared.entry.End.{End}
 use Rattle.clru.specs.declared.entry.End.TheVariants.{Front, Back}
 use Rattle.clru.specs.declared.entry.EntryMut.{EntryMut}
 
--- the place of the entry at an end
-abbrev pub place_of : {X : Type 0} → End → List X → ℕ
-place_of Front es = 0
-place_of Back es = length es - 1
+-- the index of the entry at an end
+abbrev pub index_of : {X : Type 0} → End → List X → ℕ
+index_of Front es = 0
+index_of Back es = length es - 1
 
 -- another value leaves the number of entries
 pub length-with_value_at : {K V : Type 0} (i : ℕ) (v : V) (es : List (K × V)) → length (with_value_at i v es) ≡ length es
@@ -33,27 +33,27 @@ module _ {K V S A H : Type 0} {g : eq.Ghosts K} {h : hash.Ghosts K} {b : builder
   abbrev pub cache_of : EntryMut K V S A H g h b w → Cache K V ZeroWeightScale
   cache_of e = e.cache.now
 
-  -- its place in the list
-  abbrev pub place : EntryMut K V S A H g h b w → ℕ
-  place e = place_of e.end e.cache.now.entries
+  -- its index in the list
+  abbrev pub index : EntryMut K V S A H g h b w → ℕ
+  index e = index_of e.end e.cache.now.entries
 
   -- its pair
   abbrev pub pair : EntryMut K V S A H g h b w → Option (K × V)
-  pair e = slice_get e.cache.now.entries (place e)
+  pair e = slice_get e.cache.now.entries (index e)
 
-  -- it is the entry at the place i of the cache c
+  -- it is the entry at the index i of the cache c
   pub record IsEntryAt (c : Cache K V ZeroWeightScale) (i : ℕ) (e : EntryMut K V S A H g h b w) : Type 0 where
     pub cache : cache_of e ≡ c
-    pub at : place e ≡ i
+    pub at : index e ≡ i
 
   -- its cache, once v is its value
   abbrev pub cache_with : EntryMut K V S A H g h b w → V → Cache K V ZeroWeightScale
-  cache_with e v = with_entries e.cache.now (with_value_at (place e) v e.cache.now.entries)
+  cache_with e v = with_entries e.cache.now (with_value_at (index e) v e.cache.now.entries)
 
   -- it, once v is its value
   abbrev pub with_value : EntryMut K V S A H g h b w → V → EntryMut K V S A H g h b w
   with_value e v = record {
     cache = record e.cache { now = cache_with e v };
     end = e.end;
-    some = subst (λ n. 0 < n) (sym (length-with_value_at (place e) v e.cache.now.entries)) e.some;
+    some = subst (λ n. 0 < n) (sym (length-with_value_at (index e) v e.cache.now.entries)) e.some;
   }

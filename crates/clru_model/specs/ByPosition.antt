@@ -1,24 +1,24 @@
--- Hits and schedules said again by places, counted from 0, in the words of a sentence about them. Public clauses cite them.
+-- Hits and schedules said again by positions, counted from 0, in the words of a sentence about them. Public clauses cite them.
 use Rattle.std.specs.Prelude.{◌≡◌, ◌⊎◌, ◌↔◌, ℕ, ◌+◌, ◌<◌, ◌≤◌, Bool, true, false, nat_eq, Some, List, length}
 use Rattle.std.specs.List.{slice_get, slice_range, Contains, IsDistinct}
 
--- n is how many places have the property: there is a list of n pairwise different places, which are those and no others
+-- n is how many positions have the property: there is a list of n pairwise different positions, which are those and no others
 pub record IsCountOf (P : ℕ → Type 0) (n : ℕ) : Type 0 where
-  pub places : List ℕ
-  pub many : length places ≡ n
-  pub different : IsDistinct nat_eq places
-  pub each : (p : ℕ) → Contains places p ↔ P p
+  pub positions : List ℕ
+  pub many : length positions ≡ n
+  pub different : IsDistinct nat_eq positions
+  pub each : (p : ℕ) → Contains positions p ↔ P p
 
 module _ {K : Type 0} (eq : K → K → Bool) where
-  -- some place of ks has a key that is the same as x
+  -- some position of ks has a key that is the same as x
   abbrev pub HasKey : K → List K → Type 0
   HasKey x ks = (p : ℕ) × (y : K) × (slice_get ks p ≡ Some y) × (eq x y ≡ true)
 
-  -- no place of ks has a key that is the same as x
+  -- no position of ks has a key that is the same as x
   abbrev pub LacksKey : K → List K → Type 0
   LacksKey x ks = (p : ℕ) (y : K) → slice_get ks p ≡ Some y → eq x y ≡ false
 
-  -- the key at p stands there first: no place before p has a key that is the same
+  -- the key at p stands there first: no position before p has a key that is the same
   pub record IsFirstAt (ks : List K) (p : ℕ) : Type 0 where
     pub key : K
     pub at : slice_get ks p ≡ Some key

@@ -11,7 +11,7 @@ use Rattle.clru_model.specs.declared.weight.ZeroWeightScale.{ZeroWeightScale}
 use Rattle.clru_model.specs.contracts.weight.ZeroWeightScale.{the_row as zero_scale_row}
 use Rattle.clru_model.specs.Entries.{with_value_at}
 use Rattle.clru.specs.Cache.{Cache, with_entries}
-use Rattle.clru.specs.Guards.{place_of, cache_name, cache_with, with_value}
+use Rattle.clru.specs.EntryMut.{index_of, cache_name, cache_with, with_value}
 use Rattle.clru.specs.Lends.{cache_row}
 use Rattle.clru.specs.declared.entry.End.{End}
 use Rattle.clru.specs.declared.entry.EntryMut.{EntryMut}
@@ -32,7 +32,7 @@ module _ (K V S A H : RattleType) (key : HashMembers K.Denot) (build : builder.G
     abbrev pub plain_row : RattleType
     plain_row = cache_row K V S zero_scale_row A H key build hash weighs heap
 
-    -- the cache of the entry has the last value written through r at the entry's place
+    -- the cache of the entry has the last value written through r at the entry's index
     abbrev pub lends_cache : EntryMut K.Denot V.Denot S.Denot A.Denot H.Denot (record { eq = key.eq }) (record { hash_input = key.hash_input }) build hash
         → MutBor V.Denot → Fml
     lends_cache e r = follows plain_row V (cache_name e) r.ghost_name (cache_with e)
@@ -40,7 +40,7 @@ module _ (K V S A H : RattleType) (key : HashMembers K.Denot) (build : builder.G
     module _ (c : MutBor (Cache K.Denot V.Denot ZeroWeightScale)) where
       -- the cache has the last value written through r at the end
       abbrev pub lends_end : End → MutBor V.Denot → Fml
-      lends_end end r = Lends plain_row V c r (λ w. with_entries c.now (with_value_at (place_of end c.now.entries) w c.now.entries))
+      lends_end end r = Lends plain_row V c r (λ w. with_entries c.now (with_value_at (index_of end c.now.entries) w c.now.entries))
 
       -- where no entry is lent, the cache stays
       abbrev pub rests_if_none : Option (EntryMut K.Denot V.Denot S.Denot A.Denot H.Denot (record { eq = key.eq }) (record { hash_input = key.hash_input }) build hash) → Fml

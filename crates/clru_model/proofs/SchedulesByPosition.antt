@@ -1,4 +1,4 @@
--- The computed schedules are the schedules by places.
+-- The computed schedules are the schedules by positions.
 use Rattle.std.proofs.Common.{◌≡◌, ℕ, zero, suc, ◌+◌, ◌≤◌, Bool, true, false, ◌↔◌, ◌⊎◌}
 use Rattle.std.proofs.Common.{List, [], ◌∷◌, length, refl, subst, subst₂, arith, add-one, Some, inl, inr}
 use Rattle.std.proofs.lemmas.List.{nil_from_length}
@@ -7,11 +7,11 @@ use Rattle.std.proofs.lemmas.Option.{same_Some}
 use Rattle.std.specs.List.{slice_get, list_all}
 use Rattle.clru_model.specs.Requests.{holds}
 use Rattle.clru_model.specs.Schedule.{IsSchedule, schedule_marks}
-use Rattle.clru_model.specs.ByPlace.{HasKey, IsScheduleAt, IsScheduleMissAt}
-use Rattle.clru_model.proofs.Places.{list_all_at, list_all_from_places, HasKey_from_holds, holds_from_HasKey, LacksKey_from_holds, holds_from_LacksKey}
+use Rattle.clru_model.specs.ByPosition.{HasKey, IsScheduleAt, IsScheduleMissAt}
+use Rattle.clru_model.proofs.Positions.{list_all_at, list_all_from_positions, HasKey_from_holds, holds_from_HasKey, LacksKey_from_holds, holds_from_LacksKey}
 
 module _ {K : Type 0} (eq : K → K → Bool) where
-  -- a schedule by places without its first request
+  -- a schedule by positions without its first request
   IsScheduleAt_rest : (h : ℕ) (ks : List K) (later : List (List K)) (x : K) (rs : List K)
       → IsScheduleAt eq h (ks ∷ later) (x ∷ rs) → IsScheduleAt eq h later rs
   IsScheduleAt_rest h ks later x rs s = record {
@@ -21,18 +21,18 @@ module _ {K : Type 0} (eq : K → K → Bool) where
     served = λ i next y after asked. s.served (suc i) next y (rw add-one (rw add-one at after)) asked;
   }
 
-  -- a schedule by places is one
-  IsSchedule_from_places : (h : ℕ) (held : List (List K)) (rs : List K) → IsScheduleAt eq h held rs → IsSchedule eq h held rs
-  IsSchedule_from_places h [] rs s = absurd (omega (arith, s.one_more))
-  IsSchedule_from_places h (ks ∷ later) [] s = (s.short 0 ks refl, nil_from_length later (omega (arith, s.one_more)))
-  IsSchedule_from_places h (ks ∷ []) (x ∷ rs) s = absurd (omega (arith, s.one_more))
-  IsSchedule_from_places h (ks ∷ next ∷ later) (x ∷ rs) s =
-      let all = list_all_from_places (λ q. holds eq q (x ∷ ks)) next (λ p q at.
+  -- a schedule by positions is one
+  IsSchedule_from_positions : (h : ℕ) (held : List (List K)) (rs : List K) → IsScheduleAt eq h held rs → IsSchedule eq h held rs
+  IsSchedule_from_positions h [] rs s = absurd (omega (arith, s.one_more))
+  IsSchedule_from_positions h (ks ∷ later) [] s = (s.short 0 ks refl, nil_from_length later (omega (arith, s.one_more)))
+  IsSchedule_from_positions h (ks ∷ []) (x ∷ rs) s = absurd (omega (arith, s.one_more))
+  IsSchedule_from_positions h (ks ∷ next ∷ later) (x ∷ rs) s =
+      let all = list_all_from_positions (λ q. holds eq q (x ∷ ks)) next (λ p q at.
       elim (s.kept_or_requested 0 ks next x refl refl refl p q at) [
         | inl k ↦ or_right (eq q x) (holds eq q ks) (holds_from_HasKey eq ks q k)
         | inr t ↦ or_left (eq q x) (holds eq q ks) t
       ]) in
-      let rest = IsSchedule_from_places h (next ∷ later) rs (IsScheduleAt_rest h ks (next ∷ later) x rs s) in
+      let rest = IsSchedule_from_positions h (next ∷ later) rs (IsScheduleAt_rest h ks (next ∷ later) x rs s) in
       (s.short 0 ks refl, (all, holds_from_HasKey eq next x (s.served 0 next x refl refl)), rest)
 
   -- the first list held is short too
@@ -50,7 +50,7 @@ module _ {K : Type 0} (eq : K → K → Bool) where
         | inr k ↦ inl (HasKey_from_holds eq ks q k)
       ]
 
-  -- a schedule by places with one more request in front
+  -- a schedule by positions with one more request in front
   IsScheduleAt_cons : (h : ℕ) (ks next : List K) (later : List (List K)) (x : K) (rs : List K) → length ks ≤ h
       → list_all (λ q. holds eq q (x ∷ ks)) next ≡ true
       → holds eq x next ≡ true → IsScheduleAt eq h (next ∷ later) rs → IsScheduleAt eq h (ks ∷ next ∷ later) (x ∷ rs)
@@ -75,7 +75,7 @@ module _ {K : Type 0} (eq : K → K → Bool) where
           subst₂ (λ (a : List K) (b : K). HasKey eq b a) (same_Some _ _ after) (same_Some _ _ asked) (HasKey_from_holds eq next x held)
       served (suc i) m y after asked = s.served i m y (rw add-one (rw add-one at after)) asked
 
-  -- a schedule is one by places
+  -- a schedule is one by positions
   IsScheduleAt_from_schedule : (h : ℕ) (held : List (List K)) (rs : List K) → IsSchedule eq h held rs → IsScheduleAt eq h held rs
   IsScheduleAt_from_schedule h [] rs s = absurd s
   IsScheduleAt_from_schedule h (ks ∷ later) [] s = rw s.1 (record {
@@ -88,7 +88,7 @@ module _ {K : Type 0} (eq : K → K → Bool) where
   IsScheduleAt_from_schedule h (ks ∷ next ∷ later) (x ∷ rs) s =
       IsScheduleAt_cons h ks next later x rs s.0 s.1.0 s.1.1 (IsScheduleAt_from_schedule h (next ∷ later) rs s.2)
 
-  -- a false mark of a schedule is a miss by places
+  -- a false mark of a schedule is a miss by positions
   IsScheduleMissAt_from_marks : (held : List (List K)) (rs : List K) (i : ℕ)
       → slice_get (schedule_marks eq held rs) i ≡ Some false → IsScheduleMissAt eq held rs i
   IsScheduleMissAt_from_marks [] rs i h = cc
@@ -107,14 +107,14 @@ module _ {K : Type 0} (eq : K → K → Bool) where
   schedule_mark_false (l ∷ later) (y ∷ rs) zero x ks asked at none = cc
   schedule_mark_false (l ∷ later) (y ∷ rs) (suc i) x ks asked at none = schedule_mark_false later rs i x ks asked at none
 
-  -- the schedules are the schedules by places
-  pub schedules_by_place : (h : ℕ) (held : List (List K)) (rs : List K) → IsSchedule eq h held rs ↔ IsScheduleAt eq h held rs
-  schedules_by_place h held rs = (IsScheduleAt_from_schedule h held rs, IsSchedule_from_places h held rs)
+  -- the schedules are the schedules by positions
+  pub schedules_by_position : (h : ℕ) (held : List (List K)) (rs : List K) → IsSchedule eq h held rs ↔ IsScheduleAt eq h held rs
+  schedules_by_position h held rs = (IsScheduleAt_from_schedule h held rs, IsSchedule_from_positions h held rs)
 
-  -- the false marks of a schedule are its misses by places
-  pub schedule_misses_by_place : (held : List (List K)) (rs : List K) (i : ℕ)
+  -- the false marks of a schedule are its misses by positions
+  pub schedule_misses_by_position : (held : List (List K)) (rs : List K) (i : ℕ)
       → (slice_get (schedule_marks eq held rs) i ≡ Some false) ↔ IsScheduleMissAt eq held rs i
-  schedule_misses_by_place held rs i = (
+  schedule_misses_by_position held rs i = (
     IsScheduleMissAt_from_marks held rs i,
     λ r. schedule_mark_false held rs i r.key r.keys r.requested r.held_before (holds_from_LacksKey eq r.keys r.key r.not_held),
   )
