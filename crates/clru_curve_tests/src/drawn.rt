@@ -37,7 +37,8 @@ fn equals_replay<S: BuildHasher + Copy>(
         ] {
             let keys = Vec::from_slice(alloc, &requests)?;
             match replay(alloc, capacity_of(capacity)?, keys, builder) {
-                Ok(answer) => equal!(rt; curve.misses(capacity_of(capacity)?), answer.misses, capacity),
+                Ok(answer) =>
+                    equal!(rt; curve.misses(capacity_of(capacity)?), answer.misses, capacity),
                 Err(_) => return Err("memory".into()),
             }
         }

@@ -106,7 +106,8 @@ fn a_curve_of_a_list_is_refused_or_right(rt: HostRuntime) -> Result<(), Fail> {
         let before = heap.refused();
         heap.refuse_one_after(passing);
         match miss_curve(&heap, &keys, DefaultState) {
-            Ok(curve) => equal!(rt; (curve.distinct(), curve.misses(capacity_of(70)?)), (70, 70), passing),
+            Ok(curve) =>
+                equal!(rt; (curve.distinct(), curve.misses(capacity_of(70)?)), (70, 70), passing),
             Err(_) => equal!(rt; heap.refused() > before, true, passing),
         }
         heap.refuse_one_after(passing);

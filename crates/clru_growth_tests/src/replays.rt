@@ -85,7 +85,12 @@ fn a_replay_compares_few_keys(rt: HostRuntime) -> Result<(), Fail> {
     for (capacity, distinct, rounds, compared, hashed) in rows {
         let counts = Counts::new(rt.alloc());
         let keys = rounds_of(&counts, distinct, rounds)?;
-        let answer = replay(&counts.heap, capacity_of(capacity)?, keys, Spread::there(&counts));
+        let answer = replay(
+            &counts.heap,
+            capacity_of(capacity)?,
+            keys,
+            Spread::there(&counts),
+        );
         equal!(rt; answer.is_ok(), true, (capacity, rounds));
         equal!(rt; (counts.compared.get(), counts.hashed.get()), (compared, hashed), (capacity, rounds));
     }
@@ -160,7 +165,9 @@ fn a_replay_of_no_keys_asks_for_nothing(rt: HostRuntime) -> Result<(), Fail> {
     let heap = Rationed::new(rt.alloc());
     heap.refuse_after(0);
     let keys: Vec<u64, &Rationed<Global>> = Vec::new(&heap);
-    let answer = replay(&heap, capacity_of(2)?, keys, DefaultState).map_err(|_| "the keys came back")?;
+    let answer = replay(&heap, capacity_of(2)?, keys, DefaultState).map_err(
+        |_| "the keys came back",
+    )?;
     equal!(rt;
         (answer.marks.len(), answer.misses, heap.asked()),
         (0, 0, 0)

@@ -143,7 +143,9 @@ fn the_keys_of_a_replay_are_given_back(rt: HostRuntime) -> Result<(), Fail> {
     for letters in ["a", "b", "c", "b", "a"] {
         keys.push(text(&heap, letters)?)?;
     }
-    let answer = replay(&heap, capacity_of(2)?, keys, DefaultState).map_err(|_| "the keys came back")?;
+    let answer = replay(&heap, capacity_of(2)?, keys, DefaultState).map_err(
+        |_| "the keys came back",
+    )?;
     equal!(rt;
         (answer.misses, heap.blocks()),
         (4, 1),

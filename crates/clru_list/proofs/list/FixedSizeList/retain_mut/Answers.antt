@@ -10,7 +10,7 @@ pub f-kept-requires : goal.f-kept-requires
 f-kept-requires g c =
     let item = item_here (CalledAtItemMut g.F.FnMut) (TakesItemMut g.F.FnMut) _ _ _ _ _ c.loop-next.invariant c.in-Some.place c.in-Some.is in
     takes_here (CalledAtItemMut g.F.FnMut) (TakesItemMut g.F.FnMut) _ _ _ _ _ c.loop-next.invariant c.in-Some.place c.in-Some.is
-        _ (some_injective (c.in-Some-get_mut.ensures.value ∙ item))
+    _ (some_injective (c.in-Some-get_mut.ensures.value ∙ item))
 
 pub unreachable-requires : goal.unreachable-requires
 unreachable-requires g c =
@@ -20,23 +20,23 @@ unreachable-requires g c =
 pub loop-next-smaller : goal.loop-next-smaller
 loop-next-smaller g c =
     fewer (CalledAtItemMut g.F.FnMut) (TakesItemMut g.F.FnMut) _ _ _ _ _ c.loop-next.invariant c.in-Some.place c.in-Some.is
-        c.f-kept.result c.f-kept.new.arg3 _ c.keep_if.new.self c.next_idx-next.result refl
-        c.keep_if.ensures.entries c.keep_if.ensures.valid c.next_idx-next.ensures.place
+    c.f-kept.result c.f-kept.new.arg3 _ c.keep_if.new.self c.next_idx-next.result refl
+    c.keep_if.ensures.entries c.keep_if.ensures.valid c.next_idx-next.ensures.place
 
 pub loop-next-preserved : goal.loop-next-preserved
 loop-next-preserved g c =
     let item = item_here (CalledAtItemMut g.F.FnMut) (TakesItemMut g.F.FnMut) _ _ _ _ _ c.loop-next.invariant c.in-Some.place c.in-Some.is in
     goes_on (CalledAtItemMut g.F.FnMut) (TakesItemMut g.F.FnMut) _ _ _ _ _ c.loop-next.invariant c.in-Some.place c.in-Some.is
-        c.f-kept.result c.f-kept.new.arg3 c.f-kept.new.self _ c.keep_if.new.self c.next_idx-next.result
-        record {
-          shown = c.in-Some-get_mut.item;
-          left = _;
-          shows = some_injective (c.in-Some-get_mut.ensures.value ∙ item);
-          called = c.f-kept.ensures;
-          leaves = refl;
-        }
-        refl
-        c.keep_if.ensures.entries c.keep_if.ensures.valid c.next_idx-next.ensures.place
+    c.f-kept.result c.f-kept.new.arg3 c.f-kept.new.self _ c.keep_if.new.self c.next_idx-next.result
+    record {
+      shown = c.in-Some-get_mut.item;
+      left = _;
+      shows = some_injective (c.in-Some-get_mut.ensures.value ∙ item);
+      called = c.f-kept.ensures;
+      leaves = refl;
+    }
+    refl
+    c.keep_if.ensures.entries c.keep_if.ensures.valid c.next_idx-next.ensures.place
 
 pub returns-clause-called : goal.returns-clause-called
 returns-clause-called g c = ends (CalledAtItemMut g.F.FnMut) (TakesItemMut g.F.FnMut) _ _ _ _ _ c.loop-next.invariant c.in_default.not-Some
