@@ -1,5 +1,15 @@
+use Rattle.std.proofs.Common.{[], ap}
 use Rattle.clru_curve.proofs.Passing.{IsPass-none}
 use Rattle.clru_curve.proofs.pass.DistancePass.with_hasher.Goals as goal
+
+pub invariant_of-result : goal.invariant_of-result
+invariant_of-result g c =
+    record {
+      greatest = ap (λ m. m.capacity) c.with_hasher.ensures;
+      latest = c.new.ensures.kept;
+      past = [];
+      taken = rw (c.with_hasher.ensures, c.new.ensures.words, c.new.ensures.requests, c.new-2.ensures.items) (IsPass-none g.K.PartialEq.eq);
+    }
 
 pub returns : goal.returns
 returns g c = rw (c.with_hasher.ensures, c.new.ensures.words, c.new.ensures.requests, c.new-2.ensures.items) (IsPass-none g.K.PartialEq.eq)
