@@ -1,7 +1,5 @@
-use Rattle.std.proofs.Common.{rules, ◌∙◌, List, ℕ, arith, subst}
+use Rattle.std.proofs.Common.{rules, ◌∙◌, arith}
 use Rattle.std.specs.List.{zip}
-use Rattle.clru_curve.specs.SizedCurves.{IsSizedCurveOf}
-use Rattle.clru_c.specs.Objects.{same_object, weight_of}
 use Rattle.clru_c.proofs.Objects.{same_weights, of_objects, are_misses}
 use Rattle.clru_c.proofs.sized.misses_by_size.Goals as goal
 
