@@ -1,13 +1,14 @@
 //! Answers that are written into arrays of the caller. Each call writes where it answers `OK`, and nothing where it doesn't.
-ghost use Rattle.std.specs.Prelude.{◌≡◌, ◌≢◌, [], length, nat_eq, Contains};
-ghost use Rattle.clru_c.specs.Arrays.{AreHits, IsCurve, AreLeast};
+ghost use Rattle.std.specs.Prelude.{◌≡◌, ◌≢◌, [], length, nat_eq, Contains, IfOk};
+ghost use Rattle.std.specs.Int.NonZero.{non_zero_usize_get};
+ghost use Rattle.clru_c.specs.Arrays.{AreHits, IsCurve, AreLeast, IsLeastOf};
 ghost use Rattle.clru_c.specs.Codes.{IsCode};
 
 use crate::codes::{NO_CAPACITY, NO_MEMORY, OK, WRONG_LENGTH};
-use clru::replay;
+use clru::{Replay, replay};
 use clru_curve::miss_curve;
 use clru_least::Foresight;
-use std::alloc::Allocator;
+use std::alloc::{AllocError, Allocator};
 use std::hash::BuildHasher;
 use std::num::NonZeroUsize;
 
@@ -35,12 +36,25 @@ pub(crate) fn hits_at<S: BuildHasher + Drop, A: Allocator + Copy>(
     let Ok(requests) = Vec::from_slice(alloc, keys) else {
         return NO_MEMORY;
     };
-    let Ok(answer) = replay(alloc, capacity, requests, hash_builder) else {
+    let Ok(answer) = replay_of(alloc, capacity, requests, hash_builder) else {
         return NO_MEMORY;
     };
     hits.copy_from_slice(&answer.marks);
     *missed = answer.misses;
     OK
+}
+
+/// The answer of a replay. As a function of its own its loop has the registers to itself.
+#[inline(never)]
+fn replay_of<S: BuildHasher + Drop, A: Allocator + Copy>(
+    alloc: A,
+    capacity: NonZeroUsize,
+    requests: Vec<u64, A>,
+    hash_builder: S,
+) -> Result<Replay<A>, Vec<u64, A>>
+    ensures { IfOk result (λ r. AreHits nat_eq (non_zero_usize_get capacity) requests.items r.marks.items r.misses) }
+{
+    replay(alloc, capacity, requests, hash_builder)
 }
 
 /// The misses at the capacities 1, 2 and so on, one for each element of the array, and the number of distinct keys.
@@ -94,11 +108,22 @@ pub(crate) fn least_by_room<S: BuildHasher + Drop, A: Allocator + Copy>(
         let Some(room) = NonZeroUsize::new(rooms[index]) else {
             unreachable!();
         };
-        let Ok(misses) = foresight.least(room) else {
+        let Ok(misses) = least_of(&foresight, room) else {
             return NO_MEMORY;
         };
         answers[index] = misses;
     }
     least.copy_from_slice(&answers);
     OK
+}
+
+/// The least number of misses for a room, by a function of its own for the same reason.
+#[inline(never)]
+fn least_of<A: Allocator + Copy>(
+    foresight: &Foresight<u64, A>,
+    room: NonZeroUsize,
+) -> Result<usize, AllocError>
+    ensures { IfOk result (λ n. IsLeastOf nat_eq foresight.now (non_zero_usize_get room) n) }
+{
+    foresight.least(room)
 }

@@ -1,9 +1,10 @@
 //! The misses by size: each key comes with the size of what it names.
-ghost use Rattle.std.specs.Prelude.{◌≡◌, ◌≢◌, ◌<◌, ◌≤◌, true, false, length, slice_index, EachIndex, SomeIndex, IfOk};
+ghost use Rattle.std.specs.Prelude.{◌≡◌, ◌≢◌, ◌^◌, ◌<◌, ◌≤◌, true, false, length, slice_index, EachIndex, SomeIndex, IfOk, IfErr, IsErr};
 ghost use Rattle.std.specs.List.{zip};
-ghost use Rattle.clru_curve.specs.SizedCurves.{misses_within, missed_size_within};
+ghost use Rattle.clru_curve.specs.SizedCurves.{IsSizedCurveOf, misses_within, missed_size_within, size_of_all};
+ghost use Rattle.clru_curve.specs.SizedPasses.{IsNoMemory};
 ghost use Rattle.clru_c.specs.Arrays.{AreBelow};
-ghost use Rattle.clru_c.specs.Objects.{AreSizedMisses, IsSizedCode, weight_of};
+ghost use Rattle.clru_c.specs.Objects.{AreSizedMisses, IsSizedCode, same_object, weight_of};
 
 use crate::codes::{NO_CAPACITY, NO_MEMORY, OK, TOO_LARGE, TOO_SMALL, WRONG_LENGTH};
 use clru_curve::{SizedCurve, SizedRequestError, WeightScale, sized_curve};
@@ -51,7 +52,7 @@ pub(crate) fn misses_by_size<S: BuildHasher + Drop, A: Allocator + Copy>(
     let Ok(objects) = objects_of(alloc, keys, sizes) else {
         return NO_MEMORY;
     };
-    let curve = match sized_curve(alloc, &objects, SizeScale, hash_builder) {
+    let curve = match curve_of(alloc, &objects, hash_builder) {
         Ok(curve) => curve,
         Err(SizedRequestError::NoMemory(_)) => return NO_MEMORY,
         Err(SizedRequestError::TooLarge(_)) => return TOO_LARGE,
@@ -60,10 +61,22 @@ pub(crate) fn misses_by_size<S: BuildHasher + Drop, A: Allocator + Copy>(
         return TOO_SMALL;
     }
     write_misses(&curve, capacities, missed, lost);
-    // (read for the proof: what is a `usize` passes no number)
-    let _size = curve.size();
     *size = curve.distinct_size();
     OK
+}
+
+/// The curve of the objects. As a function of its own its loop has the registers to itself.
+#[inline(never)]
+fn curve_of<S: BuildHasher + Drop, A: Allocator + Copy>(
+    alloc: A,
+    objects: &[(u64, usize)],
+    hash_builder: S,
+) -> Result<SizedCurve<A>, SizedRequestError<(u64, usize)>>
+    ensures curve { IfOk result (IsSizedCurveOf same_object weight_of objects.now) }
+    ensures too_large { size_of_all weight_of objects.now < 2 ^ 64 → IfErr result IsNoMemory }
+    ensures passes { 2 ^ 64 ≤ size_of_all weight_of objects.now → IsErr result }
+{
+    sized_curve(alloc, objects, SizeScale, hash_builder)
 }
 
 /// Whether some capacity is not above the weight.
@@ -118,7 +131,7 @@ fn objects_of<A: Allocator>(
 {
     let mut objects = Vec::with_capacity(alloc, keys.len())?;
     for index in 0..keys.len() {
-        objects.push((keys[index], sizes[index]))?;
+        objects.push_reserved((keys[index], sizes[index]));
     }
     Ok(objects)
 }

@@ -65,11 +65,11 @@ module _ {K : Type 0} (eq : K → K → Bool) (laws : IsEquivalence eq) (past : 
   pub distance_none : lookup (eq x) positions ≡ None → None ≡ distance eq x past
   distance_none absent = rw (not_held absent) refl
 
-  pub IsPass-new : (c : ℕ) (vs : List ℕ) → lookup (eq x) positions ≡ None → n < c → ((p : ℕ) → ones_from vs p ≡ ones_from ws p + up_to p n)
+  pub IsPass-new : (c : ℕ) (vs : List ℕ) → lookup (eq x) positions ≡ None → length positions < c → ((p : ℕ) → ones_from vs p ≡ ones_from ws p + up_to p n)
       → IsPass eq (x ∷ past) (pass (plain_put eq c x n positions) vs (n + 1) (h ++ 0 ∷ []))
   IsPass-new c vs absent room counts =
       let put : plain_put eq c x n positions ≡ (x, n) ∷ positions =
-      plain_put-missed eq x (missed (eq x) (sym (ap is_some absent))) c n ∙ ap (λ l. (x, n) ∷ l) (take_all (c - 1) positions (omega (arith, room, is.ranked.few))) in
+      plain_put-missed eq x (missed (eq x) (sym (ap is_some absent))) c n ∙ ap (λ l. (x, n) ∷ l) (take_all (c - 1) positions (omega (arith, room))) in
       let one : n + 1 ≡ suc n = omega arith in
       let moved : (y : K) → lookup (eq y) ((x, n) ∷ positions) ≡ cond (eq x y) (Some n) (lookup (eq y) positions) =
       λ y. ap (λ b. cond b (Some n) (lookup (eq y) positions)) (laws.symm y x) in

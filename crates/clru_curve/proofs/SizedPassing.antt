@@ -74,12 +74,12 @@ module _ {K : Type 0} (eq : K → K → Bool) (laws : IsEquivalence eq) (positio
     span_none absent = rw (not_held absent) refl
 
     module _ (same : SameWeights eq weight) (w : ℕ) (weighs : weight x ≡ w) (g' : ℕ) (greater : g' ≡ cond (nat_lt g w) w g) where
-      pub IsSizedPass-new : (c : ℕ) → lookup (eq x) positions ≡ None → length ss < c
+      pub IsSizedPass-new : (c : ℕ) → lookup (eq x) positions ≡ None → length positions < c
           → IsSizedPass eq weight (x ∷ past) (pass_by_size (plain_put eq c x (length ss) positions) (ss ++ (w + 1) ∷ []) hs (a + (w + 1)) g')
       IsSizedPass-new c absent room =
           let n = length ss in
           let size : w + 1 ≡ 1 + weight x = omega (arith, weighs) in
-          let put = put_new c n absent (omega (arith, room, is.ranked.few)) in
+          let put = put_new c n absent room in
           let long : length (ss ++ (1 + weight x) ∷ []) ≡ suc n = omega (arith, length_push ss (1 + weight x)) in
           let moved : (y : K) → lookup (eq y) ((x, n) ∷ positions) ≡ cond (eq x y) (Some n) (lookup (eq y) positions) =
           λ y. ap (λ b. cond b (Some n) (lookup (eq y) positions)) (laws.symm y x) in
@@ -131,14 +131,13 @@ module _ {K : Type 0} (eq : K → K → Bool) (laws : IsEquivalence eq) (positio
             })
 
   -- whatever the keys weigh
-  module _ (room : ℕ) (nodes : List ℕ) (sound : IsSoundBySize eq room nodes (pass_by_size positions ss hs a g)) (w g' : ℕ) (fits : a + (w + 1) < 2 ^ 64) (nodes' : List ℕ) where
-    pub IsSoundBySize-new : (c : ℕ) → c ≡ room → lookup (eq x) positions ≡ None → IsSummed (ss ++ (w + 1) ∷ []) nodes'
-        → IsSoundBySize eq c nodes' (pass_by_size (plain_put eq c x (length ss) positions) (ss ++ (w + 1) ∷ []) hs (a + (w + 1)) g')
-    IsSoundBySize-new c same absent summed =
+  module _ (nodes : List ℕ) (sound : IsSoundBySize eq nodes (pass_by_size positions ss hs a g)) (w g' : ℕ) (fits : a + (w + 1) < 2 ^ 64) (nodes' : List ℕ) where
+    pub IsSoundBySize-new : (c : ℕ) → length positions < c → lookup (eq x) positions ≡ None → IsSummed (ss ++ (w + 1) ∷ []) nodes'
+        → IsSoundBySize eq nodes' (pass_by_size (plain_put eq c x (length ss) positions) (ss ++ (w + 1) ∷ []) hs (a + (w + 1)) g')
+    IsSoundBySize-new c room absent summed =
         let n = length ss in let long = length_push ss (w + 1) in
-        let put = put_new c n absent (omega (arith, same, sound.greatest_room, sound.few_keys, sound.many, fits)) in
+        let put = put_new c n absent room in
         rw put (record {
-          greatest_room = omega (arith, same, sound.greatest_room);
           summed = summed;
           before = λ y q at. split (eq y x)
               (λ t. let e : Some n ≡ Some q = rw t at at in omega (arith, same_some e, long))
@@ -151,14 +150,13 @@ module _ {K : Type 0} (eq : K → K → Bool) (laws : IsEquivalence eq) (positio
           fits = fits;
         })
 
-    pub IsSoundBySize-again : (c p s : ℕ) → c ≡ room → lookup (eq x) positions ≡ Some p → IsSummed (set (ss ++ (w + 1) ∷ []) p 0) nodes'
-        → IsSoundBySize eq c nodes' (pass_by_size (set_value (eq x) positions (length ss)) (set (ss ++ (w + 1) ∷ []) p 0) (hs ++ (s, w + 1) ∷ []) (a + (w + 1)) g')
-    IsSoundBySize-again c p s same found summed =
+    pub IsSoundBySize-again : (p s : ℕ) → lookup (eq x) positions ≡ Some p → IsSummed (set (ss ++ (w + 1) ∷ []) p 0) nodes'
+        → IsSoundBySize eq nodes' (pass_by_size (set_value (eq x) positions (length ss)) (set (ss ++ (w + 1) ∷ []) p 0) (hs ++ (s, w + 1) ∷ []) (a + (w + 1)) g')
+    IsSoundBySize-again p s found summed =
         let n = length ss in let long = length_push ss (w + 1) in let len = length-set (ss ++ (w + 1) ∷ []) p 0 in
         let low = sound.before x p found in
         let more = length_push hs (s, w + 1) in
         record {
-          greatest_room = omega (arith, same, sound.greatest_room);
           summed = summed;
           before = λ y q at.
               let moved = lookup-set_value laws (eq x) (λ z v t. laws.congr x z v t) y n positions (rw found refl) in

@@ -2,8 +2,8 @@
 use Rattle.std.specs.Prelude.{◌≡◌, ℕ, ◌-◌, ◌<◌, Bool, List, length, slice_index_or}
 use Rattle.clru_model.specs.Requests.{misses}
 
--- the misses at the capacity k: past the end, where there is room for all keys, as many as there are keys. The capacity 0,
--- which no cache has, reads as 1
+-- the misses at the capacity k: past the end, where there is room for all keys, as many as there are distinct keys. The
+-- capacity 0, which no cache has, reads as the capacity 1
 abbrev pub misses_at : List ℕ → ℕ → ℕ
 misses_at curve k = slice_index_or curve (k - 1) (length curve)
 

@@ -1,5 +1,5 @@
 -- What a pass has taken note of, request by request. Public clauses cite it.
-use Rattle.std.specs.Prelude.{◌≡◌, ℕ, ◌+◌, ◌-◌, ◌^◌, Bool, List, length, take, sum, reverse, refl}
+use Rattle.std.specs.Prelude.{◌≡◌, ℕ, ◌+◌, Bool, List, length, take, sum, reverse, refl}
 use Rattle.std.specs.Coded.{Coded, code_by, coded×, coded_list, coded_ℕ}
 use Rattle.clru_model.specs.Requests.{distinct, misses}
 use Rattle.clru_curve.specs.Latest.{ones_from, IsLatest}
@@ -34,9 +34,8 @@ module _ {K : Type 0} (eq : K → K → Bool) where
     pub counted : IsHistogram past p.histogram
     pub requests : p.requests ≡ length past
 
-  -- what holds of every pass: it has taken some requests, and its cache drops none
-  pub record IsSound (room : ℕ) (nodes : List ℕ) (p : Pass K) : Type 0 where
-    pub greatest : room ≡ 2 ^ 64 - 1
+  -- what holds of every pass: it has taken some requests
+  pub record IsSound (nodes : List ℕ) (p : Pass K) : Type 0 where
     pub latest : IsLatest p.words nodes p.requests
     pub past : List K
     pub taken : IsPass past p

@@ -1,5 +1,5 @@
 -- What a pass over keys with sizes has taken note of, request by request. Public clauses cite it.
-use Rattle.std.specs.Prelude.{◌≡◌, ℕ, ◌+◌, ◌-◌, ◌^◌, ◌<◌, ◌≤◌, ◌↔◌, nat_le, Bool, if◌then◌else◌, List, ◌∷◌, ◌++◌, length, reverse, Some, refl, ⊤}
+use Rattle.std.specs.Prelude.{◌≡◌, ℕ, ◌+◌, ◌^◌, ◌<◌, ◌≤◌, ◌↔◌, nat_le, Bool, if◌then◌else◌, List, ◌∷◌, ◌++◌, length, reverse, Some, refl, ⊤}
 use Rattle.std.specs.Coded.{Coded, code_by, coded×, coded_list, coded_ℕ}
 use Rattle.std.specs.List.{sum_by}
 use Rattle.std.specs.Map.{lookup}
@@ -74,9 +74,8 @@ module _ {K : Type 0} (eq : K → K → Bool) where
       pub size : p.size ≡ size_of_all weight past
       pub greatest : p.greatest ≡ greatest_of weight past
 
-  -- what holds of every pass, whatever the keys weighed: its cache drops none, and no sum passes that of all sizes
-  pub record IsSoundBySize (room : ℕ) (nodes : List ℕ) (p : PassBySize K) : Type 0 where
-    pub greatest_room : room ≡ 2 ^ 64 - 1
+  -- what holds of every pass, whatever the keys weighed: no sum passes that of all sizes
+  pub record IsSoundBySize (nodes : List ℕ) (p : PassBySize K) : Type 0 where
     pub summed : IsSummed p.sizes nodes
     pub before : (x : K) (n : ℕ) → lookup (eq x) p.positions ≡ Some n → n < length p.sizes
     pub few_keys : length p.positions ≤ length p.sizes

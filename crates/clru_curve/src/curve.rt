@@ -24,7 +24,7 @@ impl<A: Allocator> Model for MissCurve<A> {
 
 impl<A: Allocator> MissCurve<A> {
     /// Returns the number of misses at the capacity, which may be any: where there is room for all keys, there are as many
-    /// misses as keys.
+    /// misses as distinct keys.
     pub fn misses(&self, capacity: NonZeroUsize) -> usize
         ensures { result ≡ misses_at self.now (non_zero_usize_get capacity) }
     {

@@ -16,6 +16,9 @@ use std::marker::Model;
 use std::mem;
 use std::num::NonZeroUsize;
 
+/// The capacity of a pass's cache at first.
+const FIRST_CAPACITY: usize = 64;
+
 /// A pass over requests, which takes them one by one and answers the distance of each.
 ///
 /// Clauses speak of the requests that it has taken by `IsPass`, the latest first: there are none at first, and each request
@@ -38,7 +41,7 @@ impl<K: Eq + Hash, S: BuildHasher, A: Allocator + Copy> Model for DistancePass<K
 
     ghost view = { λ p. pass p.positions.entries p.latest.words.items p.latest.requests p.histogram.items };
 
-    ghost invariant = { λ p. IsSound K.eq p.positions.capacity p.latest.nodes.items
+    ghost invariant = { λ p. IsSound K.eq p.latest.nodes.items
         (pass p.positions.entries p.latest.words.items p.latest.requests p.histogram.items) };
 }
 
@@ -57,7 +60,7 @@ impl<K: Eq + Hash, S: BuildHasher, A: Allocator + Copy> DistancePass<K, S, A> {
         ensures { IsPass K.eq [] result }
     {
         DistancePass {
-            positions: CLruCache::with_hasher(alloc, NonZeroUsize::MAX, hash_builder),
+            positions: no_positions(alloc, hash_builder),
             latest: Latest::new(alloc),
             histogram: Vec::new(alloc),
         }
@@ -66,9 +69,9 @@ impl<K: Eq + Hash, S: BuildHasher, A: Allocator + Copy> DistancePass<K, S, A> {
     /// Takes one more request, and answers its distance: how many distinct keys were requested since the latest request of its
     /// key, or `None` where there was none. It hits at the capacities above the distance, and at no other.
     ///
-    /// Where memory is refused, or there were `usize::MAX` requests, the key comes back and the pass is as before. A key that
-    /// was requested before wants memory at one of 64 requests at most. The cost is a look-up, and for a new key a put, besides
-    /// steps that go with the logarithm of the number of requests.
+    /// Where memory is refused, or there were `usize::MAX` requests, the key comes back and the pass has taken what it had. A
+    /// key that was requested before wants memory at one of 64 requests at most. The cost is a look-up, and for a new key a
+    /// put, besides steps that go with the logarithm of the number of requests.
     pub fn request(&mut self, key: K) -> Result<Option<usize>, K>
     where
         K: Drop,
@@ -95,6 +98,7 @@ impl<K: Eq + Hash, S: BuildHasher, A: Allocator + Copy> DistancePass<K, S, A> {
                 let Ok(()) = self.histogram.reserve(1) else {
                     return Err(key);
                 };
+                make_room(&mut self.positions);
                 if let Err((key, _)) = self.positions.put(key, number) {
                     return Err(key);
                 }
@@ -134,6 +138,37 @@ impl<K: Eq + Hash, S: BuildHasher, A: Allocator + Copy> DistancePass<K, S, A> {
         };
         misses_of(&mut misses, self.latest.requests);
         Ok(MissCurve::from_misses(misses))
+    }
+}
+
+/// A cache that holds nothing. It takes no memory.
+pub(crate) fn no_positions<K: Eq + Hash, S: BuildHasher, A: Allocator + Copy>(
+    alloc: A,
+    hash_builder: S,
+) -> CLruCache<K, usize, S, ZeroWeightScale, A>
+    ensures { result.entries ≡ [] }
+{
+    let capacity = NonZeroUsize::MIN.saturating_add(FIRST_CAPACITY - 1);
+    CLruCache::with_hasher(alloc, capacity, hash_builder)
+}
+
+/// Doubles the capacity of a cache that is full, so that a put drops nothing.
+///
+/// The capacity bounds how far the places grow, fourfold else; each takes four heads, which are all written at once.
+pub(crate) fn make_room<K: Eq + Hash + Drop, S: BuildHasher, A: Allocator + Copy>(
+    positions: &mut CLruCache<K, usize, S, ZeroWeightScale, A>,
+)
+    requires { length positions.old.entries + 1 < 2 ^ 64 }
+    ensures entries { positions.new.entries ≡ positions.old.entries }
+    ensures room { length positions.new.entries < positions.new.capacity }
+{
+    let length = positions.len();
+    if length < positions.capacity() {
+        return;
+    }
+    match NonZeroUsize::new(length.saturating_mul(2)) {
+        Some(capacity) => positions.resize(capacity),
+        None => unreachable!(),
     }
 }
 

@@ -45,3 +45,16 @@ fn a_refused_request_changes_nothing(rt: HostRuntime) -> Result<(), Fail> {
     equal!(rt; heap.held_bytes(), 0);
     Ok(())
 }
+
+/// Places and heads are at most twice as many as the keys need. A node takes 48 bytes, and a place has four heads of 4 bytes;
+/// beside them stand the histogram, and the bits with their tree.
+#[test]
+fn places_and_heads_double(rt: HostRuntime) -> Result<(), Fail> {
+    let heap = Rationed::new(rt.alloc());
+    let mut pass = DistancePass::new(&heap);
+    for key in 0..5_000u64 {
+        equal!(rt; pass.request(key).is_ok(), true, key);
+    }
+    equal!(rt; heap.held_bytes(), 8_192 * (48 + 4 * 4) + 8_192 * 8 + 128 * (8 + 8));
+    Ok(())
+}

@@ -62,8 +62,8 @@ impl<'a, K: Eq, A: Allocator + Copy> Foresight<'a, K, A> {
     ///
     /// One that starts with keys has at most `room` fewer; a replay of that capacity has no fewer.
     ///
-    /// No key is hashed or compared. The time grows with the requests, and with the logarithm of their number. Memory is taken
-    /// at the start, for a mark and a number for each request, and given back; it may be refused. Without requests none is
+    /// No key is hashed or compared. The time grows as the requests times the logarithm of their number. Memory is taken at the
+    /// start, for a mark and a number for each request, and given back; it may be refused. Without requests none is
     /// asked for.
     pub fn least(&self, room: NonZeroUsize) -> Result<usize, AllocError>
         ensures least { IfOk result (IsLeast K.eq (non_zero_usize_get room) self.now) }
@@ -169,7 +169,8 @@ fn mark<A: Allocator>(kept: &mut Vec<bool, A>, position: usize, value: bool)
 /// also one that knows all requests beforehand, where each key that is asked for is taken in, and no other: `Foresight` for
 /// one room.
 ///
-/// Where memory is refused, the keys come back as they were. Without keys none is asked for. Each key costs a look-up in a
+/// Where memory is refused, the keys come back as they were; else they are dropped: to keep them use `Foresight`, which
+/// borrows. Without keys no memory is asked for. Each key costs a look-up in a
 /// table, with `hash_builder`.
 pub fn least<K: Eq + Hash + Drop, S: BuildHasher + Drop, A: Allocator + Copy>(
     alloc: A,

@@ -2,10 +2,10 @@
 //!
 //! Room for some number of keys, and a list of requests that is known beforehand: no way of choosing what to drop misses
 //! fewer of them than the number that this crate answers, and one misses as many. Beside the misses of a replay it says how
-//! much another policy could gain at the very most.
+//! much another policy that takes in each key it is asked for, and no other, could gain at the very most.
 //!
-//! Contracts say it by schedules, the keys held before each request, and name no method. A schedule takes in each key that is
-//! asked for, and no other: a cache that may let a key pass by misses no fewer than the least with room for one key more.
+//! Contracts say it by schedules, the keys held before each request, and name no method. A policy that may let a key pass by
+//! misses no fewer than the least with room for one key more; no contract says so.
 #![tactic(auto)]
 
 mod foresight;

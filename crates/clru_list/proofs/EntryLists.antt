@@ -4,7 +4,8 @@ use Rattle.std.proofs.lemmas.List.{map-append, length-append}
 use Rattle.std.specs.Option.{option_map}
 use Rattle.std.specs.Map.{keys_of}
 use Rattle.clru_list.specs.PlaceList.{item_at, without, with_at, last_entry_from, last_entry, first_place, last_place, place_after, place_before_from, with_last, IsApart}
-use Rattle.clru_list.specs.Links.{count, nowhere, place_of}
+use Rattle.clru_list.specs.Places.{count, nowhere}
+use Rattle.clru_list.specs.Links.{place_of}
 use Rattle.clru_list.proofs.Puts.{split, decide}
 use Rattle.clru_list.proofs.Paths.{count-append, count-here, count-other, apart_head, apart_tail, last_or, first_or, last_or-counted}
 

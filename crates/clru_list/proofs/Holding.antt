@@ -3,17 +3,18 @@ use Rattle.std.proofs.Common.{◌≡◌, ℕ, ◌+◌, ◌<◌, ◌≤◌, ◌�
 use Rattle.std.proofs.lemmas.Bool.{cases_lt}
 use Rattle.std.specs.Map.{keys_of}
 use Rattle.clru_list.specs.PlaceList.{item_at}
-use Rattle.clru_list.specs.Links.{put, count, IsHeld, IsSpare, nowhere}
+use Rattle.clru_list.specs.Places.{put, count, IsRest, nowhere}
+use Rattle.clru_list.specs.Links.{IsHeld}
 use Rattle.clru_list.proofs.Puts.{decide, put-here, put-other}
 use Rattle.clru_list.proofs.Paths.{count-here, count-other, apart_head, apart_tail}
 use Rattle.clru_list.proofs.EntryLists.{IsReordered, item_at-none, item_at-here, item_at-other}
 use Rattle.clru_list.proofs.Rings.{IsOnce}
 
 -- a link that no free place has
-pub spare-outside : (f : ℕ → ℕ) (k v at : ℕ) (qs : List ℕ) → count k qs ≡ 0 → IsSpare f at qs → IsSpare (put f k v) at qs
+pub spare-outside : (f : ℕ → ℕ) (k v at : ℕ) (qs : List ℕ) → count k qs ≡ 0 → IsRest f at qs → IsRest (put f k v) at qs
 spare-outside f k v at [] h chain = chain
 spare-outside f k v at (q ∷ qs) h chain =
-    let tail = apart_tail k q qs h in let P : ℕ → Type 0 = λ a. IsSpare (put f k v) a qs in
+    let tail = apart_tail k q qs h in let P : ℕ → Type 0 = λ a. IsRest (put f k v) a qs in
     (chain.0, subst P (sym (put-other f k v q (apart_head k q qs h))) (spare-outside f k v (f q) qs tail chain.1))
 
 module _ {T : Type 0} (next : ℕ → ℕ) (item : ℕ → Option T) (free size : ℕ) where
@@ -69,14 +70,14 @@ module _ {T : Type 0} (next : ℕ → ℕ) (item : ℕ → Option T) (free size 
     small = h.small;
   }
 
-  fill_from : (all : List (ℕ × T)) (x : T) (spare : List ℕ) → (nowhere ≡ free → ⊥) → ((k : ℕ) → item k ≡ item_at k all) → IsSpare next free spare
+  fill_from : (all : List (ℕ × T)) (x : T) (spare : List ℕ) → (nowhere ≡ free → ⊥) → ((k : ℕ) → item k ≡ item_at k all) → IsRest next free spare
       → ((k : ℕ) → k < size → count k spare + count k (keys_of all) ≡ 1) → ((k : ℕ) → size ≤ k → count k spare + count k (keys_of all) ≡ 0)
       → length all + length spare ≡ size → size ≤ nowhere → IsHeld next (put item free (Some x)) (next free) size ((free, x) ∷ all)
   fill_from all x [] ne live chained inside outside total small = absurd (ne (sym chained))
   fill_from all x (q ∷ qs) ne live chained inside outside total small =
       let I : ℕ → Type 0 = λ a. (k : ℕ) → k < size → count k (a ∷ qs) + count k (keys_of all) ≡ 1 in let inside_free = subst I (sym chained.0) inside in
       let O : ℕ → Type 0 = λ a. (k : ℕ) → size ≤ k → count k (a ∷ qs) + count k (keys_of all) ≡ 0 in let outside_free = subst O (sym chained.0) outside in
-      let S : ℕ → Type 0 = λ a. IsSpare next (next a) qs in
+      let S : ℕ → Type 0 = λ a. IsRest next (next a) qs in
       record {
         spare = qs;
         live = λ k. decide free k (λ e t. rw t (let P : ℕ → Type 0 = λ m. Some x ≡ item_at m ((free, x) ∷ all) in subst P e (sym (item_at-here free x all))))
@@ -93,7 +94,7 @@ module _ {T : Type 0} (next : ℕ → ℕ) (item : ℕ → Option T) (free size 
       → IsHeld next (put item free (Some x)) (next free) size ((free, x) ∷ all)
   held-fill all x ne h = fill_from all x h.spare ne h.live h.chained h.inside h.outside h.total h.small
 
-  free_from : (all : List (ℕ × T)) → IsHeld next item free size all → (spare : List ℕ) → IsSpare next free spare → length all + length spare ≡ size
+  free_from : (all : List (ℕ × T)) → IsHeld next item free size all → (spare : List ℕ) → IsRest next free spare → length all + length spare ≡ size
       → ((k : ℕ) → size ≤ k → count k spare ≡ 0) → ((k : ℕ) → k < size → count k spare + count k (keys_of all) ≡ 1)
       → ((free ≡ nowhere) × (size ≡ length all)) ⊎ ((free < size) × (item free ≡ None) × (length all < size))
   free_from all h [] chained total outside inside = inl (chained, omega arith)
@@ -131,12 +132,12 @@ module _ {T : Type 0} (next : ℕ → ℕ) (item : ℕ → Option T) (free size 
       let here = count-here p (keys_of all) in
       let free_p = not_spare ((p, x) ∷ all) h p (omega arith) in
       let once_p = once ((p, x) ∷ all) h p in
-      let P : ℕ → Type 0 = λ a. IsSpare (put next p free) a h.spare in
+      let P : ℕ → Type 0 = λ a. IsRest (put next p free) a h.spare in
       record {
         spare = p ∷ h.spare;
         live = λ k. decide p k (λ e t. rw t (sym (item_at-none k all (let Q : ℕ → Type 0 = λ m. count m (keys_of all) ≡ 0 in subst Q e (omega arith)))))
             (λ ne f. rw f (h.live k ∙ item_at-other k p x all (λ e. ne (sym e))));
-        chained = (refl, subst P (sym (put-here next p free)) (spare-outside next p free free h.spare free_p h.chained));
+        chained = (refl, subst P (sym (put-here next p free p refl)) (spare-outside next p free free h.spare free_p h.chained));
         inside = λ k lt. omega (arith, h.inside k lt);
         outside = λ k ge. omega (arith, h.outside k ge);
         total = omega (arith, h.total);

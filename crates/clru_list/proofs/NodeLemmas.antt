@@ -7,9 +7,10 @@ use Rattle.std.proofs.lemmas.List.{get_or_past, length-append}
 use Rattle.std.proofs.Math.Seq.{get_or-append_seam}
 use Rattle.std.proofs.lemmas.Bool.{cases_lt}
 use mathlib.Core.Path.{fun_ext}
-use Rattle.clru_list.specs.Links.{put, nowhere, links_of, next_of, prev_of, item_of, IsEnd, set_next, set_prev, set_item}
-use Rattle.clru_list.specs.declared.chain.Chain.{Chain}
-use Rattle.clru_list.specs.declared.chain.Node.{Node}
+use Rattle.clru_list.specs.Places.{put, nowhere}
+use Rattle.clru_list.specs.Links.{links_of, next_of, prev_of, item_of, IsEnd, set_next, set_prev, set_item}
+use Rattle.clru_list.specs.declared.links.Links.{Links}
+use Rattle.clru_list.specs.declared.links.Node.{Node}
 use Rattle.clru_list.proofs.Puts.{decide, put-same, put-swap, put-other}
 
 module _ {N X : Type 0} (field : N → X) (d : X) where
@@ -42,7 +43,7 @@ module _ {N X : Type 0} (field : N → X) (d : X) where
 
 module _ {T A : Type 0} where
   -- a node is written
-  pub links_of-write : (c : Chain T A) (at : ℕ) (n : Node T) → at < vec_len c.nodes → (at ≡ nowhere → ⊥)
+  pub links_of-write : (c : Links T A) (at : ℕ) (n : Node T) → at < vec_len c.nodes → (at ≡ nowhere → ⊥)
       → links_of (record c { nodes = with_item c.nodes at n })
       ≡ record { next = put (next_of c) at n.next; prev = put (prev_of c) at n.prev; item = put (item_of c) at n.item; free = c.free; size = vec_len c.nodes }
   links_of-write c at n within ne =
@@ -55,7 +56,7 @@ module _ {T A : Type 0} where
       λ i. record { next = next i; prev = prev i; item = item i; free = c.free; size = vec_len c.nodes }
 
   -- a node is added
-  pub links_of-append : (c : Chain T A) (v : Vec (Node T) A) (n : Node T) → v.items ≡ c.nodes.items ++ n ∷ []
+  pub links_of-append : (c : Links T A) (v : Vec (Node T) A) (n : Node T) → v.items ≡ c.nodes.items ++ n ∷ []
       → vec_len v ≡ vec_len c.nodes + 1 → (vec_len c.nodes ≡ nowhere → ⊥)
       → links_of (record c { nodes = v })
       ≡ record { next = put (next_of c) (vec_len c.nodes) n.next; prev = put (prev_of c) (vec_len c.nodes) n.prev; item = put (item_of c) (vec_len c.nodes) n.item; free = c.free; size = vec_len c.nodes + 1 }
@@ -70,20 +71,20 @@ module _ {T A : Type 0} where
       λ i. record { next = next i; prev = prev i; item = item i; free = c.free; size = longer i }
 
   -- what a node says is what the links say
-  pub node_next : (c : Chain T A) (at : ℕ) (n : Node T) → at < vec_len c.nodes → (at ≡ nowhere → ⊥) → n ≡ get_or c.nodes.items at n → next_of c at ≡ n.next
+  pub node_next : (c : Links T A) (at : ℕ) (n : Node T) → at < vec_len c.nodes → (at ≡ nowhere → ⊥) → n ≡ get_or c.nodes.items at n → next_of c at ≡ n.next
   node_next c at n within ne h = put-other (column (λ m. m.next) 0 c.nodes.items) nowhere c.front at (λ e. ne (sym e)) ∙ column-read (λ m. m.next) 0 c.nodes.items at n (omega (arith, c.nodes.ok.0)) h
 
-  pub node_prev : (c : Chain T A) (at : ℕ) (n : Node T) → at < vec_len c.nodes → (at ≡ nowhere → ⊥) → n ≡ get_or c.nodes.items at n → prev_of c at ≡ n.prev
+  pub node_prev : (c : Links T A) (at : ℕ) (n : Node T) → at < vec_len c.nodes → (at ≡ nowhere → ⊥) → n ≡ get_or c.nodes.items at n → prev_of c at ≡ n.prev
   node_prev c at n within ne h = put-other (column (λ m. m.prev) 0 c.nodes.items) nowhere c.back at (λ e. ne (sym e)) ∙ column-read (λ m. m.prev) 0 c.nodes.items at n (omega (arith, c.nodes.ok.0)) h
 
-  pub node_item : (c : Chain T A) (at : ℕ) (n : Node T) → at < vec_len c.nodes → n ≡ get_or c.nodes.items at n → item_of c at ≡ n.item
+  pub node_item : (c : Links T A) (at : ℕ) (n : Node T) → at < vec_len c.nodes → n ≡ get_or c.nodes.items at n → item_of c at ≡ n.item
   node_item c at n within h = column-read (λ m. m.item) None c.nodes.items at n (omega (arith, c.nodes.ok.0)) h
 
   -- a place with a node, where a link may be written and that is not `nowhere`
-  pub within : (c : Chain T A) (at : ℕ) → IsEnd (links_of c) at → (at ≡ nowhere → ⊥) → at < vec_len c.nodes
+  pub within : (c : Links T A) (at : ℕ) → IsEnd (links_of c) at → (at ≡ nowhere → ⊥) → at < vec_len c.nodes
   within c at end ne = elim end [ inl e ↦ absurd (ne e) | inr h ↦ h ]
 
-  module _ (c : Chain T A) (at : ℕ) (n : Node T) (long : at < vec_len c.nodes) (ne : at ≡ nowhere → ⊥) (h : n ≡ get_or c.nodes.items at n) where
+  module _ (c : Links T A) (at : ℕ) (n : Node T) (long : at < vec_len c.nodes) (ne : at ≡ nowhere → ⊥) (h : n ≡ get_or c.nodes.items at n) where
     pub links_of-set_next : (to : ℕ) → links_of (record c { nodes = with_item c.nodes at (record n { next = to }) }) ≡ set_next (links_of c) at to
     links_of-set_next to =
         let prev = put-same (prev_of c) at n.prev (node_prev c at n long ne h) in let item = put-same (item_of c) at n.item (node_item c at n long h) in
@@ -110,7 +111,7 @@ module _ {T A : Type 0} where
         ∙ (λ i. record { next = next i; prev = prev i; item = put (item_of c) at x; free = c.free; size = vec_len c.nodes })
 
   -- other memory for the same nodes
-  pub links_of-moved : (c : Chain T A) (v : Vec (Node T) A) → v.items ≡ c.nodes.items → vec_len v ≡ vec_len c.nodes → links_of (record c { nodes = v }) ≡ links_of c
+  pub links_of-moved : (c : Links T A) (v : Vec (Node T) A) → v.items ≡ c.nodes.items → vec_len v ≡ vec_len c.nodes → links_of (record c { nodes = v }) ≡ links_of c
   links_of-moved c v same len =
       λ i. record {
         next = put (column (λ m. m.next) 0 (same i)) nowhere c.front;

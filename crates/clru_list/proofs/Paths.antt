@@ -1,6 +1,7 @@
 -- Paths along links, and how often a place is on them.
 use Rattle.std.proofs.Common.{◌≡◌, ℕ, ◌+◌, ◌<◌, ◌≤◌, List, [], ◌∷◌, ◌++◌, refl, sym, ap, ◌∙◌, arith, subst}
-use Rattle.clru_list.specs.Links.{put, count, IsPath}
+use Rattle.clru_list.specs.Places.{put, count}
+use Rattle.clru_list.specs.Links.{IsPath}
 use Rattle.clru_list.proofs.Puts.{decide, put-here, put-other}
 
 -- ---- counts
@@ -66,7 +67,7 @@ path-outside f k v a (p ∷ ps) b h path =
 -- the last link leads elsewhere
 pub path-redirect : (f : ℕ → ℕ) (v a : ℕ) (ps : List ℕ) (b : ℕ) → ((k : ℕ) → count k (a ∷ ps) ≤ 1) → IsPath f a ps b
     → IsPath (put f (last_or a ps) v) a ps v
-path-redirect f v a [] b once path = put-here f a v
+path-redirect f v a [] b once path = put-here f a v a refl
 path-redirect f v a (p ∷ ps) b once path =
     let last = last_or-counted p ps in
     let ne : last_or p ps ≡ a → ⊥ = λ e.

@@ -3,7 +3,7 @@ use Rattle.std.proofs.Common.{◌≡◌, ℕ, suc, ◌-◌, ◌^◌, ◌<◌, �
 use Rattle.std.proofs.lemmas.List.{append-nil}
 use Rattle.std.specs.Map.{keys_of}
 use Rattle.clru_list.specs.PlaceList.{PlaceList, item_at, without, with_at, first_place, last_place, place_after, IsApart, IsValid}
-use Rattle.clru_list.specs.Links.{count, nowhere}
+use Rattle.clru_list.specs.Places.{count, nowhere}
 use Rattle.clru_list.proofs.Puts.{split, decide}
 use Rattle.clru_list.proofs.Paths.{count-here}
 use Rattle.clru_list.proofs.EntryLists as entries

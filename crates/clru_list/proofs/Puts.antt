@@ -3,7 +3,8 @@ use Rattle.std.proofs.Common.{◌≡◌, ℕ, Bool, true, false, eqb, refl, sym,
 use Rattle.std.proofs.lemmas.Bool.{eqb-true, eqb-false, eq-eqb, ne_eqb}
 use mathlib.Core.Path.{fun_ext}
 use Rattle.std.specs.Prelude.{Option}
-use Rattle.clru_list.specs.Links.{put, Links, set_item}
+use Rattle.clru_list.specs.Places.{put}
+use Rattle.clru_list.specs.Links.{LinkMap, set_item}
 
 -- the two cases of a test
 pub split : {G : Type 0} (b : Bool) → (b ≡ true → G) → (b ≡ false → G) → G
@@ -15,9 +16,11 @@ pub decide : {G : Type 0} (a b : ℕ) → (a ≡ b → eqb a b ≡ true → G) �
 decide a b same apart = split (eqb a b) (λ t. same (eqb-true a b t) t) (λ f. apart (eqb-false a b f) f)
 
 module _ {X : Type 0} where
-  pub put-here : (f : ℕ → X) (a : ℕ) (v : X) → put f a v a ≡ v
-  put-here f a v = rw (eq-eqb a a refl) refl
+  -- the value at the number that was written
+  pub put-here : (f : ℕ → X) (a : ℕ) (v : X) (k : ℕ) → a ≡ k → put f a v k ≡ v
+  put-here f a v k e = rw (eq-eqb a k e) refl
 
+  -- the value at another one
   pub put-other : (f : ℕ → X) (a : ℕ) (v : X) (k : ℕ) → (a ≡ k → ⊥) → put f a v k ≡ f k
   put-other f a v k ne = rw (ne_eqb a k ne) refl
 
@@ -33,5 +36,5 @@ module _ {X : Type 0} where
       (λ _ n. rw n refl))
 
 -- the item that is there already
-pub set_item-same : {T : Type 0} (l : Links T) (at : ℕ) (x : Option T) → l.item at ≡ x → set_item l at x ≡ l
+pub set_item-same : {T : Type 0} (l : LinkMap T) (at : ℕ) (x : Option T) → l.item at ≡ x → set_item l at x ≡ l
 set_item-same l at x h = λ i. record l { item = put-same l.item at x h i }

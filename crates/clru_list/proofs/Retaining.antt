@@ -3,7 +3,7 @@ use Rattle.std.proofs.Common.{◌≡◌, ℕ, ◌<◌, Bool, true, false, cond, 
 use Rattle.std.specs.Map.{keys_of}
 use Rattle.std.specs.Map.Calls.{RetainsPairs, CallableOnEachPair}
 use Rattle.clru_list.specs.PlaceList.{PlaceList, with_entries, item_at, without, with_at, first_place, place_after, IsApart, IsValid}
-use Rattle.clru_list.specs.Links.{count}
+use Rattle.clru_list.specs.Places.{count}
 use Rattle.clru_list.proofs.Puts.{decide}
 use Rattle.clru_list.proofs.Paths.{apart_head, apart_tail}
 use Rattle.clru_list.proofs.EntryLists.{IsHead, head_is, no_head, absent_before, item_at-in, place_after-split, without-split, with_at-split}

@@ -1,7 +1,8 @@
 -- A place that leaves a ring of links, or comes into it.
-use Rattle.std.proofs.Common.{◌≡◌, ℕ, ◌<◌, ◌≤◌, List, [], ◌∷◌, ◌++◌, sym, ap, ◌∙◌, arith, subst}
+use Rattle.std.proofs.Common.{◌≡◌, ℕ, ◌<◌, ◌≤◌, List, [], ◌∷◌, ◌++◌, refl, sym, ap, ◌∙◌, arith, subst}
 use Rattle.std.proofs.lemmas.List.{append-nil}
-use Rattle.clru_list.specs.Links.{put, count, IsPath, IsLinked, nowhere}
+use Rattle.clru_list.specs.Places.{put, count, nowhere}
+use Rattle.clru_list.specs.Links.{IsPath, IsLinked}
 use Rattle.clru_list.proofs.Puts.{decide, put-here, put-other}
 use Rattle.clru_list.proofs.Paths.{count-append, count-here, count-other, last_or, first_or, last_or-counted, first_or-counted, path_join, path_left, path_right, path-outside, path-redirect, path_last, path_first, path_closed}
 
@@ -36,7 +37,7 @@ module _ (f : ℕ → ℕ) (s e : ℕ) where
       let redirected = path-redirect (put f p e) p s ps e (λ k. let m = count-append k ps (p ∷ []) in omega (arith, once k)) outside in
       let last = last_or-counted s ps in
       let ne : last_or s ps ≡ p → ⊥ = λ d. let P : ℕ → Type 0 = λ k. 0 < count k (s ∷ ps) in let held = subst P d last in absurd (omega (arith, once p)) in
-      path_join (put (put f p e) (last_or s ps) p) s ps p [] e redirected (put-other (put f p e) (last_or s ps) p p ne ∙ put-here f p e)
+      path_join (put (put f p e) (last_or s ps) p) s ps p [] e redirected (put-other (put f p e) (last_or s ps) p p ne ∙ put-here f p e p refl)
   path-link ps p (q ∷ qs) once path =
       let left = path_left f s ps q qs e path in let right = path_right f s ps q qs e path in
       let n = count-append p ps (p ∷ (q ∷ qs)) in let here = count-here p (q ∷ qs) in
@@ -45,7 +46,7 @@ module _ (f : ℕ → ℕ) (s e : ℕ) where
       let last = last_or-counted s ps in let m = count-append (last_or s ps) ps (p ∷ (q ∷ qs)) in
       let ne : last_or s ps ≡ p → ⊥ = λ d. let P : ℕ → Type 0 = λ k. 0 < count k (s ∷ ps) in let held = subst P d last in absurd (omega (arith, once p)) in
       path_join (put (put f p q) (last_or s ps) p) s ps p (q ∷ qs) e redirected (
-        put-other (put f p q) (last_or s ps) p p ne ∙ put-here f p q,
+        put-other (put f p q) (last_or s ps) p p ne ∙ put-here f p q p refl,
         path-outside (put f p q) (last_or s ps) p q qs e (omega (arith, once (last_or s ps))) (path-outside f p q q qs e (omega (arith, once p)) right),
       )
 
@@ -81,7 +82,7 @@ module _ (next prev : ℕ → ℕ) where
             let n = count-append k ps qs in let m = count-append k ps (p ∷ qs) in
             let in_ring : 0 < count k (nowhere ∷ (ps ++ p ∷ qs)) = omega arith in
             decide (prev p) k
-            (λ e t. rw t (put-here prev (next p) (prev p) ∙ e))
+            (λ e t. rw t (put-here prev (next p) (prev p) (next p) refl ∙ e))
             (λ ne f. let not_p : next p ≡ next k → ⊥ = λ same.
             let is_p : p ≡ k = sym (ring.backward p at_p) ∙ ap prev same ∙ ring.backward k in_ring in
             let here = count-here k qs in let Q : ℕ → Type 0 = λ l. count k (nowhere ∷ (ps ++ l ∷ qs)) ≤ 1 in let twice = subst Q is_p (once k) in
@@ -101,9 +102,9 @@ module _ (next prev : ℕ → ℕ) where
         backward = λ k held.
             let new = count-append k ps (p ∷ qs) in let old = count-append k ps qs in
             decide a k
-            (λ e t. rw t (put-other (put prev p a) b p p not_b ∙ put-here prev p a ∙ e))
+            (λ e t. rw t (put-other (put prev p a) b p p not_b ∙ put-here prev p a p refl ∙ e))
             (λ ne f. decide p k
-            (λ e t. rw (f, t) (put-here (put prev p a) b p ∙ e))
+            (λ e t. rw (f, t) (put-here (put prev p a) b p b refl ∙ e))
             (λ other g.
             let none = count-other k p qs (λ e. other (sym e)) in
             let in_ring : 0 < count k (nowhere ∷ (ps ++ qs)) = omega arith in

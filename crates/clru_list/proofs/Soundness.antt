@@ -3,7 +3,8 @@ use Rattle.std.proofs.Common.{◌≡◌, ℕ, ◌<◌, ◌≤◌, ◌^◌, inl, 
 use Rattle.std.proofs.lemmas.Bool.{cases_lt}
 use Rattle.std.specs.Map.{keys_of}
 use Rattle.clru_list.specs.PlaceList.{place_list, item_at, first_place, last_place, IsValid}
-use Rattle.clru_list.specs.Links.{Links, put, count, IsPath, IsLinked, IsHeld, IsSound, nowhere, place_of, walk, unlinked, linked, released, occupied, spot, IsEnd}
+use Rattle.clru_list.specs.Places.{put, count, nowhere}
+use Rattle.clru_list.specs.Links.{LinkMap, IsPath, IsLinked, IsHeld, IsSound, place_of, walk, unlinked, linked, released, occupied, spot, IsEnd}
 use Rattle.clru_list.proofs.Puts.{decide}
 use Rattle.clru_list.proofs.Paths.{count-append, count-here, count-other, last_or, first_or, last_or-counted}
 use Rattle.clru_list.proofs.EntryLists.{reordered, item_at-none, item_at-here, keys-split, keys-joined, apart_from_counts, first_place-is, last_place-is}
@@ -12,7 +13,7 @@ use Rattle.clru_list.proofs.Holding.{once, below, end_of, held-reorder, held-nex
 
 module _ {T : Type 0} where
   -- the walk along the links of the entries
-  walk-from : (l : Links T) (es : List (ℕ × T)) (a : ℕ) → IsPath l.next a (keys_of es) nowhere → ((k : ℕ) → count k (keys_of es) ≤ 1)
+  walk-from : (l : LinkMap T) (es : List (ℕ × T)) (a : ℕ) → IsPath l.next a (keys_of es) nowhere → ((k : ℕ) → count k (keys_of es) ≤ 1)
       → ((k : ℕ) (x : T) → item_at k es ≡ Some x → l.item k ≡ Some x) → walk l (l.next a) (length es) ≡ es
   walk-from l [] a path apart live = refl
   walk-from l (e ∷ es) a path apart live =
@@ -31,7 +32,7 @@ module _ {T : Type 0} where
         | inr ge ↦ let P : Option T → Type 0 = λ o. IsSome o in let none = subst P (item_at-none k es (omega arith)) some in absurd (cc)
       ]
 
-  module _ (l : Links T) (len capacity places room : ℕ) (es : List (ℕ × T)) (s : IsSound l len capacity places room es) where
+  module _ (l : LinkMap T) (len capacity places allotted : ℕ) (es : List (ℕ × T)) (s : IsSound l len capacity places allotted es) where
     pub ring_once : IsOnce (nowhere ∷ keys_of es)
     ring_once = once l.next l.item l.free l.size es s.held
 
@@ -73,11 +74,11 @@ module _ {T : Type 0} where
     end_at k held = end_of l.next l.item l.free l.size es s.held k held
 
   -- an item that is not linked, with the other entries
-  pub record IsLoose (l : Links T) (p : ℕ) (x : T) (es : List (ℕ × T)) : Type 0 where
+  pub record IsLoose (l : LinkMap T) (p : ℕ) (x : T) (es : List (ℕ × T)) : Type 0 where
     pub linked : IsLinked l.next l.prev (keys_of es)
     pub held : IsHeld l.next l.item l.free l.size ((p, x) ∷ es)
 
-  module _ (l : Links T) (p : ℕ) (x : T) where
+  module _ (l : LinkMap T) (p : ℕ) (x : T) where
     -- it comes between a and b
     pub link-loose : (a b : ℕ) (bs cs : List (ℕ × T)) → a ≡ last_or nowhere (keys_of bs) → b ≡ first_or nowhere (keys_of cs) → IsLoose l p x (bs ++ cs)
         → IsLinked (linked l a p b).next (linked l a p b).prev (keys_of (bs ++ (p, x) ∷ cs))
@@ -129,7 +130,7 @@ module _ {T : Type 0} where
         (linked-next l.next l.prev p l.free (keys_of es) outside loose.linked, held-release l.next l.item l.free l.size es p x loose.held)
 
   -- an item goes into a free place or a new one
-  pub occupy-loose : (l : Links T) (x : T) (es : List (ℕ × T)) → IsLinked l.next l.prev (keys_of es) → IsHeld l.next l.item l.free l.size es
+  pub occupy-loose : (l : LinkMap T) (x : T) (es : List (ℕ × T)) → IsLinked l.next l.prev (keys_of es) → IsHeld l.next l.item l.free l.size es
       → (l.free ≡ nowhere → l.size < nowhere) → IsLoose (occupied l x) (spot l) x es
   occupy-loose l x es ring holds room =
       decide nowhere l.free
@@ -142,9 +143,9 @@ module _ {T : Type 0} where
       (λ ne f. rw f (record { linked = ring; held = held-fill l.next l.item l.free l.size es x ne holds }))
 
   -- a list with no nodes
-  pub sound-empty : (l : Links T) (capacity places room : ℕ) → l.next nowhere ≡ nowhere → l.prev nowhere ≡ nowhere → ((k : ℕ) → l.item k ≡ None)
-      → l.free ≡ nowhere → l.size ≡ 0 → places ≤ room → room < 2 ^ 63 → IsSound l 0 capacity places room []
-  sound-empty l capacity places room next prev item free size reserved countable = record {
+  pub sound-empty : (l : LinkMap T) (capacity places allotted : ℕ) → l.next nowhere ≡ nowhere → l.prev nowhere ≡ nowhere → ((k : ℕ) → l.item k ≡ None)
+      → l.free ≡ nowhere → l.size ≡ 0 → places ≤ allotted → allotted < 2 ^ 63 → IsSound l 0 capacity places allotted []
+  sound-empty l capacity places allotted next prev item free size reserved countable = record {
     linked = record {
       forward = next;
       backward = λ k held. decide k nowhere (λ e _. ap (λ m. l.prev (l.next m)) e ∙ ap l.prev next ∙ prev ∙ sym e)

@@ -3,7 +3,8 @@ use Rattle.std.proofs.Common.{◌≡◌, ℕ, suc, ◌+◌, ◌-◌, ◌<◌, �
 use Rattle.std.proofs.lemmas.List.{length-append, append-nil}
 use Rattle.std.specs.Map.{keys_of}
 use Rattle.clru_list.specs.PlaceList.{without, with_at, place_after, place_before}
-use Rattle.clru_list.specs.Links.{Links, put, count, IsLinked, IsHeld, IsSound, nowhere, place_of, unlinked, linked, released, set_item, occupied, spot, IsEnd}
+use Rattle.clru_list.specs.Places.{put, count, nowhere}
+use Rattle.clru_list.specs.Links.{LinkMap, IsLinked, IsHeld, IsSound, place_of, unlinked, linked, released, set_item, occupied, spot, IsEnd}
 use Rattle.clru_list.proofs.Puts.{decide, put-other}
 use Rattle.clru_list.proofs.Paths.{count-append, count-here, last_or, first_or, last_or-counted, first_or-counted, count-le-cons, path_last, path_left}
 use Rattle.clru_list.proofs.EntryLists.{Split, split_at, without-split, with_at-split, item_at-none, keys-split, first_place-is, place_after-split, place_before-split, reordered}
@@ -15,9 +16,9 @@ first_counted : (p : ℕ) (ps : List ℕ) → 0 < count p ps → 0 < count (firs
 first_counted p [] some = absurd (omega arith)
 first_counted p (q ∷ qs) some = let here = count-here q qs in omega arith
 
-module _ {T : Type 0} (l : Links T) (len capacity places room : ℕ) (i : (es : List (ℕ × T)) × IsSound l len capacity places room es) where
+module _ {T : Type 0} (l : LinkMap T) (len capacity places allotted : ℕ) (i : (es : List (ℕ × T)) × IsSound l len capacity places allotted es) where
   -- another capacity
-  pub sound-resize : (c : ℕ) → len ≤ c → IsSound l len c places room i.0
+  pub sound-resize : (c : ℕ) → len ≤ c → IsSound l len c places allotted i.0
   sound-resize c fits = record { linked = i.1.linked; held = i.1.held; counted = i.1.counted; fits = fits; within = i.1.within; reserved = i.1.reserved; countable = i.1.countable }
 
   -- more places
@@ -58,13 +59,13 @@ module _ {T : Type 0} (l : Links T) (len capacity places room : ℕ) (i : (es : 
     pub prev_end : IsEnd l (l.prev p)
     prev_end = let P : ℕ → Type 0 = λ k. IsEnd l k in let k = last_or nowhere (keys_of at_place.before) in let last = last_or-counted nowhere (keys_of at_place.before) in
         subst P (sym (prev_is l.next l.prev (keys_of at_place.before) p (keys_of at_place.behind) ring_parts))
-        (end_at l len capacity places room i.0 i.1 (last_or nowhere (keys_of at_place.before)) (omega (arith, keys_count (last_or nowhere (keys_of at_place.before)))))
+        (end_at l len capacity places allotted i.0 i.1 (last_or nowhere (keys_of at_place.before)) (omega (arith, keys_count (last_or nowhere (keys_of at_place.before)))))
 
     pub next_end : IsEnd l (l.next p)
     next_end = let P : ℕ → Type 0 = λ k. IsEnd l k in let first = first_or-counted nowhere (keys_of at_place.behind) in
         let le = count-le-cons (first_or nowhere (keys_of at_place.behind)) p (keys_of at_place.behind) in
         subst P (sym (next_is l.next l.prev (keys_of at_place.before) p (keys_of at_place.behind) ring_parts))
-        (end_at l len capacity places room i.0 i.1 (first_or nowhere (keys_of at_place.behind)) (omega (arith, keys_count (first_or nowhere (keys_of at_place.behind)))))
+        (end_at l len capacity places allotted i.0 i.1 (first_or nowhere (keys_of at_place.behind)) (omega (arith, keys_count (first_or nowhere (keys_of at_place.behind)))))
 
     length_split : length i.0 ≡ suc (length (at_place.before ++ at_place.behind))
     length_split = ap length at_place.is ∙ (reordered p x at_place.before at_place.behind at_place.absent).lengths
@@ -73,10 +74,10 @@ module _ {T : Type 0} (l : Links T) (len capacity places room : ℕ) (i : (es : 
     unlinked_loose = unlink-loose l p x at_place.before at_place.behind at_place.absent ring_split held_split
 
     -- the item is out, and its place is free
-    pub sound-remove : IsSound (released (unlinked (set_item l p None) p) p) (len - 1) capacity places room (without p i.0)
+    pub sound-remove : IsSound (released (unlinked (set_item l p None) p) p) (len - 1) capacity places allotted (without p i.0)
     sound-remove =
         let done = release-loose (unlinked l p) p x (at_place.before ++ at_place.behind) unlinked_loose in
-        let P : List (ℕ × T) → Type 0 = λ es. IsSound (released (unlinked (set_item l p None) p) p) (len - 1) capacity places room es in
+        let P : List (ℕ × T) → Type 0 = λ es. IsSound (released (unlinked (set_item l p None) p) p) (len - 1) capacity places allotted es in
         subst P (sym without_is) (record {
           linked = done.0;
           held = done.1;
@@ -103,11 +104,11 @@ module _ {T : Type 0} (l : Links T) (len capacity places room : ℕ) (i : (es : 
         (below l.next l.item l.free l.size i.0 i.1.held (first_or nowhere (keys_of i.0)) (first_counted p (keys_of i.0) (omega (arith, keys_count p))))
 
     -- the item is at the front
-    sound-front : IsSound (linked (unlinked l p) nowhere p ((unlinked l p).next nowhere)) len capacity places room ((p, x) ∷ without p i.0)
+    sound-front : IsSound (linked (unlinked l p) nowhere p ((unlinked l p).next nowhere)) len capacity places allotted ((p, x) ∷ without p i.0)
     sound-front =
         let es = at_place.before ++ at_place.behind in let loose = unlinked_loose in
         let done = link-loose (unlinked l p) p x nowhere ((unlinked l p).next nowhere) [] es refl (front_is (unlinked l p).next (unlinked l p).prev (keys_of es) loose.linked) loose in
-        let P : List (ℕ × T) → Type 0 = λ ds. IsSound (linked (unlinked l p) nowhere p ((unlinked l p).next nowhere)) len capacity places room ((p, x) ∷ ds) in
+        let P : List (ℕ × T) → Type 0 = λ ds. IsSound (linked (unlinked l p) nowhere p ((unlinked l p).next nowhere)) len capacity places allotted ((p, x) ∷ ds) in
         subst P (sym without_is) (record {
           linked = done.0;
           held = done.1;
@@ -119,16 +120,16 @@ module _ {T : Type 0} (l : Links T) (len capacity places room : ℕ) (i : (es : 
         })
 
     -- the same where it was not there before
-    pub sound-moved : (l.next nowhere ≡ p → ⊥) → IsSound (linked (unlinked l p) nowhere p (l.next nowhere)) len capacity places room ((p, x) ∷ without p i.0)
+    pub sound-moved : (l.next nowhere ≡ p → ⊥) → IsSound (linked (unlinked l p) nowhere p (l.next nowhere)) len capacity places allotted ((p, x) ∷ without p i.0)
     sound-moved ne =
-        let P : ℕ → Type 0 = λ k. IsSound (linked (unlinked l p) nowhere p k) len capacity places room ((p, x) ∷ without p i.0) in
+        let P : ℕ → Type 0 = λ k. IsSound (linked (unlinked l p) nowhere p k) len capacity places allotted ((p, x) ∷ without p i.0) in
         subst P (put-other l.next (l.prev p) (l.next p) nowhere (λ e. absurd (omega (arith, prev_below ne, i.1.held.small)))) sound-front
 
     -- another item is at the place
-    pub sound-write : (w : T) → IsSound (set_item l p (Some w)) len capacity places room (with_at p w i.0)
+    pub sound-write : (w : T) → IsSound (set_item l p (Some w)) len capacity places allotted (with_at p w i.0)
     sound-write w =
         let bs = at_place.before in let cs = at_place.behind in
-        let P : List (ℕ × T) → Type 0 = λ es. IsSound (set_item l p (Some w)) len capacity places room es in
+        let P : List (ℕ × T) → Type 0 = λ es. IsSound (set_item l p (Some w)) len capacity places allotted es in
         let Q : List ℕ → Type 0 = λ r. IsLinked l.next l.prev r in
         let order = reordered p x bs cs at_place.absent in let back = reordered p w bs cs at_place.absent in
         subst P (sym (ap (with_at p w) at_place.is ∙ with_at-split p x w bs cs at_place.absent)) (record {
@@ -144,7 +145,7 @@ module _ {T : Type 0} (l : Links T) (len capacity places room : ℕ) (i : (es : 
         })
 
     none_nowhere : (count nowhere (keys_of at_place.before) ≡ 0) × (count nowhere (keys_of at_place.behind) ≡ 0)
-    none_nowhere = let n = no_nowhere l len capacity places room i.0 i.1 in (omega (arith, keys_count nowhere), omega (arith, keys_count nowhere))
+    none_nowhere = let n = no_nowhere l len capacity places allotted i.0 i.1 in (omega (arith, keys_count nowhere), omega (arith, keys_count nowhere))
 
     pub next_place : place_of (l.next p) ≡ place_after p i.0
     next_place = ap place_of (next_is l.next l.prev (keys_of at_place.before) p (keys_of at_place.behind) ring_parts) ∙ sym (first_place-is at_place.behind none_nowhere.1)
@@ -157,14 +158,14 @@ module _ {T : Type 0} (l : Links T) (len capacity places room : ℕ) (i : (es : 
   -- where an item goes there is none, and a node for it has memory
   pub free_none : l.item l.free ≡ None
   free_none = elim (free_is l.next l.item l.free l.size i.0 i.1.held) [
-    | inl e ↦ ap l.item e.0 ∙ i.1.held.live nowhere ∙ item_at-none nowhere i.0 (no_nowhere l len capacity places room i.0 i.1)
+    | inl e ↦ ap l.item e.0 ∙ i.1.held.live nowhere ∙ item_at-none nowhere i.0 (no_nowhere l len capacity places allotted i.0 i.1)
     | inr e ↦ e.1
   ]
 
   pub free_end : IsEnd l l.free
   free_end = elim (free_is l.next l.item l.free l.size i.0 i.1.held) [ inl e ↦ inl e.0 | inr e ↦ inr e.0 ]
 
-  pub free_room : len < places → l.free ≡ nowhere → l.size < room
+  pub free_room : len < places → l.free ≡ nowhere → l.size < allotted
   free_room lt is = elim (free_is l.next l.item l.free l.size i.0 i.1.held) [
     | inl e ↦ omega (arith, e.1, i.1.counted, i.1.reserved)
     | inr e ↦ absurd (omega (arith, e.0, i.1.held.small))
@@ -197,14 +198,14 @@ module _ {T : Type 0} (l : Links T) (len capacity places room : ℕ) (i : (es : 
         (end_of (occupied l x).next (occupied l x).item (occupied l x).free (occupied l x).size ((spot l, x) ∷ i.0) loose.held (last_or nowhere (keys_of i.0)) (omega arith))
 
     -- the item is pushed to the front
-    pub sound-push_front : len < capacity → IsSound (linked (occupied l x) nowhere (spot l) ((occupied l x).next nowhere)) (len + 1) capacity places room ((spot l, x) ∷ i.0)
+    pub sound-push_front : len < capacity → IsSound (linked (occupied l x) nowhere (spot l) ((occupied l x).next nowhere)) (len + 1) capacity places allotted ((spot l, x) ∷ i.0)
     sound-push_front fits =
         let loose = occupied_loose in
         let done = link-loose (occupied l x) (spot l) x nowhere ((occupied l x).next nowhere) [] i.0 refl (front_is (occupied l x).next (occupied l x).prev (keys_of i.0) loose.linked) loose in
         record { linked = done.0; held = done.1; counted = omega (arith, i.1.counted); fits = omega arith; within = occupied_within; reserved = i.1.reserved; countable = i.1.countable }
 
     -- the item is pushed to the back
-    pub sound-push_back : len < capacity → IsSound (linked (occupied l x) ((occupied l x).prev nowhere) (spot l) nowhere) (len + 1) capacity places room (i.0 ++ (spot l, x) ∷ [])
+    pub sound-push_back : len < capacity → IsSound (linked (occupied l x) ((occupied l x).prev nowhere) (spot l) nowhere) (len + 1) capacity places allotted (i.0 ++ (spot l, x) ∷ [])
     sound-push_back fits =
         let P : List (ℕ × T) → Type 0 = λ es. IsLoose (occupied l x) (spot l) x es in
         let loose = occupied_loose in

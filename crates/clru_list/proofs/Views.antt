@@ -6,11 +6,12 @@ use Rattle.std.specs.Map.{keys_of}
 use Rattle.std.specs.Prelude.{vec_len, vec_capacity, slice_index_or as get_or}
 use Rattle.std.specs.Vec.{with_item}
 use Rattle.clru_list.specs.PlaceList.{PlaceList, place_list, with_entries, item_at, without, with_at, to_front, first_entry, last_entry, last_entry_from, first_place, last_place, place_after, place_before_from, IsValid}
-use Rattle.clru_list.specs.declared.chain.Chain.{Chain}
-use Rattle.clru_list.specs.declared.chain.Node.{Node}
+use Rattle.clru_list.specs.declared.links.Links.{Links}
+use Rattle.clru_list.specs.declared.links.Node.{Node}
 use Rattle.clru_list.proofs.NodeLemmas.{links_of-set_item}
 use Rattle.clru_list.proofs.Steps.{place_below, sound-write}
-use Rattle.clru_list.specs.Links.{Links, links_of, count, IsSound, nowhere, place_of, walk, set_item}
+use Rattle.clru_list.specs.Places.{count, nowhere}
+use Rattle.clru_list.specs.Links.{LinkMap, links_of, IsSound, place_of, walk, set_item}
 use Rattle.clru_list.proofs.Puts.{split}
 use Rattle.clru_list.proofs.Paths.{count-here, last_or, first_or, last_or-counted}
 use Rattle.clru_list.proofs.EntryLists.{item_at-here, item_at-other}
@@ -48,17 +49,17 @@ module _ {T : Type 0} where
   first_item [] = refl
   first_item (e ∷ es) = item_at-here e.0 e.1 es
 
-  module _ (l : Links T) (len capacity places room : ℕ) (i : (es : List (ℕ × T)) × IsSound l len capacity places room es) where
+  module _ (l : LinkMap T) (len capacity places allotted : ℕ) (i : (es : List (ℕ × T)) × IsSound l len capacity places allotted es) where
     module _ (now : PlaceList T) (h : place_list (walk l (l.next nowhere) len) capacity places ≡ now) where
       -- what is seen is the entries, with the fields
       pub seen : now ≡ place_list i.0 capacity places
-      seen = sym h ∙ view-is l len capacity places room i.0 i.1
+      seen = sym h ∙ view-is l len capacity places allotted i.0 i.1
 
       pub seen_entries : now.entries ≡ i.0
       seen_entries = ap (λ n. n.entries) seen
 
       pub seen_valid : IsValid now
-      seen_valid = subst IsValid (sym seen) (valid l len capacity places room i.0 i.1)
+      seen_valid = subst IsValid (sym seen) (valid l len capacity places allotted i.0 i.1)
 
       pub seen_item : (p : ℕ) → l.item p ≡ item_at p now.entries
       seen_item p = i.1.held.live p ∙ ap (item_at p) (sym seen_entries)
@@ -72,13 +73,13 @@ module _ {T : Type 0} where
 
       pub seen_back : l.item (l.prev nowhere) ≡ option_map (λ e. e.1) (last_entry now.entries)
       seen_back = ap l.item (back_is l.next l.prev (keys_of i.0) i.1.linked) ∙ i.1.held.live _
-          ∙ last_item i.0 (keys_once l len capacity places room i.0 i.1) ∙ ap (λ es. option_map (λ e. e.1) (last_entry es)) (sym seen_entries)
+          ∙ last_item i.0 (keys_once l len capacity places allotted i.0 i.1) ∙ ap (λ es. option_map (λ e. e.1) (last_entry es)) (sym seen_entries)
 
       pub seen_first : place_of (l.next nowhere) ≡ first_place now.entries
-      seen_first = first_place_view l len capacity places room i.0 i.1 ∙ ap first_place (sym seen_entries)
+      seen_first = first_place_view l len capacity places allotted i.0 i.1 ∙ ap first_place (sym seen_entries)
 
       pub seen_last : place_of (l.prev nowhere) ≡ last_place now.entries
-      seen_last = last_place_view l len capacity places room i.0 i.1 ∙ ap last_place (sym seen_entries)
+      seen_last = last_place_view l len capacity places allotted i.0 i.1 ∙ ap last_place (sym seen_entries)
 
   -- the first entry stays where it is
   to_front-first : (p : ℕ) (es : List (ℕ × T)) → first_or nowhere (keys_of es) ≡ p → to_front p es ≡ es
@@ -89,39 +90,39 @@ module _ {T : Type 0} where
   some_item None some = absurd (cc)
   some_item (Some x) some = (x, refl)
 
-  module _ (l : Links T) (len capacity places room : ℕ) (i : (es : List (ℕ × T)) × IsSound l len capacity places room es)
+  module _ (l : LinkMap T) (len capacity places allotted : ℕ) (i : (es : List (ℕ × T)) × IsSound l len capacity places allotted es)
       (now : PlaceList T) (h : place_list (walk l (l.next nowhere) len) capacity places ≡ now) where
     -- the item that is seen at a place is there
     pub held_item : (p : ℕ) → IsSome (item_at p now.entries) → (x : T) × (l.item p ≡ Some x)
-    held_item p some = let it = some_item (item_at p now.entries) some in (it.0, seen_item l len capacity places room i now h p ∙ it.1)
+    held_item p some = let it = some_item (item_at p now.entries) some in (it.0, seen_item l len capacity places allotted i now h p ∙ it.1)
 
     pub seen_length : len ≡ length now.entries
-    seen_length = i.1.counted ∙ ap length (sym (seen_entries l len capacity places room i now h))
+    seen_length = i.1.counted ∙ ap length (sym (seen_entries l len capacity places allotted i now h))
 
     -- the room that is seen is there
     pub has_room : (length now.entries < now.places) × (length now.entries < now.capacity) → (len < places) × (len < capacity)
     has_room free =
-        let sees = seen l len capacity places room i now h in let same_places = ap (λ n. n.places) sees in let same_capacity = ap (λ n. n.capacity) sees in
+        let sees = seen l len capacity places allotted i now h in let same_places = ap (λ n. n.places) sees in let same_capacity = ap (λ n. n.capacity) sees in
         let below = free.0 in let fits = free.1 in let counts = seen_length in (omega arith, omega arith)
 
     pub seen_with : (change : List (ℕ × T) → List (ℕ × T)) → with_entries now (change now.entries) ≡ place_list (change i.0) capacity places
-    seen_with change = ap (λ n. with_entries n (change n.entries)) (seen l len capacity places room i now h)
+    seen_with change = ap (λ n. with_entries n (change n.entries)) (seen l len capacity places allotted i now h)
 
     pub seen_to_front : (p : ℕ) (x : T) → l.item p ≡ Some x → with_entries now (to_front p now.entries) ≡ place_list ((p, x) ∷ without p i.0) capacity places
     seen_to_front p x is = seen_with (to_front p)
         ∙ ap (λ o. place_list (option_map_or (λ y. (p, y) ∷ without p i.0) o i.0) capacity places) (sym (i.1.held.live p) ∙ is)
 
     pub seen_front_stays : (p : ℕ) → l.next nowhere ≡ p → with_entries now (to_front p now.entries) ≡ now
-    seen_front_stays p first = ap (with_entries now) (to_front-first p now.entries (sym (front_place l len capacity places room i now h) ∙ first))
+    seen_front_stays p first = ap (with_entries now) (to_front-first p now.entries (sym (front_place l len capacity places allotted i now h) ∙ first))
 
   -- the same fact of equal links, in memory of the same size
-  pub sound-at : (l m : Links T) (len capacity places room wide : ℕ) (es : List (ℕ × T)) → m ≡ l → wide ≡ room → IsSound l len capacity places room es
+  pub sound-at : (l m : LinkMap T) (len capacity places allotted wide : ℕ) (es : List (ℕ × T)) → m ≡ l → wide ≡ allotted → IsSound l len capacity places allotted es
       → IsSound m len capacity places wide es
-  sound-at l m len capacity places room wide es links memory s =
-      let P : Links T → Type 0 = λ k. IsSound k len capacity places room es in let Q : ℕ → Type 0 = λ r. IsSound m len capacity places r es in
+  sound-at l m len capacity places allotted wide es links memory s =
+      let P : LinkMap T → Type 0 = λ k. IsSound k len capacity places allotted es in let Q : ℕ → Type 0 = λ r. IsSound m len capacity places r es in
       subst Q (sym memory) (subst P (sym links) s)
 
-module _ {T A : Type 0} (c : Chain T A) (len capacity places : ℕ)
+module _ {T A : Type 0} (c : Links T A) (len capacity places : ℕ)
     (i : (es : List (ℕ × T)) × IsSound (links_of c) len capacity places (vec_capacity c.nodes) es) (p : ℕ) (x : T) (h : (links_of c).item p ≡ Some x)
     (n : Node T) (is : n ≡ get_or c.nodes.items p n) where
   -- another item is written into the node of a place

@@ -4,6 +4,7 @@ pub mod Fingers
 pub mod Lends
 pub mod Links
 pub mod PlaceList
+pub mod Places
 pub mod Pushes
 pub mod Retains
 pub mod Walks

@@ -3,18 +3,11 @@ use Rattle.std.specs.Prelude.{◌≡◌, ◌⊎◌, ℕ, zero, suc, ◌+◌, ◌
 use Rattle.std.specs.Option.{option_map_or}
 use Rattle.std.specs.Map.{keys_of}
 use Rattle.clru_list.specs.PlaceList.{item_at}
-use Rattle.clru_list.specs.declared.chain.Chain.{Chain}
-
--- the place that no node has
-abbrev pub nowhere : ℕ
-nowhere = 18446744073709551615
-
--- f with v at a
-abbrev pub put : {X : Type 0} → (ℕ → X) → ℕ → X → ℕ → X
-put f a v k = if a == k then v else f k
+use Rattle.clru_list.specs.Places.{nowhere, put, count, IsRest}
+use Rattle.clru_list.specs.declared.links.Links.{Links}
 
 -- the links and the item at each place. At `nowhere` the next place is the front and the one before is the back
-pub record Links (T : Type 0) : Type 0 where
+pub record LinkMap (T : Type 0) : Type 0 where
   pub next : ℕ → ℕ
   pub prev : ℕ → ℕ
   pub item : ℕ → Option T
@@ -22,49 +15,49 @@ pub record Links (T : Type 0) : Type 0 where
   pub size : ℕ
 
 module _ {T A : Type 0} where
-  abbrev pub next_of : Chain T A → ℕ → ℕ
+  abbrev pub next_of : Links T A → ℕ → ℕ
   next_of c = put (λ k. slice_index_or (map (λ n. n.next) c.nodes.items) k 0) nowhere c.front
 
-  abbrev pub prev_of : Chain T A → ℕ → ℕ
+  abbrev pub prev_of : Links T A → ℕ → ℕ
   prev_of c = put (λ k. slice_index_or (map (λ n. n.prev) c.nodes.items) k 0) nowhere c.back
 
-  abbrev pub item_of : Chain T A → ℕ → Option T
+  abbrev pub item_of : Links T A → ℕ → Option T
   item_of c k = slice_index_or (map (λ n. n.item) c.nodes.items) k None
 
-  abbrev pub links_of : Chain T A → Links T
+  abbrev pub links_of : Links T A → LinkMap T
   links_of c = record { next = next_of c; prev = prev_of c; item = item_of c; free = c.free; size = vec_len c.nodes }
 
 module _ {T : Type 0} where
-  abbrev pub set_next : Links T → ℕ → ℕ → Links T
+  abbrev pub set_next : LinkMap T → ℕ → ℕ → LinkMap T
   set_next l at to = record l { next = put l.next at to }
 
-  abbrev pub set_prev : Links T → ℕ → ℕ → Links T
+  abbrev pub set_prev : LinkMap T → ℕ → ℕ → LinkMap T
   set_prev l at to = record l { prev = put l.prev at to }
 
-  abbrev pub set_item : Links T → ℕ → Option T → Links T
+  abbrev pub set_item : LinkMap T → ℕ → Option T → LinkMap T
   set_item l at x = record l { item = put l.item at x }
 
   -- a link may be written there
-  abbrev pub IsEnd : Links T → ℕ → Type 0
+  abbrev pub IsEnd : LinkMap T → ℕ → Type 0
   IsEnd l k = (k ≡ nowhere) ⊎ (k < l.size)
 
   -- the neighbours of the place name each other
-  abbrev pub unlinked : Links T → ℕ → Links T
+  abbrev pub unlinked : LinkMap T → ℕ → LinkMap T
   unlinked l p = set_prev (set_next l (l.prev p) (l.next p)) (l.next p) (l.prev p)
 
   -- the place stands between a and b
-  abbrev pub linked : Links T → ℕ → ℕ → ℕ → Links T
+  abbrev pub linked : LinkMap T → ℕ → ℕ → ℕ → LinkMap T
   linked l a p b = set_prev (set_next (set_prev (set_next l p b) p a) a p) b p
 
   -- the place is the first free one
-  abbrev pub released : Links T → ℕ → Links T
+  abbrev pub released : LinkMap T → ℕ → LinkMap T
   released l p = record (set_next l p l.free) { free = p }
 
   -- where an item goes: to the first free place, or to a new node
-  abbrev pub spot : Links T → ℕ
+  abbrev pub spot : LinkMap T → ℕ
   spot l = if nowhere == l.free then l.size else l.free
 
-  abbrev pub appended : Links T → T → Links T
+  abbrev pub appended : LinkMap T → T → LinkMap T
   appended l x = record {
     next = put l.next l.size nowhere;
     prev = put l.prev l.size nowhere;
@@ -73,14 +66,14 @@ module _ {T : Type 0} where
     size = l.size + 1;
   }
 
-  abbrev pub filled : Links T → T → Links T
+  abbrev pub filled : LinkMap T → T → LinkMap T
   filled l x = record (set_item l l.free (Some x)) { free = l.next l.free }
 
-  abbrev pub occupied : Links T → T → Links T
+  abbrev pub occupied : LinkMap T → T → LinkMap T
   occupied l x = if nowhere == l.free then appended l x else filled l x
 
   -- so many entries along the next places, from a place on
-  abbrev pub walk : Links T → ℕ → ℕ → List (ℕ × T)
+  abbrev pub walk : LinkMap T → ℕ → ℕ → List (ℕ × T)
   walk l at zero = []
   walk l at (suc n) = option_map_or (λ x. (at, x) ∷ walk l (l.next at) n) (l.item at) []
 
@@ -88,20 +81,10 @@ module _ {T : Type 0} where
 abbrev pub place_of : ℕ → Option ℕ
 place_of k = if nowhere == k then None else Some k
 
--- how often a number is in a list
-abbrev pub count : ℕ → List ℕ → ℕ
-count k [] = 0
-count k (p ∷ ps) = (if k == p then 1 else 0) + count k ps
-
 -- f leads from a along the places to b
 abbrev pub IsPath : (ℕ → ℕ) → ℕ → List ℕ → ℕ → Type 0
 IsPath f a [] b = f a ≡ b
 IsPath f a (p ∷ ps) b = (f a ≡ p) × IsPath f p ps b
-
--- the free places from `at` on
-abbrev pub IsSpare : (ℕ → ℕ) → ℕ → List ℕ → Type 0
-IsSpare f at [] = at ≡ nowhere
-IsSpare f at (q ∷ qs) = (at ≡ q) × IsSpare f (f q) qs
 
 -- the places of a ring, after `nowhere`: forwards each link leads to the next, and backwards each leads to where it came from
 pub record IsLinked (next prev : ℕ → ℕ) (ring : List ℕ) : Type 0 where
@@ -113,19 +96,19 @@ module _ {T : Type 0} where
   pub record IsHeld (next : ℕ → ℕ) (item : ℕ → Option T) (free size : ℕ) (all : List (ℕ × T)) : Type 0 where
     pub spare : List ℕ
     pub live : (k : ℕ) → item k ≡ item_at k all
-    pub chained : IsSpare next free spare
+    pub chained : IsRest next free spare
     -- each place is free once or held once
     pub inside : (k : ℕ) → k < size → count k spare + count k (keys_of all) ≡ 1
     pub outside : (k : ℕ) → size ≤ k → count k spare + count k (keys_of all) ≡ 0
     pub total : length all + length spare ≡ size
     pub small : size ≤ nowhere
 
-  -- the entries of a list, with its fields and the room that the vector has
-  pub record IsSound (l : Links T) (len capacity places room : ℕ) (es : List (ℕ × T)) : Type 0 where
+  -- the entries of a list, with its fields and the capacity of the vector
+  pub record IsSound (l : LinkMap T) (len capacity places allotted : ℕ) (es : List (ℕ × T)) : Type 0 where
     pub linked : IsLinked l.next l.prev (keys_of es)
     pub held : IsHeld l.next l.item l.free l.size es
     pub counted : len ≡ length es
     pub fits : len ≤ capacity
     pub within : l.size ≤ places
-    pub reserved : places ≤ room
-    pub countable : room < 2 ^ 63
+    pub reserved : places ≤ allotted
+    pub countable : allotted < 2 ^ 63

@@ -9,19 +9,19 @@
 //! `clear`, `retain`, `retain_mut` and a push that grows.
 #![tactic(auto)]
 
-mod chain;
 mod cursor;
 mod error;
 mod fingers;
 mod iter;
+mod links;
 mod list;
 
-// A crate can name a list in a contract only where the types of its fields are exported.
-#[doc(hidden)]
-pub use chain::{Chain, Node};
 pub use cursor::FixedSizeListIterMut;
 pub use error::{NoMemory, PushError};
+// A crate can name a list in a contract only where the types of its fields are exported.
 #[doc(hidden)]
 pub use fingers::{Finger, Fingers};
 pub use iter::FixedSizeListIter;
+#[doc(hidden)]
+pub use links::{Links, Node};
 pub use list::FixedSizeList;

@@ -6,9 +6,9 @@ ghost use Rattle.std.specs.Borrow.{sem};
 ghost use Rattle.clru_list.specs.Links.{place_of};
 ghost use Rattle.clru_list.specs.PlaceList.{place_list, item_at, first_entry, last_entry, first_place, last_place, place_after, place_before, IsValid};
 
-use crate::chain::{Chain, NOWHERE, Node};
 use crate::error::NoMemory;
 use crate::fingers::Fingers;
+use crate::links::{Links, NOWHERE, Node};
 use std::alloc::{Allocator, Global};
 use std::marker::Model;
 
@@ -23,7 +23,7 @@ mod walk;
 /// A list of at most `capacity` items, each of which keeps its place number until it is removed.
 #[derive(Drop)]
 pub struct FixedSizeList<T, A: Allocator + Copy = Global> {
-    pub(crate) chain: Chain<T, A>,
+    pub(crate) links: Links<T, A>,
     pub(crate) len: usize,
     pub(crate) capacity: usize,
     // No more than the vector's capacity, and not that number itself: a growth that was refused changes nothing.
@@ -42,10 +42,10 @@ impl<T, A: Allocator + Copy> Model for FixedSizeList<T, A> {
 
     ghost coded = { place_list_code T.code };
 
-    ghost view = { λ l. place_list (walk (links_of l.chain) l.chain.front l.len) l.capacity l.places };
+    ghost view = { λ l. place_list (walk (links_of l.links) l.links.front l.len) l.capacity l.places };
 
-    ghost invariant = { λ l. ((es : List (ℕ × T)) × IsSound (links_of l.chain) l.len l.capacity l.places (vec_capacity l.chain.nodes) es)
-        × IsPointed (keys_of (walk (links_of l.chain) l.chain.front l.len)) l.fingers };
+    ghost invariant = { λ l. ((es : List (ℕ × T)) × IsSound (links_of l.links) l.len l.capacity l.places (vec_capacity l.links.nodes) es)
+        × IsPointed (keys_of (walk (links_of l.links) l.links.front l.len)) l.fingers };
 }
 
 impl<T, A: Allocator + Copy> FixedSizeList<T, A> {
@@ -75,7 +75,7 @@ impl<T, A: Allocator + Copy> FixedSizeList<T, A> {
         ensures { result ≡ place_list [] capacity places }
     {
         FixedSizeList {
-            chain: Chain::new(nodes),
+            links: Links::new(nodes),
             len: 0,
             capacity,
             places,
@@ -128,7 +128,7 @@ impl<T, A: Allocator + Copy> FixedSizeList<T, A> {
         ensures value { option_copied result ≡ item_at place self.now.entries }
         ensures valid { IsValid self.now }
     {
-        self.chain.item(place)
+        self.links.item(place)
     }
 
     /// Returns the first item.
@@ -136,7 +136,7 @@ impl<T, A: Allocator + Copy> FixedSizeList<T, A> {
         ensures value { option_copied result ≡ option_map (λ e. e.1) (first_entry self.now.entries) }
         ensures valid { IsValid self.now }
     {
-        self.chain.item(self.chain.front)
+        self.links.item(self.links.front)
     }
 
     /// Returns the last item.
@@ -144,7 +144,7 @@ impl<T, A: Allocator + Copy> FixedSizeList<T, A> {
         ensures value { option_copied result ≡ option_map (λ e. e.1) (last_entry self.now.entries) }
         ensures valid { IsValid self.now }
     {
-        self.chain.item(self.chain.back)
+        self.links.item(self.links.back)
     }
 
     /// Returns the place of the first item.
@@ -152,7 +152,7 @@ impl<T, A: Allocator + Copy> FixedSizeList<T, A> {
         ensures place { result ≡ first_place self.now.entries }
         ensures valid { IsValid self.now }
     {
-        some_place(self.chain.front)
+        some_place(self.links.front)
     }
 
     /// Returns the place of the last item.
@@ -160,7 +160,7 @@ impl<T, A: Allocator + Copy> FixedSizeList<T, A> {
         ensures place { result ≡ last_place self.now.entries }
         ensures valid { IsValid self.now }
     {
-        some_place(self.chain.back)
+        some_place(self.links.back)
     }
 
     /// Returns the place behind that of an item. There is none behind the last, nor where no item is.
@@ -169,7 +169,7 @@ impl<T, A: Allocator + Copy> FixedSizeList<T, A> {
         ensures valid { IsValid self.now }
     {
         self.get(place)?;
-        some_place(self.chain.next(place))
+        some_place(self.links.next(place))
     }
 
     /// Returns the place before that of an item. There is none before the first, nor where no item is.
@@ -178,7 +178,7 @@ impl<T, A: Allocator + Copy> FixedSizeList<T, A> {
         ensures valid { IsValid self.now }
     {
         self.get(place)?;
-        some_place(self.chain.prev(place))
+        some_place(self.links.prev(place))
     }
 }
 

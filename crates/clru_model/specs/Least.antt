@@ -37,7 +37,7 @@ module _ {K : Type 0} (eq : K → K → Bool) where
   abbrev pub LeastIsBelowReplay : Type 0
   LeastIsBelowReplay = (k n : ℕ) (requests : List K) → 1 ≤ k → IsLeast k requests n → n ≤ misses eq k requests
 
-  -- and at most k / (k - h + 1) times the least of h keys
+  -- and at most k / (k - h + 1) times the least of h keys, for h from 1 to k
   abbrev pub ReplayIsNearLeast : Type 0
   ReplayIsNearLeast = (h k n : ℕ) (requests : List K) → 1 ≤ h → h ≤ k → IsLeast h requests n
       → (k - h + 1) * misses eq k requests ≤ k * n

@@ -1,5 +1,5 @@
 -- Requests for keys that weigh something, where the sizes of the held keys together are bounded: which of them hit. No cache is
--- in sight here. Public clauses cite them.
+-- in sight here. They speak of a cache at the capacities above each weight (law_sizes). Public clauses cite them.
 use Rattle.std.specs.Prelude.{◌≡◌, ℕ, ◌+◌, Bool, true, if◌then◌else◌, not, ◌&&◌, nat_le, Option, Some, None, List, [], ◌∷◌}
 use Rattle.std.specs.List.{count_by}
 use Rattle.clru_model.specs.Requests.{holds, since}

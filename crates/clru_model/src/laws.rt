@@ -65,7 +65,7 @@ pub fn law_longest_fit<K, V>()
 
 /// Does nothing at run time. Its contract says that the least possible misses of a list are one number, that with room for
 /// more keys they are no more, and how the misses of a replay stand beside them: they are those of a schedule, so no
-/// fewer, and at capacity `k` at most `k / (k - h + 1)` times the least of `h` keys.
+/// fewer, and at capacity `k` at most `k / (k - h + 1)` times the least of `h` keys, for `h` from 1 to `k`.
 pub fn law_least<K: Eq>()
     ensures one { LeastIsOne K.eq }
     ensures falls { LeastFalls K.eq }

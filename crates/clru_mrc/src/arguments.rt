@@ -126,12 +126,6 @@ fn finish<A: Allocator + Copy>(alloc: A, draft: Draft<A>) -> Result<Command<A>, 
             "--least and --sizes do not go together: the least in bytes is too hard to compute, so leave one out",
         ));
     }
-    if sizes && svg {
-        return Err(wrong(
-            alloc,
-            "--svg and --sizes do not go together: leave one out, and draw the table of --sizes --all",
-        ));
-    }
     named.sort_unstable();
     named.dedup();
     let capacities = if all {

@@ -18,7 +18,8 @@ It writes a table as CSV: capacity, misses, and misses as a part of all requests
                  size on, and missed bytes stand beside misses; 0 counts as 1
     --least      the least possible misses as well: no way to choose what to
                  drop has fewer, also one that knows all requests beforehand
-    --svg        a picture in place of the table
+    --svg        a picture in place of the table; with --sizes it has a line
+                 for the bytes as well
     --summary    how many requests and distinct keys there are, and no table;
                  with --sizes their bytes and the greatest size as well
     --help, --version

@@ -20,7 +20,7 @@ pub enum Capacities<A: Allocator = Global> {
 pub enum Form {
     /// The table.
     Table,
-    /// A picture of the curve, with the table in its description. By size it is the table alone.
+    /// A picture of the curve, with the table in its description. By size it has a line for the missed sizes as well.
     Picture,
     /// How many requests and distinct keys there are, and the bytes of the input.
     Summary,

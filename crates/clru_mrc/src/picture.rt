@@ -2,16 +2,19 @@
 ghost use Rattle.std.specs.Prelude.{◌≡◌, ◌++◌, ℕ, List, IfOk, string_bytes};
 
 mod axes;
+mod by_keys;
 mod curve;
 mod legend;
 mod numbers;
+mod plot;
 mod scale;
 pub(crate) mod style;
 
-use crate::rows::Row;
 use axes::draw_axes;
-use curve::{draw_curve, draw_least};
+pub(crate) use by_keys::picture_by_keys;
+use curve::{draw_least, draw_line};
 use legend::draw_legend;
+pub(crate) use plot::{Line, Plot};
 use scale::Scale;
 use std::alloc::{AllocError, Allocator};
 use std::fmt::{self, Write};
@@ -20,10 +23,7 @@ use style::STYLE;
 /// The picture, with the table in its description.
 pub(crate) fn picture_of<A: Allocator + Copy>(
     alloc: A,
-    curve: &[usize],
-    requests: usize,
-    least: bool,
-    rows: &[Row],
+    plot: &Plot<A>,
     table: &str,
 ) -> Result<String<A>, AllocError>
     ensures { IfOk result (λ text. (before : List ℕ) × (after : List ℕ)
@@ -31,7 +31,7 @@ pub(crate) fn picture_of<A: Allocator + Copy>(
 {
     let mut text = head(alloc)?;
     text.push_str(table)?;
-    let rest = rest_of(alloc, curve, requests, least, rows)?;
+    let rest = rest_of(alloc, plot)?;
     text.push_str(&rest)?;
     Ok(text)
 }
@@ -44,35 +44,25 @@ fn head<A: Allocator>(alloc: A) -> Result<String<A>, AllocError> {
     Ok(text)
 }
 
-fn rest_of<A: Allocator>(
-    alloc: A,
-    curve: &[usize],
-    requests: usize,
-    least: bool,
-    rows: &[Row],
-) -> Result<String<A>, AllocError> {
+fn rest_of<A: Allocator>(alloc: A, plot: &Plot<A>) -> Result<String<A>, AllocError> {
     let mut text = String::new(alloc);
-    match draw(&mut text, curve, requests, least, rows) {
+    match draw(&mut text, plot) {
         Ok(()) => Ok(text),
         Err(_) => Err(AllocError),
     }
 }
 
-fn draw<W: Write>(
-    text: &mut W,
-    curve: &[usize],
-    requests: usize,
-    least: bool,
-    rows: &[Row],
-) -> fmt::Result {
+fn draw<W: Write, A: Allocator>(text: &mut W, plot: &Plot<A>) -> fmt::Result {
     text.write_str("</desc>\n")?;
     text.write_str(STYLE)?;
     text.write_str("<rect class=\"page\" width=\"8000\" height=\"4600\"/>\n")?;
-    draw_legend(text, requests, curve.len(), least)?;
-    let greatest = rows.iter().map(|row| row.capacity.get()).max();
-    let scale = Scale::new(curve.len().max(greatest.unwrap_or(1)), requests);
-    draw_axes(text, &scale)?;
-    draw_curve(text, &scale, curve)?;
-    draw_least(text, &scale, rows)?;
+    draw_legend(text, plot)?;
+    let (first, last) = plot.ends;
+    let scale = Scale::new(first, last);
+    draw_axes(text, &scale, plot.axis)?;
+    for line in plot.lines.iter() {
+        draw_line(text, &scale, line)?;
+    }
+    draw_least(text, &scale, plot)?;
     text.write_str("</svg>\n")
 }

@@ -6,7 +6,7 @@ ghost use Rattle.clru_mrc.specs.Report.{IsInForm, IsReport};
 
 use crate::fault::Fault;
 use crate::options::{Form, Options};
-use crate::picture::picture_of;
+use crate::picture::picture_by_keys;
 use crate::rows::rows_for;
 use crate::sized::sized_report_on;
 use crate::table::{summary_of, table_of};
@@ -54,7 +54,7 @@ fn report_by_keys<A: Allocator + Copy>(
         Form::Picture => {
             let rows = rows_for(alloc, &keys, &curve, options)?;
             let table = table_of(alloc, &rows, keys.len(), options.least)?;
-            picture_of(
+            picture_by_keys(
                 alloc,
                 curve.as_slice(),
                 keys.len(),

@@ -123,10 +123,6 @@ fn words_that_do_not_fit_are_refused_by_a_line(rt: HostRuntime) -> Result<(), Fa
             ["--least", "--sizes"].as_slice(),
             "--least and --sizes do not go together: the least in bytes is too hard to compute, so leave one out",
         ),
-        (
-            ["--sizes", "--svg"].as_slice(),
-            "--svg and --sizes do not go together: leave one out, and draw the table of --sizes --all",
-        ),
     ];
     for (words, line) in rows {
         let written = ran(rt.alloc(), words, TEN)?;

@@ -1,7 +1,8 @@
 -- A walk along a chain to its end: it is short, it ends, and it comes to what is wanted.
-use Rattle.std.proofs.Common.{◌≡◌, ℕ, zero, suc, ◌+◌, ◌<◌, ◌≤◌, ◌==◌, cond, List, [], ◌∷◌, length, refl, sym, ap, ◌∙◌, subst, arith, inl, inr}
+use Rattle.std.proofs.Common.{◌≡◌, ℕ, zero, suc, ◌+◌, ◌<◌, ◌≤◌, ◌==◌, if◌then◌else◌, cond, List, [], ◌∷◌, length, refl, sym, ap, ◌∙◌, subst, arith, inl, inr}
 use Rattle.std.proofs.lemmas.Bool.{cases_eq, eq-eqb, ne_eqb}
-use Rattle.clru_nodes.specs.Chained.{nowhere, count, Reaches, IsPath, IsCut, IsWalk, steps_left}
+use Rattle.clru_list.specs.Places.{nowhere, count, IsRest}
+use Rattle.clru_nodes.specs.Chained.{Reaches, IsCut, IsWalk, steps_left}
 use Rattle.clru_nodes.proofs.Chains.{count_here, count_later, reaches_meets}
 
 -- the list less the first p
@@ -9,12 +10,12 @@ abbrev less : ℕ → List ℕ → List ℕ
 less p [] = []
 less p (q ∷ qs) = cond (p == q) qs (q ∷ less p qs)
 
-less_count : (p : ℕ) (qs : List ℕ) → 0 < count p qs → (q : ℕ) → count q (less p qs) + cond (p == q) 1 0 ≡ count q qs
+less_count : (p : ℕ) (qs : List ℕ) → 0 < count p qs → (q : ℕ) → count q (less p qs) + (if q == p then 1 else 0) ≡ count q qs
 less_count p [] h q = absurd (omega arith)
 less_count p (x ∷ qs) h q = elim (cases_eq p x) [
   | inl e ↦ rw (eq-eqb p x e, e) (omega arith)
   | inr n ↦
-      let there = rw (ne_eqb x p (λ e. n (sym e))) at h in let ih = less_count p qs (omega (arith, there)) q in rw (ne_eqb p x n) (omega (arith, ih))
+      let there = rw (ne_eqb p x n) at h in let ih = less_count p qs (omega (arith, there)) q in rw (ne_eqb p x n) (omega (arith, ih))
 ]
 
 less_length : (p : ℕ) (qs : List ℕ) → 0 < count p qs → suc (length (less p qs)) ≡ length qs
@@ -22,7 +23,7 @@ less_length p [] h = absurd (omega arith)
 less_length p (x ∷ qs) h = elim (cases_eq p x) [
   | inl e ↦ rw (eq-eqb p x e) refl
   | inr n ↦
-      let there = rw (ne_eqb x p (λ e. n (sym e))) at h in let ih = less_length p qs (omega (arith, there)) in rw (ne_eqb p x n) (ap suc ih)
+      let there = rw (ne_eqb p x n) at h in let ih = less_length p qs (omega (arith, there)) in rw (ne_eqb p x n) (ap suc ih)
 ]
 
 -- a list is no longer than one in which each number stands as often
@@ -55,13 +56,13 @@ walk_start {f} {met} c alive wanted len places start living few short held =
         | inl e ↦ omega (arith, e)
         | inr n ↦ omega (arith, all q, few q (off q (omega (arith, n))))
       ]) in omega arith;
-      held = λ q w. let h = held q w in let t = ne_eqb nowhere q (λ e. h.0 (sym e)) in let k = rw t at (all q) in omega (arith, k, h.1);
+      held = λ q w. let h = held q w in let t = ne_eqb q nowhere h.0 in let k = rw t at (all q) in omega (arith, k, h.1);
     }
 
 module _ {f : ℕ → ℕ} {alive wanted : ℕ → Type 0} {next len : ℕ} (w : IsWalk f alive wanted next len) (none : alive nowhere → ⊥) where
-  rest_of_alive : (rest : List ℕ) → IsPath f next rest → (next ≡ nowhere → ⊥) → (later : List ℕ) × (rest ≡ next ∷ later) × IsPath f (f next) later
+  rest_of_alive : (rest : List ℕ) → IsRest f next rest → (next ≡ nowhere → ⊥) → (later : List ℕ) × (rest ≡ next ∷ later) × IsRest f (f next) later
   rest_of_alive [] path is = absurd (is path)
-  rest_of_alive (p ∷ ps) path is = let same : p ≡ next = sym path.0 in (ps, ap (λ x. x ∷ ps) same, subst (λ x. IsPath f (f x) ps) same path.1)
+  rest_of_alive (p ∷ ps) path is = let same : p ≡ next = sym path.0 in (ps, ap (λ x. x ∷ ps) same, subst (λ x. IsRest f (f x) ps) same path.1)
 
   -- where a walk comes to is alive, unless it ends
   pub walk_alive : (next ≡ nowhere → ⊥) → alive next
@@ -74,8 +75,8 @@ module _ {f : ℕ → ℕ} {alive wanted : ℕ → Type 0} {next len : ℕ} (w :
   -- then nothing was wanted
   pub walk_missed : (alive next → ⊥) → (q : ℕ) → wanted q → ⊥
   walk_missed dead q is =
-      let gone : (rest : List ℕ) → IsPath f next rest → ((p : ℕ) → 0 < count p rest → alive p) → 0 < count q rest → ⊥ = λ rest. elim rest as
-      (λ r. IsPath f next r → ((p : ℕ) → 0 < count p r → alive p) → 0 < count q r → ⊥) [
+      let gone : (rest : List ℕ) → IsRest f next rest → ((p : ℕ) → 0 < count p rest → alive p) → 0 < count q rest → ⊥ = λ rest. elim rest as
+      (λ r. IsRest f next r → ((p : ℕ) → 0 < count p r → alive p) → 0 < count q r → ⊥) [
         | [] ↦ λ path living h. omega (arith, h)
         | p ∷ ps ↦ λ path living h. dead (subst alive (sym path.0) (living p (count_here p ps)))
       ] in
@@ -93,10 +94,10 @@ module _ {f : ℕ → ℕ} {alive wanted : ℕ → Type 0} {next len : ℕ} (w :
         short = omega (arith, w.short, ap length same);
         held = λ q s.
             let all = rw same at (w.held q (wants q s)) in
-            let t = ne_eqb next q (λ e. left (subst still (sym e) s)) in let k = rw t at all in omega (arith, k);
+            let t = ne_eqb q next (λ e. left (subst still e s)) in let k = rw t at all in omega (arith, k);
       }
 
-steps_of_path : (f : ℕ → ℕ) (next : ℕ) (rest : List ℕ) (n : ℕ) → IsPath f next rest → ((q : ℕ) → 0 < count q rest → q ≡ nowhere → ⊥) → length rest ≤ n
+steps_of_path : (f : ℕ → ℕ) (next : ℕ) (rest : List ℕ) (n : ℕ) → IsRest f next rest → ((q : ℕ) → 0 < count q rest → q ≡ nowhere → ⊥) → length rest ≤ n
     → steps_left f next n ≡ length rest
 steps_of_path f next [] zero path off short = refl
 steps_of_path f next [] (suc n) path off short = rw (eq-eqb next nowhere path) refl

@@ -1,8 +1,9 @@
 -- The chains of all heads: what stays, a key that comes, and one that goes.
 use Rattle.std.proofs.Common.{◌≡◌, ℕ, ◌<◌, ◌≤◌, ◌==◌, true, false, cond, Option, Some, None, [], refl, sym, ap, ◌∙◌, subst, arith, inl, inr}
 use Rattle.std.proofs.lemmas.Bool.{cases_eq, eq-eqb, ne_eqb}
-use Rattle.clru_nodes.specs.Chained.{nowhere, put, steps_of, is_of, of_head, IsCut, IsChained, IsLinked}
-use Rattle.clru_nodes.proofs.Chains.{put-same, put-other}
+use Rattle.clru_list.specs.Places.{nowhere, put}
+use Rattle.clru_nodes.specs.Chained.{steps_of, is_of, of_head, IsCut, IsChained, IsRelinked}
+use Rattle.clru_list.proofs.Puts.{put-here, put-other}
 use Rattle.clru_nodes.proofs.Cuts.{whole_cut, cut_here, cut_next, cut_same, cut_insert, cut_remove}
 
 -- the steps off the start are the links
@@ -52,8 +53,8 @@ module _ {K : Type 0} (home : K → ℕ) where
   chained_none heads link key free none = record {
     chain = λ h. whole_cut (steps_of heads link h) (of_head home h key) [] (free h)
         (λ q. elim (cases_eq nowhere q) [
-          | inl e ↦ rw (put-same (λ p. is_of home h (key p)) nowhere 1 q e, eq-eqb nowhere q e) refl
-          | inr n ↦ let off : q ≡ nowhere → ⊥ = λ e. n (sym e) in rw (of_head-off h key q off, none q off, ne_eqb nowhere q n) refl
+          | inl e ↦ rw (put-here (λ p. is_of home h (key p)) nowhere 1 q e, eq-eqb q nowhere (sym e)) refl
+          | inr n ↦ let off : q ≡ nowhere → ⊥ = λ e. n (sym e) in rw (of_head-off h key q off, none q off, ne_eqb q nowhere off) refl
         ]);
   }
 
@@ -65,11 +66,11 @@ module _ {K : Type 0} (home : K → ℕ) where
     chain_same h heads' link' key' head links keys =
         cut_same (c.chain h) (steps_of heads' link' h) (of_head home h key')
         (λ q met. elim (cases_eq q nowhere) [
-          | inl e ↦ put-same link' nowhere (heads' h) q (sym e) ∙ head ∙ sym (put-same link nowhere (heads h) q (sym e))
+          | inl e ↦ put-here link' nowhere (heads' h) q (sym e) ∙ head ∙ sym (put-here link nowhere (heads h) q (sym e))
           | inr off ↦ steps_off heads' link' h q off ∙ links q off met ∙ sym (steps_off heads link h q off)
         ])
         (λ q. elim (cases_eq q nowhere) [
-          | inl e ↦ put-same (λ p. is_of home h (key' p)) nowhere 1 q (sym e) ∙ sym (put-same (λ p. is_of home h (key p)) nowhere 1 q (sym e))
+          | inl e ↦ put-here (λ p. is_of home h (key' p)) nowhere 1 q (sym e) ∙ sym (put-here (λ p. is_of home h (key p)) nowhere 1 q (sym e))
           | inr off ↦ of_head-off h key' q off ∙ keys q off ∙ sym (of_head-off h key q off)
         ])
         (single h key nowhere)
@@ -86,7 +87,7 @@ module _ {K : Type 0} (home : K → ℕ) where
 
     -- a written step of one chain leaves the links of another
     links_elsewhere : (h g at to : ℕ) (heads' link' : ℕ → ℕ) → IsCut (steps_of heads link h) (of_head home h key) at
-        → IsLinked heads link h at to heads' link' → (g ≡ h → ⊥) → (q : ℕ) → (q ≡ nowhere → ⊥) → 0 < of_head home g key q → link' q ≡ link q
+        → IsRelinked heads link h at to heads' link' → (g ≡ h → ⊥) → (q : ℕ) → (q ≡ nowhere → ⊥) → 0 < of_head home g key q → link' q ≡ link q
     links_elsewhere h g at to heads' link' cut set other q off met =
         let apart : at ≡ q → ⊥ = λ e. other (heads_apart h g key q off (subst (λ x. 0 < of_head home h key x) e (cut_here cut)) met) in
         sym (steps_off heads' link' h q off) ∙ set.here q ∙ put-other (steps_of heads link h) at to q apart ∙ steps_off heads link h q off
@@ -94,23 +95,23 @@ module _ {K : Type 0} (home : K → ℕ) where
     -- a key comes at a new place, behind a place of its head's chain
     pub chained_insert : (h : ℕ) {at : ℕ} → IsCut (steps_of heads link h) (of_head home h key) at
         → (p : ℕ) (heads' link' : ℕ → ℕ) (key' : ℕ → Option K) (k : K) → (p ≡ nowhere → ⊥) → key p ≡ None → link p ≡ steps_of heads link h at
-        → IsLinked heads link h at p heads' link' → key' p ≡ Some k → home k ≡ h
+        → IsRelinked heads link h at p heads' link' → key' p ≡ Some k → home k ≡ h
         → ((q : ℕ) → (q ≡ p → ⊥) → key' q ≡ key q) → IsChained home heads' link' key'
     chained_insert h {at} cut p heads' link' key' k off fresh onward set new is keys =
         let none : of_head home h key p ≡ 0 = of_head-off h key p off ∙ ap (λ o. is_of home h o) fresh in
         let apart : at ≡ p → ⊥ = λ e. let here = subst (λ x. 0 < of_head home h key x) e (cut_here cut) in omega (arith, here, none) in
         let here : IsCut (steps_of heads' link' h) (of_head home h key') nowhere =
         cut_insert cut p (steps_of heads' link' h) (of_head home h key') (single h key at) none
-        (set.here at ∙ put-same (steps_of heads link h) at p at refl)
+        (set.here at ∙ put-here (steps_of heads link h) at p at refl)
         (set.here p ∙ put-other (steps_of heads link h) at p p apart ∙ steps_off heads link h p off ∙ onward)
         (λ q met n. set.here q ∙ put-other (steps_of heads link h) at p q (λ e. n (sym e)))
         (λ q. elim (cases_eq p q) [
           | inl e ↦
               let one : of_head home h key' p ≡ 1 = of_head-off h key' p off ∙ ap (λ o. is_of home h o) new ∙ rw (eq-eqb (home k) h is) refl in
-              subst (λ x. of_head home h key' x ≡ put (of_head home h key) p 1 x) e (one ∙ sym (put-same (of_head home h key) p 1 p refl))
+              subst (λ x. of_head home h key' x ≡ put (of_head home h key) p 1 x) e (one ∙ sym (put-here (of_head home h key) p 1 p refl))
           | inr n ↦ elim (cases_eq q nowhere) [
-            | inl e ↦ put-same (λ x. is_of home h (key' x)) nowhere 1 q (sym e)
-                ∙ sym (put-other (of_head home h key) p 1 q n ∙ put-same (λ x. is_of home h (key x)) nowhere 1 q (sym e))
+            | inl e ↦ put-here (λ x. is_of home h (key' x)) nowhere 1 q (sym e)
+                ∙ sym (put-other (of_head home h key) p 1 q n ∙ put-here (λ x. is_of home h (key x)) nowhere 1 q (sym e))
             | inr away ↦ of_head-off h key' q away ∙ ap (λ o. is_of home h o) (keys q (λ e. n (sym e)))
                 ∙ sym (put-other (of_head home h key) p 1 q n ∙ of_head-off h key q away)
           ]
@@ -132,21 +133,21 @@ module _ {K : Type 0} (home : K → ℕ) where
     -- the key at the next place of a chain goes
     pub chained_remove : (h : ℕ) {at : ℕ} → IsCut (steps_of heads link h) (of_head home h key) at
         → (p : ℕ) (heads' link' : ℕ → ℕ) (key' : ℕ → Option K) → (p ≡ nowhere → ⊥) → steps_of heads link h at ≡ p
-        → IsLinked heads link h at (link p) heads' link' → key' p ≡ None
+        → IsRelinked heads link h at (link p) heads' link' → key' p ≡ None
         → ((q : ℕ) → (q ≡ p → ⊥) → key' q ≡ key q) → IsChained home heads' link' key'
     chained_remove h {at} cut p heads' link' key' off next set gone keys =
         let met : 0 < of_head home h key p = cut_next cut p next off in
         let here : IsCut (steps_of heads' link' h) (of_head home h key') nowhere =
         cut_remove cut p (steps_of heads' link' h) (of_head home h key') (single h key) next off
-        (set.here at ∙ put-same (steps_of heads link h) at (link p) at refl ∙ sym (steps_off heads link h p off))
+        (set.here at ∙ put-here (steps_of heads link h) at (link p) at refl ∙ sym (steps_off heads link h p off))
         (λ q met n away. set.here q ∙ put-other (steps_of heads link h) at (link p) q (λ e. n (sym e)))
         (λ q. elim (cases_eq p q) [
           | inl e ↦
               let zero : of_head home h key' p ≡ 0 = of_head-off h key' p off ∙ ap (λ o. is_of home h o) gone in
-              subst (λ x. of_head home h key' x ≡ put (of_head home h key) p 0 x) e (zero ∙ sym (put-same (of_head home h key) p 0 p refl))
+              subst (λ x. of_head home h key' x ≡ put (of_head home h key) p 0 x) e (zero ∙ sym (put-here (of_head home h key) p 0 p refl))
           | inr n ↦ elim (cases_eq q nowhere) [
-            | inl e ↦ put-same (λ x. is_of home h (key' x)) nowhere 1 q (sym e)
-                ∙ sym (put-other (of_head home h key) p 0 q n ∙ put-same (λ x. is_of home h (key x)) nowhere 1 q (sym e))
+            | inl e ↦ put-here (λ x. is_of home h (key' x)) nowhere 1 q (sym e)
+                ∙ sym (put-other (of_head home h key) p 0 q n ∙ put-here (λ x. is_of home h (key x)) nowhere 1 q (sym e))
             | inr away ↦ of_head-off h key' q away ∙ ap (λ o. is_of home h o) (keys q (λ e. n (sym e)))
                 ∙ sym (put-other (of_head home h key) p 0 q n ∙ of_head-off h key q away)
           ]

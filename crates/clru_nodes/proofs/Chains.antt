@@ -1,19 +1,8 @@
 -- Chains of places: what a step, a new place and one less leave of a walk.
-use Rattle.std.proofs.Common.{◌≡◌, ℕ, ◌+◌, ◌<◌, ◌≤◌, ◌==◌, true, List, [], ◌∷◌, ◌++◌, refl, ap, ◌∙◌, arith}
+use Rattle.std.proofs.Common.{◌≡◌, ℕ, ◌+◌, ◌<◌, ◌≤◌, ◌==◌, true, List, [], ◌∷◌, ◌++◌, refl, sym, ap, ◌∙◌, arith}
 use Rattle.std.proofs.lemmas.Bool.{eq-eqb, ne_eqb}
-use Rattle.clru_nodes.specs.Chained.{put, count, Reaches, IsPath}
-
--- the value at the place that was written
-pub put-same : {X : Type 0} (f : ℕ → X) (at : ℕ) (v : X) (q : ℕ) → at ≡ q → put f at v q ≡ v
-put-same f at v q h = rw (eq-eqb at q h) refl
-
--- the value at another place
-pub put-other : {X : Type 0} (f : ℕ → X) (at : ℕ) (v : X) (q : ℕ) → (at ≡ q → ⊥) → put f at v q ≡ f q
-put-other f at v q h = rw (ne_eqb at q h) refl
-
-pub count-append : (q : ℕ) (ps qs : List ℕ) → count q (ps ++ qs) ≡ count q ps + count q qs
-count-append q [] qs = omega arith
-count-append q (p ∷ ps) qs = omega (arith, count-append q ps qs)
+use Rattle.clru_list.specs.Places.{count, IsRest}
+use Rattle.clru_nodes.specs.Chained.{Reaches}
 
 -- a place stands in a list that begins with it
 pub count_here : (p : ℕ) (ps : List ℕ) → 0 < count p (p ∷ ps)
@@ -34,20 +23,20 @@ pub reaches_same : (f g : ℕ → ℕ) (from : ℕ) (ps : List ℕ) (to : ℕ) �
 reaches_same f g from [] to r once same = r
 reaches_same f g from (p ∷ ps) to r once same =
     let met : 0 < count to (p ∷ ps) = reaches_meets f p ps to r.1 in
-    let apart : from ≡ to → ⊥ = λ e. let t : (from == to) ≡ true = eq-eqb from to e in let more = rw t at once in omega arith in (
+    let apart : from ≡ to → ⊥ = λ e. let t : (to == from) ≡ true = eq-eqb to from (sym e) in let more = rw t at once in omega arith in (
       same from (count_here from (p ∷ ps)) apart ∙ r.0,
       reaches_same f g p ps to r.1 (omega arith) (λ q h n. same q (count_later q from (p ∷ ps) h) n),
     )
 
 -- a path is the same where its steps are
-pub path_same : (f g : ℕ → ℕ) (next : ℕ) (ps : List ℕ) → IsPath f next ps → ((q : ℕ) → 0 < count q ps → g q ≡ f q) → IsPath g next ps
+pub path_same : (f g : ℕ → ℕ) (next : ℕ) (ps : List ℕ) → IsRest f next ps → ((q : ℕ) → 0 < count q ps → g q ≡ f q) → IsRest g next ps
 path_same f g next [] path same = path
 path_same f g next (p ∷ ps) path same =
     (path.0, rw (same p (count_here p ps)) (path_same f g (f p) ps path.1 (λ q h. same q (count_later q p ps h))))
 
 -- what was passed and what lies ahead are one path
-pub path_join : (f : ℕ → ℕ) (from : ℕ) (ps : List ℕ) (to : ℕ) (qs : List ℕ) → Reaches f from ps to → IsPath f (f to) qs
-    → IsPath f (f from) (ps ++ qs)
+pub path_join : (f : ℕ → ℕ) (from : ℕ) (ps : List ℕ) (to : ℕ) (qs : List ℕ) → Reaches f from ps to → IsRest f (f to) qs
+    → IsRest f (f from) (ps ++ qs)
 path_join f from [] to qs r path = rw r path
 path_join f from (p ∷ ps) to qs r path = (r.0, path_join f p ps to qs r.1 path)
 

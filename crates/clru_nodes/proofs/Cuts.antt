@@ -1,11 +1,14 @@
 -- A walk along a chain, seen from a place on it: a step further, a place put in there, and the next place taken out.
 use Rattle.std.proofs.Common.{◌≡◌, ℕ, ◌+◌, ◌<◌, ◌≤◌, ◌==◌, true, List, [], ◌∷◌, ◌++◌, refl, sym, ap, ◌∙◌, subst, arith, inl, inr}
 use Rattle.std.proofs.lemmas.Bool.{cases_eq, eq-eqb, ne_eqb}
-use Rattle.clru_nodes.specs.Chained.{nowhere, put, count, IsPath, IsCut}
-use Rattle.clru_nodes.proofs.Chains.{put-same, put-other, count-append, count_here, reaches_meets, reaches_same, reaches_next, path_same, path_join}
+use Rattle.clru_list.specs.Places.{nowhere, put, count, IsRest}
+use Rattle.clru_nodes.specs.Chained.{IsCut}
+use Rattle.clru_list.proofs.Paths.{count-append}
+use Rattle.clru_list.proofs.Puts.{put-here, put-other}
+use Rattle.clru_nodes.proofs.Chains.{count_here, reaches_meets, reaches_same, reaches_next, path_same, path_join}
 
 -- the whole walk, seen from its start
-pub whole_cut : (f met : ℕ → ℕ) (ps : List ℕ) → IsPath f (f nowhere) ps → ((q : ℕ) → count q (nowhere ∷ []) + count q ps ≡ met q)
+pub whole_cut : (f met : ℕ → ℕ) (ps : List ℕ) → IsRest f (f nowhere) ps → ((q : ℕ) → count q (nowhere ∷ []) + count q ps ≡ met q)
     → IsCut f met nowhere
 whole_cut f met ps path once = record { before = []; rest = ps; behind = refl; ahead = path; once = once }
 
@@ -16,11 +19,11 @@ cut_here {f} {met} {at} c =
     omega (arith, here, c.once at)
 
 -- the next place, if there is one, stands first in the rest
-rest_of_next : (f met : ℕ → ℕ) (at p : ℕ) (rest : List ℕ) → IsPath f (f at) rest → f at ≡ p → (p ≡ nowhere → ⊥)
-    → (later : List ℕ) × (rest ≡ p ∷ later) × IsPath f (f p) later
+rest_of_next : (f met : ℕ → ℕ) (at p : ℕ) (rest : List ℕ) → IsRest f (f at) rest → f at ≡ p → (p ≡ nowhere → ⊥)
+    → (later : List ℕ) × (rest ≡ p ∷ later) × IsRest f (f p) later
 rest_of_next f met at p [] path step is = absurd (is (sym step ∙ path))
 rest_of_next f met at p (q ∷ qs) path step is =
-    let same : q ≡ p = sym path.0 ∙ step in (qs, ap (λ x. x ∷ qs) same, subst (λ x. IsPath f (f x) qs) same path.1)
+    let same : q ≡ p = sym path.0 ∙ step in (qs, ap (λ x. x ∷ qs) same, subst (λ x. IsRest f (f x) qs) same path.1)
 
 -- the next place is met
 pub cut_next : {f met : ℕ → ℕ} {at : ℕ} → IsCut f met at → (p : ℕ) → f at ≡ p → (p ≡ nowhere → ⊥) → 0 < met p
@@ -42,10 +45,10 @@ cut_step {f} {met} {at} c p step is =
     }
 
 -- a walk that is at its end has no rest
-rest_at_end : (f : ℕ → ℕ) (at : ℕ) (rest : List ℕ) → IsPath f (f at) rest → f at ≡ nowhere → count nowhere rest ≡ 0 → rest ≡ []
+rest_at_end : (f : ℕ → ℕ) (at : ℕ) (rest : List ℕ) → IsRest f (f at) rest → f at ≡ nowhere → count nowhere rest ≡ 0 → rest ≡ []
 rest_at_end f at [] path step none = refl
 rest_at_end f at (p ∷ ps) path step none =
-    let t : (p == nowhere) ≡ true = eq-eqb p nowhere (sym path.0 ∙ step) in let some = rw t at none in absurd (omega (arith, some))
+    let t : (nowhere == p) ≡ true = eq-eqb nowhere p (sym step ∙ path.0) in let some = rw t at none in absurd (omega (arith, some))
 
 -- the walk is the same where the steps of the places met are
 pub cut_same : {f met : ℕ → ℕ} {at : ℕ} → IsCut f met at → (g met' : ℕ → ℕ) → ((q : ℕ) → 0 < met q → g q ≡ f q)
@@ -69,13 +72,13 @@ cut_insert {f} {met} {at} c p g met' single fresh to onward same alike =
     let apart : (q : ℕ) → 0 < count q c.rest → q ≡ at → ⊥ = λ q h e.
     let here : 0 < count at (nowhere ∷ c.before) = reaches_meets f nowhere c.before at c.behind in
     let there = rw e at h in omega (arith, there, here, c.once at, single) in
-    let path : IsPath g (g at) (p ∷ c.rest) =
+    let path : IsRest g (g at) (p ∷ c.rest) =
     (to, rw onward (path_same f g (f at) c.rest c.ahead (λ q h. same q (omega (arith, h, c.once q)) (apart q h)))) in
     whole_cut g met' (c.before ++ p ∷ c.rest) (path_join g nowhere c.before at (p ∷ c.rest) behind path)
     (λ q. let parts = count-append q c.before (p ∷ c.rest) in elim (cases_eq p q) [
-      | inl e ↦ let one = put-same met p 1 q e in let none = rw e at fresh in let t = eq-eqb p q e in
+      | inl e ↦ let one = put-here met p 1 q e in let none = rw e at fresh in let t = eq-eqb q p (sym e) in
           rw (alike q, one, parts, t) (omega (arith, c.once q, none))
-      | inr n ↦ let old = put-other met p 1 q n in let t = ne_eqb p q n in rw (alike q, old, parts, t) (omega (arith, c.once q))
+      | inr n ↦ let old = put-other met p 1 q n in let t = ne_eqb q p (λ e. n (sym e)) in rw (alike q, old, parts, t) (omega (arith, c.once q))
     ])
 
 -- the next place is taken out
@@ -91,13 +94,13 @@ cut_remove {f} {met} {at} c p g met' single step is to same alike =
     let behind = reaches_same f g nowhere c.before at c.behind (omega (arith, all at, single at))
     (λ q h n. same q (omega (arith, h, all q)) n
     (λ e. let k = subst (λ x. 0 < count x (nowhere ∷ c.before)) e h in omega (arith, k, out, all p, single p))) in
-    let ahead : IsPath g (g at) later = rw to (path_same f g (f p) later path (λ q h. same q (omega (arith, h, all q))
+    let ahead : IsRest g (g at) later = rw to (path_same f g (f p) later path (λ q h. same q (omega (arith, h, all q))
     (λ e. let k = rw e at h in omega (arith, k, here, all at, single at))
     (λ e. let k = rw e at h in omega (arith, k, only)))) in
     whole_cut g met' (c.before ++ later) (path_join g nowhere c.before at later behind ahead)
     (λ q. let parts = count-append q c.before later in elim (cases_eq p q) [
-      | inl e ↦ let none = put-same met p 0 q e in let k = all p in
+      | inl e ↦ let none = put-here met p 0 q e in let k = all p in
           rw (alike q, none, parts) (subst (λ x. count x (nowhere ∷ []) + (count x c.before + count x later) ≡ 0) e
           (omega (arith, k, out, single p, only)))
-      | inr n ↦ let old = put-other met p 0 q n in let t = ne_eqb p q n in let k = rw t at (all q) in rw (alike q, old, parts) (omega (arith, k))
+      | inr n ↦ let old = put-other met p 0 q n in let t = ne_eqb q p (λ e. n (sym e)) in let k = rw t at (all q) in rw (alike q, old, parts) (omega (arith, k))
     ])

@@ -1,6 +1,6 @@
 -- Places of 4 bytes, as places.
 use Rattle.std.proofs.Common.{◌≡◌, ℕ, zero, suc, ◌∷◌, map, replicate, refl, ap}
-use Rattle.clru_nodes.specs.Chained.{nowhere}
+use Rattle.clru_list.specs.Places.{nowhere}
 use Rattle.clru_nodes.specs.HeadList.{narrow, wide}
 
 -- heads of empty chains

@@ -8,12 +8,13 @@ use Rattle.std.specs.List.{fold}
 use Rattle.std.specs.Map.{keys_of}
 use Rattle.std.specs.Option.{option_map}
 use Rattle.clru_list.specs.PlaceList.{item_at}
-use Rattle.clru_nodes.specs.Chained.{nowhere, put, count, steps_of, of_head, IsCut, IsChained, IsLinked, IsWalk}
+use Rattle.clru_list.specs.Places.{nowhere, put, count}
+use Rattle.clru_nodes.specs.Chained.{steps_of, of_head, IsCut, IsChained, IsRelinked, IsWalk}
 use Rattle.clru_nodes.specs.Heads.{head_by, placed_of, link_at, key_at, head_at, steps_at, home_at, IsLive, IsChainedAs, IsChainedBut, HasHome}
 use Rattle.clru_nodes.specs.Nodes.{hash_by, IsIndexed, IsSame}
 use Rattle.clru_nodes.specs.declared.nodes.Item.{Item}
 use Rattle.clru_nodes.specs.declared.nodes.Nodes.{Nodes}
-use Rattle.clru_nodes.proofs.Chains.{put-same, put-other}
+use Rattle.clru_list.proofs.Puts.{put-here, put-other}
 use Rattle.clru_nodes.proofs.Chaining.{single, met_key, chained_none, chained_insert, chained_remove}
 use Rattle.clru_nodes.proofs.ChainWalks.{walk_start}
 use Rattle.clru_nodes.proofs.Cuts.{cut_here}
@@ -29,7 +30,7 @@ module _ {K V : Type 0} where
   live_counted : (q : ℕ) (es : List (ℕ × Item K V)) → IsLive es q → 0 < count q (keys_of es)
   live_counted q [] live = let no = live.1 in cc
   live_counted q (e ∷ es) live = elim (cases_eq q e.0) [
-    | inl here ↦ rw (eq-eqb e.0 q (sym here)) (omega arith)
+    | inl here ↦ rw (eq-eqb q e.0 here) (omega arith)
     | inr there ↦ let later = live_counted q es (live.0, rw (ne_eqb q e.0 there) at live.1) in omega (arith, later)
   ]
 
@@ -63,7 +64,7 @@ module _ {K V : Type 0} where
   -- the keys that are chained stand in items, also where one is out
   pub live_but : (es : List (ℕ × Item K V)) (out q : ℕ) (k : K) → put (key_at es) out None q ≡ Some k → IsLive es q
   live_but es out q k is = elim (cases_eq out q) [
-    | inl e ↦ let no = sym (put-same (key_at es) out None q e) ∙ is in cc
+    | inl e ↦ let no = sym (put-here (key_at es) out None q e) ∙ is in cc
     | inr n ↦ live_of_key es q k (sym (put-other (key_at es) out None q n) ∙ is)
   ]
 
@@ -78,26 +79,26 @@ module _ {K V S A H : Type 0} (hash : S → K → ℕ) {x y : Nodes K V S A H} w
   -- a place that was out is linked to the end of its head's chain
   pub chained_append : (h p at : ℕ) → HasHome hash h p x → link_at x.list.entries p ≡ nowhere → IsChainedBut hash p x → steps_at x h at ≡ nowhere
       → IsCut (steps_at x h) (of_head (home_at hash x) h (put (key_at x.list.entries) p None)) at
-      → IsLinked (head_at x.heads.items) (link_at x.list.entries) h at p (head_at y.heads.items) (link_at y.list.entries)
+      → IsRelinked (head_at x.heads.items) (link_at x.list.entries) h at p (head_at y.heads.items) (link_at y.list.entries)
       → placed_of y.list.entries ≡ placed_of x.list.entries → IsSame x y → IsChainedAs hash (key_at y.list.entries) y
   chained_append h p at homed ends c last cut linked pairs same =
       let keys = same_keys y.list.entries x.list.entries pairs in
       let key = key_at x.list.entries in
       same_homes same (head_at y.heads.items) (link_at y.list.entries) (key_at y.list.entries) (chained_insert (home_at hash x) c h cut p (head_at y.heads.items) (link_at y.list.entries) (key_at y.list.entries)
-      homed.item.key homed.off (put-same key p None p refl) (ends ∙ sym last) linked
+      homed.item.key homed.off (put-here key p None p refl) (ends ∙ sym last) linked
       (keys p ∙ ap (λ o. option_map (λ (i : Item K V). i.key) o) homed.held) homed.home
       (λ q n. keys q ∙ sym (put-other key p None q (λ e. n (sym e)))))
 
   -- a place is linked out of its head's chain
   pub chained_unchain : (h p at : ℕ) → (homed : HasHome hash h p x) → IsChainedAs hash (key_at x.list.entries) x → steps_at x h at ≡ p
       → IsCut (steps_at x h) (of_head (home_at hash x) h (key_at x.list.entries)) at
-      → IsLinked (head_at x.heads.items) (link_at x.list.entries) h at (link_at x.list.entries p) (head_at y.heads.items) (link_at y.list.entries)
+      → IsRelinked (head_at x.heads.items) (link_at x.list.entries) h at (link_at x.list.entries p) (head_at y.heads.items) (link_at y.list.entries)
       → placed_of y.list.entries ≡ placed_of x.list.entries → IsSame x y → IsChainedBut hash p y
   chained_unchain h p at homed c next cut linked pairs same =
       let keys = same_keys y.list.entries x.list.entries pairs in
       let key = key_at y.list.entries in
       same_homes same (head_at y.heads.items) (link_at y.list.entries) (put key p None) (chained_remove (home_at hash x) c h cut p (head_at y.heads.items) (link_at y.list.entries) (put key p None)
-      homed.off next linked (put-same key p None p refl)
+      homed.off next linked (put-here key p None p refl)
       (λ q n. put-other key p None q (λ e. n (sym e)) ∙ keys q))
 
 -- empty heads lead nowhere

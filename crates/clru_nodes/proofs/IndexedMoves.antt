@@ -4,12 +4,13 @@ use Rattle.std.proofs.lemmas.Bool.{cases_eq, eq-eqb, ne_eqb}
 use Rattle.std.proofs.lemmas.Map.{length-set_value}
 use Rattle.std.specs.Option.{option_map, option_map_or}
 use Rattle.clru_list.specs.PlaceList.{item_at, without, with_at, with_entries, IsApart}
-use Rattle.clru_nodes.specs.Chained.{nowhere, put, IsChained}
+use Rattle.clru_list.specs.Places.{nowhere, put}
+use Rattle.clru_nodes.specs.Chained.{IsChained}
 use Rattle.clru_nodes.specs.Heads.{link_at, key_at, home_at, IsChainedAs}
 use Rattle.clru_nodes.specs.Nodes.{IsIndexed, IsSame}
 use Rattle.clru_nodes.specs.declared.nodes.Item.{Item}
 use Rattle.clru_nodes.specs.declared.nodes.Nodes.{Nodes}
-use Rattle.clru_nodes.proofs.Chains.{put-same, put-other}
+use Rattle.clru_list.proofs.Puts.{put-here, put-other}
 use Rattle.clru_nodes.proofs.Chaining.{chained_same}
 use Rattle.clru_nodes.proofs.Placed.{item_at-with_at, item_at-without, length-without_held}
 
@@ -35,7 +36,7 @@ module _ {K V : Type 0} (home : K → ℕ) {heads : ℕ → ℕ} where
   chained_push p i es fresh c =
       let fs = (p, i) ∷ es in
       moved es fs (key_at es) (put (key_at fs) p None) p c (λ q n. rw (ne_eqb q p (λ e. n (sym e))) refl) (rw fresh refl) (λ q n. refl)
-      (put-same (key_at fs) p None p refl) (λ q n. put-other (key_at fs) p None q n)
+      (put-here (key_at fs) p None p refl) (λ q n. put-other (key_at fs) p None q n)
 
   -- an item that is in no chain goes
   pub chained_drop : (p : ℕ) (es : List (ℕ × Item K V)) → IsApart es → IsChained home heads (link_at es) (put (key_at es) p None)
@@ -43,7 +44,7 @@ module _ {K V : Type 0} (home : K → ℕ) {heads : ℕ → ℕ} where
   chained_drop p es apart c =
       let fs = without p es in
       moved es fs (put (key_at es) p None) (key_at fs) p c (λ q n. item_at-without p q es apart ∙ rw (ne_eqb p q n) refl)
-      (put-same (key_at es) p None p refl) (λ q n. put-other (key_at es) p None q n)
+      (put-here (key_at es) p None p refl) (λ q n. put-other (key_at es) p None q n)
       (rw (item_at-without p p es apart, eq-eqb p p refl) refl) (λ q n. refl)
 
   -- an item that is in no chain is written, and comes first
@@ -53,8 +54,8 @@ module _ {K V : Type 0} (home : K → ℕ) {heads : ℕ → ℕ} where
       let fs = (p, i) ∷ without p es in
       moved es fs (put (key_at es) p None) (put (key_at fs) p None) p c
       (λ q n. rw (ne_eqb q p (λ e. n (sym e))) (item_at-without p q es apart ∙ rw (ne_eqb p q n) refl))
-      (put-same (key_at es) p None p refl) (λ q n. put-other (key_at es) p None q n)
-      (put-same (key_at fs) p None p refl) (λ q n. put-other (key_at fs) p None q n)
+      (put-here (key_at es) p None p refl) (λ q n. put-other (key_at es) p None q n)
+      (put-here (key_at fs) p None p refl) (λ q n. put-other (key_at fs) p None q n)
 
   -- where each place holds what it held, all chains stay
   pub chained_stays : (es fs : List (ℕ × Item K V)) → ((q : ℕ) → item_at q fs ≡ item_at q es) → IsChained home heads (link_at es) (key_at es)

@@ -3,11 +3,12 @@ use Rattle.std.proofs.Common.{◌≡◌, ◌<◌, ℕ, suc, ◌==◌, ◌≤◌,
 use Rattle.std.proofs.lemmas.Bool.{cases_eq, eq-eqb, ne_eqb}
 use Rattle.std.specs.Option.{option_map}
 use Rattle.clru_list.specs.PlaceList.{PlaceList, item_at, without, with_at, IsApart, IsValid}
-use Rattle.clru_nodes.specs.Chained.{nowhere, put, steps_of, IsLinked}
+use Rattle.clru_list.specs.Places.{nowhere, put}
+use Rattle.clru_nodes.specs.Chained.{steps_of, IsRelinked}
 use Rattle.clru_nodes.specs.Heads.{placed_of, link_at, key_at, IsLive}
 use Rattle.clru_nodes.specs.Nodes.{pair_of, pairs_of}
 use Rattle.clru_nodes.specs.declared.nodes.Item.{Item}
-use Rattle.clru_nodes.proofs.Chains.{put-same, put-other}
+use Rattle.clru_list.proofs.Puts.{put-here, put-other}
 use Rattle.clru_nodes.proofs.Chaining.{steps_off}
 
 module _ {T : Type 0} where
@@ -182,13 +183,13 @@ module _ {K V : Type 0} where
 
 -- a link that is written at a place is a step of the chain
 pub linked_at_place : (heads link : ℕ → ℕ) (h at to : ℕ) (link' : ℕ → ℕ) → (at ≡ nowhere → ⊥) → ((q : ℕ) → link' q ≡ put link at to q)
-    → IsLinked heads link h at to heads link'
+    → IsRelinked heads link h at to heads link'
 linked_at_place heads link h at to link' off set = record {
   here = λ q. elim (cases_eq q nowhere) [
-    | inl e ↦ put-same link' nowhere (heads h) q (sym e) ∙ sym (put-other (steps_of heads link h) at to q (λ d. off (d ∙ e))
-        ∙ put-same link nowhere (heads h) q (sym e))
+    | inl e ↦ put-here link' nowhere (heads h) q (sym e) ∙ sym (put-other (steps_of heads link h) at to q (λ d. off (d ∙ e))
+        ∙ put-here link nowhere (heads h) q (sym e))
     | inr away ↦ steps_off heads link' h q away ∙ set q ∙ elim (cases_eq at q) [
-      | inl e ↦ put-same link at to q e ∙ sym (put-same (steps_of heads link h) at to q e)
+      | inl e ↦ put-here link at to q e ∙ sym (put-here (steps_of heads link h) at to q e)
       | inr n ↦ put-other link at to q n ∙ sym (put-other (steps_of heads link h) at to q n ∙ steps_off heads link h q away)
     ]
   ];

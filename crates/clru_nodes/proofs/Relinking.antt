@@ -3,10 +3,11 @@ use Rattle.std.proofs.Common.{◌≡◌, ℕ, ◌+◌, ◌<◌, ◌≤◌, nat_l
 use Rattle.std.proofs.lemmas.Bool.{cases_eq, cases_lt, le-leb, lt-leb}
 use Rattle.std.specs.Option.{option_map}
 use Rattle.clru_list.specs.PlaceList.{PlaceList, item_at, IsValid}
-use Rattle.clru_nodes.specs.Chained.{nowhere, steps_of, IsChained, IsLinked}
+use Rattle.clru_list.specs.Places.{nowhere}
+use Rattle.clru_nodes.specs.Chained.{steps_of, IsChained, IsRelinked}
 use Rattle.clru_nodes.specs.Heads.{link_at, key_at, placed_of}
 use Rattle.clru_nodes.specs.declared.nodes.Item.{Item}
-use Rattle.clru_nodes.proofs.Chains.{put-same, put-other}
+use Rattle.clru_list.proofs.Puts.{put-here, put-other}
 use Rattle.clru_nodes.proofs.Placed.{same_keys}
 use Rattle.clru_nodes.proofs.Chaining.{steps_off, chained_same, chained_insert}
 
@@ -45,7 +46,7 @@ module _ {K V : Type 0} where
 module _ {K : Type 0} (home : K → ℕ) {heads link : ℕ → ℕ} {key : ℕ → Option K} (c : IsChained home heads link key) where
   -- a place in no chain is written, and then put first into the chain of its key's head
   pub chained_first : (h p : ℕ) (k : K) → (p ≡ nowhere → ⊥) → key p ≡ None → home k ≡ h → {heads₁ link₁ heads₂ link₂ : ℕ → ℕ}
-      → IsLinked heads link h p (heads h) heads₁ link₁ → IsLinked heads₁ link₁ h nowhere p heads₂ link₂ → (key' : ℕ → Option K)
+      → IsRelinked heads link h p (heads h) heads₁ link₁ → IsRelinked heads₁ link₁ h nowhere p heads₂ link₂ → (key' : ℕ → Option K)
       → key' p ≡ Some k → ((q : ℕ) → (q ≡ p → ⊥) → key' q ≡ key q) → IsChained home heads₂ link₂ key'
   chained_first h p k off fresh is {heads₁} {link₁} {heads₂} {link₂} one two key' new keys =
       let start : heads₁ h ≡ heads h =
@@ -59,7 +60,7 @@ module _ {K : Type 0} (home : K → ℕ) {heads link : ℕ → ℕ} {key : ℕ �
       let c₁ : IsChained home heads₁ link₁ key = chained_same home c heads₁ link₁ key same
       (λ q j away held. links q away (λ e. let no : None ≡ Some j = sym fresh ∙ ap key e ∙ held in cc)) (λ q away. refl) in
       let onward : link₁ p ≡ steps_of heads₁ link₁ h nowhere =
-      sym (steps_off heads₁ link₁ h p off) ∙ one.here p ∙ put-same (steps_of heads link h) p (heads h) p refl ∙ sym start in
+      sym (steps_off heads₁ link₁ h p off) ∙ one.here p ∙ put-here (steps_of heads link h) p (heads h) p refl ∙ sym start in
       chained_insert home c₁ h (c₁.chain h) p heads₂ link₂ key' k off fresh onward two new is keys
 
 module _ {K V : Type 0} (home : K → ℕ) {heads : ℕ → ℕ} (p : ℕ) (es : List (ℕ × Item K V))
@@ -78,7 +79,7 @@ module _ {K V : Type 0} (home : K → ℕ) {heads : ℕ → ℕ} (p : ℕ) (es :
 
   -- an item's place is linked
   pub chained_more : (h : ℕ) (i : Item K V) → (p ≡ nowhere → ⊥) → item_at p es ≡ Some i → home i.key ≡ h → {heads₁ link₁ heads₂ : ℕ → ℕ}
-      → (fs : List (ℕ × Item K V)) → IsLinked heads (link_at es) h p (heads h) heads₁ link₁ → IsLinked heads₁ link₁ h nowhere p heads₂ (link_at fs)
+      → (fs : List (ℕ × Item K V)) → IsRelinked heads (link_at es) h p (heads h) heads₁ link₁ → IsRelinked heads₁ link₁ h nowhere p heads₂ (link_at fs)
       → placed_of fs ≡ placed_of es → IsChained home heads₂ (link_at fs) (key_from p fs)
   chained_more h i off held is fs one two pairs =
       let keys = same_keys fs es pairs in

@@ -8,7 +8,7 @@ use Rattle.std.specs.Map.Calls.{SomeCallAtPair, CallableOnEachPair, RetainsPairs
 use Rattle.std.specs.Option.{option_map}
 use Rattle.clru_model.specs.Entries.{weight_of}
 use Rattle.clru_model.proofs.Weights.{weight_of-cons}
-use Rattle.clru_list.specs.Links.{count}
+use Rattle.clru_list.specs.Places.{count}
 use Rattle.clru_list.specs.PlaceList.{PlaceList, place_list, with_entries, item_at, without, with_at, first_place, place_after, IsApart, IsValid}
 use Rattle.clru_list.proofs.EntryLists.{counts_from_apart, apart_from_counts}
 use Rattle.clru_list.proofs.Retaining.{IsRetaining, from_place, some_injective, starts, ends, head, item_here, takes_here, written_same, goes_on, fewer}

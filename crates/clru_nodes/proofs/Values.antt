@@ -5,7 +5,7 @@ use Rattle.std.specs.Option.{option_map, option_map_or}
 use Rattle.clru_model.specs.Entries.{with_value_at, with_front}
 use Rattle.clru_model.proofs.Cases.{split}
 use Rattle.clru_list.specs.PlaceList.{item_at, with_entries, first_entry, last_entry, with_first, with_last}
-use Rattle.clru_nodes.specs.Chained.{nowhere}
+use Rattle.clru_list.specs.Places.{nowhere}
 use Rattle.clru_nodes.specs.Heads.{with_value, link_at, key_at, home_at}
 use Rattle.clru_nodes.specs.Nodes.{item_with, pair_of, pairs_of, IsIndexed}
 use Rattle.clru_nodes.specs.declared.nodes.Item.{Item}

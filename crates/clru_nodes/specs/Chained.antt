@@ -1,35 +1,18 @@
 -- Chains of places: walks along a function from each place to the next. No public clause cites this file.
 use Rattle.std.specs.Prelude.{◌≡◌, ℕ, zero, suc, ◌+◌, ◌==◌, ◌<◌, ◌≤◌, if◌then◌else◌, Option, Some, None, List, [], ◌∷◌, length}
-
--- the number that is no place: it ends each chain, and stands for its start
-abbrev pub nowhere : ℕ
-nowhere = 18446744073709551615
-
--- the function with another value at one place
-abbrev pub put : {X : Type 0} → (ℕ → X) → ℕ → X → ℕ → X
-put f at v q = if at == q then v else f q
-
--- how often a place stands in a list
-abbrev pub count : ℕ → List ℕ → ℕ
-count q [] = 0
-count q (p ∷ ps) = (if p == q then 1 else 0) + count q ps
+use Rattle.clru_list.specs.Places.{nowhere, put, count, IsRest}
 
 -- a walk from the first place passes those of the list, and stands at the last place then
 abbrev pub Reaches : (ℕ → ℕ) → ℕ → List ℕ → ℕ → Type 0
 Reaches f from [] to = from ≡ to
 Reaches f from (p ∷ ps) to = (f from ≡ p) × Reaches f p ps to
 
--- a walk that comes to the place next passes those of the list, and then ends
-abbrev pub IsPath : (ℕ → ℕ) → ℕ → List ℕ → Type 0
-IsPath f next [] = next ≡ nowhere
-IsPath f next (p ∷ ps) = (next ≡ p) × IsPath f (f p) ps
-
 -- a walk from the start to its end, seen from a place on it; it meets q as often as the number at q says
 pub record IsCut (f : ℕ → ℕ) (met : ℕ → ℕ) (at : ℕ) : Type 0 where
   pub before : List ℕ
   pub rest : List ℕ
   pub behind : Reaches f nowhere before at
-  pub ahead : IsPath f (f at) rest
+  pub ahead : IsRest f (f at) rest
   pub once : (q : ℕ) → count q (nowhere ∷ before) + count q rest ≡ met q
 
 -- the steps of the chain of a head: from the start to its first place, and along the links
@@ -51,14 +34,14 @@ module _ {K : Type 0} (home : K → ℕ) where
     pub chain : (h : ℕ) → IsCut (steps_of heads link h) (of_head h key) nowhere
 
 -- one step of the chain of h is written: that at `at` now leads to `to`
-pub record IsLinked (heads link : ℕ → ℕ) (h at to : ℕ) (heads' link' : ℕ → ℕ) : Type 0 where
+pub record IsRelinked (heads link : ℕ → ℕ) (h at to : ℕ) (heads' link' : ℕ → ℕ) : Type 0 where
   pub here : (q : ℕ) → steps_of heads' link' h q ≡ put (steps_of heads link h) at to q
   pub others : (g : ℕ) → (g ≡ h → ⊥) → heads' g ≡ heads g
 
 -- a walk that comes to the place next: at most len places lie ahead, each alive, and what is wanted is among them
 pub record IsWalk (f : ℕ → ℕ) (alive wanted : ℕ → Type 0) (next len : ℕ) : Type 0 where
   pub rest : List ℕ
-  pub ahead : IsPath f next rest
+  pub ahead : IsRest f next rest
   pub living : (q : ℕ) → 0 < count q rest → alive q
   pub short : length rest ≤ len
   pub held : (q : ℕ) → wanted q → 0 < count q rest

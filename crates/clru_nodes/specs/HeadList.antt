@@ -1,7 +1,7 @@
 -- Private: what heads are seen as. No public clause cites it.
-use Rattle.std.specs.Prelude.{ℕ, ◌*◌, ◌^◌, ◌<◌, ◌≤◌, ◌==◌, if◌then◌else◌, max, List, map, refl}
+use Rattle.std.specs.Prelude.{ℕ, ◌*◌, ◌^◌, ◌<◌, ◌≤◌, ◌==◌, if◌then◌else◌, max, min, List, map, refl}
 use Rattle.std.specs.Coded.{Coded, code_by, coded×, coded_list, coded_ℕ}
-use Rattle.clru_nodes.specs.Chained.{nowhere}
+use Rattle.clru_list.specs.Places.{nowhere}
 use Rattle.clru_nodes.specs.declared.heads.Words.{Words}
 use Rattle.clru_nodes.specs.declared.heads.Words.TheVariants.{Narrow, Wide}
 
@@ -23,9 +23,10 @@ narrow = 4294967295
 abbrev pub wide : ℕ → ℕ
 wide n = if n == narrow then nowhere else n
 
-abbrev pub list_of : {A : Type 0} → Words A → HeadList
-list_of (Narrow heads) = head_list (map wide heads.items) narrow
-list_of (Wide heads) = head_list heads.items nowhere
+-- heads of 4 bytes name no place from the limit on
+abbrev pub list_of : {A : Type 0} → Words A → ℕ → HeadList
+list_of (Narrow heads) limit = head_list (map wide heads.items) (min limit narrow)
+list_of (Wide heads) limit = head_list heads.items nowhere
 
 -- each place can be named that a list of so many places may have after its next growth
 abbrev pub NamesGrown : ℕ → ℕ → Type 0

@@ -2,7 +2,8 @@
 use Rattle.std.specs.Prelude.{◌≡◌, ℕ, zero, suc, ◌-◌, ◌<◌, Bool, true, if◌then◌else◌, Option, Some, None, List, [], ◌∷◌, map, length, slice_index_or, bit_and}
 use Rattle.std.specs.Option.{option_map, option_map_or}
 use Rattle.clru_list.specs.PlaceList.{item_at}
-use Rattle.clru_nodes.specs.Chained.{nowhere, put, steps_of, IsChained}
+use Rattle.clru_list.specs.Places.{nowhere, put}
+use Rattle.clru_nodes.specs.Chained.{steps_of, IsChained}
 use Rattle.clru_nodes.specs.declared.nodes.Item.{Item}
 use Rattle.clru_nodes.specs.declared.nodes.Nodes.{Nodes}
 

@@ -1,6 +1,7 @@
-//! `Heads`: which place each head leads to. A place takes 4 bytes there, or 8 where the places may be more than those name.
-ghost use Rattle.std.specs.Prelude.{◌≡◌, ◌⊎◌, ◌<◌, ◌≤◌, [], length, replicate, set, IfOk, IsOk};
-ghost use Rattle.clru_nodes.specs.Chained.{nowhere};
+//! `Heads`: which place each head leads to. A place takes 4 bytes there, or 8 where the places may be more than those name, or
+//! more than a limit that the maker set.
+ghost use Rattle.std.specs.Prelude.{◌≡◌, ◌⊎◌, ◌<◌, ◌≤◌, [], length, min, replicate, set, IfOk, IsOk};
+ghost use Rattle.clru_list.specs.Places.{nowhere};
 ghost use Rattle.clru_nodes.specs.HeadList.{head_list, narrow, wide};
 ghost use Rattle.clru_nodes.specs.Heads.{head_at};
 
@@ -25,6 +26,8 @@ enum Words<A: Allocator + Copy> {
 #[derive(Drop)]
 pub(crate) struct Heads<A: Allocator + Copy> {
     words: Words<A>,
+    // A place takes 4 bytes only where the places are no more. A test sets it low, to reach the wide form.
+    limit: usize,
 }
 
 impl<A: Allocator + Copy> Model for Heads<A> {
@@ -34,32 +37,39 @@ impl<A: Allocator + Copy> Model for Heads<A> {
 
     ghost coded = { head_list_code };
 
-    ghost view = { λ h. list_of h.words };
+    ghost view = { λ h. list_of h.words h.limit };
 }
 
 impl<A: Allocator + Copy> Heads<A> {
     /// No heads. They take no memory.
-    pub(crate) fn new(alloc: A) -> Self
-        ensures { result ≡ head_list [] narrow }
+    pub(crate) fn new(alloc: A, limit: usize) -> Self
+        ensures { result ≡ head_list [] (min limit narrow) }
     {
         Heads {
             words: Words::Narrow(Vec::new(alloc)),
+            limit,
         }
     }
 
     /// So many heads of empty chains, which can name so many places.
-    pub(crate) fn empty(alloc: A, size: usize, places: usize) -> Result<Self, NoMemory>
+    pub(crate) fn empty(
+        alloc: A,
+        size: usize,
+        places: usize,
+        limit: usize,
+    ) -> Result<Self, NoMemory>
         ensures items { IfOk result (λ h. h.items ≡ replicate size nowhere) }
         ensures named { IfOk result (λ h. places ≤ h.bound) }
         ensures never_refused { size ≡ 0 → places ≡ 0 → IsOk result }
     {
         if size == 0 && places == 0 {
-            return Ok(Heads::new(alloc));
+            return Ok(Heads::new(alloc, limit));
         }
-        if places <= NARROW {
+        if places <= limit.min(NARROW) {
             match Vec::from_elem(alloc, u32::MAX, size) {
                 Ok(heads) => Ok(Heads {
                     words: Words::Narrow(heads),
+                    limit,
                 }),
                 Err(_) => Err(NoMemory),
             }
@@ -67,10 +77,19 @@ impl<A: Allocator + Copy> Heads<A> {
             match Vec::from_elem(alloc, NOWHERE, size) {
                 Ok(heads) => Ok(Heads {
                     words: Words::Wide(heads),
+                    limit,
                 }),
                 Err(_) => Err(NoMemory),
             }
         }
+    }
+
+    /// The same from the allocator of these heads, and with their limit.
+    pub(crate) fn another(&self, size: usize, places: usize) -> Result<Self, NoMemory>
+        ensures items { IfOk result (λ h. h.items ≡ replicate size nowhere) }
+        ensures named { IfOk result (λ h. places ≤ h.bound) }
+    {
+        Heads::empty(*self.allocator(), size, places, self.limit)
     }
 
     /// How many heads there are.
@@ -88,12 +107,12 @@ impl<A: Allocator + Copy> Heads<A> {
         ensures { result ≡ self.now.bound }
     {
         match &self.words {
-            Words::Narrow(_) => NARROW,
+            Words::Narrow(_) => self.limit.min(NARROW),
             Words::Wide(_) => NOWHERE,
         }
     }
 
-    pub(crate) fn allocator(&self) -> &A {
+    fn allocator(&self) -> &A {
         match &self.words {
             Words::Narrow(heads) => heads.allocator(),
             Words::Wide(heads) => heads.allocator(),

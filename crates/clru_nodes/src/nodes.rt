@@ -9,7 +9,7 @@ ghost use Rattle.clru_list.specs.PlaceList.{IsValid};
 ghost use Rattle.clru_nodes.specs.Heads.{key_at, IsAt, IsChainedAs};
 ghost use Rattle.clru_nodes.specs.Nodes.{hash_of, pairs_of, pairs_in, builder_of, IsIndexed, IsEmpty};
 
-use crate::heads::Heads;
+use crate::heads::{Heads, NARROW};
 use crate::nodes::growth::heads_for;
 use clru_list::FixedSizeList;
 use std::alloc::Allocator;
@@ -50,9 +50,19 @@ impl<K: Eq + Hash, V, S: BuildHasher, A: Allocator + Copy> Nodes<K, V, S, A> {
         ensures builder { builder_of result ≡ hash_builder }
         ensures indexed { IsIndexed (hash_of K.Hash S.BuildHasher S.Hasher.Hasher) result }
     {
+        Nodes::with_narrow_places(alloc, capacity, hash_builder, NARROW)
+    }
+
+    /// Does the same, and the index has 4 bytes for a place only as long as the places are at most `limit`, and 8 from then on.
+    /// Without a limit that is so at 2^32 - 1 places, where no test comes. A limit past that changes nothing.
+    pub fn with_narrow_places(alloc: A, capacity: usize, hash_builder: S, limit: usize) -> Self
+        ensures empty { IsEmpty capacity 0 result }
+        ensures builder { builder_of result ≡ hash_builder }
+        ensures indexed { IsIndexed (hash_of K.Hash S.BuildHasher S.Hasher.Hasher) result }
+    {
         Nodes {
             list: FixedSizeList::new(alloc, capacity),
-            heads: Heads::new(alloc),
+            heads: Heads::new(alloc, limit),
             hash_builder,
             places: 0,
         }
@@ -77,7 +87,7 @@ impl<K: Eq + Hash, V, S: BuildHasher, A: Allocator + Copy> Nodes<K, V, S, A> {
         let Some(size) = heads_for(places) else {
             return Err(hash_builder);
         };
-        let Ok(heads) = Heads::empty(alloc, size, places) else {
+        let Ok(heads) = Heads::empty(alloc, size, places, NARROW) else {
             return Err(hash_builder);
         };
         // Last, since a list may be let go only where its items may.

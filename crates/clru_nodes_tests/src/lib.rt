@@ -6,7 +6,11 @@ mod asserts;
 #[cfg(test)]
 mod growth;
 #[cfg(test)]
+mod kept;
+#[cfg(test)]
 mod lent;
+#[cfg(test)]
+mod limited;
 #[cfg(test)]
 mod moves;
 #[cfg(test)]

@@ -1,6 +1,6 @@
 //! What can go wrong, and the exit status of each.
-ghost use Rattle.std.specs.Prelude.{◌≡◌, Err, IsOk, Some};
-ghost use Rattle.clru_replay.specs.Faults.{fault_text};
+ghost use Rattle.std.specs.Prelude.{◌≡◌, IfErr, IsOk, Some};
+ghost use Rattle.clru_replay.specs.Faults.{fault_text, status_of};
 
 use std::error::Error;
 use std::fmt;
@@ -35,10 +35,7 @@ impl Error for Fault {}
 
 /// The exit status of a fault.
 pub fn status(fault: &Fault) -> u8
-    ensures bad_capacity { fault.now ≡ Fault.BadCapacity → result ≡ 2 }
-    ensures memory { fault.now ≡ Fault.Memory → result ≡ 3 }
-    ensures reading { fault.now ≡ Fault.Reading → result ≡ 4 }
-    ensures writing { fault.now ≡ Fault.Writing → result ≡ 5 }
+    ensures { result ≡ status_of fault.now }
 {
     match *fault {
         Fault::BadCapacity => 2,
@@ -51,10 +48,7 @@ pub fn status(fault: &Fault) -> u8
 /// The exit status of a run.
 pub fn exit_status(outcome: &Result<(), Fault>) -> u8
     ensures success { IsOk outcome.now → result ≡ 0 }
-    ensures bad_capacity { outcome.now ≡ Err Fault.BadCapacity → result ≡ 2 }
-    ensures memory { outcome.now ≡ Err Fault.Memory → result ≡ 3 }
-    ensures reading { outcome.now ≡ Err Fault.Reading → result ≡ 4 }
-    ensures writing { outcome.now ≡ Err Fault.Writing → result ≡ 5 }
+    ensures fault { IfErr outcome.now (λ f. result ≡ status_of f) }
 {
     match outcome {
         Ok(()) => 0,

@@ -16,8 +16,9 @@ use std::hash::{BuildHasher, Hash};
 ///
 /// A key weighs what the scale says of it with the value `()`. Keys that are the same are to weigh the same: else nothing is
 /// said of the curve. Keys that are not `Copy` are passed as references. The keys stay the caller's, and without keys no
-/// memory is asked for. Where memory is refused, or the sizes of all requests pass `usize::MAX`, the first key that was not
-/// taken comes back. Cost and memory are those of a `SizedPass`, which also takes requests one by one.
+/// memory is asked for. Where memory is refused, a key comes back before which all sizes fit; where the sizes of all requests
+/// pass `usize::MAX`, the first with which they do. Cost and memory are those of a `SizedPass`, which also takes requests one
+/// by one.
 pub fn sized_curve<K, W, S, A>(
     alloc: A,
     keys: &[K],

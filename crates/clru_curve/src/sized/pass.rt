@@ -4,7 +4,7 @@ ghost use Rattle.clru_model.specs.Sizes.{SameWeights, span};
 ghost use Rattle.clru_curve.specs.SizedPasses.{IsSizedPass, key_of, IsTooLarge};
 ghost use Rattle.clru_curve.specs.SizedCurves.{IsSizedCurveOf};
 
-use crate::pass::{copied, move_position};
+use crate::pass::{copied, make_room, move_position, no_positions};
 use crate::sized::curve::SizedCurve;
 use crate::sized::error::SizedRequestError;
 use crate::sized::sizes::Sizes;
@@ -12,18 +12,17 @@ use clru::{CLruCache, DefaultState, NoMemory, ZeroWeightScale};
 use std::alloc::{Allocator, Global};
 use std::hash::{BuildHasher, Hash};
 use std::marker::Model;
-use std::num::NonZeroUsize;
 
 /// A pass over requests of keys that weigh something, which takes them one by one and answers the span of each.
 ///
 /// The size of a request is 1 and the weight of its key, as an entry takes it of a cache's capacity; for bytes the weight is
-/// the number of bytes less 1. Clauses speak of any function that gives the weight of each request by its key: keys that are
-/// the same are to weigh the same each time. Where a key comes with another weight than before they say nothing, and the calls
-/// are as safe as ever. They speak of the requests that were taken by `IsSizedPass`, the latest first. A curve can be had at
-/// any time.
+/// the number of bytes less 1, and no bytes count as one. Clauses speak of any function that gives the weight of each request
+/// by its key: keys that are the same are to weigh the same each time. Where a key comes with another weight than before they
+/// say nothing, and the calls are as safe as ever. They speak of the requests that were taken by `IsSizedPass`, the latest
+/// first. A curve can be had at any time.
 ///
-/// Memory goes with the requests, nine bytes for each, and sixteen more for each that asks for a key again, besides a position in
-/// a cache for each distinct key.
+/// Memory goes with the requests, nine bytes for each, and sixteen more for each that asks for a key again, besides a
+/// position in a cache for each distinct key.
 #[derive(Drop)]
 pub struct SizedPass<K: Eq + Hash, S: BuildHasher = DefaultState, A: Allocator + Copy = Global> {
     positions: CLruCache<K, usize, S, ZeroWeightScale, A>,
@@ -42,7 +41,7 @@ impl<K: Eq + Hash, S: BuildHasher, A: Allocator + Copy> Model for SizedPass<K, S
 
     ghost view = { λ p. pass_by_size p.positions.entries p.latest.sizes.items p.hits.items p.size p.greatest };
 
-    ghost invariant = { λ p. IsSoundBySize K.eq p.positions.capacity p.latest.nodes.items
+    ghost invariant = { λ p. IsSoundBySize K.eq p.latest.nodes.items
         (pass_by_size p.positions.entries p.latest.sizes.items p.hits.items p.size p.greatest) };
 }
 
@@ -61,7 +60,7 @@ impl<K: Eq + Hash, S: BuildHasher, A: Allocator + Copy> SizedPass<K, S, A> {
         ensures { (w : K → ℕ) → IsSizedPass K.eq w [] result }
     {
         SizedPass {
-            positions: CLruCache::with_hasher(alloc, NonZeroUsize::MAX, hash_builder),
+            positions: no_positions(alloc, hash_builder),
             latest: Sizes::new(alloc),
             hits: Vec::new(alloc),
             size: 0,
@@ -111,6 +110,7 @@ impl<K: Eq + Hash, S: BuildHasher, A: Allocator + Copy> SizedPass<K, S, A> {
                 Ok(Some(span))
             }
             None => {
+                make_room(&mut self.positions);
                 if let Err((key, _)) = self.positions.put(key, number) {
                     return Err(SizedRequestError::NoMemory(key));
                 }

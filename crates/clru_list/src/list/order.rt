@@ -61,7 +61,7 @@ impl<T, A: Allocator + Copy> FixedSizeList<T, A> {
         ensures* lends { sem 𝓛 (lends_held T.row A.row A.Allocator self.entry place result) }
         ensures value { item_at place self.old.entries ≡ Some result.now }
     {
-        self.chain.nodes[place].item_mut()
+        self.links.nodes[place].item_mut()
     }
 
     // Where it is in front already nothing is written.
@@ -69,10 +69,10 @@ impl<T, A: Allocator + Copy> FixedSizeList<T, A> {
         requires { IsSome (item_at place self.old.entries) }
         ensures { self.new ≡ with_entries self.old (to_front place self.old.entries) }
     {
-        if self.chain.front == place {
+        if self.links.front == place {
             return;
         }
-        self.chain.bring_front(place);
+        self.links.bring_front(place);
         self.fingers.clear();
     }
 }

@@ -3,8 +3,8 @@ ghost use Rattle.std.specs.Prelude.{◌≡◌, ◌<◌, ◌≤◌, ◌*◌, ◌�
 ghost use Rattle.clru_list.specs.PlaceList.{IsValid, NeedsPlace};
 ghost use Rattle.clru_list.specs.Pushes.{GrowsIfNeeded, Refuses};
 
-use crate::chain::NOWHERE;
 use crate::error::{NoMemory, PushError};
+use crate::links::NOWHERE;
 use crate::list::FixedSizeList;
 use std::alloc::Allocator;
 
@@ -26,8 +26,8 @@ impl<T, A: Allocator + Copy> FixedSizeList<T, A> {
             return Ok(());
         }
         let places = grown(self.places, self.capacity);
-        let more = places - self.chain.nodes.len();
-        let Ok(()) = self.chain.nodes.reserve_exact(more) else {
+        let more = places - self.links.nodes.len();
+        let Ok(()) = self.links.nodes.reserve_exact(more) else {
             return Err(NoMemory);
         };
         self.places = places;
@@ -45,9 +45,9 @@ impl<T, A: Allocator + Copy> FixedSizeList<T, A> {
         ensures valid { IsValid self.new }
     {
         let item = self.admit(item)?;
-        let place = self.chain.occupy(item);
-        let front = self.chain.front;
-        self.chain.link(NOWHERE, place, front);
+        let place = self.links.occupy(item);
+        let front = self.links.front;
+        self.links.link(NOWHERE, place, front);
         self.len += 1;
         self.fingers.clear();
         Ok(place)
@@ -64,9 +64,9 @@ impl<T, A: Allocator + Copy> FixedSizeList<T, A> {
         ensures valid { IsValid self.new }
     {
         let item = self.admit(item)?;
-        let place = self.chain.occupy(item);
-        let back = self.chain.back;
-        self.chain.link(back, place, NOWHERE);
+        let place = self.links.occupy(item);
+        let back = self.links.back;
+        self.links.link(back, place, NOWHERE);
         self.len += 1;
         self.fingers.clear();
         Ok(place)
@@ -75,7 +75,8 @@ impl<T, A: Allocator + Copy> FixedSizeList<T, A> {
     /// Finds room for an item, and gives it back.
     fn admit(&mut self, item: T) -> Result<T, PushError<T>>
         ensures item { IfOk result (λ x. x ≡ item) }
-        ensures room { OnOk result ((length self.new.entries < self.new.places) × (length self.new.entries < self.new.capacity)) }
+        ensures room { OnOk result (length self.new.entries < self.new.places) }
+        ensures below { OnOk result (length self.new.entries < self.new.capacity) }
         ensures entries { self.new.entries ≡ self.old.entries }
         ensures refused { IfErr result (λ e. Refuses self.old item e × (self.new ≡ self.old)) }
         ensures places { GrowsIfNeeded self.old self.new }

@@ -3,7 +3,7 @@ ghost use Rattle.std.specs.Prelude.{◌≡◌, [], drop};
 ghost use Rattle.std.specs.Option.{option_map};
 ghost use Rattle.clru_list.specs.PlaceList.{with_entries, item_at, without, first_entry, IsValid};
 
-use crate::chain::NOWHERE;
+use crate::links::NOWHERE;
 use crate::list::FixedSizeList;
 use std::alloc::Allocator;
 
@@ -14,9 +14,9 @@ impl<T, A: Allocator + Copy> FixedSizeList<T, A> {
         ensures entries { self.new ≡ with_entries self.old (without place self.old.entries) }
         ensures valid { IsValid self.new }
     {
-        let item = self.chain.take(place)?;
-        self.chain.unlink(place);
-        self.chain.release(place);
+        let item = self.links.take(place)?;
+        self.links.unlink(place);
+        self.links.release(place);
         self.len -= 1;
         self.fingers.clear();
         Some(item)
@@ -28,7 +28,7 @@ impl<T, A: Allocator + Copy> FixedSizeList<T, A> {
         ensures entries { self.new ≡ with_entries self.old (drop 1 self.old.entries) }
         ensures valid { IsValid self.new }
     {
-        let front = self.chain.front;
+        let front = self.links.front;
         self.remove(front)
     }
 
@@ -39,10 +39,10 @@ impl<T, A: Allocator + Copy> FixedSizeList<T, A> {
         ensures entries { self.new ≡ with_entries self.old [] }
         ensures valid { IsValid self.new }
     {
-        self.chain.nodes.clear();
-        self.chain.front = NOWHERE;
-        self.chain.back = NOWHERE;
-        self.chain.free = NOWHERE;
+        self.links.nodes.clear();
+        self.links.front = NOWHERE;
+        self.links.back = NOWHERE;
+        self.links.free = NOWHERE;
         self.len = 0;
         self.fingers.clear();
     }

@@ -58,7 +58,7 @@ impl<T, A: Allocator + Copy> FixedSizeList<T, A> {
         ensures valid { IsValid self.new }
     {
         // The list's invariant is known where a field is used.
-        let _ = &self.chain;
+        let _ = &self.links;
         if !keep {
             self.remove(place);
         }

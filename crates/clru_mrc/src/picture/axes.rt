@@ -1,20 +1,23 @@
 //! The axes of the picture, with their numbers and words.
 
-use super::numbers::{Room, last_place, write_number, write_short};
+use super::numbers::{Room, are_short, first_place, last_place, write_number, write_short};
 use super::scale::{BOTTOM, HEIGHT, LEFT, RIGHT, Scale, TOP};
 use super::style::{LARGE_LETTERS, LETTERS};
 use crate::capacities::{ROUND_NUMBERS, round_at};
 use std::fmt::{self, Write};
 
 /// The axes and the lines between them.
-pub(super) fn draw_axes<W: Write>(text: &mut W, scale: &Scale) -> fmt::Result {
+pub(super) fn draw_axes<W: Write>(text: &mut W, scale: &Scale, axis: &str) -> fmt::Result {
     draw_ratios(text)?;
     draw_capacities(text, scale)?;
     write!(
         text,
         "<path class=\"axis\" d=\"M{LEFT} {TOP}V{BOTTOM}H{RIGHT}\"/>\n"
     )?;
-    text.write_str("<text x=\"4210\" y=\"4510\" text-anchor=\"middle\">capacity in keys</text>\n")?;
+    write!(
+        text,
+        "<text x=\"4210\" y=\"4510\" text-anchor=\"middle\">{axis}</text>\n"
+    )?;
     text.write_str(
         "<text transform=\"translate(200 2310) rotate(-90)\" text-anchor=\"middle\">miss ratio</text>\n",
     )
@@ -40,13 +43,17 @@ fn draw_ratios<W: Write>(text: &mut W) -> fmt::Result {
 const ROOMY: u128 = 500;
 
 fn draw_capacities<W: Write>(text: &mut W, scale: &Scale) -> fmt::Result {
+    draw_end(text, LEFT, first_place(scale.first), scale.first)?;
     let room = Room::new(scale, LETTERS);
     let little_room = Room::new(scale, LARGE_LETTERS);
-    let short = room.every == 9;
+    let short = are_short(scale);
     for index in 0..ROUND_NUMBERS {
         let capacity = round_at(index);
-        if capacity >= scale.greatest as u128 {
+        if capacity >= scale.last as u128 {
             break;
+        }
+        if capacity <= scale.first as u128 {
+            continue;
         }
         let across = scale.across(capacity as usize);
         if index % 3 == 0 {
@@ -54,14 +61,12 @@ fn draw_capacities<W: Write>(text: &mut W, scale: &Scale) -> fmt::Result {
         } else if scale.decade() >= ROOMY {
             draw_line(text, "between", across)?;
         }
-        // A digit and a letter are no wider than three digits.
-        let as_wide = if short { 100 } else { capacity };
-        if room.has(index, as_wide, across) {
-            let small_too = little_room.has(index, as_wide, across);
+        if room.has(index, capacity, across) {
+            let small_too = little_room.has(index, capacity, across);
             draw_capacity(text, across, capacity, short, small_too)?;
         }
     }
-    draw_last(text, scale.greatest)
+    draw_end(text, RIGHT, last_place(scale.last), scale.last)
 }
 
 fn draw_line<W: Write>(text: &mut W, class: &str, across: u128) -> fmt::Result {
@@ -91,14 +96,19 @@ fn draw_capacity<W: Write>(
     text.write_str("</text>\n")
 }
 
-// The right end of the axis.
-fn draw_last<W: Write>(text: &mut W, greatest: usize) -> fmt::Result {
-    let (across, anchor) = last_place(greatest);
-    draw_line(text, "grid", RIGHT)?;
+// An end of the axis, and its number at a place.
+fn draw_end<W: Write>(
+    text: &mut W,
+    end: u128,
+    place: (u128, &'static str),
+    capacity: usize,
+) -> fmt::Result {
+    let (across, anchor) = place;
+    draw_line(text, "grid", end)?;
     write!(
         text,
         "<text x=\"{across}\" y=\"4270\" text-anchor=\"{anchor}\">"
     )?;
-    write_number(text, greatest as u128)?;
+    write_number(text, capacity as u128)?;
     text.write_str("</text>\n")
 }

@@ -1,41 +1,56 @@
 //! The lines of the picture.
 
-use super::scale::{LEFT, RIGHT, Scale};
-use crate::rows::Row;
+use super::plot::{Line, Plot};
+use super::scale::{LEFT, RIGHT, Scale, down};
+use std::alloc::Allocator;
 use std::fmt::{self, Write};
 
-// Steps that are nearer to one another than a pixel are drawn as one.
+// Of steps that are nearer to one another than a pixel the last is drawn.
 const NEAR: u128 = 10;
 
-/// The steps of the misses at 1, 2 and so on. Without requests nothing is missed.
-pub(super) fn draw_curve<W: Write>(text: &mut W, scale: &Scale, curve: &[usize]) -> fmt::Result {
+/// One line.
+pub(super) fn draw_line<W: Write, A: Allocator>(
+    text: &mut W,
+    scale: &Scale,
+    line: &Line<A>,
+) -> fmt::Result {
+    let class = line.class;
     let mut across = LEFT;
-    let mut down = scale.down(*curve.first().unwrap_or(&0));
-    write!(text, "<path class=\"lru\" d=\"M{across} {down}")?;
-    for (index, misses) in curve.iter().enumerate() {
-        let next_across = scale.across(index.saturating_add(1));
-        let next_down = scale.down(*misses);
-        let last = index.saturating_add(1) == curve.len();
-        if next_down != down && (last || next_across >= across.saturating_add(NEAR)) {
-            write!(text, "H{next_across}V{next_down}")?;
-            across = next_across;
-            down = next_down;
+    let mut height = down(line.start, line.whole);
+    write!(text, "<path class=\"{class}\" d=\"M{across} {height}")?;
+    for (index, (capacity, part)) in line.steps.iter().enumerate() {
+        let here = scale.across(*capacity);
+        let next_height = down(*part, line.whole);
+        let hidden = match line.steps.get(index.saturating_add(1)) {
+            Some((next, _)) => scale.across(*next)
+                < here.saturating_add(1).max(across.saturating_add(NEAR)),
+            None => false,
+        };
+        if next_height != height && !hidden {
+            write!(text, "H{here}V{next_height}")?;
+            across = here;
+            height = next_height;
         }
     }
     write!(text, "H{RIGHT}\"/>\n")
 }
 
-/// A dot at each row that has the least possible misses. Between two of them it is not known, so no line joins them.
-pub(super) fn draw_least<W: Write>(text: &mut W, scale: &Scale, rows: &[Row]) -> fmt::Result {
-    for row in rows {
-        if let Some(least) = row.least {
-            let across = scale.across(row.capacity.get());
-            let down = scale.down(least);
-            write!(
-                text,
-                "<circle class=\"least\" cx=\"{across}\" cy=\"{down}\" r=\"45\"/>\n"
-            )?;
-        }
+/// A dot for each least. Between two of them it is not known, so no line joins them.
+pub(super) fn draw_least<W: Write, A: Allocator>(
+    text: &mut W,
+    scale: &Scale,
+    plot: &Plot<A>,
+) -> fmt::Result {
+    let Some(dots) = &plot.least else {
+        return Ok(());
+    };
+    for (capacity, least) in dots.iter() {
+        let across = scale.across(*capacity);
+        let height = down(*least, plot.requests);
+        write!(
+            text,
+            "<circle class=\"least\" cx=\"{across}\" cy=\"{height}\" r=\"45\"/>\n"
+        )?;
     }
     Ok(())
 }

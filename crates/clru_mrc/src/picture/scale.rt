@@ -12,46 +12,54 @@ pub(super) const RIGHT: u128 = LEFT + WIDTH;
 
 pub(super) const BOTTOM: u128 = TOP + HEIGHT;
 
-/// The axes: capacities by their logarithm from 1 on, and misses as a part of all requests.
+/// From the top edge of the picture to a part of a whole.
+pub(super) fn down(part: usize, whole: usize) -> u128 {
+    let whole = whole.max(1) as u128;
+    BOTTOM - (HEIGHT * part as u128 / whole).min(HEIGHT)
+}
+
+/// The axis of capacities, by their logarithm.
 #[derive(Clone, Copy, Debug)]
 pub(super) struct Scale {
-    pub(super) greatest: usize,
-    requests: usize,
+    pub(super) first: usize,
+    pub(super) last: usize,
 }
 
 impl Scale {
-    // An axis that ends at 1, where it begins, would have no length.
-    pub(super) fn new(greatest: usize, requests: usize) -> Scale {
-        Scale {
-            greatest: greatest.max(2),
-            requests,
-        }
+    // An axis that ends where it begins would have no length.
+    pub(super) fn new(first: usize, last: usize) -> Scale {
+        let first = first.max(1);
+        let last = if last > first {
+            last
+        } else {
+            first.saturating_mul(2)
+        };
+        Scale { first, last }
     }
 
     /// From the left edge of the picture.
     pub(super) fn across(&self, capacity: usize) -> u128 {
-        LEFT + self.length(capacity).min(WIDTH)
-    }
-
-    /// From the top edge of the picture.
-    pub(super) fn down(&self, misses: usize) -> u128 {
-        let whole = self.requests.max(1) as u128;
-        BOTTOM - (HEIGHT * misses as u128 / whole).min(HEIGHT)
+        if capacity >= self.last {
+            return RIGHT;
+        }
+        let length = logarithm(capacity).saturating_sub(logarithm(self.first));
+        LEFT + self.scaled(length).min(WIDTH)
     }
 
     /// From a capacity to ten times as much.
     pub(super) fn decade(&self) -> u128 {
-        self.length(10)
+        self.scaled(logarithm(10))
     }
 
-    // From 1 to a capacity, also beyond the end of the axis.
-    fn length(&self, capacity: usize) -> u128 {
-        WIDTH.saturating_mul(logarithm(capacity)) / logarithm(self.greatest).max(1)
+    // So many parts of an octave, also beyond the end of the axis.
+    fn scaled(&self, length: u128) -> u128 {
+        let whole = logarithm(self.last).saturating_sub(logarithm(self.first));
+        WIDTH.saturating_mul(length) / whole.max(1)
     }
 }
 
 // An octave, which is a doubling.
-const OCTAVE: u128 = 4096;
+const OCTAVE: u128 = 4_294_967_296;
 
 // The binary logarithm, in parts of an octave, from 0 at 1. Within an octave it is `x + 0.344 x (1 - x)`, which is
 // right to a hundredth of it.

@@ -10,6 +10,7 @@ pub(crate) const STYLE: &str = "<style>
 .clru_mrc .between{stroke:#e8e8e8;stroke-width:8}
 .clru_mrc .axis{stroke:#222;stroke-width:12;fill:none}
 .clru_mrc .lru{stroke:#0b5cad;stroke-width:28;fill:none}
+.clru_mrc .bytes{stroke:#b3410e;stroke-width:28;stroke-dasharray:110 55;fill:none}
 .clru_mrc .least{fill:#b3410e}
 @media(max-width:500px){
 .clru_mrc text{font-size:220px}
@@ -22,6 +23,7 @@ pub(crate) const STYLE: &str = "<style>
 .clru_mrc .between{stroke:#2a2a2a}
 .clru_mrc .axis{stroke:#ddd}
 .clru_mrc .lru{stroke:#6cb2ff}
+.clru_mrc .bytes{stroke:#ff9a5c}
 .clru_mrc .least{fill:#ff9a5c}
 }
 </style>

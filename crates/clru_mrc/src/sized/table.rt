@@ -95,8 +95,8 @@ fn greatest_of<A: Allocator>(curve: &SizedCurve<A>) -> usize
     if first < all { first } else { all }
 }
 
-// With room for all keys, as many requests miss as there are keys.
-fn distinct_of<A: Allocator>(curve: &SizedCurve<A>) -> usize
+/// How many keys there are: with room for all of them, so many requests miss.
+pub(crate) fn distinct_of<A: Allocator>(curve: &SizedCurve<A>) -> usize
     requires { IsSettled curve.now }
     ensures { result ≡ distinct_in curve.now }
 {

@@ -88,25 +88,30 @@ fn a_failed_write_is_a_fault_and_a_closed_pipe_another(rt: HostRuntime) {
     }
 }
 
-fn by_size<A: Allocator>() -> Options<A> {
+fn by_size<A: Allocator>(form: Form) -> Options<A> {
     Options {
         capacities: Capacities::Each,
         sizes: true,
         least: false,
-        form: Form::Table,
+        form,
     }
 }
 
 #[test]
 fn each_refused_request_is_want_of_memory(rt: HostRuntime) {
-    for (sizes, input) in [(false, TEN), (true, SIZED)] {
+    let rows = [
+        (false, Form::Picture, TEN),
+        (true, Form::Table, SIZED),
+        (true, Form::Picture, SIZED),
+    ];
+    for (sizes, form, input) in rows {
         let mut met_none = false;
         for n in 0..1000u64 {
             let heap = Rationed::new(rt.alloc());
             heap.refuse_one_after(n);
             let mut reader = input;
             let mut written = Vec::new(rt.alloc());
-            let options = if sizes { by_size() } else { with_least() };
+            let options = if sizes { by_size(form) } else { with_least() };
             let outcome = run(&heap, &options, &mut reader, &mut written);
             assert_eq!(rt; heap.blocks(), 0, "after {n}");
             if heap.refused() == 0 {

@@ -9,7 +9,7 @@ use std::test::Fail;
 // Made from what a cache would hold, kept as a list by hand: of 39 bytes asked for, 22 are of different objects.
 pub(crate) const SIZED: &[u8] = b"5 a\n3 b\n5 a\n0 z\n12 c\n3 b\n5 a\n0 z\n1 y\n3 b\n";
 
-const GREATEST: &[u8] = b"18446744073709551615 x\n";
+pub(crate) const GREATEST: &[u8] = b"18446744073709551615 x\n";
 
 #[test]
 fn sized_inputs_give_their_tables(rt: HostRuntime) -> Result<(), Fail> {

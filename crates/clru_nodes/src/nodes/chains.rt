@@ -1,7 +1,8 @@
 //! The chains: for each head the places of its keys, linked from one to the next.
 ghost use Rattle.std.specs.Prelude.{◌≡◌, ◌⊎◌, ℕ, ◌<◌, ◌≤◌, length};
 ghost use Rattle.clru_list.specs.PlaceList.{IsApart};
-ghost use Rattle.clru_nodes.specs.Chained.{nowhere, IsCut, IsLinked, IsWalk};
+ghost use Rattle.clru_list.specs.Places.{nowhere};
+ghost use Rattle.clru_nodes.specs.Chained.{IsCut, IsRelinked, IsWalk};
 ghost use Rattle.clru_nodes.specs.Heads.{head_by, head_at, link_at, key_at, placed_of, steps_at, IsLive, IsPlace, IsChainedAs, IsChainedBut, HasHome};
 ghost use Rattle.clru_nodes.specs.Nodes.{hash_of, IsSame};
 
@@ -42,7 +43,7 @@ impl<K: Eq + Hash, V, S: BuildHasher, A: Allocator + Copy> Nodes<K, V, S, A> {
         requires head { at ≡ nowhere → head < length self.old.heads.items }
         requires place { (at ≡ nowhere → ⊥) → IsLive self.old.list.entries at }
         requires named { at ≡ nowhere → (to ≡ nowhere) ⊎ (to < self.old.heads.bound) }
-        ensures linked { IsLinked (head_at self.old.heads.items) (link_at self.old.list.entries) head at to
+        ensures linked { IsRelinked (head_at self.old.heads.items) (link_at self.old.list.entries) head at to
             (head_at self.new.heads.items) (link_at self.new.list.entries) }
         ensures pairs { placed_of self.new.list.entries ≡ placed_of self.old.list.entries }
         ensures same { IsSame self.old self.new }

@@ -1,13 +1,13 @@
 //! Memory for more pairs: places in the list, and heads that go with them.
 ghost use Rattle.std.specs.Prelude.{◌≡◌, ℕ, ◌+◌, ◌<◌, ◌≤◌, ◌*◌, ◌^◌, Some, length, replicate, IfOk, IfSome, IfNone, IsOk, OnOk, OnErr, IsTrue};
 ghost use Rattle.std.specs.Int.{IsNextPowerOfTwo};
-ghost use Rattle.clru_nodes.specs.Chained.{nowhere};
+ghost use Rattle.clru_list.specs.Places.{nowhere};
 ghost use Rattle.clru_nodes.specs.Growth.{GrowsIf, IsRefused};
 ghost use Rattle.clru_nodes.specs.HeadList.{NamesGrown};
 ghost use Rattle.clru_nodes.specs.Heads.{head_at, key_at, placed_of, IsChainedAs, KeepsPlaces};
 ghost use Rattle.clru_nodes.specs.Nodes.{hash_of, pairs_in, capacity_of, places_of, IsIndexed, IsSame, KeepsPairs};
 
-use crate::heads::{Heads, NOWHERE};
+use crate::heads::NOWHERE;
 use crate::nodes::Nodes;
 use clru_list::NoMemory;
 use std::alloc::Allocator;
@@ -97,7 +97,7 @@ impl<K: Eq + Hash, V, S: BuildHasher, A: Allocator + Copy> Nodes<K, V, S, A> {
         ensures indexed { IsIndexed (hash_of K.Hash S.BuildHasher S.Hasher.Hasher) self.new }
         ensures keeps { KeepsPlaces self.old self.new }
     {
-        self.heads = Heads::empty(*self.heads.allocator(), size, reach)?;
+        self.heads = self.heads.another(size, reach)?;
         self.relink();
         Ok(())
     }

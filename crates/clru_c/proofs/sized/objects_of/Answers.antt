@@ -1,4 +1,4 @@
-use Rattle.std.proofs.Common.{◌≡◌, ◌∙◌, ◌+◌, ◌<◌, ◌++◌, ◌∷◌, [], length, take, take-suc, ap, sym, suc, get_or, arith}
+use Rattle.std.proofs.Common.{rules, ◌≡◌, ◌∙◌, ◌+◌, ◌<◌, ◌++◌, ◌∷◌, [], length, take, take-suc, ap, sym, suc, get_or, arith}
 use Rattle.std.specs.List.{zip}
 use Rattle.std.proofs.lemmas.List.{take_all}
 use Rattle.std.proofs.lemmas.Slice.Zip.{length-zip, get_or-zip}
@@ -13,13 +13,14 @@ loop-index-preserved g c =
     let in_sizes : i < length sizes = omega (arith, in_keys, c.requires.equally_long) in
     let inside : i < length (zip keys sizes) = omega (arith, length-zip keys sizes, in_keys, in_sizes) in
     let next : i + 1 ≡ suc i = omega arith in
-    rw next (c.in_ok-push.ensures.items ∙ ap (λ xs. xs ++ (get_or keys i 0, get_or sizes i 0) ∷ []) c.loop-index.invariant
-    ∙ ap (λ p. take i (zip keys sizes) ++ p ∷ []) (sym (get_or-zip keys sizes i (0, 0) in_keys in_sizes))
-    ∙ sym (take-suc (zip keys sizes) i (0, 0) inside))
+    let wanted : take i (zip keys sizes) ++ (get_or keys i 0, get_or sizes i 0) ∷ [] ≡ take (i + 1) (zip keys sizes)
+    = rw next (ap (λ p. take i (zip keys sizes) ++ p ∷ []) (sym (get_or-zip keys sizes i (0, 0) in_keys in_sizes))
+    ∙ sym (take-suc (zip keys sizes) i (0, 0) inside)) in
+    record { objects = search (rules, wanted); many = search rules; room = search rules }
 
 pub returns : goal.returns
 returns g c =
     let keys = c.args.keys.now in
     let sizes = c.args.sizes.now in
-    c.loop-index.invariant ∙ take_all c.loop-index.index (zip keys sizes)
+    c.loop-index.invariant.objects ∙ take_all c.loop-index.index (zip keys sizes)
     (omega (arith, length-zip keys sizes, c.loop-index-test.false))

@@ -14,9 +14,9 @@ returns-in-Picture g c =
     picture_report (λ key. key.0.now) c.in_ok-keys.keys.items c.args.input.now c.in_ok-keys.ensures c.args.options.now
     c.deref-in-Picture.result.now c.in_ok-rows-in-Picture.rows.items c.deref-in-Picture-2.result.now c.len-in-Picture.result
     c.deref-in-Picture.ensures.value c.in_ok-rows-in-Picture.ensures c.deref-in-Picture-2.ensures.value
-    (omega (arith, c.len-in-Picture.ensures, c.in_ok-keys.keys.ok.0)) string_bytes c.picture_of.result
+    (omega (arith, c.len-in-Picture.ensures, c.in_ok-keys.keys.ok.0)) string_bytes c.picture_by_keys.result
     (string_bytes c.in_ok-table-in-Picture.table) c.deref-in-Picture-4.result.now c.in-Picture.is
-    c.in_ok-table-in-Picture.ensures c.deref-in-Picture-4.ensures c.picture_of.ensures
+    c.in_ok-table-in-Picture.ensures c.deref-in-Picture-4.ensures c.picture_by_keys.ensures
 
 pub returns : goal.returns
 returns g c =

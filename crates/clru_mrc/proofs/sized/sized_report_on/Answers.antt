@@ -1,4 +1,4 @@
-use Rattle.std.proofs.Common.{[], append-nil, string_bytes, sym, subst}
+use Rattle.std.proofs.Common.{string_bytes, sym, subst}
 use Rattle.clru_lines.specs.Lines.{lines_of}
 use Rattle.clru_mrc.specs.Passes.{capacities_on}
 use Rattle.clru_mrc.specs.SizedReport.{IsInFormBySize}
@@ -28,17 +28,17 @@ returns-in-Picture g c =
     let options = c.args.options.now in let input = c.args.input.now in let lines = lines_of input in
     let curve = c.in_ok-curve.curve in let known = c.in_ok-curve.ensures in
     record {
-      report = ok_map c.sized_table_for-in-Picture.result
+      report = ok_map c.sized_picture_for.result
           (λ text t. (
             known.sizes,
             subst (λ f. IsInFormBySize f options input lines (string_bytes text)) (sym c.in-Picture.is)
-                ([], string_bytes text, [], table_is lines curve known.curve options (string_bytes text) t, sym (append-nil (string_bytes text))),
+                (t.0, t.1, t.2, table_is lines curve known.curve options t.1 t.3, t.4),
           ))
-          c.sized_table_for-in-Picture.ensures.table;
-      refused = err_map c.sized_table_for-in-Picture.result
-          (λ fault why. capacities_refused lines curve known.curve options fault known.sizes why) c.sized_table_for-in-Picture.ensures.refused;
-      fault = err_map c.sized_table_for-in-Picture.result
-          (λ fault why. capacities_unwritten curve (capacities_on curve options.capacities) fault why) c.sized_table_for-in-Picture.ensures.refused;
+          c.sized_picture_for.ensures.picture;
+      refused = err_map c.sized_picture_for.result
+          (λ fault why. capacities_refused lines curve known.curve options fault known.sizes why) c.sized_picture_for.ensures.refused;
+      fault = err_map c.sized_picture_for.result
+          (λ fault why. capacities_unwritten curve (capacities_on curve options.capacities) fault why) c.sized_picture_for.ensures.refused;
     }
 
 pub returns-in-Ok-clause-report : goal.returns-in-Ok-clause-report

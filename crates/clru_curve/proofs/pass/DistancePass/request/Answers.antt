@@ -10,7 +10,6 @@ pub invariant_of-self : goal.invariant_of-self
 invariant_of-self g c =
     let eq = g.K.PartialEq.eq in let s = c.self.inside in let inv = c.self.invariant in let e = c.make_ready.ensures in
     record {
-      greatest = inv.greatest;
       latest = e.kept;
       past = inv.past;
       taken = rw e.requests (IsPass-same eq inv.past s.positions.entries s.latest.words.items c.make_ready.new.self.words.items s.latest.requests
@@ -77,7 +76,6 @@ invariant_of-self-in-Some-1 g c =
     let inside : d < length h = omega (arith, below, distance) in
     let word = get_or_read h d c.index_mut.result.now inside c.index_mut.ensures.value 0 ∙ ap (λ i. get_or h i 0) distance in
     record {
-      greatest = ap (λ m. m.capacity) moved ∙ inv.greatest;
       latest = c.clear.ensures.kept;
       past = c.args.key ∷ inv.past;
       taken = rw (moved, c.clear.ensures.requests, c.push.ensures.requests, c.make_ready.ensures.requests, word, distance)
@@ -111,7 +109,6 @@ invariant_of-self-in_default-reserve g c =
     let eq = g.K.PartialEq.eq in let s = c.self.inside in let inv = c.self.invariant in let e = c.make_ready.ensures in
     let same = c.in-None.ensures.same refl in
     record {
-      greatest = ap (λ m. m.capacity) same ∙ inv.greatest;
       latest = e.kept;
       past = inv.past;
       taken = rw (same, e.requests, c.reserve.ensures.items)
@@ -131,10 +128,9 @@ invariant_of-self-in-Err g c =
     let eq = g.K.PartialEq.eq in let s = c.self.inside in let inv = c.self.invariant in let e = c.make_ready.ensures in
     let same = c.in-None.ensures.same refl in
     record {
-      greatest = c.put.ensures.places.capacity ∙ ap (λ m. m.capacity) same ∙ inv.greatest;
       latest = e.kept;
       past = inv.past;
-      taken = rw (c.in-Err.ensures.entries, same, e.requests, c.reserve.ensures.items)
+      taken = rw (c.in-Err.ensures.entries, c.make_room.ensures.entries, same, e.requests, c.reserve.ensures.items)
           (IsPass-same eq inv.past s.positions.entries s.latest.words.items c.make_ready.new.self.words.items s.latest.requests s.histogram.items e.ones inv.taken);
     }
 
@@ -142,7 +138,7 @@ pub returns-in-Err-clause-refused : goal.returns-in-Err-clause-refused
 returns-in-Err-clause-refused g c past before =
     let eq = g.K.PartialEq.eq in let s = c.self.inside in let e = c.make_ready.ensures in
     let same = c.in-None.ensures.same refl in
-    rw (c.in-Err.ensures.entries, same, e.requests, c.reserve.ensures.items)
+    rw (c.in-Err.ensures.entries, c.make_room.ensures.entries, same, e.requests, c.reserve.ensures.items)
     (IsPass-same eq past s.positions.entries s.latest.words.items c.make_ready.new.self.words.items s.latest.requests s.histogram.items e.ones
     (subst (λ v. IsPass eq past v) (sym c.self.view_is) before))
 
@@ -150,13 +146,13 @@ pub invariant_of-self-in-None : goal.invariant_of-self-in-None
 invariant_of-self-in-None g c =
     let eq = g.K.PartialEq.eq in let laws = g.met.K.Eq.laws in let s = c.self.inside in let inv = c.self.invariant in let e = c.make_ready.ensures in
     let same = c.in-None.ensures.same refl in let n = s.latest.requests in
-    let room : n < s.positions.capacity = omega (arith, inv.greatest, c.in-Ok.ensures.countable, e.requests) in
+    let room : length s.positions.entries < c.make_room.new.positions.capacity =
+    omega (arith, c.make_room.ensures.room, ap (λ l. length l) (c.make_room.ensures.entries ∙ ap (λ m. m.entries) same)) in
     record {
-      greatest = c.put.ensures.places.capacity ∙ ap (λ m. m.capacity) same ∙ inv.greatest;
       latest = c.push-in-None.ensures.kept;
       past = c.args.key ∷ inv.past;
-      taken = rw (c.in_default-put.ensures.entries, same, c.push-in-None.ensures.requests, e.requests, c.push_reserved.ensures.items, c.reserve.ensures.items)
-          (IsPass-new eq laws inv.past s.positions.entries s.latest.words.items n s.histogram.items c.args.key inv.taken s.positions.capacity
+      taken = rw (c.in_default-put.ensures.entries, c.make_room.ensures.entries, same, c.push-in-None.ensures.requests, e.requests, c.push_reserved.ensures.items, c.reserve.ensures.items)
+          (IsPass-new eq laws inv.past s.positions.entries s.latest.words.items n s.histogram.items c.args.key inv.taken c.make_room.new.positions.capacity
           c.push-in-None.new.self.words.items (sym c.in-None.ensures.found) room
           (λ q. omega (arith, c.push-in-None.ensures.ones q, e.ones q, ap (λ r. up_to q r) e.requests)));
     }
@@ -166,9 +162,10 @@ returns-in_default-put-clause-taken g c past before =
     let eq = g.K.PartialEq.eq in let laws = g.met.K.Eq.laws in let s = c.self.inside in let inv = c.self.invariant in let e = c.make_ready.ensures in
     let is = subst (λ v. IsPass eq past v) (sym c.self.view_is) before in
     let same = c.in-None.ensures.same refl in let n = s.latest.requests in
-    let room : n < s.positions.capacity = omega (arith, inv.greatest, c.in-Ok.ensures.countable, e.requests) in
-    rw (c.in_default-put.ensures.entries, same, c.push-in-None.ensures.requests, e.requests, c.push_reserved.ensures.items, c.reserve.ensures.items)
-    (IsPass-new eq laws past s.positions.entries s.latest.words.items n s.histogram.items c.args.key is s.positions.capacity
+    let room : length s.positions.entries < c.make_room.new.positions.capacity =
+    omega (arith, c.make_room.ensures.room, ap (λ l. length l) (c.make_room.ensures.entries ∙ ap (λ m. m.entries) same)) in
+    rw (c.in_default-put.ensures.entries, c.make_room.ensures.entries, same, c.push-in-None.ensures.requests, e.requests, c.push_reserved.ensures.items, c.reserve.ensures.items)
+    (IsPass-new eq laws past s.positions.entries s.latest.words.items n s.histogram.items c.args.key is c.make_room.new.positions.capacity
     c.push-in-None.new.self.words.items (sym c.in-None.ensures.found) room
     (λ q. omega (arith, c.push-in-None.ensures.ones q, e.ones q, ap (λ r. up_to q r) e.requests)))
 
@@ -177,3 +174,14 @@ returns-in_default-put-clause-distance g c past before =
     let eq = g.K.PartialEq.eq in let s = c.self.inside in
     let is = subst (λ v. IsPass eq past v) (sym c.self.view_is) before in
     distance_none eq g.met.K.Eq.laws past s.positions.entries s.latest.words.items s.latest.requests s.histogram.items c.args.key is (sym c.in-None.ensures.found)
+
+pub make_room-requires : goal.make_room-requires
+make_room-requires g c =
+    let few = c.self.invariant.taken.ranked.few in
+    omega (
+      arith,
+      few,
+      ap (λ l. length l) (ap (λ m. m.entries) (c.in-None.ensures.same refl)),
+      c.in-Ok.ensures.countable,
+      c.make_ready.ensures.requests,
+    )

@@ -1,15 +1,14 @@
-use Rattle.std.proofs.Common.{[], ap}
+use Rattle.std.proofs.Common.{[]}
 use Rattle.clru_curve.proofs.Passing.{IsPass-none}
 use Rattle.clru_curve.proofs.pass.DistancePass.with_hasher.Goals as goal
 
 pub invariant_of-result : goal.invariant_of-result
 invariant_of-result g c =
     record {
-      greatest = ap (λ m. m.capacity) c.with_hasher.ensures;
       latest = c.new.ensures.kept;
       past = [];
-      taken = rw (c.with_hasher.ensures, c.new.ensures.words, c.new.ensures.requests, c.new-2.ensures.items) (IsPass-none g.K.PartialEq.eq);
+      taken = rw (c.no_positions.ensures, c.new.ensures.words, c.new.ensures.requests, c.new-2.ensures.items) (IsPass-none g.K.PartialEq.eq);
     }
 
 pub returns : goal.returns
-returns g c = rw (c.with_hasher.ensures, c.new.ensures.words, c.new.ensures.requests, c.new-2.ensures.items) (IsPass-none g.K.PartialEq.eq)
+returns g c = rw (c.no_positions.ensures, c.new.ensures.words, c.new.ensures.requests, c.new-2.ensures.items) (IsPass-none g.K.PartialEq.eq)

@@ -16,12 +16,12 @@ pub item_mut-requires : goal.item_mut-requires
 item_mut-requires g c =
     let it = held_item _ _ _ _ _ c.self.invariant.0 _ c.self.view_is c.args.place c.requires in
     let below = place_below _ _ _ _ _ c.self.invariant.0 c.args.place it.0 it.1 in
-    rw (sym (node_item c.self.inside.chain c.args.place c.index_mut.result.now below c.index_mut.ensures.value) ∙ it.1) refl
+    rw (sym (node_item c.self.inside.links c.args.place c.index_mut.result.now below c.index_mut.ensures.value) ∙ it.1) refl
 
 pub invariant_of-self-lent : goal.invariant_of-self-lent
 invariant_of-self-lent g c = λ w.
     let it = held_item _ _ _ _ _ c.self.invariant.0 _ c.self.view_is c.args.place c.requires in
-    let new = sound-write_node c.self.inside.chain _ _ _ c.self.invariant.0 c.args.place it.0 it.1 c.index_mut.result.now c.index_mut.ensures.value w in
+    let new = sound-write_node c.self.inside.links _ _ _ c.self.invariant.0 c.args.place it.0 it.1 c.index_mut.result.now c.index_mut.ensures.value w in
     ((_, new), pointed-still _ _ _ _ _ _ _ _ _ _ _ _ _ c.self.invariant.0.1 new (keys-with_at c.args.place w c.self.invariant.0.0) c.self.invariant.1)
 
 pub returns : goal.returns
@@ -31,12 +31,12 @@ returns g c =
       (
         refl,
         λ w. view-is _ _ _ _ _ _
-            (sound-write_node c.self.inside.chain _ _ _ c.self.invariant.0 c.args.place it.0 it.1 c.index_mut.result.now c.index_mut.ensures.value w)
+            (sound-write_node c.self.inside.links _ _ _ c.self.invariant.0 c.args.place it.0 it.1 c.index_mut.result.now c.index_mut.ensures.value w)
             ∙ sym (seen_with _ _ _ _ _ c.self.invariant.0 _ c.self.view_is (with_at c.args.place w)),
       ),
       record {
         lends = tt;
         value = sym (seen_item _ _ _ _ _ c.self.invariant.0 _ c.self.view_is c.args.place)
-            ∙ node_item c.self.inside.chain c.args.place c.index_mut.result.now below c.index_mut.ensures.value ∙ c.item_mut.ensures.value;
+            ∙ node_item c.self.inside.links c.args.place c.index_mut.result.now below c.index_mut.ensures.value ∙ c.item_mut.ensures.value;
       },
     )

@@ -19,7 +19,7 @@ returns-then-self-2-clause-valid g c = seen_valid _ _ _ _ _ c.self.invariant.0 _
 abbrev pub invariant_of-self : goal.invariant_of-self
 invariant_of-self g c =
     let e = c.reserve_exact.ensures in let i = c.self.invariant.0 in
-    let new = sound-at _ _ _ _ _ _ _ _ (links_of-moved c.self.inside.chain c.reserve_exact.new.self e.items e.len) refl
+    let new = sound-at _ _ _ _ _ _ _ _ (links_of-moved c.self.inside.links c.reserve_exact.new.self e.items e.len) refl
     (sound-grow _ _ _ _ _ i c.self.inside.places _ (omega arith) (omega (arith, i.1.reserved, e.capacity)) c.reserve_exact.new.self.small) in
     ((i.0, new), pointed-still _ _ _ _ _ _ _ _ _ _ _ _ _ i.1 new refl c.self.invariant.1)
 
@@ -36,7 +36,7 @@ returns-in_default-clause-valid g c = valid_view _ _ _ _ _ _ (invariant_of-self 
 abbrev pub invariant_of-self-2 : goal.invariant_of-self-2
 invariant_of-self-2 g c =
     let e = c.reserve_exact.ensures in let i = c.self.invariant.0 in
-    let new = sound-at _ _ _ _ _ _ _ _ (links_of-moved c.self.inside.chain c.reserve_exact.new.self e.items e.len) refl
+    let new = sound-at _ _ _ _ _ _ _ _ (links_of-moved c.self.inside.links c.reserve_exact.new.self e.items e.len) refl
     (sound-grow _ _ _ _ _ i c.grown-places.result _ (omega (arith, c.grown-places.ensures, c.if-self.false, c.if-self-2.false, i.1.fits))
     (omega (arith, c.in-Ok.ensures.ok, e.len, c.len.ensures, i.1.within, c.grown-places.ensures)) c.reserve_exact.new.self.small) in
     ((i.0, new), pointed-still _ _ _ _ _ _ _ _ _ _ _ _ _ i.1 new refl c.self.invariant.1)

@@ -1,5 +1,5 @@
 use Rattle.std.proofs.Common.{None, refl, sym, ap, ◌∙◌, subst}
-use Rattle.clru_list.specs.Links.{Links, links_of, unlinked, released, IsEnd}
+use Rattle.clru_list.specs.Links.{LinkMap, links_of, unlinked, released, IsEnd}
 use Rattle.clru_list.specs.PlaceList.{with_entries, without}
 use Rattle.clru_list.proofs.EntryLists.{without-none}
 use Rattle.clru_list.proofs.Puts.{set_item-same}
@@ -12,7 +12,7 @@ use Rattle.clru_list.proofs.list.FixedSizeList.remove.Goals as goal
 abbrev pub invariant_of-self : goal.invariant_of-self
 invariant_of-self g c =
     let e = c.in_err-item.ensures in
-    let new = sound-at _ _ _ _ _ _ _ _ (e.links ∙ set_item-same (links_of c.self.inside.chain) c.args.place None (sym e.value)) e.room c.self.invariant.0.1 in
+    let new = sound-at _ _ _ _ _ _ _ _ (e.links ∙ set_item-same (links_of c.self.inside.links) c.args.place None (sym e.value)) e.same_capacity c.self.invariant.0.1 in
     ((c.self.invariant.0.0, new), pointed-still _ _ _ _ _ _ _ _ _ _ _ _ _ c.self.invariant.0.1 new refl c.self.invariant.1)
 
 pub returns-in_err-item-clause-value : goal.returns-in_err-item-clause-value
@@ -29,12 +29,12 @@ returns-in_err-item-clause-valid g c = valid_view _ _ _ _ _ _ (invariant_of-self
 
 pub unlink-requires-clause-prev : goal.unlink-requires-clause-prev
 unlink-requires-clause-prev g c =
-    let P : Links g.row.T.Denot → Type 0 = λ l. IsEnd l (l.prev c.args.place) in
+    let P : LinkMap g.row.T.Denot → Type 0 = λ l. IsEnd l (l.prev c.args.place) in
     subst P (sym c.in_ok-item.ensures.links) (prev_end _ _ _ _ _ c.self.invariant.0 c.args.place c.in_ok-item.item (sym c.in_ok-item.ensures.value))
 
 pub unlink-requires-clause-next : goal.unlink-requires-clause-next
 unlink-requires-clause-next g c =
-    let P : Links g.row.T.Denot → Type 0 = λ l. IsEnd l (l.next c.args.place) in
+    let P : LinkMap g.row.T.Denot → Type 0 = λ l. IsEnd l (l.next c.args.place) in
     subst P (sym c.in_ok-item.ensures.links) (next_end _ _ _ _ _ c.self.invariant.0 c.args.place c.in_ok-item.item (sym c.in_ok-item.ensures.value))
 
 abbrev pub invariant_of-self-2 : goal.invariant_of-self-2
@@ -43,7 +43,7 @@ invariant_of-self-2 g c =
       (
         _,
         sound-at _ _ _ _ _ _ _ _ (c.release.ensures.links ∙ ap (λ l. released l p) (c.unlink.ensures.links ∙ ap (λ l. unlinked l p) e.links))
-            (c.release.ensures.room ∙ c.unlink.ensures.room ∙ e.room) (sound-remove _ _ _ _ _ c.self.invariant.0 p c.in_ok-item.item (sym e.value)),
+            (c.release.ensures.same_capacity ∙ c.unlink.ensures.same_capacity ∙ e.same_capacity) (sound-remove _ _ _ _ _ c.self.invariant.0 p c.in_ok-item.item (sym e.value)),
       ),
       pointed-none _ _ c.clear.ensures,
     )

@@ -1,5 +1,5 @@
 use Rattle.std.proofs.Common.{refl}
-use Rattle.clru_nodes.specs.Chained.{nowhere}
+use Rattle.clru_list.specs.Places.{nowhere}
 use Rattle.clru_nodes.specs.Heads.{home_at, IsPlace}
 use Rattle.clru_nodes.specs.Nodes.{hash_by}
 use Rattle.clru_nodes.proofs.Indexed.{walk_of_chain, live_at_cut, live_but, chained_append}

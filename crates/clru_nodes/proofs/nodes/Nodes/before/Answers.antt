@@ -2,7 +2,8 @@ use Rattle.std.proofs.Common.{◌≡◌, Some, refl, sym, ap, ◌∙◌, subst, 
 use Rattle.std.proofs.lemmas.Bool.{cases_eq}
 use Rattle.std.specs.Option.{option_copied}
 use Rattle.clru_list.specs.PlaceList.{item_at}
-use Rattle.clru_nodes.specs.Chained.{nowhere, steps_left}
+use Rattle.clru_list.specs.Places.{nowhere}
+use Rattle.clru_nodes.specs.Chained.{steps_left}
 use Rattle.clru_nodes.specs.Heads.{head_at, steps_at, IsLive, IsPlace}
 use Rattle.clru_nodes.proofs.ChainWalks.{walk_over, walk_missed, walk_step, walk_nearer}
 use Rattle.clru_nodes.proofs.Cuts.{cut_step}

@@ -1,5 +1,6 @@
 use Rattle.std.proofs.Common.{◌≡◌, ℕ, length}
-use Rattle.clru_nodes.specs.Chained.{nowhere, IsCut, IsWalk, steps_left}
+use Rattle.clru_list.specs.Places.{nowhere}
+use Rattle.clru_nodes.specs.Chained.{IsCut, IsWalk, steps_left}
 use Rattle.clru_nodes.specs.Heads.{steps_at, IsLive, IsPlace}
 use Rattle.clru_nodes.proofs.nodes.Nodes.before.Given as goal
 

@@ -2,7 +2,8 @@ use Rattle.std.proofs.Common.{◌≡◌, Some, true, refl, length, ◌<◌, sym,
 use Rattle.std.proofs.lemmas.Bool.{true≢false}
 use Rattle.std.specs.Option.{option_copied}
 use Rattle.clru_list.specs.PlaceList.{item_at}
-use Rattle.clru_nodes.specs.Chained.{nowhere, steps_left}
+use Rattle.clru_list.specs.Places.{nowhere}
+use Rattle.clru_nodes.specs.Chained.{steps_left}
 use Rattle.clru_nodes.specs.Heads.{head_by, head_at, key_at, steps_at, home_at, IsLive, IsAt}
 use Rattle.clru_nodes.specs.Nodes.{hash_by}
 use Rattle.clru_nodes.specs.declared.nodes.Item.{Item}

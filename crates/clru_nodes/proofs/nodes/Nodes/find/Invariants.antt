@@ -1,5 +1,6 @@
 use Rattle.std.proofs.Common.{◌≡◌, length}
-use Rattle.clru_nodes.specs.Chained.{nowhere, IsWalk, steps_left}
+use Rattle.clru_list.specs.Places.{nowhere}
+use Rattle.clru_nodes.specs.Chained.{IsWalk, steps_left}
 use Rattle.clru_nodes.specs.Heads.{head_by, steps_at, IsLive, IsAt}
 use Rattle.clru_nodes.proofs.nodes.Nodes.find.Given as goal
 

@@ -2,7 +2,8 @@ use Rattle.std.proofs.Common.{◌≡◌, Some, None, length, arith, refl, sym, a
 use Rattle.std.proofs.lemmas.Bool.{eq-eqb}
 use Rattle.std.proofs.lemmas.List.{length-map}
 use Rattle.clru_list.specs.PlaceList.{item_at, IsApart}
-use Rattle.clru_nodes.specs.Chained.{nowhere, put, IsChained}
+use Rattle.clru_list.specs.Places.{nowhere, put}
+use Rattle.clru_nodes.specs.Chained.{IsChained}
 use Rattle.clru_nodes.specs.Heads.{head_by, head_at, link_at, key_at, home_at}
 use Rattle.clru_nodes.specs.Nodes.{hash_by, pair_of, pairs_of}
 use Rattle.clru_nodes.specs.declared.nodes.Item.{Item}

@@ -1,7 +1,8 @@
 use Rattle.std.proofs.Common.{◌≡◌, ◌+◌, ◌-◌, Some, length, refl, sym, ap, ◌∙◌, subst, arith}
 use Rattle.std.specs.Option.{option_copied}
 use Rattle.clru_list.specs.PlaceList.{item_at}
-use Rattle.clru_nodes.specs.Chained.{nowhere, IsChained, IsLinked}
+use Rattle.clru_list.specs.Places.{nowhere}
+use Rattle.clru_nodes.specs.Chained.{IsChained, IsRelinked}
 use Rattle.clru_nodes.specs.Heads.{head_by, head_at, link_at, home_at}
 use Rattle.clru_nodes.specs.Nodes.{hash_by}
 use Rattle.clru_nodes.proofs.Chaining.{chained_none}
@@ -49,7 +50,7 @@ loop-place-preserved g c =
     λ e. none_at_start x.list c.get.ensures.valid (item, subst (λ q. item_at q es ≡ Some item) e held) in
     let same = same_trans {y = x₁} c.link.ensures.same c.link-in-loop-place.ensures.same in
     let pairs = c.link-in-loop-place.ensures.pairs ∙ c.link.ensures.pairs in
-    let one = subst (λ t. IsLinked (head_at x.heads.items) (link_at es) h p t (head_at x₁.heads.items) (link_at x₁.list.entries)) c.first-first.ensures
+    let one = subst (λ t. IsRelinked (head_at x.heads.items) (link_at es) h p t (head_at x₁.heads.items) (link_at x₁.list.entries)) c.first-first.ensures
     c.link.ensures.linked in
     record {
       chained = same_homes hash same (head_at x₂.heads.items) (link_at x₂.list.entries) (key_from p x₂.list.entries)

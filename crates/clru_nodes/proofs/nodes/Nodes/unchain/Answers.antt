@@ -1,6 +1,6 @@
 use Rattle.std.proofs.Common.{◌≡◌, refl, sym, ◌∙◌, arith, inl, inr}
 use Rattle.std.proofs.lemmas.Bool.{cases_eq}
-use Rattle.clru_nodes.specs.Chained.{nowhere}
+use Rattle.clru_list.specs.Places.{nowhere}
 use Rattle.clru_nodes.specs.Heads.{head_at, link_at, key_at, home_at, IsPlace}
 use Rattle.clru_nodes.specs.Nodes.{hash_by}
 use Rattle.clru_nodes.proofs.Chaining.{key_met}

@@ -1,7 +1,7 @@
 use Rattle.std.proofs.Common.{◌≡◌, [], ap, arith, length, min, refl}
 use Rattle.std.proofs.lemmas.List.{length-replicate}
 use Rattle.clru_list.specs.PlaceList.{place_list}
-use Rattle.clru_nodes.specs.Chained.{nowhere}
+use Rattle.clru_list.specs.Places.{nowhere}
 use Rattle.clru_nodes.specs.Nodes.{hash_by}
 use Rattle.clru_nodes.proofs.Indexed.{indexed_none, head_at-replicate}
 use Rattle.clru_nodes.proofs.nodes.Nodes.with_memory.Goals as goal

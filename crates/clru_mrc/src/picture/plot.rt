@@ -1,0 +1,40 @@
+//! What a picture shows, whatever its capacities count.
+
+use std::alloc::Allocator;
+
+/// A miss ratio over the capacities, as parts of a whole.
+#[derive(Drop)]
+pub(crate) struct Line<A: Allocator> {
+    /// How the style calls it.
+    pub(crate) class: &'static str,
+
+    /// How the legend calls it.
+    pub(crate) name: &'static str,
+
+    /// What the ratios are parts of.
+    pub(crate) whole: usize,
+
+    /// The part at the first capacity.
+    pub(crate) start: usize,
+
+    /// From which capacity on it is which part, the least capacity first.
+    pub(crate) steps: Vec<(usize, usize), A>,
+}
+
+/// What stands in the picture beside the table.
+#[derive(Drop)]
+pub(crate) struct Plot<A: Allocator> {
+    pub(crate) requests: usize,
+    pub(crate) distinct: usize,
+
+    /// What stands below the axis of capacities.
+    pub(crate) axis: &'static str,
+
+    /// The first and the last capacity.
+    pub(crate) ends: (usize, usize),
+
+    pub(crate) lines: Vec<Line<A>, A>,
+
+    /// The least possible misses at a capacity, where they are asked for.
+    pub(crate) least: Option<Vec<(usize, usize), A>>,
+}
