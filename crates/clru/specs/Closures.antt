@@ -16,10 +16,12 @@ module _ {P K T R : Type 0} (g : Mut P (Bor K × (T × Unit {0})) R) (put : P) w
     pub called : Called g put (shown, (t, tt)) v put'
 
 -- the modify operation: it writes to the value of a held key
-module _ {M K V T R : Type 0} (g : Mut M (Bor K × (MutBor V × (T × Unit {0}))) (R × (MutBor V × Unit {0}))) (modify : M) where
+module _ {M K V T R : Type 0} (g : Mut M (Bor K × (MutBor V × (T × Unit {0}))) (R × (MutBor V × Unit {0})))
+    (modify : M) where
   -- it may be called at the stored key k, its value v and the data t
   abbrev pub TakesEntry : K → V → T → Type 0
-  TakesEntry k v t = (shown : Bor K) (lent : MutBor V) → shown.now ≡ k → lent.now ≡ v → Takes g modify (shown, (lent, (t, tt)))
+  TakesEntry k v t = (shown : Bor K) (lent : MutBor V) → shown.now ≡ k → lent.now ≡ v
+      → Takes g modify (shown, (lent, (t, tt)))
 
   -- one call at them may give r, and leave the value w and the operation as modify'
   pub record CallsAtEntry (k : K) (v : V) (t : T) (r : R) (w : V) (modify' : M) : Type 0 where
@@ -47,7 +49,8 @@ module _ {P M K V T E : Type 0} (p : Mut P (Bor K × (T × Unit {0})) (Result V 
   TryPutsOrModifies (Some e) put modify x t v = (modify' : M) × CallsAtEntry m modify e.0 e.1 t (Ok tt) v modify'
 
   -- it answers the error f: the entries stay where that is the put operation, and else have what the modify operation wrote
-  abbrev pub FailsToPutOrModify : Option (K × V) → P → M → K → T → E → (before : List (K × V)) → (V → List (K × V)) → (after : List (K × V)) → Type 0
+  abbrev pub FailsToPutOrModify : Option (K × V) → P → M → K → T → E
+      → (before : List (K × V)) → (V → List (K × V)) → (after : List (K × V)) → Type 0
   FailsToPutOrModify None put modify x t f before written after =
       ((put' : P) × CallsAtKey p put x t (Err f) put') × (after ≡ before)
   FailsToPutOrModify (Some e) put modify x t f before written after =

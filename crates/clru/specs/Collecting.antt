@@ -34,7 +34,8 @@ module _ {K V W : Type 0} (eq : K → K → Bool) where
     abbrev pub PutsItems : Result (Unit {0}) (K × V) → Cache K V W → Type 0
     PutsItems (Ok done) new = (es : List (K × V)) × Drains next it es × PutsAll old es new
     PutsItems (Err e) new =
-        (es : List (K × V)) × (rest : S) × (last : Cache K V W) × YieldsThen next it es (Some e) rest × PutsAll old es last × PutRefused last e new
+        (es : List (K × V)) × (rest : S) × (last : Cache K V W)
+        × YieldsThen next it es (Some e) rest × PutsAll old es last × PutRefused last e new
 
     -- all was put, and then the capacity became the number of entries, or 1 where there is none; or some put was refused
     abbrev pub CollectsItems : {N : Type 0} → Result (Cache K V W) N → Type 0

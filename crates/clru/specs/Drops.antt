@@ -14,4 +14,5 @@ module _ {F K V : Type 0} (g : Mut F (K × (V × Unit {0})) (Unit {0})) where
 
   -- f may be called at each of the pairs in turn
   pub record TakesEach (f : F) (es : List (K × V)) : Type 0 where
-    pub at : (before after : List (K × V)) (f' : F) (e : K × V) → es ≡ before ++ e ∷ after → HandsOutTo f before f' → g.pre f' (e.0, (e.1, tt))
+    pub at : (before after : List (K × V)) (f' : F) (e : K × V)
+        → es ≡ before ++ e ∷ after → HandsOutTo f before f' → g.pre f' (e.0, (e.1, tt))

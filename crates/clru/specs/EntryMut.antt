@@ -19,7 +19,8 @@ index_of Front es = 0
 index_of Back es = length es - 1
 
 -- another value leaves the number of entries
-pub length-with_value_at : {K V : Type 0} (i : ℕ) (v : V) (es : List (K × V)) → length (with_value_at i v es) ≡ length es
+pub length-with_value_at : {K V : Type 0} (i : ℕ) (v : V) (es : List (K × V))
+    → length (with_value_at i v es) ≡ length es
 length-with_value_at i v [] = refl
 length-with_value_at zero v (e ∷ es) = refl
 length-with_value_at (suc i) v (e ∷ es) = ap suc (length-with_value_at i v es)

@@ -17,7 +17,8 @@ pub use Rattle.clru_model.specs.Laws.{FitIsLongest, OnlyFitIsLongest}
 module _ {K V F : Type 0} (eq : K → K → Bool) (g : Mut F (K × (V × Unit {0})) (Unit {0})) where
   -- what the contracts tell of a plain put and a weighted put at weight zero, of one pair into one cache, where both are taken:
   -- the plain one answers `put`, the weighted one answers `old` and leaves the closure f as f'
-  pub record IsPutBothWays {W : Type 0} (weight : K → V → ℕ) (c : Cache K V W) (x : K) (v : V) (put : Put K V) (f : F) (old : Option V) (f' : F) : Type 0 where
+  pub record IsPutBothWays {W : Type 0} (weight : K → V → ℕ) (c : Cache K V W) (x : K) (v : V)
+      (put : Put K V) (f : F) (old : Option V) (f' : F) : Type 0 where
     pub weightless : (y : K) (w : V) → weight y w ≡ 0
     pub valid : IsValid eq weight c
     pub replaced : put.replaced ≡ lookup (eq x) c.entries
@@ -28,10 +29,12 @@ module _ {K V F : Type 0} (eq : K → K → Bool) (g : Mut F (K × (V × Unit {0
   module _ (W : Type 0) where
     -- what the plain put replaced is what the weighted put answers
     abbrev pub ReplacedIsAnswered : Type 0
-    ReplacedIsAnswered = (weight : K → V → ℕ) (c : Cache K V W) (x : K) (v : V) (put : Put K V) (f : F) (old : Option V) (f' : F)
+    ReplacedIsAnswered = (weight : K → V → ℕ) (c : Cache K V W) (x : K) (v : V)
+        (put : Put K V) (f : F) (old : Option V) (f' : F)
         → IsPutBothWays weight c x v put f old f' → put.replaced ≡ old
 
     -- the weighted put calls the closure exactly on the pair that the plain put answers as dropped
     abbrev pub DroppedIsHandedOut : Type 0
-    DroppedIsHandedOut = (weight : K → V → ℕ) (c : Cache K V W) (x : K) (v : V) (put : Put K V) (f : F) (old : Option V) (f' : F)
+    DroppedIsHandedOut = (weight : K → V → ℕ) (c : Cache K V W) (x : K) (v : V)
+        (put : Put K V) (f : F) (old : Option V) (f' : F)
         → IsPutBothWays weight c x v put f old f' → HandsOutTo g f (option_to_list put.dropped) f'

@@ -17,7 +17,8 @@ module _ (K V S W A H : RattleType) (key : HashMembers K.Denot) (build : builder
     (hash : hasher.Ghosts H.Denot) (weighs : scale.Ghosts W.Denot K.Denot V.Denot) (heap : alloc.Ghosts A.Denot) where
   -- the cache's type, as the logic holds it
   abbrev pub cache_row : RattleType
-  cache_row = the_row K V S W A H (record { eq = key.eq }) (record { hash_input = key.hash_input }) build hash weighs heap
+  cache_row = the_row K V S W A H (record { eq = key.eq }) (record { hash_input = key.hash_input })
+      build hash weighs heap
 
   module _ (c : MutBor (Cache K.Denot V.Denot W.Denot)) where
     -- it has the entries es, and all else as before
@@ -26,7 +27,8 @@ module _ (K V S W A H : RattleType) (key : HashMembers K.Denot) (build : builder
 
     -- it has the entries es with the last value written through r at x, and at `None` the entries es as they are
     abbrev pub lends_value : K.Denot → List (K.Denot × V.Denot) → Option (MutBor V.Denot) → Fml
-    lends_value x es r = LendsIf cache_row V c r (λ w. with_entries c.now (set_value (key.eq x) es w)) (with_entries c.now es)
+    lends_value x es r = LendsIf cache_row V c r
+        (λ w. with_entries c.now (set_value (key.eq x) es w)) (with_entries c.now es)
 
     -- it has in front, at x, the last value written through r, as after a plain put, and at `Err` its entries stay; its
     -- places grow only if x needs one
@@ -37,7 +39,8 @@ module _ (K V S W A H : RattleType) (key : HashMembers K.Denot) (build : builder
         (λ n. (n.entries ≡ c.now.entries) × GrowsOnlyIf (NeedsPlace key.eq c.now x) c.now n)
 
     -- the same, where its entries are of `es` at `Err`
-    abbrev pub lends_try : {E : Type 0} → K.Denot → Result (MutBor V.Denot) E → (E → List (K.Denot × V.Denot) → Type 0) → Fml
+    abbrev pub lends_try : {E : Type 0} → K.Denot → Result (MutBor V.Denot) E
+        → (E → List (K.Denot × V.Denot) → Type 0) → Fml
     lends_try x r es = LendsSoOk cache_row V c r
         (λ n w. (n.entries ≡ plain_put key.eq c.now.capacity x w c.now.entries)
         × GrowsOnlyIf (NeedsPlace key.eq c.now x) c.now n)

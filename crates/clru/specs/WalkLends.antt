@@ -19,13 +19,15 @@ use Rattle.clru.specs.contracts.iter.cursor.CLruCacheIterMut.{the_row}
 module _ (K V S A H : RattleType) (key : HashMembers K.Denot) (build : builder.Ghosts S.Denot H.Denot)
     (hash : hasher.Ghosts H.Denot) (heap : alloc.Ghosts A.Denot) where
   -- the cache has the last value written through r at the number i
-  abbrev pub lends_at : scale.Ghosts ZeroWeightScale K.Denot V.Denot → MutBor (Cache K.Denot V.Denot ZeroWeightScale) → ℕ → MutBor V.Denot → Fml
+  abbrev pub lends_at : scale.Ghosts ZeroWeightScale K.Denot V.Denot → MutBor (Cache K.Denot V.Denot ZeroWeightScale)
+      → ℕ → MutBor V.Denot → Fml
   lends_at weighs c i r = Lends (cache_row K V S zero_scale_row A H key build hash weighs heap) V c r
       (λ w. with_entries c.now (with_value_at i w c.now.entries))
 
   -- the type of a cursor. Its lifetime is the second of the signature
   abbrev pub cursor_row : RattleType
-  cursor_row = the_row (record { mir = named 1; lft = [] }) K V S A H (record { eq = key.eq }) (record { hash_input = key.hash_input }) build hash heap
+  cursor_row = the_row (record { mir = named 1; lft = [] }) K V S A H
+      (record { eq = key.eq }) (record { hash_input = key.hash_input }) build hash heap
 
   module _ (c : MutBor (CLruCacheIterMut K.Denot V.Denot S.Denot A.Denot H.Denot)) where
     -- the cursor is past the first entry that it had left, which has the last value written through r

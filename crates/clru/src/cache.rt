@@ -70,7 +70,8 @@ impl<K: Eq + Hash, V, S: BuildHasher, W: WeightScale<K, V>, A: Allocator + Copy>
 
     ghost view = { λ c. cache (pairs_in c.nodes) (non_zero_usize_get c.capacity) c.scale (places_of c.nodes) };
 
-    ghost invariant = { λ c. IsCache K.eq (W.weight c.scale) (hash_by S.Hasher.finish S.Hasher.write S.build_hasher K.hash_input)
+    ghost invariant = { λ c. IsCache K.eq (W.weight c.scale)
+        (hash_by S.Hasher.finish S.Hasher.write S.build_hasher K.hash_input)
         c.nodes c.total_weight (non_zero_usize_get c.capacity) };
 }
 

@@ -54,7 +54,8 @@ pub fn replay<K: Eq + Hash + Drop, S: BuildHasher + Drop, A: Allocator + Copy>(
     ensures marks { IfOk result (λ r. r.marks.items ≡ marks K.eq (non_zero_usize_get capacity) keys.items) }
     ensures misses { IfOk result (λ r. r.misses ≡ misses K.eq (non_zero_usize_get capacity) keys.items) }
     ensures bound { IfOk result (λ r. IsCompetitive K.eq (non_zero_usize_get capacity) keys.items r.misses) }
-    ensures bound_any_start { IfOk result (λ r. IsCompetitiveFromAnyStart K.eq (non_zero_usize_get capacity) keys.items r.misses) }
+    ensures bound_any_start { IfOk result (λ r.
+        IsCompetitiveFromAnyStart K.eq (non_zero_usize_get capacity) keys.items r.misses) }
     ensures given_back { IfErr result (λ left. left.items ≡ keys.items) }
     ensures never_refused { keys.items ≡ [] → IsOk result }
 {

@@ -40,7 +40,8 @@ pub(crate) fn shrink_handing_to<
     requires indexed { IsIndexed (hash_of K.Hash S.BuildHasher S.Hasher.Hasher) nodes.old }
     requires weighs { total_weight.old ≡ weight_of (W.weight scale.now) (pairs_in nodes.old) }
     requires small { size_of (W.weight scale.now) (pairs_in nodes.old) < 2 ^ 64 }
-    requires callable { TakesEach F.FnMut on_drop.old (reverse (past_fit (W.weight scale.now) room (pairs_in nodes.old))) }
+    requires callable { TakesEach F.FnMut on_drop.old
+        (reverse (past_fit (W.weight scale.now) room (pairs_in nodes.old))) }
     ensures pairs { pairs_in nodes.new ≡ fit (W.weight scale.now) room (pairs_in nodes.old) }
     ensures weighs { total_weight.new ≡ weight_of (W.weight scale.now) (pairs_in nodes.new) }
     ensures indexed { IsIndexed (hash_of K.Hash S.BuildHasher S.Hasher.Hasher) nodes.new }

@@ -17,17 +17,22 @@ weight_of object = object.1 - 1
 
 -- at each index the requests that miss at the capacity at that index, and their size; beside them the size of the distinct objects
 pub record AreSizedMisses (requests : List (ℕ × ℕ)) (capacities misses sizes : List ℕ) (n : ℕ) : Type 0 where
-  pub missed : AreBelow (λ i m. m ≡ misses_by_size same_object weight_of (slice_index capacities i) requests) misses (length misses)
-  pub missed_sizes : AreBelow (λ i m. m ≡ missed_size same_object weight_of (slice_index capacities i) requests) sizes (length sizes)
+  pub missed : AreBelow (λ i m. m ≡ misses_by_size same_object weight_of (slice_index capacities i) requests)
+      misses (length misses)
+  pub missed_sizes : AreBelow (λ i m. m ≡ missed_size same_object weight_of (slice_index capacities i) requests)
+      sizes (length sizes)
   pub distinct_size : n ≡ total same_object weight_of (reverse requests)
 
 -- the code of a call by size, where sizes stand beside the keys and two arrays of answers beside the capacities: too large is the
 -- sum of all sizes, too small a capacity that is not above the greatest weight
 pub record IsSizedCode (keys sizes capacities misses missed_sizes : List ℕ) (code : ℕ) : Type 0 where
   pub arguments : IsOfArguments (Contains capacities 0)
-      ((length sizes ≡ length keys) × (length misses ≡ length capacities) × (length missed_sizes ≡ length capacities)) code
+      ((length sizes ≡ length keys) × (length misses ≡ length capacities)
+      × (length missed_sizes ≡ length capacities)) code
   pub too_large : code ≡ TOO_LARGE → 2 ^ 64 ≤ size_of_all weight_of (zip keys sizes)
   pub not_too_large : code ≡ OK → size_of_all weight_of (zip keys sizes) < 2 ^ 64
-  pub too_small : code ≡ TOO_SMALL → SomeIndex capacities (λ i. slice_index capacities i ≤ greatest_of weight_of (reverse (zip keys sizes)))
-  pub none_too_small : code ≡ OK → EachIndex capacities (λ i. greatest_of weight_of (reverse (zip keys sizes)) < slice_index capacities i)
+  pub too_small : code ≡ TOO_SMALL
+      → SomeIndex capacities (λ i. slice_index capacities i ≤ greatest_of weight_of (reverse (zip keys sizes)))
+  pub none_too_small : code ≡ OK
+      → EachIndex capacities (λ i. greatest_of weight_of (reverse (zip keys sizes)) < slice_index capacities i)
   pub known : code ≤ TOO_SMALL

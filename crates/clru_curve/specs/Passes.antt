@@ -19,7 +19,8 @@ module _ {K : Type 0} where
 
   abbrev pub pass_code : Coded K → Coded (Pass K)
   pass_code k =
-      code_by (List (K × ℕ) × (List ℕ × (ℕ × List ℕ))) (coded× (coded_list (coded× k coded_ℕ)) (coded× (coded_list coded_ℕ) (coded× coded_ℕ (coded_list coded_ℕ))))
+      code_by (List (K × ℕ) × (List ℕ × (ℕ × List ℕ)))
+      (coded× (coded_list (coded× k coded_ℕ)) (coded× (coded_list coded_ℕ) (coded× coded_ℕ (coded_list coded_ℕ))))
       (λ p. (p.positions, (p.words, (p.requests, p.histogram)))) (λ t. pass t.0 t.1.0 t.1.1.0 t.1.1.1) (λ _. refl)
 
 module _ {K : Type 0} (eq : K → K → Bool) where

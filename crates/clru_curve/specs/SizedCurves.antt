@@ -20,8 +20,10 @@ curve_by_size ss n a d g = record { steps = ss; requests = n; size = a; distinct
 
 abbrev pub curve_by_size_code : Coded CurveBySize
 curve_by_size_code =
-    code_by (List (ℕ × ℕ) × (ℕ × (ℕ × (ℕ × ℕ)))) (coded× (coded_list (coded× coded_ℕ coded_ℕ)) (coded× coded_ℕ (coded× coded_ℕ (coded× coded_ℕ coded_ℕ))))
-    (λ c. (c.steps, (c.requests, (c.size, (c.distinct_size, c.greatest_weight))))) (λ t. curve_by_size t.0 t.1.0 t.1.1.0 t.1.1.1.0 t.1.1.1.1) (λ _. refl)
+    code_by (List (ℕ × ℕ) × (ℕ × (ℕ × (ℕ × ℕ))))
+    (coded× (coded_list (coded× coded_ℕ coded_ℕ)) (coded× coded_ℕ (coded× coded_ℕ (coded× coded_ℕ coded_ℕ))))
+    (λ c. (c.steps, (c.requests, (c.size, (c.distinct_size, c.greatest_weight)))))
+    (λ t. curve_by_size t.0 t.1.0 t.1.1.0 t.1.1.1.0 t.1.1.1.1) (λ _. refl)
 
 -- the steps up to a capacity: the requests that hit there
 abbrev pub hits_within : ℕ → List (ℕ × ℕ) → ℕ
@@ -54,10 +56,12 @@ module _ {K : Type 0} (weight : K → ℕ) where
 pub record IsMissed (size : ℕ) (hits steps : List (ℕ × ℕ)) : Type 0 where
   pub same_length : length steps ≡ length hits
   pub span : (i : ℕ) → i < length hits → (slice_index_or steps i (0, 0)).0 ≡ (slice_index_or hits i (0, 0)).0
-  pub missed : (i : ℕ) → i < length hits → (slice_index_or steps i (0, 0)).1 + sum_by (λ h. h.1) (take (suc i) hits) ≡ size
+  pub missed : (i : ℕ) → i < length hits
+      → (slice_index_or steps i (0, 0)).1 + sum_by (λ h. h.1) (take (suc i) hits) ≡ size
 
 -- the curve of these hits, in whatever order
-pub record IsCurveOfHits (hits : List (ℕ × ℕ)) (requests size distinct_size greatest_weight : ℕ) (curve : CurveBySize) : Type 0 where
+pub record IsCurveOfHits (hits : List (ℕ × ℕ))
+    (requests size distinct_size greatest_weight : ℕ) (curve : CurveBySize) : Type 0 where
   pub sorted : List (ℕ × ℕ)
   pub permutation : IsPermutation hits sorted
   pub rising : IsNonDecreasingBy (λ h. h.0) sorted
@@ -68,7 +72,8 @@ pub record IsCurveOfHits (hits : List (ℕ × ℕ)) (requests size distinct_size
   pub greatest : curve.greatest_weight ≡ greatest_weight
 
 -- the curve has at each capacity the misses of the requests, and their size; and a step for each request whose key came before
-pub record IsSizedCurveOf {K : Type 0} (eq : K → K → Bool) (weight : K → ℕ) (requests : List K) (curve : CurveBySize) : Type 0 where
+pub record IsSizedCurveOf {K : Type 0} (eq : K → K → Bool) (weight : K → ℕ)
+    (requests : List K) (curve : CurveBySize) : Type 0 where
   pub misses : (c : ℕ) → misses_within curve c ≡ misses_by_size eq weight c requests
   pub missed_size : (c : ℕ) → missed_size_within curve c ≡ missed_size eq weight c requests
   pub again : length curve.steps + distinct eq (reverse requests) ≡ length requests

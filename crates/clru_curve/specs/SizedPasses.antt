@@ -26,8 +26,11 @@ module _ {K : Type 0} where
 
   abbrev pub pass_by_size_code : Coded K → Coded (PassBySize K)
   pass_by_size_code k =
-      code_by (List (K × ℕ) × (List ℕ × (List (ℕ × ℕ) × (ℕ × ℕ)))) (coded× (coded_list (coded× k coded_ℕ)) (coded× (coded_list coded_ℕ) (coded× (coded_list (coded× coded_ℕ coded_ℕ)) (coded× coded_ℕ coded_ℕ))))
-      (λ p. (p.positions, (p.sizes, (p.hits, (p.size, p.greatest))))) (λ t. pass_by_size t.0 t.1.0 t.1.1.0 t.1.1.1.0 t.1.1.1.1) (λ _. refl)
+      code_by (List (K × ℕ) × (List ℕ × (List (ℕ × ℕ) × (ℕ × ℕ))))
+      (coded× (coded_list (coded× k coded_ℕ)) (coded× (coded_list coded_ℕ)
+      (coded× (coded_list (coded× coded_ℕ coded_ℕ)) (coded× coded_ℕ coded_ℕ))))
+      (λ p. (p.positions, (p.sizes, (p.hits, (p.size, p.greatest)))))
+      (λ t. pass_by_size t.0 t.1.0 t.1.1.0 t.1.1.1.0 t.1.1.1.1) (λ _. refl)
 
   -- the key that a refusal hands back
   abbrev pub key_of : SizedRequestError K → K
@@ -67,7 +70,8 @@ module _ {K : Type 0} (eq : K → K → Bool) where
 
     -- a pass that has taken these requests, the latest first
     pub record IsSizedPass (past : List K) (p : PassBySize K) : Type 0 where
-      pub ranked : IsRanked eq (λ x. 1 + weight x) (total eq weight) past p.positions (length p.sizes) (sizes_from p.sizes)
+      pub ranked : IsRanked eq (λ x. 1 + weight x) (total eq weight)
+          past p.positions (length p.sizes) (sizes_from p.sizes)
       pub hits : AreHits past p.hits
       pub requests : length p.sizes ≡ length past
       pub held : sizes_from p.sizes 0 ≡ total eq weight past

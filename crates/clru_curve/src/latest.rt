@@ -62,7 +62,8 @@ impl<A: Allocator + Copy> Latest<A> {
         requires room { self.old.requests < 64 * length self.old.words.items }
         requires countable { self.old.requests + 1 < 2 ^ 64 }
         ensures kept { IsLatest self.new.words.items self.new.nodes.items self.new.requests }
-        ensures ones { (p : ℕ) → ones_from self.new.words.items p ≡ ones_from self.old.words.items p + up_to p self.old.requests }
+        ensures ones { (p : ℕ) → ones_from self.new.words.items p
+            ≡ ones_from self.old.words.items p + up_to p self.old.requests }
         ensures requests { self.new.requests ≡ self.old.requests + 1 }
     {
         let word = self.requests / BITS;

@@ -129,8 +129,10 @@ impl<K: Eq + Hash, S: BuildHasher, A: Allocator + Copy> DistancePass<K, S, A> {
     /// Returns the curve of the requests so far, and lets the pass go on. It takes memory for a number for each distinct key,
     /// and none without requests; its cost goes with them.
     pub fn curve(&self, alloc: A) -> Result<MissCurve<A>, NoMemory>
-        ensures misses { (past : List K) → IsPass K.eq past self.now → IfOk result (λ c. HasMissesOf K.eq (reverse past) c) }
-        ensures distinct { (past : List K) → IsPass K.eq past self.now → IfOk result (λ c. length c ≡ distinct K.eq past) }
+        ensures misses { (past : List K) → IsPass K.eq past self.now
+            → IfOk result (λ c. HasMissesOf K.eq (reverse past) c) }
+        ensures distinct { (past : List K) → IsPass K.eq past self.now
+            → IfOk result (λ c. length c ≡ distinct K.eq past) }
         ensures never_refused { IsPass K.eq [] self.now → IsOk result }
     {
         let Ok(mut misses) = copied(alloc, &self.histogram) else {
@@ -180,7 +182,8 @@ pub(crate) fn move_position<K: Eq + Hash, S: BuildHasher, A: Allocator + Copy>(
 ) -> Option<usize>
     ensures found { result ≡ lookup (K.eq key.now) positions.old.entries }
     ensures same { IsNone result → positions.new ≡ positions.old }
-    ensures moved { IsSome result → positions.new ≡ with_entries positions.old (set_value (K.eq key.now) positions.old.entries number) }
+    ensures moved { IsSome result → positions.new
+        ≡ with_entries positions.old (set_value (K.eq key.now) positions.old.entries number) }
 {
     match positions.peek_mut(key) {
         Some(position) => Some(mem::replace(position, number)),

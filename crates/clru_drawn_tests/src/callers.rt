@@ -32,7 +32,8 @@ pub fn perform_at_both<K: Eq + Hash + Drop, V: Copy, W: WeightScale<K, V>>(
 ) -> Option<Answers<K, V>>
     requires empty { (lesser.old.entries ≡ []) × (greater.old.entries ≡ []) }
     requires scale { lesser.old.scale ≡ greater.old.scale }
-    ensures included { IfSome result (λ answers. same_calls.items ≡ calls.items → lesser.old.capacity ≤ greater.old.capacity
+    ensures included { IfSome result (λ answers. same_calls.items ≡ calls.items
+        → lesser.old.capacity ≤ greater.old.capacity
         → EachKeepsInclusion calls.items answers.lesser.items → EachKeepsInclusion calls.items answers.greater.items
         → (rest : List (K × V)) × (greater.new.entries ≡ lesser.new.entries ++ rest)) }
 {
@@ -61,7 +62,8 @@ pub fn perform_puts<K: Eq + Hash + Drop, V: Copy>(
     ensures bound { IfOk result (λ answers. (requests : List K) → PutEach requests calls.items answers.items
         → (run : Run (PlainStep K.eq) cache.old calls.items answers.items cache.new)
         × IsCompetitive K.eq cache.old.capacity requests
-        (count_by not (held_before K.eq (entries_of K.eq cache.old calls.items answers.items cache.new run) requests))) }
+        (count_by not
+        (held_before K.eq (entries_of K.eq cache.old calls.items answers.items cache.new run) requests))) }
 {
     law_put_runs::<K, V, clru::ZeroWeightScale>();
     // It tells that the capacity is no 0.

@@ -32,7 +32,8 @@ pub fn missed_bytes(
     capacity: NonZeroUsize,
 ) -> Result<Option<usize>, SizedRequestError<usize>>
     ensures { let weight = λ (file : ℕ). slice_index_or bytes.now file 1 - 1 in
-        IfOk result (λ answer. IfSome answer (λ n. n ≡ missed_size nat_eq weight (non_zero_usize_get capacity) requests.now)) }
+        IfOk result (λ answer. IfSome answer (λ n.
+        n ≡ missed_size nat_eq weight (non_zero_usize_get capacity) requests.now)) }
 {
     let curve = sized_curve(alloc, requests, FileSizes { bytes }, DefaultState)?;
     Ok(curve.missed_size(capacity))

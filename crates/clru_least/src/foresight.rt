@@ -109,7 +109,8 @@ fn drop_latest<A: Allocator>(
     requires ordered { IsHeap nat_cmp (heap_items ahead.old) }
     requires inside { All (λ p. p ≤ end) (heap_items ahead.old) }
     requires marks { length kept.old.items ≡ end }
-    ensures taken { IsPermutation (queue_of end done.old (heap_items ahead.old)) (result ∷ queue_of end done.new (heap_items ahead.new)) }
+    ensures taken { IsPermutation (queue_of end done.old (heap_items ahead.old))
+        (result ∷ queue_of end done.new (heap_items ahead.new)) }
     ensures latest { IsUpperBound nat_cmp result (queue_of end done.old (heap_items ahead.old)) }
     ensures ordered { IsHeap nat_cmp (heap_items ahead.new) }
     ensures inside { All (λ p. p ≤ end) (heap_items ahead.new) }

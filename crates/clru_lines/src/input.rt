@@ -62,7 +62,8 @@ fn read_chunk<R: Read, A: Allocator>(
     requires { filled ≤ vec_len bytes.old }
     ensures kept { take filled bytes.new.items ≡ take filled bytes.old.items }
     ensures fits { IfOk result (λ count. filled + count ≤ vec_len bytes.new) }
-    ensures bytes { IfOk result (λ count. Consumes (R.remaining reader.old) (R.remaining reader.new) (take count (drop filled bytes.new.items))) }
+    ensures bytes { IfOk result (λ count.
+        Consumes (R.remaining reader.old) (R.remaining reader.new) (take count (drop filled bytes.new.items))) }
     ensures end { result ≡ Ok 0 → IsAtEnd (R.remaining reader.new) }
 {
     let Ok(()) = make_room(bytes, filled) else {
@@ -92,7 +93,8 @@ fn read_at<R: Read>(reader: &mut R, buffer: &mut [u8], at: usize) -> io::Result<
     ensures length { length buffer.new ≡ length buffer.old }
     ensures kept { take at buffer.new ≡ take at buffer.old }
     ensures fits { IfOk result (λ count. at + count ≤ length buffer.new) }
-    ensures bytes { IfOk result (λ count. Consumes (R.remaining reader.old) (R.remaining reader.new) (take count (drop at buffer.new))) }
+    ensures bytes { IfOk result (λ count.
+        Consumes (R.remaining reader.old) (R.remaining reader.new) (take count (drop at buffer.new))) }
     ensures end { result ≡ Ok 0 → IsAtEnd (R.remaining reader.new) }
 {
     reader.read(&mut buffer[at..])

@@ -10,7 +10,8 @@ use std::io::{self, Error, ErrorKind, Write};
 /// is an error of the kind `WriteZero`. An empty text is a flush alone.
 pub fn write_text<W: Write>(writer: &mut W, text: &[u8]) -> io::Result<()>
     ensures written { OnOk result (Appends (W.contents writer.old) (W.contents writer.new) text.now) }
-    ensures cut_short { IfErr result (λ _. (n : ℕ) × Appends (W.contents writer.old) (W.contents writer.new) (take n text.now)) }
+    ensures cut_short { IfErr result (λ _. (n : ℕ)
+        × Appends (W.contents writer.old) (W.contents writer.new) (take n text.now)) }
 {
     let mut left = text;
     'writes: while !left.is_empty() {

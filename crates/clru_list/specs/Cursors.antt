@@ -38,11 +38,19 @@ module _ {T A : Type 0} where
   -- with w at a place of the list
   abbrev pub written : FixedSizeListIterMut T A → Option ℕ → T → FixedSizeListIterMut T A
   written c place w =
-      record c { list = record c.list { now = option_map_or (λ p. with_entries c.list.now (with_at p w c.list.now.entries)) place c.list.now } }
+      record c {
+        list = record c.list {
+          now = option_map_or (λ p. with_entries c.list.now (with_at p w c.list.now.entries)) place c.list.now;
+        };
+      }
 
   -- past the first entry that is left
   abbrev pub past_front : FixedSizeListIterMut T A → FixedSizeListIterMut T A
-  past_front c = record c { front = option_and_then (λ p. place_after p c.list.now.entries) c.front; done = c.done + 1; left = c.left - 1 }
+  past_front c = record c {
+    front = option_and_then (λ p. place_after p c.list.now.entries) c.front;
+    done = c.done + 1;
+    left = c.left - 1;
+  }
 
   -- past the last one
   abbrev pub past_back : FixedSizeListIterMut T A → FixedSizeListIterMut T A
@@ -97,4 +105,5 @@ module _ (T A : RattleType) (heap : alloc.Ghosts A.Denot) (c : MutBor (FixedSize
 
   -- and for the last entry
   abbrev pub lends_next_back_if : Option (MutBor T.Denot) → Fml
-  lends_next_back_if r = LendsIf (the_row (record { mir = named 1; lft = [] }) T A heap) T c r (stepped_back c.now) c.now
+  lends_next_back_if r = LendsIf (the_row (record { mir = named 1; lft = [] }) T A heap) T c r
+      (stepped_back c.now) c.now

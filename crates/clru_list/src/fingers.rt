@@ -37,7 +37,8 @@ impl Fingers {
 
     /// The place of the number, where the finger that goes up has it.
     pub(crate) fn up_at(&self, number: usize) -> Option<usize>
-        ensures { IfSome result (λ p. (places : List ℕ) → IsPointed places self.now → slice_get places number ≡ Some p) }
+        ensures { IfSome result (λ p. (places : List ℕ) → IsPointed places self.now
+            → slice_get places number ≡ Some p) }
     {
         if self.kept {
             pointed(self.up, number)
@@ -48,7 +49,8 @@ impl Fingers {
 
     /// The same for the finger that goes down.
     pub(crate) fn down_at(&self, number: usize) -> Option<usize>
-        ensures { IfSome result (λ p. (places : List ℕ) → IsPointed places self.now → slice_get places number ≡ Some p) }
+        ensures { IfSome result (λ p. (places : List ℕ) → IsPointed places self.now
+            → slice_get places number ≡ Some p) }
     {
         if self.kept {
             pointed(self.down, number)

@@ -32,7 +32,8 @@ impl<T> Node<T> {
 
     pub(crate) fn item_mut(&mut self) -> &mut T
         requires { IsSome self.old.item }
-        ensures* lends { sem 𝓛 (Lends (the_row T.row) T.row self.entry result (λ w. record self.entry.now { item = Some w })) }
+        ensures* lends { sem 𝓛 (Lends (the_row T.row) T.row self.entry result
+            (λ w. record self.entry.now { item = Some w })) }
         ensures value { self.old.item ≡ Some result.now }
     {
         match &mut self.item {

@@ -44,7 +44,8 @@ impl<T, A: Allocator + Copy> Model for FixedSizeList<T, A> {
 
     ghost view = { λ l. place_list (walk (links_of l.links) l.links.front l.len) l.capacity l.places };
 
-    ghost invariant = { λ l. ((es : List (ℕ × T)) × IsSound (links_of l.links) l.len l.capacity l.places (vec_capacity l.links.nodes) es)
+    ghost invariant = { λ l. ((es : List (ℕ × T))
+        × IsSound (links_of l.links) l.len l.capacity l.places (vec_capacity l.links.nodes) es)
         × IsPointed (keys_of (walk (links_of l.links) l.links.front l.len)) l.fingers };
 }
 

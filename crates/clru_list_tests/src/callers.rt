@@ -52,7 +52,8 @@ pub fn push_and_lift(
     other: u64,
 ) -> Result<(usize, usize), PushError<u64>>
     requires { item < 2 ^ 63 }
-    ensures { IfOk result (λ places. list.new.entries ≡ (places.0, item + 1) ∷ (list.old.entries ++ (places.1, other) ∷ [])) }
+    ensures { IfOk result (λ places. list.new.entries
+        ≡ (places.0, item + 1) ∷ (list.old.entries ++ (places.1, other) ∷ [])) }
 {
     let place = list.push_back(item)?;
     let behind = list.push_back(other)?;

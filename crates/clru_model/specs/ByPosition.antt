@@ -44,9 +44,11 @@ module _ {K : Type 0} (eq : K → K → Bool) where
   pub record IsScheduleAt (h : ℕ) (held : List (List K)) (rs : List K) : Type 0 where
     pub one_more : length held ≡ length rs + 1
     pub short : (i : ℕ) (ks : List K) → slice_get held i ≡ Some ks → length ks ≤ h
-    pub kept_or_requested : (i : ℕ) (ks next : List K) (x : K) → slice_get held i ≡ Some ks → slice_get held (i + 1) ≡ Some next
+    pub kept_or_requested : (i : ℕ) (ks next : List K) (x : K)
+        → slice_get held i ≡ Some ks → slice_get held (i + 1) ≡ Some next
         → slice_get rs i ≡ Some x → (p : ℕ) (q : K) → slice_get next p ≡ Some q → HasKey q ks ⊎ (eq q x ≡ true)
-    pub served : (i : ℕ) (next : List K) (x : K) → slice_get held (i + 1) ≡ Some next → slice_get rs i ≡ Some x → HasKey x next
+    pub served : (i : ℕ) (next : List K) (x : K)
+        → slice_get held (i + 1) ≡ Some next → slice_get rs i ≡ Some x → HasKey x next
 
   -- a schedule misses the request at i: no key that it holds before it is the same as the request's
   pub record IsScheduleMissAt (held : List (List K)) (rs : List K) (i : ℕ) : Type 0 where

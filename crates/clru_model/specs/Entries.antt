@@ -17,7 +17,8 @@ module _ {K V : Type 0} where
 
     -- a plain put under the capacity c: a key that is held stays with the new value, and a new pair drops what is past the capacity
     abbrev pub plain_put : ℕ → K → V → List (K × V) → List (K × V)
-    plain_put c x v es = option_map_or (λ e. (e.0, v) ∷ without x es) (lookup_entry (eq x) es) ((x, v) ∷ take (c - 1) es)
+    plain_put c x v es = option_map_or (λ e. (e.0, v) ∷ without x es) (lookup_entry (eq x) es)
+        ((x, v) ∷ take (c - 1) es)
 
     -- the pair that a plain put of x drops: the last one, where x is not held and the list has c pairs
     abbrev pub plain_drop : ℕ → K → List (K × V) → Option (K × V)

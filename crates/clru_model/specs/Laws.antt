@@ -10,7 +10,8 @@ use Rattle.clru_model.specs.ByPosition.{IsCountOf, IsFirstAt, IsHitAt, IsSchedul
 module _ {K : Type 0} (eq : K → K → Bool) where
   -- the mark at i is true exactly where the request at i hits
   abbrev pub TrueMarksAreHits : Type 0
-  TrueMarksAreHits = (k i : ℕ) (requests : List K) → (slice_get (marks eq k requests) i ≡ Some true) ↔ IsHitAt eq k requests i
+  TrueMarksAreHits = (k i : ℕ) (requests : List K)
+      → (slice_get (marks eq k requests) i ≡ Some true) ↔ IsHitAt eq k requests i
 
   -- there is a mark for each request
   abbrev pub OneMarkForEach : Type 0
@@ -18,7 +19,8 @@ module _ {K : Type 0} (eq : K → K → Bool) where
 
   -- the misses are the false marks
   abbrev pub MissesAreFalseMarks : Type 0
-  MissesAreFalseMarks = (k : ℕ) (requests : List K) → IsCountOf (λ i. slice_get (marks eq k requests) i ≡ Some false) (misses eq k requests)
+  MissesAreFalseMarks = (k : ℕ) (requests : List K)
+      → IsCountOf (λ i. slice_get (marks eq k requests) i ≡ Some false) (misses eq k requests)
 
   -- `distinct`, which takes requests the latest first, counts the positions at which a key stands first
   abbrev pub DistinctCountsFirst : Type 0
@@ -26,7 +28,8 @@ module _ {K : Type 0} (eq : K → K → Bool) where
 
   -- the schedules are the schedules by positions
   abbrev pub SchedulesAreByPosition : Type 0
-  SchedulesAreByPosition = (h : ℕ) (held : List (List K)) (requests : List K) → IsSchedule eq h held requests ↔ IsScheduleAt eq h held requests
+  SchedulesAreByPosition = (h : ℕ) (held : List (List K)) (requests : List K)
+      → IsSchedule eq h held requests ↔ IsScheduleAt eq h held requests
 
   -- a schedule's mark at i is false exactly where it misses the request at i
   abbrev pub FalseMarksAreMisses : Type 0
@@ -54,7 +57,8 @@ module _ (K V : Type 0) where
 
   -- no other beginning is
   abbrev pub OnlyFitIsLongest : Type 0
-  OnlyFitIsLongest = (weight : K → V → ℕ) (c : ℕ) (es p : List (K × V)) → IsLongestFit weight c es p → p ≡ fit weight c es
+  OnlyFitIsLongest = (weight : K → V → ℕ) (c : ℕ) (es p : List (K × V))
+      → IsLongestFit weight c es p → p ≡ fit weight c es
 
 module _ {K : Type 0} (eq : K → K → Bool) (V : Type 0) where
   -- calls on two empty lists, of which the lesser capacity takes each: the list that they leave there begins the one that
@@ -75,5 +79,6 @@ module _ {K : Type 0} (eq : K → K → Bool) (V : Type 0) where
 
   -- and that beside schedules that start with any keys
   abbrev pub PutsCompeteFromAnyStart : Type 0
-  PutsCompeteFromAnyStart = (k : ℕ) (requests : List K) (later : List (List (K × V))) → 1 ≤ k → IsPutRun eq k ([] ∷ later) requests
+  PutsCompeteFromAnyStart = (k : ℕ) (requests : List K) (later : List (List (K × V)))
+      → 1 ≤ k → IsPutRun eq k ([] ∷ later) requests
       → IsCompetitiveFromAnyStart eq k requests (count_by not (held_before eq ([] ∷ later) requests))

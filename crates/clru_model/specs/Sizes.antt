@@ -47,7 +47,8 @@ module _ {K : Type 0} (eq : K → K → Bool) (weight : K → ℕ) where
   -- the size of the requests that don't hit, after the requests of the past
   abbrev pub missed_size_after : ℕ → List K → List K → ℕ
   missed_size_after c past [] = 0
-  missed_size_after c past (x ∷ rs) = (if hit_by_size c x past then 0 else 1 + weight x) + missed_size_after c (x ∷ past) rs
+  missed_size_after c past (x ∷ rs) = (if hit_by_size c x past then 0 else 1 + weight x)
+      + missed_size_after c (x ∷ past) rs
 
   -- the size of the requests that don't hit
   abbrev pub missed_size : ℕ → List K → ℕ

@@ -33,7 +33,8 @@ capacities_of (Named named) misses n = map non_zero_usize_get named.items
 
 -- the greatest size g, and each such capacity from there up to n
 abbrev pub falls_from : (ℕ → ℕ) → ℕ → ℕ → List ℕ
-falls_from misses g n = filter (λ c. (c == g) || nat_lt (misses c) (misses (c - 1))) (map (λ k. g + k) (range_with_len 0 (n + 1 - g)))
+falls_from misses g n = filter (λ c. (c == g) || nat_lt (misses c) (misses (c - 1)))
+    (map (λ k. g + k) (range_with_len 0 (n + 1 - g)))
 
 -- the capacities for requests of the greatest size g, whose distinct keys have the size n together, with so many misses at each
 abbrev pub sized_capacities_of : {A : Type 0} → Capacities A → (ℕ → ℕ) → ℕ → ℕ → List ℕ

@@ -11,7 +11,8 @@ fault_text Closed = codes "standard output was closed"
 fault_text (NoSize n) = codes "line " ++ (decimal n
     ++ codes " has no size: with --sizes each begins with one and a blank, as in 512 /index.html")
 fault_text TooLarge = codes "the sizes of all lines add up to more than 18446744073709551615"
-fault_text (TooSmall n) = codes "--at names a capacity below the greatest size: name numbers from " ++ (decimal n ++ codes " on")
+fault_text (TooSmall n) = codes "--at names a capacity below the greatest size: name numbers from "
+    ++ (decimal n ++ codes " on")
 
 -- the writer took a part of the report at most
 abbrev pub is_of_writing : Fault → Bool

@@ -61,7 +61,8 @@ module _ (curve : CurveBySize) where
 
   -- the capacities that are asked for
   abbrev pub capacities_on : {A : Type 0} → Capacities A → List ℕ
-  capacities_on capacities = sized_capacities_of capacities (misses_within curve) (1 + curve.greatest_weight) curve.distinct_size
+  capacities_on capacities = sized_capacities_of capacities (misses_within curve)
+      (1 + curve.greatest_weight) curve.distinct_size
 
   -- why capacities have no rows
   abbrev pub IsOfCapacities : Fault → List ℕ → Type 0

@@ -9,7 +9,8 @@ capacity_of_sized_row row = non_zero_usize_get row.capacity
 
 -- capacity, misses and miss ratio, missed size and its ratio, of so many requests of this size in all
 abbrev pub sized_row_line : ℕ → ℕ → SizedRow → List ℕ
-sized_row_line requests size row = decimal (capacity_of_sized_row row) ++ (codes "," ++ (decimal row.misses ++ (codes ","
+sized_row_line requests size row = decimal (capacity_of_sized_row row) ++ (codes ","
+    ++ (decimal row.misses ++ (codes ","
     ++ (fraction_text (millionths row.misses requests) ++ (codes "," ++ (decimal row.missed_size ++ (codes ","
     ++ (fraction_text (millionths row.missed_size size) ++ codes "\n"))))))))
 
@@ -27,4 +28,5 @@ three_numbers a b c = decimal a ++ (codes "," ++ (decimal b ++ (codes "," ++ dec
 abbrev pub sized_summary_text : ℕ → ℕ → ℕ → ℕ → ℕ → ℕ → List ℕ
 sized_summary_text requests distinct bytes size distinct_size greatest =
     codes "requests,distinct_keys,input_bytes,requested_bytes,distinct_bytes,greatest_size\n"
-    ++ (three_numbers requests distinct bytes ++ (codes "," ++ (three_numbers size distinct_size greatest ++ codes "\n")))
+    ++ (three_numbers requests distinct bytes ++ (codes ","
+    ++ (three_numbers size distinct_size greatest ++ codes "\n")))

@@ -26,7 +26,8 @@ row_line requests row = (decimal (capacity_of_row row) ++ (codes "," ++ (decimal
     ++ fraction_text (millionths row.misses requests))))) ++ line_end row.least
 
 abbrev pub header_line : Bool → List ℕ
-header_line least = if least then codes "capacity,misses,miss_ratio,least_misses\n" else codes "capacity,misses,miss_ratio\n"
+header_line least =
+    if least then codes "capacity,misses,miss_ratio,least_misses\n" else codes "capacity,misses,miss_ratio\n"
 
 -- the table with these rows
 abbrev pub table_text : Bool → ℕ → List Row → List ℕ

@@ -14,7 +14,8 @@ abbrev pub head_list : List ℕ → ℕ → HeadList
 head_list items bound = record { items = items; bound = bound }
 
 abbrev pub head_list_code : Coded HeadList
-head_list_code = code_by (List ℕ × ℕ) (coded× (coded_list coded_ℕ) coded_ℕ) (λ h. (h.items, h.bound)) (λ p. head_list p.0 p.1) (λ _. refl)
+head_list_code = code_by (List ℕ × ℕ) (coded× (coded_list coded_ℕ) coded_ℕ)
+    (λ h. (h.items, h.bound)) (λ p. head_list p.0 p.1) (λ _. refl)
 
 -- 4 bytes that are all set stand for no place
 abbrev pub narrow : ℕ

@@ -8,9 +8,11 @@ use Rattle.clru_nodes.specs.declared.nodes.Nodes.{Nodes}
 use Rattle.clru_nodes.specs.contracts.nodes.Item.{the_row as item_row}
 use Rattle.clru_nodes.specs.contracts.nodes.Nodes.{the_row}
 
-module _ (K V S A H : RattleType) (heap : alloc.Ghosts A.Denot) (n : MutBor (Nodes K.Denot V.Denot S.Denot A.Denot H.Denot)) where
+module _ (K V S A H : RattleType) (heap : alloc.Ghosts A.Denot)
+    (n : MutBor (Nodes K.Denot V.Denot S.Denot A.Denot H.Denot)) where
   -- they are `with` of the last item written through r
-  abbrev pub lends_item : (Item K.Denot V.Denot → Nodes K.Denot V.Denot S.Denot A.Denot H.Denot) → MutBor (Item K.Denot V.Denot) → Fml
+  abbrev pub lends_item : (Item K.Denot V.Denot → Nodes K.Denot V.Denot S.Denot A.Denot H.Denot)
+      → MutBor (Item K.Denot V.Denot) → Fml
   lends_item with r = Lends (the_row K V S A H heap) (item_row K V) n r with
 
   -- the first item is lent

@@ -119,7 +119,8 @@ impl<K: Eq + Hash, V, S: BuildHasher, A: Allocator + Copy> Nodes<K, V, S, A> {
     /// Returns the place of the pair with the key, whose hash is given.
     fn find(&self, hash: u64, key: &K) -> Option<usize>
         requires hash { hash ≡ hash_of K.Hash S.BuildHasher S.Hasher.Hasher self.now.hash_builder key.now }
-        requires chained { IsChainedAs (hash_of K.Hash S.BuildHasher S.Hasher.Hasher) (key_at self.now.list.entries) self.now }
+        requires chained { IsChainedAs (hash_of K.Hash S.BuildHasher S.Hasher.Hasher)
+            (key_at self.now.list.entries) self.now }
         ensures found { IfSome result (λ p. IsAt K.eq key.now p self.now.list.entries) }
         ensures valid { IsValid self.now.list }
         ensures absent { IfNone result (lookup_entry (K.eq key.now) (pairs_of self.now.list.entries) ≡ None) }

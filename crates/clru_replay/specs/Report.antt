@@ -23,7 +23,8 @@ report_at capacity requests = text_of (marks bytes_eq capacity requests) (misses
 -- the first line is the capacity, and each further line is a request
 abbrev pub report_of_lines : List (List ℕ) → Option (List ℕ)
 report_of_lines [] = None
-report_of_lines (first ∷ requests) = if is_capacity first then Some (report_at (digits_value 10 first) requests) else None
+report_of_lines (first ∷ requests) =
+    if is_capacity first then Some (report_at (digits_value 10 first) requests) else None
 
 -- the report of an input
 abbrev pub report : List ℕ → Option (List ℕ)

@@ -25,9 +25,11 @@ pub fn run<R: Read, W: Write, A: Allocator + Copy>(
     // The writer got a beginning of the report of the whole input.
     ensures cut_short { result ≡ Err Fault.Writing
         → ReadWhole (R.remaining reader.old) (R.remaining reader.new)
-        (λ input. IsSomeAnd (report input) (λ text. (n : ℕ) × Appends (W.contents writer.old) (W.contents writer.new) (take n text))) }
+        (λ input. IsSomeAnd (report input)
+        (λ text. (n : ℕ) × Appends (W.contents writer.old) (W.contents writer.new) (take n text))) }
     // Any other fault comes before the first write.
-    ensures silent { IfErr result (λ fault. fault ≢ Fault.Writing → Keeps (W.contents writer.old) (W.contents writer.new)) }
+    ensures silent { IfErr result (λ fault. fault ≢ Fault.Writing
+        → Keeps (W.contents writer.old) (W.contents writer.new)) }
 {
     let input = match read_input(alloc, reader) {
         Ok(input) => input,

@@ -31,7 +31,8 @@ module _ {K V : Type 0} where
 
 module _ {K V W : Type 0} (eq : K → K → Bool) where
   -- the entries before each call of a run and at its end
-  abbrev pub entries_of : (old : Cache K V W) (calls : List (PlainCall K V)) (answers : List (Answer K V)) (new : Cache K V W)
+  abbrev pub entries_of : (old : Cache K V W)
+      (calls : List (PlainCall K V)) (answers : List (Answer K V)) (new : Cache K V W)
       → Run (PlainStep eq) old calls answers new → List (List (K × V))
   entries_of old [] [] new run = old.entries ∷ []
   entries_of old (call ∷ calls) (answer ∷ answers) new run = old.entries ∷ entries_of run.0 calls answers new run.2
@@ -41,8 +42,10 @@ module _ {K V W : Type 0} (eq : K → K → Bool) where
 module _ {K : Type 0} (eq : K → K → Bool) (V W : Type 0) where
   -- of each run from an empty cache, of puts of some requests, this holds: of the entries before each put and at the end
   abbrev pub OfPutRuns : (Cache K V W → List (List (K × V)) → List K → Type 0) → Type 0
-  OfPutRuns Holds = (requests : List K) (old new : Cache K V W) (calls : List (PlainCall K V)) (answers : List (Answer K V))
-      → (run : Run (PlainStep eq) old calls answers new) → old.entries ≡ [] → 1 ≤ old.capacity → PutEach requests calls answers
+  OfPutRuns Holds = (requests : List K) (old new : Cache K V W)
+      (calls : List (PlainCall K V)) (answers : List (Answer K V))
+      → (run : Run (PlainStep eq) old calls answers new) → old.entries ≡ [] → 1 ≤ old.capacity
+      → PutEach requests calls answers
       → Holds old (entries_of eq old calls answers new run) requests
 
   -- it is a run of puts as `law_requests` has it
@@ -55,7 +58,8 @@ module _ {K : Type 0} (eq : K → K → Bool) (V W : Type 0) where
 
   -- the puts whose key is not held before them keep the competitive bound
   abbrev pub RunsCompete : Type 0
-  RunsCompete = OfPutRuns (λ old lists requests. IsCompetitive eq old.capacity requests (count_by not (held_before eq lists requests)))
+  RunsCompete = OfPutRuns (λ old lists requests. IsCompetitive eq old.capacity requests
+      (count_by not (held_before eq lists requests)))
 
   -- and that beside schedules that start with any keys
   abbrev pub RunsCompeteFromAnyStart : Type 0

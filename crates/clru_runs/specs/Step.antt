@@ -33,20 +33,23 @@ module _ {K V W : Type 0} where
   Tells {R} tells Holds answer new = (result : R) × (answer ≡ tells result) × Holds result new
 
   -- a pair came in: the put hands this out, the entries are es, and a place is found only where one is needed
-  pub record Accepts {R : Type 0} (needed : Type 0) (this : R) (es : List (K × V)) (old : Cache K V W) (out : R) (new : Cache K V W) : Type 0 where
+  pub record Accepts {R : Type 0} (needed : Type 0) (this : R) (es : List (K × V))
+      (old : Cache K V W) (out : R) (new : Cache K V W) : Type 0 where
     pub hands_out : out ≡ this
     pub entries : new.entries ≡ es
     pub places : GrowsOnlyIf needed old new
 
   -- memory was refused, which may be only where a place is needed: the pair comes back, and the entries stay
-  pub record RefusesForMemory {T : Type 0} (needed : Type 0) (pair : K × T) (old : Cache K V W) (back : K × T) (new : Cache K V W) : Type 0 where
+  pub record RefusesForMemory {T : Type 0} (needed : Type 0) (pair : K × T)
+      (old : Cache K V W) (back : K × T) (new : Cache K V W) : Type 0 where
     pub needs : needed
     pub comes_back : back ≡ pair
     pub entries : new.entries ≡ old.entries
     pub places : GrowsOnlyIf needed old new
 
   -- the pair weighs as much as the capacity or more: it comes back, and nothing changes
-  pub record RefusesAsTooHeavy (weight : ℕ) (pair : K × V) (old : Cache K V W) (back : K × V) (new : Cache K V W) : Type 0 where
+  pub record RefusesAsTooHeavy (weight : ℕ) (pair : K × V)
+      (old : Cache K V W) (back : K × V) (new : Cache K V W) : Type 0 where
     pub heavy : old.capacity ≤ weight
     pub comes_back : back ≡ pair
     pub same : new ≡ old
@@ -55,7 +58,8 @@ module _ {K V W : Type 0} where
     module _ (old : Cache K V W) (x : K) (v : V) where
       -- a plain put, which hands this out
       abbrev pub PlainPuts : {R : Type 0} → R → Result R (K × V) → Cache K V W → Type 0
-      PlainPuts this (Ok out) new = Accepts (NeedsPlace eq old x) this (plain_put eq old.capacity x v old.entries) old out new
+      PlainPuts this (Ok out) new = Accepts (NeedsPlace eq old x)
+          this (plain_put eq old.capacity x v old.entries) old out new
       PlainPuts this (Err back) new = RefusesForMemory (NeedsPlace eq old x) (x, v) old back new
 
       -- what it hands out: the value of x that it replaces, and the pair that it drops
@@ -77,17 +81,24 @@ module _ {K V W : Type 0} where
 
       -- a put-or-modify whose closures may fail: where they do, the entry of a held key comes first, with what was written
       abbrev pub TryPuts : Attempt V → Result V (TryPutError K (Attempt V) (Unit {0})) → Cache K V W → Type 0
-      TryPuts (Store v) (Ok out) new = Accepts (NeedsPlace eq old x) v (plain_put eq old.capacity x v old.entries) old out new
+      TryPuts (Store v) (Ok out) new = Accepts (NeedsPlace eq old x)
+          v (plain_put eq old.capacity x v old.entries) old out new
       TryPuts (Fail left) (Ok out) new = ⊥
-      TryPuts attempt (Err (try.NoMemory k back)) new = RefusesForMemory (NeedsPlace eq old x) (x, attempt) old (k, back) new
+      TryPuts attempt (Err (try.NoMemory k back)) new = RefusesForMemory (NeedsPlace eq old x)
+          (x, attempt) old (k, back) new
       TryPuts (Store v) (Err (try.Failed f)) new = ⊥
-      TryPuts (Fail left) (Err (try.Failed f)) new = (new.entries ≡ touch eq x (written left)) × GrowsOnlyIf (NeedsPlace eq old x) old new
+      TryPuts (Fail left) (Err (try.Failed f)) new = (new.entries ≡ touch eq x (written left))
+          × GrowsOnlyIf (NeedsPlace eq old x) old new
 
     module _ (weight : K → V → ℕ) (old : Cache K V W) (x : K) (v : V) where
       -- what a weighted put hands out: the value of x that it replaces, and of the pairs that it drops the number and the last
       abbrev pub weighs : Weighing K V
       weighs = let drops = weighted_drops eq weight old.capacity x v old.entries in
-          record { replaced = lookup (eq x) old.entries; dropped = length drops; last = slice_get drops (length drops - 1) }
+          record {
+            replaced = lookup (eq x) old.entries;
+            dropped = length drops;
+            last = slice_get drops (length drops - 1);
+          }
 
       -- a weighted put
       abbrev pub WeightedPuts : Result (Weighing K V) (PutError K V) → Cache K V W → Type 0
@@ -99,26 +110,32 @@ module _ {K V W : Type 0} where
     -- a call of a cache by any scale, one line for each
     abbrev pub Step : (W → K → V → ℕ) → Cache K V W → Call K V → Answer K V → Cache K V W → Type 0
     Step weight old (PutWithWeight x v) answer new = Tells Weighed (WeightedPuts (weight old.scale) old x v) answer new
-    Step weight old (Get x) answer new = (answer ≡ Value (lookup (eq x) old.entries)) × (new ≡ with_entries old (touch eq x old.entries))
+    Step weight old (Get x) answer new = (answer ≡ Value (lookup (eq x) old.entries))
+        × (new ≡ with_entries old (touch eq x old.entries))
     Step weight old (Peek x) answer new = (answer ≡ Value (lookup (eq x) old.entries)) × (new ≡ old)
     Step weight old (Contains x) answer new = (answer ≡ Flag (is_some (lookup (eq x) old.entries))) × (new ≡ old)
     Step weight old Len answer new = (answer ≡ Number (length old.entries)) × (new ≡ old)
     Step weight old Weight answer new = (answer ≡ Number (weight_of (weight old.scale) old.entries)) × (new ≡ old)
     Step weight old Capacity answer new = (answer ≡ Number old.capacity) × (new ≡ old)
     Step weight old IsEmpty answer new = (answer ≡ Flag (length old.entries == 0)) × (new ≡ old)
-    Step weight old IsFull answer new = (answer ≡ Flag (size_of (weight old.scale) old.entries == old.capacity)) × (new ≡ old)
-    Step weight old (Pop x) answer new = (answer ≡ Value (lookup (eq x) old.entries)) × (new ≡ with_entries old (without eq x old.entries))
+    Step weight old IsFull answer new = (answer ≡ Flag (size_of (weight old.scale) old.entries == old.capacity))
+        × (new ≡ old)
+    Step weight old (Pop x) answer new = (answer ≡ Value (lookup (eq x) old.entries))
+        × (new ≡ with_entries old (without eq x old.entries))
     Step weight old Front answer new = (answer ≡ Value (value_at 0 old.entries)) × (new ≡ old)
     Step weight old Back answer new = (answer ≡ Value (value_at (length old.entries - 1) old.entries)) × (new ≡ old)
     Step weight old (Nth n) answer new = (answer ≡ Value (value_at n old.entries)) × (new ≡ old)
     Step weight old (NthBack n) answer new = (answer ≡ Value (value_at n (reverse old.entries))) × (new ≡ old)
-    Step weight old PopFront answer new = (answer ≡ Pair (slice_get old.entries 0)) × (new ≡ with_entries old (drop 1 old.entries))
+    Step weight old PopFront answer new = (answer ≡ Pair (slice_get old.entries 0))
+        × (new ≡ with_entries old (drop 1 old.entries))
     Step weight old PopBack answer new =
-        (answer ≡ Pair (slice_get old.entries (length old.entries - 1))) × (new ≡ with_entries old (take (length old.entries - 1) old.entries))
+        (answer ≡ Pair (slice_get old.entries (length old.entries - 1)))
+        × (new ≡ with_entries old (take (length old.entries - 1) old.entries))
     Step weight old Clear answer new = (answer ≡ Done) × (new ≡ with_entries old [])
     Step weight old (Resize n) answer new =
         (answer ≡ Done) × (new ≡ cache (fit (weight old.scale) (max 1 n) old.entries) (max 1 n) old.scale old.places)
-    Step weight old (Retain x) answer new = (answer ≡ Done) × (new ≡ with_entries old (filter (λ e. not (eq e.0 x)) old.entries))
+    Step weight old (Retain x) answer new = (answer ≡ Done)
+        × (new ≡ with_entries old (filter (λ e. not (eq e.0 x)) old.entries))
 
     -- a call of a cache whose pairs weigh nothing
     abbrev pub PlainStep : Cache K V W → PlainCall K V → Answer K V → Cache K V W → Type 0
@@ -127,9 +144,12 @@ module _ {K V W : Type 0} where
     PlainStep old (RetainMut x v) answer new =
         (answer ≡ Done) × (new ≡ with_entries old (map (λ e. (e.0, v)) (filter (λ e. not (eq e.0 x)) old.entries)))
     PlainStep old (TryPutOrModify x attempt) answer new = Tells Tried (TryPuts old x attempt) answer new
-    PlainStep old (GetMut x v) answer new = (answer ≡ Value (lookup (eq x) old.entries)) × (new ≡ with_entries old (set_value (eq x) (touch eq x old.entries) v))
-    PlainStep old (PeekMut x v) answer new = (answer ≡ Value (lookup (eq x) old.entries)) × (new ≡ with_entries old (set_value (eq x) old.entries v))
-    PlainStep old (FrontMut v) answer new = (answer ≡ Value (value_at 0 old.entries)) × (new ≡ with_entries old (with_value_at 0 v old.entries))
+    PlainStep old (GetMut x v) answer new = (answer ≡ Value (lookup (eq x) old.entries))
+        × (new ≡ with_entries old (set_value (eq x) (touch eq x old.entries) v))
+    PlainStep old (PeekMut x v) answer new = (answer ≡ Value (lookup (eq x) old.entries))
+        × (new ≡ with_entries old (set_value (eq x) old.entries v))
+    PlainStep old (FrontMut v) answer new = (answer ≡ Value (value_at 0 old.entries))
+        × (new ≡ with_entries old (with_value_at 0 v old.entries))
     PlainStep old (BackMut v) answer new = (answer ≡ Value (value_at (length old.entries - 1) old.entries))
         × (new ≡ with_entries old (with_value_at (length old.entries - 1) v old.entries))
     PlainStep old (Any call) answer new = Step (λ _ _ _. 0) old call answer new

@@ -30,7 +30,8 @@ where
 {
     type Answer = Answer<K, V>;
 
-    ghost step = { λ old call answer new. Step K.eq W.weight old call answer new × IsValid K.eq (W.weight new.scale) new };
+    ghost step = { λ old call answer new. Step K.eq W.weight old call answer new
+        × IsValid K.eq (W.weight new.scale) new };
 
     fn perform(self, cache: &mut CLruCache<K, V, S, W, A>) -> Answer<K, V> {
         let answer = make(self, cache);

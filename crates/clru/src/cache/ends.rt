@@ -86,7 +86,8 @@ impl<K: Eq + Hash, V, S: BuildHasher, A: Allocator + Copy> CLruCache<K, V, S, Ze
         requires { 0 < length self.old.entries }
         ensures* lends { sem 𝓛 (lends_end K.row V.row S.row A.row S.Hasher.row K.Hash S.BuildHasher S.Hasher.Hasher
             A.Allocator ⟦<ZeroWeightScale as WeightScale<K, V>>⟧ self.entry end result) }
-        ensures value { Some result.now ≡ option_map (λ e. e.1) (slice_get self.old.entries (index_of end self.old.entries)) }
+        ensures value { Some result.now
+            ≡ option_map (λ e. e.1) (slice_get self.old.entries (index_of end self.old.entries)) }
     {
         match end {
             End::Front => &mut self.nodes.front_item().value,

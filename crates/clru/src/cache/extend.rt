@@ -25,7 +25,8 @@ impl<K: Eq + Hash, V, S: BuildHasher, A: Allocator + Copy> CLruCache<K, V, S, Ze
         K: Drop,
         V: Drop,
         requires { IsFiniteIterable I.into_iter_gives I.IntoIter.can_next I.IntoIter.remaining items }
-        ensures { (it : I.IntoIter) × I.into_iter_gives items it × PutsItems K.eq I.IntoIter.next_gives it self.old result self.new }
+        ensures { (it : I.IntoIter) × I.into_iter_gives items it
+            × PutsItems K.eq I.IntoIter.next_gives it self.old result self.new }
     {
         for (key, value) in items {
             match self.put(key, value) {

@@ -26,8 +26,8 @@ where
     /// Ok(looks.get(&key).copied())
     /// ```
     pub fn get(&mut self, key: &K) -> Option<&V>
-        ensures* touches { sem 𝓛 (ends_with K.row V.row S.row W.row A.row S.Hasher.row K.Hash S.BuildHasher S.Hasher.Hasher
-            W.WeightScale A.Allocator self.entry (touch K.eq key.now self.old.entries)) }
+        ensures* touches { sem 𝓛 (ends_with K.row V.row S.row W.row A.row S.Hasher.row K.Hash S.BuildHasher
+            S.Hasher.Hasher W.WeightScale A.Allocator self.entry (touch K.eq key.now self.old.entries)) }
         ensures value { option_copied result ≡ lookup (K.eq key.now) self.old.entries }
     {
         let hash = self.nodes.hash(key);

@@ -43,7 +43,8 @@ impl<K: Eq + Hash, V, S: BuildHasher, A: Allocator + Copy> CLruCache<K, V, S, Ze
         ensures* lends { sem 𝓛 (lends_put K.row V.row S.row zero_scale_row A.row S.Hasher.row K.Hash S.BuildHasher
             S.Hasher.Hasher ⟦<ZeroWeightScale as WeightScale<K, V>>⟧ A.Allocator self.entry key result) }
         ensures called { IfOk result (λ x.
-            PutsOrModifies P.FnMut M.FnMut (lookup_entry (K.eq key) self.old.entries) put_op modify_op key «data» x.now) }
+            PutsOrModifies P.FnMut M.FnMut (lookup_entry (K.eq key) self.old.entries)
+            put_op modify_op key «data» x.now) }
         ensures refused { IfErr result (λ back. back ≡ (key, «data»)) }
         ensures memory { IsErr result → NeedsPlace K.eq self.old key }
     {
@@ -104,10 +105,12 @@ impl<K: Eq + Hash, V, S: BuildHasher, A: Allocator + Copy> CLruCache<K, V, S, Ze
         ensures* lends { let held = lookup_entry (K.eq key) self.old.entries in let before = self.old.entries in
             sem 𝓛 (lends_try K.row V.row S.row zero_scale_row A.row S.Hasher.row K.Hash S.BuildHasher
             S.Hasher.Hasher ⟦<ZeroWeightScale as WeightScale<K, V>>⟧ A.Allocator self.entry key result
-            (λ e after. MatchTryPutError e (after ≡ before) (λ f. FailsToPutOrModify P.FnMut M.FnMut held put_op modify_op key «data» f
+            (λ e after. MatchTryPutError e (after ≡ before)
+            (λ f. FailsToPutOrModify P.FnMut M.FnMut held put_op modify_op key «data» f
             before (λ v. plain_put K.eq self.old.capacity key v before) after))) }
         ensures called { IfOk result (λ x.
-            TryPutsOrModifies P.FnMut M.FnMut (lookup_entry (K.eq key) self.old.entries) put_op modify_op key «data» x.now) }
+            TryPutsOrModifies P.FnMut M.FnMut (lookup_entry (K.eq key) self.old.entries)
+            put_op modify_op key «data» x.now) }
         ensures refused { IfErr result (λ e. IfNoMemory e (λ back. back ≡ (key, «data»))) }
         ensures memory { IfErr result (λ e. IfNoMemory e (λ _. NeedsPlace K.eq self.old key)) }
     {

@@ -31,7 +31,8 @@ impl<K: Eq + Hash, V, A: Allocator + Copy> CLruCache<K, V, DefaultState, ZeroWei
     /// Creates a cache that holds at most `capacity` entries, with memory for `reserve` of them, or for all where `capacity`
     /// is less. Without a reserve it takes no memory.
     pub fn with_memory(alloc: A, capacity: NonZeroUsize, reserve: usize) -> Result<Self, NoMemory>
-        ensures empty { let size = non_zero_usize_get capacity in IfOk result (λ c. c ≡ cache [] size (record {}) (min reserve size)) }
+        ensures empty { let size = non_zero_usize_get capacity in
+            IfOk result (λ c. c ≡ cache [] size (record {}) (min reserve size)) }
         ensures never_refused { reserve ≡ 0 → IsOk result }
         ensures countable { OnOk result (min reserve (non_zero_usize_get capacity) < 2 ^ 63) }
     {
@@ -82,7 +83,8 @@ where
         alloc: A,
         config: CLruCacheConfig<K, V, S, W>,
     ) -> Result<Self, CLruCacheConfig<K, V, S, W>>
-        ensures empty { IfOk result (λ c. c ≡ cache [] config.capacity config.scale (min config.reserve config.capacity)) }
+        ensures empty { IfOk result (λ c.
+            c ≡ cache [] config.capacity config.scale (min config.reserve config.capacity)) }
         ensures refused { IfErr result (λ back. back ≡ config) }
         ensures never_refused { config.reserve ≡ 0 → IsOk result }
         ensures countable { OnOk result (min config.reserve config.capacity < 2 ^ 63) }

@@ -41,14 +41,17 @@ where
     where
         K: Drop,
         requires callable { W.weight self.old.scale key value < self.old.capacity
-            → TakesEach F.FnMut on_drop (weighted_drops K.eq (W.weight self.old.scale) self.old.capacity key value self.old.entries) }
+            → TakesEach F.FnMut on_drop
+            (weighted_drops K.eq (W.weight self.old.scale) self.old.capacity key value self.old.entries) }
         ensures answer { IfOk result (λ old. old ≡ lookup (K.eq key) self.old.entries) }
         ensures entries { self.new.entries ≡ (if is_ok result
-            then weighted_put K.eq (W.weight self.old.scale) self.old.capacity key value self.old.entries else self.old.entries) }
+            then weighted_put K.eq (W.weight self.old.scale) self.old.capacity key value self.old.entries
+            else self.old.entries) }
         ensures refused { IfErr result (λ refusal. pair_of refusal ≡ (key, value)) }
         ensures too_heavy { IsTooHeavy result ↔ (self.old.capacity ≤ W.weight self.old.scale key value) }
         ensures memory { WantsMemory result → NeedsPlaceFor K.eq (W.weight self.old.scale) self.old key value }
-        ensures places { GrowsOnlyIf (NeedsPlaceFor K.eq (W.weight self.old.scale) self.old key value) self.old self.new }
+        ensures places { GrowsOnlyIf (NeedsPlaceFor K.eq (W.weight self.old.scale) self.old key value)
+            self.old self.new }
         ensures handed_out { OnOk result ((last : F) × HandsOutTo F.FnMut on_drop
             (weighted_drops K.eq (W.weight self.old.scale) self.old.capacity key value self.old.entries) last) }
     {
@@ -66,14 +69,17 @@ where
     where
         K: Drop,
         requires callable { W.weight self.old.scale key value < self.old.capacity
-            → TakesEach F.FnMut on_drop.old (weighted_drops K.eq (W.weight self.old.scale) self.old.capacity key value self.old.entries) }
+            → TakesEach F.FnMut on_drop.old
+            (weighted_drops K.eq (W.weight self.old.scale) self.old.capacity key value self.old.entries) }
         ensures answer { IfOk result (λ old. old ≡ lookup (K.eq key) self.old.entries) }
         ensures entries { self.new.entries ≡ (if is_ok result
-            then weighted_put K.eq (W.weight self.old.scale) self.old.capacity key value self.old.entries else self.old.entries) }
+            then weighted_put K.eq (W.weight self.old.scale) self.old.capacity key value self.old.entries
+            else self.old.entries) }
         ensures refused { IfErr result (λ refusal. pair_of refusal ≡ (key, value)) }
         ensures too_heavy { IsTooHeavy result ↔ (self.old.capacity ≤ W.weight self.old.scale key value) }
         ensures memory { WantsMemory result → NeedsPlaceFor K.eq (W.weight self.old.scale) self.old key value }
-        ensures places { GrowsOnlyIf (NeedsPlaceFor K.eq (W.weight self.old.scale) self.old key value) self.old self.new }
+        ensures places { GrowsOnlyIf (NeedsPlaceFor K.eq (W.weight self.old.scale) self.old key value)
+            self.old self.new }
         ensures handed_out { OnOk result (HandsOutTo F.FnMut on_drop.old
             (weighted_drops K.eq (W.weight self.old.scale) self.old.capacity key value self.old.entries) on_drop.new) }
         ensures not_called { OnErr result (on_drop.new ≡ on_drop.old) }

@@ -78,10 +78,10 @@ impl<K: Eq + Hash, S: BuildHasher, A: Allocator + Copy> SizedPass<K, S, A> {
     pub fn request(&mut self, key: K, weight: usize) -> Result<Option<usize>, SizedRequestError<K>>
     where
         K: Drop,
-        ensures span { (w : K → ℕ) (past : List K) → SameWeights K.eq w → IsSizedPass K.eq w past self.old → w key ≡ weight
-            → IfOk result (λ s. s ≡ span K.eq w key past) }
-        ensures taken { (w : K → ℕ) (past : List K) → SameWeights K.eq w → IsSizedPass K.eq w past self.old → w key ≡ weight
-            → OnOk result (IsSizedPass K.eq w (key ∷ past) self.new) }
+        ensures span { (w : K → ℕ) (past : List K) → SameWeights K.eq w → IsSizedPass K.eq w past self.old
+            → w key ≡ weight → IfOk result (λ s. s ≡ span K.eq w key past) }
+        ensures taken { (w : K → ℕ) (past : List K) → SameWeights K.eq w → IsSizedPass K.eq w past self.old
+            → w key ≡ weight → OnOk result (IsSizedPass K.eq w (key ∷ past) self.new) }
         ensures size { OnOk result (self.new.size ≡ self.old.size + (1 + weight)) }
         ensures refused { OnErr result (self.new ≡ self.old) }
         ensures given_back { IfErr result (λ e. key_of e ≡ key) }
@@ -127,7 +127,8 @@ impl<K: Eq + Hash, S: BuildHasher, A: Allocator + Copy> SizedPass<K, S, A> {
     where
         K: Drop,
         S: Drop,
-        ensures { (w : K → ℕ) (past : List K) → IsSizedPass K.eq w past self → IsSizedCurveOf K.eq w (reverse past) result }
+        ensures { (w : K → ℕ) (past : List K) → IsSizedPass K.eq w past self
+            → IsSizedCurveOf K.eq w (reverse past) result }
     {
         let SizedPass {
             latest,

@@ -13,7 +13,8 @@ impl<T, A: Allocator + Copy> FixedSizeList<T, A> {
     /// four times as many, up to the capacity.
     pub fn make_ready(&mut self) -> Result<(), NoMemory>
         ensures entries { self.new.entries ≡ self.old.entries }
-        ensures ready { OnOk result (length self.old.entries < self.old.capacity → length self.old.entries < self.new.places) }
+        ensures ready { OnOk result (length self.old.entries < self.old.capacity
+            → length self.old.entries < self.new.places) }
         ensures refused { OnErr result (NeedsPlace self.old × (self.new ≡ self.old)) }
         ensures places { GrowsIfNeeded self.old self.new }
         ensures reach { self.new.places ≤ max 4 (4 * self.old.places) }

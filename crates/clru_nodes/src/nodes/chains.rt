@@ -58,10 +58,11 @@ impl<K: Eq + Hash, V, S: BuildHasher, A: Allocator + Copy> Nodes<K, V, S, A> {
     /// The place in the chain that leads to the given one, or the last place for `NOWHERE`. At the start it is `NOWHERE`.
     pub(crate) fn before(&self, head: usize, place: usize) -> usize
         requires head { head < length self.now.heads.items }
-        requires walk { IsWalk (steps_at self.now head) (IsLive self.now.list.entries) (IsPlace place) (head_at self.now.heads.items head)
-            (length self.now.list.entries) }
+        requires walk { IsWalk (steps_at self.now head) (IsLive self.now.list.entries) (IsPlace place)
+            (head_at self.now.heads.items head) (length self.now.list.entries) }
         ensures leads { steps_at self.now head result ≡ place }
-        ensures cut { (met : ℕ → ℕ) → IsCut (steps_at self.now head) met nowhere → IsCut (steps_at self.now head) met result }
+        ensures cut { (met : ℕ → ℕ)
+            → IsCut (steps_at self.now head) met nowhere → IsCut (steps_at self.now head) met result }
     {
         let mut at = NOWHERE;
         let mut next = self.first(head);
@@ -81,7 +82,8 @@ impl<K: Eq + Hash, V, S: BuildHasher, A: Allocator + Copy> Nodes<K, V, S, A> {
         requires ends { link_at self.old.list.entries place ≡ nowhere }
         requires named { place < self.old.heads.bound }
         requires chained { IsChainedBut (hash_of K.Hash S.BuildHasher S.Hasher.Hasher) place self.old }
-        ensures chained { IsChainedAs (hash_of K.Hash S.BuildHasher S.Hasher.Hasher) (key_at self.new.list.entries) self.new }
+        ensures chained { IsChainedAs (hash_of K.Hash S.BuildHasher S.Hasher.Hasher)
+            (key_at self.new.list.entries) self.new }
         ensures pairs { placed_of self.new.list.entries ≡ placed_of self.old.list.entries }
         ensures same { IsSame self.old self.new }
     {
@@ -92,7 +94,8 @@ impl<K: Eq + Hash, V, S: BuildHasher, A: Allocator + Copy> Nodes<K, V, S, A> {
     /// Takes a place out of the chain of its key's head.
     pub(crate) fn unchain(&mut self, head: usize, place: usize)
         requires home { HasHome (hash_of K.Hash S.BuildHasher S.Hasher.Hasher) head place self.old }
-        requires chained { IsChainedAs (hash_of K.Hash S.BuildHasher S.Hasher.Hasher) (key_at self.old.list.entries) self.old }
+        requires chained { IsChainedAs (hash_of K.Hash S.BuildHasher S.Hasher.Hasher)
+            (key_at self.old.list.entries) self.old }
         requires named { self.old.list.places ≤ self.old.heads.bound }
         ensures chained { IsChainedBut (hash_of K.Hash S.BuildHasher S.Hasher.Hasher) place self.new }
         ensures pairs { placed_of self.new.list.entries ≡ placed_of self.old.list.entries }

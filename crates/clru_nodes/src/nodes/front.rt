@@ -65,7 +65,8 @@ impl<K: Eq + Hash, V, S: BuildHasher, A: Allocator + Copy> Nodes<K, V, S, A> {
         requires hash { hash ≡ hash_of K.Hash S.BuildHasher S.Hasher.Hasher (builder_of self.old) key.now }
         requires indexed { IsIndexed (hash_of K.Hash S.BuildHasher S.Hasher.Hasher) self.old }
         requires distinct { IsDistinct K.eq (keys_of (pairs_in self.old)) }
-        ensures* lends { sem 𝓛 (lends_value K.row V.row S.row A.row S.Hasher.row A.Allocator self.entry (K.eq key.now) result) }
+        ensures* lends { sem 𝓛 (lends_value K.row V.row S.row A.row S.Hasher.row A.Allocator
+            self.entry (K.eq key.now) result) }
         ensures value { option_copied_mut result ≡ lookup (K.eq key.now) (pairs_in self.old) }
     {
         let place = self.find(hash, key)?;

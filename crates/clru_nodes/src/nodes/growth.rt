@@ -20,8 +20,10 @@ impl<K: Eq + Hash, V, S: BuildHasher, A: Allocator + Copy> Nodes<K, V, S, A> {
         requires below { IsTrue wanted → length (pairs_in self.old) < capacity_of self.old }
         requires indexed { IsIndexed (hash_of K.Hash S.BuildHasher S.Hasher.Hasher) self.old }
         ensures ready { OnOk result (IsTrue wanted → length (pairs_in self.new) < places_of self.new) }
-        ensures grows { GrowsIf wanted (length (pairs_in self.old)) (capacity_of self.old) (places_of self.old) (places_of self.new) }
-        ensures refused { OnErr result (IsRefused wanted (length (pairs_in self.old)) (places_of self.old) (places_of self.new)) }
+        ensures grows { GrowsIf wanted (length (pairs_in self.old)) (capacity_of self.old)
+            (places_of self.old) (places_of self.new) }
+        ensures refused { OnErr result (IsRefused wanted (length (pairs_in self.old))
+            (places_of self.old) (places_of self.new)) }
         ensures indexed { IsIndexed (hash_of K.Hash S.BuildHasher S.Hasher.Hasher) self.new }
         ensures keeps { KeepsPairs self.old self.new }
     {
@@ -107,7 +109,8 @@ impl<K: Eq + Hash, V, S: BuildHasher, A: Allocator + Copy> Nodes<K, V, S, A> {
         requires free { (h : ℕ) → head_at self.old.heads.items h ≡ nowhere }
         requires some { 0 < length self.old.heads.items }
         requires named { self.old.list.places ≤ self.old.heads.bound }
-        ensures chained { IsChainedAs (hash_of K.Hash S.BuildHasher S.Hasher.Hasher) (key_at self.new.list.entries) self.new }
+        ensures chained { IsChainedAs (hash_of K.Hash S.BuildHasher S.Hasher.Hasher)
+            (key_at self.new.list.entries) self.new }
         ensures pairs { placed_of self.new.list.entries ≡ placed_of self.old.list.entries }
         ensures same { IsSame self.old self.new }
     {

@@ -132,7 +132,8 @@ impl<K: Eq + Hash, V, S: BuildHasher, A: Allocator + Copy> Nodes<K, V, S, A> {
         V: Drop,
         requires hash { hash ≡ hash_of K.Hash S.BuildHasher S.Hasher.Hasher (builder_of self.old) key }
         requires indexed { IsIndexed (hash_of K.Hash S.BuildHasher S.Hasher.Hasher) self.old }
-        requires ready { length (pairs_in self.old) < capacity_of self.old → length (pairs_in self.old) < places_of self.old }
+        requires ready { length (pairs_in self.old) < capacity_of self.old
+            → length (pairs_in self.old) < places_of self.old }
         requires some { 0 < capacity_of self.old }
         ensures pairs { pairs_in self.new ≡ (key, value) ∷ take (capacity_of self.old - 1) (pairs_in self.old) }
         ensures indexed { IsIndexed (hash_of K.Hash S.BuildHasher S.Hasher.Hasher) self.new }

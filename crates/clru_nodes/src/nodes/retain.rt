@@ -50,7 +50,8 @@ impl<K: Eq + Hash, V, S: BuildHasher, A: Allocator + Copy> Nodes<K, V, S, A> {
     where
         K: Drop,
         V: Drop,
-        requires callable { CallableOnEachPair (CalledAtShownPair F.FnMut) (TakesShownPair F.FnMut) keep (pairs_in self.old) }
+        requires callable { CallableOnEachPair (CalledAtShownPair F.FnMut) (TakesShownPair F.FnMut)
+            keep (pairs_in self.old) }
         requires weighs { total_weight.old ≡ weight_of (W.weight scale.now) (pairs_in self.old) }
         requires indexed { IsIndexed (hash_of K.Hash S.BuildHasher S.Hasher.Hasher) self.old }
         ensures kept { RetainsPairs (CalledAtShownPair F.FnMut) keep (pairs_in self.old) (pairs_in self.new) }

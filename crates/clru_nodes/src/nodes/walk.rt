@@ -22,7 +22,8 @@ impl<K: Eq + Hash, V, S: BuildHasher, A: Allocator + Copy> Nodes<K, V, S, A> {
     /// Returns the item with a number for writing. It is quick for a walk that goes up by one.
     pub fn item_at(&mut self, number: usize) -> &mut Item<K, V>
         requires { number < length (pairs_in self.old) }
-        ensures* lends { sem 𝓛 (lends_number K.row V.row S.row A.row S.Hasher.row A.Allocator self.entry number result) }
+        ensures* lends { sem 𝓛 (lends_number K.row V.row S.row A.row S.Hasher.row A.Allocator
+            self.entry number result) }
         ensures item { item_numbered number self.old ≡ Some result.now }
     {
         match self.list.place_at(number) {
@@ -34,7 +35,8 @@ impl<K: Eq + Hash, V, S: BuildHasher, A: Allocator + Copy> Nodes<K, V, S, A> {
     /// Does the same for a walk that goes down by one.
     pub fn item_at_back(&mut self, number: usize) -> &mut Item<K, V>
         requires { number < length (pairs_in self.old) }
-        ensures* lends { sem 𝓛 (lends_number K.row V.row S.row A.row S.Hasher.row A.Allocator self.entry number result) }
+        ensures* lends { sem 𝓛 (lends_number K.row V.row S.row A.row S.Hasher.row A.Allocator
+            self.entry number result) }
         ensures item { item_numbered number self.old ≡ Some result.now }
     {
         match self.list.place_at_back(number) {
@@ -47,7 +49,8 @@ impl<K: Eq + Hash, V, S: BuildHasher, A: Allocator + Copy> Nodes<K, V, S, A> {
     fn item_in(&mut self, number: usize, place: usize) -> &mut Item<K, V>
         requires place { Some place ≡ slice_get (keys_of self.old.list.entries) number }
         requires valid { IsValid self.old.list }
-        ensures* lends { sem 𝓛 (lends_number K.row V.row S.row A.row S.Hasher.row A.Allocator self.entry number result) }
+        ensures* lends { sem 𝓛 (lends_number K.row V.row S.row A.row S.Hasher.row A.Allocator
+            self.entry number result) }
         ensures item { item_numbered number self.old ≡ Some result.now }
     {
         match self.list.get_mut(place) {

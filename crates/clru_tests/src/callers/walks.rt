@@ -35,7 +35,8 @@ pub fn total_backwards(sizes: &CLruCache<u64, u64>) -> u64
 /// The pages at the two ends; where there is one page, there is nothing at the other end.
 pub fn ends(sizes: &CLruCache<u64, u64>) -> (Option<(u64, u64)>, Option<(u64, u64)>)
     ensures first { result.0 ≡ slice_get sizes.now.entries 0 }
-    ensures last { 1 < length sizes.now.entries → result.1 ≡ slice_get sizes.now.entries (length sizes.now.entries - 1) }
+    ensures last { 1 < length sizes.now.entries
+        → result.1 ≡ slice_get sizes.now.entries (length sizes.now.entries - 1) }
 {
     let mut walk = sizes.iter();
     let first = walk.next().map(|(page, size)| (*page, *size));

@@ -54,7 +54,8 @@ impl<
         K: Drop,
         V: Drop,
         ensures ends { let size = non_zero_usize_get capacity in let old = self.old.cache in
-            self.new ≡ store (cache_of (fit (W.weight old.scale) size old.entries) size old.scale old.places) self.old.source }
+            self.new ≡ store
+            (cache_of (fit (W.weight old.scale) size old.entries) size old.scale old.places) self.old.source }
         ensures from_source { AllFrom (R.value self.new.source) self.new.cache.entries }
     {
         self.cache.resize(capacity);

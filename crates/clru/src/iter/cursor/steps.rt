@@ -64,9 +64,10 @@ impl<'a, K: Eq + Hash, V, S: BuildHasher, A: Allocator + Copy> CLruCacheIterMut<
     /// Passes the last entry that is left and returns its key, with its value for writing.
     pub fn next_entry_back(&mut self) -> (&K, &mut V)
         requires { 0 < length (cursor_rest self.old) }
-        ensures* lends { sem 𝓛 (lends_next_back K.row V.row S.row A.row S.Hasher.row K.Hash S.BuildHasher S.Hasher.Hasher
-            A.Allocator self.entry result.1) }
-        ensures entry { slice_get (cursor_rest self.old) (length (cursor_rest self.old) - 1) ≡ Some (deref_pair_mut result) }
+        ensures* lends { sem 𝓛 (lends_next_back K.row V.row S.row A.row S.Hasher.row K.Hash S.BuildHasher
+            S.Hasher.Hasher A.Allocator self.entry result.1) }
+        ensures entry { slice_get (cursor_rest self.old) (length (cursor_rest self.old) - 1)
+            ≡ Some (deref_pair_mut result) }
         ensures passes { (w : V) → PassesBack self.old result.1.now w (stepped_back self.old w) }
     {
         let number = self.end.min(self.cache.len()) - 1;
