@@ -4,9 +4,9 @@
 pub mod budget;
 pub mod curves;
 pub mod gains;
-pub mod guard;
 pub mod hasher;
 pub mod kept;
+pub mod lent;
 pub mod limits;
 pub mod lists;
 pub mod own;

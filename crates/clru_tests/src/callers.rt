@@ -17,18 +17,7 @@ pub mod walks;
 
 use clru::{CLruCache, DefaultState, PutError, WeightScale};
 
-/// Remembers the size of a page. A look-up then finds it.
-pub fn remember(sizes: &mut CLruCache<u64, u64>, page: u64, size: u64) -> Result<(), (u64, u64)>
-    ensures stored { OnOk result (lookup (nat_eq page) sizes.new.entries ≡ Some size) }
-    ensures kept { OnErr result (sizes.new.entries ≡ sizes.old.entries) }
-{
-    match sizes.put(page, size) {
-        Ok(_) => Ok(()),
-        Err(pair) => Err(pair),
-    }
-}
-
-/// The same, by a scale.
+/// Remembers the size of a page, in a cache of any scale. A look-up then finds it.
 pub fn remember_by_weight<W: WeightScale<u64, u64>>(
     sizes: &mut CLruCache<u64, u64, DefaultState, W>,
     page: u64,
@@ -74,7 +63,7 @@ mod tests {
     fn callers_find_what_they_stored(rt: HostRuntime) -> Result<(), Fail> {
         let mut cache = CLruCache::new(rt.alloc(), NonZeroUsize::MIN);
         equal!(rt;
-            (room_left(&cache), remember(&mut cache, 3, 70)),
+            (room_left(&cache), remember_by_weight(&mut cache, 3, 70)),
             (1, Ok(()))
         );
         equal!(rt; cache.peek(&3).copied(), Some(70));

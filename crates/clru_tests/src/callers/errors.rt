@@ -73,8 +73,8 @@ pub fn store_page<W: WeightScale<u64, u64>>(
     Ok(())
 }
 
-/// Remembers the size of a page. Only memory can lack, so the pair that comes back becomes that error.
-pub fn remember(sizes: &mut CLruCache<u64, u64>, page: u64, size: u64) -> Result<(), AllocError>
+/// Stores the size of a page by number. Only memory can lack, so the pair that comes back becomes that error.
+pub fn put_page(sizes: &mut CLruCache<u64, u64>, page: u64, size: u64) -> Result<(), AllocError>
     ensures stored { OnOk result (lookup (nat_eq page) sizes.new.entries ≡ Some size) }
     ensures kept { OnErr result (sizes.new.entries ≡ sizes.old.entries) }
 {
@@ -141,7 +141,7 @@ mod tests {
         let mut sizes = CLruCache::new(rt.alloc(), NonZeroUsize::MIN);
         store(&mut sizes, "3", 70)?;
         equal!(rt; sizes.peek(&3).copied(), Some(70));
-        remember(&mut sizes, 4, 80)?;
+        put_page(&mut sizes, 4, 80)?;
         equal!(rt; sizes.peek(&4).copied(), Some(80));
         let refused = store(&mut sizes, "x", 70);
         assert!(rt; matches!(&refused, Err(StoreError::NoNumber(_))));

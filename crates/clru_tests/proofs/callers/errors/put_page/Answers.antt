@@ -2,7 +2,7 @@ use Rattle.std.proofs.Common.{rules, ◌≡◌, true}
 use Rattle.std.specs.Prelude.{nat_eq, is_ok}
 use Rattle.std.specs.Cmp.{nat_eq_equiv}
 use Rattle.clru.proofs.CallerLemmas.{lookup-plain_put}
-use Rattle.clru_tests.proofs.callers.errors.remember.Goals as goal
+use Rattle.clru_tests.proofs.callers.errors.put_page.Goals as goal
 
 pub returns-clause-stored : goal.returns-clause-stored
 returns-clause-stored c =
