@@ -3,7 +3,7 @@
 ghost use Rattle.std.specs.Prelude.{◌≡◌, ◌⊎◌, ◌<◌, ◌≤◌, [], length, min, replicate, set, IfOk, IsOk};
 ghost use Rattle.clru_list.specs.Places.{nowhere};
 ghost use Rattle.clru_nodes.specs.HeadList.{head_list, narrow, wide};
-ghost use Rattle.clru_nodes.specs.Heads.{head_at};
+ghost use Rattle.clru_nodes.specs.Heads.{head_at, head_by};
 
 use clru_list::NoMemory;
 use std::alloc::Allocator;
@@ -116,6 +116,26 @@ impl<A: Allocator + Copy> Heads<A> {
         match &self.words {
             Words::Narrow(heads) => heads.allocator(),
             Words::Wide(heads) => heads.allocator(),
+        }
+    }
+
+    /// The place that the head of a hash leads to. There is none where there are no heads.
+    pub(crate) fn start(&self, hash: u64) -> usize
+        ensures { result ≡ head_at self.now.items (head_by (length self.now.items) hash) }
+    {
+        match &self.words {
+            Words::Narrow(heads) => {
+                if heads.len() == 0 {
+                    return NOWHERE;
+                }
+                widened(heads[hash as usize & (heads.len() - 1)])
+            }
+            Words::Wide(heads) => {
+                if heads.len() == 0 {
+                    return NOWHERE;
+                }
+                heads[hash as usize & (heads.len() - 1)]
+            }
         }
     }
 

@@ -125,7 +125,7 @@ impl<K: Eq + Hash, V, S: BuildHasher, A: Allocator + Copy> Nodes<K, V, S, A> {
         ensures valid { IsValid self.now.list }
         ensures absent { IfNone result (lookup_entry (K.eq key.now) (pairs_of self.now.list.entries) ≡ None) }
     {
-        let mut next = self.start(hash);
+        let mut next = self.heads.start(hash);
         while let Some(item) = self.list.get(next) {
             if *key == item.key {
                 return Some(next);

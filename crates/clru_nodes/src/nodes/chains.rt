@@ -28,16 +28,6 @@ impl<K: Eq + Hash, V, S: BuildHasher, A: Allocator + Copy> Nodes<K, V, S, A> {
         self.heads.get(head)
     }
 
-    /// The first place of the chain of a hash. There is none before the first growth.
-    pub(crate) fn start(&self, hash: u64) -> usize
-        ensures { result ≡ head_at self.now.heads.items (head_by (length self.now.heads.items) hash) }
-    {
-        if self.heads.len() == 0 {
-            return NOWHERE;
-        }
-        self.first(self.head_of(hash))
-    }
-
     /// Has a place of a chain, or its start, lead to another place.
     pub(crate) fn link(&mut self, head: usize, at: usize, to: usize)
         requires head { at ≡ nowhere → head < length self.old.heads.items }
