@@ -3,11 +3,11 @@ use Rattle.std.proofs.Common.{◌≡◌, ℕ, zero, suc, ◌+◌, ◌-◌, ◌<�
 use Rattle.std.proofs.lemmas.List.{length-take, length-drop, take_min}
 use Rattle.clru_model.specs.Entries.{with_value_at}
 use Rattle.clru_model.proofs.Ends.{last_of}
-use Rattle.clru.specs.Walks.{Passes, PassesBack, cursor_rest, last_number, stepped, stepped_back}
+use Rattle.clru.specs.Walks.{Passes, PassesBack, cursor_rest, last_index, stepped, stepped_back}
 use Rattle.clru.specs.declared.iter.cursor.CLruCacheIterMut.{CLruCacheIterMut}
 
 module _ {K V : Type 0} (k : K) (x v : V) where
-  -- with v at the number i, where the stretch goes up to `end`
+  -- with v at the index i, where the stretch goes up to `end`
   record IsPassed (i end : ℕ) (es : List (K × V)) : Type 0 where
     rest : drop i (take end es) ≡ (k, x) ∷ drop (suc i) (take end (with_value_at i v es))
     before : take (suc i) (take end (with_value_at i v es)) ≡ take i (take end es) ++ (k, v) ∷ []
@@ -21,7 +21,7 @@ module _ {K V : Type 0} (k : K) (x v : V) where
   passed (suc i) (suc n) (e ∷ es) lt at =
       let ih = passed i n es (omega (arith, lt)) at in record { rest = ih.rest; before = ap (λ l. e ∷ l) ih.before; after = ih.after }
 
-  -- the same at its last number j
+  -- the same at its last index j
   record IsPassedBack (i j : ℕ) (es : List (K × V)) : Type 0 where
     rest : drop i (take (suc j) es) ≡ drop i (take j (with_value_at j v es)) ++ (k, x) ∷ []
     before : take i (take j (with_value_at j v es)) ≡ take i (take (suc j) es)
@@ -64,12 +64,12 @@ module _ {K V S A H : Type 0} (c : CLruCacheIterMut K V S A H) where
         cache = refl;
       }
 
-  pub passes_back : (k : K) (x v : V) → 0 < length (cursor_rest c) → slice_get c.cache.now.entries (last_number c) ≡ Some (k, x)
+  pub passes_back : (k : K) (x v : V) → 0 < length (cursor_rest c) → slice_get c.cache.now.entries (last_index c) ≡ Some (k, x)
       → PassesBack c x v (stepped_back c v)
   passes_back k x v left at =
       let es = c.cache.now.entries in
-      let p = passed_back k x v c.done (last_number c) es (omega (arith, left, length-rest)) at in
-      let next : suc (last_number c) ≡ min c.end (length es) = omega (arith, left, length-rest) in
+      let p = passed_back k x v c.done (last_index c) es (omega (arith, left, length-rest)) at in
+      let next : suc (last_index c) ≡ min c.end (length es) = omega (arith, left, length-rest) in
       record {
         key = k;
         rest = ap (drop c.done) (sym (take_min c.end es) ∙ ap (λ n. take n es) (sym next)) ∙ p.rest;
@@ -84,7 +84,7 @@ module _ {K V S A H : Type 0} (c : CLruCacheIterMut K V S A H) where
   unfolding passes
   first-left k x left at = let p = passes k x x left at in ap (λ l. slice_get l 0) p.rest
 
-  pub last-left : (k : K) (x : V) → 0 < length (cursor_rest c) → slice_get c.cache.now.entries (last_number c) ≡ Some (k, x)
+  pub last-left : (k : K) (x : V) → 0 < length (cursor_rest c) → slice_get c.cache.now.entries (last_index c) ≡ Some (k, x)
       → slice_get (cursor_rest c) (length (cursor_rest c) - 1) ≡ Some (k, x)
   unfolding passes_back
   last-left k x left at =

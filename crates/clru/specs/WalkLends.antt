@@ -18,7 +18,7 @@ use Rattle.clru.specs.contracts.iter.cursor.CLruCacheIterMut.{the_row}
 
 module _ (K V S A H : RattleType) (key : HashMembers K.Denot) (build : builder.Ghosts S.Denot H.Denot)
     (hash : hasher.Ghosts H.Denot) (heap : alloc.Ghosts A.Denot) where
-  -- the cache has the last value written through r at the number i
+  -- the cache has the last value written through r at the index i
   abbrev pub lends_at : scale.Ghosts ZeroWeightScale K.Denot V.Denot → MutBor (Cache K.Denot V.Denot ZeroWeightScale)
       → ℕ → MutBor V.Denot → Fml
   lends_at weighs c i r = Lends (cache_row K V S zero_scale_row A H key build hash weighs heap) V c r

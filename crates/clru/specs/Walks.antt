@@ -27,7 +27,7 @@ module _ {K V S A H : Type 0} where
   abbrev pub cursor_after : CLruCacheIterMut K V S A H → List (K × V)
   cursor_after c = drop c.end c.cache.now.entries
 
-  -- the cache with another value at a number
+  -- the cache with another value at an index
   abbrev pub cache_with : CLruCacheIterMut K V S A H → ℕ → V → Cache K V ZeroWeightScale
   cache_with c i v = with_entries c.cache.now (with_value_at i v c.cache.now.entries)
 
@@ -39,16 +39,16 @@ module _ {K V S A H : Type 0} where
     end = c.end;
   }
 
-  -- the number of the last one
-  abbrev pub last_number : CLruCacheIterMut K V S A H → ℕ
-  last_number c = min c.end (length c.cache.now.entries) - 1
+  -- the index of the last one
+  abbrev pub last_index : CLruCacheIterMut K V S A H → ℕ
+  last_index c = min c.end (length c.cache.now.entries) - 1
 
   -- past the last one
   abbrev pub stepped_back : CLruCacheIterMut K V S A H → V → CLruCacheIterMut K V S A H
   stepped_back c v = record {
-    cache = record c.cache { now = cache_with c (last_number c) v };
+    cache = record c.cache { now = cache_with c (last_index c) v };
     done = c.done;
-    end = last_number c;
+    end = last_index c;
   }
 
   -- the cursor stands before the whole of the cache

@@ -18,7 +18,7 @@ module _ {T : Type 0} where
   keys-with_at p w (e ∷ es) =
       elim (p == e.0) as (λ b. keys_of (cond b ((e.0, w) ∷ es) (e ∷ with_at p w es)) ≡ e.0 ∷ keys_of es) [ true ↦ refl | false ↦ ap (λ l. e.0 ∷ l) (keys-with_at p w es) ]
 
-  -- a write at a place is one at the number of its entry
+  -- a write at a place is one at the index of its entry
   pub with_at-set : (es : List (ℕ × T)) (k : ℕ) (e : ℕ × T) (w : T) → IsApart es → slice_get es k ≡ Some e → with_at e.0 w es ≡ set es k (e.0, w)
   with_at-set [] k e w apart at = cc
   with_at-set (d ∷ es) zero e w apart at = let same : d ≡ e = cc in rw (same, eq-eqb e.0 e.0 refl) refl

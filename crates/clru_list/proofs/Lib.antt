@@ -3,7 +3,7 @@ pub mod CursorSteps
 pub mod EntryLists
 pub mod Holding
 pub mod NodeLemmas
-pub mod Numbers
+pub mod Indices
 pub mod Paths
 pub mod PlaceLemmas
 pub mod Pointing

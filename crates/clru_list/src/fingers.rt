@@ -1,11 +1,11 @@
-//! Where walks by number stand: the place that each of them comes to next.
+//! Where walks by index stand: the place that each of them comes to next.
 ghost use Rattle.std.specs.Prelude.{◌≡◌, ℕ, List, Some, IfSome, false, slice_get};
 ghost use Rattle.clru_list.specs.Fingers.{IsFinger, IsPointed};
 
-/// The place of the entry with a number.
+/// The place of the entry at an index.
 #[derive(Clone, Copy)]
 pub struct Finger {
-    pub(crate) number: usize,
+    pub(crate) index: usize,
     pub(crate) place: usize,
 }
 
@@ -35,25 +35,25 @@ impl Fingers {
         self.kept = false;
     }
 
-    /// The place of the number, where the finger that goes up has it.
-    pub(crate) fn up_at(&self, number: usize) -> Option<usize>
+    /// The place of the index, where the finger that goes up has it.
+    pub(crate) fn up_at(&self, index: usize) -> Option<usize>
         ensures { IfSome result (λ p. (places : List ℕ) → IsPointed places self.now
-            → slice_get places number ≡ Some p) }
+            → slice_get places index ≡ Some p) }
     {
         if self.kept {
-            pointed(self.up, number)
+            pointed(self.up, index)
         } else {
             None
         }
     }
 
     /// The same for the finger that goes down.
-    pub(crate) fn down_at(&self, number: usize) -> Option<usize>
+    pub(crate) fn down_at(&self, index: usize) -> Option<usize>
         ensures { IfSome result (λ p. (places : List ℕ) → IsPointed places self.now
-            → slice_get places number ≡ Some p) }
+            → slice_get places index ≡ Some p) }
     {
         if self.kept {
-            pointed(self.down, number)
+            pointed(self.down, index)
         } else {
             None
         }
@@ -80,22 +80,22 @@ impl Fingers {
     }
 }
 
-/// The place of the number, where the finger has it.
-fn pointed(finger: Option<Finger>, number: usize) -> Option<usize>
-    ensures { IfSome result (λ p. (places : List ℕ) → IsFinger places finger → slice_get places number ≡ Some p) }
+/// The place of the index, where the finger has it.
+fn pointed(finger: Option<Finger>, index: usize) -> Option<usize>
+    ensures { IfSome result (λ p. (places : List ℕ) → IsFinger places finger → slice_get places index ≡ Some p) }
 {
     match finger {
-        Some(finger) if finger.number == number => Some(finger.place),
+        Some(finger) if finger.index == index => Some(finger.place),
         _ => None,
     }
 }
 
 /// A finger at the place, if there is one.
-pub(crate) fn pointing(number: usize, place: Option<usize>) -> Option<Finger>
-    ensures { (places : List ℕ) → IfSome place (λ p. slice_get places number ≡ Some p) → IsFinger places result }
+pub(crate) fn pointing(index: usize, place: Option<usize>) -> Option<Finger>
+    ensures { (places : List ℕ) → IfSome place (λ p. slice_get places index ≡ Some p) → IsFinger places result }
 {
     match place {
-        Some(place) => Some(Finger { number, place }),
+        Some(place) => Some(Finger { index, place }),
         None => None,
     }
 }

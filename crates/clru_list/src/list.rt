@@ -12,7 +12,7 @@ use crate::links::{Links, NOWHERE, Node};
 use std::alloc::{Allocator, Global};
 use std::marker::Model;
 
-mod number;
+mod index;
 mod order;
 mod push;
 mod remove;

@@ -107,9 +107,9 @@ fn callers_move_an_item_by_its_place(rt: HostRuntime) -> Result<(), Fail> {
     Ok(())
 }
 
-/// What the two calls by number answer, in turn.
-fn places_by_number(list: &mut FixedSizeList<u64>, number: usize) -> [Option<usize>; 2] {
-    [list.place_at(number), list.place_at_back(number)]
+/// What the two calls by index answer, in turn.
+fn places_by_index(list: &mut FixedSizeList<u64>, index: usize) -> [Option<usize>; 2] {
+    [list.place_at(index), list.place_at_back(index)]
 }
 
 #[test]
@@ -119,10 +119,10 @@ fn a_number_has_its_place_from_either_end(rt: HostRuntime) -> Result<(), Fail> {
     for (place, _) in &list {
         places.push(place)?;
     }
-    // Upwards, downwards, out of order, the same number again, and past the end.
-    for number in [0, 1, 2, 3, 4, 3, 2, 1, 0, 2, 2, 0, 3, usize::MAX, 1] {
-        let place = places.as_slice().get(number).copied();
-        equal!(rt; places_by_number(&mut list, number), [place, place], number);
+    // Upwards, downwards, out of order, the same index again, and past the end.
+    for index in [0, 1, 2, 3, 4, 3, 2, 1, 0, 2, 2, 0, 3, usize::MAX, 1] {
+        let place = places.as_slice().get(index).copied();
+        equal!(rt; places_by_index(&mut list, index), [place, place], index);
     }
     Ok(())
 }

@@ -6,7 +6,7 @@ pub mod HeadLists
 pub mod Indexed
 pub mod IndexedMoves
 pub mod Lending
-pub mod Numbered
+pub mod AtIndex
 pub mod PlaceEnds
 pub mod Placed
 pub mod PlacedPairs

@@ -4,11 +4,11 @@ use Rattle.std.specs.Map.{keys_of, set_value}
 use Rattle.std.specs.Option.{option_map}
 use Rattle.clru_model.specs.Entries.{with_value_at, with_front}
 use Rattle.clru_list.specs.PlaceList.{first_entry}
-use Rattle.clru_nodes.specs.Nodes.{pair_of, pairs_of, pairs_in, places_of, item_with, first_item, last_item, item_numbered}
-use Rattle.clru_nodes.specs.Nodes.{with_items, with_first_item, with_last_item, with_item_numbered, with_value_found, IsIndexed, IsSame}
+use Rattle.clru_nodes.specs.Nodes.{pair_of, pairs_of, pairs_in, places_of, item_with, first_item, last_item, item_at_index}
+use Rattle.clru_nodes.specs.Nodes.{with_items, with_first_item, with_last_item, with_item_at_index, with_value_found, IsIndexed, IsSame}
 use Rattle.clru_nodes.specs.declared.nodes.Item.{Item}
 use Rattle.clru_nodes.specs.declared.nodes.Nodes.{Nodes}
-use Rattle.clru_nodes.proofs.Numbered.{pair_at, frame-with_item_at, pairs_of-with_item_at}
+use Rattle.clru_nodes.proofs.AtIndex.{pair_at, frame-with_item_at, pairs_of-with_item_at}
 use Rattle.clru_nodes.proofs.PlaceEnds.{last_item_pair}
 use Rattle.clru_nodes.proofs.Placed.{length-pairs}
 use Rattle.clru_nodes.proofs.Values.{frame_of, keys-frame, indexed_frame, frame-with_first, pairs_of-with_first}
@@ -42,9 +42,9 @@ module _ {K V S A H : Type 0} where
         → option_map (λ (i : Item K V). pair_of i) o ≡ slice_get (pairs_in x) (length (pairs_in x) - 1)
     last_pair is = last_item_pair x.list.entries is
 
-    -- the item with a number has the pair with it
-    pub numbered_pair : (k : ℕ) {i : Item K V} → item_numbered k x ≡ Some i → slice_get (pairs_in x) k ≡ Some (pair_of i)
-    numbered_pair k {i} at = pair_at x.list.entries k i at
+    -- the item at an index has the pair with it
+    pub pair_at_index : (k : ℕ) {i : Item K V} → item_at_index k x ≡ Some i → slice_get (pairs_in x) k ≡ Some (pair_of i)
+    pair_at_index k {i} at = pair_at x.list.entries k i at
 
     written : {es : List (ℕ × Item K V)} {ps : List (K × V)} → frame_of es ≡ frame_of x.list.entries → pairs_of es ≡ ps
         → IsWritten x (with_items es x) ps
@@ -65,10 +65,10 @@ module _ {K V S A H : Type 0} where
         → IsWritten x (with_last_item (item_with i w) x) (with_value_at (length (pairs_in x) - 1) w (pairs_in x))
     last_written {i} at w = written (frame-with_last i w x.list.entries at) (pairs_of-with_last i w x.list.entries at)
 
-    -- to the one with a number
-    pub numbered_written : (k : ℕ) {i : Item K V} → item_numbered k x ≡ Some i → (w : V)
-        → IsWritten x (with_item_numbered k (item_with i w) x) (with_value_at k w (pairs_in x))
-    numbered_written k {i} at w = written (frame-with_item_at w x.list.entries k i at) (pairs_of-with_item_at w x.list.entries k i at)
+    -- to the one at an index
+    pub written_at_index : (k : ℕ) {i : Item K V} → item_at_index k x ≡ Some i → (w : V)
+        → IsWritten x (with_item_at_index k (item_with i w) x) (with_value_at k w (pairs_in x))
+    written_at_index k {i} at w = written (frame-with_item_at w x.list.entries k i at) (pairs_of-with_item_at w x.list.entries k i at)
 
     -- to the first key that passes
     pub found_written : (test : K → Bool) (w : V) → IsWritten x (with_value_found test w x) (set_value test (pairs_in x) w)

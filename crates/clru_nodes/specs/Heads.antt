@@ -43,7 +43,7 @@ module _ {K V : Type 0} where
     pub held : item_at p es ≡ Some item
     pub same : eq x item.key ≡ true
 
--- the entries with another item at a number
+-- the entries with another item at an index
 abbrev pub with_item_at : {X : Type 0} → ℕ → X → List (ℕ × X) → List (ℕ × X)
 with_item_at k x [] = []
 with_item_at zero x (e ∷ es) = (e.0, x) ∷ es

@@ -53,9 +53,9 @@ module _ {K V S A H : Type 0} where
   abbrev pub last_item : Nodes K V S A H → Option (Item K V)
   last_item x = option_map (λ e. e.1) (last_entry x.list.entries)
 
-  -- the item with a number, which is counted from 0 at the front
-  abbrev pub item_numbered : ℕ → Nodes K V S A H → Option (Item K V)
-  item_numbered number x = option_map (λ e. e.1) (slice_get x.list.entries number)
+  -- the item at an index, which is counted from 0 at the front
+  abbrev pub item_at_index : ℕ → Nodes K V S A H → Option (Item K V)
+  item_at_index index x = option_map (λ e. e.1) (slice_get x.list.entries index)
 
   -- the nodes with other items
   abbrev pub with_items : List (ℕ × Item K V) → Nodes K V S A H → Nodes K V S A H
@@ -69,9 +69,9 @@ module _ {K V S A H : Type 0} where
   abbrev pub with_last_item : Item K V → Nodes K V S A H → Nodes K V S A H
   with_last_item i x = with_items (with_last i x.list.entries) x
 
-  -- with another item at a number
-  abbrev pub with_item_numbered : ℕ → Item K V → Nodes K V S A H → Nodes K V S A H
-  with_item_numbered number i x = with_items (with_item_at number i x.list.entries) x
+  -- with another item at an index
+  abbrev pub with_item_at_index : ℕ → Item K V → Nodes K V S A H → Nodes K V S A H
+  with_item_at_index index i x = with_items (with_item_at index i x.list.entries) x
 
   -- with another value at the first key that passes
   abbrev pub with_value_found : (K → Bool) → V → Nodes K V S A H → Nodes K V S A H

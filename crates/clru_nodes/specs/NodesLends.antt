@@ -2,7 +2,7 @@
 use Rattle.std.specs.Prelude.{Bool, Option, ℕ}
 use Rattle.std.specs.Borrow.{Fml, RattleType, MutBor, Lends, LendsIf}
 use Rattle.std.specs.declared.alloc.Allocator as alloc
-use Rattle.clru_nodes.specs.Nodes.{with_first_item, with_last_item, with_item_numbered, with_value_found}
+use Rattle.clru_nodes.specs.Nodes.{with_first_item, with_last_item, with_item_at_index, with_value_found}
 use Rattle.clru_nodes.specs.declared.nodes.Item.{Item}
 use Rattle.clru_nodes.specs.declared.nodes.Nodes.{Nodes}
 use Rattle.clru_nodes.specs.contracts.nodes.Item.{the_row as item_row}
@@ -23,9 +23,9 @@ module _ (K V S A H : RattleType) (heap : alloc.Ghosts A.Denot)
   abbrev pub lends_back : MutBor (Item K.Denot V.Denot) → Fml
   lends_back = lends_item (λ i. with_last_item i n.now)
 
-  -- the item with a number is lent
-  abbrev pub lends_number : ℕ → MutBor (Item K.Denot V.Denot) → Fml
-  lends_number k = lends_item (λ i. with_item_numbered k i n.now)
+  -- the item at an index is lent
+  abbrev pub lends_index : ℕ → MutBor (Item K.Denot V.Denot) → Fml
+  lends_index k = lends_item (λ i. with_item_at_index k i n.now)
 
   -- the value of the first key that passes is lent, and at `None` they stay as they were
   abbrev pub lends_value : (K.Denot → Bool) → Option (MutBor V.Denot) → Fml

@@ -13,6 +13,11 @@ use std::test::Fail;
 #[test]
 fn new_nodes_have_no_pair(rt: HostRuntime) {
     has(&rt, &Nodes::new(rt.alloc(), 4, DefaultState), &[]);
+    has(
+        &rt,
+        &Nodes::with_narrow_places(rt.alloc(), 4, DefaultState, 255),
+        &[],
+    );
     for (capacity, reserve, is_made) in [
         (4, 0, true),
         (4, 9, true),

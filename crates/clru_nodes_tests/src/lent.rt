@@ -19,15 +19,15 @@ fn what_is_written_through_an_item_stays(rt: HostRuntime) -> Result<(), Fail> {
     let mut nodes = three(rt.alloc())?;
     equal!(rt; overwritten(nodes.back_item()), (1, 10));
     has(&rt, &nodes, &[(3, 30), (2, 20), (1, 7)]);
-    for number in 0..3 {
+    for index in 0..3 {
         let (mut up, mut down) = (three(rt.alloc())?, three(rt.alloc())?);
         let mut want = [(3, 30), (2, 20), (1, 10)];
         let pairs = (
-            overwritten(up.item_at(number)),
-            overwritten(down.item_at_back(number)),
+            overwritten(up.item_at(index)),
+            overwritten(down.item_at_back(index)),
         );
-        equal!(rt; pairs, (want[number], want[number]), number);
-        want[number].1 = 7;
+        equal!(rt; pairs, (want[index], want[index]), index);
+        want[index].1 = 7;
         has(&rt, &up, &want);
         has(&rt, &down, &want);
     }

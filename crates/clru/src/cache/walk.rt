@@ -48,25 +48,25 @@ impl<K: Eq + Hash, V, S: BuildHasher, A: Allocator + Copy> CLruCache<K, V, S, Ze
         }
     }
 
-    /// Lends the entry with a number, with its value for writing. It is quick for a walk that goes up by one.
-    pub(crate) fn entry_at(&mut self, number: usize) -> (&K, &mut V)
-        requires { number < length self.old.entries }
+    /// Lends the entry at an index, with its value for writing. It is quick for a walk that goes up by one.
+    pub(crate) fn entry_at(&mut self, index: usize) -> (&K, &mut V)
+        requires { index < length self.old.entries }
         ensures* lends { sem 𝓛 (lends_at K.row V.row S.row A.row S.Hasher.row K.Hash S.BuildHasher S.Hasher.Hasher
-            A.Allocator ⟦<ZeroWeightScale as WeightScale<K, V>>⟧ self.entry number result.1) }
-        ensures entry { slice_get self.old.entries number ≡ Some (deref_pair_mut result) }
+            A.Allocator ⟦<ZeroWeightScale as WeightScale<K, V>>⟧ self.entry index result.1) }
+        ensures entry { slice_get self.old.entries index ≡ Some (deref_pair_mut result) }
     {
-        let item = self.nodes.item_at(number);
+        let item = self.nodes.item_at(index);
         (&item.key, &mut item.value)
     }
 
-    /// Lends the entry with a number, with its value for writing. It is quick for a walk that goes down by one.
-    pub(crate) fn entry_at_back(&mut self, number: usize) -> (&K, &mut V)
-        requires { number < length self.old.entries }
+    /// Lends the entry at an index, with its value for writing. It is quick for a walk that goes down by one.
+    pub(crate) fn entry_at_back(&mut self, index: usize) -> (&K, &mut V)
+        requires { index < length self.old.entries }
         ensures* lends { sem 𝓛 (lends_at K.row V.row S.row A.row S.Hasher.row K.Hash S.BuildHasher S.Hasher.Hasher
-            A.Allocator ⟦<ZeroWeightScale as WeightScale<K, V>>⟧ self.entry number result.1) }
-        ensures entry { slice_get self.old.entries number ≡ Some (deref_pair_mut result) }
+            A.Allocator ⟦<ZeroWeightScale as WeightScale<K, V>>⟧ self.entry index result.1) }
+        ensures entry { slice_get self.old.entries index ≡ Some (deref_pair_mut result) }
     {
-        let item = self.nodes.item_at_back(number);
+        let item = self.nodes.item_at_back(index);
         (&item.key, &mut item.value)
     }
 }

@@ -55,10 +55,10 @@ impl<'a, K: Eq + Hash, V, S: BuildHasher, A: Allocator + Copy> CLruCacheIterMut<
         ensures entry { slice_get (cursor_rest self.old) 0 ≡ Some (deref_pair_mut result) }
         ensures passes { (w : V) → Passes self.old result.1.now w (stepped self.old w) }
     {
-        let number = self.done;
+        let index = self.done;
         self.done += 1;
         let cache = &mut *self.cache;
-        cache.entry_at(number)
+        cache.entry_at(index)
     }
 
     /// Passes the last entry that is left and returns its key, with its value for writing.
@@ -70,9 +70,9 @@ impl<'a, K: Eq + Hash, V, S: BuildHasher, A: Allocator + Copy> CLruCacheIterMut<
             ≡ Some (deref_pair_mut result) }
         ensures passes { (w : V) → PassesBack self.old result.1.now w (stepped_back self.old w) }
     {
-        let number = self.end.min(self.cache.len()) - 1;
-        self.end = number;
+        let index = self.end.min(self.cache.len()) - 1;
+        self.end = index;
         let cache = &mut *self.cache;
-        cache.entry_at_back(number)
+        cache.entry_at_back(index)
     }
 }

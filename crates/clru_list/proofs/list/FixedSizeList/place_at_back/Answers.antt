@@ -1,15 +1,15 @@
 use Rattle.std.proofs.Common.{◌≡◌, ◌-◌, ℕ, Some, IfSome, List, Option, slice_get, sym, ap, subst, arith}
 use Rattle.std.specs.Map.{keys_of}
 use Rattle.clru_list.specs.Fingers.{IsFinger}
-use Rattle.clru_list.proofs.Numbers.{before-points}
+use Rattle.clru_list.proofs.Indices.{before-points}
 use Rattle.clru_list.proofs.list.FixedSizeList.place_at_back.Goals as goal
 
 pub invariant_of-self : goal.invariant_of-self
 invariant_of-self g c =
     let es = c.args.self.now.entries in let e = c.prev_idx-before.ensures in
-    let P : Option ℕ → Type 0 = λ o. IfSome o (λ q. slice_get (keys_of es) (c.args.number - 1) ≡ Some q) in
-    let below : c.args.number - 1 ≡ c.saturating_sub.result = omega (arith, c.saturating_sub.ensures) in
-    let points = subst P (sym e.place) (before-points es c.args.number c.in_ok-place.place e.valid.apart (sym c.in_ok-place.ensures.place)) in
+    let P : Option ℕ → Type 0 = λ o. IfSome o (λ q. slice_get (keys_of es) (c.args.index - 1) ≡ Some q) in
+    let below : c.args.index - 1 ≡ c.saturating_sub.result = omega (arith, c.saturating_sub.ensures) in
+    let points = subst P (sym e.place) (before-points es c.args.index c.in_ok-place.place e.valid.apart (sym c.in_ok-place.ensures.place)) in
     let Q : List (ℕ × g.row.T.Denot) → Type 0 = λ l. IsFinger (keys_of l) c.pointing.result in
     let new = c.pointing.ensures (keys_of es) (subst (λ n. IfSome c.prev_idx-before.result (λ q. slice_get (keys_of es) n ≡ Some q)) below points) in
     (c.self.invariant.0, c.set_down.ensures _ (subst Q (sym (ap (λ l. l.entries) c.self.view_is)) new) c.self.invariant.1)

@@ -5,8 +5,8 @@ use Rattle.clru_list.proofs.list.FixedSizeList.walk_up.Given as goal
 abbrev pub invariant-loop-at : goal.invariant-loop-at
 invariant-loop-at g l = record {
   here : slice_get (keys_of l.self.entries) l.at ≡ Some l.place;
-  before : l.at ≤ l.number;
+  before : l.at ≤ l.index;
 }
 
 abbrev pub decreases-loop-at : goal.decreases-loop-at
-decreases-loop-at g l = l.number - l.at
+decreases-loop-at g l = l.index - l.at

@@ -12,7 +12,7 @@ points None same = tt
 points (Some q) same = sym same
 
 module _ {T : Type 0} where
-  -- the entry at a place with a number
+  -- the entry at a place with an index
   pub entry-of : (es : List (ℕ × T)) (k p : ℕ) → slice_get (keys_of es) k ≡ Some p → (x : T) × (slice_get es k ≡ Some (p, x))
   entry-of es k p at =
       let within = slice_get_within (keys_of es) k p at in
@@ -21,13 +21,13 @@ module _ {T : Type 0} where
       let same : found.0.0 ≡ p = cc in
       (found.0.1, found.1 ∙ ap (λ q. Some (q, found.0.1)) same)
 
-  -- behind it stands the next number
+  -- behind it stands the next index
   pub place_after-at : (es : List (ℕ × T)) (k p : ℕ) → IsApart es → slice_get (keys_of es) k ≡ Some p → place_after p es ≡ slice_get (keys_of es) (k + 1)
   place_after-at es k p apart at =
       let e = entry-of es k p at in let next : suc k ≡ k + 1 = omega arith in
       place_after-entry es k (p, e.0) apart e.1 ∙ ap (slice_get (keys_of es)) next
 
-  -- before it the number below
+  -- before it the index below
   pub place_before-at : (es : List (ℕ × T)) (k p : ℕ) → IsApart es → 0 < k → slice_get (keys_of es) k ≡ Some p
       → place_before p es ≡ slice_get (keys_of es) (k - 1)
   place_before-at es k p apart more at =
@@ -49,7 +49,7 @@ module _ {T : Type 0} where
   before-points es zero p apart at = rw (place_before-first es p at) tt
   before-points es (suc k) p apart at = points (place_before p es) (place_before-at es (suc k) p apart (omega arith) at)
 
--- past a number that nothing has, nothing is
+-- past an index that nothing has, nothing is
 pub none-past : {X : Type 0} (xs : List X) (j k : ℕ) → slice_get xs j ≡ None → j ≤ k → slice_get xs k ≡ None
 none-past [] j k none le = refl
 none-past (x ∷ xs) zero k none le = cc
