@@ -4,7 +4,7 @@ use Rattle.std.specs.Iterator.{Drains, YieldsThen}
 use Rattle.std.specs.List.{FoldsTo}
 use Rattle.clru_model.specs.Entries.{plain_put}
 use Rattle.clru.specs.Cache.{Cache, cache}
-use Rattle.clru.specs.Memory.{NeedsPlace, GrowsOnlyIf}
+use Rattle.clru.specs.Memory.{NeedsPlace, Accepts, RefusesForMemory}
 
 module _ {K V : Type 0} (eq : K → K → Bool) (c : ℕ) where
   -- the entries after a plain put of each of the pairs in turn, under the capacity c
@@ -14,15 +14,12 @@ module _ {K V : Type 0} (eq : K → K → Bool) (c : ℕ) where
 
 module _ {K V W : Type 0} (eq : K → K → Bool) where
   -- a put of the pair e that succeeded
-  pub record PutStep (old : Cache K V W) (e : K × V) (new : Cache K V W) : Type 0 where
-    pub entries : new.entries ≡ plain_put eq old.capacity e.0 e.1 old.entries
-    pub places : GrowsOnlyIf (NeedsPlace eq old e.0) old new
+  abbrev pub PutStep : Cache K V W → K × V → Cache K V W → Type 0
+  PutStep old e new = Accepts (NeedsPlace eq old e.0) (plain_put eq old.capacity e.0 e.1 old.entries) old new
 
   -- a put of the pair e that was refused for memory
-  pub record PutRefused (old : Cache K V W) (e : K × V) (new : Cache K V W) : Type 0 where
-    pub needs : NeedsPlace eq old e.0
-    pub entries : new.entries ≡ old.entries
-    pub places : GrowsOnlyIf (NeedsPlace eq old e.0) old new
+  abbrev pub PutRefused : Cache K V W → K × V → Cache K V W → Type 0
+  PutRefused old e new = RefusesForMemory (NeedsPlace eq old e.0) old new
 
   -- the pairs' puts, one after the other, each of which succeeded
   abbrev pub PutsAll : Cache K V W → List (K × V) → Cache K V W → Type 0

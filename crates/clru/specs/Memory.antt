@@ -1,5 +1,5 @@
--- When a put may be refused for memory, and what becomes of the places. Public clauses cite it.
-use Rattle.std.specs.Prelude.{◌≡◌, ℕ, ◌+◌, ◌<◌, ◌≤◌, Bool, length, None}
+-- What a put leaves: when it may be refused for memory, and what becomes of the places. Public clauses cite it.
+use Rattle.std.specs.Prelude.{◌≡◌, ℕ, ◌+◌, ◌<◌, ◌≤◌, Bool, List, length, None}
 use Rattle.std.specs.Map.{lookup}
 use Rattle.clru_model.specs.Entries.{size_of}
 use Rattle.clru.specs.Cache.{Cache}
@@ -27,3 +27,14 @@ module _ {K V W : Type 0} where
     pub stays : (needed → ⊥) → new.places ≡ old.places
     pub bounded : needed → new.places ≤ new.capacity
     pub covers : length new.entries ≤ new.places
+
+  -- a put that went in, after which the entries are es
+  pub record Accepts (needed : Type 0) (es : List (K × V)) (old new : Cache K V W) : Type 0 where
+    pub entries : new.entries ≡ es
+    pub places : GrowsOnlyIf needed old new
+
+  -- a put that was refused for memory: the entries stay
+  pub record RefusesForMemory (needed : Type 0) (old new : Cache K V W) : Type 0 where
+    pub needs : needed
+    pub entries : new.entries ≡ old.entries
+    pub places : GrowsOnlyIf needed old new

@@ -2,12 +2,12 @@
 //!
 //! Each key has a head, which its hash picks, and the places of the keys of one head are linked to a chain. Clauses of
 //! private steps name places, heads and links; those of public calls speak of the pairs alone.
-ghost use Rattle.std.specs.Prelude.{◌≡◌, ◌<◌, ◌^◌, min, length, None, IfOk, IfErr, IsOk, OnOk, IfSome, IfNone, option_copied};
+ghost use Rattle.std.specs.Prelude.{◌≡◌, ◌<◌, ◌≤◌, ◌^◌, min, length, None, IfOk, IfErr, IsOk, OnOk, IfSome, IfNone, option_copied};
 ghost use Rattle.std.specs.List.{IsDistinct};
 ghost use Rattle.std.specs.Map.{keys_of, lookup, lookup_entry};
 ghost use Rattle.clru_list.specs.PlaceList.{IsValid};
 ghost use Rattle.clru_nodes.specs.Heads.{key_at, IsAt, IsChainedAs};
-ghost use Rattle.clru_nodes.specs.Nodes.{hash_of, pairs_of, pairs_in, builder_of, IsIndexed, IsEmpty};
+ghost use Rattle.clru_nodes.specs.Nodes.{hash_of, pairs_of, pairs_in, capacity_of, places_of, builder_of, IsIndexed, IsEmpty};
 
 use crate::heads::{Heads, NARROW};
 use crate::nodes::growth::heads_for;
@@ -16,11 +16,9 @@ use std::alloc::Allocator;
 use std::hash::{BuildHasher, Hash};
 
 mod chains;
-mod clear;
 mod front;
 mod growth;
 mod moves;
-mod resize;
 mod retain;
 mod walk;
 
@@ -107,6 +105,19 @@ impl<K: Eq + Hash, V, S: BuildHasher, A: Allocator + Copy> Nodes<K, V, S, A> {
         ensures { result ≡ length (pairs_in self.now) }
     {
         self.list.len()
+    }
+
+    /// Sets the most pairs that the nodes may hold. Pairs and places stay, also where the places are more.
+    pub fn resize(&mut self, capacity: usize)
+        requires fits { length (pairs_in self.old) ≤ capacity }
+        requires indexed { IsIndexed (hash_of K.Hash S.BuildHasher S.Hasher.Hasher) self.old }
+        ensures capacity { capacity_of self.new ≡ capacity }
+        ensures pairs { pairs_in self.new ≡ pairs_in self.old }
+        ensures places { places_of self.new ≡ places_of self.old }
+        ensures builder { builder_of self.new ≡ builder_of self.old }
+        ensures indexed { IsIndexed (hash_of K.Hash S.BuildHasher S.Hasher.Hasher) self.new }
+    {
+        self.list.resize(capacity);
     }
 
     /// Returns the hash of a key.

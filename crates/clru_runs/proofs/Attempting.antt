@@ -70,6 +70,6 @@ module _ {P M K V : Type 0} (p : Mut P (Bor K × (Attempt V × Unit {0})) (Resul
         → IfNoMemory r (λ back. back ≡ (x, attempt)) → IfNoMemory r (λ _. NeedsPlace eq old x)
         → MatchTryPutError r (new.entries ≡ old.entries) (λ f. FailsToPutOrModify p m (lookup_entry (eq x) old.entries) put modify x attempt f old.entries
         (λ v. plain_put eq old.capacity x v old.entries) new.entries) → TryPuts eq old x attempt (Err r) new
-    refused_by (Store w) (NoMemory k d) stores writes back needs same = record { needs = needs; comes_back = back; entries = same; places = grows }
-    refused_by (Fail left) (NoMemory k d) stores writes back needs same = record { needs = needs; comes_back = back; entries = same; places = grows }
+    refused_by (Store w) (NoMemory k d) stores writes back needs same = (back, record { needs = needs; entries = same; places = grows })
+    refused_by (Fail left) (NoMemory k d) stores writes back needs same = (back, record { needs = needs; entries = same; places = grows })
     refused_by attempt (Failed f) stores writes back needs fails = failed_by attempt f stores writes (lookup_entry (eq x) old.entries) refl fails

@@ -42,21 +42,21 @@ module _ {K V W : Type 0} (eq : K → K → Bool) (laws : IsEquivalence eq) wher
   put_step x (Put y v) (Stored (Ok out)) old new short is step =
       let same : step.0 ≡ Ok out = cc in
       let accepts = rw same at step.2 in
-      rw is (plain_step y v old new accepts.entries accepts.places.capacity)
+      rw is (plain_step y v old new accepts.1.entries accepts.1.places.capacity)
   put_step x (PutOrModify y v) (Lent (Ok value)) old new short is step =
       let same : step.0 ≡ Ok value = cc in
       let accepts = rw same at step.2 in
-      rw is (plain_step y v old new accepts.entries accepts.places.capacity)
+      rw is (plain_step y v old new accepts.1.entries accepts.1.places.capacity)
   put_step x (TryPutOrModify y (Store v)) (Tried (Ok value)) old new short is step =
       let same : step.0 ≡ Ok value = cc in
       let accepts = rw same at step.2 in
-      rw is (plain_step y v old new accepts.entries accepts.places.capacity)
+      rw is (plain_step y v old new accepts.1.entries accepts.1.places.capacity)
   put_step x (Any (PutWithWeight y v)) (Weighed (Ok out)) old new short is step =
       let same : step.0 ≡ Ok out = cc in
       let accepts = rw same at step.2 in
       rw is (record {
-        put = IsPut-weightless eq laws old.capacity y v old.entries new.entries (λ _ _. 0) (λ _ _. refl) short accepts.1.entries;
-        capacity = accepts.1.places.capacity;
+        put = IsPut-weightless eq laws old.capacity y v old.entries new.entries (λ _ _. 0) (λ _ _. refl) short accepts.1.1.entries;
+        capacity = accepts.1.1.places.capacity;
       })
   put_step x call answer old new short is step = absurd is
 

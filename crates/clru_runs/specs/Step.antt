@@ -7,9 +7,9 @@ use Rattle.clru_model.specs.declared.error.PutError.TheVariants.{TooHeavy, NoMem
 use Rattle.clru_model.specs.declared.error.TryPutError.{TryPutError}
 use Rattle.clru_model.specs.declared.error.TryPutError.TheVariants as try
 use Rattle.clru.specs.Cache.{Cache, cache, with_entries}
-use Rattle.clru.specs.Collecting.{PutsAll, PutRefused}
+use Rattle.clru.specs.Collecting.{PutsAll, PutStep, PutRefused}
 use Rattle.clru.specs.Entries.{without, touch, fit, plain_put, plain_drop, weighted_put, weighted_drops, weight_of, size_of, with_value_at}
-use Rattle.clru.specs.Memory.{GrowsOnlyIf, NeedsPlace, NeedsPlaceFor}
+use Rattle.clru.specs.Memory.{GrowsOnlyIf, NeedsPlace, NeedsPlaceFor, Accepts, RefusesForMemory}
 use Rattle.clru.specs.declared.cache.answer.Put as stored
 use Rattle.clru_runs.specs.declared.call.Answer.{Answer}
 use Rattle.clru_runs.specs.declared.call.Answer.TheVariants.{Stored, Weighed, Lent, Tried, Extended, Value, Pair, Number, Flag, Done}
@@ -32,35 +32,12 @@ module _ {K V W : Type 0} where
   abbrev pub Tells : {R : Type 0} → (R → Answer K V) → (R → Cache K V W → Type 0) → Answer K V → Cache K V W → Type 0
   Tells {R} tells Holds answer new = (result : R) × (answer ≡ tells result) × Holds result new
 
-  -- a pair came in: the put hands this out, the entries are es, and a place is found only where one is needed
-  pub record Accepts {R : Type 0} (needed : Type 0) (this : R) (es : List (K × V))
-      (old : Cache K V W) (out : R) (new : Cache K V W) : Type 0 where
-    pub hands_out : out ≡ this
-    pub entries : new.entries ≡ es
-    pub places : GrowsOnlyIf needed old new
-
-  -- memory was refused, which may be only where a place is needed: the pair comes back, and the entries stay
-  pub record RefusesForMemory {T : Type 0} (needed : Type 0) (pair : K × T)
-      (old : Cache K V W) (back : K × T) (new : Cache K V W) : Type 0 where
-    pub needs : needed
-    pub comes_back : back ≡ pair
-    pub entries : new.entries ≡ old.entries
-    pub places : GrowsOnlyIf needed old new
-
-  -- the pair weighs as much as the capacity or more: it comes back, and nothing changes
-  pub record RefusesAsTooHeavy (weight : ℕ) (pair : K × V)
-      (old : Cache K V W) (back : K × V) (new : Cache K V W) : Type 0 where
-    pub heavy : old.capacity ≤ weight
-    pub comes_back : back ≡ pair
-    pub same : new ≡ old
-
   module _ (eq : K → K → Bool) where
     module _ (old : Cache K V W) (x : K) (v : V) where
       -- a plain put, which hands this out
       abbrev pub PlainPuts : {R : Type 0} → R → Result R (K × V) → Cache K V W → Type 0
-      PlainPuts this (Ok out) new = Accepts (NeedsPlace eq old x)
-          this (plain_put eq old.capacity x v old.entries) old out new
-      PlainPuts this (Err back) new = RefusesForMemory (NeedsPlace eq old x) (x, v) old back new
+      PlainPuts this (Ok out) new = (out ≡ this) × PutStep eq old (x, v) new
+      PlainPuts this (Err back) new = (back ≡ (x, v)) × PutRefused eq old (x, v) new
 
       -- what it hands out: the value of x that it replaces, and the pair that it drops
       abbrev pub stores : stored.Put K V
@@ -81,11 +58,10 @@ module _ {K V W : Type 0} where
 
       -- a put-or-modify whose closures may fail: where they do, the entry of a held key comes first, with what was written
       abbrev pub TryPuts : Attempt V → Result V (TryPutError K (Attempt V) (Unit {0})) → Cache K V W → Type 0
-      TryPuts (Store v) (Ok out) new = Accepts (NeedsPlace eq old x)
-          v (plain_put eq old.capacity x v old.entries) old out new
+      TryPuts (Store v) (Ok out) new = (out ≡ v) × PutStep eq old (x, v) new
       TryPuts (Fail left) (Ok out) new = ⊥
-      TryPuts attempt (Err (try.NoMemory k back)) new = RefusesForMemory (NeedsPlace eq old x)
-          (x, attempt) old (k, back) new
+      TryPuts attempt (Err (try.NoMemory k back)) new = ((k, back) ≡ (x, attempt))
+          × RefusesForMemory (NeedsPlace eq old x) old new
       TryPuts (Store v) (Err (try.Failed f)) new = ⊥
       TryPuts (Fail left) (Err (try.Failed f)) new = (new.entries ≡ touch eq x (written left))
           × GrowsOnlyIf (NeedsPlace eq old x) old new
@@ -102,10 +78,11 @@ module _ {K V W : Type 0} where
 
       -- a weighted put
       abbrev pub WeightedPuts : Result (Weighing K V) (PutError K V) → Cache K V W → Type 0
-      WeightedPuts (Ok out) new = (weight x v < old.capacity) × Accepts (NeedsPlaceFor eq weight old x v)
-          weighs (weighted_put eq weight old.capacity x v old.entries) old out new
-      WeightedPuts (Err (TooHeavy k w)) new = RefusesAsTooHeavy (weight x v) (x, v) old (k, w) new
-      WeightedPuts (Err (NoMemory k w)) new = RefusesForMemory (NeedsPlaceFor eq weight old x v) (x, v) old (k, w) new
+      WeightedPuts (Ok out) new = (weight x v < old.capacity) × (out ≡ weighs)
+          × Accepts (NeedsPlaceFor eq weight old x v) (weighted_put eq weight old.capacity x v old.entries) old new
+      WeightedPuts (Err (TooHeavy k w)) new = (old.capacity ≤ weight x v) × ((k, w) ≡ (x, v)) × (new ≡ old)
+      WeightedPuts (Err (NoMemory k w)) new = ((k, w) ≡ (x, v))
+          × RefusesForMemory (NeedsPlaceFor eq weight old x v) old new
 
     -- a call of a cache by any scale, one line for each
     abbrev pub Step : (W → K → V → ℕ) → Cache K V W → Call K V → Answer K V → Cache K V W → Type 0

@@ -1,5 +1,5 @@
 //! The calls that move pairs, take them out and put them in.
-ghost use Rattle.std.specs.Prelude.{◌≡◌, ◌-◌, ◌<◌, ◌≤◌, ◌∷◌, Some, length, drop, take, is_some, slice_get};
+ghost use Rattle.std.specs.Prelude.{◌≡◌, [], ◌-◌, ◌<◌, ◌≤◌, ◌∷◌, Some, length, drop, take, is_some, slice_get};
 ghost use Rattle.std.specs.List.{IsDistinct};
 ghost use Rattle.std.specs.Map.{keys_of, lookup, lookup_entry};
 ghost use Rattle.clru_model.specs.Entries.{touch};
@@ -73,6 +73,20 @@ impl<K: Eq + Hash, V, S: BuildHasher, A: Allocator + Copy> Nodes<K, V, S, A> {
         let place = self.list.back_idx()?;
         let head = self.home(place);
         Some(self.remove(head, place))
+    }
+
+    /// Takes all pairs out. Places and heads stay.
+    pub fn clear(&mut self)
+    where
+        K: Drop,
+        V: Drop,
+        requires { IsIndexed (hash_of K.Hash S.BuildHasher S.Hasher.Hasher) self.old }
+        ensures none { pairs_in self.new ≡ [] }
+        ensures indexed { IsIndexed (hash_of K.Hash S.BuildHasher S.Hasher.Hasher) self.new }
+        ensures same { IsSame self.old self.new }
+    {
+        self.list.clear();
+        self.heads.clear();
     }
 
     /// Puts a pair with a new key, whose hash is given, to the front, where a place is ready.

@@ -7,7 +7,7 @@ returns-in-Ok g c =
     let ok : IsOk c.try_put_or_modify.result = rw c.in-Ok.is refl in
     let left = c.try_put_or_modify.follows.holds c.in-Ok.lent.now ok in
     let is = lent_by _ _ _ _ c.args.attempt (λ shown r put' called. search rules) (λ shown lent left r modify' called. search rules) _ _ c.in-Ok.ensures.called in
-    (Ok c.in-Ok.lent.now, refl, rw is (record { hands_out = refl; entries = left.0; places = left.1 }))
+    (Ok c.in-Ok.lent.now, refl, rw is (refl, record { entries = left.0; places = left.1 }))
 
 pub returns-in-Err : goal.returns-in-Err
 returns-in-Err g c =

@@ -10,10 +10,10 @@ returns-in-Ok g c =
     let lent = lends_data _ _ _ _ (λ shown r put' called. search rules) (λ shown lent left modify' called. search rules) c.in-Ok.ensures.called in
     let old = c.args.cache.now in
     let stored = ap (λ v. plain_put g.K.PartialEq.eq old.capacity c.args.key v old.entries) lent in
-    (Ok c.in-Ok.lent.now, refl, record { hands_out = lent; entries = left.0 ∙ stored; places = left.1 })
+    (Ok c.in-Ok.lent.now, refl, (lent, record { entries = left.0 ∙ stored; places = left.1 }))
 
 pub returns-in-Err : goal.returns-in-Err
 returns-in-Err g c =
     let left = rw c.in-Err.is at c.put_or_modify.follows.holds-at-none in
     let refused = c.in-Err.ensures in
-    (Err c.in-Err.back, refl, record { needs = refused.memory refl; comes_back = refused.refused; entries = left.0; places = left.1 })
+    (Err c.in-Err.back, refl, (refused.refused, record { needs = refused.memory refl; entries = left.0; places = left.1 }))
