@@ -60,8 +60,8 @@ module _ {K V W : Type 0} where
       abbrev pub TryPuts : Attempt V → Result V (TryPutError K (Attempt V) (Unit {0})) → Cache K V W → Type 0
       TryPuts (Store v) (Ok out) new = (out ≡ v) × PutStep eq old (x, v) new
       TryPuts (Fail left) (Ok out) new = ⊥
-      TryPuts attempt (Err (try.NoMemory k back)) new = ((k, back) ≡ (x, attempt))
-          × RefusesForMemory (NeedsPlace eq old x) old new
+      TryPuts attempt (Err (try.NoMemory k data)) new = let back : K × Attempt V = (k, data) in
+          (back ≡ (x, attempt)) × RefusesForMemory (NeedsPlace eq old x) old new
       TryPuts (Store v) (Err (try.Failed f)) new = ⊥
       TryPuts (Fail left) (Err (try.Failed f)) new = (new.entries ≡ touch eq x (written left))
           × GrowsOnlyIf (NeedsPlace eq old x) old new
@@ -80,9 +80,10 @@ module _ {K V W : Type 0} where
       abbrev pub WeightedPuts : Result (Weighing K V) (PutError K V) → Cache K V W → Type 0
       WeightedPuts (Ok out) new = (weight x v < old.capacity) × (out ≡ weighs)
           × Accepts (NeedsPlaceFor eq weight old x v) (weighted_put eq weight old.capacity x v old.entries) old new
-      WeightedPuts (Err (TooHeavy k w)) new = (old.capacity ≤ weight x v) × ((k, w) ≡ (x, v)) × (new ≡ old)
-      WeightedPuts (Err (NoMemory k w)) new = ((k, w) ≡ (x, v))
-          × RefusesForMemory (NeedsPlaceFor eq weight old x v) old new
+      WeightedPuts (Err (TooHeavy k w)) new = let back : K × V = (k, w) in
+          (old.capacity ≤ weight x v) × (back ≡ (x, v)) × (new ≡ old)
+      WeightedPuts (Err (NoMemory k w)) new = let back : K × V = (k, w) in
+          (back ≡ (x, v)) × RefusesForMemory (NeedsPlaceFor eq weight old x v) old new
 
     -- a call of a cache by any scale, one line for each
     abbrev pub Step : (W → K → V → ℕ) → Cache K V W → Call K V → Answer K V → Cache K V W → Type 0
