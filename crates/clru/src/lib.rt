@@ -7,8 +7,8 @@
 //! of places, for which memory was found. A put asks for memory only where its key is not held, no entry has to go and no
 //! place is free; where it is refused, it gives back what it was given and the entries stay.
 //!
-//! The entries lie in a linked list, in the order of recency, under a hash index with a chain for each head. A call costs one
-//! hash and a walk along one chain; a weighted put besides what it drops.
+//! The entries lie in a linked list, in the order of recency, under a hash index with a chain for each head, or bucket. A
+//! call costs one hash and a walk along one chain; a weighted put besides what it drops.
 #![tactic(auto)]
 
 mod cache;

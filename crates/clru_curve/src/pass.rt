@@ -66,8 +66,9 @@ impl<K: Eq + Hash, S: BuildHasher, A: Allocator + Copy> DistancePass<K, S, A> {
         }
     }
 
-    /// Takes one more request, and answers its distance: how many distinct keys were requested since the latest request of its
-    /// key, or `None` where there was none. It hits at the capacities above the distance, and at no other.
+    /// Takes one more request, and answers its distance, or stack distance: how many distinct keys were requested since the
+    /// latest request of its key, or `None` where there was none. It hits at the capacities above the distance, and at no
+    /// other.
     ///
     /// Where memory is refused, or there were `usize::MAX` requests, the key comes back and the pass has taken what it had. A
     /// key that was requested before wants memory at one of 64 requests at most. The cost is a look-up, and for a new key a

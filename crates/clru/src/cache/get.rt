@@ -16,7 +16,7 @@ impl<K: Eq + Hash, V, S: BuildHasher, W: WeightScale<K, V>, A> CLruCache<K, V, S
 where
     A: Allocator + Copy,
 {
-    /// Returns the value of the key, and makes its entry the most recently used.
+    /// Returns the value of the key, and makes its entry the most recently used: it promotes it.
     ///
     /// A look-up of a `String` key builds the key first: only keys are compared and hashed, so that each clause has one
     /// equality and one hash.

@@ -126,7 +126,8 @@ impl<K: Eq + Hash, V, S: BuildHasher, A: Allocator + Copy> CLruCache<K, V, S, Ze
     /// Puts a pair into the cache, and returns the old value of its key, and the pair that it drops. Its entry is then the
     /// most recently used; a held key stays as it was stored.
     ///
-    /// A new entry drops the least recently used one of a full cache. Where memory is refused, the pair comes back.
+    /// A new entry drops, or evicts, the least recently used one of a full cache. Where memory is refused, the pair comes
+    /// back.
     pub fn put(&mut self, key: K, value: V) -> Result<Put<K, V>, (K, V)>
     where
         K: Drop,
