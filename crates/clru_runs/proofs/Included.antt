@@ -39,10 +39,10 @@ module _ {K V W : Type 0} (eq : K → K → Bool) (weight : W → K → V → �
       let accepts = rw same at step.2 in
       let light : weight old.scale x v < old.capacity = accepts.0 in
       record {
-        entries = rw lt-ltb accepts.1.1.entries;
+        entries = rw lt-ltb accepts.2.entries;
         taken = light;
-        capacity = accepts.1.1.places.capacity;
-        scale = accepts.1.1.places.scale;
+        capacity = accepts.2.places.capacity;
+        scale = accepts.2.places.scale;
       }
   call_of_step (Pop x) answer old new keeps step = rw step.1 (record { entries = refl; taken = tt; capacity = refl; scale = refl })
   call_of_step PopBack answer old new keeps step = rw step.1 (record { entries = refl; taken = tt; capacity = refl; scale = refl })

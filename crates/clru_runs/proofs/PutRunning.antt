@@ -55,8 +55,8 @@ module _ {K V W : Type 0} (eq : K → K → Bool) (laws : IsEquivalence eq) wher
       let same : step.0 ≡ Ok out = cc in
       let accepts = rw same at step.2 in
       rw is (record {
-        put = IsPut-weightless eq laws old.capacity y v old.entries new.entries (λ _ _. 0) (λ _ _. refl) short accepts.1.1.entries;
-        capacity = accepts.1.1.places.capacity;
+        put = IsPut-weightless eq laws old.capacity y v old.entries new.entries (λ _ _. 0) (λ _ _. refl) short accepts.2.entries;
+        capacity = accepts.2.places.capacity;
       })
   put_step x call answer old new short is step = absurd is
 

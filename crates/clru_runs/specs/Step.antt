@@ -60,7 +60,7 @@ module _ {K V W : Type 0} where
       abbrev pub TryPuts : Attempt V → Result V (TryPutError K (Attempt V) (Unit {0})) → Cache K V W → Type 0
       TryPuts (Store v) (Ok out) new = (out ≡ v) × PutStep eq old (x, v) new
       TryPuts (Fail left) (Ok out) new = ⊥
-      TryPuts attempt (Err (try.NoMemory k data)) new = let back : K × Attempt V = (k, data) in
+      TryPuts attempt (Err (try.NoMemory k d)) new = let back : K × Attempt V = (k, d) in
           (back ≡ (x, attempt)) × RefusesForMemory (NeedsPlace eq old x) old new
       TryPuts (Store v) (Err (try.Failed f)) new = ⊥
       TryPuts (Fail left) (Err (try.Failed f)) new = (new.entries ≡ touch eq x (written left))
