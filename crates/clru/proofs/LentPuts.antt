@@ -1,8 +1,10 @@
--- What a plain put leaves that lends the value in front, at weight zero.
+-- What a plain put leaves that lends the value in front, at weight zero, and the call that changes it.
 use Rattle.std.proofs.Common.{◌≡◌, ℕ, ◌-◌, ◌<◌, Bool, Some, ◌∷◌, length, take, refl, sym, ap, ◌∙◌, arith}
 use Rattle.std.proofs.Math.Dec.{ltb}
 use Rattle.std.proofs.lemmas.Bool.{ltb-true, lt-ltb}
+use Rattle.std.specs.Borrow.{Bor, MutBor}
 use Rattle.std.specs.Cmp.{IsEquivalence}
+use Rattle.std.specs.Fn.{Mut, Called}
 use Rattle.clru_model.specs.Entries.{touch, plain_put, with_front}
 use Rattle.clru_model.proofs.Finding.{IsHeld, IsMissed, touch-missed, with_front-touch, plain_put-held, plain_put-missed}
 use Rattle.clru_nodes.specs.Growth.{GrowsIf}
@@ -11,10 +13,27 @@ use Rattle.clru_nodes.specs.declared.nodes.Item.{Item}
 use Rattle.clru_nodes.specs.declared.nodes.Nodes.{Nodes}
 use Rattle.clru_nodes.proofs.WrittenItems.{first_written, held_places}
 use Rattle.clru.specs.Cache.{Cache, cache}
+use Rattle.clru.specs.Closures.{CallsAtEntry}
 use Rattle.clru.specs.Fields.{IsCache}
 use Rattle.clru.specs.Memory.{GrowsOnlyIf, NeedsPlace}
 use Rattle.clru.proofs.Keeping.{IsKept-front, IsKept-new, IsCache-from}
 use Rattle.clru.proofs.Growth.{GrowsIf-along, grows_not, grows_if_needed, held_needs_none}
+
+module _ {M K V T R : Type 0} (g : Mut M (Bor K × (MutBor V × (T × Unit {0}))) (R × (MutBor V × Unit {0})))
+    (modify : M) where
+  -- a call of the modify operation on what an item shows is one at the pair that the item is
+  pub called_at : {shown : Bor K} {lent left : MutBor V} {e : K × V} {t : T} {r : R} {modify' : M}
+      → (shown.now, lent.now) ≡ e → Called g modify (shown, (lent, (t, tt))) (r, (left, tt)) modify'
+      → CallsAtEntry g modify e.0 e.1 t r left.now modify'
+  called_at same called = record {
+    shown = _;
+    lent = _;
+    left = _;
+    shows = ap (λ d. d.0) same;
+    lends = ap (λ d. d.1) same;
+    called = called;
+    leaves = refl;
+  }
 
 module _ {K V S A H W : Type 0} {eq : K → K → Bool} {hash : S → K → ℕ} {x : Nodes K V S A H} {kept c : ℕ} (key : K) (scale : W)
     (old : IsCache eq (λ k v. 0) hash x kept c) where

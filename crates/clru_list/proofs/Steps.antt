@@ -175,9 +175,10 @@ module _ {T : Type 0} (l : LinkMap T) (len capacity places allotted : ℕ) (i : 
     occupied_loose : IsLoose (occupied l x) (spot l) x i.0
     occupied_loose = occupy-loose l x i.0 i.1.linked i.1.held (λ e. omega (arith, free_room lt e, i.1.countable))
 
-    pub spot_below : spot l < (occupied l x).size
-    spot_below = let here = count-here (spot l) (keys_of i.0) in
-        below (occupied l x).next (occupied l x).item (occupied l x).free (occupied l x).size ((spot l, x) ∷ i.0) occupied_loose.held (spot l) (omega arith)
+    -- what any links that are so have: the place lies within them, and an end of the ring is an end of theirs
+    pub spot_below : {m : LinkMap T} {p : ℕ} → m ≡ occupied l x → p ≡ spot l → p < m.size
+    spot_below links place = let here = count-here (spot l) (keys_of i.0) in rw (links, place)
+        (below (occupied l x).next (occupied l x).item (occupied l x).free (occupied l x).size ((spot l, x) ∷ i.0) occupied_loose.held (spot l) (omega arith))
 
     occupied_within : (occupied l x).size ≤ places
     occupied_within = decide nowhere l.free
@@ -187,15 +188,15 @@ module _ {T : Type 0} (l : LinkMap T) (len capacity places allotted : ℕ) (i : 
         ]))
         (λ _ f. rw f i.1.within)
 
-    pub occupied_front : IsEnd (occupied l x) ((occupied l x).next nowhere)
-    occupied_front = let loose = occupied_loose in let P : ℕ → Type 0 = λ k. IsEnd (occupied l x) k in let first = first_or-counted nowhere (keys_of i.0) in
-        subst P (sym (front_is (occupied l x).next (occupied l x).prev (keys_of i.0) loose.linked))
-        (end_of (occupied l x).next (occupied l x).item (occupied l x).free (occupied l x).size ((spot l, x) ∷ i.0) loose.held (first_or nowhere (keys_of i.0)) (omega arith))
+    pub occupied_front : {m : LinkMap T} → m ≡ occupied l x → IsEnd m (m.next nowhere)
+    occupied_front links = let loose = occupied_loose in let P : ℕ → Type 0 = λ k. IsEnd (occupied l x) k in
+        let first = first_or-counted nowhere (keys_of i.0) in rw links (subst P (sym (front_is (occupied l x).next (occupied l x).prev (keys_of i.0) loose.linked))
+        (end_of (occupied l x).next (occupied l x).item (occupied l x).free (occupied l x).size ((spot l, x) ∷ i.0) loose.held (first_or nowhere (keys_of i.0)) (omega arith)))
 
-    pub occupied_back : IsEnd (occupied l x) ((occupied l x).prev nowhere)
-    occupied_back = let loose = occupied_loose in let P : ℕ → Type 0 = λ k. IsEnd (occupied l x) k in let last = last_or-counted nowhere (keys_of i.0) in
-        subst P (sym (back_is (occupied l x).next (occupied l x).prev (keys_of i.0) loose.linked))
-        (end_of (occupied l x).next (occupied l x).item (occupied l x).free (occupied l x).size ((spot l, x) ∷ i.0) loose.held (last_or nowhere (keys_of i.0)) (omega arith))
+    pub occupied_back : {m : LinkMap T} → m ≡ occupied l x → IsEnd m (m.prev nowhere)
+    occupied_back links = let loose = occupied_loose in let P : ℕ → Type 0 = λ k. IsEnd (occupied l x) k in
+        let last = last_or-counted nowhere (keys_of i.0) in rw links (subst P (sym (back_is (occupied l x).next (occupied l x).prev (keys_of i.0) loose.linked))
+        (end_of (occupied l x).next (occupied l x).item (occupied l x).free (occupied l x).size ((spot l, x) ∷ i.0) loose.held (last_or nowhere (keys_of i.0)) (omega arith)))
 
     -- the item is pushed to the front
     pub sound-push_front : len < capacity → IsSound (linked (occupied l x) nowhere (spot l) ((occupied l x).next nowhere)) (len + 1) capacity places allotted ((spot l, x) ∷ i.0)

@@ -35,7 +35,7 @@ module _ {X Y : Type 0} (eq : Y → Y → Bool) (view : X → Y) where
       ∙ ap (λ n. cond (holds same x earlier) n (suc n)) (distinct-map earlier)
 
   -- the views since the last request of one
-  since-map : (x : X) (past : List X) → since eq (view x) (map view past) ≡ map view (since same x past)
+  pub since-map : (x : X) (past : List X) → since eq (view x) (map view past) ≡ map view (since same x past)
   since-map x past =
       ap (λ n. take n (map view past)) (prefix_len-map (λ y. not (eq (view x) y)) past) ∙ take-map view _ past
 

@@ -1,10 +1,10 @@
 -- Requests by size that are compared by a view of them hit as their views do.
-use Rattle.std.proofs.Common.{◌≡◌, ℕ, ◌+◌, Bool, cond, not, ◌&&◌, List, [], ◌∷◌, map, reverse, take, nat_le, nat_lt, refl, sym, ap, ◌∙◌, arith}
-use Rattle.std.specs.List.{count_by, prefix_len}
-use Rattle.std.proofs.lemmas.List.{length-map, take-map}
+use Rattle.std.proofs.Common.{◌≡◌, ℕ, ◌+◌, Bool, cond, not, ◌&&◌, List, [], ◌∷◌, map, reverse, nat_le, nat_lt, refl, sym, ap, ◌∙◌, arith}
+use Rattle.std.specs.List.{count_by}
+use Rattle.std.proofs.lemmas.List.{length-map}
 use Rattle.std.proofs.lemmas.List.Sums.{sum_by-cons}
 use Rattle.clru_curve.specs.SizedCurves.{CurveBySize, IsSizedCurveOf, greatest_of, size_of_all}
-use Rattle.clru_model.proofs.Views.{same, distinct-map, holds-map, map-reverse}
+use Rattle.clru_model.proofs.Views.{same, distinct-map, holds-map, map-reverse, since-map}
 use Rattle.clru_model.specs.Requests.{distinct, holds, since}
 use Rattle.clru_model.specs.Sizes.{total, hit_by_size, marks_by_size_after, missed_size_after}
 
@@ -12,15 +12,6 @@ module _ {X Y : Type 0} (eq : Y → Y → Bool) (weight : Y → ℕ) (view : X �
   -- a request weighs what its view does
   abbrev pub seen : X → ℕ
   seen x = weight (view x)
-
-  -- the views since the last request of one
-  prefix_len-view : (p : Y → Bool) (xs : List X) → prefix_len p (map view xs) ≡ prefix_len (λ x. p (view x)) xs
-  prefix_len-view p [] = refl
-  prefix_len-view p (x ∷ xs) = ap (λ n. cond (p (view x)) (1 + n) 0) (prefix_len-view p xs)
-
-  since-view : (x : X) (past : List X) → since eq (view x) (map view past) ≡ map view (since (same eq view) x past)
-  since-view x past =
-      ap (λ n. take n (map view past)) (prefix_len-view (λ y. not (eq (view x) y)) past) ∙ take-map view _ past
 
   -- the distinct views have the same size together
   total-view : (ks : List X) → total eq weight (map view ks) ≡ total (same eq view) seen ks
@@ -35,7 +26,7 @@ module _ {X Y : Type 0} (eq : Y → Y → Bool) (weight : Y → ℕ) (view : X �
     hit-view past x =
         ap (λ b. b && nat_le (1 + weight (view x) + total eq weight (since eq (view x) (map view past))) c) (holds-map eq view x past)
         ∙ ap (λ n. holds (same eq view) x past && nat_le (1 + weight (view x) + n) c)
-        (ap (total eq weight) (since-view x past) ∙ total-view (since (same eq view) x past))
+        (ap (total eq weight) (since-map eq view x past) ∙ total-view (since (same eq view) x past))
 
     marks-view : (past rs : List X)
         → marks_by_size_after eq weight c (map view past) (map view rs) ≡ marks_by_size_after (same eq view) seen c past rs

@@ -1,4 +1,4 @@
--- What is printed of a fault, and which of them come once the report is made. Public clauses cite them.
+-- What is printed of a fault, its exit status, and which come once the report is made. Public clauses cite them.
 use Rattle.std.specs.Prelude.{ℕ, List, Bool, true, false, ◌++◌, codes, decimal}
 use Rattle.clru_mrc.specs.declared.fault.Fault.{Fault}
 use Rattle.clru_mrc.specs.declared.fault.Fault.TheVariants.{Memory, Reading, Writing, Closed, NoSize, TooLarge, TooSmall}
@@ -13,6 +13,16 @@ fault_text (NoSize n) = codes "line " ++ (decimal n
 fault_text TooLarge = codes "the sizes of all lines add up to more than 18446744073709551615"
 fault_text (TooSmall n) = codes "--at names a capacity below the greatest size: name numbers from "
     ++ (decimal n ++ codes " on")
+
+-- the exit status of each
+abbrev pub status_of : Fault → ℕ
+status_of Memory = 3
+status_of Reading = 4
+status_of Writing = 5
+status_of Closed = 5
+status_of (NoSize n) = 6
+status_of TooLarge = 6
+status_of (TooSmall n) = 2
 
 -- the writer took a part of the report at most
 abbrev pub is_of_writing : Fault → Bool

@@ -1,6 +1,6 @@
 //! What can go wrong in a run, and the exit status of each.
-ghost use Rattle.std.specs.Prelude.{◌≡◌, ℕ, Err, IsOk, Some};
-ghost use Rattle.clru_mrc.specs.Faults.{fault_text};
+ghost use Rattle.std.specs.Prelude.{◌≡◌, IfErr, IsOk, Some};
+ghost use Rattle.clru_mrc.specs.Faults.{fault_text, status_of};
 
 use std::error::Error;
 use std::fmt;
@@ -53,13 +53,7 @@ impl Error for Fault {}
 /// The exit status of a run.
 pub fn exit_status(outcome: &Result<(), Fault>) -> u8
     ensures success { IsOk outcome.now → result ≡ 0 }
-    ensures memory { outcome.now ≡ Err Fault.Memory → result ≡ 3 }
-    ensures reading { outcome.now ≡ Err Fault.Reading → result ≡ 4 }
-    ensures writing { outcome.now ≡ Err Fault.Writing → result ≡ 5 }
-    ensures closed { outcome.now ≡ Err Fault.Closed → result ≡ 5 }
-    ensures no_size { (n : ℕ) → outcome.now ≡ Err (Fault.NoSize n) → result ≡ 6 }
-    ensures too_large { outcome.now ≡ Err Fault.TooLarge → result ≡ 6 }
-    ensures too_small { (n : ℕ) → outcome.now ≡ Err (Fault.TooSmall n) → result ≡ 2 }
+    ensures fault { IfErr outcome.now (λ f. result ≡ status_of f) }
 {
     match outcome {
         Ok(()) => 0,

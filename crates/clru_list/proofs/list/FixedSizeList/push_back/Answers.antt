@@ -1,6 +1,6 @@
-use Rattle.std.proofs.Common.{ℕ, ◌<◌, ◌∷◌, ◌++◌, [], sym, ◌∙◌, subst}
+use Rattle.std.proofs.Common.{◌∷◌, ◌++◌, [], sym, ◌∙◌}
 use Rattle.clru_list.specs.Places.{nowhere}
-use Rattle.clru_list.specs.Links.{LinkMap, links_of, linked, occupied, IsEnd}
+use Rattle.clru_list.specs.Links.{linked}
 use Rattle.clru_list.proofs.Soundness.{walk-is, valid_view}
 use Rattle.clru_list.proofs.Steps.{free_end, free_none, free_room, spot_below, occupied_back, sound-push_back}
 use Rattle.clru_list.proofs.Views.{seen_entries, has_room, sound-at}
@@ -21,15 +21,12 @@ occupy-place-requires-clause-room g c =
 pub link-requires-clause-place : goal.link-requires-clause-place
 link-requires-clause-place g c =
     let room = has_room _ _ _ _ _ c.self.invariant.0 _ c.self.view_is (c.in_ok-item.ensures.room, c.in_ok-item.ensures.below) in
-    let e = c.occupy-place.ensures in let l = links_of c.self.inside.links in let x = c.in_ok-item.item in
-    let P : LinkMap g.row.T.Denot → Type 0 = λ m. c.occupy-place.result < m.size in let Q : ℕ → Type 0 = λ k. k < (occupied l x).size in
-    subst P (sym e.links) (subst Q (sym e.place) (spot_below _ _ _ _ _ c.self.invariant.0 x room.0))
+    let e = c.occupy-place.ensures in spot_below _ _ _ _ _ c.self.invariant.0 c.in_ok-item.item room.0 e.links e.place
 
 pub link-requires-clause-prev : goal.link-requires-clause-prev
 link-requires-clause-prev g c =
     let room = has_room _ _ _ _ _ c.self.invariant.0 _ c.self.view_is (c.in_ok-item.ensures.room, c.in_ok-item.ensures.below) in
-    let P : LinkMap g.row.T.Denot → Type 0 = λ l. IsEnd l (l.prev nowhere) in
-    subst P (sym c.occupy-place.ensures.links) (occupied_back _ _ _ _ _ c.self.invariant.0 c.in_ok-item.item room.0)
+    occupied_back _ _ _ _ _ c.self.invariant.0 c.in_ok-item.item room.0 c.occupy-place.ensures.links
 
 abbrev pub invariant_of-self : goal.invariant_of-self
 invariant_of-self g c =

@@ -5,7 +5,7 @@ use Rattle.std.specs.NonZero.{non_zero_usize_get}
 use Rattle.clru_model.proofs.Finding.{held, missed, touch-missed, touch-held}
 use Rattle.clru_nodes.specs.Nodes.{pairs_in}
 use Rattle.clru_nodes.proofs.WrittenItems.{first_pair}
-use Rattle.clru.proofs.LentPuts.{lent_held, lent_new, ready_new}
+use Rattle.clru.proofs.LentPuts.{called_at, lent_held, lent_new, ready_new}
 use Rattle.clru.proofs.cache.modify.CLruCache+K+V+S+ZeroWeightScale+A.put_or_modify.Goals as goal
 
 no : false ≡ true → ⊥
@@ -33,18 +33,7 @@ returns-then-touch g c =
       (refl, λ w _. ((lent w).entries, (lent w).grows), tt),
       record {
         lends = tt;
-        called = rw h.looked_up (
-          c.modify_op.new.self,
-          record {
-            shown = _;
-            lent = _;
-            left = _;
-            shows = ap (λ d. d.0) same;
-            lends = ap (λ d. d.1) same;
-            called = c.modify_op.ensures;
-            leaves = refl;
-          },
-        );
+        called = rw h.looked_up (c.modify_op.new.self, called_at g.M.FnMut c.args.modify_op same c.modify_op.ensures);
         refused = tt;
         memory = λ h. cc;
       },
@@ -53,7 +42,7 @@ returns-then-touch g c =
 pub invariant_of-self : goal.invariant_of-self
 invariant_of-self g c =
     let eq = g.K.PartialEq.eq in let key = c.args.key in let e = c.touch.ensures in let o = c.in_default.ensures in
-    let m = missed (eq key) c.if-touch.ensures.held in let before = e.pairs ∙ touch-missed eq key m in
+    let m = missed (eq key) c.if-touch.ensures.held in
     let ready = ready_new key c.self.inside.scale c.self.invariant m e.pairs e.same c.len.ensures c.get.ensures.value o.grows o.keeps o.indexed in
     ready.keeps
 
@@ -87,7 +76,7 @@ put_op-value-requires g c =
 pub invariant_of-self-lent-2 : goal.invariant_of-self-lent-2
 invariant_of-self-lent-2 g c =
     λ w. let eq = g.K.PartialEq.eq in let key = c.args.key in let e = c.touch.ensures in let o = c.in-Ok.ensures in
-    let m = missed (eq key) c.if-touch.ensures.held in let before = e.pairs ∙ touch-missed eq key m in
+    let m = missed (eq key) c.if-touch.ensures.held in
     let ready = ready_new key c.self.inside.scale c.self.invariant m e.pairs e.same c.len.ensures c.get.ensures.value o.grows o.keeps o.indexed in
     let p = c.put_front.ensures in
     (lent_new key c.self.inside.scale c.self.invariant g.met.K.Eq.laws m ready (omega (arith, c.get.ensures.nonzero, c.get.ensures.value))
@@ -96,7 +85,7 @@ invariant_of-self-lent-2 g c =
 pub returns : goal.returns
 returns g c =
     let eq = g.K.PartialEq.eq in let key = c.args.key in let e = c.touch.ensures in let o = c.in-Ok.ensures in
-    let m = missed (eq key) c.if-touch.ensures.held in let before = e.pairs ∙ touch-missed eq key m in
+    let m = missed (eq key) c.if-touch.ensures.held in
     let ready = ready_new key c.self.inside.scale c.self.invariant m e.pairs e.same c.len.ensures c.get.ensures.value o.grows o.keeps o.indexed in
     let p = c.put_front.ensures in let first = c.front_item.ensures.first in
     let lent = lent_new key c.self.inside.scale c.self.invariant g.met.K.Eq.laws m ready (omega (arith, c.get.ensures.nonzero, c.get.ensures.value))

@@ -5,7 +5,7 @@ use Rattle.std.specs.NonZero.{non_zero_usize_get}
 use Rattle.clru_model.proofs.Finding.{held, missed, touch-missed, touch-held, plain_put-held}
 use Rattle.clru_nodes.specs.Nodes.{pairs_in}
 use Rattle.clru_nodes.proofs.WrittenItems.{first_pair}
-use Rattle.clru.proofs.LentPuts.{lent_held, lent_new, ready_new}
+use Rattle.clru.proofs.LentPuts.{called_at, lent_held, lent_new, ready_new}
 use Rattle.clru.proofs.cache.modify.CLruCache+K+V+S+ZeroWeightScale+A.try_put_or_modify.Goals as goal
 
 no : false ≡ true → ⊥
@@ -38,15 +38,7 @@ returns-in-Err g c =
           rw h.looked_up (
             c.modify_op.new.arg3,
             c.modify_op.new.self,
-            record {
-              shown = _;
-              lent = _;
-              left = _;
-              shows = ap (λ d. d.0) same;
-              lends = ap (λ d. d.1) same;
-              called = c.in-Err.ensures;
-              leaves = refl;
-            },
+            called_at g.M.FnMut c.args.modify_op same c.in-Err.ensures,
             lent.entries ∙ plain_put-held eq key h _ _,
           ),
           lent.grows,
@@ -71,18 +63,7 @@ returns-then-touch g c =
       (refl, λ w _. ((lent w).entries, (lent w).grows), tt),
       record {
         lends = tt;
-        called = rw h.looked_up (
-          c.modify_op.new.self,
-          record {
-            shown = _;
-            lent = _;
-            left = _;
-            shows = ap (λ d. d.0) same;
-            lends = ap (λ d. d.1) same;
-            called = c.in_default.ensures;
-            leaves = refl;
-          },
-        );
+        called = rw h.looked_up (c.modify_op.new.self, called_at g.M.FnMut c.args.modify_op same c.in_default.ensures);
         refused = tt;
         memory = tt;
       },
