@@ -1,5 +1,5 @@
 -- The text of a table. Public clauses cite it.
-use Rattle.std.specs.Prelude.{ℕ, ◌+◌, ◌*◌, ◌/◌, ◌%◌, Bool, List, ◌++◌, Option, None, Some, flat_map, codes, decimal, max, if◌then◌else◌}
+use Rattle.std.specs.Prelude.{ℕ, ◌≡◌, ◌+◌, ◌*◌, ◌/◌, ◌%◌, Bool, List, ◌++◌, Option, None, Some, flat_map, codes, decimal, max, if◌then◌else◌}
 use Rattle.std.specs.Int.NonZero.{non_zero_usize_get}
 use Rattle.clru_mrc.specs.declared.rows.Row.{Row}
 
@@ -37,3 +37,7 @@ table_text least requests rows = header_line least ++ flat_map (row_line request
 abbrev pub summary_text : ℕ → ℕ → ℕ → List ℕ
 summary_text requests distinct bytes = codes "requests,distinct_keys,input_bytes\n" ++ (decimal requests ++ (codes ","
     ++ (decimal distinct ++ (codes "," ++ (decimal bytes ++ codes "\n")))))
+
+-- a picture holds its table, letter by letter
+abbrev pub HasTable : List ℕ → List ℕ → Type 0
+HasTable table text = (before : List ℕ) × (after : List ℕ) × (text ≡ before ++ (table ++ after))

@@ -1,5 +1,6 @@
 //! The picture of a curve, in SVG.
-ghost use Rattle.std.specs.Prelude.{◌≡◌, ◌++◌, ℕ, List, IfOk, string_bytes};
+ghost use Rattle.std.specs.Prelude.{IfOk, string_bytes};
+ghost use Rattle.clru_mrc.specs.Tables.{HasTable};
 
 mod axes;
 mod by_keys;
@@ -26,8 +27,7 @@ pub(crate) fn picture_of<A: Allocator + Copy>(
     plot: &Plot<A>,
     table: &str,
 ) -> Result<String<A>, AllocError>
-    ensures { IfOk result (λ text. (before : List ℕ) × (after : List ℕ)
-        × (string_bytes text ≡ before ++ (table.now ++ after))) }
+    ensures { IfOk result (λ text. HasTable table.now (string_bytes text)) }
 {
     let mut text = head(alloc)?;
     text.push_str(table)?;

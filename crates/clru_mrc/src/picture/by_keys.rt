@@ -1,5 +1,6 @@
 //! The picture where each key takes a place.
-ghost use Rattle.std.specs.Prelude.{◌≡◌, ◌++◌, ℕ, List, IfOk, string_bytes};
+ghost use Rattle.std.specs.Prelude.{IfOk, string_bytes};
+ghost use Rattle.clru_mrc.specs.Tables.{HasTable};
 
 use super::picture_of;
 use super::plot::{Line, Plot};
@@ -15,8 +16,7 @@ pub(crate) fn picture_by_keys<A: Allocator + Copy>(
     rows: &[Row],
     table: &str,
 ) -> Result<String<A>, AllocError>
-    ensures { IfOk result (λ text. (before : List ℕ) × (after : List ℕ)
-        × (string_bytes text ≡ before ++ (table.now ++ after))) }
+    ensures { IfOk result (λ text. HasTable table.now (string_bytes text)) }
 {
     let greatest = rows.iter().map(|row| row.capacity.get()).max();
     let mut lines = Vec::new(alloc);

@@ -1,6 +1,7 @@
 //! The picture by size.
-ghost use Rattle.std.specs.Prelude.{◌≡◌, ◌++◌, ℕ, List, IfOk, string_bytes};
+ghost use Rattle.std.specs.Prelude.{IfOk, string_bytes};
 ghost use Rattle.clru_mrc.specs.Passes.{IsSettled};
+ghost use Rattle.clru_mrc.specs.Tables.{HasTable};
 
 use super::capacities::first_capacity;
 use super::table::distinct_of;
@@ -18,8 +19,7 @@ pub(crate) fn picture_by_size<A: Allocator + Copy>(
     table: &str,
 ) -> Result<String<A>, AllocError>
     requires { IsSettled curve.now }
-    ensures { IfOk result (λ text. (before : List ℕ) × (after : List ℕ)
-        × (string_bytes text ≡ before ++ (table.now ++ after))) }
+    ensures { IfOk result (λ text. HasTable table.now (string_bytes text)) }
 {
     let first = first_capacity(curve);
     let last = curve.distinct_size().max(greatest_named(capacities));
