@@ -6,7 +6,7 @@ use Rattle.std.specs.Option.{option_map}
 use Rattle.clru_model.specs.declared.weight.ZeroWeightScale.{ZeroWeightScale}
 use Rattle.clru.specs.Cache.{Cache, with_entries}
 use Rattle.clru.specs.Walks.{IsAtStart, Passes, PassesBack, cursor_cache, cursor_rest, cursor_before, cursor_after}
-use Rattle.clru.specs.declared.iter.cursor.CLruCacheIterMut.{CLruCacheIterMut}
+use Rattle.clru.specs.declared.cursor.CLruCacheIterMut.{CLruCacheIterMut}
 use Rattle.clru.proofs.CallerLemmas.{last_of-push}
 
 -- the entries with f of each value

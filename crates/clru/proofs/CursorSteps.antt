@@ -4,7 +4,7 @@ use Rattle.std.proofs.lemmas.List.{length-take, length-drop, take_min}
 use Rattle.clru_model.specs.Entries.{with_value_at}
 use Rattle.clru_model.proofs.Ends.{last_of}
 use Rattle.clru.specs.Walks.{Passes, PassesBack, cursor_rest, last_index, stepped, stepped_back}
-use Rattle.clru.specs.declared.iter.cursor.CLruCacheIterMut.{CLruCacheIterMut}
+use Rattle.clru.specs.declared.cursor.CLruCacheIterMut.{CLruCacheIterMut}
 
 module _ {K V : Type 0} (k : K) (x v : V) where
   -- with v at the index i, where the stretch goes up to `end`

@@ -13,8 +13,8 @@ use Rattle.clru_model.specs.Entries.{with_value_at}
 use Rattle.clru.specs.Cache.{Cache, with_entries}
 use Rattle.clru.specs.Lends.{cache_row}
 use Rattle.clru.specs.Walks.{stepped, stepped_back}
-use Rattle.clru.specs.declared.iter.cursor.CLruCacheIterMut.{CLruCacheIterMut}
-use Rattle.clru.specs.contracts.iter.cursor.CLruCacheIterMut.{the_row}
+use Rattle.clru.specs.declared.cursor.CLruCacheIterMut.{CLruCacheIterMut}
+use Rattle.clru.specs.contracts.cursor.CLruCacheIterMut.{the_row}
 
 module _ (K V S A H : RattleType) (key : HashMembers K.Denot) (build : builder.Ghosts S.Denot H.Denot)
     (hash : hasher.Ghosts H.Denot) (heap : alloc.Ghosts A.Denot) where

@@ -4,7 +4,7 @@ use Rattle.std.specs.Borrow.{GName}
 use Rattle.clru_model.specs.declared.weight.ZeroWeightScale.{ZeroWeightScale}
 use Rattle.clru_model.specs.Entries.{with_value_at}
 use Rattle.clru.specs.Cache.{Cache, with_entries}
-use Rattle.clru.specs.declared.iter.cursor.CLruCacheIterMut.{CLruCacheIterMut}
+use Rattle.clru.specs.declared.cursor.CLruCacheIterMut.{CLruCacheIterMut}
 
 module _ {K V S A H : Type 0} where
   -- the cache, as it is now

@@ -10,7 +10,6 @@ use std::alloc::{AllocError, Allocator, Global};
 use std::iter::FusedIterator;
 use std::marker::Model;
 
-pub(crate) mod cursor;
 pub(crate) mod owned;
 
 /// The pairs of a cache, the most recently used first, seen as the list of those that are left.

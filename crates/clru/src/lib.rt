@@ -13,6 +13,7 @@
 
 mod cache;
 mod config;
+mod cursor;
 mod entry;
 mod iter;
 mod laws;
@@ -26,9 +27,9 @@ pub use clru_model::{
     law_inclusion, law_longest_fit, law_requests, law_schedules_by_position, law_sizes,
 };
 pub use config::CLruCacheConfig;
+pub use cursor::CLruCacheIterMut;
 pub use entry::EntryMut;
 pub use iter::CLruCacheIter;
-pub use iter::cursor::CLruCacheIterMut;
 pub use iter::owned::CLruCacheIntoIter;
 pub use laws::law_dropped;
 pub use replays::{Replay, replay};

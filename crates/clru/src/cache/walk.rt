@@ -6,8 +6,8 @@ ghost use Rattle.clru.specs.WalkLends.{lends_at};
 ghost use Rattle.clru.specs.Walks.{IsAtStart, cursor_name};
 
 use crate::cache::CLruCache;
+use crate::cursor::CLruCacheIterMut;
 use crate::iter::CLruCacheIter;
-use crate::iter::cursor::CLruCacheIterMut;
 use crate::iter::owned::CLruCacheIntoIter;
 use clru_model::{WeightScale, ZeroWeightScale};
 use std::alloc::Allocator;

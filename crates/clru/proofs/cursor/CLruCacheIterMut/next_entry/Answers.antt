@@ -1,6 +1,6 @@
 use Rattle.std.proofs.Common.{refl}
 use Rattle.clru.proofs.CursorSteps.{passes, first-left}
-use Rattle.clru.proofs.iter.cursor.CLruCacheIterMut.next_entry.Goals as goal
+use Rattle.clru.proofs.cursor.CLruCacheIterMut.next_entry.Goals as goal
 
 pub returns : goal.returns
 returns g c =

@@ -6,7 +6,7 @@ ghost use Rattle.std.specs.Option.{option_map, option_copied_mut};
 ghost use Rattle.clru.specs.WalkLends.{lends_next, lends_next_back, lends_next_if, lends_next_back_if};
 ghost use Rattle.clru.specs.Walks.{Passes, PassesBack, cursor_rest, stepped, stepped_back};
 
-use crate::iter::cursor::CLruCacheIterMut;
+use crate::cursor::CLruCacheIterMut;
 use std::alloc::Allocator;
 use std::hash::{BuildHasher, Hash};
 

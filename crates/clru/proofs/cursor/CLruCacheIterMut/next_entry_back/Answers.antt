@@ -1,7 +1,7 @@
 use Rattle.std.proofs.Common.{◌≡◌, ◌-◌, slice_get, refl, sym, ap, ◌∙◌, arith}
 use Rattle.clru.specs.Walks.{cache_with, last_index}
 use Rattle.clru.proofs.CursorSteps.{passes_back, last-left}
-use Rattle.clru.proofs.iter.cursor.CLruCacheIterMut.next_entry_back.Goals as goal
+use Rattle.clru.proofs.cursor.CLruCacheIterMut.next_entry_back.Goals as goal
 
 pub returns : goal.returns
 returns g c =
