@@ -1,6 +1,6 @@
-//! `FixedSizeList`: its makers, the calls that read it, and another capacity. A clause sees a list as its `entries`, its `capacity` and its
+//! `FixedSizeList`: its makers, and the calls that read it. A clause sees a list as its `entries`, its `capacity` and its
 //! `places`.
-ghost use Rattle.std.specs.Prelude.{◌≡◌, ◌<◌, ◌≤◌, ◌↔◌, ◌^◌, [], length, min, IfOk, OnOk, IsOk, IsTrue, option_copied, vec_capacity};
+ghost use Rattle.std.specs.Prelude.{◌≡◌, ◌<◌, ◌↔◌, ◌^◌, [], length, min, IfOk, OnOk, IsOk, IsTrue, option_copied, vec_capacity};
 ghost use Rattle.std.specs.Option.{option_map};
 ghost use Rattle.std.specs.Borrow.{sem};
 ghost use Rattle.clru_list.specs.Links.{place_of};
@@ -97,16 +97,6 @@ impl<T, A: Allocator + Copy> FixedSizeList<T, A> {
         ensures valid { IsValid self.now }
     {
         self.capacity
-    }
-
-    /// Sets the capacity. The items, their order and their places stay, and so does the number of places, which may be
-    /// above the new capacity. It takes no memory.
-    pub fn resize(&mut self, capacity: usize)
-        requires { length self.old.entries ≤ capacity }
-        ensures resized { self.new ≡ place_list self.old.entries capacity self.old.places }
-        ensures valid { IsValid self.new }
-    {
-        self.capacity = capacity;
     }
 
     /// Returns the number of items for which memory was found.

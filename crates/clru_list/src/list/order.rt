@@ -56,23 +56,24 @@ impl<T, A: Allocator + Copy> FixedSizeList<T, A> {
         Some(self.item_mut(place))
     }
 
-    fn item_mut(&mut self, place: usize) -> &mut T
+    /// Moves the item at a place, where one is, to the front. It keeps its place; where it is first already, nothing is written.
+    pub fn bring_front(&mut self, place: usize)
         requires { IsSome (item_at place self.old.entries) }
-        ensures* lends { sem 𝓛 (lends_held T.row A.row A.Allocator self.entry place result) }
-        ensures value { item_at place self.old.entries ≡ Some result.now }
-    {
-        self.links.nodes[place].item_mut()
-    }
-
-    // Where it is in front already nothing is written.
-    fn bring_front(&mut self, place: usize)
-        requires { IsSome (item_at place self.old.entries) }
-        ensures { self.new ≡ with_entries self.old (to_front place self.old.entries) }
+        ensures moved { self.new ≡ with_entries self.old (to_front place self.old.entries) }
+        ensures valid { IsValid self.new }
     {
         if self.links.front == place {
             return;
         }
         self.links.bring_front(place);
         self.fingers.clear();
+    }
+
+    fn item_mut(&mut self, place: usize) -> &mut T
+        requires { IsSome (item_at place self.old.entries) }
+        ensures* lends { sem 𝓛 (lends_held T.row A.row A.Allocator self.entry place result) }
+        ensures value { item_at place self.old.entries ≡ Some result.now }
+    {
+        self.links.nodes[place].item_mut()
     }
 }

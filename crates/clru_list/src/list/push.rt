@@ -1,6 +1,6 @@
-//! The calls that may ask for memory.
+//! Another capacity, and the calls that may ask for memory.
 ghost use Rattle.std.specs.Prelude.{◌≡◌, ◌<◌, ◌≤◌, ◌*◌, ◌∷◌, ◌++◌, [], min, max, length, IfOk, OnOk, IfErr, OnErr};
-ghost use Rattle.clru_list.specs.PlaceList.{IsValid, NeedsPlace};
+ghost use Rattle.clru_list.specs.PlaceList.{place_list, IsValid, NeedsPlace};
 ghost use Rattle.clru_list.specs.Pushes.{GrowsIfNeeded, Refuses};
 
 use crate::error::{NoMemory, PushError};
@@ -33,6 +33,16 @@ impl<T, A: Allocator + Copy> FixedSizeList<T, A> {
         };
         self.places = places;
         Ok(())
+    }
+
+    /// Sets the capacity. The items, their order and their places stay, and so does the number of places, which may be
+    /// above the new capacity. It takes no memory.
+    pub fn resize(&mut self, capacity: usize)
+        requires { length self.old.entries ≤ capacity }
+        ensures resized { self.new ≡ place_list self.old.entries capacity self.old.places }
+        ensures valid { IsValid self.new }
+    {
+        self.capacity = capacity;
     }
 
     /// Puts an item to the front, and returns its place: one that was free, or a new one.

@@ -28,10 +28,8 @@ impl<K: Eq + Hash, V, S: BuildHasher, A: Allocator + Copy> Nodes<K, V, S, A> {
         let Some(place) = self.find(hash, key) else {
             return false;
         };
-        match self.list.move_front(place) {
-            Some(_) => true,
-            None => unreachable!(),
-        }
+        self.list.bring_front(place);
+        true
     }
 
     /// Takes out the pair with the key, whose hash is given.

@@ -1,12 +1,15 @@
 use Rattle.std.proofs.Common.{sym, ◌∙◌}
-use Rattle.clru_list.proofs.Soundness.{view-is}
+use Rattle.clru_list.proofs.Soundness.{view-is, valid_view}
 use Rattle.clru_list.proofs.Steps.{place_below, prev_below, next_end, front_below, sound-moved}
-use Rattle.clru_list.proofs.Views.{held_item, seen_front_stays, seen_to_front, sound-at}
+use Rattle.clru_list.proofs.Views.{held_item, seen_front_stays, seen_to_front, seen_valid, sound-at}
 use Rattle.clru_list.proofs.Pointing.{pointed-none}
 use Rattle.clru_list.proofs.list.FixedSizeList.bring_front.Goals as goal
 
-pub returns-then-self-place : goal.returns-then-self-place
-returns-then-self-place g c = sym (seen_front_stays _ _ _ _ _ c.self.invariant.0 _ c.self.view_is c.args.place c.if-self-place.true)
+pub returns-then-self-place-clause-moved : goal.returns-then-self-place-clause-moved
+returns-then-self-place-clause-moved g c = sym (seen_front_stays _ _ _ _ _ c.self.invariant.0 _ c.self.view_is c.args.place c.if-self-place.true)
+
+pub returns-then-self-place-clause-valid : goal.returns-then-self-place-clause-valid
+returns-then-self-place-clause-valid g c = seen_valid _ _ _ _ _ c.self.invariant.0 _ c.self.view_is
 
 pub bring_front-requires-clause-place : goal.bring_front-requires-clause-place
 bring_front-requires-clause-place g c =
@@ -36,7 +39,10 @@ invariant_of-self g c =
       pointed-none _ _ c.clear.ensures,
     )
 
-pub returns : goal.returns
-returns g c =
+pub returns-clause-moved : goal.returns-clause-moved
+returns-clause-moved g c =
     let it = held_item _ _ _ _ _ c.self.invariant.0 _ c.self.view_is c.args.place c.requires in
     view-is _ _ _ _ _ _ (invariant_of-self g c).0.1 ∙ sym (seen_to_front _ _ _ _ _ c.self.invariant.0 _ c.self.view_is c.args.place it.0 it.1)
+
+pub returns-clause-valid : goal.returns-clause-valid
+returns-clause-valid g c = valid_view _ _ _ _ _ _ (invariant_of-self g c).0.1

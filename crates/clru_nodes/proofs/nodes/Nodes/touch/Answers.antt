@@ -1,7 +1,7 @@
-use Rattle.std.proofs.Common.{refl, sym}
+use Rattle.std.proofs.Common.{refl}
 use Rattle.clru_nodes.specs.Nodes.{pairs_of}
 use Rattle.clru_nodes.proofs.IndexedMoves.{indexed_front}
-use Rattle.clru_nodes.proofs.PlacedPairs.{found_item, no_value, touch_found}
+use Rattle.clru_nodes.proofs.PlacedPairs.{found_at, no_value, touch_found}
 use Rattle.clru_nodes.proofs.nodes.Nodes.touch.Goals as goal
 
 pub returns-in_default-clause-held : goal.returns-in_default-clause-held
@@ -10,15 +10,17 @@ returns-in_default-clause-held g c =
 
 pub returns-clause-held : goal.returns-clause-held
 returns-clause-held g c =
-    rw (found_item g.K.PartialEq.eq c.args.key.now g.met.K.Eq.laws c.requires.distinct c.in-Some.ensures.found c.in-Some-move_front.field-0.now
-    (sym c.in-Some-move_front.ensures.value)).value refl
+    let found = c.in-Some.ensures.found in
+    rw (found_at g.K.PartialEq.eq c.args.key.now g.met.K.Eq.laws c.in-Some.place c.args.self.now.list.entries c.requires.distinct found).value refl
 
 pub returns-clause-pairs : goal.returns-clause-pairs
 returns-clause-pairs g c =
-    touch_found g.K.PartialEq.eq c.args.key.now (found_item g.K.PartialEq.eq c.args.key.now g.met.K.Eq.laws c.requires.distinct c.in-Some.ensures.found
-    c.in-Some-move_front.field-0.now (sym c.in-Some-move_front.ensures.value))
+    let found = c.in-Some.ensures.found in let eq = g.K.PartialEq.eq in let key = c.args.key.now in
+    rw (c.bring_front.ensures.moved, found.held)
+    (touch_found eq key (found_at eq key g.met.K.Eq.laws c.in-Some.place c.args.self.now.list.entries c.requires.distinct found))
 
 pub returns-clause-indexed : goal.returns-clause-indexed
 returns-clause-indexed g c =
-    indexed_front c.in-Some.place c.in-Some-move_front.field-0.now c.requires.indexed c.find.ensures.valid.apart
-    (sym c.in-Some-move_front.ensures.value)
+    let found = c.in-Some.ensures.found in
+    rw (c.bring_front.ensures.moved, found.held)
+    (indexed_front c.in-Some.place found.item c.requires.indexed c.find.ensures.valid.apart found.held)
