@@ -39,14 +39,18 @@ fn places_stay_through_each_call(rt: HostRuntime) -> Result<(), Fail> {
     has(&rt, &list, &[(r, 3), (p, 7)]);
     equal!(rt; list.move_front(p).copied(), Some(7));
     has(&rt, &list, &[(p, 7), (r, 3)]);
-    // `equal!` tells the prover nothing, and `resize` asks that the items fit.
+    // `equal!` tells the prover nothing: `bring_front` asks that an item is there, and `resize` that the items fit.
+    if list.get(r).is_some() {
+        list.bring_front(r);
+    }
+    has(&rt, &list, &[(r, 3), (p, 7)]);
     if list.len() <= 2 {
         list.resize(2);
     }
     equal!(rt; (list.is_full(), list.capacity()), (true, 2));
-    has(&rt, &list, &[(p, 7), (r, 3)]);
+    has(&rt, &list, &[(r, 3), (p, 7)]);
     equal!(rt; list.push_back(9), Err(PushError::Full(9)));
-    has(&rt, &list, &[(p, 7), (r, 3)]);
+    has(&rt, &list, &[(r, 3), (p, 7)]);
     Ok(())
 }
 
