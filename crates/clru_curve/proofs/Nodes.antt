@@ -105,7 +105,13 @@ counts_before a j i some_j some_i other =
     let c = counts_by i j i (omega arith) some_j some_i in
     let less = node_before-less i some_i in let more = node_after-greater j some_j in
     elim (cases_lt i j) [
-      | inl out ↦ omega (arith, up_by-gt a j i out, up_by-gt a (node_after j) i (omega arith), up_by-gt a j (node_before i) (omega arith), up_by-gt a (node_after j) (node_before i) (omega arith))
+      | inl out ↦ omega (
+        arith,
+        up_by-gt a j i out,
+        up_by-gt a (node_after j) i (omega arith),
+        up_by-gt a j (node_before i) (omega arith),
+        up_by-gt a (node_after j) (node_before i) (omega arith),
+      )
       | inr le ↦ elim (cases_lt i (node_after j)) [
         | inl lt ↦ let b = c.back other le lt in
             omega (arith, up_by-le a j i le, up_by-gt a (node_after j) i lt, up_by-le a j (node_before i) b, up_by-gt a (node_after j) (node_before i) (omega arith))

@@ -74,7 +74,8 @@ module _ {K : Type 0} (eq : K → K → Bool) (laws : IsEquivalence eq) (past : 
       let moved : (y : K) → lookup (eq y) ((x, n) ∷ positions) ≡ cond (eq x y) (Some n) (lookup (eq y) positions) =
       λ y. ap (λ b. cond b (Some n) (lookup (eq y) positions)) (laws.symm y x) in
       rw (put, one) (record {
-        ranked = IsRanked-new eq laws (λ x. 1) (distinct eq) (distinct_measures eq laws) past positions ((x, n) ∷ positions) n (ones_from ws) (ones_from vs) x is.ranked moved (not_held absent) counts
+        ranked = IsRanked-new eq laws (λ x. 1) (distinct eq) (distinct_measures eq laws)
+            past positions ((x, n) ∷ positions) n (ones_from ws) (ones_from vs) x is.ranked moved (not_held absent) counts
             (omega (arith, is.ranked.few));
         counted = IsHistogram-new eq laws past h x is.counted (not_held absent);
         requests = ap suc is.requests;
@@ -104,7 +105,8 @@ module _ {K : Type 0} (eq : K → K → Bool) (laws : IsEquivalence eq) (past : 
         let moved : (y : K) → lookup (eq y) (set_value (eq x) positions n) ≡ cond (eq x y) (Some n) (lookup (eq y) positions) =
         λ y. lookup-set_value laws (eq x) (λ z w t. laws.congr x z w t) y n positions (rw found refl) in
         rw (one, rank) (record {
-          ranked = IsRanked-again eq laws (λ x. 1) (distinct eq) (distinct_measures eq laws) past positions (set_value (eq x) positions n) n (ones_from ws) (ones_from vs) x is.ranked moved p found counts
+          ranked = IsRanked-again eq laws (λ x. 1) (distinct eq) (distinct_measures eq laws)
+              past positions (set_value (eq x) positions n) n (ones_from ws) (ones_from vs) x is.ranked moved p found counts
               (omega (arith, length-set_value (eq x) positions n, is.ranked.few));
           counted = IsHistogram-again eq laws past h x is.counted was_held;
           requests = ap suc is.requests;

@@ -151,7 +151,14 @@ module _ {K : Type 0} (eq : K → K → Bool) (laws : IsEquivalence eq) (size : 
 
       again_rank : (y : K) (q : ℕ) → lookup (eq y) positions' ≡ Some q → f' (suc q) ≡ measure (since eq y (x ∷ past))
       again_rank = by_position (λ y q. f' (suc q) ≡ measure (since eq y (x ∷ past)))
-          (λ y t. omega (arith, counts (suc n), after_last, up_by-gt (size x) (suc n) n (omega arith), up_by-gt (size x) (suc n) p (omega (arith, low)), measure_since-same x y past t))
+          (λ y t. omega (
+            arith,
+            counts (suc n),
+            after_last,
+            up_by-gt (size x) (suc n) n (omega arith),
+            up_by-gt (size x) (suc n) p (omega (arith, low)),
+            measure_since-same x y past t,
+          ))
           (λ y q apart at. (others y q apart at).1)
 
       again_falls : (j : ℕ) → f' (suc j) ≤ f' j

@@ -31,7 +31,8 @@ point_counts p (x ∷ xs) zero inside passes fails =
     let ih = point_counts p xs zero (omega arith) (λ k d low. let bad : ⊥ = omega (arith, low) in elim bad [ ]) (λ k d le lt. fails (suc k) d (omega arith) (omega (arith, lt))) in
     ih ∙ sym (count_by-no p x xs (fails 0 x (omega arith) (omega arith)))
 point_counts p (x ∷ xs) (suc i) inside passes fails =
-    let ih = point_counts p xs i (omega (arith, inside)) (λ k d low. passes (suc k) d (omega (arith, low))) (λ k d le lt. fails (suc k) d (omega (arith, le)) (omega (arith, lt))) in
+    let ih = point_counts p xs i (omega (arith, inside)) (λ k d low. passes (suc k) d (omega (arith, low)))
+    (λ k d le lt. fails (suc k) d (omega (arith, le)) (omega (arith, lt))) in
     ap suc ih ∙ sym (count_by-yes p x xs (passes 0 x (omega arith)))
 
 module _ (c : ℕ) where

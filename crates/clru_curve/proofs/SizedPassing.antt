@@ -120,7 +120,8 @@ module _ {K : Type 0} (eq : K → K → Bool) (laws : IsEquivalence eq) (positio
             let moved : (y : K) → lookup (eq y) (set_value (eq x) positions n) ≡ cond (eq x y) (Some n) (lookup (eq y) positions) =
             λ y. lookup-set_value laws (eq x) (λ z v t. laws.congr x z v t) y n positions (rw found refl) in
             rw (size, span_there) (record {
-              ranked = rw long (IsRanked-again eq laws (λ y. 1 + weight y) (total eq weight) (total_measures eq laws weight same) past positions (set_value (eq x) positions n) n (sizes_from ss)
+              ranked = rw long (IsRanked-again eq laws (λ y. 1 + weight y) (total eq weight) (total_measures eq laws weight same)
+                  past positions (set_value (eq x) positions n) n (sizes_from ss)
                   (sizes_from (set (ss ++ (1 + weight x) ∷ []) p 0)) x is.ranked moved p found counts
                   (omega (arith, length-set_value (eq x) positions n, is.ranked.few)));
               hits = AreHits-again eq weight past hs x is.hits was_held;

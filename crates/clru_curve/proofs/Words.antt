@@ -121,8 +121,26 @@ module _ (ws : List ℕ) (i x y b : ℕ) (inside : i < length ws) (bit : b < 64)
               let had = ap (λ n. count_ones (n / 2 ^ r)) (ap (λ k. get_or (set ws i x) k 0) same ∙ get_or-set_same ws i x 0 inside) in
               let m = more r in
               elim (cases_lt b r) [
-                | inl out ↦ omega (arith, w, has, had, m, up_to-gt (suc q) i (omega arith), up_to-gt r b out, up_to-gt p (64 * i + b) (omega (arith, whole, at, rest, same, out)))
-                | inr within ↦ omega (arith, w, has, had, m, up_to-gt (suc q) i (omega arith), up_to-le r b within, up_to-le p (64 * i + b) (omega (arith, whole, at, rest, same, within)))
+                | inl out ↦ omega (
+                  arith,
+                  w,
+                  has,
+                  had,
+                  m,
+                  up_to-gt (suc q) i (omega arith),
+                  up_to-gt r b out,
+                  up_to-gt p (64 * i + b) (omega (arith, whole, at, rest, same, out)),
+                )
+                | inr within ↦ omega (
+                  arith,
+                  w,
+                  has,
+                  had,
+                  m,
+                  up_to-gt (suc q) i (omega arith),
+                  up_to-le r b within,
+                  up_to-le p (64 * i + b) (omega (arith, whole, at, rest, same, within)),
+                )
               ]
         ]
       ]

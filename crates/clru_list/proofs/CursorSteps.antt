@@ -83,7 +83,9 @@ module _ {T A : Type 0} where
             (subst (λ b. IsWindow (keys_of es) c.done (c.left - 1) c.front b) (sym back) e.moved);
         place = e.place;
         rest = e.yields ∙ ap (λ l. l ++ (e.place, e.item) ∷ [])
-            (sym (ap (λ l. take (c.left - 1) (drop c.done l)) here ∙ ap (take (c.left - 1)) (drop-set-add c.done es (c.left - 1) (e.place, w)) ∙ take-set (drop c.done es) (c.left - 1) (e.place, w)));
+            (sym (ap (λ l. take (c.left - 1) (drop c.done l)) here
+            ∙ ap (take (c.left - 1)) (drop-set-add c.done es (c.left - 1) (e.place, w))
+            ∙ take-set (drop c.done es) (c.left - 1) (e.place, w)));
         before = ap (take c.done) here ∙ take-set-le c.done es (c.done + (c.left - 1)) (e.place, w) (omega arith);
         after = ap (drop (c.done + (c.left - 1))) here ∙ drop-set es (c.done + (c.left - 1)) (e.place, w) within ∙ ap (λ k. (e.place, w) ∷ drop k es) end;
         list = written-list c.list.now c.back w;

@@ -37,6 +37,10 @@ module _ {N X : Type 0} (field : N → X) (d : X) where
         | inr ge ↦ get_or_past (map field ns ++ field n ∷ []) k d (omega arith) ∙ sym (get_or_past (map field ns) k d (omega arith))
       ]))))
 
+  -- the same, where it is known how many nodes there were
+  pub column-longer : (ns ms : List N) (n : N) (k : ℕ) → ms ≡ ns ++ n ∷ [] → length ns ≡ k → column ms ≡ put (column ns) k (field n)
+  column-longer ns ms n k same len = ap column same ∙ column-append ns n ∙ ap (λ m. put (column ns) m (field n)) len
+
   -- the field of the node that is read
   pub column-read : (ns : List N) (at : ℕ) (n : N) → at < length ns → n ≡ get_or ns at n → column ns at ≡ field n
   column-read ns at n within h = get_or-map field ns at n d within ∙ ap field (sym h)
@@ -59,23 +63,35 @@ module _ {T A : Type 0} where
   pub links_of-append : (c : Links T A) (v : Vec (Node T) A) (n : Node T) → v.items ≡ c.nodes.items ++ n ∷ []
       → vec_len v ≡ vec_len c.nodes + 1 → (vec_len c.nodes ≡ nowhere → ⊥)
       → links_of (record c { nodes = v })
-      ≡ record { next = put (next_of c) (vec_len c.nodes) n.next; prev = put (prev_of c) (vec_len c.nodes) n.prev; item = put (item_of c) (vec_len c.nodes) n.item; free = c.free; size = vec_len c.nodes + 1 }
+      ≡ record {
+        next = put (next_of c) (vec_len c.nodes) n.next;
+        prev = put (prev_of c) (vec_len c.nodes) n.prev;
+        item = put (item_of c) (vec_len c.nodes) n.item;
+        free = c.free;
+        size = vec_len c.nodes + 1;
+      }
   links_of-append c v n same longer ne =
       let len : length c.nodes.items ≡ vec_len c.nodes = sym c.nodes.ok.0 in
       let next : next_of (record c { nodes = v }) ≡ put (next_of c) (vec_len c.nodes) n.next =
-      ap (λ f. put f nowhere c.front) (ap (column (λ m. m.next) 0) same ∙ column-append (λ m. m.next) 0 c.nodes.items n ∙ ap (λ m. put (column (λ m. m.next) 0 c.nodes.items) m n.next) len) ∙ put-swap _ (vec_len c.nodes) nowhere n.next c.front ne in
+      ap (λ f. put f nowhere c.front) (column-longer (λ m. m.next) 0 c.nodes.items v.items n (vec_len c.nodes) same len)
+      ∙ put-swap _ (vec_len c.nodes) nowhere n.next c.front ne in
       let prev : prev_of (record c { nodes = v }) ≡ put (prev_of c) (vec_len c.nodes) n.prev =
-      ap (λ f. put f nowhere c.back) (ap (column (λ m. m.prev) 0) same ∙ column-append (λ m. m.prev) 0 c.nodes.items n ∙ ap (λ m. put (column (λ m. m.prev) 0 c.nodes.items) m n.prev) len) ∙ put-swap _ (vec_len c.nodes) nowhere n.prev c.back ne in
+      ap (λ f. put f nowhere c.back) (column-longer (λ m. m.prev) 0 c.nodes.items v.items n (vec_len c.nodes) same len)
+      ∙ put-swap _ (vec_len c.nodes) nowhere n.prev c.back ne in
       let item : item_of (record c { nodes = v }) ≡ put (item_of c) (vec_len c.nodes) n.item =
-      ap (column (λ m. m.item) None) same ∙ column-append (λ m. m.item) None c.nodes.items n ∙ ap (λ m. put (column (λ m. m.item) None c.nodes.items) m n.item) len in
+      column-longer (λ m. m.item) None c.nodes.items v.items n (vec_len c.nodes) same len in
       λ i. record { next = next i; prev = prev i; item = item i; free = c.free; size = longer i }
 
   -- what a node says is what the links say
   pub node_next : (c : Links T A) (at : ℕ) (n : Node T) → at < vec_len c.nodes → (at ≡ nowhere → ⊥) → n ≡ get_or c.nodes.items at n → next_of c at ≡ n.next
-  node_next c at n within ne h = put-other (column (λ m. m.next) 0 c.nodes.items) nowhere c.front at (λ e. ne (sym e)) ∙ column-read (λ m. m.next) 0 c.nodes.items at n (omega (arith, c.nodes.ok.0)) h
+  node_next c at n within ne h =
+      put-other (column (λ m. m.next) 0 c.nodes.items) nowhere c.front at (λ e. ne (sym e))
+      ∙ column-read (λ m. m.next) 0 c.nodes.items at n (omega (arith, c.nodes.ok.0)) h
 
   pub node_prev : (c : Links T A) (at : ℕ) (n : Node T) → at < vec_len c.nodes → (at ≡ nowhere → ⊥) → n ≡ get_or c.nodes.items at n → prev_of c at ≡ n.prev
-  node_prev c at n within ne h = put-other (column (λ m. m.prev) 0 c.nodes.items) nowhere c.back at (λ e. ne (sym e)) ∙ column-read (λ m. m.prev) 0 c.nodes.items at n (omega (arith, c.nodes.ok.0)) h
+  node_prev c at n within ne h =
+      put-other (column (λ m. m.prev) 0 c.nodes.items) nowhere c.back at (λ e. ne (sym e))
+      ∙ column-read (λ m. m.prev) 0 c.nodes.items at n (omega (arith, c.nodes.ok.0)) h
 
   pub node_item : (c : Links T A) (at : ℕ) (n : Node T) → at < vec_len c.nodes → n ≡ get_or c.nodes.items at n → item_of c at ≡ n.item
   node_item c at n within h = column-read (λ m. m.item) None c.nodes.items at n (omega (arith, c.nodes.ok.0)) h

@@ -110,9 +110,12 @@ module _ (next prev : ℕ → ℕ) where
             let in_ring : 0 < count k (nowhere ∷ (ps ++ qs)) = omega arith in
             let last = last_or-counted nowhere ps in let l = count-append (last_or nowhere ps) ps qs in
             let apart : b ≡ next k → ⊥ = λ same.
-            ne (is_a ∙ sym (ring.backward (last_or nowhere ps) (omega arith)) ∙ ap prev (path_middle next nowhere nowhere ps qs ring.forward ∙ sym is_b ∙ same) ∙ ring.backward k in_ring) in
+            ne (is_a ∙ sym (ring.backward (last_or nowhere ps) (omega arith))
+            ∙ ap prev (path_middle next nowhere nowhere ps qs ring.forward ∙ sym is_b ∙ same) ∙ ring.backward k in_ring) in
             let closed = path_closed next nowhere (ps ++ qs) nowhere k ring.forward in_ring in
-            let fresh : p ≡ next k → ⊥ = λ same. let P : ℕ → Type 0 = λ m. 0 < count m (nowhere ∷ (ps ++ qs)) in let held_p = subst P (sym same) closed in absurd (omega (arith, once p)) in
+            let fresh : p ≡ next k → ⊥ = λ same.
+            let P : ℕ → Type 0 = λ m. 0 < count m (nowhere ∷ (ps ++ qs)) in
+            let held_p = subst P (sym same) closed in absurd (omega (arith, once p)) in
             rw (f, g) (put-other (put prev p a) b p (next k) apart ∙ put-other prev p a (next k) fresh ∙ ring.backward k in_ring)));
       }
 

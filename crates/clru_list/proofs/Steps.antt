@@ -107,7 +107,8 @@ module _ {T : Type 0} (l : LinkMap T) (len capacity places allotted : ℕ) (i : 
     sound-front : IsSound (linked (unlinked l p) nowhere p ((unlinked l p).next nowhere)) len capacity places allotted ((p, x) ∷ without p i.0)
     sound-front =
         let es = at_place.before ++ at_place.behind in let loose = unlinked_loose in
-        let done = link-loose (unlinked l p) p x nowhere ((unlinked l p).next nowhere) [] es refl (front_is (unlinked l p).next (unlinked l p).prev (keys_of es) loose.linked) loose in
+        let done = link-loose (unlinked l p) p x nowhere ((unlinked l p).next nowhere) [] es refl
+        (front_is (unlinked l p).next (unlinked l p).prev (keys_of es) loose.linked) loose in
         let P : List (ℕ × T) → Type 0 = λ ds. IsSound (linked (unlinked l p) nowhere p ((unlinked l p).next nowhere)) len capacity places allotted ((p, x) ∷ ds) in
         subst P (sym without_is) (record {
           linked = done.0;
@@ -199,17 +200,37 @@ module _ {T : Type 0} (l : LinkMap T) (len capacity places allotted : ℕ) (i : 
         (end_of (occupied l x).next (occupied l x).item (occupied l x).free (occupied l x).size ((spot l, x) ∷ i.0) loose.held (last_or nowhere (keys_of i.0)) (omega arith)))
 
     -- the item is pushed to the front
-    pub sound-push_front : len < capacity → IsSound (linked (occupied l x) nowhere (spot l) ((occupied l x).next nowhere)) (len + 1) capacity places allotted ((spot l, x) ∷ i.0)
+    pub sound-push_front : len < capacity
+        → IsSound (linked (occupied l x) nowhere (spot l) ((occupied l x).next nowhere)) (len + 1) capacity places allotted ((spot l, x) ∷ i.0)
     sound-push_front fits =
         let loose = occupied_loose in
-        let done = link-loose (occupied l x) (spot l) x nowhere ((occupied l x).next nowhere) [] i.0 refl (front_is (occupied l x).next (occupied l x).prev (keys_of i.0) loose.linked) loose in
-        record { linked = done.0; held = done.1; counted = omega (arith, i.1.counted); fits = omega arith; within = occupied_within; reserved = i.1.reserved; countable = i.1.countable }
+        let done = link-loose (occupied l x) (spot l) x nowhere ((occupied l x).next nowhere) [] i.0 refl
+        (front_is (occupied l x).next (occupied l x).prev (keys_of i.0) loose.linked) loose in
+        record {
+          linked = done.0;
+          held = done.1;
+          counted = omega (arith, i.1.counted);
+          fits = omega arith;
+          within = occupied_within;
+          reserved = i.1.reserved;
+          countable = i.1.countable;
+        }
 
     -- the item is pushed to the back
-    pub sound-push_back : len < capacity → IsSound (linked (occupied l x) ((occupied l x).prev nowhere) (spot l) nowhere) (len + 1) capacity places allotted (i.0 ++ (spot l, x) ∷ [])
+    pub sound-push_back : len < capacity
+        → IsSound (linked (occupied l x) ((occupied l x).prev nowhere) (spot l) nowhere) (len + 1) capacity places allotted (i.0 ++ (spot l, x) ∷ [])
     sound-push_back fits =
         let P : List (ℕ × T) → Type 0 = λ es. IsLoose (occupied l x) (spot l) x es in
         let loose = occupied_loose in
-        let done = link-loose (occupied l x) (spot l) x ((occupied l x).prev nowhere) nowhere i.0 [] (back_is (occupied l x).next (occupied l x).prev (keys_of i.0) loose.linked) refl
+        let done = link-loose (occupied l x) (spot l) x ((occupied l x).prev nowhere) nowhere i.0 []
+        (back_is (occupied l x).next (occupied l x).prev (keys_of i.0) loose.linked) refl
         (subst P (sym (append-nil i.0)) loose) in
-        record { linked = done.0; held = done.1; counted = omega (arith, i.1.counted, length-append i.0 ((spot l, x) ∷ [])); fits = omega arith; within = occupied_within; reserved = i.1.reserved; countable = i.1.countable }
+        record {
+          linked = done.0;
+          held = done.1;
+          counted = omega (arith, i.1.counted, length-append i.0 ((spot l, x) ∷ []));
+          fits = omega arith;
+          within = occupied_within;
+          reserved = i.1.reserved;
+          countable = i.1.countable;
+        }

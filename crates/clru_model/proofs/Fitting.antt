@@ -15,7 +15,8 @@ module _ {K V : Type 0} (weight : K → V → ℕ) where
       let first : e ≡ d = cc in let w : weight e.0 e.1 ≡ weight d.0 d.1 = ap (λ (x : K × V). weight x.0 x.1) first in
       absurd (omega (arith, size_of-cons d ds, w))
 
-  longer : (c : ℕ) (e : K × V) (es p q back : List (K × V)) → 1 + weight e.0 e.1 ≤ c → ((q back : List (K × V)) → es ≡ q ++ back → size_of weight q ≤ c - (1 + weight e.0 e.1) → length q ≤ length p)
+  longer : (c : ℕ) (e : K × V) (es p q back : List (K × V)) → 1 + weight e.0 e.1 ≤ c
+      → ((q back : List (K × V)) → es ≡ q ++ back → size_of weight q ≤ c - (1 + weight e.0 e.1) → length q ≤ length p)
       → e ∷ es ≡ q ++ back → size_of weight q ≤ c → length q ≤ length (e ∷ p)
   longer c e es p [] back h rest same small = omega arith
   longer c e es p (d ∷ ds) back h rest same small =

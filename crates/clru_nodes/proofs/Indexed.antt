@@ -84,7 +84,9 @@ module _ {K V S A H : Type 0} (hash : S → K → ℕ) {x y : Nodes K V S A H} w
   chained_append h p at homed ends c last cut linked pairs same =
       let keys = same_keys y.list.entries x.list.entries pairs in
       let key = key_at x.list.entries in
-      same_homes same (head_at y.heads.items) (link_at y.list.entries) (key_at y.list.entries) (chained_insert (home_at hash x) c h cut p (head_at y.heads.items) (link_at y.list.entries) (key_at y.list.entries)
+      same_homes same (head_at y.heads.items) (link_at y.list.entries) (key_at y.list.entries)
+      (chained_insert (home_at hash x) c h cut p
+      (head_at y.heads.items) (link_at y.list.entries) (key_at y.list.entries)
       homed.item.key homed.off (put-here key p None p refl) (ends ∙ sym last) linked
       (keys p ∙ ap (λ o. option_map (λ (i : Item K V). i.key) o) homed.held) homed.home
       (λ q n. keys q ∙ sym (put-other key p None q (λ e. n (sym e)))))
@@ -97,7 +99,9 @@ module _ {K V S A H : Type 0} (hash : S → K → ℕ) {x y : Nodes K V S A H} w
   chained_unchain h p at homed c next cut linked pairs same =
       let keys = same_keys y.list.entries x.list.entries pairs in
       let key = key_at y.list.entries in
-      same_homes same (head_at y.heads.items) (link_at y.list.entries) (put key p None) (chained_remove (home_at hash x) c h cut p (head_at y.heads.items) (link_at y.list.entries) (put key p None)
+      same_homes same (head_at y.heads.items) (link_at y.list.entries) (put key p None)
+      (chained_remove (home_at hash x) c h cut p
+      (head_at y.heads.items) (link_at y.list.entries) (put key p None)
       homed.off next linked (put-here key p None p refl)
       (λ q n. put-other key p None q (λ e. n (sym e)) ∙ keys q))
 

@@ -4,7 +4,16 @@ use Rattle.clru_curve.proofs.pass.make_room.Goals as goal
 
 greater : (g : Rattle.clru_curve.proofs.pass.make_room.Given.Over) (c : goal.After-resize g) → length c.args.positions.now.entries < c.in-Some.capacity.value
 greater g c =
-    omega (arith, c.in-Some.ensures, c.saturating_mul.ensures, c.len-length.ensures.len, c.len-length.ensures.valid.some, c.if-length-capacity.false, c.capacity.ensures.capacity, c.requires)
+    omega (
+      arith,
+      c.in-Some.ensures,
+      c.saturating_mul.ensures,
+      c.len-length.ensures.len,
+      c.len-length.ensures.valid.some,
+      c.if-length-capacity.false,
+      c.capacity.ensures.capacity,
+      c.requires,
+    )
 
 entries_stay : (g : Rattle.clru_curve.proofs.pass.make_room.Given.Over) (c : goal.After-resize g) → c.resize.new.self.entries ≡ c.args.positions.now.entries
 entries_stay g c =

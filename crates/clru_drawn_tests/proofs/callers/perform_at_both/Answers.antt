@@ -14,6 +14,7 @@ returns g c =
     λ same. subst (λ (calls : List (Call g.row.K.Denot g.row.V.Denot)). Run step c.args.greater.now calls c.in-Ok-perform_all.greater.items c.perform_all-2.new.cache)
     same second in
     record {
-      included = λ same less. c.law_included_runs.ensures.included g.W.WeightScale.weight c.args.calls.items c.in-Ok.lesser.items c.in-Ok-perform_all.greater.items c.args.lesser.now
+      included = λ same less. c.law_included_runs.ensures.included g.W.WeightScale.weight c.args.calls.items
+          c.in-Ok.lesser.items c.in-Ok-perform_all.greater.items c.args.lesser.now
           c.args.greater.now c.perform_all.new.cache c.perform_all-2.new.cache first (other same) c.requires.empty.0 c.requires.empty.1 c.requires.scale less;
     }

@@ -18,8 +18,10 @@ invariant_of-self g c =
     let size = non_zero_usize_get c.args.capacity in let es = pairs_in c.self.inside.nodes in
     let old = c.self.invariant.pairs in
     let left = r.pairs ∙ s.pairs ∙ ap (λ n. fit w n es) c.get.ensures.value in
+    let weighs = s.weighs ∙ ap (weight_of w) s.pairs ∙ ap (λ n. weight_of w (fit w n es)) c.get.ensures.value in
     record {
-      pairs = subst (λ l. IsKept g.K.PartialEq.eq w l c.shrink_to.new.total_weight size) (sym left) (IsKept-fit w size c.shrink_to.new.total_weight old (s.weighs ∙ ap (weight_of w) s.pairs ∙ ap (λ n. weight_of w (fit w n es)) c.get.ensures.value));
+      pairs = subst (λ l. IsKept g.K.PartialEq.eq w l c.shrink_to.new.total_weight size) (sym left)
+          (IsKept-fit w size c.shrink_to.new.total_weight old weighs);
       indexed = r.indexed;
       room = r.capacity ∙ c.get-2.ensures.value;
     }

@@ -30,7 +30,8 @@ returns-clause-kept g c =
     let word = word_read self.words.items self.nodes.items self.requests kept self.requests c.index_mut.result.now c.requires.room c.index_mut.ensures.value in
     let counted = c.add_at.ensures.counted (words_from self.words.items) (rw c.deref_mut.ensures.value kept.counted) in
     rw (written_back c.add_at.new.nodes self.nodes.items self.nodes.len (c.add_at.ensures.length ∙ c.deref_mut.ensures.len), word, bit_of self.requests)
-    (IsLatest-push self.words.items self.nodes.items self.requests kept c.requires.room c.add_at.new.nodes (c.add_at.ensures.length ∙ ap (λ l. length l) c.deref_mut.ensures.value) counted)
+    (IsLatest-push self.words.items self.nodes.items self.requests kept c.requires.room
+    c.add_at.new.nodes (c.add_at.ensures.length ∙ ap (λ l. length l) c.deref_mut.ensures.value) counted)
 
 pub returns-clause-ones : goal.returns-clause-ones
 returns-clause-ones g c =

@@ -151,7 +151,15 @@ invariant_of-self-in-None g c =
     record {
       latest = c.push-in-None.ensures.kept;
       past = c.args.key ∷ inv.past;
-      taken = rw (c.in_default-put.ensures.entries, c.make_room.ensures.entries, same, c.push-in-None.ensures.requests, e.requests, c.push_reserved.ensures.items, c.reserve.ensures.items)
+      taken = rw (
+        c.in_default-put.ensures.entries,
+        c.make_room.ensures.entries,
+        same,
+        c.push-in-None.ensures.requests,
+        e.requests,
+        c.push_reserved.ensures.items,
+        c.reserve.ensures.items,
+      )
           (IsPass-new eq laws inv.past s.positions.entries s.latest.words.items n s.histogram.items c.args.key inv.taken c.make_room.new.positions.capacity
           c.push-in-None.new.self.words.items (sym c.in-None.ensures.found) room
           (λ q. omega (arith, c.push-in-None.ensures.ones q, e.ones q, ap (λ r. up_to q r) e.requests)));

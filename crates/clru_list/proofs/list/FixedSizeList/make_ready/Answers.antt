@@ -44,7 +44,17 @@ invariant_of-self-2 g c =
 pub returns-clause-ready : goal.returns-clause-ready
 returns-clause-ready g c = λ lt.
     let i = c.self.invariant.0.1 in let sees = seen _ _ _ _ _ c.self.invariant.0 _ c.self.view_is in
-    omega (arith, c.grown-places.ensures, i.held.total, i.within, i.counted, seen_length _ _ _ _ _ c.self.invariant.0 _ c.self.view_is, ap (λ l. l.capacity) sees, c.if-self.false, c.if-self-2.false)
+    omega (
+      arith,
+      c.grown-places.ensures,
+      i.held.total,
+      i.within,
+      i.counted,
+      seen_length _ _ _ _ _ c.self.invariant.0 _ c.self.view_is,
+      ap (λ l. l.capacity) sees,
+      c.if-self.false,
+      c.if-self-2.false,
+    )
 
 pub returns-clause-places : goal.returns-clause-places
 returns-clause-places g c =
@@ -52,7 +62,10 @@ returns-clause-places g c =
     record {
       capacity = sym (ap (λ l. l.capacity) sees);
       never_falls = omega (arith, c.grown-places.ensures, ap (λ l. l.places) sees, c.if-self.false, c.if-self-2.false, i.fits);
-      stays = λ h. absurd (h (omega (arith, i.fits, c.if-self.false, len, ap (λ l. l.capacity) sees), omega (arith, c.if-self-2.false, i.counted, i.held.total, i.within, len, ap (λ l. l.places) sees)));
+      stays = λ h. absurd (h (
+        omega (arith, i.fits, c.if-self.false, len, ap (λ l. l.capacity) sees),
+        omega (arith, c.if-self-2.false, i.counted, i.held.total, i.within, len, ap (λ l. l.places) sees),
+      ));
       bounded = λ _. omega (arith, c.grown-places.ensures);
     }
 

@@ -15,4 +15,9 @@ next-requires g c =
 pub returns-clause-place : goal.returns-clause-place
 returns-clause-place g c =
     let held = seen_item _ _ _ _ _ c.self.invariant.0 _ c.self.view_is c.args.place ∙ sym c.in_ok-get.ensures.value in
-    cc (c.some_place.ensures, ap place_of c.next.ensures, next_place _ _ _ _ _ c.self.invariant.0 c.args.place _ held, ap (place_after c.args.place) (seen_entries _ _ _ _ _ c.self.invariant.0 _ c.self.view_is))
+    cc (
+      c.some_place.ensures,
+      ap place_of c.next.ensures,
+      next_place _ _ _ _ _ c.self.invariant.0 c.args.place _ held,
+      ap (place_after c.args.place) (seen_entries _ _ _ _ _ c.self.invariant.0 _ c.self.view_is),
+    )

@@ -5,7 +5,11 @@ use Rattle.clru_list.proofs.Views.{seen_item, seen_front, front_place}
 use Rattle.clru_list.proofs.list.FixedSizeList.pop_front.Goals as goal
 
 pub returns-clause-value : goal.returns-clause-value
-returns-clause-value g c = cc (c.remove.ensures.value, seen_item _ _ _ _ _ c.self.invariant.0 _ c.self.view_is c.self.inside.links.front, seen_front _ _ _ _ _ c.self.invariant.0 _ c.self.view_is)
+returns-clause-value g c = cc (
+  c.remove.ensures.value,
+  seen_item _ _ _ _ _ c.self.invariant.0 _ c.self.view_is c.self.inside.links.front,
+  seen_front _ _ _ _ _ c.self.invariant.0 _ c.self.view_is,
+)
 
 pub returns-clause-entries : goal.returns-clause-entries
 returns-clause-entries g c =

@@ -11,19 +11,22 @@ use Rattle.clru_nodes.proofs.nodes.Nodes.retain_mut.Goals as goal
 
 pub loop-next-init : goal.loop-next-init
 loop-next-init g c = record {
-  sifting = sifting_starts (CalledAtPair g.F.FnMut) (TakesPair g.F.FnMut) c.args.keep c.args.self.now.list _ c.front_idx-next.ensures.place c.front_idx-next.ensures.valid c.requires.callable;
+  sifting = sifting_starts (CalledAtPair g.F.FnMut) (TakesPair g.F.FnMut) c.args.keep c.args.self.now.list _
+      c.front_idx-next.ensures.place c.front_idx-next.ensures.valid c.requires.callable;
   indexed = c.requires.indexed;
   same = same_refl;
 }
 
 pub keep-kept-requires : goal.keep-kept-requires
 keep-kept-requires g c =
-    sifting_takes (CalledAtPair g.F.FnMut) (TakesPair g.F.FnMut) c.args.keep c.args.self.now.list c.loop-next.keep c.loop-next.self.list c.loop-next.next c.loop-next.invariant.sifting
+    sifting_takes (CalledAtPair g.F.FnMut) (TakesPair g.F.FnMut) c.args.keep c.args.self.now.list
+    c.loop-next.keep c.loop-next.self.list c.loop-next.next c.loop-next.invariant.sifting
     c.in-Some.place c.in-Some.is c.in-Some-get_mut.item.now (sym c.in-Some-get_mut.ensures.value) _ _ refl refl
 
 pub unreachable-requires : goal.unreachable-requires
 unreachable-requires g c =
-    sifting_some (CalledAtPair g.F.FnMut) (TakesPair g.F.FnMut) c.args.keep c.args.self.now.list c.loop-next.keep c.loop-next.self.list c.loop-next.next c.loop-next.invariant.sifting
+    sifting_some (CalledAtPair g.F.FnMut) (TakesPair g.F.FnMut) c.args.keep c.args.self.now.list
+    c.loop-next.keep c.loop-next.self.list c.loop-next.next c.loop-next.invariant.sifting
     c.in-Some.place c.in-Some.is (sym c.in-None.ensures.value)
 
 pub loop-next-smaller-then-kept : goal.loop-next-smaller-then-kept
@@ -43,7 +46,14 @@ loop-next-preserved-then-kept g c =
           c.next_idx-next.ensures.valid true c.keep-kept.new.arg3 _ _ (shown-written p c.in-Some-get_mut.item.now c.keep-kept.new.arg3 l) refl _ c.next_idx-next.ensures.place _
           (record { key = _; value = _; shows = (refl, refl); left = _; called = c.if-kept.ensures; leaves = refl });
       indexed = indexed_written p i _ inv.indexed held;
-      same = record { capacity = inv.same.capacity; placed = inv.same.placed; builder = inv.same.builder; places = inv.same.places; heads = inv.same.heads; bound = inv.same.bound };
+      same = record {
+        capacity = inv.same.capacity;
+        placed = inv.same.placed;
+        builder = inv.same.builder;
+        places = inv.same.places;
+        heads = inv.same.heads;
+        bound = inv.same.bound;
+      };
     }
 
 pub take_at-requires-clause-place : goal.take_at-requires-clause-place
@@ -74,7 +84,14 @@ loop-next-preserved g c =
           (λ k. place_list (t.placed k) (t.same.capacity k) (t.same.placed k)) _ c.next_idx-next.ensures.place _
           (record { key = _; value = _; shows = (refl, refl); left = _; called = c.if-kept.ensures; leaves = refl });
       indexed = t.indexed;
-      same = same_trans inv.same (record { capacity = t.same.capacity; placed = t.same.placed; builder = t.same.builder; places = t.same.places; heads = t.same.heads; bound = t.same.bound });
+      same = same_trans inv.same (record {
+        capacity = t.same.capacity;
+        placed = t.same.placed;
+        builder = t.same.builder;
+        places = t.same.places;
+        heads = t.same.heads;
+        bound = t.same.bound;
+      });
     }
 
 pub returns-clause-kept : goal.returns-clause-kept

@@ -85,7 +85,18 @@ pub push_front-requires-clause-room : goal.push_front-requires-clause-room
 push_front-requires-clause-room g c =
     let before = c.touch.ensures.pairs ∙ touch-missed g.K.PartialEq.eq c.args.key (missed (g.K.PartialEq.eq c.args.key) c.if-touch.ensures.held) in
     let k = c.in-Ok.ensures.keeps in
-    omega (arith, ap length k.pairs, k.capacity, ap length before, c.len.ensures, c.if-len-get.false, c.get.ensures.value, c.self.invariant.pairs.fits, c.self.invariant.room, c.touch.ensures.same.capacity)
+    omega (
+      arith,
+      ap length k.pairs,
+      k.capacity,
+      ap length before,
+      c.len.ensures,
+      c.if-len-get.false,
+      c.get.ensures.value,
+      c.self.invariant.pairs.fits,
+      c.self.invariant.room,
+      c.touch.ensures.same.capacity,
+    )
 
 pub invariant_of-self-2 : goal.invariant_of-self-2
 invariant_of-self-2 g c =
