@@ -4,6 +4,7 @@ pub mod EntryLists
 pub mod Holding
 pub mod NodeLemmas
 pub mod Indices
+pub mod PassedOn
 pub mod Paths
 pub mod PlaceLemmas
 pub mod Pointing

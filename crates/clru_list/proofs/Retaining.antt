@@ -157,7 +157,3 @@ module _ {F T : Type 0} (step : F → ℕ → T → Bool → T → F → Type 0)
       fewer false w mid new next written same valid after =
           let es = ap (λ l. l.entries) written ∙ written_here w in
           remaining s.kept new next (ap (λ l. l.entries) same ∙ ap (without p) es ∙ without-split p w s.kept head.rest absent_here) valid (after ∙ next_here)
-
-      -- the item that is there is written again
-      pub written_same : now ≡ with_entries now (with_at p head.value now.entries)
-      written_same = ap (with_entries now) (split_here ∙ sym (written_here head.value))

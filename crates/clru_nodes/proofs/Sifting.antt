@@ -11,7 +11,7 @@ use Rattle.clru_model.proofs.Weights.{weight_of-cons}
 use Rattle.clru_list.specs.Places.{count}
 use Rattle.clru_list.specs.PlaceList.{PlaceList, place_list, with_entries, item_at, without, with_at, first_place, place_after, IsApart, IsValid}
 use Rattle.clru_list.proofs.EntryLists.{counts_from_apart, apart_from_counts}
-use Rattle.clru_list.proofs.Retaining.{IsRetaining, from_place, some_injective, starts, ends, head, item_here, takes_here, written_same, goes_on, fewer}
+use Rattle.clru_list.proofs.Retaining.{IsRetaining, from_place, some_injective, starts, ends, head, item_here, takes_here, goes_on, fewer}
 use Rattle.clru_nodes.specs.Heads.{placed_of}
 use Rattle.clru_nodes.specs.Nodes.{pair_of, pairs_of}
 use Rattle.clru_nodes.specs.declared.nodes.Item.{Item}
@@ -166,11 +166,6 @@ module _ {F K V : Type 0} (step : F → K → V → Bool → V → F → Type 0)
       pub sifting_takes : takes f i.key i.value
       sifting_takes = subst (λ (e : K × V). takes f e.0 e.1) (sym pair_here) (takes_here (step_at step) (takes_at takes) first (shown old) f (shown l) at s p here)
 
-      -- what stands there is written again
-      pub sifting_same : shown l ≡ with_entries (shown l) (with_at p (pair_of i) (placed_of l.entries))
-      sifting_same = subst (λ (e : K × V). shown l ≡ with_entries (shown l) (with_at p e (placed_of l.entries))) (sym pair_here)
-          (written_same (step_at step) (takes_at takes) first (shown old) f (shown l) at s p here)
-
       module _ (valid : IsValid l) (b : Bool) (v : V) (mid new : PlaceList (K × V))
           (written : mid ≡ with_entries (shown l) (with_at p (i.key, v) (placed_of l.entries)))
           (taken : new ≡ with_entries mid (cond b mid.entries (without p mid.entries))) (next : Option ℕ)
@@ -208,3 +203,20 @@ weight_of-taken {K} {V} weight p (e ∷ es) i held = elim (cases_eq p e.0) [
       let later = weight_of-taken weight p es i (rw (ne_eqb p e.0 there) at held) in
       rw (ne_eqb p e.0 there) (omega (arith, later, weight_of-cons weight (pair_of e.1) (pairs_of es), weight_of-cons weight (pair_of e.1) (pairs_of (without p es))))
 ]
+
+-- and a value that is written for another of its weight changes none
+pub weight_of-written : {K V : Type 0} (weight : K → V → ℕ) (p : ℕ) (v : V) (es : List (ℕ × Item K V)) (i : Item K V) → item_at p es ≡ Some i
+    → weight i.key v ≡ weight i.key i.value
+    → weight_of weight (pairs_of (with_at p (record { chain = i.chain; key = i.key; value = v }) es)) ≡ weight_of weight (pairs_of es)
+weight_of-written weight p v [] i held same = refl
+weight_of-written {K} {V} weight p v (e ∷ es) i held same =
+    let before = weight_of-cons weight (pair_of e.1) (pairs_of es) in elim (cases_eq p e.0) [
+      | inl here ↦
+          let is : e.1 ≡ i = let both : Some e.1 ≡ Some i = rw (eq-eqb p e.0 here) at held in cc in
+          rw (eq-eqb p e.0 here)
+          (omega (arith, same, before, weight_of-cons weight (i.key, v) (pairs_of es), ap (λ (j : Item K V). weight j.key j.value) is))
+      | inr there ↦
+          let later = weight_of-written weight p v es i (rw (ne_eqb p e.0 there) at held) same in
+          let w : Item K V = record { chain = i.chain; key = i.key; value = v } in
+          rw (ne_eqb p e.0 there) (omega (arith, later, before, weight_of-cons weight (pair_of e.1) (pairs_of (with_at p w es))))
+    ]

@@ -18,15 +18,12 @@ impl<T, A: Allocator + Copy> FixedSizeList<T, A> {
         ensures stays { self.new ≡ with_entries self.old self.new.entries }
         ensures valid { IsValid self.new }
     {
-        let mut at = self.front_idx();
-        while let Some(place) = at {
-            at = self.next_idx(place);
-            let keep = match self.get(place) {
-                Some(item) => f(place, item),
-                None => unreachable!(),
-            };
-            self.keep_if(place, keep);
-        }
+        self.retain_mut(
+            |place: usize, item: &mut T| -> bool
+                requires { TakesItem F.FnMut f place item.old }
+                ensures { CalledAtItem F.FnMut f.entry place item.old result item.new f.exit }
+            { f(place, item) },
+        );
     }
 
     /// Calls a closure at each place and its item, from the front to the back, and removes those items at which it answers
