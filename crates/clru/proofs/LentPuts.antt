@@ -1,7 +1,5 @@
 -- What a plain put leaves that lends the value in front, at weight zero.
 use Rattle.std.proofs.Common.{◌≡◌, ℕ, ◌-◌, ◌<◌, Bool, Some, ◌∷◌, length, take, refl, sym, ap, ◌∙◌, arith}
-use Rattle.std.proofs.Math.Dec.{ltb}
-use Rattle.std.proofs.lemmas.Bool.{ltb-true, lt-ltb}
 use Rattle.std.specs.Cmp.{IsEquivalence}
 use Rattle.clru_model.specs.Entries.{touch, plain_put, with_front}
 use Rattle.clru_model.proofs.Finding.{IsHeld, IsMissed, touch-missed, with_front-touch, plain_put-held, plain_put-missed}
@@ -56,17 +54,17 @@ module _ {K V S A H W : Type 0} {eq : K → K → Bool} {hash : S → K → ℕ}
     pub keeps : IsCache eq (λ k v. 0) hash z kept c
     pub grows : (y : Nodes K V S A H) → IsIndexed hash y → places_of y ≡ places_of z → Grows y
 
-  pub ready_new : {y z : Nodes K V S A H} {a b : ℕ} → (m : IsMissed (eq key) (pairs_in x))
-      → pairs_in y ≡ touch eq key (pairs_in x) → IsSame x y
-      → a ≡ length (pairs_in y) → b ≡ c → GrowsIf (ltb a b) (length (pairs_in y)) (capacity_of y) (places_of y) (places_of z) → KeepsPairs y z → IsIndexed hash z → IsReady z
-  ready_new {y} {z} {a} {b} m touched same len is_c growth keeps indexed =
+  pub ready_new : {y z : Nodes K V S A H} → (m : IsMissed (eq key) (pairs_in x)) → pairs_in y ≡ touch eq key (pairs_in x) → IsSame x y
+      → GrowsIf (length (pairs_in y) < capacity_of y) (length (pairs_in y)) (capacity_of y) (places_of y) (places_of z)
+      → KeepsPairs y z → IsIndexed hash z → IsReady z
+  ready_new {y} {z} m touched same growth keeps indexed =
       let before = touched ∙ touch-missed eq key m in let pairs = keeps.pairs ∙ before in let many = ap length before in
       record {
         pairs = pairs;
         capacity = keeps.capacity ∙ same.capacity;
         keeps = IsCache-from (λ k v. 0) old pairs old.pairs indexed (keeps.capacity ∙ same.capacity);
-        grows = λ u whole is. grows_if_needed (seen x) (seen u) (ltb a b) (λ t. omega (arith, ltb-true a b t, len, is_c, many))
-            (λ n. lt-ltb a b (omega (arith, n, len, is_c, many))) m.value
+        grows = λ u whole is. grows_if_needed (seen x) (seen u) _ (λ t. omega (arith, t, many, same.capacity, old.room))
+            (λ n. omega (arith, n, many, same.capacity, old.room)) m.value
             (held_places x old.indexed) (GrowsIf-along (sym many) (sym (same.capacity ∙ old.room)) (sym same.places) is growth) refl refl (held_places u whole);
       }
 

@@ -7,7 +7,7 @@ use Rattle.clru.proofs.cache.CLruCache.pop.Goals as goal
 
 pub invariant_of-self : goal.invariant_of-self
 invariant_of-self g c =
-    let eq = g.K.PartialEq.eq in let w = g.W.WeightScale.weight c.self.inside.scale in let t = c.in_err-stored.ensures in
+    let eq = g.K.PartialEq.eq in let w = g.W.WeightScale.weight c.self.inside.pairs.scale in let t = c.in_err-stored.ensures in
     let m = missed_at (eq c.args.key.now) t.pair in
     IsCache-from w c.self.invariant (t.pairs ∙ m.removed) c.self.invariant.pairs t.indexed t.same.capacity
 
@@ -17,14 +17,14 @@ returns-in_err-stored-clause-value g c =
 
 pub overflow_sub-self : goal.overflow_sub-self
 overflow_sub-self g c =
-    let eq = g.K.PartialEq.eq in let w = g.W.WeightScale.weight c.self.inside.scale in let found = c.in_ok-stored.ensures.pair in
+    let eq = g.K.PartialEq.eq in let w = g.W.WeightScale.weight c.self.inside.pairs.scale in let found = c.in_ok-stored.ensures.pair in
     let h = held_at (eq c.args.key.now) found in let same = held_is (eq c.args.key.now) h found in
     omega (arith, weight_of-held (eq c.args.key.now) w h, ap (λ (x : g.row.K.Denot × g.row.V.Denot). w x.0 x.1) same, c.self.invariant.pairs.weighs, c.weight.ensures)
 
 pub invariant_of-self-2 : goal.invariant_of-self-2
 invariant_of-self-2 g c =
-    let eq = g.K.PartialEq.eq in let w = g.W.WeightScale.weight c.self.inside.scale in let t = c.in_ok-stored.ensures in
-    let es = pairs_in c.self.inside.nodes in
+    let eq = g.K.PartialEq.eq in let w = g.W.WeightScale.weight c.self.inside.pairs.scale in let t = c.in_ok-stored.ensures in
+    let es = pairs_in c.self.inside.pairs.nodes in
     let h = held_at (eq c.args.key.now) t.pair in let same = held_is (eq c.args.key.now) h t.pair in
     IsCache-from w c.self.invariant t.pairs
     (IsKept-sublist w _ c.self.invariant.pairs (sublist_remove_entry (eq c.args.key.now) es)

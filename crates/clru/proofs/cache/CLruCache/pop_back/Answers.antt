@@ -9,16 +9,16 @@ use Rattle.clru.proofs.cache.CLruCache.pop_back.Goals as goal
 
 pub overflow_sub-self : goal.overflow_sub-self
 overflow_sub-self g c =
-    let w = g.W.WeightScale.weight c.self.inside.scale in let e = c.in_ok-oldest.ensures in
+    let w = g.W.WeightScale.weight c.self.inside.pairs.scale in let e = c.in_ok-oldest.ensures in
     let last : g.row.K.Denot × g.row.V.Denot = (c.in_ok-oldest.oldest, c.in_ok-oldest.value) in
-    let es = pairs_in c.self.inside.nodes in
+    let es = pairs_in c.self.inside.pairs.nodes in
     omega (arith, ap (weight_of w) (split_last es last e.pair), weight_of-push w (take (length es - 1) es) last, c.self.invariant.pairs.weighs, c.weight.ensures)
 
 pub invariant_of-self-2 : goal.invariant_of-self-2
 invariant_of-self-2 g c =
-    let w = g.W.WeightScale.weight c.self.inside.scale in let e = c.in_ok-oldest.ensures in
+    let w = g.W.WeightScale.weight c.self.inside.pairs.scale in let e = c.in_ok-oldest.ensures in
     let last : g.row.K.Denot × g.row.V.Denot = (c.in_ok-oldest.oldest, c.in_ok-oldest.value) in
-    let es = pairs_in c.self.inside.nodes in
+    let es = pairs_in c.self.inside.pairs.nodes in
     IsCache-from w c.self.invariant e.pairs
     (IsKept-sublist w _ c.self.invariant.pairs (sublist_take (length es - 1) es)
     (omega (arith, ap (weight_of w) (split_last es last e.pair), weight_of-push w (take (length es - 1) es) last, c.self.invariant.pairs.weighs, c.weight.ensures)))

@@ -9,13 +9,13 @@ use Rattle.clru.proofs.cache.CLruCache.resize.Goals as goal
 
 pub resize-requires-clause-fits : goal.resize-requires-clause-fits
 resize-requires-clause-fits g c =
-    let w = g.W.WeightScale.weight c.self.inside.scale in
-    omega (arith, ap length c.shrink_to.ensures.pairs, size_of-fit w c.get.result (pairs_in c.self.inside.nodes), c.get.ensures.value, c.get-2.ensures.value)
+    let w = g.W.WeightScale.weight c.self.inside.pairs.scale in
+    omega (arith, ap length c.shrink_to.ensures.pairs, size_of-fit w c.get.result (pairs_in c.self.inside.pairs.nodes), c.get.ensures.value, c.get-2.ensures.value)
 
 pub invariant_of-self : goal.invariant_of-self
 invariant_of-self g c =
-    let w = g.W.WeightScale.weight c.self.inside.scale in let s = c.shrink_to.ensures in let r = c.resize.ensures in
-    let size = non_zero_usize_get c.args.capacity in let es = pairs_in c.self.inside.nodes in
+    let w = g.W.WeightScale.weight c.self.inside.pairs.scale in let s = c.shrink_to.ensures in let r = c.resize.ensures in
+    let size = non_zero_usize_get c.args.capacity in let es = pairs_in c.self.inside.pairs.nodes in
     let old = c.self.invariant.pairs in
     let left = r.pairs ∙ s.pairs ∙ ap (λ n. fit w n es) c.get.ensures.value in
     record {

@@ -6,7 +6,7 @@ use Rattle.clru.proofs.cache.extend.CLruCache+K+V+S+ZeroWeightScale+A.close.Goal
 
 pub invariant_of-self : goal.invariant_of-self
 invariant_of-self g c =
-    let es = pairs_in c.self.inside.nodes in let old = c.self.invariant.pairs in
+    let es = pairs_in c.self.inside.pairs.nodes in let old = c.self.invariant.pairs in
     let covers : length es ≤ non_zero_usize_get c.unwrap_or-capacity.result = search rules in
     record {
       pairs = rw c.resize.ensures.pairs

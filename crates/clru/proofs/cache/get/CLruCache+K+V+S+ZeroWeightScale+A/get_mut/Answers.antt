@@ -22,7 +22,7 @@ returns g c =
     let h = held (eq key) c.if-not-touch.ensures.held in let same = first_pair after first (e.pairs ∙ touch-held eq key h) in
     rw (← c.self.view_is) (
       ends_alike (λ w. let written = (first_written after first w).pairs ∙ ap (with_front w) e.pairs ∙ with_front-set_value eq key h w in
-          λ j. cache (written j) (non_zero_usize_get f.capacity) f.scale (e.same.places j)),
+          λ j. cache (written j) (non_zero_usize_get f.capacity) f.pairs.scale (e.same.places j)),
       record { lends = tt; value = ap (λ (p : g.row.K.Denot × g.row.V.Denot). Some p.1) same ∙ sym h.value },
     )
 

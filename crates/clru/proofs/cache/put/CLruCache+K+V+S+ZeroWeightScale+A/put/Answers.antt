@@ -31,7 +31,7 @@ returns-then-touch-clause-entries g c =
 pub invariant_of-self-then-len-get : goal.invariant_of-self-then-len-get
 invariant_of-self-then-len-get g c =
     let eq = g.K.PartialEq.eq in let key = c.args.key in let v = c.args.value in let e = c.touch.ensures in let r = c.replace_back.ensures in
-    let m = missed (eq key) c.if-touch.ensures.held in let es = pairs_in c.self.inside.nodes in
+    let m = missed (eq key) c.if-touch.ensures.held in let es = pairs_in c.self.inside.pairs.nodes in
     let before = e.pairs ∙ touch-missed eq key m in
     let full : length es ≡ non_zero_usize_get c.self.inside.capacity = omega (arith, ap length before, c.len.ensures, c.if-len-get.true, c.get.ensures.value) in
     IsCache-from (λ k v. 0) c.self.invariant
@@ -43,7 +43,7 @@ pub returns-then-len-get-clause-entries : goal.returns-then-len-get-clause-entri
 returns-then-len-get-clause-entries g c =
     let eq = g.K.PartialEq.eq in let key = c.args.key in let v = c.args.value in let m = missed (eq key) c.if-touch.ensures.held in
     let before = c.touch.ensures.pairs ∙ touch-missed eq key m in
-    let full : length (pairs_in c.self.inside.nodes) ≡ non_zero_usize_get c.self.inside.capacity =
+    let full : length (pairs_in c.self.inside.pairs.nodes) ≡ non_zero_usize_get c.self.inside.capacity =
     omega (arith, ap length before, c.len.ensures, c.if-len-get.true, c.get.ensures.value) in
     rw (← c.self.view_is) (c.replace_back.ensures.pairs ∙ ap (λ l. (key, v) ∷ take (length l - 1) l) before ∙ put_full eq _ key v m full)
 
@@ -51,7 +51,7 @@ pub returns-then-len-get-clause-dropped : goal.returns-then-len-get-clause-dropp
 returns-then-len-get-clause-dropped g c =
     let eq = g.K.PartialEq.eq in let key = c.args.key in let m = missed (eq key) c.if-touch.ensures.held in
     let before = c.touch.ensures.pairs ∙ touch-missed eq key m in
-    let full : length (pairs_in c.self.inside.nodes) ≡ non_zero_usize_get c.self.inside.capacity =
+    let full : length (pairs_in c.self.inside.pairs.nodes) ≡ non_zero_usize_get c.self.inside.capacity =
     omega (arith, ap length before, c.len.ensures, c.if-len-get.true, c.get.ensures.value) in
     rw (← c.self.view_is) (c.replace_back.ensures.pair ∙ ap (λ l. slice_get l (length l - 1)) before ∙ drop_full eq _ key m full)
 
@@ -90,7 +90,7 @@ push_front-requires-clause-room g c =
 pub invariant_of-self-2 : goal.invariant_of-self-2
 invariant_of-self-2 g c =
     let eq = g.K.PartialEq.eq in let key = c.args.key in let v = c.args.value in let e = c.touch.ensures in let p = c.push_front.ensures in
-    let k = c.in-Ok.ensures.keeps in let m = missed (eq key) c.if-touch.ensures.held in let es = pairs_in c.self.inside.nodes in
+    let k = c.in-Ok.ensures.keeps in let m = missed (eq key) c.if-touch.ensures.held in let es = pairs_in c.self.inside.pairs.nodes in
     let capacity = non_zero_usize_get c.self.inside.capacity in let before = e.pairs ∙ touch-missed eq key m in
     let free : length es < capacity = omega (arith, ap length before, c.len.ensures, c.if-len-get.false, c.get.ensures.value, c.self.invariant.pairs.fits) in
     IsCache-from (λ k v. 0) c.self.invariant
@@ -102,7 +102,7 @@ pub returns-clause-entries : goal.returns-clause-entries
 returns-clause-entries g c =
     let eq = g.K.PartialEq.eq in let key = c.args.key in let v = c.args.value in let m = missed (eq key) c.if-touch.ensures.held in
     let before = c.touch.ensures.pairs ∙ touch-missed eq key m in
-    let free : length (pairs_in c.self.inside.nodes) < non_zero_usize_get c.self.inside.capacity =
+    let free : length (pairs_in c.self.inside.pairs.nodes) < non_zero_usize_get c.self.inside.capacity =
     omega (arith, ap length before, c.len.ensures, c.if-len-get.false, c.get.ensures.value, c.self.invariant.pairs.fits) in
     rw (← c.self.view_is) (c.push_front.ensures.pairs ∙ ap (λ l. (key, v) ∷ l) (c.in-Ok.ensures.keeps.pairs ∙ before) ∙ put_free eq _ key v m free)
 
@@ -110,7 +110,7 @@ pub returns-clause-dropped : goal.returns-clause-dropped
 returns-clause-dropped g c =
     let eq = g.K.PartialEq.eq in let key = c.args.key in let m = missed (eq key) c.if-touch.ensures.held in
     let before = c.touch.ensures.pairs ∙ touch-missed eq key m in
-    let free : length (pairs_in c.self.inside.nodes) < non_zero_usize_get c.self.inside.capacity =
+    let free : length (pairs_in c.self.inside.pairs.nodes) < non_zero_usize_get c.self.inside.capacity =
     omega (arith, ap length before, c.len.ensures, c.if-len-get.false, c.get.ensures.value, c.self.invariant.pairs.fits) in
     rw (← c.self.view_is) (drop_free eq _ key m free)
 
@@ -119,9 +119,9 @@ returns-clause-places g c =
     let eq = g.K.PartialEq.eq in let key = c.args.key in let v = c.args.value in let e = c.touch.ensures in let p = c.push_front.ensures in
     let o = c.in-Ok.ensures in let m = missed (eq key) c.if-touch.ensures.held in let before = e.pairs ∙ touch-missed eq key m in
     let fits = c.self.invariant.pairs.fits in
-    let free : length (pairs_in c.self.inside.nodes) < non_zero_usize_get c.self.inside.capacity =
+    let free : length (pairs_in c.self.inside.pairs.nodes) < non_zero_usize_get c.self.inside.capacity =
     omega (arith, ap length before, c.len.ensures, c.if-len-get.false, c.get.ensures.value, fits) in
     rw (← c.self.view_is) (grows_if_needed _ _ _ (λ _. free) (λ _. refl) m.value
-    (held_places c.self.inside.nodes c.self.invariant.indexed)
+    (held_places c.self.inside.pairs.nodes c.self.invariant.indexed)
     (GrowsIf-along (sym (ap length before)) (sym (e.same.capacity ∙ c.self.invariant.room)) (sym e.same.places) p.same.places o.grows) refl refl
     (omega (arith, ap length p.pairs, o.ready refl, p.same.places)))
