@@ -52,6 +52,16 @@ module _ {K V : Type 0} {eq : K → K → Bool} (weight : K → V → ℕ) where
     fits = rw (weight_of-cons weight e fs) (omega (arith, fits));
   }
 
+module _ {K V : Type 0} (weight : K → V → ℕ) where
+  -- a touch changes no weight
+  pub weight_of-touch : (eq : K → K → Bool) (x : K) (es : List (K × V)) → weight_of weight (touch eq x es) ≡ weight_of weight es
+  weight_of-touch eq x es =
+      (elim (lookup_entry (eq x) es) as (λ o. lookup_entry (eq x) es ≡ o → weight_of weight (touch eq x es) ≡ weight_of weight es) [
+        | None ↦ λ e. ap (weight_of weight) (touch-missed eq x (missed_at (eq x) (sym e)))
+        | Some d ↦ λ e. let h = held_at (eq x) (sym e) in
+            omega (arith, ap (weight_of weight) (touch-held eq x h), weight_of-cons weight h.entry (remove_entry (eq x) es), weight_of-held (eq x) weight h)
+      ]) refl
+
 module _ {K V : Type 0} {eq : K → K → Bool} (weight : K → V → ℕ) where
   -- when the entry that is found gets another value of the same weight and comes first
   pub IsKept-front : {es : List (K × V)} {c : ℕ} (x : K) (v : V) → IsEquivalence eq → IsKept eq weight es c
@@ -68,15 +78,6 @@ module _ {K V : Type 0} {eq : K → K → Bool} (weight : K → V → ℕ) where
         | None ↦ λ e. subst (λ l. IsKept eq weight l c) (sym (touch-missed eq x (missed_at (eq x) (sym e)))) old
         | Some d ↦ λ e. let h = held_at (eq x) (sym e) in
             subst (λ l. IsKept eq weight l c) (sym (touch-held eq x h)) (IsKept-front x h.entry.1 laws old h refl)
-      ]) refl
-
-  -- and nothing weighs more or less
-  pub weight_of-touch : (x : K) (es : List (K × V)) → weight_of weight (touch eq x es) ≡ weight_of weight es
-  weight_of-touch x es =
-      (elim (lookup_entry (eq x) es) as (λ o. lookup_entry (eq x) es ≡ o → weight_of weight (touch eq x es) ≡ weight_of weight es) [
-        | None ↦ λ e. ap (weight_of weight) (touch-missed eq x (missed_at (eq x) (sym e)))
-        | Some d ↦ λ e. let h = held_at (eq x) (sym e) in
-            omega (arith, ap (weight_of weight) (touch-held eq x h), weight_of-cons weight h.entry (remove_entry (eq x) es), weight_of-held (eq x) weight h)
       ]) refl
 
   -- the new pair comes first, and what does not fit beside it goes
@@ -109,7 +110,7 @@ module _ {K V S W A H : Type 0} {eq : K → K → Bool} (weight : W → K → V 
   IsCache-touch k laws old same indexed rest =
       let w = weight x.scale in
       IsCache-from old same (IsKept-touch w k laws old.pairs) (record {
-        weighs = old.whole.weighs ∙ sym (weight_of-touch {eq = eq} w k (pairs_in x.nodes)) ∙ ap (weight_of w) (sym same);
+        weighs = old.whole.weighs ∙ sym (weight_of-touch w eq k (pairs_in x.nodes)) ∙ ap (weight_of w) (sym same);
         indexed = indexed;
       }) refl rest.capacity
 

@@ -7,7 +7,7 @@ use Rattle.clru.proofs.cache.CLruCache.get.Goals as goal
 
 pub invariant_of-self : goal.invariant_of-self
 invariant_of-self g c =
-    let e = c.touch.ensures in IsCache-touch (g.W.WeightScale.weight c.self.inside.pairs.scale) c.args.key.now g.met.K.Eq.laws c.self.invariant e.pairs e.indexed e.same
+    let e = c.touch.ensures in IsCache-touch g.W.WeightScale.weight c.args.key.now g.met.K.Eq.laws c.self.invariant e.pairs e.indexed e.same
 
 pub returns-in_err-front : goal.returns-in_err-front
 returns-in_err-front g c =
@@ -27,4 +27,4 @@ returns-then-touch g c =
 
 pub invariant_of-self-else-touch : goal.invariant_of-self-else-touch
 invariant_of-self-else-touch g c =
-    let e = c.touch.ensures in IsCache-touch (g.W.WeightScale.weight c.self.inside.pairs.scale) c.args.key.now g.met.K.Eq.laws c.self.invariant e.pairs e.indexed e.same
+    let e = c.touch.ensures in IsCache-touch g.W.WeightScale.weight c.args.key.now g.met.K.Eq.laws c.self.invariant e.pairs e.indexed e.same

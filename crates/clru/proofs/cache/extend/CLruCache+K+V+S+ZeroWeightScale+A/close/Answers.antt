@@ -1,4 +1,4 @@
-use Rattle.std.proofs.Common.{◌≤◌, length, rules, arith}
+use Rattle.std.proofs.Common.{◌≤◌, length, rules, sym, ◌∙◌, arith}
 use Rattle.std.specs.NonZero.{non_zero_usize_get}
 use Rattle.clru_model.proofs.Weights.{weight_of-zero}
 use Rattle.clru_nodes.specs.Nodes.{pairs_in}
@@ -10,7 +10,10 @@ invariant_of-self g c =
     let covers : length es ≤ non_zero_usize_get c.unwrap_or-capacity.result = search rules in
     record {
       pairs = rw c.resize.ensures.pairs
-          (record { distinct = old.distinct; weighs = old.weighs; fits = omega (arith, covers, weight_of-zero es) });
-      indexed = c.resize.ensures.indexed;
+          (record { distinct = old.distinct; fits = omega (arith, covers, weight_of-zero es) });
+      whole = record {
+        weighs = c.self.invariant.whole.weighs ∙ weight_of-zero es ∙ sym (weight_of-zero (pairs_in c.resize.new.self));
+        indexed = c.resize.ensures.indexed;
+      };
       room = omega (arith, c.resize.ensures.capacity, c.get.ensures.value);
     }

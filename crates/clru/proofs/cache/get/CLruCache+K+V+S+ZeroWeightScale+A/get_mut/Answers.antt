@@ -12,7 +12,7 @@ use Rattle.clru.proofs.cache.get.CLruCache+K+V+S+ZeroWeightScale+A.get_mut.Goals
 pub invariant_of-self-lent : goal.invariant_of-self-lent
 invariant_of-self-lent g c =
     λ w. let e = c.touch.ensures in
-    IsCache-values (IsCache-touch (λ k v. 0) c.args.key.now g.met.K.Eq.laws c.self.invariant e.pairs e.indexed e.same)
+    IsCache-values (IsCache-touch (λ s k v. 0) c.args.key.now g.met.K.Eq.laws c.self.invariant e.pairs e.indexed e.same)
     (first_written _ c.front_item.ensures.first w)
 
 pub returns : goal.returns
@@ -28,4 +28,4 @@ returns g c =
 
 pub invariant_of-self : goal.invariant_of-self
 invariant_of-self g c =
-    let e = c.touch.ensures in IsCache-touch (λ k v. 0) c.args.key.now g.met.K.Eq.laws c.self.invariant e.pairs e.indexed e.same
+    let e = c.touch.ensures in IsCache-touch (λ s k v. 0) c.args.key.now g.met.K.Eq.laws c.self.invariant e.pairs e.indexed e.same
