@@ -36,6 +36,7 @@ where
     A: Allocator + Copy,
 {
     /// The number of pairs and their weight.
+    #[inline]
     pub(crate) fn size(&self) -> usize
         requires whole { IsWeighed W.weight (hash_of K.Hash S.BuildHasher S.Hasher.Hasher) self.now }
         requires small { size_in W.weight self.now < 2 ^ 64 }
@@ -45,6 +46,7 @@ where
     }
 
     /// Takes out the pair with the key, whose hash is given.
+    #[inline]
     pub(crate) fn take(&mut self, hash: u64, key: &K) -> Option<(K, V)>
         requires hash { hash ≡ hash_of K.Hash S.BuildHasher S.Hasher.Hasher (builder_of self.old.nodes) key.now }
         requires whole { IsWeighed W.weight (hash_of K.Hash S.BuildHasher S.Hasher.Hasher) self.old }
@@ -60,6 +62,7 @@ where
     }
 
     /// Takes out the first pair.
+    #[inline]
     pub(crate) fn pop_front(&mut self) -> Option<(K, V)>
         requires { IsWeighed W.weight (hash_of K.Hash S.BuildHasher S.Hasher.Hasher) self.old }
         ensures pair { result ≡ slice_get (pairs_in self.old.nodes) 0 }
@@ -73,6 +76,7 @@ where
     }
 
     /// Takes out the last pair.
+    #[inline]
     pub(crate) fn pop_back(&mut self) -> Option<(K, V)>
         requires { IsWeighed W.weight (hash_of K.Hash S.BuildHasher S.Hasher.Hasher) self.old }
         ensures pair { result ≡ slice_get (pairs_in self.old.nodes) (length (pairs_in self.old.nodes) - 1) }
@@ -87,6 +91,7 @@ where
 
     /// Puts a pair with a new key, whose hash is given, to the front, where a place is ready. Its weight is given too, so
     /// that it is weighed once.
+    #[inline]
     pub(crate) fn push_front(&mut self, hash: u64, key: K, value: V, weight: usize)
         requires hash { hash ≡ hash_of K.Hash S.BuildHasher S.Hasher.Hasher (builder_of self.old.nodes) key }
         requires whole { IsWeighed W.weight (hash_of K.Hash S.BuildHasher S.Hasher.Hasher) self.old }
@@ -103,6 +108,7 @@ where
     }
 
     /// Takes pairs from the back, until the number of pairs and their weight are at most `room`, and hands each of them out.
+    #[inline]
     pub(crate) fn shrink<F: FnMut(K, V)>(&mut self, room: usize, on_drop: &mut F)
         requires whole { IsWeighed W.weight (hash_of K.Hash S.BuildHasher S.Hasher.Hasher) self.old }
         requires small { size_in W.weight self.old < 2 ^ 64 }
@@ -123,6 +129,7 @@ where
     }
 
     /// Does the same, and where none has to go, finds memory for one more pair instead.
+    #[inline]
     pub(crate) fn make_room<F: FnMut(K, V)>(
         &mut self,
         room: usize,
@@ -155,6 +162,7 @@ where
     }
 
     /// Calls a closure at each pair, from the front to the back, and takes out those at which it answers `false`.
+    #[inline]
     pub(crate) fn retain<F: FnMut(&K, &V) -> bool>(&mut self, keep: F)
     where
         K: Drop,
@@ -169,6 +177,7 @@ where
     }
 
     /// Takes all pairs out.
+    #[inline]
     pub(crate) fn clear(&mut self)
     where
         K: Drop,
