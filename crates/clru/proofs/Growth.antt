@@ -1,5 +1,5 @@
 -- When a put finds memory for places.
-use Rattle.std.proofs.Common.{◌≡◌, ℕ, ◌≤◌, Bool, true, false, length, None, Some, IsTrue, inl, inr, refl, sym, arith}
+use Rattle.std.proofs.Common.{◌≡◌, ℕ, ◌≤◌, Bool, length, None, Some, inl, inr, sym, arith}
 use Rattle.std.specs.Map.{lookup}
 use Rattle.std.proofs.lemmas.Bool.{cases_lt}
 use Rattle.clru_nodes.specs.Growth.{GrowsIf}
@@ -7,7 +7,7 @@ use Rattle.clru.specs.Cache.{Cache}
 use Rattle.clru.specs.Memory.{GrowsOnlyIf, NeedsMemory}
 
 -- the same growth, by other names of its numbers
-pub GrowsIf-along : {wanted : Bool} {len c p q len' c' p' q' : ℕ} → len' ≡ len → c' ≡ c → p' ≡ p → q' ≡ q → GrowsIf wanted len c p q
+pub GrowsIf-along : {wanted : Type 0} {len c p q len' c' p' q' : ℕ} → len' ≡ len → c' ≡ c → p' ≡ p → q' ≡ q → GrowsIf wanted len c p q
     → GrowsIf wanted len' c' p' q'
 GrowsIf-along same_len same_c same_p same_q g = record {
   never_falls = omega (arith, same_p, same_q, g.never_falls);
@@ -32,17 +32,16 @@ module _ {K V W : Type 0} {eq : K → K → Bool} {x : K} where
   pub held_needs_none : {nothing_goes : Type 0} {v : V} (c : Cache K V W) → lookup (eq x) c.entries ≡ Some v → NeedsMemory eq c x nothing_goes → ⊥
   held_needs_none c held n = let absent = n.absent in cc
 
-  places_stay : {nothing_goes : Type 0} (old new : Cache K V W) (wanted : Bool) → (IsTrue wanted → nothing_goes) → lookup (eq x) old.entries ≡ None
+  places_stay : {nothing_goes : Type 0} (old new : Cache K V W) (wanted : Type 0) → (wanted → nothing_goes) → lookup (eq x) old.entries ≡ None
       → length old.entries ≤ old.places → GrowsIf wanted (length old.entries) old.capacity old.places new.places →
       (NeedsMemory eq old x nothing_goes → ⊥) → new.places ≡ old.places
-  places_stay old new false says absent held grows _ = grows.unwanted (λ t. cc)
-  places_stay old new true says absent held grows needs_none = elim (cases_lt (length old.entries) old.places) [
+  places_stay old new wanted says absent held grows needs_none = elim (cases_lt (length old.entries) old.places) [
     | inl free ↦ grows.free free
-    | inr full ↦ absurd (needs_none (record { absent = absent; room = says refl; taken = omega arith }))
+    | inr full ↦ grows.unwanted (λ t. needs_none (record { absent = absent; room = says t; taken = omega arith }))
   ]
 
   -- a put on an absent key finds memory only where it needs it
-  pub grows_if_needed : {nothing_goes : Type 0} (old new : Cache K V W) (wanted : Bool) → (IsTrue wanted → nothing_goes) → (nothing_goes → IsTrue wanted)
+  pub grows_if_needed : {nothing_goes : Type 0} (old new : Cache K V W) (wanted : Type 0) → (wanted → nothing_goes) → (nothing_goes → wanted)
       → lookup (eq x) old.entries ≡ None
       → length old.entries ≤ old.places → GrowsIf wanted (length old.entries) old.capacity old.places new.places
       → new.capacity ≡ old.capacity → new.scale ≡ old.scale → length new.entries ≤ new.places → GrowsOnlyIf

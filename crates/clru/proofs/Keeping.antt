@@ -1,5 +1,5 @@
 -- Which changes of the entries keep what a cache's fields keep.
-use Rattle.std.proofs.Common.{◌≡◌, ℕ, ◌+◌, ◌-◌, ◌<◌, ◌≤◌, Bool, true, false, List, [], ◌∷◌, length, take, drop, min, Some, None, slice_get, refl, sym, ◌∙◌, subst, arith, length-take}
+use Rattle.std.proofs.Common.{◌≡◌, ℕ, ◌+◌, ◌-◌, ◌<◌, ◌≤◌, Bool, true, false, List, [], ◌∷◌, length, take, drop, min, Some, None, refl, sym, ap, ◌∙◌, subst, arith, length-take}
 use Rattle.std.specs.Cmp.{IsEquivalence}
 use Rattle.std.specs.List.{AllByRecursion, IsDistinct}
 use Rattle.std.specs.Map.{keys_of, lookup, lookup_entry, remove_entry}
@@ -15,6 +15,8 @@ use Rattle.clru_model.proofs.Sublists.{sublist_take, sublist_trans, lookup-subli
 use Rattle.clru_nodes.specs.Nodes.{pairs_in, IsIndexed, IsSame, capacity_of}
 use Rattle.clru_nodes.specs.declared.nodes.Nodes.{Nodes}
 use Rattle.clru.specs.Fields.{IsKept, IsCache}
+use Rattle.clru.specs.Weighed.{IsWeighed}
+use Rattle.clru.specs.declared.weighed.Weighed.{Weighed}
 
 module _ {K V : Type 0} (eq : K → K → Bool) where
   keys_apart : (x : K) (es : List (K × V)) → NonePasses (eq x) es → (q : K) → ((y : K) → eq x y ≡ eq q y)
@@ -22,108 +24,112 @@ module _ {K V : Type 0} (eq : K → K → Bool) where
   keys_apart x [] none q same = tt
   keys_apart x (e ∷ es) none q same = (sym (same e.0) ∙ none.0, keys_apart x es none.1 q same)
 
+-- all but the first
+pub sublist_past_first : {X : Type 0} (es : List X) → IsSublist es (drop 1 es)
+sublist_past_first [] = sublist_itself []
+sublist_past_first (e ∷ es) = goes (sublist_itself es)
+
 module _ {K V : Type 0} {eq : K → K → Bool} (weight : K → V → ℕ) where
   -- with no entry
-  pub IsKept-none : (c : ℕ) → IsKept eq weight [] 0 c
+  pub IsKept-none : (c : ℕ) → IsKept eq weight [] c
   unfolding IsDistinct
-  IsKept-none c = record { distinct = tt; weighs = refl; fits = omega arith }
+  IsKept-none c = record { distinct = tt; fits = omega arith }
 
   -- when some entries go
-  pub IsKept-sublist : {es fs : List (K × V)} {kept c : ℕ} (left : ℕ) → IsKept eq weight es kept c → IsSublist es fs
-      → left ≡ weight_of weight fs → IsKept eq weight fs left c
-  IsKept-sublist left old s w = record {
+  pub IsKept-sublist : {es fs : List (K × V)} {c : ℕ} → IsKept eq weight es c → IsSublist es fs → IsKept eq weight fs c
+  IsKept-sublist old s = record {
     distinct = IsDistinct-sublist eq (sublist_keys s) old.distinct;
-    weighs = w;
     fits = omega (arith, old.fits, length-sublist s, sum_by-sublist (λ (e : K × V). weight e.0 e.1) s);
   }
 
-  -- when the first entry goes
-  pub IsKept-tail : {e : K × V} {es : List (K × V)} {kept c : ℕ} → IsKept eq weight (e ∷ es) kept c
-      → IsKept eq weight es (kept - weight e.0 e.1) c
-  IsKept-tail {e} {es} {kept} old =
-      IsKept-sublist (kept - weight e.0 e.1) old (goes (sublist_itself es)) (omega (arith, weight_of-cons weight e es, old.weighs))
-
-  -- the same by a look at it
-  pub IsKept-first : {es : List (K × V)} {kept c : ℕ} (e : K × V) → IsKept eq weight es kept c → Some e ≡ slice_get es 0
-      → IsKept eq weight (drop 1 es) (kept - weight e.0 e.1) c
-  IsKept-first {es = []} e old h = cc
-  IsKept-first {es = d ∷ es} {kept = kept} {c = c} e old h =
-      let first : d ≡ e = cc in subst (λ (f : K × V). IsKept eq weight es (kept - weight f.0 f.1) c) first (IsKept-tail old)
-
   -- when some entries go, none of x stays, and a pair of x comes first
-  pub IsKept-put : {es fs : List (K × V)} {kept c : ℕ} (left : ℕ) (x : K) (e : K × V) → IsEquivalence eq
-      → IsKept eq weight es kept c → IsSublist es fs → lookup (eq x) fs ≡ None → eq x e.0 ≡ true
-      → left ≡ weight_of weight (e ∷ fs) → 1 + weight e.0 e.1 + size_of weight fs ≤ c → IsKept eq weight (e ∷ fs) left c
-  IsKept-put {es} {fs} left x e laws old s absent same w fits = record {
+  pub IsKept-put : {es fs : List (K × V)} {c : ℕ} (x : K) (e : K × V) → IsEquivalence eq
+      → IsKept eq weight es c → IsSublist es fs → lookup (eq x) fs ≡ None → eq x e.0 ≡ true
+      → 1 + weight e.0 e.1 + size_of weight fs ≤ c → IsKept eq weight (e ∷ fs) c
+  IsKept-put {es} {fs} x e laws old s absent same fits = record {
     distinct = IsDistinct-cons eq e.0 (keys_of fs) (keys_apart eq x fs (none_passes_from_lookup (eq x) fs absent) e.0
         (λ y. laws.congr x e.0 y same)) (IsDistinct-sublist eq (sublist_keys s) old.distinct);
-    weighs = w;
     fits = rw (weight_of-cons weight e fs) (omega (arith, fits));
   }
 
-module _ {K V : Type 0} {eq : K → K → Bool} (weight : K → V → ℕ) where
-  -- when the entry that is found gets another value of the same weight and comes first
-  pub IsKept-front : {es : List (K × V)} {kept c : ℕ} (x : K) (v : V) → IsEquivalence eq → IsKept eq weight es kept c
-      → (h : IsHeld (eq x) es) → weight h.entry.0 v ≡ weight h.entry.0 h.entry.1
-      → IsKept eq weight ((h.entry.0, v) ∷ remove_entry (eq x) es) kept c
-  IsKept-front {es} {kept} {c} x v laws old h alike =
-      let rest = remove_entry (eq x) es in let sum = weight_of-held (eq x) weight h in
-      let cons : weight_of weight ((h.entry.0, v) ∷ rest) ≡ weight h.entry.0 v + weight_of weight rest = weight_of-cons weight (h.entry.0, v) rest in
-      IsKept-put weight kept x (h.entry.0, v) laws old (sublist_remove_entry (eq x) es) (lookup-without laws x es old.distinct) h.passes
-      (omega (arith, cons, sum, alike, old.weighs)) (omega (arith, sum, alike, h.shorter, old.fits))
-
-  -- when it comes first as it is, or none is found
-  pub IsKept-touch : {es : List (K × V)} {kept c : ℕ} (x : K) → IsEquivalence eq → IsKept eq weight es kept c
-      → IsKept eq weight (touch eq x es) kept c
-  IsKept-touch {es} {kept} {c} x laws old =
-      (elim (lookup_entry (eq x) es) as (λ o. lookup_entry (eq x) es ≡ o → IsKept eq weight (touch eq x es) kept c) [
-        | None ↦ λ e. subst (λ l. IsKept eq weight l kept c) (sym (touch-missed eq x (missed_at (eq x) (sym e)))) old
+module _ {K V : Type 0} (weight : K → V → ℕ) where
+  -- a touch changes no weight
+  pub weight_of-touch : (eq : K → K → Bool) (x : K) (es : List (K × V)) → weight_of weight (touch eq x es) ≡ weight_of weight es
+  weight_of-touch eq x es =
+      (elim (lookup_entry (eq x) es) as (λ o. lookup_entry (eq x) es ≡ o → weight_of weight (touch eq x es) ≡ weight_of weight es) [
+        | None ↦ λ e. ap (weight_of weight) (touch-missed eq x (missed_at (eq x) (sym e)))
         | Some d ↦ λ e. let h = held_at (eq x) (sym e) in
-            subst (λ l. IsKept eq weight l kept c) (sym (touch-held eq x h)) (IsKept-front x h.entry.1 laws old h refl)
+            omega (arith, ap (weight_of weight) (touch-held eq x h), weight_of-cons weight h.entry (remove_entry (eq x) es), weight_of-held (eq x) weight h)
       ]) refl
 
-module _ {K V S A H : Type 0} {eq : K → K → Bool} (weight : K → V → ℕ) {hash : S → K → ℕ} {x y : Nodes K V S A H} {kept c : ℕ} where
+module _ {K V : Type 0} {eq : K → K → Bool} (weight : K → V → ℕ) where
+  -- when the entry that is found gets another value of the same weight and comes first
+  pub IsKept-front : {es : List (K × V)} {c : ℕ} (x : K) (v : V) → IsEquivalence eq → IsKept eq weight es c
+      → (h : IsHeld (eq x) es) → weight h.entry.0 v ≡ weight h.entry.0 h.entry.1
+      → IsKept eq weight ((h.entry.0, v) ∷ remove_entry (eq x) es) c
+  IsKept-front {es} x v laws old h alike =
+      IsKept-put weight x (h.entry.0, v) laws old (sublist_remove_entry (eq x) es) (lookup-without laws x es old.distinct) h.passes
+      (omega (arith, weight_of-held (eq x) weight h, alike, h.shorter, old.fits))
+
+  -- when it comes first as it is, or none is found
+  pub IsKept-touch : {es : List (K × V)} {c : ℕ} (x : K) → IsEquivalence eq → IsKept eq weight es c → IsKept eq weight (touch eq x es) c
+  IsKept-touch {es} {c} x laws old =
+      (elim (lookup_entry (eq x) es) as (λ o. lookup_entry (eq x) es ≡ o → IsKept eq weight (touch eq x es) c) [
+        | None ↦ λ e. subst (λ l. IsKept eq weight l c) (sym (touch-missed eq x (missed_at (eq x) (sym e)))) old
+        | Some d ↦ λ e. let h = held_at (eq x) (sym e) in
+            subst (λ l. IsKept eq weight l c) (sym (touch-held eq x h)) (IsKept-front x h.entry.1 laws old h refl)
+      ]) refl
+
+  -- the new pair comes first, and what does not fit beside it goes
+  pub IsKept-weighted : {es fs : List (K × V)} {c : ℕ} (x : K) (v : V) → IsEquivalence eq
+      → IsKept eq weight es c → IsSublist es fs → lookup (eq x) fs ≡ None → weight x v < c
+      → IsKept eq weight ((x, v) ∷ fit weight (c - 1 - weight x v) fs) c
+  IsKept-weighted {fs = fs} {c = c} x v laws old s absent light =
+      let room = c - 1 - weight x v in
+      IsKept-put weight x (x, v) laws old (sublist_trans s (sublist_fit weight room fs))
+      (lookup-sublist (eq x) (sublist_fit weight room fs) absent) (laws.refl x) (omega (arith, light, size_of-fit weight room fs))
+
+  -- what fits another capacity is kept under it
+  pub IsKept-fit : {es : List (K × V)} {c : ℕ} (d : ℕ) → IsKept eq weight es c → IsKept eq weight (fit weight d es) d
+  IsKept-fit {es} d old = record { distinct = (IsKept-sublist weight old (sublist_fit weight d es)).distinct; fits = size_of-fit weight d es }
+
+module _ {K V S W A H : Type 0} {eq : K → K → Bool} (weight : W → K → V → ℕ) {hash : S → K → ℕ} {x : Weighed K V S W A H} {c : ℕ} where
   -- a cache whose nodes have other pairs
-  pub IsCache-from : {fs : List (K × V)} {left : ℕ} → IsCache eq weight hash x kept c → pairs_in y ≡ fs → IsKept eq weight fs left c
-      → IsIndexed hash y → capacity_of y ≡ capacity_of x → IsCache eq weight hash y left c
-  IsCache-from {fs} {left} old same pairs indexed capacity = record {
-    pairs = subst (λ l. IsKept eq weight l left c) (sym same) pairs;
-    indexed = indexed;
+  pub IsCache-from : {y : Weighed K V S W A H} {fs : List (K × V)} → IsCache eq weight hash x c → pairs_in y.nodes ≡ fs
+      → IsKept eq (weight x.scale) fs c → IsWeighed weight hash y → y.scale ≡ x.scale → capacity_of y.nodes ≡ capacity_of x.nodes
+      → IsCache eq weight hash y c
+  IsCache-from {y} old same pairs whole scale capacity = record {
+    pairs = subst (λ s. IsKept eq (weight s) (pairs_in y.nodes) c) (sym scale) (subst (λ l. IsKept eq (weight x.scale) l c) (sym same) pairs);
+    whole = whole;
     room = capacity ∙ old.room;
   }
 
   -- after a touch
-  pub IsCache-touch : (k : K) → IsEquivalence eq → IsCache eq weight hash x kept c → pairs_in y ≡ touch eq k (pairs_in x)
-      → IsIndexed hash y → IsSame x y → IsCache eq weight hash y kept c
-  IsCache-touch k laws old same indexed rest = IsCache-from old same (IsKept-touch weight k laws old.pairs) indexed rest.capacity
+  pub IsCache-touch : {n : Nodes K V S A H} (k : K) → IsEquivalence eq → IsCache eq weight hash x c → pairs_in n ≡ touch eq k (pairs_in x.nodes)
+      → IsIndexed hash n → IsSame x.nodes n → IsCache eq weight hash (record x { nodes = n }) c
+  IsCache-touch k laws old same indexed rest =
+      let w = weight x.scale in
+      IsCache-from old same (IsKept-touch w k laws old.pairs) (record {
+        weighs = old.whole.weighs ∙ sym (weight_of-touch w eq k (pairs_in x.nodes)) ∙ ap (weight_of w) (sym same);
+        indexed = indexed;
+      }) refl rest.capacity
 
 -- at weight zero
 module _ {K V : Type 0} {eq : K → K → Bool} where
   -- a new entry comes first, and what is past the capacity goes
-  pub IsKept-new : {es : List (K × V)} {kept c : ℕ} (x : K) (v : V) → IsEquivalence eq → IsKept eq (λ k v. 0) es kept c
-      → lookup (eq x) es ≡ None → 0 < c → IsKept eq (λ k v. 0) ((x, v) ∷ take (c - 1) es) kept c
-  IsKept-new {es} {kept} {c} x v laws old absent some =
+  pub IsKept-new : {es : List (K × V)} {c : ℕ} (x : K) (v : V) → IsEquivalence eq → IsKept eq (λ k v. 0) es c
+      → lookup (eq x) es ≡ None → 0 < c → IsKept eq (λ k v. 0) ((x, v) ∷ take (c - 1) es) c
+  IsKept-new {es} {c} x v laws old absent some =
       let rest = take (c - 1) es in let len : length rest ≡ min (c - 1) (length es) = length-take (c - 1) es in
-      IsKept-put (λ k v. 0) kept x (x, v) laws old (sublist_take (c - 1) es)
-      (lookup-sublist (eq x) (sublist_take (c - 1) es) absent) (laws.refl x)
-      (omega (arith, old.weighs, weight_of-zero es, weight_of-zero ((x, v) ∷ rest))) (omega (arith, weight_of-zero rest, len))
+      IsKept-put (λ k v. 0) x (x, v) laws old (sublist_take (c - 1) es)
+      (lookup-sublist (eq x) (sublist_take (c - 1) es) absent) (laws.refl x) (omega (arith, weight_of-zero rest, len))
 
-module _ {K V : Type 0} (weight : K → V → ℕ) where
-  -- the new pair comes first, and what does not fit beside it goes
-  pub IsKept-weighted : {eq : K → K → Bool} {es fs : List (K × V)} {kept c : ℕ} (left : ℕ) (x : K) (v : V) → IsEquivalence eq
-      → IsKept eq weight es kept c → IsSublist es fs → lookup (eq x) fs ≡ None → weight x v < c
-      → left ≡ weight_of weight ((x, v) ∷ fit weight (c - 1 - weight x v) fs)
-      → IsKept eq weight ((x, v) ∷ fit weight (c - 1 - weight x v) fs) left c
-  IsKept-weighted {eq} {es} {fs} {c = c} left x v laws old s absent light w =
-      let room = c - 1 - weight x v in
-      IsKept-put weight left x (x, v) laws old (sublist_trans s (sublist_fit weight room fs))
-      (lookup-sublist (eq x) (sublist_fit weight room fs) absent) (laws.refl x) w (omega (arith, size_of-fit weight room fs))
-
-  -- what fits another capacity is kept under it
-  pub IsKept-fit : {eq : K → K → Bool} {es : List (K × V)} {kept c : ℕ} (d left : ℕ) → IsKept eq weight es kept c
-      → left ≡ weight_of weight (fit weight d es) → IsKept eq weight (fit weight d es) left d
-  IsKept-fit {es = es} d left old w = record {
-    distinct = (IsKept-sublist weight left old (sublist_fit weight d es) w).distinct;
-    weighs = w;
-    fits = size_of-fit weight d es;
-  }
+  module _ {S W A H : Type 0} {hash : S → K → ℕ} {x : Weighed K V S W A H} {c : ℕ} where
+    -- other nodes keep the total
+    pub IsCache-plain : {n : Nodes K V S A H} {fs : List (K × V)} → IsCache eq (λ s k v. 0) hash x c → pairs_in n ≡ fs
+        → IsKept eq (λ k v. 0) fs c → IsIndexed hash n → capacity_of n ≡ capacity_of x.nodes
+        → IsCache eq (λ s k v. 0) hash (record x { nodes = n }) c
+    IsCache-plain {n} old same pairs indexed capacity = IsCache-from (λ s k v. 0) old same pairs (record {
+      weighs = old.whole.weighs ∙ weight_of-zero (pairs_in x.nodes) ∙ sym (weight_of-zero (pairs_in n));
+      indexed = indexed;
+    }) refl capacity

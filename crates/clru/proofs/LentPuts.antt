@@ -1,7 +1,5 @@
 -- What a plain put leaves that lends the value in front, at weight zero, and the call that changes it.
 use Rattle.std.proofs.Common.{◌≡◌, ℕ, ◌-◌, ◌<◌, Bool, Some, ◌∷◌, length, take, refl, sym, ap, ◌∙◌, arith}
-use Rattle.std.proofs.Math.Dec.{ltb}
-use Rattle.std.proofs.lemmas.Bool.{ltb-true, lt-ltb}
 use Rattle.std.specs.Borrow.{Bor, MutBor}
 use Rattle.std.specs.Cmp.{IsEquivalence}
 use Rattle.std.specs.Fn.{Mut, Called}
@@ -15,8 +13,9 @@ use Rattle.clru_nodes.proofs.WrittenItems.{first_written, held_places}
 use Rattle.clru.specs.Cache.{Cache, cache}
 use Rattle.clru.specs.Closures.{CallsAtEntry}
 use Rattle.clru.specs.Fields.{IsCache}
+use Rattle.clru.specs.declared.weighed.Weighed.{Weighed}
 use Rattle.clru.specs.Memory.{GrowsOnlyIf, NeedsPlace}
-use Rattle.clru.proofs.Keeping.{IsKept-front, IsKept-new, IsCache-from}
+use Rattle.clru.proofs.Keeping.{IsKept-front, IsKept-new, IsCache-plain}
 use Rattle.clru.proofs.Growth.{GrowsIf-along, grows_not, grows_if_needed, held_needs_none}
 
 module _ {M K V T R : Type 0} (g : Mut M (Bor K × (MutBor V × (T × Unit {0}))) (R × (MutBor V × Unit {0})))
@@ -35,15 +34,15 @@ module _ {M K V T R : Type 0} (g : Mut M (Bor K × (MutBor V × (T × Unit {0}))
     leaves = refl;
   }
 
-module _ {K V S A H W : Type 0} {eq : K → K → Bool} {hash : S → K → ℕ} {x : Nodes K V S A H} {kept c : ℕ} (key : K) (scale : W)
-    (old : IsCache eq (λ k v. 0) hash x kept c) where
+module _ {K V S A H W : Type 0} {eq : K → K → Bool} {hash : S → K → ℕ} {x : Weighed K V S W A H} {c : ℕ} (key : K)
+    (old : IsCache eq (λ s k v. 0) hash x c) where
   -- the cache of the nodes z
   abbrev seen : Nodes K V S A H → Cache K V W
-  seen z = cache (pairs_in z) c scale (places_of z)
+  seen z = cache (pairs_in z) c x.scale (places_of z)
 
   -- its places grow only where a put of the key needs one
   abbrev Grows : Nodes K V S A H → Type 0
-  Grows z = GrowsOnlyIf (NeedsPlace eq (seen x) key) (seen x) (seen z)
+  Grows z = GrowsOnlyIf (NeedsPlace eq (seen x.nodes) key) (seen x.nodes) (seen z)
 
   -- the nodes with w as the value of their first item
   abbrev written : Nodes K V S A H → Item K V → V → Nodes K V S A H
@@ -51,46 +50,46 @@ module _ {K V S A H W : Type 0} {eq : K → K → Bool} {hash : S → K → ℕ}
 
   -- what the cache is once w is the value in front
   pub record IsLentPut (z : Nodes K V S A H) (i : Item K V) (w : V) : Type 0 where
-    pub keeps : IsCache eq (λ k v. 0) hash (written z i w) kept c
-    pub entries : pairs_in (written z i w) ≡ plain_put eq c key w (pairs_in x)
+    pub keeps : IsCache eq (λ s k v. 0) hash (record x { nodes = written z i w }) c
+    pub entries : pairs_in (written z i w) ≡ plain_put eq c key w (pairs_in x.nodes)
     pub grows : Grows (written z i w)
 
   -- the entry of a held key, after a touch
-  pub lent_held : IsEquivalence eq → IsHeld (eq key) (pairs_in x) → {z : Nodes K V S A H}
-      → pairs_in z ≡ touch eq key (pairs_in x) → IsIndexed hash z → IsSame x z
+  pub lent_held : IsEquivalence eq → IsHeld (eq key) (pairs_in x.nodes) → {z : Nodes K V S A H}
+      → pairs_in z ≡ touch eq key (pairs_in x.nodes) → IsIndexed hash z → IsSame x.nodes z
       → {i : Item K V} → first_item z ≡ Some i → (w : V) → IsLentPut z i w
   lent_held laws h {z} touched indexed same {i} first w =
       let lent = first_written z first w in let after = lent.indexed indexed in
       let put = lent.pairs ∙ ap (with_front w) touched ∙ with_front-touch eq key h w in
       record {
-        keeps = IsCache-from (λ k v. 0) old put (IsKept-front (λ k v. 0) key w laws old.pairs h refl) after same.capacity;
+        keeps = IsCache-plain old put (IsKept-front (λ k v. 0) key w laws old.pairs h refl) after same.capacity;
         entries = put ∙ sym (plain_put-held eq key h c w);
-        grows = grows_not _ (seen x) (seen (written z i w)) (held_needs_none (seen x) h.value) refl refl same.places (held_places _ after);
+        grows = grows_not _ (seen x.nodes) (seen (written z i w)) (held_needs_none (seen x.nodes) h.value) refl refl same.places (held_places _ after);
       }
 
   -- a place made ready for a new key, after a touch that found none
   pub record IsReady (z : Nodes K V S A H) : Type 0 where
-    pub pairs : pairs_in z ≡ pairs_in x
-    pub capacity : capacity_of z ≡ capacity_of x
-    pub keeps : IsCache eq (λ k v. 0) hash z kept c
+    pub pairs : pairs_in z ≡ pairs_in x.nodes
+    pub capacity : capacity_of z ≡ capacity_of x.nodes
+    pub keeps : IsCache eq (λ s k v. 0) hash (record x { nodes = z }) c
     pub grows : (y : Nodes K V S A H) → IsIndexed hash y → places_of y ≡ places_of z → Grows y
 
-  pub ready_new : {y z : Nodes K V S A H} {a b : ℕ} → (m : IsMissed (eq key) (pairs_in x))
-      → pairs_in y ≡ touch eq key (pairs_in x) → IsSame x y
-      → a ≡ length (pairs_in y) → b ≡ c → GrowsIf (ltb a b) (length (pairs_in y)) (capacity_of y) (places_of y) (places_of z) → KeepsPairs y z → IsIndexed hash z → IsReady z
-  ready_new {y} {z} {a} {b} m touched same len is_c growth keeps indexed =
+  pub ready_new : {y z : Nodes K V S A H} → (m : IsMissed (eq key) (pairs_in x.nodes)) → pairs_in y ≡ touch eq key (pairs_in x.nodes) → IsSame x.nodes y
+      → GrowsIf (length (pairs_in y) < capacity_of y) (length (pairs_in y)) (capacity_of y) (places_of y) (places_of z)
+      → KeepsPairs y z → IsIndexed hash z → IsReady z
+  ready_new {y} {z} m touched same growth keeps indexed =
       let before = touched ∙ touch-missed eq key m in let pairs = keeps.pairs ∙ before in let many = ap length before in
       record {
         pairs = pairs;
         capacity = keeps.capacity ∙ same.capacity;
-        keeps = IsCache-from (λ k v. 0) old pairs old.pairs indexed (keeps.capacity ∙ same.capacity);
-        grows = λ u whole is. grows_if_needed (seen x) (seen u) (ltb a b) (λ t. omega (arith, ltb-true a b t, len, is_c, many))
-            (λ n. lt-ltb a b (omega (arith, n, len, is_c, many))) m.value
-            (held_places x old.indexed) (GrowsIf-along (sym many) (sym (same.capacity ∙ old.room)) (sym same.places) is growth) refl refl (held_places u whole);
+        keeps = IsCache-plain old pairs old.pairs indexed (keeps.capacity ∙ same.capacity);
+        grows = λ u whole is. grows_if_needed (seen x.nodes) (seen u) _ (λ t. omega (arith, t, many, same.capacity, old.room))
+            (λ n. omega (arith, n, many, same.capacity, old.room)) m.value
+            (held_places x.nodes old.whole.indexed) (GrowsIf-along (sym many) (sym (same.capacity ∙ old.room)) (sym same.places) is growth) refl refl (held_places u whole);
       }
 
   -- the entry of a new key, which was put in front then
-  pub lent_new : IsEquivalence eq → IsMissed (eq key) (pairs_in x) → {y z : Nodes K V S A H} {v : V} → IsReady y → 0 < c
+  pub lent_new : IsEquivalence eq → IsMissed (eq key) (pairs_in x.nodes) → {y z : Nodes K V S A H} {v : V} → IsReady y → 0 < c
       → pairs_in z ≡ (key, v) ∷ take (capacity_of y - 1) (pairs_in y) → IsIndexed hash z → IsSame y z
       → {i : Item K V} → first_item z ≡ Some i → (w : V) → IsLentPut z i w
   lent_new laws m {y} {z} {v} ready some pushed indexed same {i} first w =
@@ -98,7 +97,7 @@ module _ {K V S A H W : Type 0} {eq : K → K → Bool} {hash : S → K → ℕ}
       let whole = pushed ∙ ap (λ n. (key, v) ∷ take (n - 1) (pairs_in y)) (ready.capacity ∙ old.room) ∙ ap (λ l. (key, v) ∷ take (c - 1) l) ready.pairs in
       let put = lent.pairs ∙ ap (with_front w) whole in
       record {
-        keeps = IsCache-from (λ k v. 0) old put (IsKept-new key w laws old.pairs m.value some) after (same.capacity ∙ ready.capacity);
+        keeps = IsCache-plain old put (IsKept-new key w laws old.pairs m.value some) after (same.capacity ∙ ready.capacity);
         entries = put ∙ sym (plain_put-missed eq key m c w);
         grows = ready.grows (written z i w) after same.places;
       }

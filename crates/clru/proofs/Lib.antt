@@ -11,3 +11,4 @@ pub mod Keeping
 pub mod LentPuts
 pub mod Replaying
 pub mod Values
+pub mod Weighing

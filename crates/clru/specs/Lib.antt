@@ -22,3 +22,4 @@ pub mod Lends
 pub mod Memory
 pub mod WalkLends
 pub mod Walks
+pub mod Weighed

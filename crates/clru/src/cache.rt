@@ -16,9 +16,9 @@ mod resize;
 mod retain;
 mod walk;
 
+use crate::weighed::Weighed;
 pub use answer::Put;
 use clru_model::{DefaultState, WeightScale, ZeroWeightScale};
-use clru_nodes::Nodes;
 use std::alloc::{Allocator, Global};
 use std::hash::{BuildHasher, Hash};
 use std::marker::Model;
@@ -51,10 +51,8 @@ pub struct CLruCache<
     W: WeightScale<K, V> = ZeroWeightScale,
     A: Allocator + Copy = Global,
 > {
-    pub(crate) nodes: Nodes<K, V, S, A>,
+    pub(crate) pairs: Weighed<K, V, S, W, A>,
     pub(crate) capacity: NonZeroUsize,
-    pub(crate) scale: W,
-    pub(crate) total_weight: usize,
 }
 
 impl<K: Eq + Hash, V, S: BuildHasher, W: WeightScale<K, V>, A: Allocator + Copy> Model
@@ -68,11 +66,10 @@ impl<K: Eq + Hash, V, S: BuildHasher, W: WeightScale<K, V>, A: Allocator + Copy>
 
     ghost coded = { cache_code K.code V.code W.code };
 
-    ghost view = { λ c. cache (pairs_in c.nodes) (non_zero_usize_get c.capacity) c.scale (places_of c.nodes) };
+    ghost view = { λ c. cache (pairs_in c.pairs.nodes) (non_zero_usize_get c.capacity) c.pairs.scale (places_of c.pairs.nodes) };
 
-    ghost invariant = { λ c. IsCache K.eq (W.weight c.scale)
-        (hash_by S.Hasher.finish S.Hasher.write S.build_hasher K.hash_input)
-        c.nodes c.total_weight (non_zero_usize_get c.capacity) };
+    ghost invariant = { λ c. IsCache K.eq W.weight (hash_by S.Hasher.finish S.Hasher.write S.build_hasher K.hash_input)
+        c.pairs (non_zero_usize_get c.capacity) };
 }
 
 impl<K: Eq + Hash, V, S: BuildHasher, W: WeightScale<K, V>, A> CLruCache<K, V, S, W, A>
@@ -85,7 +82,7 @@ where
         ensures valid { IsValid K.eq (W.weight self.now.scale) self.now }
     {
         let _capacity = self.capacity.get();
-        self.nodes.len()
+        self.pairs.nodes.len()
     }
 
     /// Returns what the number of entries and their total weight never pass together.
@@ -102,14 +99,14 @@ where
         ensures valid { IsValid K.eq (W.weight self.now.scale) self.now }
     {
         let _room = self.capacity.get();
-        self.total_weight
+        self.pairs.total
     }
 
     /// Returns whether there is no entry.
     pub fn is_empty(&self) -> bool
         ensures { IsTrue result ↔ (self.now.entries ≡ []) }
     {
-        self.nodes.len() == 0
+        self.pairs.nodes.len() == 0
     }
 
     /// Returns whether the number of entries and their total weight reach the capacity.
@@ -117,6 +114,6 @@ where
         ensures { IsTrue result ↔ (size_of (W.weight self.now.scale) self.now.entries ≡ self.now.capacity) }
     {
         let capacity = self.capacity.get();
-        self.nodes.len() + self.total_weight == capacity
+        self.pairs.nodes.len() + self.pairs.total == capacity
     }
 }

@@ -18,7 +18,7 @@ mod entry;
 mod iter;
 mod laws;
 mod replays;
-mod shrink;
+mod weighed;
 
 pub use cache::{CLruCache, Put};
 pub use clru_list::NoMemory;

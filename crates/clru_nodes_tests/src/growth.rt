@@ -39,15 +39,16 @@ fn grow(nodes: &mut Numbers, key: u64, value: u64) -> Result<(), &'static str>
     ensures capacity { capacity_of nodes.new ≡ capacity_of nodes.old }
     ensures indexed { IsIndexed (hash_by finish write (λ _. initial) fed.u64) nodes.new }
 {
-    nodes.make_ready_if(true).map_err(|_| "no memory")?;
+    nodes.make_ready().map_err(|_| "no memory")?;
     nodes.push_front(nodes.hash(&key), key, value);
     Ok(())
 }
 
 #[test]
-fn nodes_grow_where_that_is_wanted(rt: HostRuntime) -> Result<(), Fail> {
+fn nodes_grow_where_there_is_room(rt: HostRuntime) -> Result<(), Fail> {
+    let mut full: Numbers = Nodes::new(rt.alloc(), 0, DefaultState);
+    equal!(rt; full.make_ready(), Ok(()));
     let mut nodes = Nodes::new(rt.alloc(), 9, DefaultState);
-    equal!(rt; nodes.make_ready_if(false), Ok(()));
     grow(&mut nodes, 1, 10)?;
     grow(&mut nodes, 2, 20)?;
     grow(&mut nodes, 3, 30)?;

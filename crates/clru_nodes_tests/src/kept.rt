@@ -44,11 +44,10 @@ impl<A: Allocator + Copy> Kept<A> {
         let None = self.nodes.get(hash, &key) else {
             return false;
         };
-        let has_room = self.nodes.len() < self.capacity;
-        if self.capacity == 0 || self.nodes.make_ready_if(has_room).is_err() {
+        if self.capacity == 0 || self.nodes.make_ready().is_err() {
             return false;
         }
-        self.nodes.put_front(hash, key, value);
+        let _ = self.nodes.put_front(hash, key, value);
         true
     }
 

@@ -36,7 +36,7 @@ fn a_resize_and_a_clear_leave_room(rt: HostRuntime) -> Result<(), Fail> {
     let mut nodes = three(rt.alloc())?;
     nodes.resize(3);
     finds(&rt, &nodes, &[(3, 30), (2, 20), (1, 10)]);
-    nodes.put_front(nodes.hash(&4), 4, 40);
+    equal!(rt; nodes.put_front(nodes.hash(&4), 4, 40), Some((1, 10)));
     finds(&rt, &nodes, &[(4, 40), (3, 30), (2, 20)]);
     nodes.clear();
     finds(&rt, &nodes, &[]);

@@ -20,14 +20,14 @@ where
     pub fn front(&self) -> Option<(&K, &V)>
         ensures { option_map deref_pair result ≡ slice_get self.now.entries 0 }
     {
-        self.nodes.front()
+        self.pairs.nodes.front()
     }
 
     /// Returns the least recently used entry, and leaves the order as it is.
     pub fn back(&self) -> Option<(&K, &V)>
         ensures { option_map deref_pair result ≡ slice_get self.now.entries (length self.now.entries - 1) }
     {
-        self.nodes.back()
+        self.pairs.nodes.back()
     }
 
     /// Returns the entry at an end, where there is one.
@@ -90,8 +90,8 @@ impl<K: Eq + Hash, V, S: BuildHasher, A: Allocator + Copy> CLruCache<K, V, S, Ze
             ≡ option_map (λ e. e.1) (slice_get self.old.entries (index_of end self.old.entries)) }
     {
         match end {
-            End::Front => &mut self.nodes.front_item().value,
-            End::Back => &mut self.nodes.back_item().value,
+            End::Front => &mut self.pairs.nodes.front_item().value,
+            End::Back => &mut self.pairs.nodes.back_item().value,
         }
     }
 }

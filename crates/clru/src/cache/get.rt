@@ -30,9 +30,9 @@ where
             S.Hasher.Hasher W.WeightScale A.Allocator self.entry (touch K.eq key.now self.old.entries)) }
         ensures value { option_copied result ≡ lookup (K.eq key.now) self.old.entries }
     {
-        let hash = self.nodes.hash(key);
-        if self.nodes.touch(hash, key) {
-            return Some(self.nodes.front()?.1);
+        let hash = self.pairs.nodes.hash(key);
+        if self.pairs.nodes.touch(hash, key) {
+            return Some(self.pairs.nodes.front()?.1);
         }
         None
     }
@@ -41,7 +41,7 @@ where
     pub fn peek(&self, key: &K) -> Option<&V>
         ensures { option_copied result ≡ lookup (K.eq key.now) self.now.entries }
     {
-        self.nodes.get(self.nodes.hash(key), key)
+        self.pairs.nodes.get(self.pairs.nodes.hash(key), key)
     }
 
     /// Returns whether the key is held, and leaves the order as it is.
@@ -60,11 +60,11 @@ impl<K: Eq + Hash, V, S: BuildHasher, A: Allocator + Copy> CLruCache<K, V, S, Ze
             (touch K.eq key.now self.old.entries) result) }
         ensures value { option_copied_mut result ≡ lookup (K.eq key.now) self.old.entries }
     {
-        let hash = self.nodes.hash(key);
-        if !self.nodes.touch(hash, key) {
+        let hash = self.pairs.nodes.hash(key);
+        if !self.pairs.nodes.touch(hash, key) {
             return None;
         }
-        Some(&mut self.nodes.front_item().value)
+        Some(&mut self.pairs.nodes.front_item().value)
     }
 
     /// Lends the value of the key for writing, and leaves the order as it is.
@@ -74,8 +74,8 @@ impl<K: Eq + Hash, V, S: BuildHasher, A: Allocator + Copy> CLruCache<K, V, S, Ze
             self.old.entries result) }
         ensures value { option_copied_mut result ≡ lookup (K.eq key.now) self.old.entries }
     {
-        let hash = self.nodes.hash(key);
-        let value = self.nodes.get_mut(hash, key)?;
+        let hash = self.pairs.nodes.hash(key);
+        let value = self.pairs.nodes.get_mut(hash, key)?;
         Some(value)
     }
 }

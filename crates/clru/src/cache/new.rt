@@ -6,6 +6,7 @@ ghost use Rattle.clru.specs.Cache.{cache};
 
 use crate::cache::CLruCache;
 use crate::config::CLruCacheConfig;
+use crate::weighed::Weighed;
 use clru_list::NoMemory;
 use clru_model::{DefaultState, WeightScale, ZeroWeightScale};
 use clru_nodes::Nodes;
@@ -114,10 +115,12 @@ where
         ensures { result ≡ cache [] (non_zero_usize_get capacity) scale (places_of nodes) }
     {
         CLruCache {
-            nodes,
+            pairs: Weighed {
+                nodes,
+                scale,
+                total: 0,
+            },
             capacity,
-            scale,
-            total_weight: 0,
         }
     }
 }

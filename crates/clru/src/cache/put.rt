@@ -8,7 +8,6 @@ ghost use Rattle.clru.specs.Memory.{NeedsPlace, NeedsPlaceFor, GrowsOnlyIf};
 
 use crate::cache::CLruCache;
 use crate::cache::answer::Put;
-use crate::shrink::shrink_handing_to;
 use clru_model::{PutError, WeightScale, ZeroWeightScale};
 use std::alloc::Allocator;
 use std::hash::{BuildHasher, Hash};
@@ -84,40 +83,23 @@ where
             (weighted_drops K.eq (W.weight self.old.scale) self.old.capacity key value self.old.entries) on_drop.new) }
         ensures not_called { OnErr result (on_drop.new ≡ on_drop.old) }
     {
-        let weight = self.scale.weight(&key, &value);
+        let weight = self.pairs.scale.weight(&key, &value);
         let capacity = self.capacity.get();
         if weight >= capacity {
             return Err(PutError::TooHeavy(key, value));
         }
         // Compared with the room that the pair leaves, so that no sum passes the largest number.
         let room = capacity - 1 - weight;
-        let hash = self.nodes.hash(&key);
-        if let Some((old_key, old_value)) = self.nodes.take(hash, &key) {
-            self.total_weight -= self.scale.weight(&old_key, &old_value);
-            shrink_handing_to(
-                &mut self.nodes,
-                &mut self.total_weight,
-                &self.scale,
-                room,
-                on_drop,
-            );
-            self.nodes.push_front(hash, key, value);
-            self.total_weight += weight;
+        let hash = self.pairs.nodes.hash(&key);
+        if let Some((_, old_value)) = self.pairs.take(hash, &key) {
+            self.pairs.shrink(room, on_drop);
+            self.pairs.push_front(hash, key, value, weight);
             return Ok(Some(old_value));
         }
-        let wanted = self.nodes.len() + self.total_weight <= room;
-        let Ok(()) = self.nodes.make_ready_if(wanted) else {
+        let Ok(()) = self.pairs.make_room(room, on_drop) else {
             return Err(PutError::NoMemory(key, value));
         };
-        shrink_handing_to(
-            &mut self.nodes,
-            &mut self.total_weight,
-            &self.scale,
-            room,
-            on_drop,
-        );
-        self.nodes.push_front(hash, key, value);
-        self.total_weight += weight;
+        self.pairs.push_front(hash, key, value, weight);
         Ok(None)
     }
 }
@@ -139,28 +121,21 @@ impl<K: Eq + Hash, V, S: BuildHasher, A: Allocator + Copy> CLruCache<K, V, S, Ze
         ensures memory { IsErr result → NeedsPlace K.eq self.old key }
         ensures places { GrowsOnlyIf (NeedsPlace K.eq self.old key) self.old self.new }
     {
-        let hash = self.nodes.hash(&key);
-        if self.nodes.touch(hash, &key) {
-            let replaced = Some(self.nodes.set_front(value));
+        let hash = self.pairs.nodes.hash(&key);
+        if self.pairs.nodes.touch(hash, &key) {
+            let replaced = Some(self.pairs.nodes.set_front(value));
             return Ok(Put {
                 replaced,
                 dropped: None,
             });
         }
-        if self.nodes.len() == self.capacity.get() {
-            let dropped = Some(self.nodes.replace_back(hash, key, value));
-            return Ok(Put {
-                replaced: None,
-                dropped,
-            });
-        }
-        let Ok(()) = self.nodes.make_ready_if(true) else {
+        let Ok(()) = self.pairs.nodes.make_ready() else {
             return Err((key, value));
         };
-        self.nodes.push_front(hash, key, value);
+        let dropped = self.pairs.nodes.put_front(hash, key, value);
         Ok(Put {
             replaced: None,
-            dropped: None,
+            dropped,
         })
     }
 }

@@ -20,8 +20,8 @@ where
         ensures value { result ≡ lookup (K.eq key.now) self.old.entries }
         ensures entries { self.new ≡ with_entries self.old (without K.eq key.now self.old.entries) }
     {
-        let (stored, value) = self.nodes.take(self.nodes.hash(key), key)?;
-        self.total_weight -= self.scale.weight(&stored, &value);
+        let hash = self.pairs.nodes.hash(key);
+        let (_, value) = self.pairs.take(hash, key)?;
         Some(value)
     }
 
@@ -30,9 +30,7 @@ where
         ensures value { result ≡ slice_get self.old.entries 0 }
         ensures entries { self.new ≡ with_entries self.old (drop 1 self.old.entries) }
     {
-        let (key, value) = self.nodes.pop_front()?;
-        self.total_weight -= self.scale.weight(&key, &value);
-        Some((key, value))
+        self.pairs.pop_front()
     }
 
     /// Removes the least recently used entry and returns it. Its place stays ready.
@@ -40,9 +38,7 @@ where
         ensures value { result ≡ slice_get self.old.entries (length self.old.entries - 1) }
         ensures entries { self.new ≡ with_entries self.old (take (length self.old.entries - 1) self.old.entries) }
     {
-        let (oldest, value) = self.nodes.pop_back()?;
-        self.total_weight -= self.scale.weight(&oldest, &value);
-        Some((oldest, value))
+        self.pairs.pop_back()
     }
 
     /// Removes all entries. Their places stay ready.
@@ -52,7 +48,6 @@ where
         V: Drop,
         ensures { self.new ≡ with_entries self.old [] }
     {
-        self.nodes.clear();
-        self.total_weight = 0;
+        self.pairs.clear();
     }
 }

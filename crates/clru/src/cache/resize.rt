@@ -5,7 +5,6 @@ ghost use Rattle.clru_model.specs.Entries.{fit};
 ghost use Rattle.clru.specs.Cache.{cache};
 
 use crate::cache::CLruCache;
-use crate::shrink::shrink_to;
 use clru_model::WeightScale;
 use std::alloc::Allocator;
 use std::hash::{BuildHasher, Hash};
@@ -30,13 +29,8 @@ where
         ensures { let size = non_zero_usize_get capacity in
             self.new ≡ cache (fit (W.weight self.old.scale) size self.old.entries) size self.old.scale self.old.places }
     {
-        shrink_to(
-            &mut self.nodes,
-            &mut self.total_weight,
-            &self.scale,
-            capacity.get(),
-        );
-        self.nodes.resize(capacity.get());
+        self.pairs.shrink(capacity.get(), &mut |_, _| {});
+        self.pairs.nodes.resize(capacity.get());
         self.capacity = capacity;
     }
 }

@@ -27,7 +27,7 @@ where
         ensures kept { RetainsPairs (CalledAtShownPair F.FnMut) keep self.old.entries self.new.entries }
         ensures same { self.new ≡ with_entries self.old self.new.entries }
     {
-        self.nodes.retain(&mut self.total_weight, &self.scale, keep);
+        self.pairs.retain(keep);
     }
 }
 
@@ -42,6 +42,6 @@ impl<K: Eq + Hash, V, S: BuildHasher, A: Allocator + Copy> CLruCache<K, V, S, Ze
         ensures kept { RetainsPairs (CalledAtPair F.FnMut) keep self.old.entries self.new.entries }
         ensures same { self.new ≡ with_entries self.old self.new.entries }
     {
-        self.nodes.retain_mut(keep);
+        self.pairs.nodes.retain_mut(keep);
     }
 }

@@ -22,7 +22,7 @@ where
         ensures { result ≡ self.now.entries }
     {
         CLruCacheIter {
-            items: self.nodes.iter(),
+            items: self.pairs.nodes.iter(),
         }
     }
 }
@@ -55,7 +55,7 @@ impl<K: Eq + Hash, V, S: BuildHasher, A: Allocator + Copy> CLruCache<K, V, S, Ze
             A.Allocator ⟦<ZeroWeightScale as WeightScale<K, V>>⟧ self.entry index result.1) }
         ensures entry { slice_get self.old.entries index ≡ Some (deref_pair_mut result) }
     {
-        let item = self.nodes.item_at(index);
+        let item = self.pairs.nodes.item_at(index);
         (&item.key, &mut item.value)
     }
 
@@ -66,7 +66,7 @@ impl<K: Eq + Hash, V, S: BuildHasher, A: Allocator + Copy> CLruCache<K, V, S, Ze
             A.Allocator ⟦<ZeroWeightScale as WeightScale<K, V>>⟧ self.entry index result.1) }
         ensures entry { slice_get self.old.entries index ≡ Some (deref_pair_mut result) }
     {
-        let item = self.nodes.item_at_back(index);
+        let item = self.pairs.nodes.item_at_back(index);
         (&item.key, &mut item.value)
     }
 }

@@ -1,5 +1,5 @@
 //! Memory for more pairs: places in the list, and heads that go with them.
-ghost use Rattle.std.specs.Prelude.{◌≡◌, ℕ, ◌+◌, ◌<◌, ◌≤◌, ◌*◌, ◌^◌, Some, length, replicate, IfOk, IfSome, IfNone, IsOk, OnOk, OnErr, IsTrue};
+ghost use Rattle.std.specs.Prelude.{◌≡◌, ℕ, ◌+◌, ◌<◌, ◌≤◌, ◌*◌, ◌^◌, Some, length, replicate, IfOk, IfSome, IfNone, IsOk, OnOk, OnErr};
 ghost use Rattle.std.specs.Int.{IsNextPowerOfTwo};
 ghost use Rattle.clru_list.specs.Places.{nowhere};
 ghost use Rattle.clru_nodes.specs.Growth.{GrowsIf, IsRefused};
@@ -14,20 +14,21 @@ use std::alloc::Allocator;
 use std::hash::{BuildHasher, Hash};
 
 impl<K: Eq + Hash, V, S: BuildHasher, A: Allocator + Copy> Nodes<K, V, S, A> {
-    /// Finds memory for one more pair, where that is wanted and each place is taken. A place counts once the list and the
-    /// heads have memory for it; where either is refused, pairs and places stay. Places are taken ahead, up to the capacity.
-    pub fn make_ready_if(&mut self, wanted: bool) -> Result<(), NoMemory>
-        requires below { IsTrue wanted → length (pairs_in self.old) < capacity_of self.old }
-        requires indexed { IsIndexed (hash_of K.Hash S.BuildHasher S.Hasher.Hasher) self.old }
-        ensures ready { OnOk result (IsTrue wanted → length (pairs_in self.new) < places_of self.new) }
-        ensures grows { GrowsIf wanted (length (pairs_in self.old)) (capacity_of self.old)
-            (places_of self.old) (places_of self.new) }
-        ensures refused { OnErr result (IsRefused wanted (length (pairs_in self.old))
-            (places_of self.old) (places_of self.new)) }
+    /// Finds memory for one more pair, if there is room for one and each place is taken. A place counts once the list and
+    /// the heads have memory for it; where either is refused, pairs and places stay. Places are taken ahead, up to the
+    /// capacity.
+    pub fn make_ready(&mut self) -> Result<(), NoMemory>
+        requires { IsIndexed (hash_of K.Hash S.BuildHasher S.Hasher.Hasher) self.old }
+        ensures ready { OnOk result (length (pairs_in self.new) < capacity_of self.new
+            → length (pairs_in self.new) < places_of self.new) }
+        ensures grows { let len = length (pairs_in self.old) in let capacity = capacity_of self.old in
+            GrowsIf (len < capacity) len capacity (places_of self.old) (places_of self.new) }
+        ensures refused { let len = length (pairs_in self.old) in
+            OnErr result (IsRefused (len < capacity_of self.old) len (places_of self.old) (places_of self.new)) }
         ensures indexed { IsIndexed (hash_of K.Hash S.BuildHasher S.Hasher.Hasher) self.new }
         ensures keeps { KeepsPairs self.old self.new }
     {
-        if !wanted || self.list.len() < self.places {
+        if self.list.is_full() || self.list.len() < self.places {
             return Ok(());
         }
         self.grow()

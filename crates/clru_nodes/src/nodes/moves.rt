@@ -136,26 +136,24 @@ impl<K: Eq + Hash, V, S: BuildHasher, A: Allocator + Copy> Nodes<K, V, S, A> {
         (old.key, old.value)
     }
 
-    /// Puts a pair with a new key, whose hash is given, to the front. Where the list is full, the last pair goes and gives
-    /// its place; else a place is ready.
-    pub fn put_front(&mut self, hash: u64, key: K, value: V)
-    where
-        K: Drop,
-        V: Drop,
+    /// Puts a pair with a new key, whose hash is given, to the front, and answers which pair went. Where the list is full,
+    /// the last pair goes and gives its place; else a place is ready.
+    pub fn put_front(&mut self, hash: u64, key: K, value: V) -> Option<(K, V)>
         requires hash { hash ≡ hash_of K.Hash S.BuildHasher S.Hasher.Hasher (builder_of self.old) key }
         requires indexed { IsIndexed (hash_of K.Hash S.BuildHasher S.Hasher.Hasher) self.old }
         requires ready { length (pairs_in self.old) < capacity_of self.old
             → length (pairs_in self.old) < places_of self.old }
         requires some { 0 < capacity_of self.old }
+        ensures pair { result ≡ slice_get (pairs_in self.old) (capacity_of self.old - 1) }
         ensures pairs { pairs_in self.new ≡ (key, value) ∷ take (capacity_of self.old - 1) (pairs_in self.old) }
         ensures indexed { IsIndexed (hash_of K.Hash S.BuildHasher S.Hasher.Hasher) self.new }
         ensures same { IsSame self.old self.new }
     {
         if self.list.is_full() {
-            let _ = self.replace_back(hash, key, value);
-        } else {
-            self.push_front(hash, key, value);
+            return Some(self.replace_back(hash, key, value));
         }
+        self.push_front(hash, key, value);
+        None
     }
 
     /// The head of the key at a place.

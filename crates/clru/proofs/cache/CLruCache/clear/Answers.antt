@@ -3,5 +3,5 @@ use Rattle.clru.proofs.cache.CLruCache.clear.Goals as goal
 
 pub invariant_of-self : goal.invariant_of-self
 invariant_of-self g c =
-    let w = g.W.WeightScale.weight c.self.inside.scale in let e = c.clear.ensures in
-    IsCache-from w c.self.invariant e.none (IsKept-none w _) e.indexed e.same.capacity
+    let e = c.clear.ensures in
+    IsCache-from g.W.WeightScale.weight c.self.invariant e.none (IsKept-none _ _) e.whole e.rest.scale e.rest.nodes.capacity

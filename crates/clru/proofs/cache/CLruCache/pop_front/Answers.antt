@@ -1,13 +1,9 @@
-use Rattle.std.proofs.Common.{◌∙◌}
-use Rattle.clru.proofs.Keeping.{IsKept-first}
+use Rattle.clru_nodes.specs.Nodes.{pairs_in}
+use Rattle.clru.proofs.Keeping.{IsCache-from, IsKept-sublist, sublist_past_first}
 use Rattle.clru.proofs.cache.CLruCache.pop_front.Goals as goal
 
-pub invariant_of-self-2 : goal.invariant_of-self-2
-invariant_of-self-2 g c =
-    let e = c.in_ok-key.ensures in
-    record {
-      pairs = rw (e.pairs, c.weight.ensures)
-          (IsKept-first (g.W.WeightScale.weight c.self.inside.scale) (c.in_ok-key.key, c.in_ok-key.value) c.self.invariant.pairs e.pair);
-      indexed = e.indexed;
-      room = e.same.capacity ∙ c.self.invariant.room;
-    }
+pub invariant_of-self : goal.invariant_of-self
+invariant_of-self g c =
+    let e = c.pop_front.ensures in
+    IsCache-from g.W.WeightScale.weight c.self.invariant e.pairs
+    (IsKept-sublist _ c.self.invariant.pairs (sublist_past_first (pairs_in c.self.inside.pairs.nodes))) e.whole e.rest.scale e.rest.nodes.capacity

@@ -9,19 +9,18 @@ use Rattle.clru.proofs.cache.CLruCache.resize.Goals as goal
 
 pub resize-requires-clause-fits : goal.resize-requires-clause-fits
 resize-requires-clause-fits g c =
-    let w = g.W.WeightScale.weight c.self.inside.scale in
-    omega (arith, ap length c.shrink_to.ensures.pairs, size_of-fit w c.get.result (pairs_in c.self.inside.nodes), c.get.ensures.value, c.get-2.ensures.value)
+    let w = g.W.WeightScale.weight c.self.inside.pairs.scale in
+    omega (arith, ap length c.shrink.ensures.pairs, size_of-fit w c.get.result (pairs_in c.self.inside.pairs.nodes), c.get.ensures.value, c.get-2.ensures.value)
 
 pub invariant_of-self : goal.invariant_of-self
 invariant_of-self g c =
-    let w = g.W.WeightScale.weight c.self.inside.scale in let s = c.shrink_to.ensures in let r = c.resize.ensures in
-    let size = non_zero_usize_get c.args.capacity in let es = pairs_in c.self.inside.nodes in
-    let old = c.self.invariant.pairs in
-    let left = r.pairs ∙ s.pairs ∙ ap (λ n. fit w n es) c.get.ensures.value in
-    let weighs = s.weighs ∙ ap (weight_of w) s.pairs ∙ ap (λ n. weight_of w (fit w n es)) c.get.ensures.value in
+    let weight = g.W.WeightScale.weight in let x = c.self.inside.pairs in let y = c.shrink.new.self in
+    let s = c.shrink.ensures in let r = c.resize.ensures in
+    let size = non_zero_usize_get c.args.capacity in let es = pairs_in x.nodes in
+    let left = r.pairs ∙ s.pairs ∙ ap (λ n. fit (weight x.scale) n es) c.get.ensures.value in
     record {
-      pairs = subst (λ l. IsKept g.K.PartialEq.eq w l c.shrink_to.new.total_weight size) (sym left)
-          (IsKept-fit w size c.shrink_to.new.total_weight old weighs);
-      indexed = r.indexed;
+      pairs = subst (λ i. IsKept g.K.PartialEq.eq (weight i) (pairs_in c.resize.new.self) size) (sym s.rest.scale)
+          (subst (λ l. IsKept g.K.PartialEq.eq (weight x.scale) l size) (sym left) (IsKept-fit (weight x.scale) size c.self.invariant.pairs));
+      whole = record { weighs = s.whole.weighs ∙ ap (weight_of (weight y.scale)) (sym r.pairs); indexed = r.indexed };
       room = r.capacity ∙ c.get-2.ensures.value;
     }

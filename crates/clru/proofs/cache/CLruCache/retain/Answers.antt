@@ -7,8 +7,8 @@ use Rattle.clru.proofs.cache.CLruCache.retain.Goals as goal
 
 pub invariant_of-self : goal.invariant_of-self
 invariant_of-self g c =
-    let w = g.W.WeightScale.weight c.self.inside.scale in let e = c.retain.ensures in
-    IsCache-from w c.self.invariant refl
-    (IsKept-sublist w _ c.self.invariant.pairs
-    (sublist_retained (CalledAtShownPair g.F.FnMut) (λ f f' k v w b called. called.stays) c.args.keep (pairs_in c.self.inside.nodes) _ e.kept)
-    e.weighs) e.indexed e.same.capacity
+    let e = c.retain.ensures in
+    IsCache-from g.W.WeightScale.weight c.self.invariant refl
+    (IsKept-sublist _ c.self.invariant.pairs
+    (sublist_retained (CalledAtShownPair g.F.FnMut) (λ f f' k v w b called. called.stays) c.args.keep (pairs_in c.self.inside.pairs.nodes) _ e.kept))
+    e.whole e.rest.scale e.rest.nodes.capacity

@@ -17,9 +17,9 @@ pub returns-in-Back : goal.returns-in-Back
 returns-in-Back g c =
     let f = c.self.inside in let last = c.back_item.ensures.last in
     rw (c.in-Back.is, ← c.self.view_is) (
-      (refl, λ w. ap (λ l. cache l (non_zero_usize_get f.capacity) f.scale (places_of f.nodes)) (last_written f.nodes last w).pairs),
+      (refl, λ w. ap (λ l. cache l (non_zero_usize_get f.capacity) f.pairs.scale (places_of f.pairs.nodes)) (last_written f.pairs.nodes last w).pairs),
       record {
         lends = tt;
-        value = ap (λ (o : Option (g.row.K.Denot × g.row.V.Denot)). option_map (λ (p : g.row.K.Denot × g.row.V.Denot). p.1) o) (last_pair f.nodes (sym last));
+        value = ap (λ (o : Option (g.row.K.Denot × g.row.V.Denot)). option_map (λ (p : g.row.K.Denot × g.row.V.Denot). p.1) o) (last_pair f.pairs.nodes (sym last));
       },
     )

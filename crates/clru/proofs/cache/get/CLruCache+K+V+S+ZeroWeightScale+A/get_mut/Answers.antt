@@ -12,7 +12,7 @@ use Rattle.clru.proofs.cache.get.CLruCache+K+V+S+ZeroWeightScale+A.get_mut.Goals
 pub invariant_of-self-lent : goal.invariant_of-self-lent
 invariant_of-self-lent g c =
     λ w. let e = c.touch.ensures in
-    IsCache-values (IsCache-touch (λ k v. 0) c.args.key.now g.met.K.Eq.laws c.self.invariant e.pairs e.indexed e.same)
+    IsCache-values (IsCache-touch (λ s k v. 0) c.args.key.now g.met.K.Eq.laws c.self.invariant e.pairs e.indexed e.same)
     (first_written _ c.front_item.ensures.first w)
 
 pub returns : goal.returns
@@ -22,10 +22,10 @@ returns g c =
     let h = held (eq key) c.if-not-touch.ensures.held in let same = first_pair after first (e.pairs ∙ touch-held eq key h) in
     rw (← c.self.view_is) (
       ends_alike (λ w. let written = (first_written after first w).pairs ∙ ap (with_front w) e.pairs ∙ with_front-set_value eq key h w in
-          λ j. cache (written j) (non_zero_usize_get f.capacity) f.scale (e.same.places j)),
+          λ j. cache (written j) (non_zero_usize_get f.capacity) f.pairs.scale (e.same.places j)),
       record { lends = tt; value = ap (λ (p : g.row.K.Denot × g.row.V.Denot). Some p.1) same ∙ sym h.value },
     )
 
 pub invariant_of-self : goal.invariant_of-self
 invariant_of-self g c =
-    let e = c.touch.ensures in IsCache-touch (λ k v. 0) c.args.key.now g.met.K.Eq.laws c.self.invariant e.pairs e.indexed e.same
+    let e = c.touch.ensures in IsCache-touch (λ s k v. 0) c.args.key.now g.met.K.Eq.laws c.self.invariant e.pairs e.indexed e.same

@@ -1,5 +1,4 @@
 use Rattle.std.proofs.Common.{◌≡◌, true, false, ◌<◌, length, refl, sym, ap, ◌∙◌, arith}
-use Rattle.std.proofs.lemmas.Bool.{ltb-true}
 use Rattle.std.specs.Map.{lookup_entry}
 use Rattle.std.specs.NonZero.{non_zero_usize_get}
 use Rattle.clru_model.proofs.Finding.{held, missed, touch-missed, touch-held}
@@ -21,14 +20,14 @@ modify_op-requires g c =
 pub invariant_of-self-lent : goal.invariant_of-self-lent
 invariant_of-self-lent g c =
     λ w. let key = c.args.key in let e = c.touch.ensures in let h = held (g.K.PartialEq.eq key) c.if-touch.ensures.held in
-    (lent_held key c.self.inside.scale c.self.invariant g.met.K.Eq.laws h e.pairs e.indexed e.same c.front_item-item.ensures.first w).keeps
+    (lent_held key c.self.invariant g.met.K.Eq.laws h e.pairs e.indexed e.same c.front_item-item.ensures.first w).keeps
 
 pub returns-then-touch : goal.returns-then-touch
 returns-then-touch g c =
     let eq = g.K.PartialEq.eq in let key = c.args.key in let e = c.touch.ensures in
     let first = c.front_item-item.ensures.first in let h = held (eq key) c.if-touch.ensures.held in
     let same = first_pair c.touch.new.self first (e.pairs ∙ touch-held eq key h) in
-    let lent = lent_held key c.self.inside.scale c.self.invariant g.met.K.Eq.laws h e.pairs e.indexed e.same first in
+    let lent = lent_held key c.self.invariant g.met.K.Eq.laws h e.pairs e.indexed e.same first in
     rw (← c.self.view_is) (
       (refl, λ w _. ((lent w).entries, (lent w).grows), tt),
       record {
@@ -43,17 +42,17 @@ pub invariant_of-self : goal.invariant_of-self
 invariant_of-self g c =
     let eq = g.K.PartialEq.eq in let key = c.args.key in let e = c.touch.ensures in let o = c.in_default.ensures in
     let m = missed (eq key) c.if-touch.ensures.held in
-    let ready = ready_new key c.self.inside.scale c.self.invariant m e.pairs e.same c.len.ensures c.get.ensures.value o.grows o.keeps o.indexed in
+    let ready = ready_new key c.self.invariant m e.pairs e.same o.grows o.keeps o.indexed in
     ready.keeps
 
 pub returns-in_default : goal.returns-in_default
 returns-in_default g c =
     let eq = g.K.PartialEq.eq in let key = c.args.key in let e = c.touch.ensures in let o = c.in_default.ensures in
     let m = missed (eq key) c.if-touch.ensures.held in let before = e.pairs ∙ touch-missed eq key m in
-    let ready = ready_new key c.self.inside.scale c.self.invariant m e.pairs e.same c.len.ensures c.get.ensures.value o.grows o.keeps o.indexed in
-    let lasts = ready.grows c.make_ready_if.new.self o.indexed refl in
-    let wanted : length (pairs_in c.self.inside.nodes) < non_zero_usize_get c.self.inside.capacity =
-    omega (arith, ap length before, ltb-true _ _ o.refused.asked, c.len.ensures, c.get.ensures.value) in
+    let ready = ready_new key c.self.invariant m e.pairs e.same o.grows o.keeps o.indexed in
+    let lasts = ready.grows c.make_ready.new.self o.indexed refl in
+    let wanted : length (pairs_in c.self.inside.pairs.nodes) < non_zero_usize_get c.self.inside.capacity =
+    omega (arith, ap length before, o.refused.asked, e.same.capacity, c.self.invariant.room) in
     rw (← c.self.view_is) (
       (refl, λ w h. absurd (no h), (ready.pairs, lasts)),
       record {
@@ -77,18 +76,18 @@ pub invariant_of-self-lent-2 : goal.invariant_of-self-lent-2
 invariant_of-self-lent-2 g c =
     λ w. let eq = g.K.PartialEq.eq in let key = c.args.key in let e = c.touch.ensures in let o = c.in-Ok.ensures in
     let m = missed (eq key) c.if-touch.ensures.held in
-    let ready = ready_new key c.self.inside.scale c.self.invariant m e.pairs e.same c.len.ensures c.get.ensures.value o.grows o.keeps o.indexed in
+    let ready = ready_new key c.self.invariant m e.pairs e.same o.grows o.keeps o.indexed in
     let p = c.put_front.ensures in
-    (lent_new key c.self.inside.scale c.self.invariant g.met.K.Eq.laws m ready (omega (arith, c.get.ensures.nonzero, c.get.ensures.value))
+    (lent_new key c.self.invariant g.met.K.Eq.laws m ready c.self.inside.capacity.ok
     p.pairs p.indexed p.same c.front_item.ensures.first w).keeps
 
 pub returns : goal.returns
 returns g c =
     let eq = g.K.PartialEq.eq in let key = c.args.key in let e = c.touch.ensures in let o = c.in-Ok.ensures in
     let m = missed (eq key) c.if-touch.ensures.held in
-    let ready = ready_new key c.self.inside.scale c.self.invariant m e.pairs e.same c.len.ensures c.get.ensures.value o.grows o.keeps o.indexed in
+    let ready = ready_new key c.self.invariant m e.pairs e.same o.grows o.keeps o.indexed in
     let p = c.put_front.ensures in let first = c.front_item.ensures.first in
-    let lent = lent_new key c.self.inside.scale c.self.invariant g.met.K.Eq.laws m ready (omega (arith, c.get.ensures.nonzero, c.get.ensures.value))
+    let lent = lent_new key c.self.invariant g.met.K.Eq.laws m ready c.self.inside.capacity.ok
     p.pairs p.indexed p.same first in
     let value = ap (λ d. d.1) (first_pair c.put_front.new.self first p.pairs) in
     rw (← c.self.view_is) (

@@ -1,5 +1,4 @@
 use Rattle.std.proofs.Common.{◌≡◌, true, false, ◌<◌, length, refl, sym, ap, ◌∙◌, arith}
-use Rattle.std.proofs.lemmas.Bool.{ltb-true}
 use Rattle.std.specs.Map.{lookup_entry}
 use Rattle.std.specs.NonZero.{non_zero_usize_get}
 use Rattle.clru_model.proofs.Finding.{held, missed, touch-missed, touch-held, plain_put-held}
@@ -22,14 +21,14 @@ pub invariant_of-self : goal.invariant_of-self
 invariant_of-self g c =
     let eq = g.K.PartialEq.eq in let key = c.args.key in let e = c.touch.ensures in
     let first = c.front_item-item.ensures.first in let h = held (eq key) c.if-touch.ensures.held in
-    (lent_held key c.self.inside.scale c.self.invariant g.met.K.Eq.laws h e.pairs e.indexed e.same first _).keeps
+    (lent_held key c.self.invariant g.met.K.Eq.laws h e.pairs e.indexed e.same first _).keeps
 
 pub returns-in-Err : goal.returns-in-Err
 returns-in-Err g c =
     let eq = g.K.PartialEq.eq in let key = c.args.key in let e = c.touch.ensures in
     let first = c.front_item-item.ensures.first in let h = held (eq key) c.if-touch.ensures.held in
     let same = first_pair c.touch.new.self first (e.pairs ∙ touch-held eq key h) in
-    let lent = lent_held key c.self.inside.scale c.self.invariant g.met.K.Eq.laws h e.pairs e.indexed e.same first c.modify_op.new.arg3 in
+    let lent = lent_held key c.self.invariant g.met.K.Eq.laws h e.pairs e.indexed e.same first c.modify_op.new.arg3 in
     rw (← c.self.view_is) (
       (
         refl,
@@ -51,14 +50,14 @@ pub invariant_of-self-lent : goal.invariant_of-self-lent
 invariant_of-self-lent g c =
     λ w. let eq = g.K.PartialEq.eq in let key = c.args.key in let e = c.touch.ensures in
     let first = c.front_item-item.ensures.first in let h = held (eq key) c.if-touch.ensures.held in
-    (lent_held key c.self.inside.scale c.self.invariant g.met.K.Eq.laws h e.pairs e.indexed e.same first w).keeps
+    (lent_held key c.self.invariant g.met.K.Eq.laws h e.pairs e.indexed e.same first w).keeps
 
 pub returns-then-touch : goal.returns-then-touch
 returns-then-touch g c =
     let eq = g.K.PartialEq.eq in let key = c.args.key in let e = c.touch.ensures in
     let first = c.front_item-item.ensures.first in let h = held (eq key) c.if-touch.ensures.held in
     let same = first_pair c.touch.new.self first (e.pairs ∙ touch-held eq key h) in
-    let lent = lent_held key c.self.inside.scale c.self.invariant g.met.K.Eq.laws h e.pairs e.indexed e.same first in
+    let lent = lent_held key c.self.invariant g.met.K.Eq.laws h e.pairs e.indexed e.same first in
     rw (← c.self.view_is) (
       (refl, λ w _. ((lent w).entries, (lent w).grows), tt),
       record {
@@ -69,21 +68,21 @@ returns-then-touch g c =
       },
     )
 
-pub invariant_of-self-in_default-make_ready_if : goal.invariant_of-self-in_default-make_ready_if
-invariant_of-self-in_default-make_ready_if g c =
-    let eq = g.K.PartialEq.eq in let key = c.args.key in let e = c.touch.ensures in let o = c.in_default-make_ready_if.ensures in
+pub invariant_of-self-in_default-make_ready : goal.invariant_of-self-in_default-make_ready
+invariant_of-self-in_default-make_ready g c =
+    let eq = g.K.PartialEq.eq in let key = c.args.key in let e = c.touch.ensures in let o = c.in_default-make_ready.ensures in
     let m = missed (eq key) c.if-touch.ensures.held in
-    let ready = ready_new key c.self.inside.scale c.self.invariant m e.pairs e.same c.len.ensures c.get.ensures.value o.grows o.keeps o.indexed in
+    let ready = ready_new key c.self.invariant m e.pairs e.same o.grows o.keeps o.indexed in
     ready.keeps
 
-pub returns-in_default-make_ready_if : goal.returns-in_default-make_ready_if
-returns-in_default-make_ready_if g c =
-    let eq = g.K.PartialEq.eq in let key = c.args.key in let e = c.touch.ensures in let o = c.in_default-make_ready_if.ensures in
+pub returns-in_default-make_ready : goal.returns-in_default-make_ready
+returns-in_default-make_ready g c =
+    let eq = g.K.PartialEq.eq in let key = c.args.key in let e = c.touch.ensures in let o = c.in_default-make_ready.ensures in
     let m = missed (eq key) c.if-touch.ensures.held in let before = e.pairs ∙ touch-missed eq key m in
-    let ready = ready_new key c.self.inside.scale c.self.invariant m e.pairs e.same c.len.ensures c.get.ensures.value o.grows o.keeps o.indexed in
-    let lasts = ready.grows c.make_ready_if.new.self o.indexed refl in
-    let wanted : length (pairs_in c.self.inside.nodes) < non_zero_usize_get c.self.inside.capacity =
-    omega (arith, ap length before, ltb-true _ _ o.refused.asked, c.len.ensures, c.get.ensures.value) in
+    let ready = ready_new key c.self.invariant m e.pairs e.same o.grows o.keeps o.indexed in
+    let lasts = ready.grows c.make_ready.new.self o.indexed refl in
+    let wanted : length (pairs_in c.self.inside.pairs.nodes) < non_zero_usize_get c.self.inside.capacity =
+    omega (arith, ap length before, o.refused.asked, e.same.capacity, c.self.invariant.room) in
     rw (← c.self.view_is) (
       (refl, λ w no_value. absurd (no no_value), (ready.pairs, lasts)),
       record {
@@ -107,15 +106,15 @@ pub invariant_of-self-in-Err-put_op : goal.invariant_of-self-in-Err-put_op
 invariant_of-self-in-Err-put_op g c =
     let eq = g.K.PartialEq.eq in let key = c.args.key in let e = c.touch.ensures in let o = c.in-Ok.ensures in
     let m = missed (eq key) c.if-touch.ensures.held in
-    let ready = ready_new key c.self.inside.scale c.self.invariant m e.pairs e.same c.len.ensures c.get.ensures.value o.grows o.keeps o.indexed in
+    let ready = ready_new key c.self.invariant m e.pairs e.same o.grows o.keeps o.indexed in
     ready.keeps
 
 pub returns-in-Err-put_op : goal.returns-in-Err-put_op
 returns-in-Err-put_op g c =
     let eq = g.K.PartialEq.eq in let key = c.args.key in let e = c.touch.ensures in let o = c.in-Ok.ensures in
     let m = missed (eq key) c.if-touch.ensures.held in
-    let ready = ready_new key c.self.inside.scale c.self.invariant m e.pairs e.same c.len.ensures c.get.ensures.value o.grows o.keeps o.indexed in
-    let lasts = ready.grows c.make_ready_if.new.self o.indexed refl in
+    let ready = ready_new key c.self.invariant m e.pairs e.same o.grows o.keeps o.indexed in
+    let lasts = ready.grows c.make_ready.new.self o.indexed refl in
     rw (← c.self.view_is) (
       (
         refl,
@@ -132,18 +131,18 @@ pub invariant_of-self-lent-2 : goal.invariant_of-self-lent-2
 invariant_of-self-lent-2 g c =
     λ w. let eq = g.K.PartialEq.eq in let key = c.args.key in let e = c.touch.ensures in let o = c.in-Ok.ensures in
     let m = missed (eq key) c.if-touch.ensures.held in
-    let ready = ready_new key c.self.inside.scale c.self.invariant m e.pairs e.same c.len.ensures c.get.ensures.value o.grows o.keeps o.indexed in
+    let ready = ready_new key c.self.invariant m e.pairs e.same o.grows o.keeps o.indexed in
     let p = c.put_front.ensures in
-    (lent_new key c.self.inside.scale c.self.invariant g.met.K.Eq.laws m ready (omega (arith, c.get.ensures.nonzero, c.get.ensures.value))
+    (lent_new key c.self.invariant g.met.K.Eq.laws m ready c.self.inside.capacity.ok
     p.pairs p.indexed p.same c.front_item.ensures.first w).keeps
 
 pub returns : goal.returns
 returns g c =
     let eq = g.K.PartialEq.eq in let key = c.args.key in let e = c.touch.ensures in let o = c.in-Ok.ensures in
     let m = missed (eq key) c.if-touch.ensures.held in
-    let ready = ready_new key c.self.inside.scale c.self.invariant m e.pairs e.same c.len.ensures c.get.ensures.value o.grows o.keeps o.indexed in
+    let ready = ready_new key c.self.invariant m e.pairs e.same o.grows o.keeps o.indexed in
     let p = c.put_front.ensures in let first = c.front_item.ensures.first in
-    let lent = lent_new key c.self.inside.scale c.self.invariant g.met.K.Eq.laws m ready (omega (arith, c.get.ensures.nonzero, c.get.ensures.value))
+    let lent = lent_new key c.self.invariant g.met.K.Eq.laws m ready c.self.inside.capacity.ok
     p.pairs p.indexed p.same first in
     let value = ap (λ d. d.1) (first_pair c.put_front.new.self first p.pairs) in
     rw (← c.self.view_is) (

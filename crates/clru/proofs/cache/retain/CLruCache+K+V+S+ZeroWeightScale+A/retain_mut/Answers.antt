@@ -1,11 +1,11 @@
 use Rattle.std.proofs.Common.{refl}
 use Rattle.std.specs.Map.Calls.{CalledAtPair}
-use Rattle.clru.proofs.Keeping.{IsCache-from}
+use Rattle.clru.proofs.Keeping.{IsCache-plain}
 use Rattle.clru.proofs.Values.{IsKept-retained}
 use Rattle.clru.proofs.cache.retain.CLruCache+K+V+S+ZeroWeightScale+A.retain_mut.Goals as goal
 
 pub invariant_of-self : goal.invariant_of-self
 invariant_of-self g c =
     let e = c.retain_mut.ensures in
-    IsCache-from (λ k v. 0) c.self.invariant refl
+    IsCache-plain c.self.invariant refl
     (IsKept-retained (CalledAtPair g.F.FnMut) c.args.keep _ c.self.invariant.pairs e.kept) e.indexed e.same.capacity
