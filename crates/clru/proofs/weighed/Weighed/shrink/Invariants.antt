@@ -1,4 +1,4 @@
-use Rattle.std.proofs.Common.{◌≡◌, ◌<◌, ◌^◌, length, drop, reverse}
+use Rattle.std.proofs.Common.{◌<◌, ◌^◌, length, drop, reverse}
 use Rattle.clru_model.specs.Entries.{size_of}
 use Rattle.clru_model.proofs.Fitting.{IsTooLongFit}
 use Rattle.clru_nodes.specs.Nodes.{hash_by, pairs_in}
