@@ -58,8 +58,7 @@ impl<K: Eq + Hash, V, S: BuildHasher, A: Allocator + Copy> Nodes<K, V, S, A> {
         );
     }
 
-    // The loop of both. What a call leaves weighs what stood there, so a scale of the values that it leaves does for `retain`,
-    // and one that weighs nothing for `retain_mut`.
+    // The loop of both. A call leaves its pair at its weight: by `retain` it writes nothing, and by `retain_mut` no pair weighs.
     fn sift<F: FnMut(&K, &mut V) -> bool, W: WeightScale<K, V>>(
         &mut self,
         total_weight: &mut usize,
