@@ -2,6 +2,7 @@ mod CapacityLemmas
 mod Falls
 mod LeastLemmas
 mod ReportLemmas
+mod RowLemmas
 mod SettledCurves
 mod SizeViews
 mod SizedReports

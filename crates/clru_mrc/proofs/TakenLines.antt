@@ -22,14 +22,18 @@ same_line x y = bytes_eq (line_of x) (line_of y)
 abbrev pub weight_of_key : Key → ℕ
 weight_of_key x = weight_of_line (line_of x)
 
+-- one more key shows one more line
+pub shown_more : (key : Key) (past : List Key)
+    → map line_of (reverse (key ∷ past)) ≡ map line_of (reverse past) ++ line_of key ∷ []
+shown_more key past = ap (map line_of) (reverse_onto past key []) ∙ map-append line_of (reverse past) (key ∷ [])
+
 module _ (lines : List (List ℕ)) (pass : PassBySize Key) (taken : HasTaken lines pass) where
   pub taken_more : (key : Key) (next : PassBySize Key) → IsSome (size_of_line (line_of key))
       → ((past : List Key) → IsSizedPass same_line weight_of_key past pass → IsSizedPass same_line weight_of_key (key ∷ past) next)
       → HasTaken (lines ++ line_of key ∷ []) next
   taken_more key next size step = record {
     past = key ∷ taken.past;
-    shown = ap (map line_of) (reverse_onto taken.past key []) ∙ map-append line_of (reverse taken.past) (key ∷ [])
-        ∙ ap (λ ls. ls ++ line_of key ∷ []) taken.shown;
+    shown = shown_more key taken.past ∙ ap (λ ls. ls ++ line_of key ∷ []) taken.shown;
     sizes = All-push (λ line. IsSome (size_of_line line)) lines (line_of key) taken.sizes size;
     taken = step taken.past taken.taken;
   }

@@ -59,8 +59,8 @@ pub(crate) fn command_of<S: AsStr, A: Allocator + Copy>(
             continue;
         }
         match word {
-            "--help" => return Ok(Command::Help),
-            "--version" => return Ok(Command::Version),
+            "--help" | "-h" => return Ok(Command::Help),
+            "--version" | "-V" => return Ok(Command::Version),
             "--at" => capacities_follow = true,
             "--all" => draft.all = true,
             "--sizes" => draft.sizes = true,

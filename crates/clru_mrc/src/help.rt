@@ -22,7 +22,7 @@ It writes a table as CSV: capacity, misses, and misses as a part of all requests
                  for the bytes as well
     --summary    how many requests and distinct keys there are, and no table;
                  with --sizes their bytes and the greatest size as well
-    --help, --version
+    -h, --help; -V, --version
 
 Status: 0 done, 2 wrong arguments, 3 no memory, 4 input not read, 5 output not
 written, 6 a line without a size. A fault is told in one line on standard error.

@@ -8,6 +8,7 @@ mod fraction;
 mod help;
 mod options;
 mod output;
+mod pass;
 mod picture;
 mod program;
 mod report;
@@ -18,10 +19,11 @@ mod table;
 use arguments::{Command, Refusal, command_of, wrong};
 use fault::{Fault, exit_status};
 use help::{HELP, VERSION};
+use options::Options;
 use output::write_report;
 use program::run;
 use std::env;
-use std::io::ErrorKind;
+use std::io::{ErrorKind, Read};
 use std::process::ExitCode;
 
 fn main(rt: HostRuntime) -> ExitCode {
@@ -60,9 +62,20 @@ fn done(rt: &HostRuntime, command: &Command) -> u8 {
     let outcome = match command {
         Command::Help => write_report(&mut rt.stdout(), HELP.as_bytes()),
         Command::Version => write_report(&mut rt.stdout(), VERSION.as_bytes()),
-        Command::Report(options) => run(rt.alloc(), options, &mut rt.stdin(), &mut rt.stdout()),
+        Command::Report(options) => reported(rt, options),
     };
     told(rt, &outcome)
+}
+
+// Writes the report, and tells where there was nothing to report on.
+fn reported(rt: &HostRuntime, options: &Options) -> Result<(), Fault> {
+    // The limit counts what is read. It ends no input, since none that long finds memory.
+    let mut input = rt.stdin().take(u64::MAX);
+    let outcome = run(rt.alloc(), options, &mut input, &mut rt.stdout());
+    if outcome.is_ok() && input.limit() == u64::MAX {
+        say(rt, "standard input was empty, so there are no requests");
+    }
+    outcome
 }
 
 // Tells of a fault, but for a pipe that was closed, and gives the exit status.

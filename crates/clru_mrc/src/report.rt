@@ -6,13 +6,11 @@ ghost use Rattle.clru_mrc.specs.Report.{IsInForm, IsReport};
 
 use crate::fault::Fault;
 use crate::options::{Form, Options};
+use crate::pass::curve_by_keys;
 use crate::picture::picture_by_keys;
 use crate::rows::rows_for;
 use crate::sized::sized_report_on;
 use crate::table::{summary_of, table_of};
-use clru_curve::miss_curve;
-use clru_lines::keys_of;
-use clru_model::DefaultState;
 use std::alloc::{AllocError, Allocator};
 
 /// The report of an input.
@@ -42,27 +40,24 @@ fn report_by_keys<A: Allocator + Copy>(
 ) -> Result<String<A>, AllocError>
     ensures { IfOk result (λ text. IsInForm options.now.form options.now input.now (string_bytes text)) }
 {
-    let keys = keys_of(alloc, input)?;
-    let Ok(curve) = miss_curve(alloc, &keys, DefaultState) else {
-        return Err(AllocError);
-    };
+    let (curve, requests) = curve_by_keys(alloc, input)?;
     match options.form {
         Form::Table => {
-            let rows = rows_for(alloc, &keys, &curve, options)?;
-            table_of(alloc, &rows, keys.len(), options.least)
+            let rows = rows_for(alloc, input, &curve, options)?;
+            table_of(alloc, &rows, requests, options.least)
         }
         Form::Picture => {
-            let rows = rows_for(alloc, &keys, &curve, options)?;
-            let table = table_of(alloc, &rows, keys.len(), options.least)?;
+            let rows = rows_for(alloc, input, &curve, options)?;
+            let table = table_of(alloc, &rows, requests, options.least)?;
             picture_by_keys(
                 alloc,
                 curve.as_slice(),
-                keys.len(),
+                requests,
                 options.least,
                 &rows,
                 &table,
             )
         }
-        Form::Summary => summary_of(alloc, keys.len(), curve.distinct(), input.len()),
+        Form::Summary => summary_of(alloc, requests, curve.distinct(), input.len()),
     }
 }

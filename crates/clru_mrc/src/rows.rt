@@ -1,7 +1,9 @@
 //! The rows of a table, before they are text.
-ghost use Rattle.std.specs.Prelude.{◌≡◌, ◌<◌, false, length, map, reverse, IfOk};
+ghost use Rattle.std.specs.Prelude.{◌≡◌, ◌<◌, ℕ, List, true, false, length, map, reverse, IfOk};
 ghost use Rattle.std.specs.Int.NonZero.{non_zero_usize_get};
+ghost use Rattle.std.specs.Str.{bytes_eq};
 ghost use Rattle.clru_curve.specs.Curves.{HasMissesOf, misses_at};
+ghost use Rattle.clru_lines.specs.Lines.{lines_of};
 ghost use Rattle.clru_model.specs.Requests.{distinct, misses};
 ghost use Rattle.clru_mrc.specs.Capacities.{capacities_of};
 ghost use Rattle.clru_mrc.specs.Report.{AreRows};
@@ -11,9 +13,9 @@ use crate::capacities::capacities_for;
 use crate::options::Options;
 use clru_curve::MissCurve;
 use clru_least::Foresight;
+use clru_lines::keys_of;
 use clru_model::DefaultState;
 use std::alloc::{AllocError, Allocator};
-use std::hash::Hash;
 use std::num::NonZeroUsize;
 
 /// What is known of one capacity.
@@ -26,38 +28,40 @@ pub struct Row {
     pub least: Option<usize>,
 }
 
-/// The rows that the options ask for.
-pub(crate) fn rows_for<'a, K: Eq + Hash, A: Allocator + Copy>(
+/// The rows that the options ask for, over the curve of an input.
+pub(crate) fn rows_for<A: Allocator + Copy>(
     alloc: A,
-    keys: &'a [K],
+    input: &[u8],
     curve: &MissCurve<A>,
     options: &Options<A>,
 ) -> Result<Vec<Row, A>, AllocError>
-    requires misses { HasMissesOf K.eq keys.now curve.now }
-    requires distinct { length curve.now ≡ distinct K.eq (reverse keys.now) }
-    ensures { IfOk result (λ rows. AreRows K.eq keys.now options.now.least
-        (capacities_of options.now.capacities (λ c. misses K.eq c keys.now) (distinct K.eq (reverse keys.now)))
-        rows.items) }
+    requires misses { HasMissesOf bytes_eq (lines_of input.now) curve.now }
+    requires distinct { length curve.now ≡ distinct bytes_eq (reverse (lines_of input.now)) }
+    ensures { IfOk result (λ rows. AreRows bytes_eq (lines_of input.now) options.now.least
+        (capacities_of options.now.capacities (λ c. misses bytes_eq c (lines_of input.now))
+        (distinct bytes_eq (reverse (lines_of input.now)))) rows.items) }
 {
     let capacities = capacities_for(alloc, &options.capacities, curve.as_slice())?;
-    rows_at(alloc, keys, curve, &capacities, options.least)
+    if options.least {
+        rows_with_least(alloc, input, curve, &capacities)
+    } else {
+        rows_without_least(alloc, curve, &capacities)
+    }
 }
 
-// A row for each capacity.
-fn rows_at<'a, K: Eq + Hash, A: Allocator + Copy>(
+// A row for each capacity. The least looks ahead, so that it alone wants a list of the lines.
+fn rows_with_least<A: Allocator + Copy>(
     alloc: A,
-    keys: &'a [K],
+    input: &[u8],
     curve: &MissCurve<A>,
     capacities: &[NonZeroUsize],
-    least: bool,
 ) -> Result<Vec<Row, A>, AllocError>
-    requires { HasMissesOf K.eq keys.now curve.now }
-    ensures { IfOk result (λ rows. AreRows K.eq keys.now least (map non_zero_usize_get capacities.now) rows.items) }
+    requires { HasMissesOf bytes_eq (lines_of input.now) curve.now }
+    ensures { IfOk result (λ rows. AreRows bytes_eq (lines_of input.now) true (map non_zero_usize_get capacities.now)
+        rows.items) }
 {
-    if !least {
-        return rows_without_least(alloc, keys, curve, capacities);
-    }
-    let foresight = Foresight::new(alloc, keys, DefaultState)?;
+    let keys = keys_of(alloc, input)?;
+    let foresight = Foresight::new(alloc, &keys, DefaultState)?;
     let mut rows = Vec::new(alloc);
     for capacity in capacities {
         let least = foresight.least(*capacity)?;
@@ -66,14 +70,13 @@ fn rows_at<'a, K: Eq + Hash, A: Allocator + Copy>(
     Ok(rows)
 }
 
-fn rows_without_least<K: Eq, A: Allocator>(
+fn rows_without_least<A: Allocator>(
     alloc: A,
-    keys: &[K],
     curve: &MissCurve<A>,
     capacities: &[NonZeroUsize],
 ) -> Result<Vec<Row, A>, AllocError>
-    requires { HasMissesOf K.eq keys.now curve.now }
-    ensures { IfOk result (λ rows. AreRows K.eq keys.now false (map non_zero_usize_get capacities.now) rows.items) }
+    ensures { (lines : List (List ℕ)) → HasMissesOf bytes_eq lines curve.now
+        → IfOk result (λ rows. AreRows bytes_eq lines false (map non_zero_usize_get capacities.now) rows.items) }
 {
     let mut rows = Vec::new(alloc);
     for capacity in capacities {

@@ -78,7 +78,9 @@ fn worked_inputs_give_their_tables(rt: HostRuntime) -> Result<(), Fail> {
 fn words_that_do_not_fit_are_refused_by_a_line(rt: HostRuntime) -> Result<(), Fail> {
     let rows = [
         (["--help", "--no"].as_slice(), "help"),
+        (["--all", "-h"].as_slice(), "help"),
         (["--least", "--version"].as_slice(), "version"),
+        (["-V"].as_slice(), "version"),
         (
             ["--bytes"].as_slice(),
             "\"--bytes\" is no argument: clru_mrc --help names them",

@@ -43,10 +43,10 @@ fn draw_ratios<W: Write>(text: &mut W) -> fmt::Result {
 const ROOMY: u128 = 500;
 
 fn draw_capacities<W: Write>(text: &mut W, scale: &Scale) -> fmt::Result {
-    draw_end(text, LEFT, first_place(scale.first), scale.first)?;
+    let short = are_short(scale);
+    draw_end(text, LEFT, first_place(scale.first), scale.first, short)?;
     let room = Room::new(scale, LETTERS);
     let little_room = Room::new(scale, LARGE_LETTERS);
-    let short = are_short(scale);
     for index in 0..ROUND_NUMBERS {
         let capacity = round_at(index);
         if capacity >= scale.last as u128 {
@@ -66,7 +66,7 @@ fn draw_capacities<W: Write>(text: &mut W, scale: &Scale) -> fmt::Result {
             draw_capacity(text, across, capacity, short, small_too)?;
         }
     }
-    draw_end(text, RIGHT, last_place(scale.last), scale.last)
+    draw_end(text, RIGHT, last_place(scale), scale.last, short)
 }
 
 fn draw_line<W: Write>(text: &mut W, class: &str, across: u128) -> fmt::Result {
@@ -88,11 +88,7 @@ fn draw_capacity<W: Write>(
         text,
         "<text{class} x=\"{across}\" y=\"4270\" text-anchor=\"middle\">"
     )?;
-    if short {
-        write_short(text, capacity)?;
-    } else {
-        write_number(text, capacity)?;
-    }
+    write_capacity(text, capacity, short)?;
     text.write_str("</text>\n")
 }
 
@@ -102,6 +98,7 @@ fn draw_end<W: Write>(
     end: u128,
     place: (u128, &'static str),
     capacity: usize,
+    short: bool,
 ) -> fmt::Result {
     let (across, anchor) = place;
     draw_line(text, "grid", end)?;
@@ -109,6 +106,14 @@ fn draw_end<W: Write>(
         text,
         "<text x=\"{across}\" y=\"4270\" text-anchor=\"{anchor}\">"
     )?;
-    write_number(text, capacity as u128)?;
+    write_capacity(text, capacity as u128, short)?;
     text.write_str("</text>\n")
+}
+
+fn write_capacity<W: Write>(text: &mut W, capacity: u128, short: bool) -> fmt::Result {
+    if short {
+        write_short(text, capacity)
+    } else {
+        write_number(text, capacity)
+    }
 }

@@ -1,4 +1,5 @@
 //! The numbers at the axis of capacities: how they are written, and which of them there is room for.
+ghost use Rattle.std.specs.Prelude.{◌<◌};
 
 use super::scale::{LEFT, RIGHT, Scale};
 use super::style::LETTERS;
@@ -20,18 +21,41 @@ pub(super) fn write_number<W: Write>(text: &mut W, number: u128) -> fmt::Result 
     write!(text, ",{rest:03}")
 }
 
-/// A round number, shortened by a letter.
+/// A number rounded to three digits, and a letter, as `12.3M` or `1G`.
 pub(super) fn write_short<W: Write>(text: &mut W, number: u128) -> fmt::Result {
-    let (count, letter) = match number.max(1).ilog10() / 3 {
-        0 => (number, ""),
-        1 => (number / 1_000, "k"),
-        2 => (number / 1_000_000, "M"),
-        3 => (number / 1_000_000_000, "G"),
-        4 => (number / 1_000_000_000_000, "T"),
-        5 => (number / 1_000_000_000_000_000, "P"),
-        _ => (number / 1_000_000_000_000_000_000, "E"),
+    let (unit, _) = unit_of(number);
+    let half = match number / unit {
+        0..=9 => unit / 200,
+        10..=99 => unit / 20,
+        _ => unit / 2,
     };
-    write!(text, "{count}{letter}")
+    let number = number.saturating_add(half);
+    let (unit, letter) = unit_of(number);
+    let whole = number / unit;
+    let hundredths = (number % unit).saturating_mul(100) / unit;
+    let tenth = hundredths / 10;
+    let hundredth = hundredths % 10;
+    if whole < 10 && hundredth > 0 {
+        write!(text, "{whole}.{tenth}{hundredth}{letter}")
+    } else if whole < 100 && tenth > 0 {
+        write!(text, "{whole}.{tenth}{letter}")
+    } else {
+        write!(text, "{whole}{letter}")
+    }
+}
+
+fn unit_of(number: u128) -> (u128, &'static str)
+    ensures { 0 < result.0 }
+{
+    match number.max(1).ilog10() / 3 {
+        0 => (1, ""),
+        1 => (1_000, "k"),
+        2 => (1_000_000, "M"),
+        3 => (1_000_000_000, "G"),
+        4 => (1_000_000_000_000, "T"),
+        5 => (1_000_000_000_000_000, "P"),
+        _ => (1_000_000_000_000_000_000, "E"),
+    }
 }
 
 /// Where the number at the left end stands, and which part of it: the middle of one digit, the begin of more.
@@ -44,17 +68,17 @@ pub(super) fn first_place(first: usize) -> (u128, &'static str) {
 }
 
 /// Where the number at the right end stands, and which part of it: the middle of a short one, the end of a long one.
-pub(super) fn last_place(last: usize) -> (u128, &'static str) {
-    if last < 10_000 {
+pub(super) fn last_place(scale: &Scale) -> (u128, &'static str) {
+    if scale.last < 10_000 || are_short(scale) {
         (RIGHT, "middle")
     } else {
         (EDGES.1, "end")
     }
 }
 
-/// Whether round numbers are shortened: where a decade has no room for a whole one.
+/// Whether numbers are shortened: all at an axis that goes up to a million or beyond.
 pub(super) fn are_short(scale: &Scale) -> bool {
-    breadth(scale.last as u128, LETTERS).saturating_add(GAP) > scale.decade()
+    scale.last >= 1_000_000
 }
 
 /// The numbers that there is room for, in letters of a size.
@@ -72,10 +96,9 @@ pub(super) struct Room {
 impl Room {
     pub(super) fn new(scale: &Scale, letters: u128) -> Room {
         let short = are_short(scale);
-        let first = breadth(scale.first as u128, letters);
-        let last = breadth(scale.last as u128, letters);
-        let widest = if short { short_breadth(letters) } else { last };
-        let wanted = widest.saturating_add(GAP);
+        let first = breadth(scale.first as u128, short, letters);
+        let last = breadth(scale.last as u128, short, letters);
+        let wanted = last.saturating_add(GAP);
         let decade = scale.decade();
         let every = if wanted <= decade / 10 * 3 {
             1
@@ -88,7 +111,7 @@ impl Room {
             (across, "middle") => across.saturating_add(first / 2),
             (across, _) => across.saturating_add(first),
         };
-        let end = match last_place(scale.last) {
+        let end = match last_place(scale) {
             (across, "middle") => across.saturating_sub(last / 2),
             (across, _) => across.saturating_sub(last),
         };
@@ -103,26 +126,21 @@ impl Room {
 
     /// Whether a round number is written, the middle of it so far from the left edge.
     pub(super) fn has(&self, index: usize, number: u128, across: u128) -> bool {
-        let whole = if self.short {
-            short_breadth(self.letters)
-        } else {
-            breadth(number, self.letters)
-        };
-        let half = whole / 2;
+        let half = breadth(number, self.short, self.letters) / 2;
         index % self.every.max(1) == 0
             && across >= self.begin.saturating_add(half)
             && across.saturating_add(half) <= self.end
     }
 }
 
-// How wide a number is in common fonts, at most.
-fn breadth(number: u128, letters: u128) -> u128 {
+// How wide a number is in common fonts, at most: where it is short, three digits, a point and a letter.
+fn breadth(number: u128, short: bool, letters: u128) -> u128 {
     let digits = number.max(1).ilog10() as u128 + 1;
-    let commas = (digits - 1) / 3;
-    letters.saturating_mul(64 * digits + 32 * commas) / 100
-}
-
-// How wide three digits and a letter are.
-fn short_breadth(letters: u128) -> u128 {
-    letters.saturating_mul(3 * 64 + 90) / 100
+    let marks = (digits - 1) / 3;
+    let parts = if short && marks > 0 {
+        3 * 64 + 32 + 90
+    } else {
+        64 * digits + 32 * marks
+    };
+    letters.saturating_mul(parts) / 100
 }

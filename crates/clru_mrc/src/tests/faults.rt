@@ -7,6 +7,7 @@ use crate::program::run;
 use ration::Rationed;
 use std::alloc::{Allocator, Global};
 use std::io::{self, ErrorKind, Read, Write};
+use std::test::Fail;
 
 fn with_least<A: Allocator>() -> Options<A> {
     Options {
@@ -124,4 +125,29 @@ fn each_refused_request_is_want_of_memory(rt: HostRuntime) {
         }
         assert!(rt; met_none);
     }
+}
+
+#[test]
+fn a_list_of_the_lines_is_made_for_the_least_alone(rt: HostRuntime) -> Result<(), Fail> {
+    let mut input = Vec::new(rt.alloc());
+    for _ in 0..5_000 {
+        input.extend_from_slice(b"a\n")?;
+    }
+    for least in [false, true] {
+        let heap = Rationed::new(rt.alloc());
+        let options = Options {
+            capacities: Capacities::Usual,
+            sizes: false,
+            least,
+            form: Form::Table,
+        };
+        let mut reader = input.as_slice();
+        let mut written = Vec::new(rt.alloc());
+        let outcome = run(&heap, &options, &mut reader, &mut written);
+        assert_eq!(rt; outcome, Ok(()));
+        // The room for the input, and 16 bytes for each line of a list.
+        let listed = heap.asked_bytes() > 65_536 + 5_000 * 16;
+        assert_eq!(rt; listed, least);
+    }
+    Ok(())
 }
