@@ -66,7 +66,8 @@ impl<K: Eq + Hash, V, S: BuildHasher, W: WeightScale<K, V>, A: Allocator + Copy>
 
     ghost coded = { cache_code K.code V.code W.code };
 
-    ghost view = { λ c. cache (pairs_in c.pairs.nodes) (non_zero_usize_get c.capacity) c.pairs.scale (places_of c.pairs.nodes) };
+    ghost view = { λ c. cache (pairs_in c.pairs.nodes) (non_zero_usize_get c.capacity) c.pairs.scale
+        (places_of c.pairs.nodes) };
 
     ghost invariant = { λ c. IsCache K.eq W.weight (hash_by S.Hasher.finish S.Hasher.write S.build_hasher K.hash_input)
         c.pairs (non_zero_usize_get c.capacity) };

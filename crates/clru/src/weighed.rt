@@ -140,7 +140,8 @@ where
         requires below { room < capacity_of self.old.nodes }
         requires callable { let gone = reverse (past_fit (W.weight self.old.scale) room (pairs_in self.old.nodes)) in
             TakesEach F.FnMut on_drop.old gone }
-        ensures pairs { OnOk result (pairs_in self.new.nodes ≡ fit (W.weight self.old.scale) room (pairs_in self.old.nodes)) }
+        ensures pairs { OnOk result (pairs_in self.new.nodes
+            ≡ fit (W.weight self.old.scale) room (pairs_in self.old.nodes)) }
         ensures ready { OnOk result (length (pairs_in self.new.nodes) < places_of self.new.nodes) }
         ensures stays { OnErr result (pairs_in self.new.nodes ≡ pairs_in self.old.nodes) }
         ensures grows { let old = self.old.nodes in GrowsIf (size_in W.weight self.old ≤ room) (length (pairs_in old))
@@ -167,9 +168,11 @@ where
     where
         K: Drop,
         V: Drop,
-        requires callable { CallableOnEachPair (CalledAtShownPair F.FnMut) (TakesShownPair F.FnMut) keep (pairs_in self.old.nodes) }
+        requires callable { CallableOnEachPair (CalledAtShownPair F.FnMut) (TakesShownPair F.FnMut)
+            keep (pairs_in self.old.nodes) }
         requires whole { IsWeighed W.weight (hash_of K.Hash S.BuildHasher S.Hasher.Hasher) self.old }
-        ensures kept { RetainsPairs (CalledAtShownPair F.FnMut) keep (pairs_in self.old.nodes) (pairs_in self.new.nodes) }
+        ensures kept { RetainsPairs (CalledAtShownPair F.FnMut)
+            keep (pairs_in self.old.nodes) (pairs_in self.new.nodes) }
         ensures whole { IsWeighed W.weight (hash_of K.Hash S.BuildHasher S.Hasher.Hasher) self.new }
         ensures rest { KeepsRest self.old self.new }
     {
