@@ -51,8 +51,8 @@ module _ {K V : Type 0} where
         → frame_of (with_item_at k (item_with i v) es) ≡ frame_of es
     frame-with_item_at [] k i at = refl
     frame-with_item_at (e ∷ es) zero i at =
-        let same : i ≡ e.1 = cc in ap (λ (d : Item K V). (e.0, (d.chain, d.key)) ∷ frame_of es) same
-    frame-with_item_at (e ∷ es) (suc k) i at = ap (λ l. (e.0, (e.1.chain, e.1.key)) ∷ l) (frame-with_item_at es k i at)
+        let same : i ≡ e.1 = cc in ap (λ (d : Item K V). (e.0, d.key) ∷ frame_of es) same
+    frame-with_item_at (e ∷ es) (suc k) i at = ap (λ l. (e.0, e.1.key) ∷ l) (frame-with_item_at es k i at)
 
     -- and the pairs have it there
     pub pairs_of-with_item_at : (es : List (ℕ × Item K V)) (k : ℕ) (i : Item K V) → option_map (λ e. e.1) (slice_get es k) ≡ Some i

@@ -2,7 +2,7 @@
 use Rattle.std.proofs.Common.{◌≡◌, ℕ, zero, suc, ◌+◌, ◌<◌, ◌≤◌, ◌==◌, if◌then◌else◌, cond, List, [], ◌∷◌, length, refl, sym, ap, ◌∙◌, subst, arith, inl, inr}
 use Rattle.std.proofs.lemmas.Bool.{cases_eq, eq-eqb, ne_eqb}
 use Rattle.clru_list.specs.Places.{nowhere, count, IsRest}
-use Rattle.clru_nodes.specs.Chained.{Reaches, IsCut, IsWalk, steps_left}
+use Rattle.clru_nodes.specs.Chained.{Reaches, IsCut, IsPlace, IsWalk, steps_left}
 use Rattle.clru_nodes.proofs.Chains.{count_here, count_later, reaches_meets}
 
 -- the list less the first p
@@ -59,6 +59,17 @@ walk_start {f} {met} c alive wanted len places start living few short held =
       held = λ q w. let h = held q w in let t = ne_eqb q nowhere h.0 in let k = rw t at (all q) in omega (arith, k, h.1);
     }
 
+-- a walk is one by a weaker word for what is alive, and with a greater bound
+pub walk_weaker : {f : ℕ → ℕ} {alive alive' wanted : ℕ → Type 0} {next len len' : ℕ} → IsWalk f alive wanted next len
+    → ((q : ℕ) → alive q → alive' q) → len ≤ len' → IsWalk f alive' wanted next len'
+walk_weaker w weaker more = record {
+  rest = w.rest;
+  ahead = w.ahead;
+  living = λ q h. weaker q (w.living q h);
+  short = omega (arith, w.short, more);
+  held = w.held;
+}
+
 module _ {f : ℕ → ℕ} {alive wanted : ℕ → Type 0} {next len : ℕ} (w : IsWalk f alive wanted next len) (none : alive nowhere → ⊥) where
   rest_of_alive : (rest : List ℕ) → IsRest f next rest → (next ≡ nowhere → ⊥) → (later : List ℕ) × (rest ≡ next ∷ later) × IsRest f (f next) later
   rest_of_alive [] path is = absurd (is path)
@@ -81,6 +92,13 @@ module _ {f : ℕ → ℕ} {alive wanted : ℕ → Type 0} {next len : ℕ} (w :
         | p ∷ ps ↦ λ path living h. dead (subst alive (sym path.0) (living p (count_here p ps)))
       ] in
       gone w.rest w.ahead w.living (w.held q is)
+
+  -- a walk that looks for a place, or for its own end, has not ended before
+  pub walk_goes_on : (place : ℕ) → ((q : ℕ) → IsPlace place q → wanted q) → (next ≡ place → ⊥) → next ≡ nowhere → ⊥
+  walk_goes_on place wants other e = elim (cases_eq place nowhere) [
+    | inl p ↦ other (e ∙ sym p)
+    | inr n ↦ walk_missed (λ h. none (subst alive e h)) place (wants place (refl, n))
+  ]
 
   -- a step further, where what is wanted still is not the place that is left
   pub walk_step : (next ≡ nowhere → ⊥) → (still : ℕ → Type 0) → ((q : ℕ) → still q → wanted q) → (still next → ⊥)

@@ -1,7 +1,7 @@
 -- The index over a list of nodes: what keeps it, by the chains and by what stands where.
-use Rattle.std.proofs.Common.{◌≡◌, ℕ, ◌-◌, ◌<◌, ◌≤◌, Option, Some, None, List, [], ◌∷◌, length, replicate, refl, sym, ap, ◌∙◌, subst, arith, inl, inr}
+use Rattle.std.proofs.Common.{◌≡◌, ℕ, ◌-◌, ◌<◌, ◌≤◌, Option, Some, None, List, [], ◌∷◌, length, replicate, set, refl, sym, ap, ◌∙◌, subst, arith, inl, inr}
 use Rattle.std.proofs.lemmas.Bool.{cases_eq, cases_lt, eq-eqb, ne_eqb}
-use Rattle.std.proofs.lemmas.List.{get_or-replicate, get_or_past, length-replicate}
+use Rattle.std.proofs.lemmas.List.{get_or-replicate, get_or-set_same, get_or-set_other, get_or_past, length-replicate}
 use Rattle.std.proofs.lemmas.Map.Entries.{length-keys_of}
 use Rattle.std.proofs.lemmas.Nat.{and_le_r}
 use Rattle.std.specs.List.{fold}
@@ -9,16 +9,15 @@ use Rattle.std.specs.Map.{keys_of}
 use Rattle.std.specs.Option.{option_map}
 use Rattle.clru_list.specs.PlaceList.{item_at}
 use Rattle.clru_list.specs.Places.{nowhere, put, count}
-use Rattle.clru_nodes.specs.Chained.{steps_of, of_head, IsCut, IsChained, IsRelinked, IsWalk}
-use Rattle.clru_nodes.specs.Heads.{head_by, placed_of, link_at, key_at, head_at, steps_at, home_at, IsLive, IsChainedAs, IsChainedBut, HasHome}
-use Rattle.clru_nodes.specs.Nodes.{hash_by, IsIndexed, IsSame}
+use Rattle.clru_nodes.specs.Chained.{steps_of, of_head, IsCut, IsChained, IsWalk}
+use Rattle.clru_nodes.specs.Heads.{head_by, key_at, place_in, home_at, IsLive}
+use Rattle.clru_nodes.specs.Nodes.{hash_by, IsIndexed}
 use Rattle.clru_nodes.specs.declared.nodes.Item.{Item}
 use Rattle.clru_nodes.specs.declared.nodes.Nodes.{Nodes}
 use Rattle.clru_list.proofs.Puts.{put-here, put-other}
-use Rattle.clru_nodes.proofs.Chaining.{single, met_key, chained_none, chained_insert, chained_remove}
+use Rattle.clru_nodes.proofs.Chaining.{single, met_key, chained_none, chained_same}
 use Rattle.clru_nodes.proofs.ChainWalks.{walk_start}
 use Rattle.clru_nodes.proofs.Cuts.{cut_here}
-use Rattle.clru_nodes.proofs.Placed.{same_keys}
 
 -- keys with the same writes have the same hash
 pub same_hash : {S H W K : Type 0} (finish : H → ℕ) (write : H → W → H) (build : S → H) (input : K → List W) (builder : S) {j k : K} → input j ≡ input k
@@ -41,11 +40,11 @@ module _ {K V : Type 0} where
     | Some i ↦ λ e yes. (i, e)
   ]) refl is
 
-  module _ (home : K → ℕ) {heads : ℕ → ℕ} (es : List (ℕ × Item K V)) {key : ℕ → Option K}
-      (c : IsChained home heads (link_at es) key) (lives : (q : ℕ) (k : K) → key q ≡ Some k → IsLive es q) where
+  module _ (home : K → ℕ) {heads link : ℕ → ℕ} (es : List (ℕ × Item K V)) {key : ℕ → Option K}
+      (c : IsChained home heads link key) (lives : (q : ℕ) (k : K) → key q ≡ Some k → IsLive es q) where
     -- a walk along a chain begins at its head
     pub walk_of_chain : (h : ℕ) (wanted : ℕ → Type 0) → ((q : ℕ) → wanted q → (q ≡ nowhere → ⊥) × (0 < of_head home h key q))
-        → IsWalk (steps_of heads (link_at es) h) (IsLive es) wanted (heads h) (length es)
+        → IsWalk (steps_of heads link h) (IsLive es) wanted (heads h) (length es)
     walk_of_chain h wanted held =
         walk_start (c.chain h) (IsLive es) wanted (length es) (keys_of es) (single home h key nowhere)
         (λ q off met. let (k, is, _) = met_key home h key q off met in lives q k is)
@@ -58,7 +57,7 @@ module _ {K V : Type 0} where
         (omega (arith, length-keys_of es)) held
 
     -- a place on the way holds something
-    pub live_at_cut : (h at : ℕ) → IsCut (steps_of heads (link_at es) h) (of_head home h key) at → (at ≡ nowhere → ⊥) → IsLive es at
+    pub live_at_cut : (h at : ℕ) → IsCut (steps_of heads link h) (of_head home h key) at → (at ≡ nowhere → ⊥) → IsLive es at
     live_at_cut h at cut off = let (k, is, _) = met_key home h key at off (cut_here cut) in lives at k is
 
   -- the keys that are chained stand in items, also where one is out
@@ -68,46 +67,31 @@ module _ {K V : Type 0} where
     | inr n ↦ live_of_key es q k (sym (put-other (key_at es) out None q n) ∙ is)
   ]
 
-module _ {K V S A H : Type 0} (hash : S → K → ℕ) {x y : Nodes K V S A H} where
-  -- the heads of keys stay
-  pub same_homes : IsSame x y → (heads link : ℕ → ℕ) (key : ℕ → Option K) → IsChained (home_at hash x) heads link key
-      → IsChained (home_at hash y) heads link key
-  same_homes same heads link key c =
-      subst (λ n. IsChained (λ k. head_by n (hash y.hash_builder k)) heads link key) (sym same.heads)
-      (subst (λ b. IsChained (λ k. head_by (length x.heads.items) (hash b k)) heads link key) (sym same.builder) c)
+-- the heads of keys stay where there are as many
+pub homes_stay : {K : Type 0} (hash : K → ℕ) {heads link : ℕ → ℕ} {key : ℕ → Option K} {n m : ℕ} → m ≡ n
+    → IsChained (λ k. head_by n (hash k)) heads link key → IsChained (λ k. head_by m (hash k)) heads link key
+homes_stay hash {heads} {link} {key} same c = subst (λ i. IsChained (λ k. head_by i (hash k)) heads link key) (sym same) c
 
-  -- a place that was out is linked to the end of its head's chain
-  pub chained_append : (h p at : ℕ) → HasHome hash h p x → link_at x.list.entries p ≡ nowhere → IsChainedBut hash p x → steps_at x h at ≡ nowhere
-      → IsCut (steps_at x h) (of_head (home_at hash x) h (put (key_at x.list.entries) p None)) at
-      → IsRelinked (head_at x.heads.items) (link_at x.list.entries) h at p (head_at y.heads.items) (link_at y.list.entries)
-      → placed_of y.list.entries ≡ placed_of x.list.entries → IsSame x y → IsChainedAs hash (key_at y.list.entries) y
-  chained_append h p at homed ends c last cut linked pairs same =
-      let keys = same_keys y.list.entries x.list.entries pairs in
-      let key = key_at x.list.entries in
-      same_homes same (head_at y.heads.items) (link_at y.list.entries) (key_at y.list.entries)
-      (chained_insert (home_at hash x) c h cut p
-      (head_at y.heads.items) (link_at y.list.entries) (key_at y.list.entries)
-      homed.item.key homed.off (put-here key p None p refl) (ends ∙ sym last) linked
-      (keys p ∙ ap (λ o. option_map (λ (i : Item K V). i.key) o) homed.held) homed.home
-      (λ q n. keys q ∙ sym (put-other key p None q (λ e. n (sym e)))))
+-- a link that is written
+pub link_set : (links : List ℕ) (p to q : ℕ) → p < length links → place_in (set links p to) q ≡ put (place_in links) p to q
+link_set links p to q within = elim (cases_eq p q) [
+  | inl e ↦ subst (λ k. place_in (set links p to) k ≡ to) e (get_or-set_same links p to nowhere within) ∙ sym (put-here (place_in links) p to q e)
+  | inr n ↦ get_or-set_other links p q to nowhere (λ e. n (sym e)) ∙ sym (put-other (place_in links) p to q n)
+]
 
-  -- a place is linked out of its head's chain
-  pub chained_unchain : (h p at : ℕ) → (homed : HasHome hash h p x) → IsChainedAs hash (key_at x.list.entries) x → steps_at x h at ≡ p
-      → IsCut (steps_at x h) (of_head (home_at hash x) h (key_at x.list.entries)) at
-      → IsRelinked (head_at x.heads.items) (link_at x.list.entries) h at (link_at x.list.entries p) (head_at y.heads.items) (link_at y.list.entries)
-      → placed_of y.list.entries ≡ placed_of x.list.entries → IsSame x y → IsChainedBut hash p y
-  chained_unchain h p at homed c next cut linked pairs same =
-      let keys = same_keys y.list.entries x.list.entries pairs in
-      let key = key_at y.list.entries in
-      same_homes same (head_at y.heads.items) (link_at y.list.entries) (put key p None)
-      (chained_remove (home_at hash x) c h cut p
-      (head_at y.heads.items) (link_at y.list.entries) (put key p None)
-      homed.off next linked (put-here key p None p refl)
-      (λ q n. put-other key p None q (λ e. n (sym e)) ∙ keys q))
+-- a place that is in no chain may be linked
+pub chained_apart : {K : Type 0} (home : K → ℕ) {heads : ℕ → ℕ} (links : List ℕ) (p to : ℕ) (key : ℕ → Option K) → p < length links
+    → IsChained home heads (place_in links) (put key p None) → IsChained home heads (place_in (set links p to)) (put key p None)
+chained_apart home {heads} links p to key within c =
+    chained_same home c heads (place_in (set links p to)) (put key p None) (λ h. refl)
+    (λ q k off is. elim (cases_eq p q) [
+      | inl e ↦ let no : None ≡ Some k = sym (put-here key p None q e) ∙ is in cc
+      | inr n ↦ link_set links p to q within ∙ put-other (place_in links) p to q n
+    ]) (λ q off. refl)
 
--- empty heads lead nowhere
-pub head_at-replicate : (n h : ℕ) (heads : List ℕ) → heads ≡ replicate n nowhere → head_at heads h ≡ nowhere
-head_at-replicate n h heads same =
+-- new heads lead nowhere
+pub free-replicate : (n h : ℕ) (heads : List ℕ) → heads ≡ replicate n nowhere → place_in heads h ≡ nowhere
+free-replicate n h heads same =
     rw same (elim (cases_lt h n) [
       | inl within ↦ get_or-replicate n h nowhere nowhere within
       | inr past ↦ get_or_past (replicate n nowhere) h nowhere (omega (arith, length-replicate n nowhere))
@@ -115,13 +99,14 @@ head_at-replicate n h heads same =
 
 module _ {K V S A H : Type 0} (hash : S → K → ℕ) (x : Nodes K V S A H) where
   -- with no pair all chains are empty
-  pub indexed_none : x.list.entries ≡ [] → ((h : ℕ) → head_at x.heads.items h ≡ nowhere) → x.places ≤ x.list.places
-      → x.places ≤ length x.heads.items → x.list.places ≤ x.heads.bound → IsIndexed hash x
-  indexed_none none free reserved headed named = record {
-    chained = chained_none (home_at hash x) (head_at x.heads.items) (link_at x.list.entries) (key_at x.list.entries) free (λ q off. rw none refl);
+  pub indexed_none : x.list.entries ≡ [] → ((h : ℕ) → place_in x.heads.items h ≡ nowhere) → x.places ≤ x.list.places
+      → length x.heads.links ≤ length x.heads.items → x.list.places ≤ length x.heads.links → x.list.places ≤ x.heads.bound → IsIndexed hash x
+  indexed_none none free reserved headed linked named = record {
+    chained = chained_none (home_at hash x) (place_in x.heads.items) (place_in x.heads.links) (key_at x.list.entries) free (λ q off. rw none refl);
     held = rw none (omega arith);
     reserved = reserved;
     headed = headed;
+    linked = linked;
     named = named;
   }
 

@@ -2,11 +2,11 @@
 use Rattle.std.proofs.Common.{◌≡◌, ℕ, ◌==◌, ◌≤◌, Option, Some, None, List, ◌∷◌, length, refl, sym, ap, ◌∙◌, arith, inl, inr}
 use Rattle.std.proofs.lemmas.Bool.{cases_eq, eq-eqb, ne_eqb}
 use Rattle.std.proofs.lemmas.Map.{length-set_value}
-use Rattle.std.specs.Option.{option_map, option_map_or}
+use Rattle.std.specs.Option.{option_map}
 use Rattle.clru_list.specs.PlaceList.{item_at, without, with_at, with_entries, IsApart}
-use Rattle.clru_list.specs.Places.{nowhere, put}
+use Rattle.clru_list.specs.Places.{put}
 use Rattle.clru_nodes.specs.Chained.{IsChained}
-use Rattle.clru_nodes.specs.Heads.{link_at, key_at, home_at, IsChainedAs}
+use Rattle.clru_nodes.specs.Heads.{key_at, home_at, IsChainedAs}
 use Rattle.clru_nodes.specs.Nodes.{IsIndexed, IsSame}
 use Rattle.clru_nodes.specs.declared.nodes.Item.{Item}
 use Rattle.clru_nodes.specs.declared.nodes.Nodes.{Nodes}
@@ -14,56 +14,54 @@ use Rattle.clru_list.proofs.Puts.{put-here, put-other}
 use Rattle.clru_nodes.proofs.Chaining.{chained_same}
 use Rattle.clru_nodes.proofs.Placed.{item_at-with_at, item_at-without, length-without_held}
 
-module _ {K V : Type 0} (home : K → ℕ) {heads : ℕ → ℕ} where
-  -- but for one place, which is in no chain, the items stay where they are
-  moved : (es fs : List (ℕ × Item K V)) (key key' : ℕ → Option K) (p : ℕ) → IsChained home heads (link_at es) key
-      → ((q : ℕ) → (p ≡ q → ⊥) → item_at q fs ≡ item_at q es) → key p ≡ None → ((q : ℕ) → (p ≡ q → ⊥) → key q ≡ key_at es q)
-      → key' p ≡ None → ((q : ℕ) → (p ≡ q → ⊥) → key' q ≡ key_at fs q) → IsChained home heads (link_at fs) key'
-  moved es fs key key' p c items out keys out' keys' =
-      chained_same home c heads (link_at fs) key' (λ h. refl)
-      (λ q k off is. elim (cases_eq p q) [
-        | inl e ↦ let no : None ≡ Some k = sym out ∙ ap key e ∙ is in cc
-        | inr n ↦ ap (λ (o : Option (Item K V)). option_map_or (λ (i : Item K V). i.chain) o nowhere) (items q n)
-      ])
-      (λ q off. elim (cases_eq p q) [
+-- all chains stay where the keys stand where they stood
+pub keys_stay : {K : Type 0} (home : K → ℕ) {heads link : ℕ → ℕ} (key key' : ℕ → Option K) → ((q : ℕ) → key' q ≡ key q)
+    → IsChained home heads link key → IsChained home heads link key'
+keys_stay home {heads} {link} key key' same c = chained_same home c heads link key' (λ h. refl) (λ q k off is. refl) (λ q off. same q)
+
+module _ {K V : Type 0} (home : K → ℕ) {heads link : ℕ → ℕ} where
+  -- and where they do but at one place, which is in no chain
+  moved : (es fs : List (ℕ × Item K V)) (key key' : ℕ → Option K) (p : ℕ) → ((q : ℕ) → (p ≡ q → ⊥) → item_at q fs ≡ item_at q es)
+      → key p ≡ None → ((q : ℕ) → (p ≡ q → ⊥) → key q ≡ key_at es q) → key' p ≡ None → ((q : ℕ) → (p ≡ q → ⊥) → key' q ≡ key_at fs q)
+      → IsChained home heads link key → IsChained home heads link key'
+  moved es fs key key' p items out keys out' keys' =
+      keys_stay home key key' (λ q. elim (cases_eq p q) [
         | inl e ↦ ap key' (sym e) ∙ out' ∙ sym out ∙ ap key e
         | inr n ↦ keys' q n ∙ ap (λ (o : Option (Item K V)). option_map (λ (i : Item K V). i.key) o) (items q n) ∙ sym (keys q n)
       ])
 
   -- a new item is in no chain yet
-  pub chained_push : (p : ℕ) (i : Item K V) (es : List (ℕ × Item K V)) → item_at p es ≡ None → IsChained home heads (link_at es) (key_at es)
-      → IsChained home heads (link_at ((p, i) ∷ es)) (put (key_at ((p, i) ∷ es)) p None)
-  chained_push p i es fresh c =
+  pub chained_push : (p : ℕ) (i : Item K V) (es : List (ℕ × Item K V)) → item_at p es ≡ None → IsChained home heads link (key_at es)
+      → IsChained home heads link (put (key_at ((p, i) ∷ es)) p None)
+  chained_push p i es fresh =
       let fs = (p, i) ∷ es in
-      moved es fs (key_at es) (put (key_at fs) p None) p c (λ q n. rw (ne_eqb q p (λ e. n (sym e))) refl) (rw fresh refl) (λ q n. refl)
+      moved es fs (key_at es) (put (key_at fs) p None) p (λ q n. rw (ne_eqb q p (λ e. n (sym e))) refl) (rw fresh refl) (λ q n. refl)
       (put-here (key_at fs) p None p refl) (λ q n. put-other (key_at fs) p None q n)
 
   -- an item that is in no chain goes
-  pub chained_drop : (p : ℕ) (es : List (ℕ × Item K V)) → IsApart es → IsChained home heads (link_at es) (put (key_at es) p None)
-      → IsChained home heads (link_at (without p es)) (key_at (without p es))
-  chained_drop p es apart c =
+  pub chained_drop : (p : ℕ) (es : List (ℕ × Item K V)) → IsApart es → IsChained home heads link (put (key_at es) p None)
+      → IsChained home heads link (key_at (without p es))
+  chained_drop p es apart =
       let fs = without p es in
-      moved es fs (put (key_at es) p None) (key_at fs) p c (λ q n. item_at-without p q es apart ∙ rw (ne_eqb p q n) refl)
+      moved es fs (put (key_at es) p None) (key_at fs) p (λ q n. item_at-without p q es apart ∙ rw (ne_eqb p q n) refl)
       (put-here (key_at es) p None p refl) (λ q n. put-other (key_at es) p None q n)
       (rw (item_at-without p p es apart, eq-eqb p p refl) refl) (λ q n. refl)
 
   -- an item that is in no chain is written, and comes first
-  pub chained_replace : (p : ℕ) (i : Item K V) (es : List (ℕ × Item K V)) → IsApart es → IsChained home heads (link_at es) (put (key_at es) p None)
-      → IsChained home heads (link_at ((p, i) ∷ without p es)) (put (key_at ((p, i) ∷ without p es)) p None)
-  chained_replace p i es apart c =
+  pub chained_replace : (p : ℕ) (i : Item K V) (es : List (ℕ × Item K V)) → IsApart es → IsChained home heads link (put (key_at es) p None)
+      → IsChained home heads link (put (key_at ((p, i) ∷ without p es)) p None)
+  chained_replace p i es apart =
       let fs = (p, i) ∷ without p es in
-      moved es fs (put (key_at es) p None) (put (key_at fs) p None) p c
+      moved es fs (put (key_at es) p None) (put (key_at fs) p None) p
       (λ q n. rw (ne_eqb q p (λ e. n (sym e))) (item_at-without p q es apart ∙ rw (ne_eqb p q n) refl))
       (put-here (key_at es) p None p refl) (λ q n. put-other (key_at es) p None q n)
       (put-here (key_at fs) p None p refl) (λ q n. put-other (key_at fs) p None q n)
 
   -- where each place holds what it held, all chains stay
-  pub chained_stays : (es fs : List (ℕ × Item K V)) → ((q : ℕ) → item_at q fs ≡ item_at q es) → IsChained home heads (link_at es) (key_at es)
-      → IsChained home heads (link_at fs) (key_at fs)
-  chained_stays es fs items c =
-      chained_same home c heads (link_at fs) (key_at fs) (λ h. refl)
-      (λ q k off is. ap (λ (o : Option (Item K V)). option_map_or (λ (i : Item K V). i.chain) o nowhere) (items q))
-      (λ q off. ap (λ (o : Option (Item K V)). option_map (λ (i : Item K V). i.key) o) (items q))
+  pub chained_stays : (es fs : List (ℕ × Item K V)) → ((q : ℕ) → item_at q fs ≡ item_at q es) → IsChained home heads link (key_at es)
+      → IsChained home heads link (key_at fs)
+  chained_stays es fs items =
+      keys_stay home (key_at es) (key_at fs) (λ q. ap (λ (o : Option (Item K V)). option_map (λ (i : Item K V). i.key) o) (items q))
 
 -- an item that comes first leaves each place with what it held
 pub items_to_front : {T : Type 0} (p : ℕ) (i : T) (es : List (ℕ × T)) → IsApart es → item_at p es ≡ Some i
@@ -81,32 +79,38 @@ module _ {K V S A H : Type 0} {hash : S → K → ℕ} {x y : Nodes K V S A H} w
     chained = chained;
     held = omega (arith, same.places, old.held);
     reserved = omega (arith, same.places, same.placed, old.reserved);
-    headed = omega (arith, same.places, same.heads, old.headed);
-    named = omega (arith, same.placed, same.bound, old.named);
+    headed = omega (arith, same.heads.heads, same.heads.links, old.headed);
+    linked = omega (arith, same.placed, same.heads.links, old.linked);
+    named = omega (arith, same.placed, same.heads.bound, old.named);
   }
+
+-- other entries, and all else as it was
+pub same_nodes : {K V S A H : Type 0} {x : Nodes K V S A H} {es : List (ℕ × Item K V)} → IsSame x (record x { list = with_entries x.list es })
+same_nodes = record {
+  capacity = refl;
+  placed = refl;
+  builder = refl;
+  places = refl;
+  heads = record { heads = refl; links = refl; bound = refl };
+}
 
 module _ {K V S A H : Type 0} {hash : S → K → ℕ} {x : Nodes K V S A H} where
   -- an item that comes first keeps the invariant
   pub indexed_front : (p : ℕ) (i : Item K V) → IsIndexed hash x → IsApart x.list.entries → item_at p x.list.entries ≡ Some i
       → IsIndexed hash (record x { list = with_entries x.list ((p, i) ∷ without p x.list.entries) })
   indexed_front p i old apart held =
-      indexed_from old (record { capacity = refl; placed = refl; builder = refl; places = refl; heads = refl; bound = refl })
+      indexed_from old same_nodes
       (chained_stays (home_at hash x) x.list.entries ((p, i) ∷ without p x.list.entries) (items_to_front p i x.list.entries apart held) old.chained)
       (omega (arith, length-without_held p x.list.entries i held))
 
   -- an item that gets another value keeps it
   pub indexed_written : (p : ℕ) (i : Item K V) (v : V) → IsIndexed hash x → item_at p x.list.entries ≡ Some i
-      → IsIndexed hash (record x { list = with_entries x.list (with_at p (record { chain = i.chain; key = i.key; value = v }) x.list.entries) })
+      → IsIndexed hash (record x { list = with_entries x.list (with_at p (record { key = i.key; value = v }) x.list.entries) })
   indexed_written p i v old held =
-      let es = x.list.entries in let w : Item K V = record { chain = i.chain; key = i.key; value = v } in
-      indexed_from old (record { capacity = refl; placed = refl; builder = refl; places = refl; heads = refl; bound = refl })
-      (chained_same (home_at hash x) old.chained _ _ _ (λ h. refl)
-      (λ q k off is. elim (cases_eq p q) [
+      let es = x.list.entries in let w : Item K V = record { key = i.key; value = v } in
+      indexed_from old same_nodes
+      (keys_stay (home_at hash x) (key_at es) _ (λ q. elim (cases_eq p q) [
         | inl e ↦ rw (item_at-with_at p q w es i held, eq-eqb p q e, ← e, held) refl
         | inr n ↦ rw (item_at-with_at p q w es i held, ne_eqb p q n) refl
-      ])
-      (λ q off. elim (cases_eq p q) [
-        | inl e ↦ rw (item_at-with_at p q w es i held, eq-eqb p q e, ← e, held) refl
-        | inr n ↦ rw (item_at-with_at p q w es i held, ne_eqb p q n) refl
-      ]))
+      ]) old.chained)
       (omega (arith, length-set_value (λ q. p == q) es w))

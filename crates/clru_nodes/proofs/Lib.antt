@@ -13,5 +13,6 @@ pub mod PlacedPairs
 pub mod Relinking
 pub mod Same
 pub mod Sifting
+pub mod Valid
 pub mod Values
 pub mod WrittenItems

@@ -5,10 +5,10 @@ use Rattle.std.specs.Option.{option_map}
 use Rattle.clru_list.specs.PlaceList.{PlaceList, item_at, IsValid}
 use Rattle.clru_list.specs.Places.{nowhere}
 use Rattle.clru_nodes.specs.Chained.{steps_of, IsChained, IsRelinked}
-use Rattle.clru_nodes.specs.Heads.{link_at, key_at, placed_of}
+use Rattle.clru_nodes.specs.Heads.{key_at}
 use Rattle.clru_nodes.specs.declared.nodes.Item.{Item}
 use Rattle.clru_list.proofs.Puts.{put-here, put-other}
-use Rattle.clru_nodes.proofs.Placed.{same_keys}
+use Rattle.clru_nodes.proofs.IndexedMoves.{keys_stay}
 use Rattle.clru_nodes.proofs.Chaining.{steps_off, chained_same, chained_insert}
 
 module _ {K V : Type 0} where
@@ -63,32 +63,28 @@ module _ {K : Type 0} (home : K → ℕ) {heads link : ℕ → ℕ} {key : ℕ �
       sym (steps_off heads₁ link₁ h p off) ∙ one.here p ∙ put-here (steps_of heads link h) p (heads h) p refl ∙ sym start in
       chained_insert home c₁ h (c₁.chain h) p heads₂ link₂ key' k off fresh onward two new is keys
 
-module _ {K V : Type 0} (home : K → ℕ) {heads : ℕ → ℕ} (p : ℕ) (es : List (ℕ × Item K V))
-    (c : IsChained home heads (link_at es) (key_from (p + 1) es)) where
+module _ {K V : Type 0} (home : K → ℕ) {heads link : ℕ → ℕ} (p : ℕ) (es : List (ℕ × Item K V))
+    (c : IsChained home heads link (key_from (p + 1) es)) where
   -- a place without an item adds no key
-  pub chained_skip : item_at p es ≡ None → IsChained home heads (link_at es) (key_from p es)
+  pub chained_skip : item_at p es ≡ None → IsChained home heads link (key_from p es)
   chained_skip none =
-      chained_same home c heads (link_at es) (key_from p es) (λ h. refl) (λ q k off is. refl)
-      (λ q off. elim (cases_eq q p) [
+      keys_stay home (key_from (p + 1) es) (key_from p es)
+      (λ q. elim (cases_eq q p) [
         | inl e ↦
             let here : key_from p es p ≡ key_from (p + 1) es p =
             key_from-within p p es (omega arith) ∙ rw none refl ∙ sym (key_from-past (p + 1) p es (omega arith)) in
             subst (λ x. key_from p es x ≡ key_from (p + 1) es x) (sym e) here
         | inr n ↦ key_from-next p q es n
-      ])
+      ]) c
 
   -- an item's place is linked
-  pub chained_more : (h : ℕ) (i : Item K V) → (p ≡ nowhere → ⊥) → item_at p es ≡ Some i → home i.key ≡ h → {heads₁ link₁ heads₂ : ℕ → ℕ}
-      → (fs : List (ℕ × Item K V)) → IsRelinked heads (link_at es) h p (heads h) heads₁ link₁ → IsRelinked heads₁ link₁ h nowhere p heads₂ (link_at fs)
-      → placed_of fs ≡ placed_of es → IsChained home heads₂ (link_at fs) (key_from p fs)
-  chained_more h i off held is fs one two pairs =
-      let keys = same_keys fs es pairs in
-      chained_first home c h p i.key off (key_from-past (p + 1) p es (omega arith)) is one two (key_from p fs)
-      (key_from-within p p fs (omega arith) ∙ keys p ∙ rw held refl)
-      (λ q n. ap (λ k. cond (nat_le p q) k None) (keys q) ∙ key_from-next p q es n)
+  pub chained_more : (h : ℕ) (i : Item K V) → (p ≡ nowhere → ⊥) → item_at p es ≡ Some i → home i.key ≡ h → {heads₁ link₁ heads₂ link₂ : ℕ → ℕ}
+      → IsRelinked heads link h p (heads h) heads₁ link₁ → IsRelinked heads₁ link₁ h nowhere p heads₂ link₂ → IsChained home heads₂ link₂ (key_from p es)
+  chained_more h i off held is one two =
+      chained_first home c h p i.key off (key_from-past (p + 1) p es (omega arith)) is one two (key_from p es)
+      (key_from-within p p es (omega arith) ∙ rw held refl) (λ q n. key_from-next p q es n)
 
 -- from place 0 on these are all keys
-pub chained_whole : {K V : Type 0} (home : K → ℕ) {heads : ℕ → ℕ} (es : List (ℕ × Item K V)) → IsChained home heads (link_at es) (key_from 0 es)
-    → IsChained home heads (link_at es) (key_at es)
-chained_whole home {heads} es c =
-    chained_same home c heads (link_at es) (key_at es) (λ h. refl) (λ q k off is. refl) (λ q off. sym (key_from-within 0 q es (omega arith)))
+pub chained_whole : {K V : Type 0} (home : K → ℕ) {heads link : ℕ → ℕ} (es : List (ℕ × Item K V)) → IsChained home heads link (key_from 0 es)
+    → IsChained home heads link (key_at es)
+chained_whole home es c = keys_stay home (key_from 0 es) (key_at es) (λ q. sym (key_from-within 0 q es (omega arith))) c

@@ -1,14 +1,20 @@
 -- What stays of nodes, from step to step.
 use Rattle.std.proofs.Common.{◌≡◌, refl, ap, ◌∙◌}
 use Rattle.clru_list.specs.PlaceList.{PlaceList}
-use Rattle.clru_nodes.specs.Heads.{KeepsPlaces}
+use Rattle.clru_nodes.specs.Heads.{KeepsPlaces, IsSameSize}
+use Rattle.clru_nodes.specs.HeadList.{HeadList}
 use Rattle.clru_nodes.specs.Nodes.{pairs_of, IsSame, KeepsPairs}
 use Rattle.clru_nodes.specs.declared.nodes.Item.{Item}
 use Rattle.clru_nodes.specs.declared.nodes.Nodes.{Nodes}
-use Rattle.clru_nodes.proofs.Placed.{same_pairs}
+
+size_refl : {h : HeadList} → IsSameSize h h
+size_refl = record { heads = refl; links = refl; bound = refl }
+
+pub size_trans : {h i j : HeadList} → IsSameSize h i → IsSameSize i j → IsSameSize h j
+size_trans a b = record { heads = b.heads ∙ a.heads; links = b.links ∙ a.links; bound = b.bound ∙ a.bound }
 
 pub same_refl : {K V S A H : Type 0} {x : Nodes K V S A H} → IsSame x x
-same_refl = record { capacity = refl; placed = refl; builder = refl; places = refl; heads = refl; bound = refl }
+same_refl = record { capacity = refl; placed = refl; builder = refl; places = refl; heads = size_refl }
 
 pub same_trans : {K V S A H : Type 0} {x y z : Nodes K V S A H} → IsSame x y → IsSame y z → IsSame x z
 same_trans a b = record {
@@ -16,14 +22,13 @@ same_trans a b = record {
   placed = b.placed ∙ a.placed;
   builder = b.builder ∙ a.builder;
   places = b.places ∙ a.places;
-  heads = b.heads ∙ a.heads;
-  bound = b.bound ∙ a.bound;
+  heads = size_trans a.heads b.heads;
 }
 
 module _ {K V S A H : Type 0} where
-  -- pairs that stay at their places stay
+  -- pairs stay where the list does
   pub pairs_kept : (x y : Nodes K V S A H) → KeepsPlaces x y → KeepsPairs x y
-  pairs_kept x y k = record { pairs = same_pairs y.list.entries x.list.entries k.pairs; capacity = k.capacity; builder = k.builder }
+  pairs_kept x y k = record { pairs = ap (λ l. pairs_of l.entries) k.list; capacity = ap (λ l. l.capacity) k.list; builder = k.builder }
 
   -- and so they do where the list alone grows
   pub pairs_grown : (x : Nodes K V S A H) (l : PlaceList (Item K V)) → l.entries ≡ x.list.entries → l.capacity ≡ x.list.capacity

@@ -2,20 +2,18 @@
 use Rattle.std.proofs.Common.{◌≡◌, ℕ, ◌+◌, ◌==◌, ◌<◌, Bool, true, false, cond, Option, Some, None, IsSome, List, [], ◌∷◌, map, length, refl, sym, ap, ◌∙◌, subst, arith, inl, inr}
 use Rattle.std.proofs.lemmas.Bool.{cases_eq, eq-eqb, ne_eqb}
 use Rattle.std.proofs.lemmas.List.{map-append}
-use Rattle.std.proofs.lemmas.Map.{keys-set_value, length-set_value}
 use Rattle.std.specs.List.{FoldsTo}
 use Rattle.std.specs.Map.Calls.{SomeCallAtPair, CallableOnEachPair, RetainsPairs}
 use Rattle.std.specs.Option.{option_map}
 use Rattle.clru_model.specs.Entries.{weight_of}
 use Rattle.clru_model.proofs.Weights.{weight_of-cons}
-use Rattle.clru_list.specs.Places.{count}
 use Rattle.clru_list.specs.PlaceList.{PlaceList, place_list, with_entries, item_at, without, with_at, first_place, place_after, IsApart, IsValid}
-use Rattle.clru_list.proofs.EntryLists.{counts_from_apart, apart_from_counts}
 use Rattle.clru_list.proofs.Retaining.{IsRetaining, from_place, some_injective, starts, ends, head, item_here, takes_here, goes_on, fewer}
 use Rattle.clru_nodes.specs.Heads.{placed_of}
 use Rattle.clru_nodes.specs.Nodes.{pair_of, pairs_of}
 use Rattle.clru_nodes.specs.declared.nodes.Item.{Item}
-use Rattle.clru_nodes.proofs.Placed.{item_at-with_at, item_at-without, length-without, pair_at-placed, length-placed, apart-placed, pairs-placed}
+use Rattle.clru_nodes.proofs.Placed.{pair_at-placed, length-placed, apart-placed, pairs-placed}
+use Rattle.clru_nodes.proofs.Valid.{valid-with_at, valid-without}
 
 -- a call may be made at a place and its pair
 abbrev pub takes_at : {F K V : Type 0} → (F → K → V → Type 0) → F → ℕ → K × V → Type 0
@@ -53,42 +51,6 @@ module _ {F K V : Type 0} (step : F → K → V → Bool → V → F → Type 0)
   retained_at f (e ∷ es) kept h =
       let (b, w, f', rest, (key, call), later, is) = h in
       (b, w.1, f', pairs_in rest, call, retained_at f' es rest later, ap (λ l. pairs_in l) is ∙ kept_pairs b e.0 e.1.0 w rest key)
-
-module _ {T : Type 0} (l : PlaceList T) (valid : IsValid l) where
-  -- a list is valid once an item is written
-  pub valid-with_at : (p : ℕ) (w i : T) → item_at p l.entries ≡ Some i → IsValid (with_entries l (with_at p w l.entries))
-  valid-with_at p w i held =
-      let keys = keys-set_value (λ q. p == q) l.entries w in let len = length-set_value (λ q. p == q) l.entries w in
-      record {
-        apart = apart_from_counts (with_at p w l.entries) (λ k. omega (arith, ap (count k) keys, counts_from_apart l.entries valid.apart k));
-        below = λ q some. valid.below q (elim (cases_eq p q) [
-          | inl e ↦ rw (← e, held) refl
-          | inr n ↦ let same = item_at-with_at p q w l.entries i held in rw (same, ne_eqb p q n) at some
-        ]);
-        countable = valid.countable;
-        fits = omega (arith, valid.fits, len);
-        held = omega (arith, valid.held, len);
-      }
-
-  apart-without : (p : ℕ) (es : List (ℕ × T)) → IsApart es → IsApart (without p es)
-  apart-without p [] apart = apart
-  apart-without p (e ∷ es) apart = elim (cases_eq p e.0) [
-    | inl here ↦ rw (eq-eqb p e.0 here) apart.1
-    | inr there ↦ rw (ne_eqb p e.0 there) (item_at-without p e.0 es apart.1 ∙ rw (ne_eqb p e.0 there) apart.0, apart-without p es apart.1)
-  ]
-
-  -- and once one is taken out
-  pub valid-without : (p : ℕ) → IsValid (with_entries l (without p l.entries))
-  valid-without p = record {
-    apart = apart-without p l.entries valid.apart;
-    below = λ q some. elim (cases_eq p q) [
-      | inl e ↦ let no = rw (item_at-without p q l.entries valid.apart, eq-eqb p q e) at some in cc
-      | inr n ↦ valid.below q (rw (item_at-without p q l.entries valid.apart, ne_eqb p q n) at some)
-    ];
-    countable = valid.countable;
-    fits = omega (arith, valid.fits, length-without p l.entries);
-    held = omega (arith, valid.held, length-without p l.entries);
-  }
 
 module _ {K V : Type 0} where
   pub first_place-placed : (es : List (ℕ × Item K V)) → first_place (placed_of es) ≡ first_place es
@@ -129,8 +91,8 @@ module _ {K V : Type 0} where
 
   -- an item that gets another value shows it
   pub shown-written : (p : ℕ) (i : Item K V) (v : V) (l : PlaceList (Item K V))
-      → shown (with_entries l (with_at p (record { chain = i.chain; key = i.key; value = v }) l.entries)) ≡ with_entries (shown l) (with_at p (i.key, v) (placed_of l.entries))
-  shown-written p i v l = λ k. place_list (placed-written p (record { chain = i.chain; key = i.key; value = v }) l.entries k) l.capacity l.places
+      → shown (with_entries l (with_at p (record { key = i.key; value = v }) l.entries)) ≡ with_entries (shown l) (with_at p (i.key, v) (placed_of l.entries))
+  shown-written p i v l = λ k. place_list (placed-written p (record { key = i.key; value = v }) l.entries k) l.capacity l.places
 
 module _ {F K V : Type 0} (step : F → K → V → Bool → V → F → Type 0) (takes : F → K → V → Type 0) where
   -- the closure was called at the pairs before the place at, and is still to be called at the others
@@ -207,7 +169,7 @@ weight_of-taken {K} {V} weight p (e ∷ es) i held = elim (cases_eq p e.0) [
 -- and a value that is written for another of its weight changes none
 pub weight_of-written : {K V : Type 0} (weight : K → V → ℕ) (p : ℕ) (v : V) (es : List (ℕ × Item K V)) (i : Item K V) → item_at p es ≡ Some i
     → weight i.key v ≡ weight i.key i.value
-    → weight_of weight (pairs_of (with_at p (record { chain = i.chain; key = i.key; value = v }) es)) ≡ weight_of weight (pairs_of es)
+    → weight_of weight (pairs_of (with_at p (record { key = i.key; value = v }) es)) ≡ weight_of weight (pairs_of es)
 weight_of-written weight p v [] i held same = refl
 weight_of-written {K} {V} weight p v (e ∷ es) i held same =
     let before = weight_of-cons weight (pair_of e.1) (pairs_of es) in elim (cases_eq p e.0) [
@@ -217,6 +179,6 @@ weight_of-written {K} {V} weight p v (e ∷ es) i held same =
           (omega (arith, same, before, weight_of-cons weight (i.key, v) (pairs_of es), ap (λ (j : Item K V). weight j.key j.value) is))
       | inr there ↦
           let later = weight_of-written weight p v es i (rw (ne_eqb p e.0 there) at held) same in
-          let w : Item K V = record { chain = i.chain; key = i.key; value = v } in
+          let w : Item K V = record { key = i.key; value = v } in
           rw (ne_eqb p e.0 there) (omega (arith, later, before, weight_of-cons weight (pair_of e.1) (pairs_of (with_at p w es))))
     ]

@@ -8,6 +8,7 @@ use Rattle.clru_nodes.specs.Nodes.{pair_of, pairs_of, pairs_in, places_of, item_
 use Rattle.clru_nodes.specs.Nodes.{with_items, with_first_item, with_last_item, with_item_at_index, with_value_found, IsIndexed, IsSame}
 use Rattle.clru_nodes.specs.declared.nodes.Item.{Item}
 use Rattle.clru_nodes.specs.declared.nodes.Nodes.{Nodes}
+use Rattle.clru_nodes.proofs.IndexedMoves.{same_nodes}
 use Rattle.clru_nodes.proofs.AtIndex.{pair_at, frame-with_item_at, pairs_of-with_item_at}
 use Rattle.clru_nodes.proofs.PlaceEnds.{last_item_pair}
 use Rattle.clru_nodes.proofs.Placed.{length-pairs}
@@ -50,9 +51,9 @@ module _ {K V S A H : Type 0} where
         → IsWritten x (with_items es x) ps
     written {es} framed pairs = record {
       pairs = pairs;
-      keys = keys-frame es ∙ ap (λ l. map (λ (d : ℕ × (ℕ × K)). d.1.1) l) framed ∙ sym (keys-frame x.list.entries);
+      keys = keys-frame es ∙ ap (λ l. map (λ (d : ℕ × K). d.1) l) framed ∙ sym (keys-frame x.list.entries);
       indexed = λ whole. indexed_frame whole framed;
-      same = record { capacity = refl; placed = refl; builder = refl; places = refl; heads = refl; bound = refl };
+      same = same_nodes;
     }
 
     -- to the first item

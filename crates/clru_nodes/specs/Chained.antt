@@ -46,6 +46,10 @@ pub record IsWalk (f : ℕ → ℕ) (alive wanted : ℕ → Type 0) (next len : 
   pub short : length rest ≤ len
   pub held : (q : ℕ) → wanted q → 0 < count q rest
 
+-- the place itself, where there is one
+abbrev pub IsPlace : ℕ → ℕ → Type 0
+IsPlace p q = (q ≡ p) × (p ≡ nowhere → ⊥)
+
 -- how many places a walk passes that comes to the place next, at most n
 abbrev pub steps_left : (ℕ → ℕ) → ℕ → ℕ → ℕ
 steps_left f next zero = 0

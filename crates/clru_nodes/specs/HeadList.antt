@@ -1,34 +1,46 @@
 -- Private: what heads are seen as. No public clause cites it.
-use Rattle.std.specs.Prelude.{ℕ, ◌*◌, ◌^◌, ◌<◌, ◌≤◌, ◌==◌, if◌then◌else◌, max, min, List, map, refl}
+use Rattle.std.specs.Prelude.{◌≡◌, ℕ, ◌+◌, ◌-◌, ◌*◌, ◌^◌, ◌<◌, ◌≤◌, ◌==◌, if◌then◌else◌, List, map, length, take, drop, refl}
 use Rattle.std.specs.Coded.{Coded, code_by, coded×, coded_list, coded_ℕ}
 use Rattle.clru_list.specs.Places.{nowhere}
-use Rattle.clru_nodes.specs.declared.heads.Words.{Words}
-use Rattle.clru_nodes.specs.declared.heads.Words.TheVariants.{Narrow, Wide}
+use Rattle.clru_nodes.specs.declared.heads.words.Words.{Words}
+use Rattle.clru_nodes.specs.declared.heads.words.Words.TheVariants.{Narrow, Wide}
 
--- the place that each head leads to, and the bound of the places that heads can name
+-- the place that each head leads to, the place that each place is linked to, and the bound of the places that can be named
 pub record HeadList : Type 0 where
   pub items : List ℕ
+  pub links : List ℕ
   pub bound : ℕ
 
-abbrev pub head_list : List ℕ → ℕ → HeadList
-head_list items bound = record { items = items; bound = bound }
+abbrev pub head_list : List ℕ → List ℕ → ℕ → HeadList
+head_list items links bound = record { items = items; links = links; bound = bound }
 
 abbrev pub head_list_code : Coded HeadList
-head_list_code = code_by (List ℕ × ℕ) (coded× (coded_list coded_ℕ) coded_ℕ)
-    (λ h. (h.items, h.bound)) (λ p. head_list p.0 p.1) (λ _. refl)
+head_list_code = code_by (List ℕ × (List ℕ × ℕ)) (coded× (coded_list coded_ℕ) (coded× (coded_list coded_ℕ) coded_ℕ))
+    (λ h. (h.items, (h.links, h.bound))) (λ p. head_list p.0 p.1.0 p.1.1) (λ _. refl)
 
--- 4 bytes that are all set stand for no place
+-- the places that 4 bytes can name are those below
 abbrev pub narrow : ℕ
 narrow = 4294967295
 
-abbrev pub wide : ℕ → ℕ
-wide n = if n == narrow then nowhere else n
+-- a number is one more than its place, and 0 leads nowhere
+abbrev pub place_by : ℕ → ℕ
+place_by n = if n == 0 then nowhere else n - 1
 
--- heads of 4 bytes name no place from the limit on
-abbrev pub list_of : {A : Type 0} → Words A → ℕ → HeadList
-list_of (Narrow heads) limit = head_list (map wide heads.items) (min limit narrow)
-list_of (Wide heads) limit = head_list heads.items nowhere
+module _ {A : Type 0} where
+  abbrev pub numbers_in : Words A → List ℕ
+  numbers_in (Narrow words) = words.items
+  numbers_in (Wide words) = words.items
 
--- each place can be named that a list of so many places may have after its next growth
-abbrev pub NamesGrown : ℕ → ℕ → Type 0
-NamesGrown places bound = (grown : ℕ) → grown ≤ max 4 (4 * places) → grown < 2 ^ 63 → grown ≤ bound
+  abbrev pub bound_of : Words A → ℕ
+  bound_of (Narrow words) = narrow
+  bound_of (Wide words) = nowhere
+
+  -- the first `size` numbers are those of heads, and the others those of links
+  abbrev pub list_of : Words A → ℕ → HeadList
+  list_of words size =
+      head_list (map place_by (take size (numbers_in words))) (map place_by (drop size (numbers_in words))) (bound_of words)
+
+  -- there are so many heads, and each place with a link can be named
+  pub record IsWorded (words : Words A) (size : ℕ) : Type 0 where
+    pub sized : size ≤ length (numbers_in words)
+    pub named : length (numbers_in words) ≤ size + bound_of words

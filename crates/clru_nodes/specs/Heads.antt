@@ -1,9 +1,10 @@
 -- Private: how the heads, the links and the places of nodes go together. No public clause cites it.
-use Rattle.std.specs.Prelude.{◌≡◌, ℕ, zero, suc, ◌-◌, ◌<◌, Bool, true, if◌then◌else◌, Option, Some, None, List, [], ◌∷◌, map, length, slice_index_or, bit_and}
-use Rattle.std.specs.Option.{option_map, option_map_or}
+use Rattle.std.specs.Prelude.{◌≡◌, ◌⊎◌, ℕ, zero, suc, ◌-◌, ◌<◌, Bool, true, if◌then◌else◌, Option, Some, None, List, [], ◌∷◌, map, length, slice_index_or, bit_and}
+use Rattle.std.specs.Option.{option_map}
 use Rattle.clru_list.specs.PlaceList.{item_at}
 use Rattle.clru_list.specs.Places.{nowhere, put}
 use Rattle.clru_nodes.specs.Chained.{steps_of, IsChained}
+use Rattle.clru_nodes.specs.HeadList.{HeadList}
 use Rattle.clru_nodes.specs.declared.nodes.Item.{Item}
 use Rattle.clru_nodes.specs.declared.nodes.Nodes.{Nodes}
 
@@ -12,7 +13,7 @@ abbrev pub head_by : ℕ → ℕ → ℕ
 head_by n hash = bit_and hash (n - 1)
 
 module _ {K V : Type 0} where
-  -- the pairs with their places, front first: all but the links
+  -- the pairs with their places, front first
   abbrev pub placed_of : List (ℕ × Item K V) → List (ℕ × (K × V))
   placed_of es = map (λ e. (e.0, (e.1.key, e.1.value))) es
 
@@ -20,11 +21,8 @@ module _ {K V : Type 0} where
   abbrev pub with_value : (K → Bool) → V → List (ℕ × Item K V) → List (ℕ × Item K V)
   with_value test v [] = []
   with_value test v (e ∷ es) =
-      let written : Item K V = record { chain = e.1.chain; key = e.1.key; value = v } in
+      let written : Item K V = record { key = e.1.key; value = v } in
       if test e.1.key then ((e.0, written) ∷ es) else e ∷ with_value test v es
-
-  abbrev pub link_at : List (ℕ × Item K V) → ℕ → ℕ
-  link_at es q = option_map_or (λ i. i.chain) (item_at q es) nowhere
 
   abbrev pub key_at : List (ℕ × Item K V) → ℕ → Option K
   key_at es q = option_map (λ i. i.key) (item_at q es)
@@ -49,26 +47,36 @@ with_item_at k x [] = []
 with_item_at zero x (e ∷ es) = (e.0, x) ∷ es
 with_item_at (suc k) x (e ∷ es) = e ∷ with_item_at k x es
 
--- the first place of a head's chain
-abbrev pub head_at : List ℕ → ℕ → ℕ
-head_at heads h = slice_index_or heads h nowhere
+-- what stands in a list of places: a head's first one, or the one that a place is linked to
+abbrev pub place_in : List ℕ → ℕ → ℕ
+place_in places k = slice_index_or places k nowhere
 
--- the place itself, where there is one
-abbrev pub IsPlace : ℕ → ℕ → Type 0
-IsPlace p q = (q ≡ p) × (p ≡ nowhere → ⊥)
+-- the steps along the chain of a head
+abbrev pub steps_in : HeadList → ℕ → ℕ → ℕ
+steps_in x h = steps_of (place_in x.items) (place_in x.links) h
+
+-- the place has a link
+abbrev pub HasLink : HeadList → ℕ → Type 0
+HasLink x q = q < length x.links
+
+-- a place that can be written, or none
+abbrev pub IsNamed : HeadList → ℕ → Type 0
+IsNamed x q = (q ≡ nowhere) ⊎ (q < x.bound)
+
+-- as many heads and links, which can name as many places
+pub record IsSameSize (old new : HeadList) : Type 0 where
+  pub heads : length new.items ≡ length old.items
+  pub links : length new.links ≡ length old.links
+  pub bound : new.bound ≡ old.bound
 
 module _ {K V S A H : Type 0} where
-  -- the steps along the chain of a head
-  abbrev pub steps_at : Nodes K V S A H → ℕ → ℕ → ℕ
-  steps_at x h = steps_of (head_at x.heads.items) (link_at x.list.entries) h
-
   -- the head of a key
   abbrev pub home_at : (S → K → ℕ) → Nodes K V S A H → K → ℕ
   home_at hash x k = head_by (length x.heads.items) (hash x.hash_builder k)
 
   -- the keys by their places stand in the chains of their heads, and nothing else does
   abbrev pub IsChainedAs : (S → K → ℕ) → (ℕ → Option K) → Nodes K V S A H → Type 0
-  IsChainedAs hash key x = IsChained (home_at hash x) (head_at x.heads.items) (link_at x.list.entries) key
+  IsChainedAs hash key x = IsChained (home_at hash x) (place_in x.heads.items) (place_in x.heads.links) key
 
   -- each key stands in the chain of its head, but for the one at the place `out`
   abbrev pub IsChainedBut : (S → K → ℕ) → ℕ → Nodes K V S A H → Type 0
@@ -82,10 +90,8 @@ module _ {K V S A H : Type 0} where
     pub off : p ≡ nowhere → ⊥
     pub within : h < length x.heads.items
 
-  -- the pairs stay at their places, and all but heads and links is as it was
+  -- all but heads and links is as it was
   pub record KeepsPlaces (old new : Nodes K V S A H) : Type 0 where
-    pub pairs : placed_of new.list.entries ≡ placed_of old.list.entries
-    pub capacity : new.list.capacity ≡ old.list.capacity
-    pub placed : new.list.places ≡ old.list.places
+    pub list : new.list ≡ old.list
     pub builder : new.hash_builder ≡ old.hash_builder
     pub places : new.places ≡ old.places

@@ -7,7 +7,7 @@ use Rattle.std.specs.HashMap.Lent.{HashMembers}
 use Rattle.std.specs.declared.hash.BuildHasher as builder
 use Rattle.std.specs.declared.hash.Hasher as hasher
 use Rattle.clru_list.specs.PlaceList.{first_entry, last_entry, with_entries, with_first, with_last}
-use Rattle.clru_nodes.specs.Heads.{key_at, with_item_at, with_value, IsChainedAs}
+use Rattle.clru_nodes.specs.Heads.{key_at, with_item_at, with_value, IsChainedAs, IsSameSize}
 use Rattle.clru_nodes.specs.declared.nodes.Item.{Item}
 use Rattle.clru_nodes.specs.declared.nodes.Nodes.{Nodes}
 
@@ -25,7 +25,7 @@ module _ {K V : Type 0} where
 
   -- the item with another value
   abbrev pub item_with : Item K V → V → Item K V
-  item_with i v = record { chain = i.chain; key = i.key; value = v }
+  item_with i v = record { key = i.key; value = v }
 
   -- the pairs of items with their places, front first
   abbrev pub pairs_of : List (ℕ × Item K V) → List (K × V)
@@ -77,12 +77,13 @@ module _ {K V S A H : Type 0} where
   abbrev pub with_value_found : (K → Bool) → V → Nodes K V S A H → Nodes K V S A H
   with_value_found test v x = with_items (with_value test v x.list.entries) x
 
-  -- what holds between the calls: each key is found by its hash, each pair has memory, and heads can name each place
+  -- what holds between the calls: each key is found by its hash, each pair has memory, and each place has a link and a name
   pub record IsIndexed (hash : S → K → ℕ) (x : Nodes K V S A H) : Type 0 where
     pub chained : IsChainedAs hash (key_at x.list.entries) x
     pub held : length x.list.entries ≤ x.places
     pub reserved : x.places ≤ x.list.places
-    pub headed : x.places ≤ length x.heads.items
+    pub headed : length x.heads.links ≤ length x.heads.items
+    pub linked : x.list.places ≤ length x.heads.links
     pub named : x.list.places ≤ x.heads.bound
 
   -- all but the chains, the pairs and their order is as it was
@@ -91,8 +92,7 @@ module _ {K V S A H : Type 0} where
     pub placed : new.list.places ≡ old.list.places
     pub builder : builder_of new ≡ builder_of old
     pub places : places_of new ≡ places_of old
-    pub heads : length new.heads.items ≡ length old.heads.items
-    pub bound : new.heads.bound ≡ old.heads.bound
+    pub heads : IsSameSize old.heads new.heads
 
   -- no pair is held, the capacity is c, and memory was found for p pairs
   pub record IsEmpty (c p : ℕ) (x : Nodes K V S A H) : Type 0 where

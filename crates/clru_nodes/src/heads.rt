@@ -1,195 +1,189 @@
-//! `Heads`: which place each head leads to. A place takes 4 bytes there, or 8 where the places may be more than those name, or
-//! more than a limit that the maker set.
-ghost use Rattle.std.specs.Prelude.{◌≡◌, ◌⊎◌, ◌<◌, ◌≤◌, [], length, min, replicate, set, IfOk, IsOk};
+//! `Heads`: which place each head leads to, and which place each place is linked to in its chain. A place takes 4 bytes there,
+//! or 8 where the places may be more than those name, or more than a limit that the maker set.
+ghost use Rattle.std.specs.Prelude.{◌≡◌, ℕ, ◌+◌, ◌*◌, ◌^◌, ◌<◌, ◌≤◌, [], Some, length, replicate, set, IfOk, IfSome, IfNone, IsOk};
+ghost use Rattle.std.specs.Int.{IsNextPowerOfTwo};
 ghost use Rattle.clru_list.specs.Places.{nowhere};
-ghost use Rattle.clru_nodes.specs.HeadList.{head_list, narrow, wide};
-ghost use Rattle.clru_nodes.specs.Heads.{head_at, head_by};
+ghost use Rattle.clru_nodes.specs.HeadList.{head_list, narrow, place_by};
+ghost use Rattle.clru_nodes.specs.Heads.{place_in, head_by, HasLink, IsNamed};
 
+use crate::heads::words::Words;
 use clru_list::NoMemory;
 use std::alloc::Allocator;
 use std::marker::Model;
 
+mod chains;
+mod words;
+
 /// No place: the end of each chain, and in calls its start.
 pub(crate) const NOWHERE: usize = usize::MAX;
 
-/// The places that 4 bytes can name: `u32::MAX` stands for no place.
+/// The places that 4 bytes can name are those below.
 pub(crate) const NARROW: usize = 4294967295;
 
-/// The places by number of their head.
-#[derive(Drop)]
-enum Words<A: Allocator + Copy> {
-    Narrow(Vec<u32, A>),
-    Wide(Vec<usize, A>),
-}
-
-/// A clause sees heads as the places that they lead to, and as the bound of the places that they can name.
+/// A clause sees heads as the places that they lead to, the places that places are linked to, and the bound of the places that
+/// can be named.
 #[derive(Drop)]
 pub(crate) struct Heads<A: Allocator + Copy> {
+    // The heads, and behind them the links by their places, since one request for memory finds both.
     words: Words<A>,
-    // A place takes 4 bytes only where the places are no more. A test sets it low, to reach the wide form.
+    // How many heads there are.
+    size: usize,
+    // A place takes 4 bytes only where no more have a link. A test sets it low, to reach the wide form.
     limit: usize,
 }
 
 impl<A: Allocator + Copy> Model for Heads<A> {
-    ghost use Rattle.clru_nodes.specs.HeadList.{HeadList, head_list_code, list_of};
+    ghost use Rattle.clru_nodes.specs.HeadList.{HeadList, head_list_code, list_of, IsWorded};
 
     ghost Value = { HeadList };
 
     ghost coded = { head_list_code };
 
-    ghost view = { λ h. list_of h.words h.limit };
+    ghost view = { λ h. list_of h.words h.size };
+
+    ghost invariant = { λ h. IsWorded h.words h.size };
 }
 
 impl<A: Allocator + Copy> Heads<A> {
     /// No heads. They take no memory.
     pub(crate) fn new(alloc: A, limit: usize) -> Self
-        ensures { result ≡ head_list [] (min limit narrow) }
+        ensures { result ≡ head_list [] [] narrow }
     {
         Heads {
             words: Words::Narrow(Vec::new(alloc)),
+            size: 0,
             limit,
         }
     }
 
-    /// So many heads of empty chains, which can name so many places.
-    pub(crate) fn empty(
-        alloc: A,
-        size: usize,
-        places: usize,
-        limit: usize,
-    ) -> Result<Self, NoMemory>
-        ensures items { IfOk result (λ h. h.items ≡ replicate size nowhere) }
-        ensures named { IfOk result (λ h. places ≤ h.bound) }
-        ensures never_refused { size ≡ 0 → places ≡ 0 → IsOk result }
+    /// Heads of empty chains, with links for so many places, and which can name these. Without places they take no memory.
+    pub(crate) fn empty(alloc: A, places: usize, limit: usize) -> Result<Self, NoMemory>
+        ensures free { IfOk result (λ x. (h : ℕ) → place_in x.items h ≡ nowhere) }
+        ensures linked { IfOk result (λ x. places ≤ length x.links) }
+        ensures headed { IfOk result (λ x. length x.links ≤ length x.items) }
+        ensures named { IfOk result (λ x. length x.links ≤ x.bound) }
+        ensures never_refused { places ≡ 0 → IsOk result }
     {
-        if size == 0 && places == 0 {
+        if places == 0 {
             return Ok(Heads::new(alloc, limit));
         }
-        if places <= limit.min(NARROW) {
-            match Vec::from_elem(alloc, u32::MAX, size) {
-                Ok(heads) => Ok(Heads {
-                    words: Words::Narrow(heads),
-                    limit,
-                }),
-                Err(_) => Err(NoMemory),
-            }
-        } else {
-            match Vec::from_elem(alloc, NOWHERE, size) {
-                Ok(heads) => Ok(Heads {
-                    words: Words::Wide(heads),
-                    limit,
-                }),
-                Err(_) => Err(NoMemory),
-            }
-        }
+        let Some(size) = heads_for(places) else {
+            return Err(NoMemory);
+        };
+        let links = size / 4;
+        let Some(len) = size.checked_add(links) else {
+            return Err(NoMemory);
+        };
+        let words = Words::zeros(alloc, len, links <= limit.min(NARROW))?;
+        Ok(Heads { words, size, limit })
     }
 
     /// The same from the allocator of these heads, and with their limit.
-    pub(crate) fn another(&self, size: usize, places: usize) -> Result<Self, NoMemory>
-        ensures items { IfOk result (λ h. h.items ≡ replicate size nowhere) }
-        ensures named { IfOk result (λ h. places ≤ h.bound) }
+    pub(crate) fn another(&self, places: usize) -> Result<Self, NoMemory>
+        ensures free { IfOk result (λ x. (h : ℕ) → place_in x.items h ≡ nowhere) }
+        ensures linked { IfOk result (λ x. places ≤ length x.links) }
+        ensures headed { IfOk result (λ x. length x.links ≤ length x.items) }
+        ensures named { IfOk result (λ x. length x.links ≤ x.bound) }
     {
-        Heads::empty(*self.allocator(), size, places, self.limit)
+        Heads::empty(*self.words.allocator(), places, self.limit)
     }
 
-    /// How many heads there are.
-    pub(crate) fn len(&self) -> usize
-        ensures { result ≡ length self.now.items }
+    /// How many places have a link: those below.
+    pub(crate) fn reach(&self) -> usize
+        ensures reach { result ≡ length self.now.links }
+        ensures named { length self.now.links ≤ self.now.bound }
     {
-        match &self.words {
-            Words::Narrow(heads) => heads.len(),
-            Words::Wide(heads) => heads.len(),
-        }
+        self.words.len() - self.size
     }
 
-    /// How many places they can name: those below.
-    pub(crate) fn bound(&self) -> usize
-        ensures { result ≡ self.now.bound }
+    /// The head of the keys with the hash.
+    pub(crate) fn head_of(&self, hash: u64) -> usize
+        requires { 0 < length self.now.items }
+        ensures { result ≡ head_by (length self.now.items) hash }
     {
-        match &self.words {
-            Words::Narrow(_) => self.limit.min(NARROW),
-            Words::Wide(_) => NOWHERE,
-        }
-    }
-
-    fn allocator(&self) -> &A {
-        match &self.words {
-            Words::Narrow(heads) => heads.allocator(),
-            Words::Wide(heads) => heads.allocator(),
-        }
+        hash as usize & (self.size - 1)
     }
 
     /// The place that the head of a hash leads to. There is none where there are no heads.
     pub(crate) fn start(&self, hash: u64) -> usize
-        ensures { result ≡ head_at self.now.items (head_by (length self.now.items) hash) }
+        ensures { result ≡ place_in self.now.items (head_by (length self.now.items) hash) }
     {
-        match &self.words {
-            Words::Narrow(heads) => {
-                if heads.len() == 0 {
-                    return NOWHERE;
-                }
-                widened(heads[hash as usize & (heads.len() - 1)])
-            }
-            Words::Wide(heads) => {
-                if heads.len() == 0 {
-                    return NOWHERE;
-                }
-                heads[hash as usize & (heads.len() - 1)]
-            }
+        if self.size == 0 {
+            return NOWHERE;
         }
+        self.first(self.head_of(hash))
     }
 
     /// The place that a head leads to.
-    pub(crate) fn get(&self, head: usize) -> usize
+    pub(crate) fn first(&self, head: usize) -> usize
         requires { head < length self.now.items }
-        ensures { result ≡ head_at self.now.items head }
+        ensures place { result ≡ place_in self.now.items head }
+        ensures named { IsNamed self.now result }
+        ensures countable { length self.now.links < nowhere }
     {
-        match &self.words {
-            Words::Narrow(heads) => widened(heads[head]),
-            Words::Wide(heads) => heads[head],
-        }
+        place_of(self.words.get(head))
+    }
+
+    /// The place that a place is linked to.
+    pub(crate) fn next(&self, place: usize) -> usize
+        requires { HasLink self.now place }
+        ensures place { result ≡ place_in self.now.links place }
+        ensures named { IsNamed self.now result }
+    {
+        place_of(self.words.get(self.size + place))
     }
 
     /// Has a head lead to a place, or nowhere.
-    pub(crate) fn set(&mut self, head: usize, to: usize)
+    pub(crate) fn lead(&mut self, head: usize, to: usize)
         requires head { head < length self.old.items }
-        requires named { (to ≡ nowhere) ⊎ (to < self.old.bound) }
-        ensures { self.new ≡ head_list (set self.old.items head to) self.old.bound }
+        requires named { IsNamed self.old to }
+        ensures { self.new ≡ head_list (set self.old.items head to) self.old.links self.old.bound }
     {
-        match &mut self.words {
-            Words::Narrow(heads) => heads[head] = narrowed(to),
-            Words::Wide(heads) => heads[head] = to,
-        }
+        self.words.set(head, number_of(to));
     }
 
-    /// Has all heads lead nowhere.
+    /// Links a place to a place, or to none.
+    pub(crate) fn follow(&mut self, place: usize, to: usize)
+        requires place { HasLink self.old place }
+        requires named { IsNamed self.old to }
+        ensures { self.new ≡ head_list self.old.items (set self.old.links place to) self.old.bound }
+    {
+        self.words.set(self.size + place, number_of(to));
+    }
+
+    /// Has all heads lead nowhere, and no place be linked.
     pub(crate) fn clear(&mut self)
-        ensures { self.new ≡ head_list (replicate (length self.old.items) nowhere) self.old.bound }
+        ensures { self.new ≡ head_list (replicate (length self.old.items) nowhere)
+            (replicate (length self.old.links) nowhere) self.old.bound }
     {
-        match &mut self.words {
-            Words::Narrow(heads) => heads.fill(u32::MAX),
-            Words::Wide(heads) => heads.fill(NOWHERE),
-        }
+        self.words.clear();
     }
 }
 
-fn widened(place: u32) -> usize
-    ensures { result ≡ wide place }
+/// The number of heads for so many places: the least power of two that is at least four times as many. There is none where it
+/// passes what can be counted.
+fn heads_for(places: usize) -> Option<usize>
+    ensures least { 0 < places → IfSome result (IsNextPowerOfTwo (places * 4)) }
+    ensures enough { IfSome result (λ n. places * 4 ≤ n) }
+    ensures none { places ≡ 0 → result ≡ Some 0 }
+    ensures countable { IfNone result (2 ^ 61 < places) }
 {
-    if place == u32::MAX {
-        NOWHERE
-    } else {
-        place as usize
+    if places == 0 {
+        return Some(0);
     }
+    places.checked_mul(4)?.checked_next_power_of_two()
 }
 
-fn narrowed(place: usize) -> u32
-    requires { (place ≡ nowhere) ⊎ (place < narrow) }
-    ensures { wide result ≡ place }
+fn place_of(number: usize) -> usize
+    ensures { result ≡ place_by number }
 {
-    if place == NOWHERE {
-        u32::MAX
-    } else {
-        place as u32
-    }
+    number.wrapping_sub(1)
+}
+
+fn number_of(place: usize) -> usize
+    ensures place { place_by result ≡ place }
+    ensures small { (place ≡ nowhere → ⊥) → result ≡ place + 1 }
+    ensures none { place ≡ nowhere → result ≡ 0 }
+{
+    place.wrapping_add(1)
 }

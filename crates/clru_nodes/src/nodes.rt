@@ -10,7 +10,6 @@ ghost use Rattle.clru_nodes.specs.Heads.{key_at, IsAt, IsChainedAs};
 ghost use Rattle.clru_nodes.specs.Nodes.{hash_of, pairs_of, pairs_in, capacity_of, places_of, builder_of, IsIndexed, IsEmpty};
 
 use crate::heads::{Heads, NARROW};
-use crate::nodes::growth::heads_for;
 use clru_list::FixedSizeList;
 use std::alloc::Allocator;
 use std::hash::{BuildHasher, Hash};
@@ -22,10 +21,9 @@ mod moves;
 mod retain;
 mod walk;
 
-/// A pair, with the next place of its chain.
+/// A pair.
 #[derive(Drop)]
 pub struct Item<K, V> {
-    pub(crate) chain: usize,
     pub key: K,
     pub value: V,
 }
@@ -34,7 +32,6 @@ pub struct Item<K, V> {
 #[derive(Drop)]
 pub struct Nodes<K: Eq + Hash, V, S: BuildHasher, A: Allocator + Copy> {
     list: FixedSizeList<Item<K, V>, A>,
-    // As many as a power of two, at least four times the places: a key's head is the low bits of its hash.
     heads: Heads<A>,
     hash_builder: S,
     // For how many pairs both the list and the heads have memory: a growth of which one half was refused changes nothing.
@@ -82,10 +79,7 @@ impl<K: Eq + Hash, V, S: BuildHasher, A: Allocator + Copy> Nodes<K, V, S, A> {
         ensures countable { OnOk result (min reserve capacity < 2 ^ 63) }
     {
         let places = reserve.min(capacity);
-        let Some(size) = heads_for(places) else {
-            return Err(hash_builder);
-        };
-        let Ok(heads) = Heads::empty(alloc, size, places, NARROW) else {
+        let Ok(heads) = Heads::empty(alloc, places, NARROW) else {
             return Err(hash_builder);
         };
         // Last, since a list may be let go only where its items may.
@@ -132,6 +126,7 @@ impl<K: Eq + Hash, V, S: BuildHasher, A: Allocator + Copy> Nodes<K, V, S, A> {
         requires hash { hash ≡ hash_of K.Hash S.BuildHasher S.Hasher.Hasher self.now.hash_builder key.now }
         requires chained { IsChainedAs (hash_of K.Hash S.BuildHasher S.Hasher.Hasher)
             (key_at self.now.list.entries) self.now }
+        requires linked { self.now.list.places ≤ length self.now.heads.links }
         ensures found { IfSome result (λ p. IsAt K.eq key.now p self.now.list.entries) }
         ensures valid { IsValid self.now.list }
         ensures absent { IfNone result (lookup_entry (K.eq key.now) (pairs_of self.now.list.entries) ≡ None) }
@@ -141,7 +136,7 @@ impl<K: Eq + Hash, V, S: BuildHasher, A: Allocator + Copy> Nodes<K, V, S, A> {
             if *key == item.key {
                 return Some(next);
             }
-            next = item.chain;
+            next = self.heads.next(next);
         }
         None
     }

@@ -1,10 +1,8 @@
 //! Memory for more pairs: places in the list, and heads that go with them.
-ghost use Rattle.std.specs.Prelude.{◌≡◌, ℕ, ◌+◌, ◌<◌, ◌≤◌, ◌*◌, ◌^◌, Some, length, replicate, IfOk, IfSome, IfNone, IsOk, OnOk, OnErr};
-ghost use Rattle.std.specs.Int.{IsNextPowerOfTwo};
+ghost use Rattle.std.specs.Prelude.{◌≡◌, ℕ, ◌<◌, ◌≤◌, length, OnOk, OnErr};
 ghost use Rattle.clru_list.specs.Places.{nowhere};
 ghost use Rattle.clru_nodes.specs.Growth.{GrowsIf, IsRefused};
-ghost use Rattle.clru_nodes.specs.HeadList.{NamesGrown};
-ghost use Rattle.clru_nodes.specs.Heads.{head_at, key_at, placed_of, IsChainedAs, KeepsPlaces};
+ghost use Rattle.clru_nodes.specs.Heads.{place_in, key_at, IsChainedAs, KeepsPlaces};
 ghost use Rattle.clru_nodes.specs.Nodes.{hash_of, pairs_in, capacity_of, places_of, IsIndexed, IsSame, KeepsPairs};
 
 use crate::heads::NOWHERE;
@@ -48,71 +46,41 @@ impl<K: Eq + Hash, V, S: BuildHasher, A: Allocator + Copy> Nodes<K, V, S, A> {
         ensures indexed { IsIndexed (hash_of K.Hash S.BuildHasher S.Hasher.Hasher) self.new }
         ensures keeps { KeepsPairs self.old self.new }
     {
-        self.widen()?;
+        let grown = self.list.places().saturating_mul(4).max(4);
+        let places = grown.min(self.list.capacity());
+        self.make_heads(places)?;
         self.list.make_ready()?;
         // The list may have places past the capacity, from a time when that was larger.
-        let places = self.list.places().min(self.list.capacity());
-        self.make_heads(places)?;
-        self.places = places;
+        self.places = self.list.places().min(self.list.capacity());
         Ok(())
     }
 
-    /// Finds memory for the heads of so many places, and chains the keys anew where the number of heads changes.
+    /// Finds memory for the heads of so many places, and chains all keys anew, unless there are as many.
     fn make_heads(&mut self, places: usize) -> Result<(), NoMemory>
-        requires { IsIndexed (hash_of K.Hash S.BuildHasher S.Hasher.Hasher) self.old }
-        ensures headed { OnOk result (places ≤ length self.new.heads.items) }
-        ensures indexed { IsIndexed (hash_of K.Hash S.BuildHasher S.Hasher.Hasher) self.new }
-        ensures keeps { KeepsPlaces self.old self.new }
-    {
-        let Some(size) = heads_for(places) else {
-            return Err(NoMemory);
-        };
-        if size <= self.heads.len() {
-            return Ok(());
-        }
-        let reach = self.list.places();
-        self.replace_heads(size, reach)
-    }
-
-    /// Has the heads name each place that the list may have after its next growth.
-    fn widen(&mut self) -> Result<(), NoMemory>
-        requires { IsIndexed (hash_of K.Hash S.BuildHasher S.Hasher.Hasher) self.old }
-        ensures named { OnOk result (NamesGrown self.old.list.places self.new.heads.bound) }
-        ensures indexed { IsIndexed (hash_of K.Hash S.BuildHasher S.Hasher.Hasher) self.new }
-        ensures keeps { KeepsPlaces self.old self.new }
-    {
-        let reach = self.list.places().saturating_mul(4).max(4);
-        if reach <= self.heads.bound() {
-            return Ok(());
-        }
-        let size = self.heads.len().max(1);
-        self.replace_heads(size, reach)
-    }
-
-    /// Takes so many heads, which can name so many places, and chains all keys anew.
-    fn replace_heads(&mut self, size: usize, reach: usize) -> Result<(), NoMemory>
-        requires some { 0 < size }
-        requires named { self.old.list.places ≤ reach }
-        requires more { length self.old.heads.items ≤ size }
+        requires some { 0 < places }
         requires indexed { IsIndexed (hash_of K.Hash S.BuildHasher S.Hasher.Hasher) self.old }
-        ensures heads { OnOk result (length self.new.heads.items ≡ size) }
-        ensures named { OnOk result (reach ≤ self.new.heads.bound) }
+        ensures linked { OnOk result (places ≤ length self.new.heads.links) }
+        ensures named { OnOk result (places ≤ self.new.heads.bound) }
         ensures indexed { IsIndexed (hash_of K.Hash S.BuildHasher S.Hasher.Hasher) self.new }
         ensures keeps { KeepsPlaces self.old self.new }
     {
-        self.heads = self.heads.another(size, reach)?;
+        if places <= self.heads.reach() {
+            return Ok(());
+        }
+        self.heads = self.heads.another(places)?;
         self.relink();
         Ok(())
     }
 
     /// Chains all keys, where each head is empty.
     fn relink(&mut self)
-        requires free { (h : ℕ) → head_at self.old.heads.items h ≡ nowhere }
+        requires free { (h : ℕ) → place_in self.old.heads.items h ≡ nowhere }
         requires some { 0 < length self.old.heads.items }
+        requires linked { self.old.list.places ≤ length self.old.heads.links }
         requires named { self.old.list.places ≤ self.old.heads.bound }
         ensures chained { IsChainedAs (hash_of K.Hash S.BuildHasher S.Hasher.Hasher)
             (key_at self.new.list.entries) self.new }
-        ensures pairs { placed_of self.new.list.entries ≡ placed_of self.old.list.entries }
+        ensures list { self.new.list ≡ self.old.list }
         ensures same { IsSame self.old self.new }
     {
         // From the last place, so that what came in first stands first in its chain.
@@ -122,24 +90,11 @@ impl<K: Eq + Hash, V, S: BuildHasher, A: Allocator + Copy> Nodes<K, V, S, A> {
             let Some(item) = self.list.get(place) else {
                 continue;
             };
-            let head = self.head_of(self.hash(&item.key));
-            let first = self.first(head);
-            self.link(head, place, first);
-            self.link(head, NOWHERE, place);
+            let hash = self.hash(&item.key);
+            let head = self.heads.head_of(hash);
+            let first = self.heads.first(head);
+            self.heads.link(head, place, first);
+            self.heads.link(head, NOWHERE, place);
         }
     }
-}
-
-/// The number of heads for so many places: the least power of two that is at least four times as many. There is none where it
-/// passes what can be counted.
-pub(crate) fn heads_for(places: usize) -> Option<usize>
-    ensures least { 0 < places → IfSome result (IsNextPowerOfTwo (places * 4)) }
-    ensures enough { IfSome result (λ n. places ≤ n) }
-    ensures none { places ≡ 0 → result ≡ Some 0 }
-    ensures countable { IfNone result (2 ^ 61 < places) }
-{
-    if places == 0 {
-        return Some(0);
-    }
-    places.checked_mul(4)?.checked_next_power_of_two()
 }

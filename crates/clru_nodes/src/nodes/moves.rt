@@ -4,11 +4,10 @@ ghost use Rattle.std.specs.List.{IsDistinct};
 ghost use Rattle.std.specs.Map.{keys_of, lookup, lookup_entry};
 ghost use Rattle.clru_model.specs.Entries.{touch};
 ghost use Rattle.clru_model.specs.Entries as entries;
-ghost use Rattle.clru_list.specs.PlaceList.{without};
+ghost use Rattle.clru_list.specs.PlaceList.{without, IsValid};
 ghost use Rattle.clru_nodes.specs.Heads.{placed_of, HasHome, IsLive, IsTaken};
 ghost use Rattle.clru_nodes.specs.Nodes.{hash_of, pairs_of, pairs_in, capacity_of, places_of, builder_of, IsIndexed, IsSame};
 
-use crate::heads::NOWHERE;
 use crate::nodes::{Item, Nodes};
 use std::alloc::Allocator;
 use std::hash::{BuildHasher, Hash};
@@ -43,7 +42,7 @@ impl<K: Eq + Hash, V, S: BuildHasher, A: Allocator + Copy> Nodes<K, V, S, A> {
         ensures same { IsSame self.old self.new }
     {
         let place = self.find(hash, key)?;
-        let head = self.head_of(hash);
+        let head = self.heads.head_of(hash);
         Some(self.remove(head, place))
     }
 
@@ -97,13 +96,12 @@ impl<K: Eq + Hash, V, S: BuildHasher, A: Allocator + Copy> Nodes<K, V, S, A> {
         ensures indexed { IsIndexed (hash_of K.Hash S.BuildHasher S.Hasher.Hasher) self.new }
         ensures same { IsSame self.old self.new }
     {
-        let item = Item {
-            chain: NOWHERE,
-            key,
-            value,
-        };
+        let item = Item { key, value };
         match self.list.push_front(item) {
-            Ok(place) => self.append(self.head_of(hash), place),
+            Ok(place) => {
+                let head = self.heads.head_of(hash);
+                self.append(head, place);
+            }
             Err(_) => unreachable!(),
         }
     }
@@ -126,13 +124,9 @@ impl<K: Eq + Hash, V, S: BuildHasher, A: Allocator + Copy> Nodes<K, V, S, A> {
         let Some(item) = self.list.move_front(place) else {
             unreachable!()
         };
-        let new = Item {
-            chain: NOWHERE,
-            key,
-            value,
-        };
-        let old = mem::replace(item, new);
-        self.append(self.head_of(hash), place);
+        let old = mem::replace(item, Item { key, value });
+        let head = self.heads.head_of(hash);
+        self.append(head, place);
         (old.key, old.value)
     }
 
@@ -159,11 +153,12 @@ impl<K: Eq + Hash, V, S: BuildHasher, A: Allocator + Copy> Nodes<K, V, S, A> {
     /// The head of the key at a place.
     pub(crate) fn home(&self, place: usize) -> usize
         requires place { IsLive self.now.list.entries place }
-        requires headed { length self.now.list.entries ≤ length self.now.heads.items }
-        ensures { HasHome (hash_of K.Hash S.BuildHasher S.Hasher.Hasher) result place self.now }
+        requires headed { 0 < length self.now.heads.items }
+        ensures home { HasHome (hash_of K.Hash S.BuildHasher S.Hasher.Hasher) result place self.now }
+        ensures valid { IsValid self.now.list }
     {
         match self.list.get(place) {
-            Some(item) => self.head_of(self.hash(&item.key)),
+            Some(item) => self.heads.head_of(self.hash(&item.key)),
             None => unreachable!(),
         }
     }
@@ -171,10 +166,10 @@ impl<K: Eq + Hash, V, S: BuildHasher, A: Allocator + Copy> Nodes<K, V, S, A> {
     /// Takes out the pair at a place, where the head of its key is given.
     pub(crate) fn remove(&mut self, head: usize, place: usize) -> (K, V)
         requires home { HasHome (hash_of K.Hash S.BuildHasher S.Hasher.Hasher) head place self.old }
+        requires valid { IsValid self.old.list }
         requires indexed { IsIndexed (hash_of K.Hash S.BuildHasher S.Hasher.Hasher) self.old }
         ensures pair { IsTaken result place self.old.list.entries }
-        ensures pairs { pairs_of self.new.list.entries ≡ pairs_of (without place self.old.list.entries) }
-        ensures placed { placed_of self.new.list.entries ≡ without place (placed_of self.old.list.entries) }
+        ensures entries { self.new.list.entries ≡ without place self.old.list.entries }
         ensures indexed { IsIndexed (hash_of K.Hash S.BuildHasher S.Hasher.Hasher) self.new }
         ensures same { IsSame self.old self.new }
     {

@@ -3,7 +3,7 @@ ghost use Rattle.std.specs.Prelude.{◌≡◌};
 ghost use Rattle.std.specs.Map.Calls.{CalledAtPair, CallableOnEachPair, RetainsPairs, TakesPair};
 ghost use Rattle.clru_model.specs.Entries.{weight_of};
 ghost use Rattle.clru_list.specs.PlaceList.{without};
-ghost use Rattle.clru_nodes.specs.Heads.{placed_of, IsLive, IsTaken};
+ghost use Rattle.clru_nodes.specs.Heads.{IsLive, IsTaken};
 ghost use Rattle.clru_nodes.specs.Nodes.{hash_of, pairs_in, IsIndexed, IsSame};
 ghost use Rattle.clru_nodes.specs.Retains.{CalledAtShownPair, TakesShownPair};
 
@@ -98,7 +98,7 @@ impl<K: Eq + Hash, V, S: BuildHasher, A: Allocator + Copy> Nodes<K, V, S, A> {
         requires place { IsLive self.old.list.entries place }
         requires indexed { IsIndexed (hash_of K.Hash S.BuildHasher S.Hasher.Hasher) self.old }
         ensures pair { IsTaken result place self.old.list.entries }
-        ensures placed { placed_of self.new.list.entries ≡ without place (placed_of self.old.list.entries) }
+        ensures entries { self.new.list.entries ≡ without place self.old.list.entries }
         ensures indexed { IsIndexed (hash_of K.Hash S.BuildHasher S.Hasher.Hasher) self.new }
         ensures same { IsSame self.old self.new }
     {

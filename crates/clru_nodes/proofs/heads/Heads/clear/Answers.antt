@@ -1,22 +1,11 @@
-use Rattle.std.proofs.Common.{refl}
-use Rattle.std.proofs.lemmas.List.{length-map}
-use Rattle.clru_nodes.specs.HeadList.{wide}
-use Rattle.clru_nodes.proofs.HeadLists.{wide_none}
+use Rattle.std.proofs.Common.{map, take, drop, ap, ◌∙◌}
+use Rattle.clru_nodes.specs.HeadList.{numbers_in, place_by}
+use Rattle.clru_nodes.proofs.HeadLists.{heads_cleared, links_cleared}
 use Rattle.clru_nodes.proofs.heads.Heads.clear.Goals as goal
-use Rattle.clru_nodes.proofs.heads.Heads.clear.Goals.{in-Narrow, in-Wide}
 
 pub returns : goal.returns
 returns g c =
-    elim c.match-self.branch [
-      | in-Narrow w ↦
-          rw (
-            w.self-inside-is,
-            ← c.self.view_is,
-            w.in-Narrow.is,
-            w.fill.ensures.items (λ y is. is),
-            wide_none,
-            length-map w.in-Narrow.heads.items wide,
-            ← w.in-Narrow.heads.ok.0,
-          ) refl
-      | in-Wide w ↦ rw (w.self-inside-is, ← c.self.view_is, w.in-Wide.is, w.fill-in-Wide.ensures.items (λ y is. is), ← w.in-Wide.heads.ok.0) refl
-    ]
+    let s = c.self.inside in let xs = numbers_in s.words in let new = c.clear.ensures.numbers in
+    let items = ap (λ ws. map place_by (take s.size ws)) new ∙ heads_cleared s.size xs in
+    let links = ap (λ ws. map place_by (drop s.size ws)) new ∙ links_cleared s.size xs in
+    rw (← c.self.view_is) (λ i. record { items = items i; links = links i; bound = c.clear.ensures.bound i })

@@ -1,5 +1,5 @@
-use Rattle.clru_nodes.proofs.HeadLists.{wide_none}
+use Rattle.clru_nodes.proofs.HeadLists.{none_led}
 use Rattle.clru_nodes.proofs.heads.Heads.empty.Goals as goal
 
-pub returns-in-Ok-clause-items : goal.returns-in-Ok-clause-items
-returns-in-Ok-clause-items g c = rw (c.in-Ok.ensures.items_if_clones_equal (λ y is. is)) (wide_none c.args.size)
+pub returns-clause-free : goal.returns-clause-free
+returns-clause-free g c = rw c.in_ok-words.ensures.numbers (λ h. none_led c.in-Some.size c.in-Some-checked_add.len h)

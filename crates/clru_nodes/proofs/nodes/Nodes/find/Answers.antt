@@ -1,16 +1,16 @@
-use Rattle.std.proofs.Common.{◌≡◌, Some, true, refl, length, ◌<◌, sym, ap, ◌∙◌, subst}
+use Rattle.std.proofs.Common.{◌≡◌, Some, true, refl, length, ◌<◌, sym, ap, ◌∙◌, subst, arith}
 use Rattle.std.proofs.lemmas.Bool.{true≢false}
 use Rattle.std.specs.Option.{option_copied}
 use Rattle.clru_list.specs.PlaceList.{item_at}
 use Rattle.clru_list.specs.Places.{nowhere}
 use Rattle.clru_nodes.specs.Chained.{steps_left}
-use Rattle.clru_nodes.specs.Heads.{head_by, head_at, key_at, steps_at, home_at, IsLive, IsAt}
+use Rattle.clru_nodes.specs.Heads.{head_by, place_in, key_at, steps_in, home_at, IsLive, IsAt}
 use Rattle.clru_nodes.specs.Nodes.{hash_by}
 use Rattle.clru_nodes.specs.declared.nodes.Item.{Item}
-use Rattle.clru_nodes.proofs.Chaining.{key_met}
+use Rattle.clru_nodes.proofs.Chaining.{key_met, steps_off}
 use Rattle.clru_nodes.proofs.ChainWalks.{walk_missed, walk_step, walk_nearer}
 use Rattle.clru_nodes.proofs.Indexed.{same_hash, walk_of_chain, live_of_key}
-use Rattle.clru_nodes.proofs.Placed.{none_at_start, not_live, step_of_item}
+use Rattle.clru_nodes.proofs.Placed.{live_below, none_at_start, not_live}
 use Rattle.clru_nodes.proofs.PlacedPairs.{absent_from}
 use Rattle.clru_nodes.proofs.nodes.Nodes.find.Goals as goal
 
@@ -32,16 +32,24 @@ loop-item-init g c =
 pub returns-then-eq-clause-found : goal.returns-then-eq-clause-found
 returns-then-eq-clause-found g c = record { item = c.in-Some.item.now; held = sym c.in-Some.ensures.value; same = sym c.eq.ensures ∙ c.if-eq.true }
 
+pub next-next-requires : goal.next-next-requires
+next-next-requires g c =
+    omega (
+      arith,
+      live_below c.args.self.now.list c.get.ensures.valid c.loop-item.next (c.in-Some.item.now, sym c.in-Some.ensures.value),
+      c.requires.linked,
+    )
+
 pub loop-item-smaller : goal.loop-item-smaller
 loop-item-smaller g c =
     let x = c.args.self.now in
     let none = none_at_start x.list c.get.ensures.valid in
     let next = c.loop-item.next in
-    let f = steps_at x (head_by (length x.heads.items) c.args.hash) in
+    let f = steps_in x.heads (head_by (length x.heads.items) c.args.hash) in
     let held : item_at next x.list.entries ≡ Some c.in-Some.item.now = sym c.in-Some.ensures.value in
     let off : next ≡ nowhere → ⊥ =
     λ e. none (c.in-Some.item.now, subst (λ q. item_at q x.list.entries ≡ Some c.in-Some.item.now) e held) in
-    let step = step_of_item (head_at x.heads.items) (head_by (length x.heads.items) c.args.hash) next x.list.entries c.in-Some.item.now held off in
+    let step = steps_off (place_in x.heads.items) (place_in x.heads.links) (head_by (length x.heads.items) c.args.hash) next off ∙ sym c.next-next.ensures.place in
     subst (λ n. steps_left f n (length x.list.entries) < steps_left f next (length x.list.entries)) step
     (walk_nearer c.loop-item.invariant none off)
 
@@ -53,7 +61,7 @@ loop-item-preserved g c =
     let held : item_at next x.list.entries ≡ Some c.in-Some.item.now = sym c.in-Some.ensures.value in
     let off : next ≡ nowhere → ⊥ =
     λ e. none (c.in-Some.item.now, subst (λ q. item_at q x.list.entries ≡ Some c.in-Some.item.now) e held) in
-    let step = step_of_item (head_at x.heads.items) (head_by (length x.heads.items) c.args.hash) next x.list.entries c.in-Some.item.now held off in
+    let step = steps_off (place_in x.heads.items) (place_in x.heads.links) (head_by (length x.heads.items) c.args.hash) next off ∙ sym c.next-next.ensures.place in
     let eq = g.K.PartialEq.eq in
     let other : IsAt eq c.args.key.now next x.list.entries → ⊥ = λ at.
     let item = c.in-Some.item.now in

@@ -25,4 +25,4 @@ returns-clause-pair g c =
 pub returns-clause-pairs : goal.returns-clause-pairs
 returns-clause-pairs g c =
     let l = last_at c.in_ok-place.place c.args.self.now.list.entries (sym c.in_ok-place.ensures.place) in
-    c.remove.ensures.pairs ∙ ap (λ es. pairs_of es) (held_last c.in_ok-place.ensures.valid.apart l).1 ∙ sym (last_pair l).1
+    ap (λ es. pairs_of es) c.remove.ensures.entries ∙ ap (λ es. pairs_of es) (held_last c.in_ok-place.ensures.valid.apart l).1 ∙ sym (last_pair l).1

@@ -1,5 +1,5 @@
 use Rattle.std.proofs.Common.{◌≡◌}
-use Rattle.clru_nodes.specs.Heads.{placed_of, IsChainedAs}
+use Rattle.clru_nodes.specs.Heads.{IsChainedAs}
 use Rattle.clru_nodes.specs.Nodes.{hash_by, IsSame}
 use Rattle.clru_nodes.proofs.Relinking.{key_from}
 use Rattle.clru_nodes.proofs.nodes.Nodes.relink.Given as goal
@@ -9,7 +9,7 @@ invariant-loop-place g l =
     let hash = hash_by g.S.Hasher.Hasher.finish g.S.Hasher.Hasher.write g.S.BuildHasher.build_hasher g.K.Hash.hash_input in
     record {
       chained : IsChainedAs hash (key_from l.place l.self.list.entries) l.self;
-      pairs : placed_of l.self.list.entries ≡ placed_of l.fn.self.list.entries;
+      list : l.self.list ≡ l.fn.self.list;
       same : IsSame l.fn.self l.self;
     }
 

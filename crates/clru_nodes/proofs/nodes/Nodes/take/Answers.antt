@@ -15,7 +15,7 @@ returns-in_err-place-clause-pairs g c =
 pub head_of-head-requires : goal.head_of-head-requires
 head_of-head-requires g c =
     let at = c.in_ok-place.ensures.found in let live = some_live c.in_ok-place.place c.args.self.now.list.entries (at.item, at.held) in
-    omega (arith, live, c.requires.indexed.held, c.requires.indexed.headed)
+    omega (arith, live, c.requires.indexed.held, c.requires.indexed.reserved, c.requires.indexed.linked, c.requires.indexed.headed)
 
 pub remove-requires-clause-home : goal.remove-requires-clause-home
 remove-requires-clause-home g c =
@@ -29,7 +29,7 @@ remove-requires-clause-home g c =
       home = sym (is ∙ ap (λ n. head_by (length x.heads.items) n) (c.requires.hash ∙ same_hash g.S.Hasher.Hasher.finish g.S.Hasher.Hasher.write
           g.S.BuildHasher.build_hasher g.K.Hash.hash_input x.hash_builder (g.met.K.Hash.respects_eq c.args.key.now at.item.key at.same)));
       off = λ e. none_at_start x.list c.find.ensures.valid (at.item, subst (λ q. item_at q es ≡ Some at.item) e at.held);
-      within = rw is (head_within (length x.heads.items) c.args.hash (omega (arith, live, c.requires.indexed.held, c.requires.indexed.headed)));
+      within = rw is (head_within (length x.heads.items) c.args.hash (omega (arith, live, c.requires.indexed.held, c.requires.indexed.reserved, c.requires.indexed.linked, c.requires.indexed.headed)));
     }
 
 pub returns-clause-pair : goal.returns-clause-pair
@@ -42,4 +42,4 @@ pub returns-clause-pairs : goal.returns-clause-pairs
 returns-clause-pairs g c =
     let (item, held, is) = c.remove.ensures.pair in
     let f = found_item g.K.PartialEq.eq c.args.key.now g.met.K.Eq.laws c.requires.distinct c.in_ok-place.ensures.found item held in
-    c.remove.ensures.pairs ∙ sym f.removed
+    ap (λ l. pairs_of l) c.remove.ensures.entries ∙ sym f.removed
