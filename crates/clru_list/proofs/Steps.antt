@@ -33,6 +33,9 @@ module _ {T : Type 0} (l : LinkMap T) (len capacity places allotted : ℕ) (i : 
     countable = countable;
   }
 
+  pub size_room : l.size ≤ allotted
+  size_room = omega (arith, i.1.within, i.1.reserved)
+
   module _ (p : ℕ) (x : T) (h : l.item p ≡ Some x) where
     at_place : Split p x i.0
     at_place = split_at p x i.0 (sym (i.1.held.live p) ∙ h)
@@ -69,6 +72,9 @@ module _ {T : Type 0} (l : LinkMap T) (len capacity places allotted : ℕ) (i : 
 
     length_split : length i.0 ≡ suc (length (at_place.before ++ at_place.behind))
     length_split = ap length at_place.is ∙ (reordered p x at_place.before at_place.behind at_place.absent).lengths
+
+    pub some_held : 0 < len
+    some_held = omega (arith, i.1.counted, length_split)
 
     unlinked_loose : IsLoose (unlinked l p) p x (at_place.before ++ at_place.behind)
     unlinked_loose = unlink-loose l p x at_place.before at_place.behind at_place.absent ring_split held_split
@@ -188,6 +194,9 @@ module _ {T : Type 0} (l : LinkMap T) (len capacity places allotted : ℕ) (i : 
           | inr d ↦ absurd (omega (arith, d.0, i.1.held.small))
         ]))
         (λ _ f. rw f i.1.within)
+
+    pub occupied_room : {m : LinkMap T} → m ≡ occupied l x → m.size ≤ allotted
+    occupied_room links = rw links (omega (arith, occupied_within, i.1.reserved))
 
     pub occupied_front : {m : LinkMap T} → m ≡ occupied l x → IsEnd m (m.next nowhere)
     occupied_front links = let loose = occupied_loose in let P : ℕ → Type 0 = λ k. IsEnd (occupied l x) k in

@@ -1,6 +1,7 @@
 pub mod Cursors
 pub mod Errors
 pub mod Fingers
+pub mod Halves
 pub mod Lends
 pub mod Links
 pub mod PlaceList

@@ -1,9 +1,10 @@
 -- How a list's nodes are linked. No public clause cites it.
-use Rattle.std.specs.Prelude.{◌≡◌, ◌⊎◌, ℕ, zero, suc, ◌+◌, ◌<◌, ◌≤◌, ◌==◌, ◌^◌, if◌then◌else◌, List, [], ◌∷◌, map, length, Option, Some, None, slice_index_or, vec_len}
+use Rattle.std.specs.Prelude.{◌≡◌, ◌⊎◌, ℕ, zero, suc, ◌+◌, ◌<◌, ◌≤◌, ◌==◌, ◌^◌, if◌then◌else◌, List, [], ◌∷◌, map, length, Option, Some, None, min, max, slice_index_or, vec_len, vec_capacity}
 use Rattle.std.specs.Option.{option_map_or}
 use Rattle.std.specs.Map.{keys_of}
 use Rattle.clru_list.specs.PlaceList.{item_at}
-use Rattle.clru_list.specs.Places.{nowhere, put, count, IsRest}
+use Rattle.clru_list.specs.Halves.{upper_next, upper_prev}
+use Rattle.clru_list.specs.Places.{nowhere, narrow, place_by, put, count, IsRest}
 use Rattle.clru_list.specs.declared.links.Links.{Links}
 
 -- the links and the item at each place. At `nowhere` the next place is the front and the one before is the back
@@ -16,16 +17,20 @@ pub record LinkMap (T : Type 0) : Type 0 where
 
 module _ {T A : Type 0} where
   abbrev pub next_of : Links T A → ℕ → ℕ
-  next_of c = put (λ k. slice_index_or (map (λ n. n.next) c.nodes.items) k 0) nowhere c.front
+  next_of c = put (λ k. place_by (slice_index_or (map (λ n. n.next) c.nodes.items) k 0) (upper_next c.upper k)) nowhere c.front
 
   abbrev pub prev_of : Links T A → ℕ → ℕ
-  prev_of c = put (λ k. slice_index_or (map (λ n. n.prev) c.nodes.items) k 0) nowhere c.back
+  prev_of c = put (λ k. place_by (slice_index_or (map (λ n. n.prev) c.nodes.items) k 0) (upper_prev c.upper k)) nowhere c.back
 
   abbrev pub item_of : Links T A → ℕ → Option T
   item_of c k = slice_index_or (map (λ n. n.item) c.nodes.items) k None
 
   abbrev pub links_of : Links T A → LinkMap T
   links_of c = record { next = next_of c; prev = prev_of c; item = item_of c; free = c.free; size = vec_len c.nodes }
+
+  -- how many places have memory, and a name
+  abbrev pub room_of : Links T A → ℕ
+  room_of c = min (vec_capacity c.nodes) (max narrow (vec_len c.upper))
 
 module _ {T : Type 0} where
   abbrev pub set_next : LinkMap T → ℕ → ℕ → LinkMap T
@@ -103,7 +108,7 @@ module _ {T : Type 0} where
     pub total : length all + length spare ≡ size
     pub small : size ≤ nowhere
 
-  -- the entries of a list, with its fields and the capacity of the vector
+  -- the entries of a list, with its fields and the room of its links
   pub record IsSound (l : LinkMap T) (len capacity places allotted : ℕ) (es : List (ℕ × T)) : Type 0 where
     pub linked : IsLinked l.next l.prev (keys_of es)
     pub held : IsHeld l.next l.item l.free l.size es

@@ -12,6 +12,7 @@
 mod cursor;
 mod error;
 mod fingers;
+mod halves;
 mod iter;
 mod links;
 mod list;
@@ -21,6 +22,8 @@ pub use error::{NoMemory, PushError};
 // A crate can name a list in a contract only where the types of its fields are exported.
 #[doc(hidden)]
 pub use fingers::{Finger, Fingers};
+#[doc(hidden)]
+pub use halves::Upper;
 pub use iter::FixedSizeListIter;
 #[doc(hidden)]
 pub use links::{Links, Node};

@@ -1,20 +1,23 @@
 //! The nodes and their links. Each call is one change of the links, in the words of `Links`: at `NOWHERE` the next place is
 //! the front, and the one before is the back.
-ghost use Rattle.std.specs.Prelude.{◌≡◌, ◌<◌, ◌≤◌, Some, None, cond, vec_len, vec_capacity, option_copied, IsSome};
+ghost use Rattle.std.specs.Prelude.{◌≡◌, ◌<◌, ◌≤◌, Some, None, cond, vec_len, option_copied, IsSome, OnOk};
 ghost use Rattle.std.specs.Borrow.{Lends, sem};
 ghost use Rattle.clru_list.specs.Places.{nowhere};
-ghost use Rattle.clru_list.specs.Links.{links_of, set_next, set_prev, set_item, unlinked, linked, released, spot, occupied, appended, filled, IsEnd};
+ghost use Rattle.clru_list.specs.Links.{links_of, room_of, set_next, set_prev, set_item, unlinked, linked, released, spot, occupied, appended, filled, IsEnd};
 
+use crate::error::NoMemory;
+use crate::halves::{NARROW, Upper, clear_upper, halves, lower_half, place_by, widen};
 use std::alloc::Allocator;
 
 /// The place that no node has: what stands before the front and behind the back.
 pub(crate) const NOWHERE: usize = usize::MAX;
 
-/// A place. A free one has no item, and its `next` is the next free one.
+/// A place. A free one has no item, and its `next` is the next free one. A link is kept as one more than the place that it
+/// leads to, and as 0 where it leads nowhere; here are the lower 4 bytes of that.
 #[derive(Drop)]
 pub struct Node<T> {
-    prev: usize,
-    next: usize,
+    prev: u32,
+    next: u32,
     item: Option<T>,
 }
 
@@ -22,6 +25,8 @@ pub struct Node<T> {
 #[derive(Drop)]
 pub struct Links<T, A: Allocator> {
     pub(crate) nodes: Vec<Node<T>, A>,
+    // None are there as long as the lower halves name each place; else those of each place that the list may use.
+    pub(crate) upper: Vec<Upper, A>,
     pub(crate) front: usize,
     pub(crate) back: usize,
     pub(crate) free: usize,
@@ -44,12 +49,14 @@ impl<T> Node<T> {
 }
 
 impl<T, A: Allocator> Links<T, A> {
-    pub(crate) fn new(nodes: Vec<Node<T>, A>) -> Self
+    pub(crate) fn new(nodes: Vec<Node<T>, A>, upper: Vec<Upper, A>) -> Self
         ensures nodes { result.nodes ≡ nodes }
+        ensures upper { result.upper ≡ upper }
         ensures ends { (result.front ≡ nowhere) × (result.back ≡ nowhere) × (result.free ≡ nowhere) }
     {
         Links {
             nodes,
+            upper,
             front: NOWHERE,
             back: NOWHERE,
             free: NOWHERE,
@@ -60,14 +67,38 @@ impl<T, A: Allocator> Links<T, A> {
         requires { place < vec_len self.now.nodes }
         ensures { result ≡ (links_of self.now).next place }
     {
-        self.nodes[place].next
+        if place < self.upper.len() {
+            place_by(self.nodes[place].next, self.upper[place].next)
+        } else {
+            self.next_narrow(place)
+        }
+    }
+
+    fn next_narrow(&self, place: usize) -> usize
+        requires place { place < vec_len self.now.nodes }
+        requires narrow { vec_len self.now.upper ≤ place }
+        ensures { result ≡ (links_of self.now).next place }
+    {
+        place_by(self.nodes[place].next, 0)
     }
 
     pub(crate) fn prev(&self, place: usize) -> usize
         requires { place < vec_len self.now.nodes }
         ensures { result ≡ (links_of self.now).prev place }
     {
-        self.nodes[place].prev
+        if place < self.upper.len() {
+            place_by(self.nodes[place].prev, self.upper[place].prev)
+        } else {
+            self.prev_narrow(place)
+        }
+    }
+
+    fn prev_narrow(&self, place: usize) -> usize
+        requires place { place < vec_len self.now.nodes }
+        requires narrow { vec_len self.now.upper ≤ place }
+        ensures { result ≡ (links_of self.now).prev place }
+    {
+        place_by(self.nodes[place].prev, 0)
     }
 
     pub(crate) fn item(&self, place: usize) -> Option<&T>
@@ -77,9 +108,11 @@ impl<T, A: Allocator> Links<T, A> {
     }
 
     fn set_next(&mut self, at: usize, to: usize)
-        requires { IsEnd (links_of self.old) at }
+        requires at { IsEnd (links_of self.old) at }
+        requires to { IsEnd (links_of self.old) to }
+        requires room { vec_len self.old.nodes ≤ room_of self.old }
         ensures links { links_of self.new ≡ set_next (links_of self.old) at to }
-        ensures same_capacity { vec_capacity self.new.nodes ≡ vec_capacity self.old.nodes }
+        ensures same_room { room_of self.new ≡ room_of self.old }
     {
         if at == NOWHERE {
             self.front = to;
@@ -90,17 +123,50 @@ impl<T, A: Allocator> Links<T, A> {
 
     /// Has a place name the next one.
     fn lead(&mut self, at: usize, to: usize)
-        requires { at < vec_len self.old.nodes }
+        requires at { at < vec_len self.old.nodes }
+        requires to { IsEnd (links_of self.old) to }
+        requires room { vec_len self.old.nodes ≤ room_of self.old }
         ensures links { links_of self.new ≡ set_next (links_of self.old) at to }
-        ensures same_capacity { vec_capacity self.new.nodes ≡ vec_capacity self.old.nodes }
+        ensures same_room { room_of self.new ≡ room_of self.old }
     {
-        self.nodes[at].next = to;
+        if at < self.upper.len() {
+            self.lead_wide(at, to);
+        } else {
+            self.lead_narrow(at, to);
+        }
+    }
+
+    #[cold]
+    #[inline(never)]
+    fn lead_wide(&mut self, at: usize, to: usize)
+        requires at { at < vec_len self.old.nodes }
+        requires wide { at < vec_len self.old.upper }
+        ensures links { links_of self.new ≡ set_next (links_of self.old) at to }
+        ensures same_room { room_of self.new ≡ room_of self.old }
+    {
+        let (lower, upper) = halves(to);
+        self.nodes[at].next = lower;
+        self.upper[at].next = upper;
+    }
+
+    fn lead_narrow(&mut self, at: usize, to: usize)
+        requires at { at < vec_len self.old.nodes }
+        requires to { IsEnd (links_of self.old) to }
+        requires room { vec_len self.old.nodes ≤ room_of self.old }
+        requires narrow { vec_len self.old.upper ≤ at }
+        ensures links { links_of self.new ≡ set_next (links_of self.old) at to }
+        ensures upper { self.new.upper ≡ self.old.upper }
+        ensures same_room { room_of self.new ≡ room_of self.old }
+    {
+        self.nodes[at].next = lower_half(to);
     }
 
     fn set_prev(&mut self, at: usize, to: usize)
-        requires { IsEnd (links_of self.old) at }
+        requires at { IsEnd (links_of self.old) at }
+        requires to { IsEnd (links_of self.old) to }
+        requires room { vec_len self.old.nodes ≤ room_of self.old }
         ensures links { links_of self.new ≡ set_prev (links_of self.old) at to }
-        ensures same_capacity { vec_capacity self.new.nodes ≡ vec_capacity self.old.nodes }
+        ensures same_room { room_of self.new ≡ room_of self.old }
     {
         if at == NOWHERE {
             self.back = to;
@@ -111,22 +177,42 @@ impl<T, A: Allocator> Links<T, A> {
 
     /// Has a place name the one before.
     fn follow(&mut self, at: usize, to: usize)
-        requires { at < vec_len self.old.nodes }
+        requires at { at < vec_len self.old.nodes }
+        requires to { IsEnd (links_of self.old) to }
+        requires room { vec_len self.old.nodes ≤ room_of self.old }
         ensures links { links_of self.new ≡ set_prev (links_of self.old) at to }
-        ensures same_capacity { vec_capacity self.new.nodes ≡ vec_capacity self.old.nodes }
+        ensures same_room { room_of self.new ≡ room_of self.old }
     {
-        self.nodes[at].prev = to;
+        if at < self.upper.len() {
+            self.follow_wide(at, to);
+        } else {
+            self.follow_narrow(at, to);
+        }
     }
 
-    /// Has a place name both neighbours.
-    fn stand(&mut self, place: usize, prev: usize, next: usize)
-        requires { place < vec_len self.old.nodes }
-        ensures links { links_of self.new ≡ set_prev (set_next (links_of self.old) place next) place prev }
-        ensures same_capacity { vec_capacity self.new.nodes ≡ vec_capacity self.old.nodes }
+    #[cold]
+    #[inline(never)]
+    fn follow_wide(&mut self, at: usize, to: usize)
+        requires at { at < vec_len self.old.nodes }
+        requires wide { at < vec_len self.old.upper }
+        ensures links { links_of self.new ≡ set_prev (links_of self.old) at to }
+        ensures same_room { room_of self.new ≡ room_of self.old }
     {
-        let node = &mut self.nodes[place];
-        node.next = next;
-        node.prev = prev;
+        let (lower, upper) = halves(to);
+        self.nodes[at].prev = lower;
+        self.upper[at].prev = upper;
+    }
+
+    fn follow_narrow(&mut self, at: usize, to: usize)
+        requires at { at < vec_len self.old.nodes }
+        requires to { IsEnd (links_of self.old) to }
+        requires room { vec_len self.old.nodes ≤ room_of self.old }
+        requires narrow { vec_len self.old.upper ≤ at }
+        ensures links { links_of self.new ≡ set_prev (links_of self.old) at to }
+        ensures upper { self.new.upper ≡ self.old.upper }
+        ensures same_room { room_of self.new ≡ room_of self.old }
+    {
+        self.nodes[at].prev = lower_half(to);
     }
 
     /// Has the neighbours of a place name each other.
@@ -134,8 +220,9 @@ impl<T, A: Allocator> Links<T, A> {
         requires place { place < vec_len self.old.nodes }
         requires prev { IsEnd (links_of self.old) ((links_of self.old).prev place) }
         requires next { IsEnd (links_of self.old) ((links_of self.old).next place) }
+        requires room { vec_len self.old.nodes ≤ room_of self.old }
         ensures links { links_of self.new ≡ unlinked (links_of self.old) place }
-        ensures same_capacity { vec_capacity self.new.nodes ≡ vec_capacity self.old.nodes }
+        ensures same_room { room_of self.new ≡ room_of self.old }
     {
         let prev = self.prev(place);
         let next = self.next(place);
@@ -148,10 +235,12 @@ impl<T, A: Allocator> Links<T, A> {
         requires place { place < vec_len self.old.nodes }
         requires prev { IsEnd (links_of self.old) prev }
         requires next { IsEnd (links_of self.old) next }
+        requires room { vec_len self.old.nodes ≤ room_of self.old }
         ensures links { links_of self.new ≡ linked (links_of self.old) prev place next }
-        ensures same_capacity { vec_capacity self.new.nodes ≡ vec_capacity self.old.nodes }
+        ensures same_room { room_of self.new ≡ room_of self.old }
     {
-        self.stand(place, prev, next);
+        self.lead(place, next);
+        self.follow(place, prev);
         self.set_next(prev, place);
         self.set_prev(next, place);
     }
@@ -162,25 +251,91 @@ impl<T, A: Allocator> Links<T, A> {
         requires prev { (links_of self.old).prev place < vec_len self.old.nodes }
         requires next { IsEnd (links_of self.old) ((links_of self.old).next place) }
         requires front { self.old.front < vec_len self.old.nodes }
+        requires room { vec_len self.old.nodes ≤ room_of self.old }
         ensures links { links_of self.new ≡ linked (unlinked (links_of self.old) place) nowhere place self.old.front }
-        ensures same_capacity { vec_capacity self.new.nodes ≡ vec_capacity self.old.nodes }
+        ensures same_room { room_of self.new ≡ room_of self.old }
     {
-        let before = self.prev(place);
-        let behind = self.next(place);
+        if self.upper.is_empty() {
+            self.bring_front_narrow(place);
+        } else {
+            self.bring_front_wide(place);
+        }
+    }
+
+    #[cold]
+    #[inline(never)]
+    fn bring_front_wide(&mut self, place: usize)
+        requires place { place < vec_len self.old.nodes }
+        requires prev { (links_of self.old).prev place < vec_len self.old.nodes }
+        requires next { IsEnd (links_of self.old) ((links_of self.old).next place) }
+        requires front { self.old.front < vec_len self.old.nodes }
+        requires room { vec_len self.old.nodes ≤ room_of self.old }
+        ensures links { links_of self.new ≡ linked (unlinked (links_of self.old) place) nowhere place self.old.front }
+        ensures same_room { room_of self.new ≡ room_of self.old }
+    {
         let front = self.front;
-        self.lead(before, behind);
-        self.set_prev(behind, before);
-        self.stand(place, NOWHERE, front);
-        self.follow(front, place);
+        self.unlink(place);
+        self.link(NOWHERE, place, front);
+    }
+
+    fn bring_front_narrow(&mut self, place: usize)
+        requires place { place < vec_len self.old.nodes }
+        requires prev { (links_of self.old).prev place < vec_len self.old.nodes }
+        requires next { IsEnd (links_of self.old) ((links_of self.old).next place) }
+        requires front { self.old.front < vec_len self.old.nodes }
+        requires room { vec_len self.old.nodes ≤ room_of self.old }
+        requires narrow { vec_len self.old.upper ≡ 0 }
+        ensures links { links_of self.new ≡ linked (unlinked (links_of self.old) place) nowhere place self.old.front }
+        ensures same_room { room_of self.new ≡ room_of self.old }
+    {
+        let before = self.prev_narrow(place);
+        let behind = self.next_narrow(place);
+        let front = self.front;
+        self.lead_narrow(before, behind);
+        self.set_prev_narrow(behind, before);
+        self.stand_narrow(place, NOWHERE, front);
+        self.follow_narrow(front, place);
         // Last, so that no other write may have changed it for a caller that reads it next.
         self.set_next(NOWHERE, place);
+    }
+
+    /// Has a place name both neighbours.
+    fn stand_narrow(&mut self, place: usize, prev: usize, next: usize)
+        requires place { place < vec_len self.old.nodes }
+        requires prev { IsEnd (links_of self.old) prev }
+        requires next { IsEnd (links_of self.old) next }
+        requires room { vec_len self.old.nodes ≤ room_of self.old }
+        requires narrow { vec_len self.old.upper ≤ place }
+        ensures links { links_of self.new ≡ set_prev (set_next (links_of self.old) place next) place prev }
+        ensures upper { self.new.upper ≡ self.old.upper }
+        ensures same_room { room_of self.new ≡ room_of self.old }
+    {
+        let node = &mut self.nodes[place];
+        node.next = lower_half(next);
+        node.prev = lower_half(prev);
+    }
+
+    fn set_prev_narrow(&mut self, at: usize, to: usize)
+        requires at { IsEnd (links_of self.old) at }
+        requires to { IsEnd (links_of self.old) to }
+        requires room { vec_len self.old.nodes ≤ room_of self.old }
+        requires narrow { vec_len self.old.upper ≡ 0 }
+        ensures links { links_of self.new ≡ set_prev (links_of self.old) at to }
+        ensures upper { self.new.upper ≡ self.old.upper }
+        ensures same_room { room_of self.new ≡ room_of self.old }
+    {
+        if at == NOWHERE {
+            self.back = to;
+        } else {
+            self.follow_narrow(at, to);
+        }
     }
 
     /// Takes the item out of a place, if one is there.
     pub(crate) fn take(&mut self, place: usize) -> Option<T>
         ensures value { result ≡ (links_of self.old).item place }
         ensures links { links_of self.new ≡ set_item (links_of self.old) place None }
-        ensures same_capacity { vec_capacity self.new.nodes ≡ vec_capacity self.old.nodes }
+        ensures same_room { room_of self.new ≡ room_of self.old }
     {
         match self.nodes.get_mut(place) {
             Some(node) => node.item.take(),
@@ -190,9 +345,11 @@ impl<T, A: Allocator> Links<T, A> {
 
     /// Makes a place the first free one.
     pub(crate) fn release(&mut self, place: usize)
-        requires { place < vec_len self.old.nodes }
+        requires place { place < vec_len self.old.nodes }
+        requires end { IsEnd (links_of self.old) self.old.free }
+        requires room { vec_len self.old.nodes ≤ room_of self.old }
         ensures links { links_of self.new ≡ released (links_of self.old) place }
-        ensures same_capacity { vec_capacity self.new.nodes ≡ vec_capacity self.old.nodes }
+        ensures same_room { room_of self.new ≡ room_of self.old }
     {
         let free = self.free;
         self.lead(place, free);
@@ -203,10 +360,10 @@ impl<T, A: Allocator> Links<T, A> {
     pub(crate) fn occupy(&mut self, item: T) -> usize
         requires end { IsEnd (links_of self.old) self.old.free }
         requires free { (links_of self.old).item self.old.free ≡ None }
-        requires room { self.old.free ≡ nowhere → vec_len self.old.nodes < vec_capacity self.old.nodes }
+        requires room { self.old.free ≡ nowhere → vec_len self.old.nodes < room_of self.old }
         ensures place { result ≡ spot (links_of self.old) }
         ensures links { links_of self.new ≡ occupied (links_of self.old) item }
-        ensures same_capacity { vec_capacity self.new.nodes ≡ vec_capacity self.old.nodes }
+        ensures same_room { room_of self.new ≡ room_of self.old }
     {
         if self.free == NOWHERE {
             self.append(item)
@@ -216,17 +373,18 @@ impl<T, A: Allocator> Links<T, A> {
     }
 
     fn append(&mut self, item: T) -> usize
-        requires { vec_len self.old.nodes < vec_capacity self.old.nodes }
+        requires { vec_len self.old.nodes < room_of self.old }
         ensures place { result ≡ vec_len self.old.nodes }
         ensures links { links_of self.new ≡ appended (links_of self.old) item }
-        ensures same_capacity { vec_capacity self.new.nodes ≡ vec_capacity self.old.nodes }
+        ensures same_room { room_of self.new ≡ room_of self.old }
     {
         let place = self.nodes.len();
         self.nodes.push_reserved(Node {
-            prev: NOWHERE,
-            next: NOWHERE,
+            prev: 0,
+            next: 0,
             item: Some(item),
         });
+        clear_upper(&mut self.upper, place);
         place
     }
 
@@ -235,14 +393,32 @@ impl<T, A: Allocator> Links<T, A> {
         requires free { (links_of self.old).item self.old.free ≡ None }
         ensures place { result ≡ self.old.free }
         ensures links { links_of self.new ≡ filled (links_of self.old) item }
-        ensures same_capacity { vec_capacity self.new.nodes ≡ vec_capacity self.old.nodes }
+        ensures same_room { room_of self.new ≡ room_of self.old }
     {
         let place = self.free;
+        let next = self.next(place);
         let node = &mut self.nodes[place];
-        self.free = node.next;
+        self.free = next;
         match node.item.replace(item) {
             None => place,
             Some(_) => unreachable!(),
         }
+    }
+
+    /// Finds memory for so many places, and names for them. Lower halves alone name at most `limit` places.
+    pub(crate) fn reserve(&mut self, places: usize, limit: usize) -> Result<(), NoMemory>
+        requires { vec_len self.old.nodes ≤ places }
+        ensures links { links_of self.new ≡ links_of self.old }
+        ensures grows { room_of self.old ≤ room_of self.new }
+        ensures ready { OnOk result (places ≤ room_of self.new) }
+    {
+        let more = places - self.nodes.len();
+        let Ok(()) = self.nodes.reserve_exact(more) else {
+            return Err(NoMemory);
+        };
+        if places <= limit.min(NARROW) {
+            return Ok(());
+        }
+        widen(&mut self.upper, places)
     }
 }

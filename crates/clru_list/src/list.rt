@@ -1,13 +1,15 @@
 //! `FixedSizeList`: its makers, and the calls that read it. A clause sees a list as its `entries`, its `capacity` and its
 //! `places`.
-ghost use Rattle.std.specs.Prelude.{◌≡◌, ◌<◌, ◌↔◌, ◌^◌, [], length, min, IfOk, OnOk, IsOk, IsTrue, option_copied, vec_capacity};
+ghost use Rattle.std.specs.Prelude.{◌≡◌, ◌<◌, ◌≤◌, ◌↔◌, ◌^◌, [], length, min, IfOk, OnOk, IsOk, IsTrue, max, option_copied, vec_capacity, vec_len};
 ghost use Rattle.std.specs.Option.{option_map};
 ghost use Rattle.std.specs.Borrow.{sem};
 ghost use Rattle.clru_list.specs.Links.{place_of};
+ghost use Rattle.clru_list.specs.Places.{narrow};
 ghost use Rattle.clru_list.specs.PlaceList.{place_list, item_at, first_entry, last_entry, first_place, last_place, place_after, place_before, IsValid};
 
 use crate::error::NoMemory;
 use crate::fingers::Fingers;
+use crate::halves::{NARROW, Upper, uppers};
 use crate::links::{Links, NOWHERE, Node};
 use std::alloc::{Allocator, Global};
 use std::marker::Model;
@@ -25,17 +27,19 @@ pub struct FixedSizeList<T, A: Allocator + Copy = Global> {
     pub(crate) links: Links<T, A>,
     pub(crate) len: usize,
     pub(crate) capacity: usize,
-    // No more than the vector's capacity, and not that number itself: a growth that was refused changes nothing.
+    // No more than the room of the links, and not that number itself: a growth that was refused changes nothing.
     pub(crate) places: usize,
+    // Links take 4 bytes each only where the places are no more. A test sets it low, to reach the wide form.
+    pub(crate) limit: usize,
     pub(crate) fingers: Fingers,
 }
 
 impl<T, A: Allocator + Copy> Model for FixedSizeList<T, A> {
-    ghost use Rattle.std.specs.Prelude.{ℕ, List, vec_capacity};
+    ghost use Rattle.std.specs.Prelude.{ℕ, List};
     ghost use Rattle.std.specs.Map.{keys_of};
     ghost use Rattle.clru_list.specs.PlaceList.{PlaceList, place_list, place_list_code};
     ghost use Rattle.clru_list.specs.Fingers.{IsPointed};
-    ghost use Rattle.clru_list.specs.Links.{links_of, walk, IsSound};
+    ghost use Rattle.clru_list.specs.Links.{links_of, room_of, walk, IsSound};
 
     ghost Value = { PlaceList T };
 
@@ -44,7 +48,7 @@ impl<T, A: Allocator + Copy> Model for FixedSizeList<T, A> {
     ghost view = { λ l. place_list (walk (links_of l.links) l.links.front l.len) l.capacity l.places };
 
     ghost invariant = { λ l. ((es : List (ℕ × T))
-        × IsSound (links_of l.links) l.len l.capacity l.places (vec_capacity l.links.nodes) es)
+        × IsSound (links_of l.links) l.len l.capacity l.places (room_of l.links) es)
         × IsPointed (keys_of (walk (links_of l.links) l.links.front l.len)) l.fingers };
 }
 
@@ -53,7 +57,15 @@ impl<T, A: Allocator + Copy> FixedSizeList<T, A> {
     pub fn new(alloc: A, capacity: usize) -> Self
         ensures { result ≡ place_list [] capacity 0 }
     {
-        FixedSizeList::empty(Vec::new(alloc), capacity, 0)
+        FixedSizeList::with_narrow_places(alloc, capacity, NARROW)
+    }
+
+    /// Does the same, and a link has 4 bytes only as long as the places are at most `limit`, and 8 from then on. Without a limit
+    /// that is so at 2^32 - 1 places, where no test comes. A limit past that changes nothing.
+    pub fn with_narrow_places(alloc: A, capacity: usize, limit: usize) -> Self
+        ensures { result ≡ place_list [] capacity 0 }
+    {
+        FixedSizeList::empty(Vec::new(alloc), Vec::new(alloc), capacity, 0, limit)
     }
 
     /// Creates an empty list with memory for `reserve` items, or for `capacity` items where that is less.
@@ -63,22 +75,32 @@ impl<T, A: Allocator + Copy> FixedSizeList<T, A> {
         ensures countable { OnOk result (min reserve capacity < 2 ^ 63) }
     {
         let places = reserve.min(capacity);
+        let upper = uppers(alloc, places)?;
+        // Last, since nodes may be let go only where items may.
         let Ok(nodes) = Vec::with_capacity(alloc, places) else {
             return Err(NoMemory);
         };
-        Ok(FixedSizeList::empty(nodes, capacity, places))
+        Ok(FixedSizeList::empty(nodes, upper, capacity, places, NARROW))
     }
 
-    fn empty(nodes: Vec<Node<T>, A>, capacity: usize, places: usize) -> Self
+    fn empty(
+        nodes: Vec<Node<T>, A>,
+        upper: Vec<Upper, A>,
+        capacity: usize,
+        places: usize,
+        limit: usize,
+    ) -> Self
         requires none { nodes.items ≡ [] }
         requires reserved { vec_capacity nodes ≡ places }
+        requires named { places ≤ max narrow (vec_len upper) }
         ensures { result ≡ place_list [] capacity places }
     {
         FixedSizeList {
-            links: Links::new(nodes),
+            links: Links::new(nodes, upper),
             len: 0,
             capacity,
             places,
+            limit,
             fingers: Fingers::none(),
         }
     }

@@ -27,8 +27,7 @@ impl<T, A: Allocator + Copy> FixedSizeList<T, A> {
             return Ok(());
         }
         let places = grown(self.places, self.capacity);
-        let more = places - self.links.nodes.len();
-        let Ok(()) = self.links.nodes.reserve_exact(more) else {
+        let Ok(()) = self.links.reserve(places, self.limit) else {
             return Err(NoMemory);
         };
         self.places = places;

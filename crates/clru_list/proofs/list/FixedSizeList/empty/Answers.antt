@@ -9,7 +9,7 @@ invariant_of-result g c =
       (
         [],
         sound-empty _ _ _ _ e.ends.0 e.ends.1 (λ k. ap (λ v. get_or (map (λ n. n.item) v.items) k None) e.nodes ∙ ap (λ ns. get_or (map (λ n. n.item) ns) k None) c.requires.none)
-            e.ends.2 (ap vec_len e.nodes ∙ c.args.nodes.ok.0 ∙ ap length c.requires.none) (omega (arith, ap vec_capacity e.nodes, c.requires.reserved)) r.nodes.small,
+            e.ends.2 (ap vec_len e.nodes ∙ c.args.nodes.ok.0 ∙ ap length c.requires.none) (omega (arith, ap vec_capacity e.nodes, ap vec_len e.upper, c.requires.reserved, c.requires.named)) (omega (arith, r.nodes.small)),
       ),
       pointed-none [] _ c.none.ensures,
     )

@@ -1,8 +1,7 @@
 use Rattle.std.proofs.Common.{refl, sym, ap, ◌∙◌, arith}
-use Rattle.clru_list.proofs.NodeLemmas.{links_of-moved}
-use Rattle.clru_list.proofs.Soundness.{view-is, valid_view}
+use Rattle.clru_list.proofs.Soundness.{walk-is, view-is, valid_view}
 use Rattle.clru_list.proofs.Steps.{sound-grow}
-use Rattle.clru_list.proofs.Views.{seen, seen_length, seen_valid, sound-at}
+use Rattle.clru_list.proofs.Views.{seen, seen_entries, seen_length, seen_valid, sound-at}
 use Rattle.clru_list.proofs.Pointing.{pointed-still}
 use Rattle.clru_list.proofs.list.FixedSizeList.make_ready.Goals as goal
 
@@ -18,10 +17,13 @@ returns-then-self-2-clause-valid g c = seen_valid _ _ _ _ _ c.self.invariant.0 _
 
 abbrev pub invariant_of-self : goal.invariant_of-self
 invariant_of-self g c =
-    let e = c.reserve_exact.ensures in let i = c.self.invariant.0 in
-    let new = sound-at _ _ _ _ _ _ _ _ (links_of-moved c.self.inside.links c.reserve_exact.new.self e.items e.len) refl
-    (sound-grow _ _ _ _ _ i c.self.inside.places _ (omega arith) (omega (arith, i.1.reserved, e.capacity)) c.reserve_exact.new.self.small) in
+    let e = c.reserve.ensures in let i = c.self.invariant.0 in
+    let new = sound-at _ _ _ _ _ _ _ _ e.links refl
+    (sound-grow _ _ _ _ _ i c.self.inside.places _ (omega arith) (omega (arith, i.1.reserved, e.grows)) (omega (arith, c.reserve.new.self.nodes.small))) in
     ((i.0, new), pointed-still _ _ _ _ _ _ _ _ _ _ _ _ _ i.1 new refl c.self.invariant.1)
+
+pub returns-in_default-clause-entries : goal.returns-in_default-clause-entries
+returns-in_default-clause-entries g c = walk-is _ _ _ _ _ _ (invariant_of-self g c).0.1 ∙ sym (seen_entries _ _ _ _ _ c.self.invariant.0 _ c.self.view_is)
 
 pub returns-in_default-clause-refused : goal.returns-in_default-clause-refused
 returns-in_default-clause-refused g c =
@@ -35,11 +37,14 @@ returns-in_default-clause-valid g c = valid_view _ _ _ _ _ _ (invariant_of-self 
 
 abbrev pub invariant_of-self-2 : goal.invariant_of-self-2
 invariant_of-self-2 g c =
-    let e = c.reserve_exact.ensures in let i = c.self.invariant.0 in
-    let new = sound-at _ _ _ _ _ _ _ _ (links_of-moved c.self.inside.links c.reserve_exact.new.self e.items e.len) refl
+    let e = c.reserve.ensures in let i = c.self.invariant.0 in
+    let new = sound-at _ _ _ _ _ _ _ _ e.links refl
     (sound-grow _ _ _ _ _ i c.grown-places.result _ (omega (arith, c.grown-places.ensures, c.if-self.false, c.if-self-2.false, i.1.fits))
-    (omega (arith, c.in-Ok.ensures.ok, e.len, c.len.ensures, i.1.within, c.grown-places.ensures)) c.reserve_exact.new.self.small) in
+    c.in-Ok.ensures.ready (omega (arith, c.reserve.new.self.nodes.small))) in
     ((i.0, new), pointed-still _ _ _ _ _ _ _ _ _ _ _ _ _ i.1 new refl c.self.invariant.1)
+
+pub returns-clause-entries : goal.returns-clause-entries
+returns-clause-entries g c = walk-is _ _ _ _ _ _ (invariant_of-self-2 g c).0.1 ∙ sym (seen_entries _ _ _ _ _ c.self.invariant.0 _ c.self.view_is)
 
 pub returns-clause-ready : goal.returns-clause-ready
 returns-clause-ready g c = λ lt.

@@ -1,8 +1,8 @@
-use Rattle.std.proofs.Common.{◌∷◌, sym, ◌∙◌}
+use Rattle.std.proofs.Common.{arith, ◌∷◌, sym, ◌∙◌}
 use Rattle.clru_list.specs.Places.{nowhere}
 use Rattle.clru_list.specs.Links.{linked}
 use Rattle.clru_list.proofs.Soundness.{walk-is, valid_view}
-use Rattle.clru_list.proofs.Steps.{free_end, free_none, free_room, spot_below, occupied_front, sound-push_front}
+use Rattle.clru_list.proofs.Steps.{free_end, free_none, free_room, spot_below, occupied_room, occupied_front, sound-push_front}
 use Rattle.clru_list.proofs.Views.{seen_entries, has_room, sound-at}
 use Rattle.clru_list.proofs.Pointing.{pointed-none}
 use Rattle.clru_list.proofs.list.FixedSizeList.push_front.Goals as goal
@@ -28,13 +28,18 @@ link-requires-clause-next g c =
     let room = has_room _ _ _ _ _ c.self.invariant.0 _ c.self.view_is (c.in_ok-item.ensures.room, c.in_ok-item.ensures.below) in
     occupied_front _ _ _ _ _ c.self.invariant.0 c.in_ok-item.item room.0 c.occupy-place.ensures.links
 
+pub link-requires-clause-room : goal.link-requires-clause-room
+link-requires-clause-room g c =
+    let room = has_room _ _ _ _ _ c.self.invariant.0 _ c.self.view_is (c.in_ok-item.ensures.room, c.in_ok-item.ensures.below) in
+    let e = c.occupy-place.ensures in omega (arith, occupied_room _ _ _ _ _ c.self.invariant.0 c.in_ok-item.item room.0 e.links, e.same_room)
+
 abbrev pub invariant_of-self : goal.invariant_of-self
 invariant_of-self g c =
     let room = has_room _ _ _ _ _ c.self.invariant.0 _ c.self.view_is (c.in_ok-item.ensures.room, c.in_ok-item.ensures.below) in
     let e = c.occupy-place.ensures in (
       (
         _,
-        sound-at _ _ _ _ _ _ _ _ (c.link.ensures.links ∙ (λ i. linked (e.links i) nowhere (e.place i) ((e.links i).next nowhere))) (c.link.ensures.same_capacity ∙ e.same_capacity)
+        sound-at _ _ _ _ _ _ _ _ (c.link.ensures.links ∙ (λ i. linked (e.links i) nowhere (e.place i) ((e.links i).next nowhere))) (c.link.ensures.same_room ∙ e.same_room)
             (sound-push_front _ _ _ _ _ c.self.invariant.0 c.in_ok-item.item room.0 room.1),
       ),
       pointed-none _ _ c.clear.ensures,

@@ -4,7 +4,7 @@ use Rattle.clru_list.specs.PlaceList.{with_entries, without}
 use Rattle.clru_list.proofs.EntryLists.{without-none}
 use Rattle.clru_list.proofs.Puts.{set_item-same}
 use Rattle.clru_list.proofs.Soundness.{view-is, valid_view}
-use Rattle.clru_list.proofs.Steps.{prev_end, next_end, sound-remove}
+use Rattle.clru_list.proofs.Steps.{prev_end, next_end, free_end, some_held, sound-remove}
 use Rattle.clru_list.proofs.Views.{seen, seen_item, seen_with, sound-at}
 use Rattle.clru_list.proofs.Pointing.{pointed-none, pointed-still}
 use Rattle.clru_list.proofs.list.FixedSizeList.remove.Goals as goal
@@ -12,7 +12,7 @@ use Rattle.clru_list.proofs.list.FixedSizeList.remove.Goals as goal
 abbrev pub invariant_of-self : goal.invariant_of-self
 invariant_of-self g c =
     let e = c.in_err-item.ensures in
-    let new = sound-at _ _ _ _ _ _ _ _ (e.links ∙ set_item-same (links_of c.self.inside.links) c.args.place None (sym e.value)) e.same_capacity c.self.invariant.0.1 in
+    let new = sound-at _ _ _ _ _ _ _ _ (e.links ∙ set_item-same (links_of c.self.inside.links) c.args.place None (sym e.value)) e.same_room c.self.invariant.0.1 in
     ((c.self.invariant.0.0, new), pointed-still _ _ _ _ _ _ _ _ _ _ _ _ _ c.self.invariant.0.1 new refl c.self.invariant.1)
 
 pub returns-in_err-item-clause-value : goal.returns-in_err-item-clause-value
@@ -37,13 +37,21 @@ unlink-requires-clause-next g c =
     let P : LinkMap g.row.T.Denot → Type 0 = λ l. IsEnd l (l.next c.args.place) in
     subst P (sym c.in_ok-item.ensures.links) (next_end _ _ _ _ _ c.self.invariant.0 c.args.place c.in_ok-item.item (sym c.in_ok-item.ensures.value))
 
+pub release-requires-clause-end : goal.release-requires-clause-end
+release-requires-clause-end g c =
+    let P : LinkMap g.row.T.Denot → Type 0 = λ l. IsEnd l l.free in
+    subst P (sym (c.unlink.ensures.links ∙ ap (λ l. unlinked l c.args.place) c.in_ok-item.ensures.links)) (free_end _ _ _ _ _ c.self.invariant.0)
+
+pub overflow_sub-self : goal.overflow_sub-self
+overflow_sub-self g c = some_held _ _ _ _ _ c.self.invariant.0 c.args.place c.in_ok-item.item (sym c.in_ok-item.ensures.value)
+
 abbrev pub invariant_of-self-2 : goal.invariant_of-self-2
 invariant_of-self-2 g c =
     let p = c.args.place in let e = c.in_ok-item.ensures in (
       (
         _,
         sound-at _ _ _ _ _ _ _ _ (c.release.ensures.links ∙ ap (λ l. released l p) (c.unlink.ensures.links ∙ ap (λ l. unlinked l p) e.links))
-            (c.release.ensures.same_capacity ∙ c.unlink.ensures.same_capacity ∙ e.same_capacity) (sound-remove _ _ _ _ _ c.self.invariant.0 p c.in_ok-item.item (sym e.value)),
+            (c.release.ensures.same_room ∙ c.unlink.ensures.same_room ∙ e.same_room) (sound-remove _ _ _ _ _ c.self.invariant.0 p c.in_ok-item.item (sym e.value)),
       ),
       pointed-none _ _ c.clear.ensures,
     )
