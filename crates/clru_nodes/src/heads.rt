@@ -28,7 +28,7 @@ pub(crate) struct Heads<A: Allocator + Copy> {
     words: Words<A>,
     // How many heads there are.
     size: usize,
-    // A place takes 4 bytes only where no more have a link. A test sets it low, to reach the wide form.
+    // A place takes 4 bytes only where the places are no more. A test sets it low, to reach the wide form.
     limit: usize,
 }
 
@@ -74,7 +74,8 @@ impl<A: Allocator + Copy> Heads<A> {
         let Some(len) = size.checked_add(links) else {
             return Err(NoMemory);
         };
-        let words = Words::zeros(alloc, len, links <= limit.min(NARROW))?;
+        let is_narrow = places <= limit && links <= NARROW;
+        let words = Words::zeros(alloc, len, is_narrow)?;
         Ok(Heads { words, size, limit })
     }
 
