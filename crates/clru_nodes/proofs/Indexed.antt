@@ -3,7 +3,6 @@ use Rattle.std.proofs.Common.{◌≡◌, ℕ, ◌-◌, ◌<◌, ◌≤◌, Optio
 use Rattle.std.proofs.lemmas.Bool.{cases_eq, cases_lt, eq-eqb, ne_eqb}
 use Rattle.std.proofs.lemmas.List.{get_or-replicate, get_or-set_same, get_or-set_other, get_or_past, length-replicate}
 use Rattle.std.proofs.lemmas.Map.Entries.{length-keys_of}
-use Rattle.std.proofs.lemmas.Nat.{and_le_r}
 use Rattle.std.specs.List.{fold}
 use Rattle.std.specs.Map.{keys_of}
 use Rattle.std.specs.Option.{option_map}
@@ -109,7 +108,3 @@ module _ {K V S A H : Type 0} (hash : S → K → ℕ) (x : Nodes K V S A H) whe
     linked = linked;
     named = named;
   }
-
--- the head of a hash is one of the heads, where there are any
-pub head_within : (n hash : ℕ) → 0 < n → head_by n hash < n
-head_within n hash some = let least = and_le_r hash (n - 1) in omega (arith, least)

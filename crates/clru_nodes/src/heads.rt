@@ -100,19 +100,10 @@ impl<A: Allocator + Copy> Heads<A> {
     /// The head of the keys with the hash.
     pub(crate) fn head_of(&self, hash: u64) -> usize
         requires { 0 < length self.now.items }
-        ensures { result ≡ head_by (length self.now.items) hash }
+        ensures head { result ≡ head_by (length self.now.items) hash }
+        ensures within { result < length self.now.items }
     {
         hash as usize & (self.size - 1)
-    }
-
-    /// The place that the head of a hash leads to. There is none where there are no heads.
-    pub(crate) fn start(&self, hash: u64) -> usize
-        ensures { result ≡ place_in self.now.items (head_by (length self.now.items) hash) }
-    {
-        if self.size == 0 {
-            return NOWHERE;
-        }
-        self.first(self.head_of(hash))
     }
 
     /// The place that a head leads to.

@@ -6,10 +6,10 @@ ghost use Rattle.std.specs.Prelude.{◌≡◌, ◌<◌, ◌≤◌, ◌^◌, min,
 ghost use Rattle.std.specs.List.{IsDistinct};
 ghost use Rattle.std.specs.Map.{keys_of, lookup, lookup_entry};
 ghost use Rattle.clru_list.specs.PlaceList.{IsValid};
-ghost use Rattle.clru_nodes.specs.Heads.{key_at, IsAt, IsChainedAs};
+ghost use Rattle.clru_nodes.specs.Heads.{IsAt};
 ghost use Rattle.clru_nodes.specs.Nodes.{hash_of, pairs_of, pairs_in, capacity_of, places_of, builder_of, IsIndexed, IsEmpty};
 
-use crate::heads::{Heads, NARROW};
+use crate::heads::{Heads, NARROW, NOWHERE};
 use clru_list::FixedSizeList;
 use std::alloc::Allocator;
 use std::hash::{BuildHasher, Hash};
@@ -48,15 +48,15 @@ impl<K: Eq + Hash, V, S: BuildHasher, A: Allocator + Copy> Nodes<K, V, S, A> {
         Nodes::with_narrow_places(alloc, capacity, hash_builder, NARROW)
     }
 
-    /// Does the same, and the index has 4 bytes for a place only as long as the places are at most `limit`, and 8 from then on.
-    /// Without a limit that is so at 2^32 - 1 places, where no test comes. A limit past that changes nothing.
+    /// Does the same, and list and index have 4 bytes for a place only as long as the places are at most `limit`, and 8 from then
+    /// on. Without a limit that is so at 2^31 places or more, where no test comes. A limit past 2^32 - 1 changes nothing.
     pub fn with_narrow_places(alloc: A, capacity: usize, hash_builder: S, limit: usize) -> Self
         ensures empty { IsEmpty capacity 0 result }
         ensures builder { builder_of result ≡ hash_builder }
         ensures indexed { IsIndexed (hash_of K.Hash S.BuildHasher S.Hasher.Hasher) result }
     {
         Nodes {
-            list: FixedSizeList::new(alloc, capacity),
+            list: FixedSizeList::with_narrow_places(alloc, capacity, limit),
             heads: Heads::new(alloc, limit),
             hash_builder,
             places: 0,
@@ -122,17 +122,24 @@ impl<K: Eq + Hash, V, S: BuildHasher, A: Allocator + Copy> Nodes<K, V, S, A> {
     }
 
     /// Returns the place of the pair with the key, whose hash is given.
+    #[inline]
     fn find(&self, hash: u64, key: &K) -> Option<usize>
         requires hash { hash ≡ hash_of K.Hash S.BuildHasher S.Hasher.Hasher self.now.hash_builder key.now }
-        requires chained { IsChainedAs (hash_of K.Hash S.BuildHasher S.Hasher.Hasher)
-            (key_at self.now.list.entries) self.now }
-        requires linked { self.now.list.places ≤ length self.now.heads.links }
+        requires indexed { IsIndexed (hash_of K.Hash S.BuildHasher S.Hasher.Hasher) self.now }
         ensures found { IfSome result (λ p. IsAt K.eq key.now p self.now.list.entries) }
         ensures valid { IsValid self.now.list }
         ensures absent { IfNone result (lookup_entry (K.eq key.now) (pairs_of self.now.list.entries) ≡ None) }
     {
-        let mut next = self.heads.start(hash);
-        while let Some(item) = self.list.get(next) {
+        if self.list.is_empty() {
+            return None;
+        }
+        let head = self.heads.head_of(hash);
+        let mut next = self.heads.first(head);
+        while next != NOWHERE {
+            // A place in a chain holds a pair, so this test costs nothing.
+            let Some(item) = self.list.get(next) else {
+                unreachable!()
+            };
             if *key == item.key {
                 return Some(next);
             }

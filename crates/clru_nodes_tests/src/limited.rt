@@ -1,4 +1,4 @@
-//! Nodes with a limit for heads of 4 bytes, so that their wide form is reached: growths, evictions, walks and removals on both
+//! Nodes with a limit for places of 4 bytes, so that their wide form is reached: growths, evictions, walks and removals on both
 //! sides of it, beside a plain list of the same pairs.
 
 use crate::kept::Kept;
@@ -9,13 +9,22 @@ use std::ops::Range;
 use std::process::Abort;
 use std::test::Fail;
 
-/// Heads of 4 bytes as far as one byte names places.
+/// Places of 4 bytes as far as one byte names them.
 const LIMIT: usize = 255;
 
-/// The bytes of so many places, each of six words, for a key and a value of eight bytes.
-const PLACES_200: u64 = 9600;
+/// The bytes of so many places, each of four words, for a key and a value of eight bytes, and where they are wide of one more.
+const PLACES_200: u64 = 6400;
 
-const PLACES_600: u64 = 28800;
+const WIDE_200: u64 = 8000;
+
+const PLACES_600: u64 = 19200;
+
+const WIDE_600: u64 = 24000;
+
+/// The words of so many places: four heads for each and one link, by the next power of two.
+const WORDS_200: u64 = 1280;
+
+const WORDS_600: u64 = 5120;
 
 /// Puts new keys in, and looks at all pairs at each sixteenth and at the end. At most `capacity` pairs stay.
 fn fills(
@@ -74,12 +83,12 @@ fn removes(
 
 #[test]
 fn nodes_answer_alike_on_both_sides_of_the_limit(rt: HostRuntime) -> Result<(), Fail> {
-    // The limit, and the bytes of 200 places and of 600 with their heads.
+    // The limit, and the bytes of 200 places and of 600 with their heads and links.
     let rows = [
-        (LIMIT, PLACES_200 + 1024 * 4, PLACES_600 + 4096 * 8),
-        (0, PLACES_200 + 1024 * 8, PLACES_600 + 4096 * 8),
-        (600, PLACES_200 + 1024 * 4, PLACES_600 + 4096 * 4),
-        (usize::MAX, PLACES_200 + 1024 * 4, PLACES_600 + 4096 * 4),
+        (LIMIT, PLACES_200 + WORDS_200 * 4, WIDE_600 + WORDS_600 * 8),
+        (0, WIDE_200 + WORDS_200 * 8, WIDE_600 + WORDS_600 * 8),
+        (600, PLACES_200 + WORDS_200 * 4, PLACES_600 + WORDS_600 * 4),
+        (usize::MAX, PLACES_200 + WORDS_200 * 4, PLACES_600 + WORDS_600 * 4),
     ];
     for (limit, narrow, wide) in rows {
         let heap = Rationed::new(rt.alloc());
@@ -104,8 +113,8 @@ fn nodes_answer_alike_on_both_sides_of_the_limit(rt: HostRuntime) -> Result<(), 
 
 #[test]
 fn a_growth_past_the_limit_that_is_refused_changes_nothing(rt: HostRuntime) -> Result<(), Fail> {
-    // The first capacity, and the pairs that take all places. Three requests are made then: for heads that can name what
-    // comes, for the places, and for the heads of these.
+    // The first capacity, and the pairs that take all places. Three requests are made then: for heads that can name the new
+    // places, for these, and for the upper halves of their links.
     for (capacity, held) in [(600, 64), (200, 200)] {
         for n in 0..3u64 {
             let heap = Rationed::new(rt.alloc());
@@ -122,7 +131,7 @@ fn a_growth_past_the_limit_that_is_refused_changes_nothing(rt: HostRuntime) -> R
                 kept.lacks(&rt, held);
                 kept.has(&rt, list.as_slice());
                 fills(&rt, &mut kept, &mut list, held..700, 600)?;
-                equal!(rt; heap.held_bytes(), PLACES_600 + 4096 * 8, (held, n));
+                equal!(rt; heap.held_bytes(), WIDE_600 + WORDS_600 * 8, (held, n));
             }
             equal!(rt; heap.blocks(), 0, (held, n));
         }

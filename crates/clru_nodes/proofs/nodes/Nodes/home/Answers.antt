@@ -1,7 +1,6 @@
 use Rattle.std.proofs.Common.{◌≡◌, Some, length, arith, sym, ap, ◌∙◌, subst}
 use Rattle.clru_list.specs.PlaceList.{item_at}
 use Rattle.clru_nodes.specs.Heads.{head_by}
-use Rattle.clru_nodes.proofs.Indexed.{head_within}
 use Rattle.clru_nodes.proofs.Placed.{none_at_start}
 use Rattle.clru_nodes.proofs.nodes.Nodes.home.Goals as goal
 
@@ -9,11 +8,11 @@ pub returns-clause-home : goal.returns-clause-home
 returns-clause-home g c =
     let x = c.args.self.now in let es = x.list.entries in
     let held : item_at c.args.place es ≡ Some c.in-Some.item.now = sym c.in-Some.ensures.value in
-    let is = c.head_of.ensures in
+    let is = c.head_of.ensures.head in
     record {
       item = c.in-Some.item.now;
       held = held;
       home = sym (is ∙ ap (λ n. head_by (length x.heads.items) n) c.hash.ensures);
       off = λ e. none_at_start x.list c.get.ensures.valid (c.in-Some.item.now, subst (λ q. item_at q es ≡ Some c.in-Some.item.now) e held);
-      within = rw is (head_within (length x.heads.items) c.hash.result c.requires.headed);
+      within = c.head_of.ensures.within;
     }

@@ -6,7 +6,6 @@ use Rattle.clru_nodes.specs.Chained.{IsChained}
 use Rattle.clru_nodes.specs.Heads.{head_by, place_in, key_at, home_at}
 use Rattle.clru_nodes.specs.Nodes.{hash_by}
 use Rattle.clru_nodes.specs.declared.nodes.Item.{Item}
-use Rattle.clru_nodes.proofs.Indexed.{head_within}
 use Rattle.clru_nodes.proofs.IndexedMoves.{chained_push}
 use Rattle.clru_nodes.proofs.Placed.{none_at_start}
 use Rattle.clru_nodes.proofs.nodes.Nodes.push_front.Goals as goal
@@ -16,13 +15,13 @@ append-requires-clause-home g c =
     let x = c.args.self.now in let es = c.push_front.new.self.entries in let p = c.in-Ok.place in
     let item : Item g.row.K.Denot g.row.V.Denot = record { key = c.args.key; value = c.args.value } in
     let held : item_at p es ≡ Some item = ap (λ l. item_at p l) c.in-Ok.ensures.entries ∙ rw (eq-eqb p p refl) refl in
-    let is = c.head_of-head.ensures in
+    let is = c.head_of-head.ensures.head in
     record {
       item = item;
       held = held;
       home = sym (is ∙ ap (λ n. head_by (length x.heads.items) n) c.requires.hash);
       off = λ e. none_at_start c.push_front.new.self c.in-Ok.ensures.valid (item, subst (λ q. item_at q es ≡ Some item) e held);
-      within = rw is (head_within (length x.heads.items) c.args.hash (omega (arith, c.requires.ready, c.requires.indexed.reserved, c.requires.indexed.linked, c.requires.indexed.headed)));
+      within = c.head_of-head.ensures.within;
     }
 
 pub append-requires-clause-chained : goal.append-requires-clause-chained

@@ -5,7 +5,6 @@ use Rattle.clru_list.specs.PlaceList.{item_at, without, IsApart, IsValid}
 use Rattle.clru_nodes.specs.Heads.{head_by, home_at}
 use Rattle.clru_nodes.specs.Nodes.{hash_by, pair_of, pairs_of}
 use Rattle.clru_nodes.specs.declared.nodes.Item.{Item}
-use Rattle.clru_nodes.proofs.Indexed.{head_within}
 use Rattle.clru_nodes.proofs.IndexedMoves.{chained_replace, indexed_from}
 use Rattle.clru_nodes.proofs.Placed.{length-without_held}
 use Rattle.clru_nodes.proofs.Same.{size_trans}
@@ -34,7 +33,7 @@ pub append-requires-clause-home : goal.append-requires-clause-home
 append-requires-clause-home g c =
     let u = c.unchain.new.self in let p = c.in-Some.place in
     let hash = hash_by g.S.Hasher.Hasher.finish g.S.Hasher.Hasher.write g.S.BuildHasher.build_hasher g.K.Hash.hash_input in
-    let h = c.home-old_head.ensures.home in let is = c.head_of-head.ensures in let same = c.unchain.ensures.same in
+    let h = c.home-old_head.ensures.home in let is = c.head_of-head.ensures.head in let same = c.unchain.ensures.same in
     let key : c.replace-old.new.dest.key ≡ c.args.key = ap (λ (i : Item g.row.K.Denot g.row.V.Denot). i.key) c.replace-old.ensures.after in
     record {
       item = c.replace-old.new.dest;
@@ -42,7 +41,7 @@ append-requires-clause-home g c =
       home = sym (is ∙ ap (λ n. head_by (length u.heads.items) n) (c.requires.hash ∙ ap (λ b. hash b c.args.key) (sym same.builder)
           ∙ ap (λ k. hash u.hash_builder k) (sym key)));
       off = h.off;
-      within = rw is (head_within (length u.heads.items) c.args.hash (omega (arith, h.within, same.heads.heads)));
+      within = c.head_of-head.ensures.within;
     }
 
 pub append-requires-clause-chained : goal.append-requires-clause-chained

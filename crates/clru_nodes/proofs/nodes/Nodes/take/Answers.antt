@@ -2,7 +2,7 @@ use Rattle.std.proofs.Common.{◌≡◌, Some, length, arith, sym, ap, ◌∙◌
 use Rattle.clru_list.specs.PlaceList.{item_at}
 use Rattle.clru_nodes.specs.Heads.{head_by}
 use Rattle.clru_nodes.specs.Nodes.{pairs_of}
-use Rattle.clru_nodes.proofs.Indexed.{head_within, same_hash}
+use Rattle.clru_nodes.proofs.Indexed.{same_hash}
 use Rattle.clru_nodes.proofs.Placed.{none_at_start}
 use Rattle.clru_nodes.proofs.PlaceEnds.{some_live}
 use Rattle.clru_nodes.proofs.PlacedPairs.{found_item, none_removed}
@@ -21,7 +21,7 @@ pub remove-requires-clause-home : goal.remove-requires-clause-home
 remove-requires-clause-home g c =
     let x = c.args.self.now in let es = x.list.entries in let p = c.in_ok-place.place in
     let at = c.in_ok-place.ensures.found in
-    let is = c.head_of-head.ensures in
+    let is = c.head_of-head.ensures.head in
     let live = some_live p es (at.item, at.held) in
     record {
       item = at.item;
@@ -29,7 +29,7 @@ remove-requires-clause-home g c =
       home = sym (is ∙ ap (λ n. head_by (length x.heads.items) n) (c.requires.hash ∙ same_hash g.S.Hasher.Hasher.finish g.S.Hasher.Hasher.write
           g.S.BuildHasher.build_hasher g.K.Hash.hash_input x.hash_builder (g.met.K.Hash.respects_eq c.args.key.now at.item.key at.same)));
       off = λ e. none_at_start x.list c.find.ensures.valid (at.item, subst (λ q. item_at q es ≡ Some at.item) e at.held);
-      within = rw is (head_within (length x.heads.items) c.args.hash (omega (arith, live, c.requires.indexed.held, c.requires.indexed.reserved, c.requires.indexed.linked, c.requires.indexed.headed)));
+      within = c.head_of-head.ensures.within;
     }
 
 pub returns-clause-pair : goal.returns-clause-pair
