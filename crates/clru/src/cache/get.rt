@@ -32,7 +32,11 @@ where
     {
         let hash = self.pairs.nodes.hash(key);
         if self.pairs.nodes.touch(hash, key) {
-            return Some(self.pairs.nodes.front()?.1);
+            // A pair is in front now, so this test costs nothing.
+            let Some(pair) = self.pairs.nodes.front() else {
+                unreachable!()
+            };
+            return Some(pair.1);
         }
         None
     }

@@ -1,5 +1,8 @@
-use Rattle.std.proofs.Common.{refl}
+use Rattle.std.proofs.Common.{◌≡◌, None, slice_get, refl, sym, ap, ◌∙◌}
+use Rattle.std.specs.Map.Iter.{deref_pair}
 use Rattle.std.specs.NonZero.{non_zero_usize_get}
+use Rattle.std.specs.Option.{option_map}
+use Rattle.clru_nodes.specs.Nodes.{pairs_in}
 use Rattle.clru_model.proofs.Finding.{held, first_touched}
 use Rattle.clru.specs.Cache.{cache}
 use Rattle.clru.proofs.Keeping.{IsCache-touch}
@@ -9,20 +12,18 @@ pub invariant_of-self : goal.invariant_of-self
 invariant_of-self g c =
     let e = c.touch.ensures in IsCache-touch g.W.WeightScale.weight c.args.key.now g.met.K.Eq.laws c.self.invariant e.pairs e.indexed e.same
 
-pub returns-in_err-front : goal.returns-in_err-front
-returns-in_err-front g c =
-    let f = c.self.inside in let e = c.touch.ensures in let eq = g.K.PartialEq.eq in let key = c.args.key.now in
-    rw (c.from_residual.ensures, ← c.self.view_is) (
-      (refl, λ _. tt, λ i. cache (e.pairs i) (non_zero_usize_get f.capacity) f.pairs.scale (e.same.places i)),
-      record { touches = tt; value = first_touched eq key (held (eq key) c.if-touch.ensures.held) e.pairs c.in_err-front.ensures },
-    )
+pub unreachable-requires : goal.unreachable-requires
+unreachable-requires g c =
+    let e = c.touch.ensures in let eq = g.K.PartialEq.eq in let key = c.args.key.now in let h = held (eq key) c.if-touch.ensures.held in
+    let none : None ≡ slice_get (pairs_in c.touch.new.self) 0 = sym (ap (option_map deref_pair) c.in_default.is) ∙ c.front.ensures in
+    let no = first_touched eq key h e.pairs none ∙ h.value in cc
 
 pub returns-then-touch : goal.returns-then-touch
 returns-then-touch g c =
     let f = c.self.inside in let e = c.touch.ensures in let eq = g.K.PartialEq.eq in let key = c.args.key.now in
     rw (← c.self.view_is) (
       (refl, λ _. tt, λ i. cache (e.pairs i) (non_zero_usize_get f.capacity) f.pairs.scale (e.same.places i)),
-      record { touches = tt; value = first_touched eq key (held (eq key) c.if-touch.ensures.held) e.pairs c.in_ok-front.ensures },
+      record { touches = tt; value = first_touched eq key (held (eq key) c.if-touch.ensures.held) e.pairs c.in-Some.ensures },
     )
 
 pub invariant_of-self-else-touch : goal.invariant_of-self-else-touch
