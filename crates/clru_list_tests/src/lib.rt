@@ -7,6 +7,8 @@ pub mod callers;
 #[cfg(test)]
 mod entries;
 #[cfg(test)]
+mod limited;
+#[cfg(test)]
 mod owned;
 #[cfg(test)]
 mod refusals;

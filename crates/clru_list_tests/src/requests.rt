@@ -8,13 +8,13 @@ use std::test::Fail;
 
 #[test]
 fn makers_ask_for_what_they_reserve_at_once(rt: HostRuntime) {
-    // A place of a number takes 32 bytes.
+    // A place of a number takes 24 bytes.
     let rows = [
         (9, 0, 0, 0),
-        (9, 1, 1, 32),
-        (9, 5, 1, 160),
-        (9, usize::MAX, 1, 288),
-        (1 << 40, 2_000_001, 1, 64_000_032),
+        (9, 1, 1, 24),
+        (9, 5, 1, 120),
+        (9, usize::MAX, 1, 216),
+        (1 << 40, 2_000_001, 1, 48_000_024),
     ];
     for (capacity, reserve, asked, bytes) in rows {
         let heap = Rationed::new(rt.alloc());

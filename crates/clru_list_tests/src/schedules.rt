@@ -3,7 +3,7 @@
 use crate::entries::has;
 use assertions::equal;
 use clru_list::FixedSizeList;
-use std::alloc::{Allocator, Global};
+use std::alloc::Allocator;
 use std::process::Abort;
 use std::test::Fail;
 
@@ -14,9 +14,9 @@ fn drawn(seed: u64) -> u64 {
 }
 
 /// A list, and the vector of its entries, front first.
-struct Twins<A: Allocator + Copy> {
-    list: FixedSizeList<u64, A>,
-    entries: Vec<(usize, u64), A>,
+pub(crate) struct Twins<A: Allocator + Copy> {
+    pub(crate) list: FixedSizeList<u64, A>,
+    pub(crate) entries: Vec<(usize, u64)>,
 }
 
 impl<A: Allocator + Copy> Drop for Twins<A> {
@@ -28,7 +28,7 @@ impl<A: Allocator + Copy> Drop for Twins<A> {
 }
 
 /// Pushes an item, to the front or to the back.
-fn push<A: Allocator + Copy>(
+pub(crate) fn push<A: Allocator + Copy>(
     rt: &impl Abort,
     twins: &mut Twins<A>,
     to_front: bool,
@@ -75,21 +75,21 @@ fn visit<A: Allocator + Copy>(
     Ok(())
 }
 
-fn run(rt: &impl Abort, alloc: Global, steps: u64) -> Result<(), &'static str> {
-    let list = FixedSizeList::new(alloc, 40);
-    let mut twins = Twins {
-        list,
-        entries: Vec::new(alloc),
-    };
+/// Does so many drawn steps to both.
+pub(crate) fn run<A: Allocator + Copy>(
+    rt: &impl Abort,
+    twins: &mut Twins<A>,
+    steps: u64,
+) -> Result<(), &'static str> {
     let mut seed = 1;
     for step in 0..steps {
         seed = drawn(seed);
         let number = seed >> 33;
         match (seed >> 20) % 8 {
-            0 | 1 => push(rt, &mut twins, true, step)?,
-            2 | 3 => push(rt, &mut twins, false, step)?,
-            4 | 5 => visit(rt, &mut twins, false, number)?,
-            _ => visit(rt, &mut twins, true, number)?,
+            0 | 1 => push(rt, twins, true, step)?,
+            2 | 3 => push(rt, twins, false, step)?,
+            4 | 5 => visit(rt, twins, false, number)?,
+            _ => visit(rt, twins, true, number)?,
         }
         equal!(rt; twins.list.len(), twins.entries.len());
         if step % 100 == 0 {
@@ -102,6 +102,10 @@ fn run(rt: &impl Abort, alloc: Global, steps: u64) -> Result<(), &'static str> {
 
 #[test]
 fn a_list_does_what_a_vector_does(rt: HostRuntime) -> Result<(), Fail> {
-    run(&rt, rt.alloc(), 100_000)?;
+    let mut twins = Twins {
+        list: FixedSizeList::new(rt.alloc(), 40),
+        entries: Vec::new(rt.alloc()),
+    };
+    run(&rt, &mut twins, 100_000)?;
     Ok(())
 }
