@@ -37,10 +37,10 @@ impl Pairs {
     fn put(&mut self, key: usize, value: usize) -> Result<Weighing<usize, usize>, AllocError> {
         let replaced = self.take(key);
         self.list.insert(0, (key, value))?;
-        let (dropped, last) = self.shrink();
+        let (drop_count, last) = self.shrink();
         Ok(Weighing {
             replaced,
-            dropped,
+            drop_count,
             last,
         })
     }

@@ -72,7 +72,7 @@ module _ {K V W : Type 0} where
       weighs = let drops = weighted_drops eq weight old.capacity x v old.entries in
           record {
             replaced = lookup (eq x) old.entries;
-            dropped = length drops;
+            drop_count = length drops;
             last = slice_get drops (length drops - 1);
           }
 

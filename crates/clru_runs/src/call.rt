@@ -118,7 +118,7 @@ pub struct Weighing<K, V> {
     pub replaced: Option<V>,
 
     /// How many pairs were handed out.
-    pub dropped: usize,
+    pub drop_count: usize,
 
     /// The pair that was handed out last.
     pub last: Option<(K, V)>,
@@ -127,11 +127,11 @@ pub struct Weighing<K, V> {
 impl<K: Drop, V: Drop> Weighing<K, V> {
     /// Notes one more pair that was handed out.
     pub(crate) fn take(&mut self, key: K, value: V)
-        requires { self.old.dropped + 1 < 2 ^ 64 }
-        ensures dropped { self.new.dropped ≡ self.old.dropped + 1 }
+        requires { self.old.drop_count + 1 < 2 ^ 64 }
+        ensures drop_count { self.new.drop_count ≡ self.old.drop_count + 1 }
         ensures last { self.new.last ≡ Some (key, value) }
     {
-        self.dropped += 1;
+        self.drop_count += 1;
         self.last = Some((key, value));
     }
 }

@@ -143,12 +143,12 @@ fn put_with_weight<
     let _len = cache.len();
     let mut weighing = Weighing {
         replaced: None,
-        dropped: 0,
+        drop_count: 0,
         last: None,
     };
     let mut note = |key, value|
-        requires { weighing.dropped + 1 < 2 ^ 64 }
-        ensures dropped { weighing.exit.dropped ≡ weighing.entry.dropped + 1 }
+        requires { weighing.drop_count + 1 < 2 ^ 64 }
+        ensures drop_count { weighing.exit.drop_count ≡ weighing.entry.drop_count + 1 }
         ensures last { weighing.exit.last ≡ Some (key, value) }
     {
         weighing.take(key, value);

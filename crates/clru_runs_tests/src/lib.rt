@@ -15,10 +15,10 @@ macro_rules! stored {
 /// The answer of a weighted put: what it replaced, how many pairs it dropped, and the last of them.
 #[cfg(test)]
 macro_rules! weighed {
-    ($replaced:expr, $dropped:expr, $last:expr) => {
+    ($replaced:expr, $drop_count:expr, $last:expr) => {
         clru_runs::Answer::Weighed(Ok(clru_runs::Weighing {
             replaced: $replaced,
-            dropped: $dropped,
+            drop_count: $drop_count,
             last: $last,
         }))
     };
