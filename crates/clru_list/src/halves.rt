@@ -65,6 +65,8 @@ pub(crate) fn clear_upper<A: Allocator>(upper: &mut Vec<Upper, A>, place: usize)
 }
 
 /// Adds upper halves that are 0, up to so many places.
+#[cold]
+#[inline(never)]
 pub(crate) fn widen<A: Allocator>(upper: &mut Vec<Upper, A>, places: usize) -> Result<(), NoMemory>
     ensures next { upper_next upper.new ≡ upper_next upper.old }
     ensures prev { upper_prev upper.new ≡ upper_prev upper.old }
