@@ -189,12 +189,6 @@ module _ {T A : Type 0} where
           (sym (put-same (upper_next c.upper) at 0 (upper_next-past c.upper at none))) (sym (put-same (upper_prev c.upper) at 0 (upper_prev-past c.upper at none)))
           ∙ (λ i. record { next = put (next_of c) at (is_next i); prev = put (prev_of c) at (is_prev i); item = item i; free = c.free; size = vec_len c.nodes })
 
-      pub node_next-narrow : next_of c at ≡ place_by n.next 0
-      node_next-narrow = node_next c at n long ne h ∙ ap (place_by n.next) (upper_next-past c.upper at none)
-
-      pub node_prev-narrow : prev_of c at ≡ place_by n.prev 0
-      node_prev-narrow = node_prev c at n long ne h ∙ ap (place_by n.prev) (upper_prev-past c.upper at none)
-
     -- and where there are
     module _ (u : Upper) (wide : at < vec_len c.upper) (d : u ≡ get_or c.upper.items at u) where
       upper_next-read : upper_next c.upper at ≡ u.next
@@ -218,12 +212,6 @@ module _ {T A : Type 0} where
           links_of-set_prev (with_item c.upper at (record u { prev = upper })) lower upper to
           (column-set (λ m. m.prev) 0 c.upper.items at (record u { prev = upper }) (omega (arith, c.upper.ok.0)))
           (column-set (λ m. m.next) 0 c.upper.items at (record u { prev = upper }) (omega (arith, c.upper.ok.0)) ∙ put-same (upper_next c.upper) at u.next upper_next-read) is
-
-      pub node_next-wide : next_of c at ≡ place_by n.next u.next
-      node_next-wide = node_next c at n long ne h ∙ ap (place_by n.next) upper_next-read
-
-      pub node_prev-wide : prev_of c at ≡ place_by n.prev u.prev
-      node_prev-wide = node_prev c at n long ne h ∙ ap (place_by n.prev) upper_prev-read
 
   -- other memory for the same nodes, and upper halves that are 0
   pub links_of-moved : (c : Links T A) (v : Vec (Node T) A) (w : Vec Upper A) → v.items ≡ c.nodes.items → vec_len v ≡ vec_len c.nodes

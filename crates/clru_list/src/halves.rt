@@ -1,4 +1,5 @@
-//! A link in two halves of 4 bytes each. The upper halves stand apart, and only where the places may be more than lower ones name.
+//! A link in two halves of 4 bytes each. The upper halves stand apart, and only where there may be more places than lower
+//! ones name.
 ghost use Rattle.std.specs.Prelude.{◌≡◌, ◌⊎◌, ◌<◌, ◌≤◌, max, vec_len, IfOk, IsOk};
 ghost use Rattle.clru_list.specs.Halves.{upper_next, upper_prev};
 ghost use Rattle.clru_list.specs.Places.{nowhere, narrow, place_by, put};
@@ -65,6 +66,8 @@ pub(crate) fn clear_upper<A: Allocator>(upper: &mut Vec<Upper, A>, place: usize)
 }
 
 /// Adds upper halves that are 0, up to so many places.
+#[cold]
+#[inline(never)]
 pub(crate) fn widen<A: Allocator>(upper: &mut Vec<Upper, A>, places: usize) -> Result<(), NoMemory>
     ensures next { upper_next upper.new ≡ upper_next upper.old }
     ensures prev { upper_prev upper.new ≡ upper_prev upper.old }

@@ -1,6 +1,5 @@
-use Rattle.std.proofs.Common.{arith, sym}
-use Rattle.clru_list.proofs.Puts.{put-same}
-use Rattle.clru_list.proofs.NodeLemmas.{column-set, upper_next-past, upper_prev-past}
+use Rattle.std.proofs.Common.{arith}
+use Rattle.clru_list.proofs.NodeLemmas.{column-set}
 use Rattle.clru_list.proofs.halves.clear_upper.Goals as goal
 
 pub returns-then-place-len-clause-next : goal.returns-then-place-len-clause-next

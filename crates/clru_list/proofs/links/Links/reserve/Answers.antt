@@ -1,4 +1,3 @@
-use Rattle.std.proofs.Common.{refl}
 use Rattle.clru_list.proofs.NodeLemmas.{links_of-moved}
 use Rattle.clru_list.proofs.links.Links.reserve.Goals as goal
 
