@@ -1,7 +1,7 @@
 -- Private: what heads are seen as. No public clause cites it.
 use Rattle.std.specs.Prelude.{◌≡◌, ℕ, ◌+◌, ◌-◌, ◌*◌, ◌^◌, ◌<◌, ◌≤◌, ◌==◌, if◌then◌else◌, List, map, length, take, drop, refl}
 use Rattle.std.specs.Coded.{Coded, code_by, coded×, coded_list, coded_ℕ}
-use Rattle.clru_list.specs.Places.{nowhere}
+use Rattle.clru_list.specs.Places.{nowhere, narrow}
 use Rattle.clru_nodes.specs.declared.heads.words.Words.{Words}
 use Rattle.clru_nodes.specs.declared.heads.words.Words.TheVariants.{Narrow, Wide}
 
@@ -18,13 +18,9 @@ abbrev pub head_list_code : Coded HeadList
 head_list_code = code_by (List ℕ × (List ℕ × ℕ)) (coded× (coded_list coded_ℕ) (coded× (coded_list coded_ℕ) coded_ℕ))
     (λ h. (h.items, (h.links, h.bound))) (λ p. head_list p.0 p.1.0 p.1.1) (λ _. refl)
 
--- the places that 4 bytes can name are those below
-abbrev pub narrow : ℕ
-narrow = 4294967295
-
 -- a number is one more than its place, and 0 leads nowhere
-abbrev pub place_by : ℕ → ℕ
-place_by n = if n == 0 then nowhere else n - 1
+abbrev pub place_numbered : ℕ → ℕ
+place_numbered n = if n == 0 then nowhere else n - 1
 
 module _ {A : Type 0} where
   abbrev pub numbers_in : Words A → List ℕ
@@ -38,7 +34,7 @@ module _ {A : Type 0} where
   -- the first `size` numbers are those of heads, and the others those of links
   abbrev pub list_of : Words A → ℕ → HeadList
   list_of words size =
-      head_list (map place_by (take size (numbers_in words))) (map place_by (drop size (numbers_in words))) (bound_of words)
+      head_list (map place_numbered (take size (numbers_in words))) (map place_numbered (drop size (numbers_in words))) (bound_of words)
 
   -- there are so many heads, and each place with a link can be named
   pub record IsWorded (words : Words A) (size : ℕ) : Type 0 where

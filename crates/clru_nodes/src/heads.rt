@@ -2,8 +2,8 @@
 //! or 8 where the places may be more than those name, or more than a limit that the maker set.
 ghost use Rattle.std.specs.Prelude.{◌≡◌, ℕ, ◌+◌, ◌*◌, ◌^◌, ◌<◌, ◌≤◌, [], Some, length, replicate, set, IfOk, IfSome, IfNone, IsOk};
 ghost use Rattle.std.specs.Int.{IsNextPowerOfTwo};
-ghost use Rattle.clru_list.specs.Places.{nowhere};
-ghost use Rattle.clru_nodes.specs.HeadList.{head_list, narrow, place_by};
+ghost use Rattle.clru_list.specs.Places.{nowhere, narrow};
+ghost use Rattle.clru_nodes.specs.HeadList.{head_list, place_numbered};
 ghost use Rattle.clru_nodes.specs.Heads.{place_in, head_by, HasLink, IsNamed};
 
 use crate::heads::words::Words;
@@ -167,13 +167,13 @@ fn heads_for(places: usize) -> Option<usize>
 }
 
 fn place_of(number: usize) -> usize
-    ensures { result ≡ place_by number }
+    ensures { result ≡ place_numbered number }
 {
     number.wrapping_sub(1)
 }
 
 fn number_of(place: usize) -> usize
-    ensures place { place_by result ≡ place }
+    ensures place { place_numbered result ≡ place }
     ensures small { (place ≡ nowhere → ⊥) → result ≡ place + 1 }
     ensures none { place ≡ nowhere → result ≡ 0 }
 {

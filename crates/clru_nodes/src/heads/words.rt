@@ -1,7 +1,7 @@
 //! Numbers of 4 bytes each, or of 8: each is one more than a place, or 0 where there is none.
 ghost use Rattle.std.specs.Prelude.{◌≡◌, ◌^◌, ◌<◌, ◌≤◌, length, replicate, set, slice_index_or, if◌then◌else◌, IfOk};
-ghost use Rattle.clru_nodes.specs.HeadList.{narrow, numbers_in, bound_of};
-ghost use Rattle.clru_list.specs.Places.{nowhere};
+ghost use Rattle.clru_list.specs.Places.{nowhere, narrow};
+ghost use Rattle.clru_nodes.specs.HeadList.{numbers_in, bound_of};
 
 use crate::heads::NARROW;
 use clru_list::NoMemory;
