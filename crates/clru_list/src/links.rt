@@ -216,6 +216,7 @@ impl<T, A: Allocator> Links<T, A> {
     }
 
     /// Has the neighbours of a place name each other.
+    #[inline(always)]
     pub(crate) fn unlink(&mut self, place: usize)
         requires place { place < vec_len self.old.nodes }
         requires prev { IsEnd (links_of self.old) ((links_of self.old).prev place) }
@@ -231,6 +232,7 @@ impl<T, A: Allocator> Links<T, A> {
     }
 
     /// Puts a place between two neighbours.
+    #[inline(always)]
     pub(crate) fn link(&mut self, prev: usize, place: usize, next: usize)
         requires place { place < vec_len self.old.nodes }
         requires prev { IsEnd (links_of self.old) prev }
@@ -246,6 +248,7 @@ impl<T, A: Allocator> Links<T, A> {
     }
 
     /// Moves a place that is not the first one to the front.
+    #[inline(always)]
     pub(crate) fn bring_front(&mut self, place: usize)
         requires place { place < vec_len self.old.nodes }
         requires prev { (links_of self.old).prev place < vec_len self.old.nodes }
@@ -332,6 +335,7 @@ impl<T, A: Allocator> Links<T, A> {
     }
 
     /// Takes the item out of a place, if one is there.
+    #[inline(always)]
     pub(crate) fn take(&mut self, place: usize) -> Option<T>
         ensures value { result ≡ (links_of self.old).item place }
         ensures links { links_of self.new ≡ set_item (links_of self.old) place None }
@@ -344,6 +348,7 @@ impl<T, A: Allocator> Links<T, A> {
     }
 
     /// Makes a place the first free one.
+    #[inline(always)]
     pub(crate) fn release(&mut self, place: usize)
         requires place { place < vec_len self.old.nodes }
         requires end { IsEnd (links_of self.old) self.old.free }
@@ -357,6 +362,7 @@ impl<T, A: Allocator> Links<T, A> {
     }
 
     /// Stores an item in the first free place, or in a new one where none is free.
+    #[inline(always)]
     pub(crate) fn occupy(&mut self, item: T) -> usize
         requires end { IsEnd (links_of self.old) self.old.free }
         requires free { (links_of self.old).item self.old.free ≡ None }
@@ -372,6 +378,7 @@ impl<T, A: Allocator> Links<T, A> {
         }
     }
 
+    #[inline(always)]
     fn append(&mut self, item: T) -> usize
         requires { vec_len self.old.nodes < room_of self.old }
         ensures place { result ≡ vec_len self.old.nodes }
@@ -388,6 +395,7 @@ impl<T, A: Allocator> Links<T, A> {
         place
     }
 
+    #[inline(always)]
     fn fill(&mut self, item: T) -> usize
         requires place { self.old.free < vec_len self.old.nodes }
         requires free { (links_of self.old).item self.old.free ≡ None }

@@ -122,7 +122,7 @@ impl<K: Eq + Hash, V, S: BuildHasher, A: Allocator + Copy> Nodes<K, V, S, A> {
     }
 
     /// Returns the place of the pair with the key, whose hash is given.
-    #[inline]
+    #[inline(always)]
     fn find(&self, hash: u64, key: &K) -> Option<usize>
         requires hash { hash ≡ hash_of K.Hash S.BuildHasher S.Hasher.Hasher self.now.hash_builder key.now }
         requires indexed { IsIndexed (hash_of K.Hash S.BuildHasher S.Hasher.Hasher) self.now }

@@ -25,6 +25,7 @@ where
     /// let key = page.to_string(alloc)?;
     /// Ok(looks.get(&key).copied())
     /// ```
+    #[inline]
     pub fn get(&mut self, key: &K) -> Option<&V>
         ensures* touches { sem 𝓛 (ends_with K.row V.row S.row W.row A.row S.Hasher.row K.Hash S.BuildHasher
             S.Hasher.Hasher W.WeightScale A.Allocator self.entry (touch K.eq key.now self.old.entries)) }

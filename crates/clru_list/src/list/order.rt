@@ -44,6 +44,7 @@ impl<T, A: Allocator + Copy> FixedSizeList<T, A> {
 
     /// Moves the item at a place to the front, where it keeps its place, and returns it for writing. Where none is there,
     /// nothing changes.
+    #[inline(always)]
     pub fn move_front(&mut self, place: usize) -> Option<&mut T>
         ensures* lends { sem 𝓛 (lends_moved T.row A.row A.Allocator self.entry place result) }
         ensures value { option_copied_mut result ≡ item_at place self.old.entries }
@@ -57,6 +58,7 @@ impl<T, A: Allocator + Copy> FixedSizeList<T, A> {
     }
 
     /// Moves the item at a place, where one is, to the front. It keeps its place; where it is first already, nothing is written.
+    #[inline(always)]
     pub fn bring_front(&mut self, place: usize)
         requires { IsSome (item_at place self.old.entries) }
         ensures moved { self.new ≡ with_entries self.old (to_front place self.old.entries) }

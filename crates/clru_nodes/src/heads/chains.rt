@@ -9,6 +9,7 @@ use std::alloc::Allocator;
 
 impl<A: Allocator + Copy> Heads<A> {
     /// Has a place of a chain, or its start, lead to another place.
+    #[inline(always)]
     pub(crate) fn link(&mut self, head: usize, at: usize, to: usize)
         requires head { at ≡ nowhere → head < length self.old.items }
         requires place { (at ≡ nowhere → ⊥) → HasLink self.old at }
@@ -25,6 +26,7 @@ impl<A: Allocator + Copy> Heads<A> {
     }
 
     /// The place in the chain that leads to the given one, or the last place for `NOWHERE`. At the start it is `NOWHERE`.
+    #[inline(always)]
     pub(crate) fn before(&self, head: usize, place: usize) -> usize
         requires head { head < length self.now.items }
         requires walk { IsWalk (steps_in self.now head) (HasLink self.now) (IsPlace place)

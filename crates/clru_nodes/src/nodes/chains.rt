@@ -11,6 +11,7 @@ use std::hash::{BuildHasher, Hash};
 
 impl<K: Eq + Hash, V, S: BuildHasher, A: Allocator + Copy> Nodes<K, V, S, A> {
     /// Puts a place to the end of the chain of its key's head.
+    #[inline(always)]
     pub(crate) fn append(&mut self, head: usize, place: usize)
         requires home { HasHome (hash_of K.Hash S.BuildHasher S.Hasher.Hasher) head place self.old }
         requires chained { IsChainedBut (hash_of K.Hash S.BuildHasher S.Hasher.Hasher) place self.old }
@@ -28,6 +29,7 @@ impl<K: Eq + Hash, V, S: BuildHasher, A: Allocator + Copy> Nodes<K, V, S, A> {
     }
 
     /// Takes a place out of the chain of its key's head.
+    #[inline(always)]
     pub(crate) fn unchain(&mut self, head: usize, place: usize)
         requires home { HasHome (hash_of K.Hash S.BuildHasher S.Hasher.Hasher) head place self.old }
         requires chained { IsChainedAs (hash_of K.Hash S.BuildHasher S.Hasher.Hasher)

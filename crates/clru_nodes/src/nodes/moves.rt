@@ -15,6 +15,7 @@ use std::mem;
 
 impl<K: Eq + Hash, V, S: BuildHasher, A: Allocator + Copy> Nodes<K, V, S, A> {
     /// Moves the pair with the key, whose hash is given, to the front, and answers whether there is one.
+    #[inline(always)]
     pub fn touch(&mut self, hash: u64, key: &K) -> bool
         requires hash { hash ≡ hash_of K.Hash S.BuildHasher S.Hasher.Hasher (builder_of self.old) key.now }
         requires indexed { IsIndexed (hash_of K.Hash S.BuildHasher S.Hasher.Hasher) self.old }
@@ -32,6 +33,7 @@ impl<K: Eq + Hash, V, S: BuildHasher, A: Allocator + Copy> Nodes<K, V, S, A> {
     }
 
     /// Takes out the pair with the key, whose hash is given.
+    #[inline(always)]
     pub fn take(&mut self, hash: u64, key: &K) -> Option<(K, V)>
         requires hash { hash ≡ hash_of K.Hash S.BuildHasher S.Hasher.Hasher (builder_of self.old) key.now }
         requires indexed { IsIndexed (hash_of K.Hash S.BuildHasher S.Hasher.Hasher) self.old }
@@ -87,6 +89,7 @@ impl<K: Eq + Hash, V, S: BuildHasher, A: Allocator + Copy> Nodes<K, V, S, A> {
     }
 
     /// Puts a pair with a new key, whose hash is given, to the front, where a place is ready.
+    #[inline(always)]
     pub fn push_front(&mut self, hash: u64, key: K, value: V)
         requires hash { hash ≡ hash_of K.Hash S.BuildHasher S.Hasher.Hasher (builder_of self.old) key }
         requires indexed { IsIndexed (hash_of K.Hash S.BuildHasher S.Hasher.Hasher) self.old }
@@ -107,6 +110,7 @@ impl<K: Eq + Hash, V, S: BuildHasher, A: Allocator + Copy> Nodes<K, V, S, A> {
     }
 
     /// Puts a pair with a new key, whose hash is given, to the front, in the place of the last pair, which comes out.
+    #[inline(always)]
     pub fn replace_back(&mut self, hash: u64, key: K, value: V) -> (K, V)
         requires hash { hash ≡ hash_of K.Hash S.BuildHasher S.Hasher.Hasher (builder_of self.old) key }
         requires indexed { IsIndexed (hash_of K.Hash S.BuildHasher S.Hasher.Hasher) self.old }
@@ -132,6 +136,7 @@ impl<K: Eq + Hash, V, S: BuildHasher, A: Allocator + Copy> Nodes<K, V, S, A> {
 
     /// Puts a pair with a new key, whose hash is given, to the front, and answers which pair went. Where the list is full,
     /// the last pair goes and gives its place; else a place is ready.
+    #[inline(always)]
     pub fn put_front(&mut self, hash: u64, key: K, value: V) -> Option<(K, V)>
         requires hash { hash ≡ hash_of K.Hash S.BuildHasher S.Hasher.Hasher (builder_of self.old) key }
         requires indexed { IsIndexed (hash_of K.Hash S.BuildHasher S.Hasher.Hasher) self.old }
@@ -164,6 +169,7 @@ impl<K: Eq + Hash, V, S: BuildHasher, A: Allocator + Copy> Nodes<K, V, S, A> {
     }
 
     /// Takes out the pair at a place, where the head of its key is given.
+    #[inline(always)]
     pub(crate) fn remove(&mut self, head: usize, place: usize) -> (K, V)
         requires home { HasHome (hash_of K.Hash S.BuildHasher S.Hasher.Hasher) head place self.old }
         requires valid { IsValid self.old.list }
