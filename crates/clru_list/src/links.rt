@@ -414,6 +414,8 @@ impl<T, A: Allocator> Links<T, A> {
     }
 
     /// Finds memory for so many places, and names for them. Lower halves alone name at most `limit` places.
+    #[cold]
+    #[inline(never)]
     pub(crate) fn reserve(&mut self, places: usize, limit: usize) -> Result<(), NoMemory>
         requires { vec_len self.old.nodes ≤ places }
         ensures links { links_of self.new ≡ links_of self.old }

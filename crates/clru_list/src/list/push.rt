@@ -11,7 +11,7 @@ use std::alloc::Allocator;
 impl<T, A: Allocator + Copy> FixedSizeList<T, A> {
     /// Finds memory for one more item, where the length is below the capacity and each place is taken. The places grow to
     /// four times as many, up to the capacity.
-    #[inline]
+    #[inline(always)]
     pub fn make_ready(&mut self) -> Result<(), NoMemory>
         ensures entries { self.new.entries ≡ self.old.entries }
         ensures ready { OnOk result (length self.old.entries < self.old.capacity
@@ -48,7 +48,7 @@ impl<T, A: Allocator + Copy> FixedSizeList<T, A> {
     /// Puts an item to the front, and returns its place: one that was free, or a new one.
     ///
     /// A full list refuses it, and so does one that finds no memory; then the item comes back.
-    #[inline]
+    #[inline(always)]
     pub fn push_front(&mut self, item: T) -> Result<usize, PushError<T>>
         ensures entries { IfOk result (λ place. self.new.entries ≡ (place, item) ∷ self.old.entries) }
         ensures refused { IfErr result (Refuses self.old item) }
@@ -85,7 +85,7 @@ impl<T, A: Allocator + Copy> FixedSizeList<T, A> {
     }
 
     /// Finds room for an item, and gives it back.
-    #[inline]
+    #[inline(always)]
     fn admit(&mut self, item: T) -> Result<T, PushError<T>>
         ensures item { IfOk result (λ x. x ≡ item) }
         ensures room { OnOk result (length self.new.entries < self.new.places) }
