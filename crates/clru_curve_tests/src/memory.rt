@@ -46,7 +46,7 @@ fn a_refused_request_changes_nothing(rt: HostRuntime) -> Result<(), Fail> {
     Ok(())
 }
 
-/// Places and heads are at most twice as many as the keys need. A node takes 32 bytes, and a place has four heads and a link
+/// Places and heads are at most twice as many as the keys need. A node takes 32 bytes, and a place has two heads and a link
 /// of 4 bytes; beside them stand the histogram, and the bits with their tree.
 #[test]
 fn places_and_heads_double(rt: HostRuntime) -> Result<(), Fail> {
@@ -55,6 +55,6 @@ fn places_and_heads_double(rt: HostRuntime) -> Result<(), Fail> {
     for key in 0..5_000u64 {
         equal!(rt; pass.request(key).is_ok(), true, key);
     }
-    equal!(rt; heap.held_bytes(), 8_192 * (32 + 5 * 4) + 8_192 * 8 + 128 * (8 + 8));
+    equal!(rt; heap.held_bytes(), 8_192 * (32 + 3 * 4) + 8_192 * 8 + 128 * (8 + 8));
     Ok(())
 }

@@ -13,8 +13,8 @@ pub const REQUESTS: u64 = 2;
 /// key and the mark.
 pub const PLACE_BYTES: u64 = 32;
 
-/// The bytes of a head with its part of the links, of which there is one for four heads.
-pub const HEAD_BYTES: u64 = 5;
+/// The bytes of a head with its part of the links, of which there is one for two heads.
+pub const HEAD_BYTES: u64 = 6;
 
 /// How many new keys go in before one is refused or the first one goes, where each request is refused.
 pub fn free_places<S: BuildHasher>(

@@ -82,15 +82,15 @@ fn a_refused_growth_leaves_each_key_in_its_place(rt: HostRuntime) -> Result<(), 
 fn places_and_heads_grow_fourfold(rt: HostRuntime) -> Result<(), Fail> {
     // The number of entries that go in, the places and heads that are held then, and the growths.
     let rows = [
-        (1000, 1, 4, 16, 1),
-        (1000, 4, 4, 16, 1),
-        (1000, 5, 16, 64, 2),
-        (1000, 17, 64, 256, 3),
-        (1000, 256, 256, 1024, 4),
-        (1000, 257, 1000, 4096, 5),
-        (1000, 3000, 1000, 4096, 5),
-        (1 << 40, 100_000, 262_144, 1_048_576, 9),
-        (1 << 62, 100_000, 262_144, 1_048_576, 9),
+        (1000, 1, 4, 8, 1),
+        (1000, 4, 4, 8, 1),
+        (1000, 5, 16, 32, 2),
+        (1000, 17, 64, 128, 3),
+        (1000, 256, 256, 512, 4),
+        (1000, 257, 1000, 2048, 5),
+        (1000, 3000, 1000, 2048, 5),
+        (1 << 40, 100_000, 262_144, 524_288, 9),
+        (1 << 62, 100_000, 262_144, 524_288, 9),
     ];
     for (capacity, end, places, heads, growths) in rows {
         let heap = Rationed::new(rt.alloc());

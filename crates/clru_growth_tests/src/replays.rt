@@ -78,9 +78,9 @@ fn replays_cost_what_their_rows_say(rt: HostRuntime) -> Result<(), Fail> {
 #[test]
 fn a_replay_compares_few_keys(rt: HostRuntime) -> Result<(), Fail> {
     let rows = [
-        (1000, 1000, 1, 87, 1000),
-        (1000, 1000, 10, 9870, 10_000),
-        (100, 1000, 1, 121, 1900),
+        (1000, 1000, 1, 211, 1000),
+        (1000, 1000, 10, 11_110, 10_000),
+        (100, 1000, 1, 263, 1900),
     ];
     for (capacity, distinct, rounds, compared, hashed) in rows {
         let counts = Counts::new(rt.alloc());
@@ -100,14 +100,14 @@ fn a_replay_compares_few_keys(rt: HostRuntime) -> Result<(), Fail> {
 #[test]
 fn a_replay_asks_for_its_places_and_its_marks(rt: HostRuntime) -> Result<(), Fail> {
     let rows = [
-        (10, 10, 10u64, 10, 64, 10u64),
-        (10, 10, 20_000, 10, 64, 10),
-        (8, 10, 20_000, 8, 32, 20_000),
-        (9, 10, 20_000, 9, 64, 20_000),
-        (20_000, 10, 10, 10, 64, 10),
-        (20_000, 10, 20_000, 20_000, 131_072, 10),
-        (usize::MAX, 10, 20_000, 20_000, 131_072, 10),
-        (usize::MAX, 2, 3, 3, 16, 2),
+        (10, 10, 10u64, 10, 32, 10u64),
+        (10, 10, 20_000, 10, 32, 10),
+        (8, 10, 20_000, 8, 16, 20_000),
+        (9, 10, 20_000, 9, 32, 20_000),
+        (20_000, 10, 10, 10, 32, 10),
+        (20_000, 10, 20_000, 20_000, 65_536, 10),
+        (usize::MAX, 10, 20_000, 20_000, 65_536, 10),
+        (usize::MAX, 2, 3, 3, 8, 2),
     ];
     for (capacity, distinct, count, places, heads, misses) in rows {
         let heap = Rationed::new(rt.alloc());

@@ -70,7 +70,7 @@ impl<A: Allocator + Copy> Heads<A> {
         let Some(size) = heads_for(places) else {
             return Err(NoMemory);
         };
-        let links = size / 4;
+        let links = size / 2;
         let Some(len) = size.checked_add(links) else {
             return Err(NoMemory);
         };
@@ -152,18 +152,18 @@ impl<A: Allocator + Copy> Heads<A> {
     }
 }
 
-/// The number of heads for so many places: the least power of two that is at least four times as many. There is none where it
+/// The number of heads for so many places: the least power of two that is at least twice as many. There is none where it
 /// passes what can be counted.
 fn heads_for(places: usize) -> Option<usize>
-    ensures least { 0 < places → IfSome result (IsNextPowerOfTwo (places * 4)) }
-    ensures enough { IfSome result (λ n. places * 4 ≤ n) }
+    ensures least { 0 < places → IfSome result (IsNextPowerOfTwo (places * 2)) }
+    ensures enough { IfSome result (λ n. places * 2 ≤ n) }
     ensures none { places ≡ 0 → result ≡ Some 0 }
     ensures countable { IfNone result (2 ^ 61 < places) }
 {
     if places == 0 {
         return Some(0);
     }
-    places.checked_mul(4)?.checked_next_power_of_two()
+    places.checked_mul(2)?.checked_next_power_of_two()
 }
 
 fn place_of(number: usize) -> usize

@@ -21,10 +21,10 @@ const PLACES_600: u64 = 19200;
 
 const WIDE_600: u64 = 24000;
 
-/// The words of so many places: four heads for each and one link, by the next power of two.
-const WORDS_200: u64 = 1280;
+/// The words of so many places: two heads for each and one link, by the next power of two.
+const WORDS_200: u64 = 768;
 
-const WORDS_600: u64 = 5120;
+const WORDS_600: u64 = 3072;
 
 /// Puts new keys in, and looks at all pairs at each sixteenth and at the end. At most `capacity` pairs stay.
 fn fills(

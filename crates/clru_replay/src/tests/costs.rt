@@ -46,7 +46,7 @@ fn ran(
 // The bytes of a place of the cache, and of a head with its part of the links.
 const PLACE: u64 = 40;
 
-const HEAD: u64 = 5;
+const HEAD: u64 = 6;
 
 #[test]
 fn a_run_asks_for_what_its_input_needs(rt: HostRuntime) -> Result<(), Fail> {
@@ -55,12 +55,12 @@ fn a_run_asks_for_what_its_input_needs(rt: HostRuntime) -> Result<(), Fail> {
         large.extend_from_slice(b"\na")?;
     }
     // Room for the input, the keys, places, heads and marks, the report, and its last line.
-    let small = 65_536 + 4 * 16 + 2 * PLACE + 8 * HEAD + 4 + (8 + 17) + (8 + 16);
+    let small = 65_536 + 4 * 16 + 2 * PLACE + 4 * HEAD + 4 + (8 + 17) + (8 + 16);
     // Input, keys and report double from 65,536, 4 and 8: six, 19 and 19 times.
     let input = 65_536 * 63;
     let keys = 16 * 4 * 524_287;
     let report = 8 * 524_287;
-    let most = input + keys + PLACE + 4 * HEAD + 600_000 + report + (8 + 16);
+    let most = input + keys + PLACE + 2 * HEAD + 600_000 + report + (8 + 16);
     let offers = [
         65_536, 65_536, 131_072, 262_144, 524_288, 1_048_576, 897_151,
     ];
