@@ -25,7 +25,7 @@ pub struct Node<T> {
 #[derive(Drop)]
 pub struct Links<T, A: Allocator> {
     pub(crate) nodes: Vec<Node<T>, A>,
-    // None are there as long as the lower halves name each place; else those of each place that the list may use.
+    // None are there where lower halves serve; else those of each place that the list may use.
     pub(crate) upper: Vec<Upper, A>,
     pub(crate) front: usize,
     pub(crate) back: usize,

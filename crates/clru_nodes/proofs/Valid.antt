@@ -1,5 +1,5 @@
 -- What keeps a list valid: an item that is written, one that is taken out, and one that comes first.
-use Rattle.std.proofs.Common.{◌≡◌, ℕ, ◌==◌, Some, None, List, [], ◌∷◌, length, refl, sym, ap, ◌∙◌, arith, inl, inr}
+use Rattle.std.proofs.Common.{◌≡◌, ℕ, ◌==◌, Some, List, [], ◌∷◌, refl, ap, ◌∙◌, arith, inl, inr}
 use Rattle.std.proofs.lemmas.Bool.{cases_eq, eq-eqb, ne_eqb}
 use Rattle.std.proofs.lemmas.Map.{keys-set_value, length-set_value}
 use Rattle.clru_list.specs.Places.{count}

@@ -1,5 +1,5 @@
 -- Items of nodes: which pairs they are, and what the nodes keep when another value is written to one.
-use Rattle.std.proofs.Common.{◌≡◌, ℕ, ◌-◌, ◌≤◌, Bool, Option, Some, List, [], ◌∷◌, map, length, slice_get, refl, sym, ap, ◌∙◌, arith}
+use Rattle.std.proofs.Common.{◌≡◌, ℕ, ◌-◌, ◌≤◌, Bool, Option, Some, List, [], ◌∷◌, map, length, slice_get, sym, ap, ◌∙◌, arith}
 use Rattle.std.specs.Map.{keys_of, set_value}
 use Rattle.std.specs.Option.{option_map}
 use Rattle.clru_model.specs.Entries.{with_value_at, with_front}

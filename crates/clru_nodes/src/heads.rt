@@ -28,7 +28,7 @@ pub(crate) struct Heads<A: Allocator + Copy> {
     words: Words<A>,
     // How many heads there are.
     size: usize,
-    // A place takes 4 bytes only where the places are no more. A test sets it low, to reach the wide form.
+    // Heads for more places have 8 bytes for each. A test sets it low, to reach that form.
     limit: usize,
 }
 
@@ -90,8 +90,8 @@ impl<A: Allocator + Copy> Heads<A> {
     }
 
     /// How many places have a link: those below.
-    pub(crate) fn reach(&self) -> usize
-        ensures reach { result ≡ length self.now.links }
+    pub(crate) fn link_count(&self) -> usize
+        ensures count { result ≡ length self.now.links }
         ensures named { length self.now.links ≤ self.now.bound }
     {
         self.words.len() - self.size
@@ -113,7 +113,7 @@ impl<A: Allocator + Copy> Heads<A> {
         ensures named { IsNamed self.now result }
         ensures countable { length self.now.links < nowhere }
     {
-        place_of(self.words.get(head))
+        place_numbered(self.words.get(head))
     }
 
     /// The place that a place is linked to.
@@ -122,11 +122,11 @@ impl<A: Allocator + Copy> Heads<A> {
         ensures place { result ≡ place_in self.now.links place }
         ensures named { IsNamed self.now result }
     {
-        place_of(self.words.get(self.size + place))
+        place_numbered(self.words.get(self.size + place))
     }
 
     /// Has a head lead to a place, or nowhere.
-    pub(crate) fn lead(&mut self, head: usize, to: usize)
+    pub(crate) fn set_first(&mut self, head: usize, to: usize)
         requires head { head < length self.old.items }
         requires named { IsNamed self.old to }
         ensures { self.new ≡ head_list (set self.old.items head to) self.old.links self.old.bound }
@@ -135,7 +135,7 @@ impl<A: Allocator + Copy> Heads<A> {
     }
 
     /// Links a place to a place, or to none.
-    pub(crate) fn follow(&mut self, place: usize, to: usize)
+    pub(crate) fn set_next(&mut self, place: usize, to: usize)
         requires place { HasLink self.old place }
         requires named { IsNamed self.old to }
         ensures { self.new ≡ head_list self.old.items (set self.old.links place to) self.old.bound }
@@ -155,18 +155,15 @@ impl<A: Allocator + Copy> Heads<A> {
 /// The number of heads for so many places: the least power of two that is at least twice as many. There is none where it
 /// passes what can be counted.
 fn heads_for(places: usize) -> Option<usize>
-    ensures least { 0 < places → IfSome result (IsNextPowerOfTwo (places * 2)) }
+    requires { 0 < places }
+    ensures least { IfSome result (IsNextPowerOfTwo (places * 2)) }
     ensures enough { IfSome result (λ n. places * 2 ≤ n) }
-    ensures none { places ≡ 0 → result ≡ Some 0 }
     ensures countable { IfNone result (2 ^ 61 < places) }
 {
-    if places == 0 {
-        return Some(0);
-    }
     places.checked_mul(2)?.checked_next_power_of_two()
 }
 
-fn place_of(number: usize) -> usize
+fn place_numbered(number: usize) -> usize
     ensures { result ≡ place_numbered number }
 {
     number.wrapping_sub(1)

@@ -14,7 +14,7 @@ use clru_list::FixedSizeList;
 use std::alloc::Allocator;
 use std::hash::{BuildHasher, Hash};
 
-mod chains;
+mod chaining;
 mod front;
 mod growth;
 mod moves;
@@ -48,8 +48,8 @@ impl<K: Eq + Hash, V, S: BuildHasher, A: Allocator + Copy> Nodes<K, V, S, A> {
         Nodes::with_narrow_places(alloc, capacity, hash_builder, NARROW)
     }
 
-    /// Does the same, and list and index have 4 bytes for a place only as long as the places are at most `limit`, and 8 from then
-    /// on. Without a limit that is so at 2^31 places or more, where no test comes. A limit past 2^32 - 1 changes nothing.
+    /// Does the same, and what list and index find for more than `limit` places has 8 bytes for each place, and 4 else. Without a
+    /// limit that is so past 2^31 places, where no test comes. A limit past 2^32 - 1 changes nothing.
     pub fn with_narrow_places(alloc: A, capacity: usize, hash_builder: S, limit: usize) -> Self
         ensures empty { IsEmpty capacity 0 result }
         ensures builder { builder_of result ≡ hash_builder }

@@ -12,7 +12,7 @@ use std::test::Fail;
 /// Places of 4 bytes as far as one byte names them.
 const LIMIT: usize = 255;
 
-/// The bytes of so many places, each of four words, for a key and a value of eight bytes, and where they are wide of one more.
+/// The bytes of so many places, each of four times 8, for a key and a value of 8, and where they are wide of 8 more.
 const PLACES_200: u64 = 6400;
 
 const WIDE_200: u64 = 8000;
@@ -21,7 +21,7 @@ const PLACES_600: u64 = 19200;
 
 const WIDE_600: u64 = 24000;
 
-/// The words of so many places: two heads for each and one link, by the next power of two.
+/// The numbers of so many places: two heads for each and one link, by the next power of two.
 const WORDS_200: u64 = 768;
 
 const WORDS_600: u64 = 3072;
@@ -88,7 +88,11 @@ fn nodes_answer_alike_on_both_sides_of_the_limit(rt: HostRuntime) -> Result<(), 
         (LIMIT, PLACES_200 + WORDS_200 * 4, WIDE_600 + WORDS_600 * 8),
         (0, WIDE_200 + WORDS_200 * 8, WIDE_600 + WORDS_600 * 8),
         (600, PLACES_200 + WORDS_200 * 4, PLACES_600 + WORDS_600 * 4),
-        (usize::MAX, PLACES_200 + WORDS_200 * 4, PLACES_600 + WORDS_600 * 4),
+        (
+            usize::MAX,
+            PLACES_200 + WORDS_200 * 4,
+            PLACES_600 + WORDS_600 * 4,
+        ),
     ];
     for (limit, narrow, wide) in rows {
         let heap = Rationed::new(rt.alloc());

@@ -19,9 +19,9 @@ impl<A: Allocator + Copy> Heads<A> {
         ensures same { IsSameSize self.old self.new }
     {
         if at == NOWHERE {
-            self.lead(head, to);
+            self.set_first(head, to);
         } else {
-            self.follow(at, to);
+            self.set_next(at, to);
         }
     }
 

@@ -3,7 +3,6 @@ ghost use Rattle.std.specs.Prelude.{◌≡◌, ◌^◌, ◌<◌, ◌≤◌, leng
 ghost use Rattle.clru_list.specs.Places.{nowhere, narrow};
 ghost use Rattle.clru_nodes.specs.HeadList.{numbers_in, bound_of};
 
-use crate::heads::NARROW;
 use clru_list::NoMemory;
 use std::alloc::Allocator;
 
@@ -38,16 +37,6 @@ impl<A: Allocator + Copy> Words<A> {
         match self {
             Words::Narrow(words) => words.len(),
             Words::Wide(words) => words.len(),
-        }
-    }
-
-    /// How many places the numbers can name: those below.
-    pub(crate) fn bound(&self) -> usize
-        ensures { result ≡ bound_of self.now }
-    {
-        match self {
-            Words::Narrow(_) => NARROW,
-            Words::Wide(_) => usize::MAX,
         }
     }
 

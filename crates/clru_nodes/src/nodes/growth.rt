@@ -50,7 +50,7 @@ impl<K: Eq + Hash, V, S: BuildHasher, A: Allocator + Copy> Nodes<K, V, S, A> {
         let places = grown.min(self.list.capacity());
         self.make_heads(places)?;
         self.list.make_ready()?;
-        // The list may have places past the capacity, from a time when that was larger.
+        // The list says that its places are within the capacity only where they grow.
         self.places = self.list.places().min(self.list.capacity());
         Ok(())
     }
@@ -64,7 +64,7 @@ impl<K: Eq + Hash, V, S: BuildHasher, A: Allocator + Copy> Nodes<K, V, S, A> {
         ensures indexed { IsIndexed (hash_of K.Hash S.BuildHasher S.Hasher.Hasher) self.new }
         ensures keeps { KeepsPlaces self.old self.new }
     {
-        if places <= self.heads.reach() {
+        if places <= self.heads.link_count() {
             return Ok(());
         }
         self.heads = self.heads.another(places)?;

@@ -1,4 +1,4 @@
-use Rattle.std.proofs.Common.{◌≡◌, sym, ◌∙◌, subst, arith, length, ◌<◌}
+use Rattle.std.proofs.Common.{sym, ◌∙◌, subst, arith, length, ◌<◌}
 use Rattle.clru_list.specs.Places.{nowhere}
 use Rattle.clru_nodes.specs.Chained.{IsPlace, steps_left}
 use Rattle.clru_nodes.specs.Heads.{place_in, steps_in, HasLink}

@@ -2,7 +2,7 @@ use Rattle.std.proofs.Common.{◌≡◌, ◌<◌, None, length, refl, sym, ap, �
 use Rattle.std.proofs.lemmas.List.{length-set, get_or-set_same}
 use Rattle.clru_list.specs.Places.{nowhere, put}
 use Rattle.clru_nodes.specs.Chained.{IsChained, IsPlace}
-use Rattle.clru_nodes.specs.Heads.{key_at, home_at, place_in, HasLink}
+use Rattle.clru_nodes.specs.Heads.{key_at, home_at, place_in}
 use Rattle.clru_nodes.specs.Nodes.{hash_by}
 use Rattle.clru_list.proofs.Puts.{put-here, put-other}
 use Rattle.clru_nodes.proofs.Chaining.{chained_insert}
@@ -11,8 +11,8 @@ use Rattle.clru_nodes.proofs.Indexed.{walk_of_chain, live_at_cut, live_but, chai
 use Rattle.clru_nodes.proofs.Placed.{live_below}
 use Rattle.clru_nodes.proofs.nodes.Nodes.append.Goals as goal
 
-pub follow-requires-clause-place : goal.follow-requires-clause-place
-follow-requires-clause-place g c =
+pub set_next-requires-clause-place : goal.set_next-requires-clause-place
+set_next-requires-clause-place g c =
     let h = c.requires.home in
     omega (arith, live_below c.args.self.now.list c.requires.valid c.args.place (h.item, h.held), c.requires.linked)
 
@@ -21,7 +21,7 @@ before-last-requires-clause-walk g c =
     let x = c.args.self.now in let es = x.list.entries in let p = c.args.place in let home = c.requires.home in
     let within : p < length x.heads.links = omega (arith, live_below x.list c.requires.valid p (home.item, home.held), c.requires.linked) in
     let hash = hash_by g.S.Hasher.Hasher.finish g.S.Hasher.Hasher.write g.S.BuildHasher.build_hasher g.K.Hash.hash_input in
-    let same = c.follow.ensures in
+    let same = c.set_next.ensures in
     let links = ap (λ h. length h.links) same ∙ length-set x.heads.links p nowhere in
     let chained = subst (λ h. IsChained (home_at hash x) (place_in h.items) (place_in h.links) (put (key_at es) p None)) (sym same)
     (chained_apart (home_at hash x) x.heads.links p nowhere (key_at es) within c.requires.chained) in
@@ -34,7 +34,7 @@ link-requires-clause-place g c =
     let x = c.args.self.now in let es = x.list.entries in let p = c.args.place in let home = c.requires.home in
     let within : p < length x.heads.links = omega (arith, live_below x.list c.requires.valid p (home.item, home.held), c.requires.linked) in
     let hash = hash_by g.S.Hasher.Hasher.finish g.S.Hasher.Hasher.write g.S.BuildHasher.build_hasher g.K.Hash.hash_input in
-    let same = c.follow.ensures in
+    let same = c.set_next.ensures in
     let links = ap (λ h. length h.links) same ∙ length-set x.heads.links p nowhere in
     let chained = subst (λ h. IsChained (home_at hash x) (place_in h.items) (place_in h.links) (put (key_at es) p None)) (sym same)
     (chained_apart (home_at hash x) x.heads.links p nowhere (key_at es) within c.requires.chained) in
@@ -53,7 +53,7 @@ link-requires-clause-named g c =
       arith,
       live_below x.list c.requires.valid c.args.place (home.item, home.held),
       c.requires.named,
-      ap (λ h. h.bound) c.follow.ensures,
+      ap (λ h. h.bound) c.set_next.ensures,
     ))
 
 pub returns-clause-chained : goal.returns-clause-chained
@@ -61,7 +61,7 @@ returns-clause-chained g c =
     let x = c.args.self.now in let es = x.list.entries in let p = c.args.place in let home = c.requires.home in
     let within : p < length x.heads.links = omega (arith, live_below x.list c.requires.valid p (home.item, home.held), c.requires.linked) in
     let hash = hash_by g.S.Hasher.Hasher.finish g.S.Hasher.Hasher.write g.S.BuildHasher.build_hasher g.K.Hash.hash_input in
-    let same = c.follow.ensures in let h = c.follow.new.self in let y = c.link.new.self in
+    let same = c.set_next.ensures in let h = c.set_next.new.self in let y = c.link.new.self in
     let chained = subst (λ h. IsChained (home_at hash x) (place_in h.items) (place_in h.links) (put (key_at es) p None)) (sym same)
     (chained_apart (home_at hash x) x.heads.links p nowhere (key_at es) within c.requires.chained) in
     let ends : place_in h.links p ≡ nowhere = ap (λ l. place_in l.links p) same ∙ get_or-set_same x.heads.links p nowhere nowhere within in

@@ -1,4 +1,4 @@
-use Rattle.std.proofs.Common.{◌≡◌, ℕ, ◌≤◌, length, arith, sym, ap, subst, inl, inr}
+use Rattle.std.proofs.Common.{ℕ, ◌≤◌, length, arith, sym, ap, subst, inl, inr}
 use Rattle.std.proofs.lemmas.Bool.{cases_eq}
 use Rattle.clru_nodes.specs.Chained.{IsChained}
 use Rattle.clru_nodes.specs.Heads.{key_at, home_at, place_in}
@@ -13,16 +13,16 @@ returns-clause-indexed g c =
     -- the list has no more places than it had, or than heads were found for
     let reach : (b : ℕ) → c.min-places.result ≤ b → x.list.places ≤ b → l.places ≤ b = λ b grown before. elim (cases_eq x.list.places (length x.list.entries)) [
       | inl full ↦ omega (
-          arith,
-          e.reach,
-          e.places.capacity,
-          e.places.bounded (omega (arith, c.requires.below, ap (λ m. length m.entries) list, ap (λ m. m.capacity) list), full),
-          ap (λ m. m.places) list,
-          ap (λ m. m.capacity) list,
-          grown,
-          c.places.ensures.places,
-          c.capacity.ensures.capacity,
-        )
+        arith,
+        e.reach,
+        e.places.capacity,
+        e.places.bounded (omega (arith, c.requires.below, ap (λ m. length m.entries) list, ap (λ m. m.capacity) list), full),
+        ap (λ m. m.places) list,
+        ap (λ m. m.capacity) list,
+        grown,
+        c.places.ensures.places,
+        c.capacity.ensures.capacity,
+      )
       | inr free ↦ omega (arith, e.places.stays (λ needs. free needs.1), before)
     ] in
     record {

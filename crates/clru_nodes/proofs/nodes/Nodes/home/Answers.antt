@@ -1,4 +1,4 @@
-use Rattle.std.proofs.Common.{◌≡◌, Some, length, arith, sym, ap, ◌∙◌, subst}
+use Rattle.std.proofs.Common.{◌≡◌, Some, length, sym, ap, ◌∙◌, subst}
 use Rattle.clru_list.specs.PlaceList.{item_at}
 use Rattle.clru_nodes.specs.Heads.{head_by}
 use Rattle.clru_nodes.proofs.Placed.{none_at_start}

@@ -9,15 +9,15 @@ returns-clause-indexed g c =
       held = omega (arith, ap (λ l. length l.entries) list, same.places, old.held);
       reserved = omega (arith, ap (λ l. l.places) list, same.places, old.reserved);
       headed = omega (arith, same.heads.heads, same.heads.links, new.headed);
-      linked = omega (arith, ap (λ l. l.places) list, same.heads.links, new.linked, c.if-places-reach.false, c.reach.ensures.reach, old.linked);
+      linked = omega (arith, ap (λ l. l.places) list, same.heads.links, new.linked, c.if-places-link_count.false, c.link_count.ensures.count, old.linked);
       named = omega (
         arith,
         ap (λ l. l.places) list,
         same.heads.bound,
         new.linked,
         new.named,
-        c.if-places-reach.false,
-        c.reach.ensures.reach,
+        c.if-places-link_count.false,
+        c.link_count.ensures.count,
         old.linked,
       );
     }

@@ -1,7 +1,7 @@
-use Rattle.std.proofs.Common.{◌≡◌, Some, None, length, arith, refl, sym, ap, ◌∙◌, subst}
+use Rattle.std.proofs.Common.{◌≡◌, Some, None, length, refl, sym, ap, ◌∙◌, subst}
 use Rattle.std.proofs.lemmas.Bool.{eq-eqb}
 use Rattle.clru_list.specs.PlaceList.{item_at, IsApart}
-use Rattle.clru_list.specs.Places.{nowhere, put}
+use Rattle.clru_list.specs.Places.{put}
 use Rattle.clru_nodes.specs.Chained.{IsChained}
 use Rattle.clru_nodes.specs.Heads.{head_by, place_in, key_at, home_at}
 use Rattle.clru_nodes.specs.Nodes.{hash_by}

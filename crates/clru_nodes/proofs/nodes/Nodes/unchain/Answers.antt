@@ -1,5 +1,5 @@
-use Rattle.std.proofs.Common.{◌≡◌, None, refl, sym, ap, ◌∙◌, subst, arith}
-use Rattle.clru_list.specs.Places.{nowhere, put}
+use Rattle.std.proofs.Common.{None, refl, sym, ◌∙◌, subst, arith}
+use Rattle.clru_list.specs.Places.{put}
 use Rattle.clru_nodes.specs.Chained.{IsPlace, IsRelinked}
 use Rattle.clru_nodes.specs.Heads.{key_at, home_at, place_in}
 use Rattle.clru_nodes.specs.Nodes.{hash_by}

@@ -1,8 +1,8 @@
-use Rattle.std.proofs.Common.{◌≡◌, ◌<◌, length, map, take, drop, set, ap, ◌∙◌, arith}
+use Rattle.std.proofs.Common.{◌<◌, length, map, take, drop, set, ap, ◌∙◌, arith}
 use Rattle.std.proofs.lemmas.List.{length-map, length-take}
 use Rattle.clru_nodes.specs.HeadList.{numbers_in, place_numbered}
 use Rattle.clru_nodes.proofs.HeadLists.{head_written, links_stay}
-use Rattle.clru_nodes.proofs.heads.Heads.lead.Goals as goal
+use Rattle.clru_nodes.proofs.heads.Heads.set_first.Goals as goal
 
 pub returns : goal.returns
 returns g c =

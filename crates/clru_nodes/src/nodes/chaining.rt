@@ -23,7 +23,7 @@ impl<K: Eq + Hash, V, S: BuildHasher, A: Allocator + Copy> Nodes<K, V, S, A> {
         ensures list { self.new.list ≡ self.old.list }
         ensures same { IsSame self.old self.new }
     {
-        self.heads.follow(place, NOWHERE);
+        self.heads.set_next(place, NOWHERE);
         let last = self.heads.before(head, NOWHERE);
         self.heads.link(head, last, place);
     }

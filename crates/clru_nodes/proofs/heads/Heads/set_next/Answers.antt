@@ -1,7 +1,7 @@
-use Rattle.std.proofs.Common.{◌≡◌, ◌+◌, map, take, drop, set, ap, ◌∙◌}
+use Rattle.std.proofs.Common.{map, take, drop, set, ap, ◌∙◌}
 use Rattle.clru_nodes.specs.HeadList.{numbers_in, place_numbered}
 use Rattle.clru_nodes.proofs.HeadLists.{link_written, heads_stay}
-use Rattle.clru_nodes.proofs.heads.Heads.follow.Goals as goal
+use Rattle.clru_nodes.proofs.heads.Heads.set_next.Goals as goal
 
 pub returns : goal.returns
 returns g c =
