@@ -6,16 +6,15 @@ use std::test::Fail;
 
 #[test]
 fn a_touched_pair_comes_first(rt: HostRuntime) -> Result<(), Fail> {
-    for (key, is_held, pairs) in [
-        (3, true, [(3, 30), (2, 20), (1, 10)]),
-        (2, true, [(2, 20), (3, 30), (1, 10)]),
-        (1, true, [(1, 10), (3, 30), (2, 20)]),
-        (4, false, [(3, 30), (2, 20), (1, 10)]),
-    ] {
-        let mut nodes = three(rt.alloc())?;
-        equal!(rt; nodes.touch(nodes.hash(&key), &key), is_held, key);
-        finds(&rt, &nodes, &pairs);
-    }
+    let mut nodes = three(rt.alloc())?;
+    equal!(rt; nodes.touch(nodes.hash(&3), &3), true);
+    finds(&rt, &nodes, &[(3, 30), (2, 20), (1, 10)]);
+    equal!(rt; nodes.touch(nodes.hash(&2), &2), true);
+    finds(&rt, &nodes, &[(2, 20), (3, 30), (1, 10)]);
+    equal!(rt; nodes.touch(nodes.hash(&1), &1), true);
+    finds(&rt, &nodes, &[(1, 10), (2, 20), (3, 30)]);
+    equal!(rt; nodes.touch(nodes.hash(&4), &4), false);
+    finds(&rt, &nodes, &[(1, 10), (2, 20), (3, 30)]);
     Ok(())
 }
 
