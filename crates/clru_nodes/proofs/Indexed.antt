@@ -98,12 +98,11 @@ free-replicate n h heads same =
 
 module _ {K V S A H : Type 0} (hash : S → K → ℕ) (x : Nodes K V S A H) where
   -- with no pair all chains are empty
-  pub indexed_none : x.list.entries ≡ [] → ((h : ℕ) → place_in x.heads.items h ≡ nowhere) → x.places ≤ x.list.places
+  pub indexed_none : x.list.entries ≡ [] → ((h : ℕ) → place_in x.heads.items h ≡ nowhere)
       → length x.heads.links ≤ length x.heads.items → x.list.places ≤ length x.heads.links → x.list.places ≤ x.heads.bound → IsIndexed hash x
-  indexed_none none free reserved headed linked named = record {
+  indexed_none none free headed linked named = record {
     chained = chained_none (home_at hash x) (place_in x.heads.items) (place_in x.heads.links) (key_at x.list.entries) free (λ q off. rw none refl);
     held = rw none (omega arith);
-    reserved = reserved;
     headed = headed;
     linked = linked;
     named = named;

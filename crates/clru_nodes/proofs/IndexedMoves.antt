@@ -78,19 +78,17 @@ module _ {K V S A H : Type 0} {hash : S → K → ℕ} {x y : Nodes K V S A H} w
   indexed_from old same chained fewer = record {
     chained = chained;
     held = omega (arith, same.places, old.held);
-    reserved = omega (arith, same.places, same.placed, old.reserved);
     headed = omega (arith, same.heads.heads, same.heads.links, old.headed);
-    linked = omega (arith, same.placed, same.heads.links, old.linked);
-    named = omega (arith, same.placed, same.heads.bound, old.named);
+    linked = omega (arith, same.places, same.heads.links, old.linked);
+    named = omega (arith, same.places, same.heads.bound, old.named);
   }
 
 -- other entries, and all else as it was
 pub same_nodes : {K V S A H : Type 0} {x : Nodes K V S A H} {es : List (ℕ × Item K V)} → IsSame x (record x { list = with_entries x.list es })
 same_nodes = record {
   capacity = refl;
-  placed = refl;
-  builder = refl;
   places = refl;
+  builder = refl;
   heads = record { heads = refl; links = refl; bound = refl };
 }
 

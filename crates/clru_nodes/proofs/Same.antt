@@ -14,14 +14,13 @@ pub size_trans : {h i j : HeadList} → IsSameSize h i → IsSameSize i j → Is
 size_trans a b = record { heads = b.heads ∙ a.heads; links = b.links ∙ a.links; bound = b.bound ∙ a.bound }
 
 pub same_refl : {K V S A H : Type 0} {x : Nodes K V S A H} → IsSame x x
-same_refl = record { capacity = refl; placed = refl; builder = refl; places = refl; heads = size_refl }
+same_refl = record { capacity = refl; places = refl; builder = refl; heads = size_refl }
 
 pub same_trans : {K V S A H : Type 0} {x y z : Nodes K V S A H} → IsSame x y → IsSame y z → IsSame x z
 same_trans a b = record {
   capacity = b.capacity ∙ a.capacity;
-  placed = b.placed ∙ a.placed;
-  builder = b.builder ∙ a.builder;
   places = b.places ∙ a.places;
+  builder = b.builder ∙ a.builder;
   heads = size_trans a.heads b.heads;
 }
 

@@ -94,4 +94,3 @@ module _ {K V S A H : Type 0} where
   pub record KeepsPlaces (old new : Nodes K V S A H) : Type 0 where
     pub list : new.list ≡ old.list
     pub builder : new.hash_builder ≡ old.hash_builder
-    pub places : new.places ≡ old.places

@@ -42,7 +42,7 @@ module _ {K V S A H : Type 0} where
 
   -- for how many pairs they have memory
   abbrev pub places_of : Nodes K V S A H → ℕ
-  places_of x = x.places
+  places_of x = x.list.places
 
   abbrev pub builder_of : Nodes K V S A H → S
   builder_of x = x.hash_builder
@@ -80,8 +80,7 @@ module _ {K V S A H : Type 0} where
   -- what holds between the calls: each key is found by its hash, each pair has memory, and each place has a link and a name
   pub record IsIndexed (hash : S → K → ℕ) (x : Nodes K V S A H) : Type 0 where
     pub chained : IsChainedAs hash (key_at x.list.entries) x
-    pub held : length x.list.entries ≤ x.places
-    pub reserved : x.places ≤ x.list.places
+    pub held : length x.list.entries ≤ x.list.places
     pub headed : length x.heads.links ≤ length x.heads.items
     pub linked : x.list.places ≤ length x.heads.links
     pub named : x.list.places ≤ x.heads.bound
@@ -89,9 +88,8 @@ module _ {K V S A H : Type 0} where
   -- all but the chains, the pairs and their order is as it was
   pub record IsSame (old new : Nodes K V S A H) : Type 0 where
     pub capacity : capacity_of new ≡ capacity_of old
-    pub placed : new.list.places ≡ old.list.places
-    pub builder : builder_of new ≡ builder_of old
     pub places : places_of new ≡ places_of old
+    pub builder : builder_of new ≡ builder_of old
     pub heads : IsSameSize old.heads new.heads
 
   -- no pair is held, the capacity is c, and memory was found for p pairs

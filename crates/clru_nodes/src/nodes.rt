@@ -34,8 +34,6 @@ pub struct Nodes<K: Eq + Hash, V, S: BuildHasher, A: Allocator + Copy> {
     list: FixedSizeList<Item<K, V>, A>,
     heads: Heads<A>,
     hash_builder: S,
-    // For how many pairs both the list and the heads have memory: a growth of which one half was refused changes nothing.
-    places: usize,
 }
 
 impl<K: Eq + Hash, V, S: BuildHasher, A: Allocator + Copy> Nodes<K, V, S, A> {
@@ -59,7 +57,6 @@ impl<K: Eq + Hash, V, S: BuildHasher, A: Allocator + Copy> Nodes<K, V, S, A> {
             list: FixedSizeList::with_narrow_places(alloc, capacity, limit),
             heads: Heads::new(alloc, limit),
             hash_builder,
-            places: 0,
         }
     }
 
@@ -90,7 +87,6 @@ impl<K: Eq + Hash, V, S: BuildHasher, A: Allocator + Copy> Nodes<K, V, S, A> {
             list,
             heads,
             hash_builder,
-            places,
         })
     }
 

@@ -26,7 +26,7 @@ impl<K: Eq + Hash, V, S: BuildHasher, A: Allocator + Copy> Nodes<K, V, S, A> {
         ensures indexed { IsIndexed (hash_of K.Hash S.BuildHasher S.Hasher.Hasher) self.new }
         ensures keeps { KeepsPairs self.old self.new }
     {
-        if self.list.is_full() || self.list.len() < self.places {
+        if self.list.is_full() || self.list.len() < self.list.places() {
             return Ok(());
         }
         self.grow()
@@ -49,10 +49,7 @@ impl<K: Eq + Hash, V, S: BuildHasher, A: Allocator + Copy> Nodes<K, V, S, A> {
         let grown = self.list.places().saturating_mul(4).max(4);
         let places = grown.min(self.list.capacity());
         self.make_heads(places)?;
-        self.list.make_ready()?;
-        // The list says that its places are within the capacity only where they grow.
-        self.places = self.list.places().min(self.list.capacity());
-        Ok(())
+        self.list.make_ready()
     }
 
     /// Finds memory for the heads of so many places, and chains all keys anew, unless there are as many.

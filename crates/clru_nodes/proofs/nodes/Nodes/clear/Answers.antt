@@ -12,5 +12,5 @@ returns-clause-indexed g c =
     let items = ap (λ l. length l.items) heads in let links = ap (λ l. length l.links) heads in
     let n = length-replicate (length x.heads.items) nowhere in let m = length-replicate (length x.heads.links) nowhere in
     indexed_none hash _ (ap (λ l. l.entries) list) (λ h. free-replicate (length x.heads.items) h _ (ap (λ l. l.items) heads))
-    (omega (arith, ap (λ l. l.places) list, old.reserved)) (omega (arith, items, links, n, m, old.headed))
+    (omega (arith, items, links, n, m, old.headed))
     (omega (arith, ap (λ l. l.places) list, links, m, old.linked)) (omega (arith, ap (λ l. l.places) list, ap (λ l. l.bound) heads, old.named))

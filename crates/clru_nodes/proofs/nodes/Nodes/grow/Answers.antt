@@ -27,8 +27,7 @@ returns-clause-indexed g c =
     ] in
     record {
       chained = subst (λ es. IsChained (home_at hash x) (place_in x.heads.items) (place_in x.heads.links) (key_at es)) (sym e.entries) old.chained;
-      held = omega (arith, ap length e.entries, old.held, e.valid.held, e.valid.fits);
-      reserved = omega (arith, c.min-self.ensures, c.places-2.ensures.places);
+      held = e.valid.held;
       headed = old.headed;
       linked = reach (length x.heads.links) c.in_ok-make_heads.ensures.linked old.linked;
       named = reach x.heads.bound c.in_ok-make_heads.ensures.named old.named;

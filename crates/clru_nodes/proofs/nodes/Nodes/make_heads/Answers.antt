@@ -6,8 +6,7 @@ returns-clause-indexed g c =
     let old = c.requires.indexed in let new = c.in_ok-self.ensures in let list = c.relink.ensures.list in let same = c.relink.ensures.same in
     record {
       chained = c.relink.ensures.chained;
-      held = omega (arith, ap (λ l. length l.entries) list, same.places, old.held);
-      reserved = omega (arith, ap (λ l. l.places) list, same.places, old.reserved);
+      held = omega (arith, ap (λ l. length l.entries) list, ap (λ l. l.places) list, old.held);
       headed = omega (arith, same.heads.heads, same.heads.links, new.headed);
       linked = omega (arith, ap (λ l. l.places) list, same.heads.links, new.linked, c.if-places-link_count.false, c.link_count.ensures.count, old.linked);
       named = omega (

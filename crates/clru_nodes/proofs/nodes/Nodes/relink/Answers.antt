@@ -66,7 +66,7 @@ loop-place-preserved g c =
           (subst (λ n. IsChained (home_at hash x) (place_in x.heads.items) (place_in x.heads.links) (key_from n es)) next i.chained) h item off held
           (sym (c.head_of-head.ensures.head ∙ ap (λ n. head_by (length x.heads.items) n) c.hash-hash.ensures)) one c.link-in-loop-place.ensures.linked);
       list = i.list;
-      same = record { capacity = i.same.capacity; placed = i.same.placed; builder = i.same.builder; places = i.same.places; heads = size_trans i.same.heads size };
+      same = record { capacity = i.same.capacity; places = i.same.places; builder = i.same.builder; heads = size_trans i.same.heads size };
     }
 
 pub returns-clause-chained : goal.returns-clause-chained

@@ -25,6 +25,6 @@ returns-clause-indexed g c =
     let same = c.unchain.ensures.same in let list = c.unchain.ensures.list in
     subst (λ l. IsIndexed hash (record u { list = l })) (sym c.in-Some.ensures.entries)
     (indexed_from {x = x} {y = record u { list = with_entries u.list (without p u.list.entries) }} c.requires.indexed
-    (record { capacity = same.capacity; placed = same.placed; builder = same.builder; places = same.places; heads = same.heads })
+    (record { capacity = same.capacity; places = same.places; builder = same.builder; heads = same.heads })
     (chained_drop (home_at hash u) p u.list.entries (subst (λ l. IsApart l.entries) (sym list) c.requires.valid.apart) c.unchain.ensures.chained)
     (omega (arith, length-without p u.list.entries, ap (λ l. length l.entries) list)))

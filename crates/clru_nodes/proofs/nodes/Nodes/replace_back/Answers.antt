@@ -82,9 +82,8 @@ returns-clause-indexed g c =
     indexed_from {x = x} c.requires.indexed
     (record {
       capacity = b.capacity ∙ a.capacity;
-      placed = b.placed ∙ a.placed;
-      builder = b.builder ∙ a.builder;
       places = b.places ∙ a.places;
+      builder = b.builder ∙ a.builder;
       heads = size_trans a.heads b.heads;
     })
     c.append.ensures.chained

@@ -9,4 +9,4 @@ returns-clause-indexed g c =
     let hash = hash_by g.S.Hasher.Hasher.finish g.S.Hasher.Hasher.write g.S.BuildHasher.build_hasher g.K.Hash.hash_input in
     let x = c.args.self.now in let old = c.requires.indexed in
     subst (λ (l : PlaceList (Item g.row.K.Denot g.row.V.Denot)). IsIndexed hash (record x { list = l })) (sym c.resize.ensures.resized)
-    (record { chained = old.chained; held = old.held; reserved = old.reserved; headed = old.headed; linked = old.linked; named = old.named })
+    (record { chained = old.chained; held = old.held; headed = old.headed; linked = old.linked; named = old.named })

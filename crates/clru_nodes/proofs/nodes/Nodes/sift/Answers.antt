@@ -49,7 +49,7 @@ loop-next-preserved-then-kept g c =
       weighs = inv.weighs ∙ sym (weight_of-written (g.W.WeightScale.weight c.args.scale.now) p c.keep-kept.new.arg3 l.entries i held
           (c.requires.steady _ _ _ _ _ _ (record { key = _; value = _; shows = (refl, refl); left = _; called = c.if-kept.ensures; leaves = refl })));
       indexed = indexed_written p i _ inv.indexed held;
-      same = record { capacity = inv.same.capacity; placed = inv.same.placed; builder = inv.same.builder; places = inv.same.places; heads = inv.same.heads };
+      same = record { capacity = inv.same.capacity; places = inv.same.places; builder = inv.same.builder; heads = inv.same.heads };
     }
 
 pub take_at-key-requires-clause-place : goal.take_at-key-requires-clause-place
@@ -83,7 +83,7 @@ loop-next-smaller g c =
     sifting_fewer (CalledAtPair g.F.FnMut) (TakesPair g.F.FnMut) c.args.keep c.args.self.now.list c.loop-next.keep l c.loop-next.next c.loop-next.invariant.sifting
     p c.in-Some.is c.in-Some-get_mut.item.now (sym c.in-Some-get_mut.ensures.value)
     c.next_idx-next.ensures.valid false c.keep-kept.new.arg3 _ _ (shown-written p c.in-Some-get_mut.item.now c.keep-kept.new.arg3 l)
-    (λ k. place_list (placed k) (t.same.capacity k) (t.same.placed k)) _ c.next_idx-next.ensures.place
+    (λ k. place_list (placed k) (t.same.capacity k) (t.same.places k)) _ c.next_idx-next.ensures.place
 
 pub loop-next-preserved : goal.loop-next-preserved
 loop-next-preserved g c =
@@ -97,7 +97,7 @@ loop-next-preserved g c =
       sifting = sifting_goes_on (CalledAtPair g.F.FnMut) (TakesPair g.F.FnMut) c.args.keep c.args.self.now.list c.loop-next.keep l c.loop-next.next inv.sifting
           p c.in-Some.is i held
           c.next_idx-next.ensures.valid false c.keep-kept.new.arg3 _ _ (shown-written p c.in-Some-get_mut.item.now c.keep-kept.new.arg3 l)
-          (λ k. place_list (placed k) (t.same.capacity k) (t.same.placed k)) _ c.next_idx-next.ensures.place _
+          (λ k. place_list (placed k) (t.same.capacity k) (t.same.places k)) _ c.next_idx-next.ensures.place _
           (record { key = _; value = _; shows = (refl, refl); left = _; called = c.if-kept.ensures; leaves = refl });
       weighs = omega (
         arith,
@@ -109,7 +109,7 @@ loop-next-preserved g c =
         ap (λ l. weight_of w (pairs_of l)) t.entries,
       );
       indexed = t.indexed;
-      same = same_trans inv.same (record { capacity = t.same.capacity; placed = t.same.placed; builder = t.same.builder; places = t.same.places; heads = t.same.heads });
+      same = same_trans inv.same (record { capacity = t.same.capacity; places = t.same.places; builder = t.same.builder; heads = t.same.heads });
     }
 
 pub returns-clause-kept : goal.returns-clause-kept

@@ -15,7 +15,7 @@ returns-in_err-place-clause-pairs g c =
 pub head_of-head-requires : goal.head_of-head-requires
 head_of-head-requires g c =
     let at = c.in_ok-place.ensures.found in let live = some_live c.in_ok-place.place c.args.self.now.list.entries (at.item, at.held) in
-    omega (arith, live, c.requires.indexed.held, c.requires.indexed.reserved, c.requires.indexed.linked, c.requires.indexed.headed)
+    omega (arith, live, c.requires.indexed.held, c.requires.indexed.linked, c.requires.indexed.headed)
 
 pub remove-requires-clause-home : goal.remove-requires-clause-home
 remove-requires-clause-home g c =

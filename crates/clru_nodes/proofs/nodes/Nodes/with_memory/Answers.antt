@@ -10,5 +10,5 @@ returns-clause-indexed g c =
     let list = c.in-Ok-with_memory.list in let heads = c.in-Ok.ensures in
     let empty : list ≡ place_list [] c.args.capacity (min c.min-places.result c.args.capacity) = c.in-Ok-with_memory.ensures.empty in
     let none : list.entries ≡ [] = rw empty refl in let places : list.places ≡ min c.min-places.result c.args.capacity = rw empty refl in
-    indexed_none hash _ none heads.free (omega (arith, places, c.min-places.ensures)) heads.headed
+    indexed_none hash _ none heads.free heads.headed
     (omega (arith, places, c.min-places.ensures, heads.linked)) (omega (arith, places, c.min-places.ensures, heads.linked, heads.named))
