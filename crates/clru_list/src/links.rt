@@ -35,6 +35,16 @@ pub struct Links<T, A: Allocator> {
 impl<T> Node<T> {
     ghost use Rattle.clru_list.specs.contracts.links.Node.{the_row};
 
+    pub(crate) fn item(&self) -> &T
+        requires { IsSome self.now.item }
+        ensures { self.now.item ≡ Some result.now }
+    {
+        match &self.item {
+            Some(item) => item,
+            None => unreachable!(),
+        }
+    }
+
     pub(crate) fn item_mut(&mut self) -> &mut T
         requires { IsSome self.old.item }
         ensures* lends { sem 𝓛 (Lends (the_row T.row) T.row self.entry result

@@ -1,6 +1,6 @@
 //! `FixedSizeList`: its makers, and the calls that read it. A clause sees a list as its `entries`, its `capacity` and its
 //! `places`.
-ghost use Rattle.std.specs.Prelude.{◌≡◌, ◌<◌, ◌≤◌, ◌↔◌, ◌^◌, [], length, min, IfOk, OnOk, IsOk, IsTrue, max, option_copied, vec_capacity, vec_len};
+ghost use Rattle.std.specs.Prelude.{◌≡◌, ◌<◌, ◌≤◌, ◌↔◌, ◌^◌, [], length, min, Some, IfOk, OnOk, IsOk, IsSome, IsTrue, max, option_copied, vec_capacity, vec_len};
 ghost use Rattle.std.specs.Option.{option_map};
 ghost use Rattle.std.specs.Borrow.{sem};
 ghost use Rattle.clru_list.specs.Links.{place_of};
@@ -151,6 +151,15 @@ impl<T, A: Allocator + Copy> FixedSizeList<T, A> {
         ensures valid { IsValid self.now }
     {
         self.links.item(place)
+    }
+
+    /// Returns the item at a place, where one is.
+    pub fn item(&self, place: usize) -> &T
+        requires { IsSome (item_at place self.now.entries) }
+        ensures value { item_at place self.now.entries ≡ Some result.now }
+        ensures valid { IsValid self.now }
+    {
+        self.links.nodes[place].item()
     }
 
     /// Returns the first item.

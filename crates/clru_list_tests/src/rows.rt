@@ -39,8 +39,9 @@ fn places_stay_through_each_call(rt: HostRuntime) -> Result<(), Fail> {
     has(&rt, &list, &[(r, 3), (p, 7)]);
     equal!(rt; list.move_front(p).copied(), Some(7));
     has(&rt, &list, &[(p, 7), (r, 3)]);
-    // `equal!` tells the prover nothing: `bring_front` asks that an item is there, and `resize` that the items fit.
+    // `equal!` tells the prover nothing: `item` and `bring_front` ask that an item is there, and `resize` that the items fit.
     if list.get(r).is_some() {
+        equal!(rt; *list.item(r), 3);
         list.bring_front(r);
     }
     has(&rt, &list, &[(r, 3), (p, 7)]);

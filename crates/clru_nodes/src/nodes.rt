@@ -132,10 +132,7 @@ impl<K: Eq + Hash, V, S: BuildHasher, A: Allocator + Copy> Nodes<K, V, S, A> {
         let head = self.heads.head_of(hash);
         let mut next = self.heads.first(head);
         while next != NOWHERE {
-            // A place in a chain holds a pair, so this test costs nothing.
-            let Some(item) = self.list.get(next) else {
-                unreachable!()
-            };
+            let item = self.list.item(next);
             if *key == item.key {
                 return Some(next);
             }
@@ -152,9 +149,6 @@ impl<K: Eq + Hash, V, S: BuildHasher, A: Allocator + Copy> Nodes<K, V, S, A> {
         ensures { option_copied result ≡ lookup (K.eq key.now) (pairs_in self.now) }
     {
         let place = self.find(hash, key)?;
-        match self.list.get(place) {
-            Some(item) => Some(&item.value),
-            None => unreachable!(),
-        }
+        Some(&self.list.item(place).value)
     }
 }

@@ -162,10 +162,8 @@ impl<K: Eq + Hash, V, S: BuildHasher, A: Allocator + Copy> Nodes<K, V, S, A> {
         ensures home { HasHome (hash_of K.Hash S.BuildHasher S.Hasher.Hasher) result place self.now }
         ensures valid { IsValid self.now.list }
     {
-        match self.list.get(place) {
-            Some(item) => self.heads.head_of(self.hash(&item.key)),
-            None => unreachable!(),
-        }
+        let item = self.list.item(place);
+        self.heads.head_of(self.hash(&item.key))
     }
 
     /// Takes out the pair at a place, where the head of its key is given.

@@ -1,6 +1,5 @@
 use Rattle.std.proofs.Common.{◌≡◌, Some, true, refl, length, ◌<◌, sym, ap, ◌∙◌, subst, arith}
 use Rattle.std.proofs.lemmas.Bool.{true≢false}
-use Rattle.std.specs.Option.{option_copied}
 use Rattle.clru_list.specs.PlaceList.{item_at}
 use Rattle.clru_list.specs.Places.{nowhere}
 use Rattle.clru_nodes.specs.Chained.{steps_left}
@@ -10,7 +9,7 @@ use Rattle.clru_nodes.specs.declared.nodes.Item.{Item}
 use Rattle.clru_nodes.proofs.Chaining.{key_met, steps_off}
 use Rattle.clru_nodes.proofs.ChainWalks.{walk_alive, walk_missed, walk_step, walk_nearer}
 use Rattle.clru_nodes.proofs.Indexed.{same_hash, walk_of_chain, live_of_key}
-use Rattle.clru_nodes.proofs.Placed.{live_below, none_at_start, not_live}
+use Rattle.clru_nodes.proofs.Placed.{live_below, none_at_start}
 use Rattle.clru_nodes.proofs.PlacedPairs.{absent_from}
 use Rattle.clru_nodes.proofs.nodes.Nodes.find.Goals as goal
 
@@ -28,20 +27,19 @@ loop-next-init g c =
       key_met (home_at hash x) h (key_at es) q at.1.item.key (rw at.1.held refl) (alike at.1.item.key at.1.same),
     )))
 
-pub unreachable-requires : goal.unreachable-requires
-unreachable-requires g c =
+pub item-item-requires : goal.item-item-requires
+item-item-requires g c =
     let x = c.args.self.now in
-    not_live c.loop-next.next x.list.entries (sym c.get.ensures.value ∙ ap option_copied c.in_default.is)
-    (walk_alive c.loop-next.invariant (none_at_start x.list c.get.ensures.valid) c.loop-next-test.true)
+    let live = walk_alive c.loop-next.invariant (none_at_start x.list c.is_empty.ensures.valid) c.loop-next-test.true in rw (live.1) refl
 
 pub returns-then-eq-clause-found : goal.returns-then-eq-clause-found
-returns-then-eq-clause-found g c = record { item = c.in-Some.item.now; held = sym c.in-Some.ensures.value; same = sym c.eq.ensures ∙ c.if-eq.true }
+returns-then-eq-clause-found g c = record { item = c.item-item.result.now; held = c.item-item.ensures.value; same = sym c.eq.ensures ∙ c.if-eq.true }
 
 pub next-next-requires : goal.next-next-requires
 next-next-requires g c =
     omega (
       arith,
-      live_below c.args.self.now.list c.get.ensures.valid c.loop-next.next (c.in-Some.item.now, sym c.in-Some.ensures.value),
+      live_below c.args.self.now.list c.item-item.ensures.valid c.loop-next.next (c.item-item.result.now, c.item-item.ensures.value),
       c.requires.indexed.linked,
     )
 
@@ -51,7 +49,7 @@ loop-next-smaller g c =
     let f = steps_in x.heads c.head_of-head.result in
     let step = steps_off (place_in x.heads.items) (place_in x.heads.links) c.head_of-head.result next off ∙ sym c.next-next.ensures.place in
     subst (λ n. steps_left f n (length x.list.entries) < steps_left f next (length x.list.entries)) step
-    (walk_nearer c.loop-next.invariant (none_at_start x.list c.get.ensures.valid) off)
+    (walk_nearer c.loop-next.invariant (none_at_start x.list c.item-item.ensures.valid) off)
 
 pub loop-next-preserved : goal.loop-next-preserved
 loop-next-preserved g c =
@@ -59,10 +57,10 @@ loop-next-preserved g c =
     let step = steps_off (place_in x.heads.items) (place_in x.heads.links) c.head_of-head.result next off ∙ sym c.next-next.ensures.place in
     let eq = g.K.PartialEq.eq in
     let other : IsAt eq c.args.key.now next x.list.entries → ⊥ = λ at.
-    let item = c.in-Some.item.now in
-    let is : at.item ≡ item = let both : Some at.item ≡ Some item = sym at.held ∙ sym c.in-Some.ensures.value in cc in
+    let item = c.item-item.result.now in
+    let is : at.item ≡ item = let both : Some at.item ≡ Some item = sym at.held ∙ c.item-item.ensures.value in cc in
     let no = sym (c.eq.ensures ∙ ap (λ (i : Item g.row.K.Denot g.row.V.Denot). eq c.args.key.now i.key) (sym is) ∙ at.same) ∙ c.if-eq.false in true≢false no in
-    rw (← step) (walk_step c.loop-next.invariant (none_at_start x.list c.get.ensures.valid) off
+    rw (← step) (walk_step c.loop-next.invariant (none_at_start x.list c.item-item.ensures.valid) off
     (λ q. (q ≡ nowhere → ⊥) × IsAt eq c.args.key.now q x.list.entries) (λ q h. h) (λ h. other h.1))
 
 pub returns-clause-absent : goal.returns-clause-absent

@@ -9,5 +9,5 @@ returns-in_err-place g c =
 
 pub returns : goal.returns
 returns g c =
-    sym (found_item g.K.PartialEq.eq c.args.key.now g.met.K.Eq.laws c.requires.distinct c.in_ok-place.ensures.found c.in-Some.item.now
-    (sym c.in-Some.ensures.value)).value
+    sym (found_item g.K.PartialEq.eq c.args.key.now g.met.K.Eq.laws c.requires.distinct c.in_ok-place.ensures.found c.item.result.now
+    c.item.ensures.value).value

@@ -7,12 +7,12 @@ use Rattle.clru_nodes.proofs.nodes.Nodes.home.Goals as goal
 pub returns-clause-home : goal.returns-clause-home
 returns-clause-home g c =
     let x = c.args.self.now in let es = x.list.entries in
-    let held : item_at c.args.place es ≡ Some c.in-Some.item.now = sym c.in-Some.ensures.value in
+    let held : item_at c.args.place es ≡ Some c.item-item.result.now = c.item-item.ensures.value in
     let is = c.head_of.ensures.head in
     record {
-      item = c.in-Some.item.now;
+      item = c.item-item.result.now;
       held = held;
       home = sym (is ∙ ap (λ n. head_by (length x.heads.items) n) c.hash.ensures);
-      off = λ e. none_at_start x.list c.get.ensures.valid (c.in-Some.item.now, subst (λ q. item_at q es ≡ Some c.in-Some.item.now) e held);
+      off = λ e. none_at_start x.list c.item-item.ensures.valid (c.item-item.result.now, subst (λ q. item_at q es ≡ Some c.item-item.result.now) e held);
       within = c.head_of.ensures.within;
     }
