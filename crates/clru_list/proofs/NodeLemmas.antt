@@ -9,7 +9,7 @@ use Rattle.std.proofs.lemmas.Bool.{cases_lt}
 use mathlib.Core.Path.{fun_ext}
 use Rattle.clru_list.specs.Places.{put, nowhere, narrow, place_by}
 use Rattle.clru_list.specs.Halves.{upper_next, upper_prev}
-use Rattle.clru_list.specs.Links.{links_of, next_of, prev_of, item_of, room_of, IsEnd, set_next, set_prev, set_item}
+use Rattle.clru_list.specs.Links.{links_of, next_of, prev_of, item_of, allotted_of, IsEnd, set_next, set_prev, set_item}
 use Rattle.clru_list.specs.declared.halves.Upper.{Upper}
 use Rattle.clru_list.specs.declared.links.Links.{Links}
 use Rattle.clru_list.specs.declared.links.Node.{Node}
@@ -74,9 +74,9 @@ module _ {T A : Type 0} where
   lower_prev c = column (λ n. n.prev) 0 c.nodes.items
 
   -- where the lower halves alone lead
-  pub named : (c : Links T A) (at to : ℕ) → at < vec_len c.nodes → IsEnd (links_of c) to → vec_len c.nodes ≤ room_of c → vec_len c.upper ≤ at
+  pub named : (c : Links T A) (at to : ℕ) → at < vec_len c.nodes → IsEnd (links_of c) to → vec_len c.nodes ≤ allotted_of c → vec_len c.upper ≤ at
       → (to ≡ nowhere) ⊎ (to < narrow)
-  named c at to within end room none = elim end [ inl e ↦ inl e | inr h ↦ inr (omega arith) ]
+  named c at to within end allotted none = elim end [ inl e ↦ inl e | inr h ↦ inr (omega arith) ]
 
   -- a node is written, and its upper halves
   pub links_of-write : (c : Links T A) (at : ℕ) (n : Node T) (v : Vec Upper A) (a b : ℕ) → at < vec_len c.nodes → (at ≡ nowhere → ⊥)

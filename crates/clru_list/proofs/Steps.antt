@@ -22,8 +22,8 @@ module _ {T : Type 0} (l : LinkMap T) (len capacity places allotted : ℕ) (i : 
   sound-resize c fits = record { linked = i.1.linked; held = i.1.held; counted = i.1.counted; fits = fits; within = i.1.within; reserved = i.1.reserved; countable = i.1.countable }
 
   -- more places
-  pub sound-grow : (more wide : ℕ) → places ≤ more → more ≤ wide → wide < 2 ^ 63 → IsSound l len capacity more wide i.0
-  sound-grow more wide grows reserved countable = record {
+  pub sound-grow : (more grown : ℕ) → places ≤ more → more ≤ grown → grown < 2 ^ 63 → IsSound l len capacity more grown i.0
+  sound-grow more grown grows reserved countable = record {
     linked = i.1.linked;
     held = i.1.held;
     counted = i.1.counted;

@@ -11,7 +11,7 @@ use Rattle.clru_list.specs.declared.links.Node.{Node}
 use Rattle.clru_list.proofs.NodeLemmas.{links_of-set_item}
 use Rattle.clru_list.proofs.Steps.{place_below, sound-write}
 use Rattle.clru_list.specs.Places.{count, nowhere}
-use Rattle.clru_list.specs.Links.{LinkMap, links_of, room_of, IsSound, place_of, walk, set_item}
+use Rattle.clru_list.specs.Links.{LinkMap, links_of, allotted_of, IsSound, place_of, walk, set_item}
 use Rattle.clru_list.proofs.Puts.{split}
 use Rattle.clru_list.proofs.Paths.{count-here, last_or, first_or, last_or-counted}
 use Rattle.clru_list.proofs.EntryLists.{item_at-here, item_at-other}
@@ -102,7 +102,7 @@ module _ {T : Type 0} where
     -- the room that is seen is there
     pub has_room : (length now.entries < now.places) × (length now.entries < now.capacity) → (len < places) × (len < capacity)
     has_room free =
-        let sees = seen l len capacity places allotted i now h in let same_places = ap (λ n. n.places) sees in let same_room = ap (λ n. n.capacity) sees in
+        let sees = seen l len capacity places allotted i now h in let same_places = ap (λ n. n.places) sees in let same_allotted = ap (λ n. n.capacity) sees in
         let below = free.0 in let fits = free.1 in let counts = seen_length in (omega arith, omega arith)
 
     pub seen_with : (change : List (ℕ × T) → List (ℕ × T)) → with_entries now (change now.entries) ≡ place_list (change i.0) capacity places
@@ -116,20 +116,20 @@ module _ {T : Type 0} where
     seen_front_stays p first = ap (with_entries now) (to_front-first p now.entries (sym (front_place l len capacity places allotted i now h) ∙ first))
 
   -- the same fact of equal links, in memory of the same size
-  pub sound-at : (l m : LinkMap T) (len capacity places allotted wide : ℕ) (es : List (ℕ × T)) → m ≡ l → wide ≡ allotted → IsSound l len capacity places allotted es
-      → IsSound m len capacity places wide es
-  sound-at l m len capacity places allotted wide es links memory s =
+  pub sound-at : (l m : LinkMap T) (len capacity places allotted grown : ℕ) (es : List (ℕ × T)) → m ≡ l → grown ≡ allotted → IsSound l len capacity places allotted es
+      → IsSound m len capacity places grown es
+  sound-at l m len capacity places allotted grown es links memory s =
       let P : LinkMap T → Type 0 = λ k. IsSound k len capacity places allotted es in let Q : ℕ → Type 0 = λ r. IsSound m len capacity places r es in
       subst Q (sym memory) (subst P (sym links) s)
 
 module _ {T A : Type 0} (c : Links T A) (len capacity places : ℕ)
-    (i : (es : List (ℕ × T)) × IsSound (links_of c) len capacity places (room_of c) es) (p : ℕ) (x : T) (h : (links_of c).item p ≡ Some x)
+    (i : (es : List (ℕ × T)) × IsSound (links_of c) len capacity places (allotted_of c) es) (p : ℕ) (x : T) (h : (links_of c).item p ≡ Some x)
     (n : Node T) (is : n ≡ get_or c.nodes.items p n) where
   -- another item is written into the node of a place
   pub sound-write_node : (w : T)
-      → IsSound (links_of (record c { nodes = with_item c.nodes p (record n { item = Some w }) })) len capacity places (room_of c) (with_at p w i.0)
+      → IsSound (links_of (record c { nodes = with_item c.nodes p (record n { item = Some w }) })) len capacity places (allotted_of c) (with_at p w i.0)
   sound-write_node w =
-      let below : p < vec_len c.nodes = place_below (links_of c) len capacity places (room_of c) i p x h in let small = c.nodes.small in let ok = c.nodes.ok in
-      sound-at (set_item (links_of c) p (Some w)) _ len capacity places (room_of c) (room_of c) _
+      let below : p < vec_len c.nodes = place_below (links_of c) len capacity places (allotted_of c) i p x h in let small = c.nodes.small in let ok = c.nodes.ok in
+      sound-at (set_item (links_of c) p (Some w)) _ len capacity places (allotted_of c) (allotted_of c) _
       (links_of-set_item c p n below (λ e. absurd (omega arith)) is (Some w)) refl
-      (sound-write (links_of c) len capacity places (room_of c) i p x h w)
+      (sound-write (links_of c) len capacity places (allotted_of c) i p x h w)

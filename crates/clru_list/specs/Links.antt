@@ -29,8 +29,8 @@ module _ {T A : Type 0} where
   links_of c = record { next = next_of c; prev = prev_of c; item = item_of c; free = c.free; size = vec_len c.nodes }
 
   -- how many places have memory, and a name
-  abbrev pub room_of : Links T A → ℕ
-  room_of c = min (vec_capacity c.nodes) (max narrow (vec_len c.upper))
+  abbrev pub allotted_of : Links T A → ℕ
+  allotted_of c = min (vec_capacity c.nodes) (max narrow (vec_len c.upper))
 
 module _ {T : Type 0} where
   abbrev pub set_next : LinkMap T → ℕ → ℕ → LinkMap T
@@ -108,7 +108,7 @@ module _ {T : Type 0} where
     pub total : length all + length spare ≡ size
     pub small : size ≤ nowhere
 
-  -- the entries of a list, with its fields and the room of its links
+  -- the entries of a list, with its fields and what is allotted to its links
   pub record IsSound (l : LinkMap T) (len capacity places allotted : ℕ) (es : List (ℕ × T)) : Type 0 where
     pub linked : IsLinked l.next l.prev (keys_of es)
     pub held : IsHeld l.next l.item l.free l.size es

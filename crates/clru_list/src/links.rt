@@ -3,7 +3,7 @@
 ghost use Rattle.std.specs.Prelude.{◌≡◌, ◌<◌, ◌≤◌, Some, None, cond, vec_len, option_copied, IsSome, OnOk};
 ghost use Rattle.std.specs.Borrow.{Lends, sem};
 ghost use Rattle.clru_list.specs.Places.{nowhere};
-ghost use Rattle.clru_list.specs.Links.{links_of, room_of, set_next, set_prev, set_item, unlinked, linked, released, spot, occupied, appended, filled, IsEnd};
+ghost use Rattle.clru_list.specs.Links.{links_of, allotted_of, set_next, set_prev, set_item, unlinked, linked, released, spot, occupied, appended, filled, IsEnd};
 
 use crate::error::NoMemory;
 use crate::halves::{NARROW, Upper, clear_upper, halves, lower_half, place_by, widen};
@@ -120,9 +120,9 @@ impl<T, A: Allocator> Links<T, A> {
     fn set_next(&mut self, at: usize, to: usize)
         requires at { IsEnd (links_of self.old) at }
         requires to { IsEnd (links_of self.old) to }
-        requires room { vec_len self.old.nodes ≤ room_of self.old }
+        requires allotted { vec_len self.old.nodes ≤ allotted_of self.old }
         ensures links { links_of self.new ≡ set_next (links_of self.old) at to }
-        ensures same_room { room_of self.new ≡ room_of self.old }
+        ensures same_allotted { allotted_of self.new ≡ allotted_of self.old }
     {
         if at == NOWHERE {
             self.front = to;
@@ -135,9 +135,9 @@ impl<T, A: Allocator> Links<T, A> {
     fn lead(&mut self, at: usize, to: usize)
         requires at { at < vec_len self.old.nodes }
         requires to { IsEnd (links_of self.old) to }
-        requires room { vec_len self.old.nodes ≤ room_of self.old }
+        requires allotted { vec_len self.old.nodes ≤ allotted_of self.old }
         ensures links { links_of self.new ≡ set_next (links_of self.old) at to }
-        ensures same_room { room_of self.new ≡ room_of self.old }
+        ensures same_allotted { allotted_of self.new ≡ allotted_of self.old }
     {
         if at < self.upper.len() {
             self.lead_wide(at, to);
@@ -152,7 +152,7 @@ impl<T, A: Allocator> Links<T, A> {
         requires at { at < vec_len self.old.nodes }
         requires wide { at < vec_len self.old.upper }
         ensures links { links_of self.new ≡ set_next (links_of self.old) at to }
-        ensures same_room { room_of self.new ≡ room_of self.old }
+        ensures same_allotted { allotted_of self.new ≡ allotted_of self.old }
     {
         let (lower, upper) = halves(to);
         self.nodes[at].next = lower;
@@ -162,11 +162,11 @@ impl<T, A: Allocator> Links<T, A> {
     fn lead_narrow(&mut self, at: usize, to: usize)
         requires at { at < vec_len self.old.nodes }
         requires to { IsEnd (links_of self.old) to }
-        requires room { vec_len self.old.nodes ≤ room_of self.old }
+        requires allotted { vec_len self.old.nodes ≤ allotted_of self.old }
         requires narrow { vec_len self.old.upper ≤ at }
         ensures links { links_of self.new ≡ set_next (links_of self.old) at to }
         ensures upper { self.new.upper ≡ self.old.upper }
-        ensures same_room { room_of self.new ≡ room_of self.old }
+        ensures same_allotted { allotted_of self.new ≡ allotted_of self.old }
     {
         self.nodes[at].next = lower_half(to);
     }
@@ -174,9 +174,9 @@ impl<T, A: Allocator> Links<T, A> {
     fn set_prev(&mut self, at: usize, to: usize)
         requires at { IsEnd (links_of self.old) at }
         requires to { IsEnd (links_of self.old) to }
-        requires room { vec_len self.old.nodes ≤ room_of self.old }
+        requires allotted { vec_len self.old.nodes ≤ allotted_of self.old }
         ensures links { links_of self.new ≡ set_prev (links_of self.old) at to }
-        ensures same_room { room_of self.new ≡ room_of self.old }
+        ensures same_allotted { allotted_of self.new ≡ allotted_of self.old }
     {
         if at == NOWHERE {
             self.back = to;
@@ -189,9 +189,9 @@ impl<T, A: Allocator> Links<T, A> {
     fn follow(&mut self, at: usize, to: usize)
         requires at { at < vec_len self.old.nodes }
         requires to { IsEnd (links_of self.old) to }
-        requires room { vec_len self.old.nodes ≤ room_of self.old }
+        requires allotted { vec_len self.old.nodes ≤ allotted_of self.old }
         ensures links { links_of self.new ≡ set_prev (links_of self.old) at to }
-        ensures same_room { room_of self.new ≡ room_of self.old }
+        ensures same_allotted { allotted_of self.new ≡ allotted_of self.old }
     {
         if at < self.upper.len() {
             self.follow_wide(at, to);
@@ -206,7 +206,7 @@ impl<T, A: Allocator> Links<T, A> {
         requires at { at < vec_len self.old.nodes }
         requires wide { at < vec_len self.old.upper }
         ensures links { links_of self.new ≡ set_prev (links_of self.old) at to }
-        ensures same_room { room_of self.new ≡ room_of self.old }
+        ensures same_allotted { allotted_of self.new ≡ allotted_of self.old }
     {
         let (lower, upper) = halves(to);
         self.nodes[at].prev = lower;
@@ -216,11 +216,11 @@ impl<T, A: Allocator> Links<T, A> {
     fn follow_narrow(&mut self, at: usize, to: usize)
         requires at { at < vec_len self.old.nodes }
         requires to { IsEnd (links_of self.old) to }
-        requires room { vec_len self.old.nodes ≤ room_of self.old }
+        requires allotted { vec_len self.old.nodes ≤ allotted_of self.old }
         requires narrow { vec_len self.old.upper ≤ at }
         ensures links { links_of self.new ≡ set_prev (links_of self.old) at to }
         ensures upper { self.new.upper ≡ self.old.upper }
-        ensures same_room { room_of self.new ≡ room_of self.old }
+        ensures same_allotted { allotted_of self.new ≡ allotted_of self.old }
     {
         self.nodes[at].prev = lower_half(to);
     }
@@ -231,9 +231,9 @@ impl<T, A: Allocator> Links<T, A> {
         requires place { place < vec_len self.old.nodes }
         requires prev { IsEnd (links_of self.old) ((links_of self.old).prev place) }
         requires next { IsEnd (links_of self.old) ((links_of self.old).next place) }
-        requires room { vec_len self.old.nodes ≤ room_of self.old }
+        requires allotted { vec_len self.old.nodes ≤ allotted_of self.old }
         ensures links { links_of self.new ≡ unlinked (links_of self.old) place }
-        ensures same_room { room_of self.new ≡ room_of self.old }
+        ensures same_allotted { allotted_of self.new ≡ allotted_of self.old }
     {
         let prev = self.prev(place);
         let next = self.next(place);
@@ -247,9 +247,9 @@ impl<T, A: Allocator> Links<T, A> {
         requires place { place < vec_len self.old.nodes }
         requires prev { IsEnd (links_of self.old) prev }
         requires next { IsEnd (links_of self.old) next }
-        requires room { vec_len self.old.nodes ≤ room_of self.old }
+        requires allotted { vec_len self.old.nodes ≤ allotted_of self.old }
         ensures links { links_of self.new ≡ linked (links_of self.old) prev place next }
-        ensures same_room { room_of self.new ≡ room_of self.old }
+        ensures same_allotted { allotted_of self.new ≡ allotted_of self.old }
     {
         self.lead(place, next);
         self.follow(place, prev);
@@ -264,9 +264,9 @@ impl<T, A: Allocator> Links<T, A> {
         requires prev { (links_of self.old).prev place < vec_len self.old.nodes }
         requires next { IsEnd (links_of self.old) ((links_of self.old).next place) }
         requires front { self.old.front < vec_len self.old.nodes }
-        requires room { vec_len self.old.nodes ≤ room_of self.old }
+        requires allotted { vec_len self.old.nodes ≤ allotted_of self.old }
         ensures links { links_of self.new ≡ linked (unlinked (links_of self.old) place) nowhere place self.old.front }
-        ensures same_room { room_of self.new ≡ room_of self.old }
+        ensures same_allotted { allotted_of self.new ≡ allotted_of self.old }
     {
         if self.upper.is_empty() {
             self.bring_front_narrow(place);
@@ -282,9 +282,9 @@ impl<T, A: Allocator> Links<T, A> {
         requires prev { (links_of self.old).prev place < vec_len self.old.nodes }
         requires next { IsEnd (links_of self.old) ((links_of self.old).next place) }
         requires front { self.old.front < vec_len self.old.nodes }
-        requires room { vec_len self.old.nodes ≤ room_of self.old }
+        requires allotted { vec_len self.old.nodes ≤ allotted_of self.old }
         ensures links { links_of self.new ≡ linked (unlinked (links_of self.old) place) nowhere place self.old.front }
-        ensures same_room { room_of self.new ≡ room_of self.old }
+        ensures same_allotted { allotted_of self.new ≡ allotted_of self.old }
     {
         let front = self.front;
         self.unlink(place);
@@ -296,10 +296,10 @@ impl<T, A: Allocator> Links<T, A> {
         requires prev { (links_of self.old).prev place < vec_len self.old.nodes }
         requires next { IsEnd (links_of self.old) ((links_of self.old).next place) }
         requires front { self.old.front < vec_len self.old.nodes }
-        requires room { vec_len self.old.nodes ≤ room_of self.old }
+        requires allotted { vec_len self.old.nodes ≤ allotted_of self.old }
         requires narrow { vec_len self.old.upper ≡ 0 }
         ensures links { links_of self.new ≡ linked (unlinked (links_of self.old) place) nowhere place self.old.front }
-        ensures same_room { room_of self.new ≡ room_of self.old }
+        ensures same_allotted { allotted_of self.new ≡ allotted_of self.old }
     {
         let before = self.prev_narrow(place);
         let behind = self.next_narrow(place);
@@ -317,11 +317,11 @@ impl<T, A: Allocator> Links<T, A> {
         requires place { place < vec_len self.old.nodes }
         requires prev { IsEnd (links_of self.old) prev }
         requires next { IsEnd (links_of self.old) next }
-        requires room { vec_len self.old.nodes ≤ room_of self.old }
+        requires allotted { vec_len self.old.nodes ≤ allotted_of self.old }
         requires narrow { vec_len self.old.upper ≤ place }
         ensures links { links_of self.new ≡ set_prev (set_next (links_of self.old) place next) place prev }
         ensures upper { self.new.upper ≡ self.old.upper }
-        ensures same_room { room_of self.new ≡ room_of self.old }
+        ensures same_allotted { allotted_of self.new ≡ allotted_of self.old }
     {
         let node = &mut self.nodes[place];
         node.next = lower_half(next);
@@ -331,11 +331,11 @@ impl<T, A: Allocator> Links<T, A> {
     fn set_prev_narrow(&mut self, at: usize, to: usize)
         requires at { IsEnd (links_of self.old) at }
         requires to { IsEnd (links_of self.old) to }
-        requires room { vec_len self.old.nodes ≤ room_of self.old }
+        requires allotted { vec_len self.old.nodes ≤ allotted_of self.old }
         requires narrow { vec_len self.old.upper ≡ 0 }
         ensures links { links_of self.new ≡ set_prev (links_of self.old) at to }
         ensures upper { self.new.upper ≡ self.old.upper }
-        ensures same_room { room_of self.new ≡ room_of self.old }
+        ensures same_allotted { allotted_of self.new ≡ allotted_of self.old }
     {
         if at == NOWHERE {
             self.back = to;
@@ -349,7 +349,7 @@ impl<T, A: Allocator> Links<T, A> {
     pub(crate) fn take(&mut self, place: usize) -> Option<T>
         ensures value { result ≡ (links_of self.old).item place }
         ensures links { links_of self.new ≡ set_item (links_of self.old) place None }
-        ensures same_room { room_of self.new ≡ room_of self.old }
+        ensures same_allotted { allotted_of self.new ≡ allotted_of self.old }
     {
         match self.nodes.get_mut(place) {
             Some(node) => node.item.take(),
@@ -362,9 +362,9 @@ impl<T, A: Allocator> Links<T, A> {
     pub(crate) fn release(&mut self, place: usize)
         requires place { place < vec_len self.old.nodes }
         requires end { IsEnd (links_of self.old) self.old.free }
-        requires room { vec_len self.old.nodes ≤ room_of self.old }
+        requires allotted { vec_len self.old.nodes ≤ allotted_of self.old }
         ensures links { links_of self.new ≡ released (links_of self.old) place }
-        ensures same_room { room_of self.new ≡ room_of self.old }
+        ensures same_allotted { allotted_of self.new ≡ allotted_of self.old }
     {
         let free = self.free;
         self.lead(place, free);
@@ -376,10 +376,10 @@ impl<T, A: Allocator> Links<T, A> {
     pub(crate) fn occupy(&mut self, item: T) -> usize
         requires end { IsEnd (links_of self.old) self.old.free }
         requires free { (links_of self.old).item self.old.free ≡ None }
-        requires room { self.old.free ≡ nowhere → vec_len self.old.nodes < room_of self.old }
+        requires allotted { self.old.free ≡ nowhere → vec_len self.old.nodes < allotted_of self.old }
         ensures place { result ≡ spot (links_of self.old) }
         ensures links { links_of self.new ≡ occupied (links_of self.old) item }
-        ensures same_room { room_of self.new ≡ room_of self.old }
+        ensures same_allotted { allotted_of self.new ≡ allotted_of self.old }
     {
         if self.free == NOWHERE {
             self.append(item)
@@ -390,10 +390,10 @@ impl<T, A: Allocator> Links<T, A> {
 
     #[inline(always)]
     fn append(&mut self, item: T) -> usize
-        requires { vec_len self.old.nodes < room_of self.old }
+        requires { vec_len self.old.nodes < allotted_of self.old }
         ensures place { result ≡ vec_len self.old.nodes }
         ensures links { links_of self.new ≡ appended (links_of self.old) item }
-        ensures same_room { room_of self.new ≡ room_of self.old }
+        ensures same_allotted { allotted_of self.new ≡ allotted_of self.old }
     {
         let place = self.nodes.len();
         self.nodes.push_reserved(Node {
@@ -411,7 +411,7 @@ impl<T, A: Allocator> Links<T, A> {
         requires free { (links_of self.old).item self.old.free ≡ None }
         ensures place { result ≡ self.old.free }
         ensures links { links_of self.new ≡ filled (links_of self.old) item }
-        ensures same_room { room_of self.new ≡ room_of self.old }
+        ensures same_allotted { allotted_of self.new ≡ allotted_of self.old }
     {
         let place = self.free;
         let next = self.next(place);
@@ -429,8 +429,8 @@ impl<T, A: Allocator> Links<T, A> {
     pub(crate) fn reserve(&mut self, places: usize, limit: usize) -> Result<(), NoMemory>
         requires { vec_len self.old.nodes ≤ places }
         ensures links { links_of self.new ≡ links_of self.old }
-        ensures grows { room_of self.old ≤ room_of self.new }
-        ensures ready { OnOk result (places ≤ room_of self.new) }
+        ensures grows { allotted_of self.old ≤ allotted_of self.new }
+        ensures ready { OnOk result (places ≤ allotted_of self.new) }
     {
         let more = places - self.nodes.len();
         let Ok(()) = self.nodes.reserve_exact(more) else {

@@ -27,7 +27,7 @@ pub struct FixedSizeList<T, A: Allocator + Copy = Global> {
     pub(crate) links: Links<T, A>,
     pub(crate) len: usize,
     pub(crate) capacity: usize,
-    // No more than the room of the links, and not that number itself: a growth that was refused changes nothing.
+    // No more than is allotted to the links, and not that number itself: a growth that was refused changes nothing.
     pub(crate) places: usize,
     // Links take 4 bytes each only where the places are no more. A test sets it low, to reach the wide form.
     pub(crate) limit: usize,
@@ -39,7 +39,7 @@ impl<T, A: Allocator + Copy> Model for FixedSizeList<T, A> {
     ghost use Rattle.std.specs.Map.{keys_of};
     ghost use Rattle.clru_list.specs.PlaceList.{PlaceList, place_list, place_list_code};
     ghost use Rattle.clru_list.specs.Fingers.{IsPointed};
-    ghost use Rattle.clru_list.specs.Links.{links_of, room_of, walk, IsSound};
+    ghost use Rattle.clru_list.specs.Links.{links_of, allotted_of, walk, IsSound};
 
     ghost Value = { PlaceList T };
 
@@ -48,7 +48,7 @@ impl<T, A: Allocator + Copy> Model for FixedSizeList<T, A> {
     ghost view = { λ l. place_list (walk (links_of l.links) l.links.front l.len) l.capacity l.places };
 
     ghost invariant = { λ l. ((es : List (ℕ × T))
-        × IsSound (links_of l.links) l.len l.capacity l.places (room_of l.links) es)
+        × IsSound (links_of l.links) l.len l.capacity l.places (allotted_of l.links) es)
         × IsPointed (keys_of (walk (links_of l.links) l.links.front l.len)) l.fingers };
 }
 

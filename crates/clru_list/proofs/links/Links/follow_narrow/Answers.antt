@@ -3,7 +3,7 @@ use Rattle.clru_list.proofs.NodeLemmas.{named, links_of-follow}
 use Rattle.clru_list.proofs.links.Links.follow_narrow.Goals as goal
 
 pub lower_half-requires : goal.lower_half-requires
-lower_half-requires g c = let r = c.requires in named c.args.self.now c.args.at c.args.to r.at r.to r.room r.narrow
+lower_half-requires g c = let r = c.requires in named c.args.self.now c.args.at c.args.to r.at r.to r.allotted r.narrow
 
 pub returns-clause-links : goal.returns-clause-links
 returns-clause-links g c =

@@ -33,7 +33,7 @@ invariant_of-self g c =
     let it = held_item _ _ _ _ _ c.self.invariant.0 _ c.self.view_is c.args.place c.requires in (
       (
         _,
-        sound-at _ _ _ _ _ _ _ _ c.bring_front.ensures.links c.bring_front.ensures.same_room
+        sound-at _ _ _ _ _ _ _ _ c.bring_front.ensures.links c.bring_front.ensures.same_allotted
             (sound-moved _ _ _ _ _ c.self.invariant.0 c.args.place it.0 it.1 c.if-self-place.false),
       ),
       pointed-none _ _ c.clear.ensures,

@@ -13,8 +13,8 @@ occupy-place-requires-clause-end g c = free_end _ _ _ _ _ c.self.invariant.0
 pub occupy-place-requires-clause-free : goal.occupy-place-requires-clause-free
 occupy-place-requires-clause-free g c = free_none _ _ _ _ _ c.self.invariant.0
 
-pub occupy-place-requires-clause-room : goal.occupy-place-requires-clause-room
-occupy-place-requires-clause-room g c =
+pub occupy-place-requires-clause-allotted : goal.occupy-place-requires-clause-allotted
+occupy-place-requires-clause-allotted g c =
     let room = has_room _ _ _ _ _ c.self.invariant.0 _ c.self.view_is (c.in_ok-item.ensures.room, c.in_ok-item.ensures.below) in
     free_room _ _ _ _ _ c.self.invariant.0 room.0
 
@@ -28,10 +28,10 @@ link-requires-clause-prev g c =
     let room = has_room _ _ _ _ _ c.self.invariant.0 _ c.self.view_is (c.in_ok-item.ensures.room, c.in_ok-item.ensures.below) in
     occupied_back _ _ _ _ _ c.self.invariant.0 c.in_ok-item.item room.0 c.occupy-place.ensures.links
 
-pub link-requires-clause-room : goal.link-requires-clause-room
-link-requires-clause-room g c =
+pub link-requires-clause-allotted : goal.link-requires-clause-allotted
+link-requires-clause-allotted g c =
     let room = has_room _ _ _ _ _ c.self.invariant.0 _ c.self.view_is (c.in_ok-item.ensures.room, c.in_ok-item.ensures.below) in
-    let e = c.occupy-place.ensures in omega (arith, occupied_room _ _ _ _ _ c.self.invariant.0 c.in_ok-item.item room.0 e.links, e.same_room)
+    let e = c.occupy-place.ensures in omega (arith, occupied_room _ _ _ _ _ c.self.invariant.0 c.in_ok-item.item room.0 e.links, e.same_allotted)
 
 abbrev pub invariant_of-self : goal.invariant_of-self
 invariant_of-self g c =
@@ -39,7 +39,7 @@ invariant_of-self g c =
     let e = c.occupy-place.ensures in (
       (
         _,
-        sound-at _ _ _ _ _ _ _ _ (c.link.ensures.links ∙ (λ i. linked (e.links i) ((e.links i).prev nowhere) (e.place i) nowhere)) (c.link.ensures.same_room ∙ e.same_room)
+        sound-at _ _ _ _ _ _ _ _ (c.link.ensures.links ∙ (λ i. linked (e.links i) ((e.links i).prev nowhere) (e.place i) nowhere)) (c.link.ensures.same_allotted ∙ e.same_allotted)
             (sound-push_back _ _ _ _ _ c.self.invariant.0 c.in_ok-item.item room.0 room.1),
       ),
       pointed-none _ _ c.clear.ensures,

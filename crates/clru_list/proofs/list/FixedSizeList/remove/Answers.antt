@@ -12,7 +12,7 @@ use Rattle.clru_list.proofs.list.FixedSizeList.remove.Goals as goal
 abbrev pub invariant_of-self : goal.invariant_of-self
 invariant_of-self g c =
     let e = c.in_err-item.ensures in
-    let new = sound-at _ _ _ _ _ _ _ _ (e.links ∙ set_item-same (links_of c.self.inside.links) c.args.place None (sym e.value)) e.same_room c.self.invariant.0.1 in
+    let new = sound-at _ _ _ _ _ _ _ _ (e.links ∙ set_item-same (links_of c.self.inside.links) c.args.place None (sym e.value)) e.same_allotted c.self.invariant.0.1 in
     ((c.self.invariant.0.0, new), pointed-still _ _ _ _ _ _ _ _ _ _ _ _ _ c.self.invariant.0.1 new refl c.self.invariant.1)
 
 pub returns-in_err-item-clause-value : goal.returns-in_err-item-clause-value
@@ -51,7 +51,7 @@ invariant_of-self-2 g c =
       (
         _,
         sound-at _ _ _ _ _ _ _ _ (c.release.ensures.links ∙ ap (λ l. released l p) (c.unlink.ensures.links ∙ ap (λ l. unlinked l p) e.links))
-            (c.release.ensures.same_room ∙ c.unlink.ensures.same_room ∙ e.same_room) (sound-remove _ _ _ _ _ c.self.invariant.0 p c.in_ok-item.item (sym e.value)),
+            (c.release.ensures.same_allotted ∙ c.unlink.ensures.same_allotted ∙ e.same_allotted) (sound-remove _ _ _ _ _ c.self.invariant.0 p c.in_ok-item.item (sym e.value)),
       ),
       pointed-none _ _ c.clear.ensures,
     )
