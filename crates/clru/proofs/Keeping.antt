@@ -101,7 +101,7 @@ module _ {K V S W A H : Type 0} {eq : K → K → Bool} (weight : W → K → V 
   IsCache-from {y} old same pairs whole scale capacity = record {
     pairs = subst (λ s. IsKept eq (weight s) (pairs_in y.nodes) c) (sym scale) (subst (λ l. IsKept eq (weight x.scale) l c) (sym same) pairs);
     whole = whole;
-    room = capacity ∙ old.room;
+    same_capacity = capacity ∙ old.same_capacity;
   }
 
   -- after a touch

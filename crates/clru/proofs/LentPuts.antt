@@ -83,9 +83,9 @@ module _ {K V S A H W : Type 0} {eq : K → K → Bool} {hash : S → K → ℕ}
         pairs = pairs;
         capacity = keeps.capacity ∙ same.capacity;
         keeps = IsCache-plain old pairs old.pairs indexed (keeps.capacity ∙ same.capacity);
-        grows = λ u whole is. grows_if_needed (seen x.nodes) (seen u) _ (λ t. omega (arith, t, many, same.capacity, old.room))
-            (λ n. omega (arith, n, many, same.capacity, old.room)) m.value
-            (held_places x.nodes old.whole.indexed) (GrowsIf-along (sym many) (sym (same.capacity ∙ old.room)) (sym same.places) is growth) refl refl (held_places u whole);
+        grows = λ u whole is. grows_if_needed (seen x.nodes) (seen u) _ (λ t. omega (arith, t, many, same.capacity, old.same_capacity))
+            (λ n. omega (arith, n, many, same.capacity, old.same_capacity)) m.value
+            (held_places x.nodes old.whole.indexed) (GrowsIf-along (sym many) (sym (same.capacity ∙ old.same_capacity)) (sym same.places) is growth) refl refl (held_places u whole);
       }
 
   -- the entry of a new key, which was put in front then
@@ -94,7 +94,7 @@ module _ {K V S A H W : Type 0} {eq : K → K → Bool} {hash : S → K → ℕ}
       → {i : Item K V} → first_item z ≡ Some i → (w : V) → IsLentPut z i w
   lent_new laws m {y} {z} {v} ready some pushed indexed same {i} first w =
       let lent = first_written z first w in let after = lent.indexed indexed in
-      let whole = pushed ∙ ap (λ n. (key, v) ∷ take (n - 1) (pairs_in y)) (ready.capacity ∙ old.room) ∙ ap (λ l. (key, v) ∷ take (c - 1) l) ready.pairs in
+      let whole = pushed ∙ ap (λ n. (key, v) ∷ take (n - 1) (pairs_in y)) (ready.capacity ∙ old.same_capacity) ∙ ap (λ l. (key, v) ∷ take (c - 1) l) ready.pairs in
       let put = lent.pairs ∙ ap (with_front w) whole in
       record {
         keeps = IsCache-plain old put (IsKept-new key w laws old.pairs m.value some) after (same.capacity ∙ ready.capacity);

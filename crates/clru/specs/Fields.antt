@@ -18,4 +18,4 @@ pub record IsCache {K V S W A H : Type 0} (eq : K → K → Bool) (weight : W �
     (x : Weighed K V S W A H) (capacity : ℕ) : Type 0 where
   pub pairs : IsKept eq (weight x.scale) (pairs_in x.nodes) capacity
   pub whole : IsWeighed weight hash x
-  pub room : capacity_of x.nodes ≡ capacity
+  pub same_capacity : capacity_of x.nodes ≡ capacity

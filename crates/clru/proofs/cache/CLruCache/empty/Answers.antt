@@ -8,5 +8,5 @@ invariant_of-result g c =
     let e = c.requires.none in record {
       pairs = rw e.none (IsKept-none _ _);
       whole = record { weighs = ap (weight_of (g.W.WeightScale.weight c.args.scale)) (sym e.none); indexed = c.requires.indexed };
-      room = e.capacity;
+      same_capacity = e.capacity;
     }

@@ -54,7 +54,7 @@ push_front-requires-clause-room g c =
       small,
       s.rest.nodes.capacity,
       t.rest.nodes.capacity,
-      c.self.invariant.room,
+      c.self.invariant.same_capacity,
       c.get-capacity.ensures.value,
       c.get-capacity.ensures.nonzero,
     )
@@ -142,7 +142,7 @@ push_front-requires-2-clause-room g c =
       small,
       o.rest.capacity,
       t.rest.nodes.capacity,
-      c.self.invariant.room,
+      c.self.invariant.same_capacity,
       c.get-capacity.ensures.value,
       c.get-capacity.ensures.nonzero,
     )
@@ -186,5 +186,5 @@ returns-clause-places g c =
     let size = c.get-capacity.ensures.value in let weighs = c.weight-weight.ensures in let light = c.if-weight-capacity.false in
     rw (← c.self.view_is) (grows_if_needed _ _ _ (λ h. omega (arith, h, same, sizes, light, size, weighs))
     (λ h. omega (arith, h, same, sizes, light, size, weighs)) m.value (held_places x.nodes old.whole.indexed)
-    (GrowsIf-along (sym (ap length before)) (sym (t.rest.nodes.capacity ∙ old.room)) (sym t.rest.nodes.places) p.rest.nodes.places o.grows) refl
+    (GrowsIf-along (sym (ap length before)) (sym (t.rest.nodes.capacity ∙ old.same_capacity)) (sym t.rest.nodes.places) p.rest.nodes.places o.grows) refl
     (p.rest.scale ∙ o.rest.scale ∙ t.rest.scale) (omega (arith, ap length p.pairs, o.ready, p.rest.nodes.places)))

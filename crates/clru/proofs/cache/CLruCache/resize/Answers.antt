@@ -22,5 +22,5 @@ invariant_of-self g c =
       pairs = subst (λ i. IsKept g.K.PartialEq.eq (weight i) (pairs_in c.resize.new.self) size) (sym s.rest.scale)
           (subst (λ l. IsKept g.K.PartialEq.eq (weight x.scale) l size) (sym left) (IsKept-fit (weight x.scale) size c.self.invariant.pairs));
       whole = record { weighs = s.whole.weighs ∙ ap (weight_of (weight y.scale)) (sym r.pairs); indexed = r.indexed };
-      room = r.capacity ∙ c.get-2.ensures.value;
+      same_capacity = r.capacity ∙ c.get-2.ensures.value;
     }

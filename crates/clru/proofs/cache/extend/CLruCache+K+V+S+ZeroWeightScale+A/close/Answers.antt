@@ -15,5 +15,5 @@ invariant_of-self g c =
         weighs = c.self.invariant.whole.weighs ∙ weight_of-zero es ∙ sym (weight_of-zero (pairs_in c.resize.new.self));
         indexed = c.resize.ensures.indexed;
       };
-      room = omega (arith, c.resize.ensures.capacity, c.get.ensures.value);
+      same_capacity = omega (arith, c.resize.ensures.capacity, c.get.ensures.value);
     }

@@ -82,7 +82,7 @@ returns-in_default-make_ready g c =
     let ready = ready_new key c.self.invariant m e.pairs e.same o.grows o.keeps o.indexed in
     let lasts = ready.grows c.make_ready.new.self o.indexed refl in
     let wanted : length (pairs_in c.self.inside.pairs.nodes) < non_zero_usize_get c.self.inside.capacity =
-    omega (arith, ap length before, o.refused.asked, e.same.capacity, c.self.invariant.room) in
+    omega (arith, ap length before, o.refused.asked, e.same.capacity, c.self.invariant.same_capacity) in
     rw (← c.self.view_is) (
       (refl, λ w no_value. absurd (no no_value), (ready.pairs, lasts)),
       record {

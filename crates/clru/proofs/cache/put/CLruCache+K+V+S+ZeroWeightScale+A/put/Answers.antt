@@ -41,7 +41,7 @@ returns-in_default-clause-memory g c =
     let m = missed (eq key) c.if-touch.ensures.held in let before = e.pairs ∙ touch-missed eq key m in
     rw (← c.self.view_is) (λ _. record {
       absent = m.value;
-      room = omega (arith, ap length before, o.refused.asked, e.same.capacity, c.self.invariant.room);
+      room = omega (arith, ap length before, o.refused.asked, e.same.capacity, c.self.invariant.same_capacity);
       taken = omega (arith, o.refused.taken, e.same.places, ap length before);
     })
 
@@ -51,7 +51,7 @@ invariant_of-self-2 g c =
     let k = c.in-Ok.ensures.keeps in let m = missed (eq key) c.if-touch.ensures.held in let old = c.self.invariant in
     let capacity = non_zero_usize_get c.self.inside.capacity in
     IsCache-plain old
-    (p.pairs ∙ ap (λ n. (key, v) ∷ take (n - 1) (pairs_in c.make_ready.new.self)) (k.capacity ∙ e.same.capacity ∙ old.room)
+    (p.pairs ∙ ap (λ n. (key, v) ∷ take (n - 1) (pairs_in c.make_ready.new.self)) (k.capacity ∙ e.same.capacity ∙ old.same_capacity)
     ∙ ap (λ l. (key, v) ∷ take (capacity - 1) l) (k.pairs ∙ e.pairs ∙ touch-missed eq key m))
     (IsKept-new key v g.met.K.Eq.laws old.pairs m.value c.self.inside.capacity.ok) p.indexed (p.same.capacity ∙ k.capacity ∙ e.same.capacity)
 
@@ -61,7 +61,7 @@ returns-clause-entries g c =
     let k = c.in-Ok.ensures.keeps in let m = missed (eq key) c.if-touch.ensures.held in
     let capacity = non_zero_usize_get c.self.inside.capacity in
     rw (← c.self.view_is) (p.pairs
-    ∙ ap (λ n. (key, v) ∷ take (n - 1) (pairs_in c.make_ready.new.self)) (k.capacity ∙ e.same.capacity ∙ c.self.invariant.room)
+    ∙ ap (λ n. (key, v) ∷ take (n - 1) (pairs_in c.make_ready.new.self)) (k.capacity ∙ e.same.capacity ∙ c.self.invariant.same_capacity)
     ∙ ap (λ l. (key, v) ∷ take (capacity - 1) l) (k.pairs ∙ e.pairs ∙ touch-missed eq key m) ∙ sym (plain_put-missed eq key m capacity v))
 
 pub returns-clause-dropped : goal.returns-clause-dropped
@@ -70,7 +70,7 @@ returns-clause-dropped g c =
     let k = c.in-Ok.ensures.keeps in let m = missed (eq key) c.if-touch.ensures.held in
     let capacity = non_zero_usize_get c.self.inside.capacity in
     rw (← c.self.view_is, m.value) (c.put_front-dropped.ensures.pair
-    ∙ ap (λ n. slice_get (pairs_in c.make_ready.new.self) (n - 1)) (k.capacity ∙ e.same.capacity ∙ c.self.invariant.room)
+    ∙ ap (λ n. slice_get (pairs_in c.make_ready.new.self) (n - 1)) (k.capacity ∙ e.same.capacity ∙ c.self.invariant.same_capacity)
     ∙ ap (λ l. slice_get l (capacity - 1)) (k.pairs ∙ e.pairs ∙ touch-missed eq key m))
 
 pub returns-clause-places : goal.returns-clause-places
