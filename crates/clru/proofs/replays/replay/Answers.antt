@@ -22,7 +22,7 @@ loop-key-preserved g c =
       ends = tt;
       replays = Replays-push g.K.PartialEq.eq c.in-Some.key c.request-hit.result g.met.K.Eq.laws before e.hit e.put e.held pushed counted;
       marked = omega (arith, c.push_reserved.ensures.len, c.loop-key.invariant.marked, length_push c.loop-key.yielded c.in-Some.key);
-      room = omega (arith, c.push_reserved.ensures.capacity, c.loop-key.invariant.room);
+      same_capacity = omega (arith, c.push_reserved.ensures.capacity, c.loop-key.invariant.same_capacity);
     }
 
 pub returns-clause-misses : goal.returns-clause-misses
@@ -64,5 +64,5 @@ loop-key-init g c =
             fewer = omega arith;
           });
       marked = search rules;
-      room = search rules;
+      same_capacity = search rules;
     }

@@ -9,5 +9,5 @@ invariant-loop-key g l = record {
   ends : (goal.iterator-loop-key g).is_finite l.key-iterator;
   replays : Replays g.K.PartialEq.eq (non_zero_usize_get l.fn.capacity) (length l.fn.keys.items) l.yielded l.marks.items l.misses l.cache;
   marked : vec_len l.marks ≡ length l.yielded;
-  room : vec_capacity l.marks ≡ length l.fn.keys.items;
+  same_capacity : vec_capacity l.marks ≡ length l.fn.keys.items;
 }

@@ -16,7 +16,7 @@ loop-index-preserved g c =
     let wanted : take i (zip keys sizes) ++ (get_or keys i 0, get_or sizes i 0) ∷ [] ≡ take (i + 1) (zip keys sizes)
     = rw next (ap (λ p. take i (zip keys sizes) ++ p ∷ []) (sym (get_or-zip keys sizes i (0, 0) in_keys in_sizes))
     ∙ sym (take-suc (zip keys sizes) i (0, 0) inside)) in
-    record { objects = search (rules, wanted); many = search rules; room = search rules }
+    record { objects = search (rules, wanted); many = search rules; same_capacity = search rules }
 
 pub returns : goal.returns
 returns g c =

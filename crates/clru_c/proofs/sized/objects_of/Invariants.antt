@@ -6,5 +6,5 @@ abbrev pub invariant-loop-index : goal.invariant-loop-index
 invariant-loop-index g l = record {
   objects : l.objects.items ≡ take l.index (zip l.keys l.sizes);
   many : vec_len l.objects ≡ l.index;
-  room : vec_capacity l.objects ≡ length l.keys;
+  same_capacity : vec_capacity l.objects ≡ length l.keys;
 }

@@ -11,5 +11,5 @@ loop-call-preserved g c =
       ends = tt;
       run = rw pushed.items (Run-push g.Q.Perform.step _ c.loop-call.yielded _ c.in-Some.call c.perform.result before.run c.perform.ensures);
       answered = omega (arith, pushed.len, before.answered, length_push c.loop-call.yielded c.in-Some.call);
-      room = omega (arith, pushed.capacity, before.room);
+      same_capacity = omega (arith, pushed.capacity, before.same_capacity);
     }

@@ -8,5 +8,5 @@ invariant-loop-call g l = record {
   ends : (goal.iterator-loop-call g).is_finite l.call-iterator;
   run : Run g.Q.Perform.step l.fn.cache l.yielded l.answers.items l.cache;
   answered : vec_len l.answers ≡ length l.yielded;
-  room : vec_capacity l.answers ≡ length l.fn.calls.items;
+  same_capacity : vec_capacity l.answers ≡ length l.fn.calls.items;
 }
