@@ -97,9 +97,6 @@ module _ {K V : Type 0} where
     | inr there ↦ rw (ne_eqb p e.0 there) (ap (λ l. (e.0, (e.1.key, e.1.value)) ∷ l) (placed-without p es))
   ]
 
-  pub not_live : (q : ℕ) (es : List (ℕ × Item K V)) → item_at q es ≡ None → IsLive es q → ⊥
-  not_live q es gone live = let both : Some live.0 ≡ None = sym live.1 ∙ gone in cc
-
   -- an item stands below the number of places
   pub live_below : (l : PlaceList (Item K V)) → IsValid l → (p : ℕ) → IsLive l.entries p → p < l.places
   live_below l valid p live = let there : IsSome (item_at p l.entries) = rw live.1 refl in valid.below p there
