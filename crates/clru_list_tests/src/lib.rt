@@ -5,18 +5,6 @@
 mod asserts;
 pub mod callers;
 #[cfg(test)]
-mod entries;
-#[cfg(test)]
-mod limited;
-#[cfg(test)]
 mod owned;
-#[cfg(test)]
-mod refusals;
-#[cfg(test)]
-mod requests;
-#[cfg(test)]
-mod rows;
-#[cfg(test)]
-mod schedules;
 #[cfg(test)]
 mod walks;

@@ -8,20 +8,8 @@ mod asserts;
 #[cfg(test)]
 mod extends;
 #[cfg(test)]
-mod growth;
-#[cfg(test)]
-mod lends;
+mod makers;
 #[cfg(test)]
 mod owned;
-#[cfg(test)]
-mod refusals;
-#[cfg(test)]
-mod removals;
-#[cfg(test)]
-mod rows;
-#[cfg(test)]
-mod unasked;
-#[cfg(test)]
-mod walks;
 #[cfg(test)]
 mod whole;

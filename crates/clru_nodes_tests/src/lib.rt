@@ -4,13 +4,7 @@
 #[cfg(test)]
 mod asserts;
 #[cfg(test)]
-mod growth;
-#[cfg(test)]
-mod kept;
-#[cfg(test)]
 mod lent;
-#[cfg(test)]
-mod limited;
 #[cfg(test)]
 mod moves;
 #[cfg(test)]

@@ -1,6 +1,6 @@
-//! Keeping some of the pairs, taking all out, and another capacity.
+//! Keeping some of the pairs.
 
-use crate::pairs::{finds, has, three};
+use crate::pairs::{has, three};
 use assertions::equal;
 use clru_model::WeightScale;
 use std::test::Fail;
@@ -28,19 +28,5 @@ fn pairs_that_are_not_kept_go(rt: HostRuntime) -> Result<(), Fail> {
         *key != 1
     });
     has(&rt, &nodes, &[(3, 3)]);
-    Ok(())
-}
-
-#[test]
-fn a_resize_and_a_clear_leave_room(rt: HostRuntime) -> Result<(), Fail> {
-    let mut nodes = three(rt.alloc())?;
-    nodes.resize(3);
-    finds(&rt, &nodes, &[(3, 30), (2, 20), (1, 10)]);
-    equal!(rt; nodes.put_front(nodes.hash(&4), 4, 40), Some((1, 10)));
-    finds(&rt, &nodes, &[(4, 40), (3, 30), (2, 20)]);
-    nodes.clear();
-    finds(&rt, &nodes, &[]);
-    nodes.push_front(nodes.hash(&3), 3, 33);
-    finds(&rt, &nodes, &[(3, 33)]);
     Ok(())
 }

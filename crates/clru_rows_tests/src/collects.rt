@@ -60,22 +60,3 @@ fn collects<S: BuildHasher + Copy>(rt: &impl Abort, alloc: Global, builder: S) -
 fn test_from_iterator(rt: HostRuntime) -> Result<(), Fail> {
     with_each_builder!(rt, collects)
 }
-
-/// A collected cache that is extended.
-fn collects_and_extends<S: BuildHasher + Copy>(
-    rt: &impl Abort,
-    alloc: Global,
-    builder: S,
-) -> Result<(), Fail> {
-    let items = Vec::from_array(alloc, [("a", 1), ("b", 2)])?;
-    let mut cache = CLruCache::from_iter(alloc, builder, items)?;
-    let more = Vec::from_array(alloc, [("c", 3)])?;
-    equal!(rt; cache.extend(more), Ok(()));
-    holds(rt, &cache, &[("c", 3), ("b", 2)]);
-    Ok(())
-}
-
-#[test]
-fn a_collected_cache_drops_its_oldest_entry(rt: HostRuntime) -> Result<(), Fail> {
-    with_each_builder!(rt, collects_and_extends)
-}

@@ -7,10 +7,6 @@ mod asserts;
 #[cfg(test)]
 mod collects;
 #[cfg(test)]
-mod drops;
-#[cfg(test)]
-mod keys;
-#[cfg(test)]
 mod lists;
 #[cfg(test)]
 mod lookups;
@@ -22,8 +18,6 @@ mod puts;
 mod removals;
 #[cfg(test)]
 mod replays;
-#[cfg(test)]
-mod sizes;
 #[cfg(test)]
 mod walks;
 #[cfg(test)]

@@ -55,28 +55,3 @@ fn replays_texts<S: BuildHasher + Copy>(
 fn replay_marks_each_text(rt: HostRuntime) -> Result<(), Fail> {
     with_each_builder!(rt, replays_texts)
 }
-
-/// Replays of letters.
-fn replays_letters<S: BuildHasher + Copy>(
-    rt: &impl Abort,
-    alloc: Global,
-    builder: S,
-) -> Result<(), Fail> {
-    let rows = [
-        (3, "abca", "MMMH"),
-        (3, "abcadbac", "MMMHMMHM"),
-        (2, "", ""),
-        (1, "aaba", "MHMM"),
-        (usize::MAX, "aba", "MMH"),
-    ];
-    for (capacity, keys, letters) in rows {
-        let keys = Vec::from_slice(alloc, keys.as_bytes())?;
-        marks(rt, alloc, capacity, keys, builder, letters)?;
-    }
-    Ok(())
-}
-
-#[test]
-fn replay_marks_each_letter(rt: HostRuntime) -> Result<(), Fail> {
-    with_each_builder!(rt, replays_letters)
-}

@@ -9,6 +9,7 @@ pub mod errors;
 pub mod lends;
 pub mod lookups;
 pub mod makers;
+pub mod performed;
 pub mod puts;
 pub mod removals;
 pub mod runs;

@@ -7,6 +7,7 @@ use clru::{
     CLruCache, CLruCacheConfig, ZeroWeightScale, law_by_position, law_dropped, law_growth,
     law_inclusion, law_longest_fit, law_requests, law_schedules_by_position, law_sizes,
 };
+use clru_runs::{law_included_runs, law_put_runs};
 use std::test::Fail;
 
 #[test]
@@ -18,6 +19,8 @@ fn laws_do_nothing() {
     law_longest_fit::<u64, &'static str>();
     law_requests::<&'static str, u64>();
     law_sizes::<usize, &'static str>();
+    law_included_runs::<&'static str, u64, ZeroWeightScale>();
+    law_put_runs::<&'static str, u64, ZeroWeightScale>();
     law_of_drops(&|_, _| {});
 }
 

@@ -1,4 +1,4 @@
-//! Tests of `clru` by its public calls alone. A crate with tests is proved twice, so they stand in one of their own.
+//! Tests of `clru` by its public calls alone, and of what a caller of `clru_runs` learns. A crate with tests is proved twice, so they stand in one of their own.
 #![tactic(auto)]
 
 #[cfg(test)]
@@ -8,5 +8,7 @@ pub mod callers;
 mod laws;
 #[cfg(test)]
 mod lists;
+#[cfg(test)]
+mod performed;
 #[cfg(test)]
 mod schedules;

@@ -1,10 +1,10 @@
-use Rattle.std.proofs.Common.{None, refl, sym, ap, ◌∙◌, subst}
+use Rattle.std.proofs.Common.{None, refl, sym, ap, ◌∙◌, subst, arith}
 use Rattle.clru_list.specs.Links.{LinkMap, links_of, unlinked, released, IsEnd}
 use Rattle.clru_list.specs.PlaceList.{with_entries, without}
 use Rattle.clru_list.proofs.EntryLists.{without-none}
 use Rattle.clru_list.proofs.Puts.{set_item-same}
 use Rattle.clru_list.proofs.Soundness.{view-is, valid_view}
-use Rattle.clru_list.proofs.Steps.{prev_end, next_end, free_end, some_held, sound-remove}
+use Rattle.clru_list.proofs.Steps.{place_below, size_room, prev_end, next_end, free_end, some_held, sound-remove}
 use Rattle.clru_list.proofs.Views.{seen, seen_item, seen_with, sound-at}
 use Rattle.clru_list.proofs.Pointing.{pointed-none, pointed-still}
 use Rattle.clru_list.proofs.list.FixedSizeList.remove.Goals as goal
@@ -36,6 +36,26 @@ pub unlink-requires-clause-next : goal.unlink-requires-clause-next
 unlink-requires-clause-next g c =
     let P : LinkMap g.row.T.Denot → Type 0 = λ l. IsEnd l (l.next c.args.place) in
     subst P (sym c.in_ok-item.ensures.links) (next_end _ _ _ _ _ c.self.invariant.0 c.args.place c.in_ok-item.item (sym c.in_ok-item.ensures.value))
+
+pub unlink-requires-clause-place : goal.unlink-requires-clause-place
+unlink-requires-clause-place g c =
+    let e = c.in_ok-item.ensures in
+    omega (arith, place_below _ _ _ _ _ c.self.invariant.0 c.args.place c.in_ok-item.item (sym e.value), ap (λ l. l.size) e.links)
+
+pub unlink-requires-clause-allotted : goal.unlink-requires-clause-allotted
+unlink-requires-clause-allotted g c =
+    let e = c.in_ok-item.ensures in omega (arith, size_room _ _ _ _ _ c.self.invariant.0, e.same_allotted, ap (λ l. l.size) e.links)
+
+pub release-requires-clause-place : goal.release-requires-clause-place
+release-requires-clause-place g c =
+    let e = c.in_ok-item.ensures in
+    let below = place_below _ _ _ _ _ c.self.invariant.0 c.args.place c.in_ok-item.item (sym e.value) in
+    omega (arith, below, ap (λ l. l.size) e.links, ap (λ l. l.size) c.unlink.ensures.links)
+
+pub release-requires-clause-allotted : goal.release-requires-clause-allotted
+release-requires-clause-allotted g c =
+    let e = c.in_ok-item.ensures in let u = c.unlink.ensures in
+    omega (arith, size_room _ _ _ _ _ c.self.invariant.0, e.same_allotted, u.same_allotted, ap (λ l. l.size) e.links, ap (λ l. l.size) u.links)
 
 pub release-requires-clause-end : goal.release-requires-clause-end
 release-requires-clause-end g c =

@@ -1,0 +1,233 @@
+//! Keys, values, scales and hashes whose use is counted. Each key and each value owns a block of memory.
+ghost use Rattle.std.specs.Prelude.{◌≡◌, IfOk, nat_eq, unwrap_or};
+ghost use Rattle.std.specs.Hash as fed;
+ghost use Rattle.std.specs.Hash.FoldHasher as folding;
+ghost use Rattle.std.specs.Ordering.{on};
+ghost use Rattle.std.specs.Cmp.Rules.{comparing, hashing};
+ghost use Rattle.std.proofs.Common.{rules};
+
+use crate::words::{Wrong, number_of};
+use crate::world::{World, add};
+use clru::WeightScale;
+use ration::Rationed;
+use std::alloc::{AllocError, Global};
+use std::cell::Cell;
+use std::hash::{BuildHasher, FoldHasher, Hash, Hasher};
+use std::marker::Model;
+
+/// A word as a key. Its number is made of its letters, and two keys are equal where their numbers are.
+pub(crate) struct Key<'a> {
+    pub(crate) text: String<&'a Rationed<Global>>,
+    pub(crate) number: u64,
+    world: &'a World,
+}
+
+impl<'a> Key<'a> {
+    /// The key of a word. With `folded`, upper and lower case are equal.
+    pub(crate) fn new(world: &'a World, word: &str, folded: bool) -> Result<Key<'a>, Wrong> {
+        if word.len() > 8 {
+            return Err(Wrong::LongKey);
+        }
+        let mut number = 0u64;
+        for byte in word.bytes() {
+            let letter = if folded {
+                byte.to_ascii_lowercase()
+            } else {
+                byte
+            };
+            number = number.wrapping_mul(256).wrapping_add(u64::from(letter));
+        }
+        Ok(Key {
+            text: String::from_str(&world.owned, word)?,
+            number,
+            world,
+        })
+    }
+}
+
+impl<'a> Drop for Key<'a> {
+    fn drop(self) {
+        self.world.note("gone", &self.text);
+        let Key {
+            text,
+            number: _,
+            world: _,
+        } = self;
+        drop(text);
+    }
+}
+
+impl<'a> PartialEq for Key<'a> {
+    ghost eq = { on (λ key. key.number) nat_eq };
+
+    ghost laws = { Prim.search (comparing, rules) };
+
+    fn eq(&self, other: &Key<'a>) -> bool {
+        add(&self.world.compared);
+        self.number == other.number
+    }
+}
+
+impl<'a> Eq for Key<'a> {
+    ghost laws = { Prim.search (comparing, rules) };
+}
+
+impl<'a> Hash for Key<'a> {
+    ghost hash_input = { λ key. fed.u64 key.number };
+
+    ghost respects_eq = { Prim.search (hashing, rules) };
+
+    fn hash<H: Hasher>(&self, state: &mut H) {
+        self.number.hash(state);
+    }
+}
+
+/// What a value weighs in a cache with a scale.
+#[derive(Clone, Copy, PartialEq)]
+pub(crate) enum Weigh {
+    /// There is no scale, and it weighs nothing.
+    Nothing,
+    /// Its letters.
+    Length,
+    /// The number that it is.
+    Number,
+}
+
+/// A word as a value. Contracts see its weight alone.
+pub(crate) struct Value<'a> {
+    pub(crate) text: String<&'a Rationed<Global>>,
+    weight: usize,
+    world: &'a World,
+}
+
+impl<'a> Value<'a> {
+    pub(crate) fn new(world: &'a World, word: &str, weigh: Weigh) -> Result<Value<'a>, Wrong> {
+        let weight = match weigh {
+            Weigh::Nothing => 0,
+            Weigh::Length => word.len(),
+            Weigh::Number => number_of(word)?,
+        };
+        let text = String::from_str(&world.owned, word)?;
+        Ok(Value {
+            text,
+            weight,
+            world,
+        })
+    }
+
+    /// The word twice, as a value of this weight.
+    pub(crate) fn doubled(
+        world: &'a World,
+        word: &str,
+        weight: usize,
+    ) -> Result<Value<'a>, AllocError>
+        ensures { IfOk result (λ value. value ≡ weight) }
+    {
+        let mut text = String::from_str(&world.owned, word)?;
+        text.push_str(word)?;
+        Ok(Value {
+            text,
+            weight,
+            world,
+        })
+    }
+
+    /// Writes it.
+    pub(crate) fn write(&self, out: &mut String) -> Result<(), AllocError> {
+        out.push_str(&self.text)
+    }
+
+    /// Another number in its place. Where there is no memory for it, it stays cut short.
+    pub(crate) fn set(&mut self, number: usize) {
+        self.text.clear();
+        let _ = write!(&mut self.text, "{number}");
+    }
+
+    /// The word of another value in its place, as far as there is memory for it.
+    pub(crate) fn copy(&mut self, other: &Value) {
+        self.text.clear();
+        let _ = self.text.push_str(&other.text);
+    }
+
+    /// The number that it is, or 0 where it is none.
+    pub(crate) fn number(&self) -> usize {
+        number_of(&self.text).unwrap_or(0)
+    }
+}
+
+impl<'a> Drop for Value<'a> {
+    fn drop(self) {
+        self.world.note("gone", &self.text);
+        let Value {
+            text,
+            weight: _,
+            world: _,
+        } = self;
+        drop(text);
+    }
+}
+
+impl<'a> Model for Value<'a> {
+    ghost use Rattle.std.specs.Prelude.{ℕ};
+
+    ghost Value = { ℕ };
+
+    ghost view = { λ value. value.weight };
+}
+
+/// A value weighs what it says.
+#[derive(Clone, Copy)]
+pub(crate) struct Scale<'a> {
+    pub(crate) world: &'a World,
+}
+
+impl<'a, K> WeightScale<K, Value<'a>> for Scale<'a> {
+    ghost weight = { λ _ _ value. value };
+
+    fn weight(&self, _key: &K, value: &Value<'a>) -> usize {
+        add(&self.world.weighed);
+        value.weight
+    }
+}
+
+/// A hash builder that counts the hashes: std's, or one that gives all keys one hash.
+#[derive(Clone, Copy)]
+pub(crate) struct Hashing<'a> {
+    pub(crate) hashed: &'a Cell<u64>,
+    pub(crate) fixed: Option<u64>,
+}
+
+/// std's hasher, and the hash that is answered in its place where there is one.
+#[derive(Clone, Copy)]
+pub(crate) struct Folding {
+    folder: FoldHasher,
+    fixed: Option<u64>,
+}
+
+impl Hasher for Folding {
+    ghost write = { λ h bytes. record h { folder = folding.write h.folder bytes } };
+
+    ghost finish = { λ h. unwrap_or h.fixed (folding.finish h.folder) };
+
+    fn finish(&self) -> u64 {
+        self.fixed.unwrap_or(self.folder.finish())
+    }
+
+    fn write(&mut self, bytes: &[u8]) {
+        self.folder.write(bytes);
+    }
+}
+
+impl<'a> BuildHasher for Hashing<'a> {
+    type Hasher = Folding;
+
+    ghost build_hasher = { λ s. record { folder = folding.initial; fixed = s.fixed } };
+
+    fn build_hasher(&self) -> Folding {
+        add(self.hashed);
+        Folding {
+            folder: FoldHasher::default(),
+            fixed: self.fixed,
+        }
+    }
+}

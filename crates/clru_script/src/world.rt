@@ -1,0 +1,96 @@
+//! What a script's caches stand on: memory that is counted and can be refused, and what was done so far.
+
+use ration::Rationed;
+use std::alloc::Global;
+use std::cell::Cell;
+
+/// Counts, memory and notes of one run of a block of lines.
+#[derive(Drop)]
+pub(crate) struct World {
+    pub(crate) alloc: Global,
+    pub(crate) compared: Cell<u64>,
+    pub(crate) hashed: Cell<u64>,
+    pub(crate) weighed: Cell<u64>,
+    pub(crate) fetched: Cell<u64>,
+    /// The memory of caches, and
+    pub(crate) heap: Rationed<Global>,
+    /// that of keys and values.
+    pub(crate) owned: Rationed<Global>,
+    /// What the last call did, in order.
+    notes: Cell<String>,
+}
+
+/// What was counted: comparisons, hashes, weighings, fetches, requests for memory and their bytes.
+#[derive(Clone, Copy)]
+pub(crate) struct Cost {
+    pub(crate) compared: u64,
+    pub(crate) hashed: u64,
+    pub(crate) weighed: u64,
+    pub(crate) fetched: u64,
+    pub(crate) asked: u64,
+    pub(crate) bytes: u64,
+}
+
+impl Cost {
+    /// What came since.
+    pub(crate) fn since(self, before: Cost) -> Cost {
+        Cost {
+            compared: self.compared.wrapping_sub(before.compared),
+            hashed: self.hashed.wrapping_sub(before.hashed),
+            weighed: self.weighed.wrapping_sub(before.weighed),
+            fetched: self.fetched.wrapping_sub(before.fetched),
+            asked: self.asked.wrapping_sub(before.asked),
+            bytes: self.bytes.wrapping_sub(before.bytes),
+        }
+    }
+}
+
+/// Counts one more.
+pub(crate) fn add(count: &Cell<u64>) {
+    count.set(count.get().wrapping_add(1));
+}
+
+impl World {
+    pub(crate) fn new(alloc: Global) -> World {
+        World {
+            alloc,
+            compared: Cell::new(0),
+            hashed: Cell::new(0),
+            weighed: Cell::new(0),
+            fetched: Cell::new(0),
+            heap: Rationed::new(alloc),
+            owned: Rationed::new(alloc),
+            notes: Cell::new(String::new(alloc)),
+        }
+    }
+
+    pub(crate) fn cost(&self) -> Cost {
+        Cost {
+            compared: self.compared.get(),
+            hashed: self.hashed.get(),
+            weighed: self.weighed.get(),
+            fetched: self.fetched.get(),
+            asked: self.heap.asked(),
+            bytes: self.heap.asked_bytes(),
+        }
+    }
+
+    /// Notes that something was done with a key or a value. Where there is no memory for it, the note is left out.
+    pub(crate) fn note(&self, what: &str, of: &str) {
+        let mut notes = self.notes.replace(String::new(self.alloc));
+        if !notes.is_empty() {
+            let _ = notes.push_str(", ");
+        }
+        let _ = notes.push_str(what);
+        if !of.is_empty() {
+            let _ = notes.push(' ');
+            let _ = notes.push_str(of);
+        }
+        self.notes.set(notes);
+    }
+
+    /// What was noted so far, which is then forgotten.
+    pub(crate) fn notes(&self) -> String {
+        self.notes.replace(String::new(self.alloc))
+    }
+}
