@@ -13,7 +13,7 @@ use ration::Rationed;
 use std::alloc::Global;
 
 /// A look ahead.
-type Ahead<'a> = Foresight<'a, &'a str, &'a Rationed<Global>>;
+type Ahead<'k, 's, 'a> = Foresight<'k, &'s str, &'a Rationed<Global>>;
 
 /// One that lines ask.
 #[derive(Drop)]
@@ -36,8 +36,18 @@ pub(crate) fn run(
     for key in &list.keys {
         keys.push(key)?;
     }
+    look_ahead(world, &keys, lines, hash, refusal)
+}
+
+fn look_ahead<'k, 's, 'a>(
+    world: &'a World,
+    keys: &'k [&'s str],
+    lines: &[Line],
+    hash: Hash,
+    refusal: &mut Refusal,
+) -> Result<Answers, Wrong> {
     let (mut answer, mut answers) = (String::new(world.alloc), Vec::new(world.alloc));
-    let Ok(ahead) = Foresight::new(&world.heap, &keys, hashing_of(world, hash)) else {
+    let Ok(ahead) = Foresight::new(&world.heap, keys, hashing_of(world, hash)) else {
         answer.push_str("no memory")?;
         if let Some(number) = refusal.number {
             write!(&mut refusal.met, "request {number}: nothing is made")?;
@@ -50,7 +60,7 @@ pub(crate) fn run(
     Ok(answers)
 }
 
-impl<'a> Subject for Look<Ahead<'a>> {
+impl<'k, 's, 'a> Subject for Look<Ahead<'k, 's, 'a>> {
     fn call(&mut self, name: &str, words: &mut Words, out: &mut String) -> Result<(), Wrong> {
         if name != "room" {
             return Err(Wrong::NoSuchCall);

@@ -30,27 +30,23 @@ pub(crate) fn misses_of<'a>(
     out: &mut String,
 ) -> Result<(), Wrong> {
     let list = read_keys(world.alloc, words)?;
-    let mut keys: Vec<&str> = Vec::new(world.alloc);
-    let mut pass = DistancePass::with_hasher(&world.heap, hashing);
-    if list.keys.len() <= MOST {
-        out.push_str("distances")?;
-    }
-    for key in &list.keys {
-        let key: &str = key;
+    misses_of_list(world, hashing, &list.keys, list.drawn, out)
+}
+
+fn misses_of_list<'a, 's>(
+    world: &'a World,
+    hashing: Hashing<'a>,
+    list: &'s [String],
+    drawn: bool,
+    out: &mut String,
+) -> Result<(), Wrong> {
+    let mut keys: Vec<&'s str> = Vec::new(world.alloc);
+    for key in list {
         keys.push(key)?;
-        let distance = match pass.request(key) {
-            Ok(distance) => distance,
-            Err(back) => match pass.request(back) {
-                Ok(distance) => distance,
-                Err(back) => {
-                    write!(out, " no memory, back {back}")?;
-                    return Ok(());
-                }
-            },
-        };
-        if list.keys.len() <= MOST {
-            write_span(distance, out)?;
-        }
+    }
+    let mut pass = DistancePass::with_hasher(&world.heap, hashing);
+    if !requested(&mut pass, &keys, out)? {
+        return Ok(());
     }
     let Ok(early) = pass.curve(&world.heap) else {
         out.push_str("; no memory for a curve")?;
@@ -65,10 +61,36 @@ pub(crate) fn misses_of<'a>(
         out.push_str("; ? the curves differ")?;
     }
     write_misses(&whole, out)?;
-    if list.drawn {
+    if drawn {
         beside_replays(world, hashing, &keys, &whole, out)?;
     }
     Ok(())
+}
+
+/// Makes the requests one by one, and answers whether each was taken.
+fn requested<'a, 's>(
+    pass: &mut DistancePass<&'s str, Hashing<'a>, &'a Rationed<Global>>,
+    keys: &[&'s str],
+    out: &mut String,
+) -> Result<bool, Wrong> {
+    if keys.len() <= MOST {
+        out.push_str("distances")?;
+    }
+    for key in keys {
+        let taken = match pass.request(*key) {
+            Err(back) => pass.request(back),
+            taken => taken,
+        };
+        match taken {
+            Ok(distance) if keys.len() <= MOST => write_span(distance, out)?,
+            Ok(_) => {}
+            Err(back) => {
+                write!(out, " no memory, back {back}")?;
+                return Ok(false);
+            }
+        }
+    }
+    Ok(true)
 }
 
 /// Says whether a replay at each capacity misses as often.
@@ -130,8 +152,18 @@ pub(crate) fn sizes_of<'a>(
     out: &mut String,
 ) -> Result<(), Wrong> {
     let list = read_keys(world.alloc, words)?;
-    let mut keys = Vec::new(world.alloc);
-    for text in &list.keys {
+    sizes_of_list(world, hashing, &list.keys, list.drawn, out)
+}
+
+fn sizes_of_list<'a, 's>(
+    world: &'a World,
+    hashing: Hashing<'a>,
+    list: &'s [String],
+    drawn: bool,
+    out: &mut String,
+) -> Result<(), Wrong> {
+    let mut keys: Vec<Heavy<'s>> = Vec::new(world.alloc);
+    for text in list {
         let weight = weight_of(text)?;
         keys.push(Heavy { text, weight })?;
     }
@@ -140,24 +172,28 @@ pub(crate) fn sizes_of<'a>(
     if !out.is_empty() {
         out.push_str(", ")?;
     }
-    match (by_pass, whole) {
-        (Ok(curve), Ok(whole)) => {
-            write_sized(&curve, out)?;
-            if !alike(&curve, &whole) {
-                out.push_str("; ? the curves differ")?;
+    match whole {
+        Ok(whole) => match by_pass {
+            Ok(curve) => {
+                write_sized(&curve, out)?;
+                if !alike(&curve, &whole) {
+                    out.push_str("; ? the curves differ")?;
+                }
+                if drawn {
+                    beside_lists(world, hashing, &keys, &curve, out)?;
+                }
             }
-            if list.drawn {
-                beside_lists(world, hashing, &keys, &curve, out)?;
-            }
-        }
-        (Err(SizedRequestError::TooLarge(key)), Err(SizedRequestError::TooLarge(back)))
-            if key == back => write!(out, "too large, back {}", key.text)?,
-        (_, Err(SizedRequestError::NoMemory(back))) => write!(
-            out,
-            "no memory, back {}",
-            back.text
-        )?,
-        _ => out.push_str("? the pass and the whole differ")?,
+            Err(_) => out.push_str("? the pass was refused")?,
+        },
+        Err(SizedRequestError::NoMemory(back)) => write!(out, "no memory, back {}", back.text)?,
+        Err(SizedRequestError::TooLarge(back)) => match by_pass {
+            Err(SizedRequestError::TooLarge(key)) if key == back => write!(
+                out,
+                "too large, back {}",
+                key.text
+            )?,
+            _ => out.push_str("? the pass was not too large")?,
+        },
     }
     Ok(())
 }
