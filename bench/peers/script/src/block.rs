@@ -106,10 +106,11 @@ fn begun(call: &[&str]) -> Option<(Cache, Option<String>)> {
 /// The cache of a first line. Under which hash its keys lie is nothing that the crate's answers show.
 fn cache_of(words: &[&str]) -> Option<Cache> {
     let mut of = Of {
+        capacity: 1,
         folded: false,
         weigh: Weigh::Nothing,
     };
-    let (mut capacity, mut reserve, mut filled) = (0, None, 0);
+    let (mut reserve, mut filled) = (None, 0);
     let mut words = words.iter();
     while let Some(word) = words.next() {
         match *word {
@@ -117,7 +118,7 @@ fn cache_of(words: &[&str]) -> Option<Cache> {
                 let pairs = pairs_of(of, words.as_slice())?;
                 return Some(Cache::Plain(of, pairs.into_iter().collect()));
             }
-            "capacity" => capacity = number(words.next()?)?,
+            "capacity" => of.capacity = number(words.next()?)?,
             "reserve" => reserve = Some(number(words.next()?)?),
             "fill" => filled = number(words.next()?)?,
             "fold" => of.folded = true,
@@ -127,9 +128,9 @@ fn cache_of(words: &[&str]) -> Option<Cache> {
         }
     }
     Some(if of.weigh == Weigh::Nothing {
-        Cache::Plain(of, filled_with(of, made(capacity, reserve)?, filled)?)
+        Cache::Plain(of, filled_with(of, made(of.capacity, reserve)?, filled)?)
     } else {
-        Cache::Weighted(of, filled_with(of, made(capacity, reserve)?, filled)?)
+        Cache::Weighted(of, filled_with(of, made(of.capacity, reserve)?, filled)?)
     })
 }
 

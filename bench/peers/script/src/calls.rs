@@ -41,7 +41,7 @@ pub fn answer<W: WeightScale<Key, Value> + Default>(
         ["list"] => listed(cache),
         ["iter", ref steps @ ..] => walk(cache.iter(), steps)?,
         ["into_iter", ref steps @ ..] => {
-            let fresh = made(cache.capacity(), None)?;
+            let fresh = made(of.capacity, None)?;
             walk_owned(mem::replace(cache, fresh), steps)?
         }
         // The closure of the pairs that go is lent in the second one, and the crate has none.

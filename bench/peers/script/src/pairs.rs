@@ -102,9 +102,10 @@ impl WeightScale<Key, Value> for Scale {
     }
 }
 
-/// What the keys and values of a block are made of.
+/// What a block is made of: the capacity of its first line, and of its keys and values.
 #[derive(Clone, Copy)]
 pub struct Of {
+    pub capacity: usize,
     pub folded: bool,
     pub weigh: Weigh,
 }

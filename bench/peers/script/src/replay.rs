@@ -11,6 +11,7 @@ const MOST: usize = 40;
 pub fn replay(capacity: usize, words: &[&str]) -> Option<String> {
     let keys = keys_of(words)?;
     let of = Of {
+        capacity,
         folded: false,
         weigh: Weigh::Nothing,
     };
