@@ -1,8 +1,8 @@
 //! Has the Rust crate clru answer a script of calls: writes it again, each call with what that crate answers.
 //!
 //! What it can't answer it leaves as it stands, and prints the numbers of those lines on standard error: looks at costs
-//! and memory, calls that were refused memory, blocks of what that crate does not have. A call on which the crate panics
-//! answers `panics`, and the rest of its block stays as it is.
+//! and memory, calls that were refused memory, blocks of what that crate does not have. A call on which that crate
+//! panics answers `panics`, and the rest of its block stays as it is.
 
 mod block;
 mod calls;
