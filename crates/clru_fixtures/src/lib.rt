@@ -1,4 +1,5 @@
-//! What tests share: builders that hash all keys alike, a scale, capacities, and what a cache asks for.
+//! What tests share: builders that hash all keys alike, keys that are equal without being the same, a scale, capacities, and
+//! what a cache asks for.
 #![tactic(auto)]
 
 /// Calls a check with the default builder, and with each of those that give all keys one hash. A check is a function that
@@ -16,5 +17,6 @@ macro_rules! with_each_builder {
 
 pub mod builders;
 pub mod costs;
+pub mod letters;
 pub mod scales;
 pub mod sizes;

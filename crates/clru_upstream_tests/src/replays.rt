@@ -1,7 +1,8 @@
-//! Whole lists of texts, of which a script can't write each.
+//! Whole lists of keys that a script can't write.
 
 use assertions::equal;
 use clru::{DefaultState, Replay, replay};
+use clru_fixtures::letters::Letter;
 use clru_fixtures::sizes::capacity_of;
 use std::test::Fail;
 
@@ -28,6 +29,17 @@ fn replay_marks_each_text(rt: HostRuntime) -> Result<(), Fail> {
             return Err("the keys came back".into());
         };
         equal!(rt; is_marked(&answer, letters.as_bytes()), true, letters);
+    }
+    Ok(())
+}
+
+/// Letters in either case are equal keys.
+#[test]
+fn replay_goes_by_the_equality_of_keys(rt: HostRuntime) -> Result<(), Fail> {
+    let keys = Vec::from_array(rt.alloc(), [b'A', b'b', b'a', b'B', b'c', b'A'].map(Letter))?;
+    match replay(rt.alloc(), capacity_of(2)?, keys, DefaultState) {
+        Ok(answer) => equal!(rt; is_marked(&answer, b"MMHHMM"), true),
+        Err(_) => return Err("the keys came back".into()),
     }
     Ok(())
 }
