@@ -1,6 +1,6 @@
-//! What is owned is dropped once, and refused memory leaves all as it was: where a script can't say it. Iterators that are drawn
-//! no further than to a refusal, makers of configurations, items of a list that own memory, nodes by their hashes, and a source
-//! that takes memory of its own.
+//! What is owned is dropped once, and refused memory leaves all as it was, where a script can't say it: iterators that are
+//! drawn no further than to a refusal, makers of configurations, items of a list that own memory, nodes by their hashes, and
+//! a source that takes memory of its own.
 #![tactic(auto)]
 
 #[cfg(test)]

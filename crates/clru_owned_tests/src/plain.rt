@@ -15,8 +15,8 @@ pub(crate) type Plain<'a> = CLruCache<
     &'a Rationed<Global>,
 >;
 
-/// Asserts that the cache holds the keys below `stored`, each with ten more as its value, the highest first, and no other: by a
-/// walk from each end, and by a look-up of each key.
+/// Asserts that the cache holds the keys below `stored` and no other, each with ten more as its value, the highest first: by
+/// a walk from each end, and by a look-up of each key.
 pub(crate) fn holds_those_below(rt: &impl Abort, cache: &Plain, stored: u64) {
     equal!(rt; (cache.len() as u64, cache.peek(&stored)), (stored, None));
     let (mut forward, mut backward) = (cache.iter(), cache.iter());

@@ -1,5 +1,5 @@
-//! The caches of the tests, and looks at them. A test makes its cache, and a function that borrows it makes the calls: a cache
-//! that is owned across a `?` is dear to prove.
+//! The caches of the tests, and looks at them. A test makes its cache, and a function that borrows it makes the calls: a
+//! cache that is owned across a `?` is dear to prove.
 
 use clru::{CLruCache, DefaultState, WeightScale};
 use clru_fixtures::scales::ByLength;

@@ -78,10 +78,11 @@ fn are_kept(cache: &mut Numbers) -> bool {
         && cache.get(&"d").is_none()
 }
 
-/// Letters under numbers.
+/// Letters by numbers.
 type Many = CLruCache<u64, &'static str>;
 
-/// Puts 75 numbers under each of three letters into a cache for 200, and gets the second ones from the last to the first, and 25.
+/// Puts 75 numbers for each of three letters into a cache for 200, and gets those of the second from the last to the first,
+/// and then 25.
 fn fills(cache: &mut Many) -> bool {
     let mut filled = true;
     for (first, letter) in [(0u64, "A"), (100, "B"), (200, "C")] {
@@ -96,7 +97,7 @@ fn fills(cache: &mut Many) -> bool {
     cache.get(&25) == Some(&"A") && filled
 }
 
-/// Numbers of one letter as they go out: the first one, how many there are, and whether each is less than the one before.
+/// Numbers of one letter as they go out: the first, how many there are, and whether each is less than the one before.
 type Going = (u64, u64, bool, &'static str);
 
 /// Whether these go out at the end in turn, and then none, however often it is asked.
