@@ -1,4 +1,4 @@
-//! What a cache asks for. All counts of requests and bytes in tests come from the numbers here.
+//! What a cache asks for.
 
 use clru::{CLruCache, ZeroWeightScale};
 use ration::Rationed;
@@ -8,13 +8,6 @@ use std::hash::BuildHasher;
 /// The requests of a growth, and the blocks that a cache with places holds: the places of the list, and the heads with the
 /// links of their chains.
 pub const REQUESTS: u64 = 2;
-
-/// The bytes of a place for a key of eight bytes and a mark: four words, for the two neighbours, whether there is a pair, the
-/// key and the mark.
-pub const PLACE_BYTES: u64 = 32;
-
-/// The bytes of a head with its part of the links, of which there is one for two heads.
-pub const HEAD_BYTES: u64 = 6;
 
 /// How many new keys go in before one is refused or the first one goes, where each request is refused.
 pub fn free_places<S: BuildHasher>(

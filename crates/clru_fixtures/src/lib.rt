@@ -1,5 +1,5 @@
-//! What the tests of several crates share: builders that hash all keys alike, keys that are equal without being the same,
-//! scales, capacities, and what a cache asks for.
+//! What tests share: builders that hash all keys alike, keys that are equal without being the same, a scale, capacities, and
+//! what a cache asks for.
 #![tactic(auto)]
 
 /// Calls a check with the default builder, and with each of those that give all keys one hash. A check is a function that

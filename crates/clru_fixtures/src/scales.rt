@@ -14,15 +14,3 @@ impl<K> WeightScale<K, &'static str> for ByLength {
         value.len()
     }
 }
-
-/// A number weighs itself.
-#[derive(Clone, Copy)]
-pub struct ByValue;
-
-impl<K> WeightScale<K, usize> for ByValue {
-    ghost weight = { λ _ _ value. value };
-
-    fn weight(&self, _key: &K, value: &usize) -> usize {
-        *value
-    }
-}

@@ -7,6 +7,8 @@ use clru::{
     CLruCache, CLruCacheConfig, ZeroWeightScale, law_by_position, law_dropped, law_growth,
     law_inclusion, law_longest_fit, law_requests, law_schedules_by_position, law_sizes,
 };
+use clru_curve::law_distances;
+use clru_least::law_least;
 use clru_runs::{law_included_runs, law_put_runs};
 use std::test::Fail;
 
@@ -22,6 +24,14 @@ fn laws_do_nothing() {
     law_included_runs::<&'static str, u64, ZeroWeightScale>();
     law_put_runs::<&'static str, u64, ZeroWeightScale>();
     law_of_drops(&|_, _| {});
+}
+
+/// Those that speak of curves and of the least.
+#[test]
+fn laws_are_called() {
+    law_distances::<u64>();
+    clru_curve::law_sizes::<u64, ()>();
+    law_least::<u8>();
 }
 
 /// `law_dropped` for the type of a closure.

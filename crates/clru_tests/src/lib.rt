@@ -1,4 +1,6 @@
-//! Tests of `clru` by its public calls alone, and of what a caller of `clru_runs` learns. A crate with tests is proved twice, so they stand in one of their own.
+//! Does a contract tell its callers enough? Callers with clauses of their own, each proved by the public contracts alone: of the
+//! cache and its runs, and in `of_lists`, `of_stores` and `of_least` of the list, the store and the least. Beside them the laws
+//! at types of a caller's, and schedules beside the competitive bound.
 #![tactic(auto)]
 
 #[cfg(test)]

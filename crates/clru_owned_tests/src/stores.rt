@@ -1,0 +1,102 @@
+//! A store whose source and whose callers take memory where the cache does, so that each request of theirs is refused too.
+ghost use Rattle.std.specs.Prelude.{ℕ, List, Some, length, replicate, ⊤};
+ghost use Rattle.std.specs.Cmp.Rules.{comparing};
+ghost use Rattle.std.proofs.Common.{rules};
+
+use assertions::equal;
+use clru::{CLruCache, WeightScale};
+use clru_fixtures::sizes::capacity_of;
+use clru_through::{Loaded, Source, Through};
+use ration::Rationed;
+use std::alloc::{AllocError, Global};
+use std::marker::Model;
+use std::process::Abort;
+use std::test::Fail;
+
+type Key<'a> = String<&'a Rationed<Global>>;
+
+/// Bytes. Contracts see the bytes alone, so that two fetches of one key can give the same value.
+#[derive(Drop)]
+struct Page<'a> {
+    bytes: Vec<u8, &'a Rationed<Global>>,
+}
+
+impl<'a> Model for Page<'a> {
+    ghost Value = { List ℕ };
+
+    ghost view = { λ page. page.bytes.items };
+}
+
+/// A page weighs the number of its bytes.
+#[derive(Clone, Copy)]
+struct ByBytes;
+
+impl<'a, K> WeightScale<K, Page<'a>> for ByBytes {
+    ghost weight = { λ _ _ page. length page };
+
+    fn weight(&self, _key: &K, page: &Page<'a>) -> usize {
+        page.bytes.len()
+    }
+}
+
+/// Gives pages of three bytes, and fails where memory is refused.
+#[derive(Drop)]
+struct Pages<'a> {
+    heap: &'a Rationed<Global>,
+}
+
+impl<'a> Source<Key<'a>, Page<'a>, AllocError> for Pages<'a> {
+    ghost value = { λ _ _. Some (replicate 3 0) };
+
+    ghost fetches = { λ _ _ _ _. ⊤ };
+
+    fn fetch(&mut self, _key: &Key<'a>) -> Result<Page<'a>, AllocError> {
+        let bytes = vec![in self.heap; 0; 3]?;
+        Ok(Page { bytes })
+    }
+
+    ghost same = { Prim.search (rules, comparing) };
+}
+
+/// Loads a few keys, and goes on where memory is refused. Returns how many of the values were passed on, and how many keys
+/// or values could not be made.
+fn loads(rt: &impl Abort, heap: &Rationed<Global>) -> Result<(u64, u64), Fail> {
+    let cache = CLruCache::with_scale(heap, capacity_of(20)?, ByBytes);
+    let mut store = Through::new(cache, Pages { heap });
+    let mut passed = 0u64;
+    let mut failed = 0u64;
+    for letter in ["a", "b", "a", "c", "d", "b"] {
+        let Ok(key) = String::from_str(heap, letter) else {
+            failed = failed.saturating_add(1);
+            continue;
+        };
+        match store.load(key) {
+            Ok(Loaded::Held { .. }) => {}
+            Ok(Loaded::Passed(page)) => {
+                equal!(rt; page.bytes.as_slice(), [0, 0, 0].as_slice());
+                passed = passed.saturating_add(1);
+            }
+            Err(_) => failed = failed.saturating_add(1),
+        }
+    }
+    Ok((passed, failed))
+}
+
+#[test]
+fn nothing_is_lost_where_memory_is_refused(rt: HostRuntime) -> Result<(), Fail> {
+    for n in 0..40u64 {
+        let heap = Rationed::new(rt.alloc());
+        heap.refuse_one_after(n);
+        let (passed, failed) = loads(&rt, &heap)?;
+        equal!(rt;
+            (passed.saturating_add(failed), heap.blocks()),
+            (heap.refused(), 0),
+            n
+        );
+        if heap.refused() == 0 {
+            assert!(rt; n > 0, "there was a request to refuse");
+            return Ok(());
+        }
+    }
+    Err("each run met a refusal".into())
+}

@@ -1,0 +1,156 @@
+//! What takes entries out.
+
+use crate::caches::{End, FRUITS, LETTERS, Numbers, Words, gets, is, puts};
+use assertions::equal;
+use clru::CLruCache;
+use clru_fixtures::sizes::capacity_of;
+use std::test::Fail;
+
+#[test]
+fn test_pop(rt: HostRuntime) -> Result<(), Fail> {
+    let mut cache = CLruCache::new(rt.alloc(), capacity_of(2)?);
+    equal!(rt; pops(&mut cache), true);
+    Ok(())
+}
+
+fn pops(cache: &mut Words) -> bool {
+    puts(cache, &FRUITS)
+        && cache.len() == 2
+        && gets(cache, &FRUITS)
+        && cache.pop(&"apple") == Some("red")
+        && cache.len() == 1
+        && cache.get(&"apple").is_none()
+        && cache.get(&"banana") == Some(&"yellow")
+}
+
+#[test]
+fn test_clear(rt: HostRuntime) -> Result<(), Fail> {
+    let mut cache = CLruCache::new(rt.alloc(), capacity_of(2)?);
+    equal!(rt; clears(&mut cache), true);
+    Ok(())
+}
+
+fn clears(cache: &mut Words) -> bool {
+    let filled = puts(cache, &FRUITS) && cache.len() == 2 && gets(cache, &FRUITS);
+    cache.clear();
+    filled && cache.len() == 0
+}
+
+#[test]
+fn test_that_pop_actually_detaches_node(rt: HostRuntime) -> Result<(), Fail> {
+    let mut cache = CLruCache::new(rt.alloc(), capacity_of(5)?);
+    equal!(rt; detaches(&mut cache), true);
+    Ok(())
+}
+
+fn detaches(cache: &mut Numbers) -> bool {
+    puts(cache, &LETTERS)
+        && cache.pop(&"c") == Some(3)
+        && puts(cache, &[("f", 6)])
+        && is(cache, &[("f", 6), ("e", 5), ("d", 4), ("b", 2), ("a", 1)])
+}
+
+#[test]
+fn test_retain(rt: HostRuntime) -> Result<(), Fail> {
+    let mut cache = CLruCache::new(rt.alloc(), capacity_of(5)?);
+    equal!(rt; retains(&mut cache), true);
+    Ok(())
+}
+
+fn retains(cache: &mut Numbers) -> bool {
+    let filled = puts(cache, &LETTERS) && cache.len() == 5;
+    cache.retain_mut(|key, value| {
+        *value = value.saturating_add(1);
+        *key != "b" && *key != "d"
+    });
+    let kept = are_kept(cache);
+    cache.retain(|_, _| true);
+    let still_kept = are_kept(cache);
+    cache.retain(|_, _| false);
+    filled && kept && still_kept && cache.len() == 0 && cache.get(&"a").is_none()
+}
+
+/// Whether three of the letters are held, each with one more, and two are not.
+fn are_kept(cache: &mut Numbers) -> bool {
+    cache.len() == 3
+        && gets(cache, &[("a", 2), ("c", 4), ("e", 6)])
+        && cache.get(&"b").is_none()
+        && cache.get(&"d").is_none()
+}
+
+/// Letters by numbers.
+type Many = CLruCache<u64, &'static str>;
+
+/// Puts 75 numbers for each of three letters into a cache for 200, and gets those of the second from the last to the first,
+/// and then 25.
+fn fills(cache: &mut Many) -> bool {
+    let mut filled = true;
+    for (first, letter) in [(0u64, "A"), (100, "B"), (200, "C")] {
+        for i in 0..75 {
+            filled = cache.put(first.wrapping_add(i), letter).is_ok() && filled;
+        }
+    }
+    filled = cache.len() == 200 && filled;
+    for key in (100..175u64).rev() {
+        filled = cache.get(&key) == Some(&"B") && filled;
+    }
+    cache.get(&25) == Some(&"A") && filled
+}
+
+/// Numbers of one letter as they go out: the first, how many there are, and whether each is less than the one before.
+type Going = (u64, u64, bool, &'static str);
+
+/// Whether these go out at the end in turn, and then none, however often it is asked.
+fn go_out(cache: &mut Many, end: End, numbers: &[Going]) -> bool {
+    for (first, number, falls, letter) in numbers {
+        for i in 0..*number {
+            let key = if *falls {
+                first.wrapping_sub(i)
+            } else {
+                first.wrapping_add(i)
+            };
+            if popped(cache, end) != Some((key, *letter)) {
+                return false;
+            }
+        }
+    }
+    for _ in 0..50 {
+        if popped(cache, end).is_some() {
+            return false;
+        }
+    }
+    true
+}
+
+fn popped(cache: &mut Many, end: End) -> Option<(u64, &'static str)> {
+    match end {
+        End::Front => cache.pop_front(),
+        End::Back => cache.pop_back(),
+    }
+}
+
+#[test]
+fn test_pop_front(rt: HostRuntime) -> Result<(), Fail> {
+    let mut cache = CLruCache::new(rt.alloc(), capacity_of(200)?);
+    let numbers = [
+        (25, 1, false, "A"),
+        (100, 75, false, "B"),
+        (274, 75, true, "C"),
+        (74, 49, true, "A"),
+    ];
+    equal!(rt; fills(&mut cache) && go_out(&mut cache, End::Front, &numbers), true);
+    Ok(())
+}
+
+#[test]
+fn test_pop_back(rt: HostRuntime) -> Result<(), Fail> {
+    let mut cache = CLruCache::new(rt.alloc(), capacity_of(200)?);
+    let numbers = [
+        (26, 49, false, "A"),
+        (200, 75, false, "C"),
+        (174, 75, true, "B"),
+        (25, 1, false, "A"),
+    ];
+    equal!(rt; fills(&mut cache) && go_out(&mut cache, End::Back, &numbers), true);
+    Ok(())
+}
