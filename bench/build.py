@@ -34,9 +34,7 @@ def stop(why):
 
 def build_all(bench, work, clru, programs=PROGRAMS):
     kit = kit_of()
-    missing = [it for it in PACKAGES if not any(REGISTRY.glob(f"{it}-[0-9]*"))]
-    if missing or not shutil.which("cargo"):
-        stop(f"install cargo, {', '.join(f'librust-{it}-dev' for it in PACKAGES)}")
+    want_packages()
     lay_ours(bench, work / "ours", [*programs, *LIBRARIES])
     print("bench: proving and building our side", file=sys.stderr)
     crates = work / "ours" / "crates"
@@ -50,6 +48,20 @@ def build_all(bench, work, clru, programs=PROGRAMS):
     commands = [crates / it / "out" / it for it in programs]
     tools = f"{first_line('rt', 'version')}; {first_line('rustc', '--version')}"
     return Built(work, driver, commands, {"ours": "ours", **names}, tools)
+
+
+def build_script(bench, work, clru):
+    """Builds the driver that answers scripts by the Rust crate clru. A sum that overflows panics in it."""
+    want_packages()
+    peers = lay_peers(bench, work, clru)
+    call(work, ["cargo", "build", "-p", "script"], peers)
+    return peers / "target" / "debug" / "script"
+
+
+def want_packages():
+    missing = [it for it in PACKAGES if not any(REGISTRY.glob(f"{it}-[0-9]*"))]
+    if missing or not shutil.which("cargo"):
+        stop(f"install cargo, {', '.join(f'librust-{it}-dev' for it in PACKAGES)}")
 
 
 def kit_of():
@@ -122,11 +134,7 @@ def time_of(file):
 
 def build_peers(bench, work, clru, libraries):
     """Builds the driver, and answers the names of the peers with their versions."""
-    peers = work / "peers"
-    # (a copy keeps no time: cargo would take an older file for one that it has built)
-    shutil.copytree(bench / "peers", peers, copy_function=shutil.copy, dirs_exist_ok=True)
-    if clru:
-        shutil.copytree(clru / "src", peers / "clru" / "src", copy_function=shutil.copy, dirs_exist_ok=True)
+    peers = lay_peers(bench, work, clru)
     words = ["cargo", "build", "--release", *(["--features", "driver/clru"] if clru else [])]
     call(work, words, peers, more={"BENCH_LIBRARIES": ":".join(map(str, libraries))})
     versions = dict(LOCKED.findall((peers / "Cargo.lock").read_text()))
@@ -135,3 +143,13 @@ def build_peers(bench, work, clru, libraries):
         found = LOCKED.search(manifest.read_text()) if manifest.exists() else None
         versions["clru"] = found[2] if found else ""
     return {it: f"{it} {versions[it]}".strip() for it in (*PACKAGES, *(["clru"] if clru else []))}
+
+
+def lay_peers(bench, work, clru):
+    """Copies the peers, with the source of the Rust crate clru in its place where it is given."""
+    peers = work / "peers"
+    # (a copy keeps no time: cargo would take an older file for one that it has built)
+    shutil.copytree(bench / "peers", peers, copy_function=shutil.copy, dirs_exist_ok=True)
+    if clru:
+        shutil.copytree(clru / "src", peers / "clru" / "src", copy_function=shutil.copy, dirs_exist_ok=True)
+    return peers

@@ -112,6 +112,9 @@ pub(crate) fn begin<C: Drop>(
         answer.push_str("no memory")?;
         if let Some(number) = refusal.number {
             write!(&mut refusal.met, "request {number}: nothing is made")?;
+            if of.world.heap.blocks() != 0 || of.world.owned.blocks() != 0 {
+                refusal.met.push_str("; ? memory is left over")?;
+            }
         }
     }
     answers.push(answer)?;

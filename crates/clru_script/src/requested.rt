@@ -15,35 +15,65 @@ pub(crate) struct Requested {
 /// numbers below M, of which small ones come more often; or the keys themselves. Behind `weigh M` a counted or drawn key has the
 /// rest of its number by M for a weight, behind a colon.
 pub(crate) fn read_keys(alloc: Global, words: &mut Words) -> Result<Requested, Wrong> {
-    let mut keys = Vec::new(alloc);
-    let mut drawn = false;
+    let mut list = Requested {
+        keys: Vec::new(alloc),
+        drawn: false,
+    };
+    read_all(alloc, words, &mut list)?;
+    Ok(list)
+}
+
+/// Reads to the end of the line.
+fn read_all(alloc: Global, words: &mut Words, list: &mut Requested) -> Result<(), Wrong> {
     for _ in 0..usize::MAX {
-        match words.next() {
-            None => break,
-            Some("hash") => {
-                let _name = next(words)?;
-            }
-            Some("count") => {
-                let count = next_number(words)?;
-                let distinct = named(words, "of")?;
-                let mut numbers = Vec::new(alloc);
-                for number in 0..count as u64 {
-                    numbers.push(number.checked_rem(distinct).unwrap_or(0))?;
-                }
-                name(alloc, &numbers, words, &mut keys)?;
-            }
-            Some("drawn") => {
-                let count = next_number(words)?;
-                let seed = named(words, "seed")?;
-                let distinct = named(words, "of")?;
-                let numbers = draws(alloc, count, seed, distinct)?;
-                drawn = true;
-                name(alloc, &numbers, words, &mut keys)?;
-            }
-            Some(key) => keys.push(String::from_str(alloc, key)?)?,
+        let Some(word) = words.next() else {
+            break;
+        };
+        read_word(alloc, word, words, list)?;
+    }
+    Ok(())
+}
+
+/// Reads on from a word: one key, many, or the name of a hash, which is no key.
+fn read_word(
+    alloc: Global,
+    word: &str,
+    words: &mut Words,
+    list: &mut Requested,
+) -> Result<(), Wrong> {
+    match word {
+        "hash" => {
+            let _name = next(words)?;
+        }
+        "count" => {
+            let count = next_number(words)?;
+            let distinct = named(words, "of")?;
+            let numbers = counted(alloc, count, distinct)?;
+            name(alloc, &numbers, words, &mut list.keys)?;
+        }
+        "drawn" => {
+            let count = next_number(words)?;
+            let seed = named(words, "seed")?;
+            let distinct = named(words, "of")?;
+            let numbers = draws(alloc, count, seed, distinct)?;
+            list.drawn = true;
+            name(alloc, &numbers, words, &mut list.keys)?;
+        }
+        key => {
+            let key = String::from_str(alloc, key)?;
+            list.keys.push(key)?;
         }
     }
-    Ok(Requested { keys, drawn })
+    Ok(())
+}
+
+/// So many numbers, those below `distinct` in turn.
+fn counted(alloc: Global, count: usize, distinct: u64) -> Result<Vec<u64>, Wrong> {
+    let mut numbers = Vec::new(alloc);
+    for number in 0..count as u64 {
+        numbers.push(number.checked_rem(distinct).unwrap_or(0))?;
+    }
+    Ok(numbers)
 }
 
 /// The number behind this word, which comes next.
