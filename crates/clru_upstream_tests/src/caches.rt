@@ -3,9 +3,7 @@
 
 use clru::{CLruCache, DefaultState, WeightScale};
 use clru_fixtures::scales::ByLength;
-
-/// A cache under words.
-pub(crate) type Cache<V, W> = CLruCache<&'static str, V, DefaultState, W>;
+use std::hash::Hash;
 
 /// Words under words.
 pub(crate) type Words = CLruCache<&'static str, &'static str>;
@@ -14,7 +12,7 @@ pub(crate) type Words = CLruCache<&'static str, &'static str>;
 pub(crate) type Numbers = CLruCache<&'static str, u64>;
 
 /// Words under words, each of which weighs its letters.
-pub(crate) type Weighed = Cache<&'static str, ByLength>;
+pub(crate) type Weighed = CLruCache<&'static str, &'static str, DefaultState, ByLength>;
 
 /// Two fruits and their colours.
 pub(crate) const FRUITS: [(&str, &str); 2] = [("apple", "red"), ("banana", "yellow")];
@@ -57,9 +55,9 @@ pub(crate) fn puts_by_weight(cache: &mut Weighed, pairs: &[(&'static str, &'stat
 }
 
 /// Gets the pairs, and answers whether each key has its value.
-pub(crate) fn gets<V: PartialEq + Copy, W: WeightScale<&'static str, V>>(
-    cache: &mut Cache<V, W>,
-    pairs: &[(&'static str, V)],
+pub(crate) fn gets<K: Eq + Hash + Copy, V: PartialEq + Copy, W: WeightScale<K, V>>(
+    cache: &mut CLruCache<K, V, DefaultState, W>,
+    pairs: &[(K, V)],
 ) -> bool {
     for (key, value) in pairs {
         if cache.get(key) != Some(value) {
@@ -70,9 +68,9 @@ pub(crate) fn gets<V: PartialEq + Copy, W: WeightScale<&'static str, V>>(
 }
 
 /// Whether the cache holds these pairs and no other, the most recently used first.
-pub(crate) fn is<V: PartialEq + Copy, W: WeightScale<&'static str, V>>(
-    cache: &Cache<V, W>,
-    list: &[(&'static str, V)],
+pub(crate) fn is<K: Eq + Hash + Copy, V: PartialEq + Copy, W: WeightScale<K, V>>(
+    cache: &CLruCache<K, V, DefaultState, W>,
+    list: &[(K, V)],
 ) -> bool {
     let mut rest = list.iter();
     for (key, value) in cache {
@@ -88,10 +86,11 @@ pub(crate) fn is<V: PartialEq + Copy, W: WeightScale<&'static str, V>>(
 }
 
 /// Whether the cache hands out these pairs and no other, the most recently used first.
-pub(crate) fn hands_out<V: PartialEq + Copy + Drop, W: WeightScale<&'static str, V> + Drop>(
-    cache: Cache<V, W>,
-    list: &[(&'static str, V)],
-) -> bool {
+pub(crate) fn hands_out<
+    K: Eq + Hash + Copy + Drop,
+    V: PartialEq + Copy + Drop,
+    W: WeightScale<K, V> + Drop,
+>(cache: CLruCache<K, V, DefaultState, W>, list: &[(K, V)]) -> bool {
     let mut rest = cache.into_iter();
     for pair in list {
         if rest.next() != Some(*pair) {
@@ -119,9 +118,9 @@ pub(crate) enum End {
 }
 
 /// Whether a walk shows the pair of each step, from that end, has one entry less to come after each, and then none.
-pub(crate) fn walks<V: PartialEq + Copy, W: WeightScale<&'static str, V>>(
-    cache: &Cache<V, W>,
-    steps: &[(End, &'static str, V)],
+pub(crate) fn walks<K: Eq + Hash + Copy, V: PartialEq + Copy, W: WeightScale<K, V>>(
+    cache: &CLruCache<K, V, DefaultState, W>,
+    steps: &[(End, K, V)],
 ) -> bool {
     let mut walk = cache.iter();
     let mut left = steps.len();
