@@ -1,12 +1,12 @@
 //! The laws, at types of a caller's, and the callers that show what they speak of.
 
-use crate::callers::{calls, puts, runs, sizes};
 use crate::lists::capacity_of;
 use assertions::equal;
 use clru::{
     CLruCache, CLruCacheConfig, ZeroWeightScale, law_by_position, law_dropped, law_growth,
     law_inclusion, law_longest_fit, law_requests, law_schedules_by_position, law_sizes,
 };
+use clru_callers::{calls, puts, runs, sizes};
 use clru_curve::law_distances;
 use clru_least::law_least;
 use clru_runs::{law_included_runs, law_put_runs};

@@ -1,9 +1,9 @@
 //! Calls through the callers that learn the laws of runs.
 
-use crate::callers::performed::{perform_at_both, perform_puts};
 use crate::lists::capacity_of;
 use assertions::equal;
 use clru::CLruCache;
+use clru_callers::performed::{perform_at_both, perform_puts};
 use clru_runs::Answer::{Lent, Pair};
 use clru_runs::Call::{self, PopBack, PutWithWeight};
 use clru_runs::PlainCall::{Put, PutOrModify};
