@@ -1,11 +1,11 @@
 /* The proved numbers of an LRU cache, from an array of 64-bit keys.
  *
- * The array has the requests in order, each the key that is asked for. A key means nothing but whether it equals another one:
+ * The array has the requests in order, each the key that is asked for. All that counts of a key is whether it equals another one:
  * numbers of pages, hashes of names, codes of a column all do. Nothing outlives a call, and no call prints, waits or ends the
  * process.
  *
- * What each call writes is proved of its code in Rattle (the clauses stand in src/exports.rt). That a caller does what he owes
- * is not checked by anything, nor is this header, which is written by hand; tools/foreign calls each function and sees each code.
+ * What each call writes is proved of its code in Rattle (the clauses stand in src/exports.rt). Nothing checks that a caller does
+ * what he owes. This header is written by hand; tools/foreign calls each function and sees each code.
  *
  * What the caller owes:
  * - Each pointer is valid for its length, aligned for its type, and not NULL, not even where the length is 0. An array that is
@@ -16,11 +16,15 @@
  * - malloc, realloc and free come from one allocator, which aligns a block to each power of two up to 16 that divides its size.
  * - No call from a signal handler, nor in the forked child of a process that has threads.
  *
- * The seed: 0, 0 hashes keys with a fixed seed, which is the fastest. Where somebody who means you ill picks the keys, give two
- * words that he can't know, as from getrandom: the keys are then hashed by SipHash-1-3 under them. The answers are the same.
+ * The seed: 0, 0 hashes keys with a fixed seed, which is the fastest. Whoever picks the keys can then have a call take time that
+ * grows with the square of their number. Against an attacker give two secret words, as from getrandom: the keys are then hashed
+ * by SipHash-1-3 under them. The answers are the same.
  *
- * Every call answers CLRU_OK or why it didn't answer. But for CLRU_OK nothing was written, which is proved too. Where several
+ * Every call answers CLRU_OK or why it didn't answer. With any other code nothing was written, which is proved too. Where several
  * codes apply, the least is answered. Built and tried on Linux x86-64.
+ *
+ * Memory is given by reckoning from the types, for tables of more than 64 keys, and is held until the call returns. While a table
+ * doubles, the old one stands beside the new one.
  */
 #ifndef CLRU_H
 #define CLRU_H
@@ -38,7 +42,7 @@
 
 #define CLRU_OK 0u           /* all was written */
 #define CLRU_NO_CAPACITY 1u  /* a capacity or a room was 0 */
-#define CLRU_WRONG_LENGTH 2u /* an array is shorter or longer than it has to be beside another one */
+#define CLRU_WRONG_LENGTH 2u /* arrays that belong together have unequal lengths */
 #define CLRU_NO_MEMORY 3u    /* memory was refused */
 #define CLRU_TOO_LARGE 4u    /* the sizes of all requests together pass 2^64 - 1 */
 #define CLRU_TOO_SMALL 5u    /* a capacity was less than the greatest size */
@@ -56,8 +60,8 @@ extern "C" {
  * keys, and takes in each key that is asked for and no other, also of one that knows all requests beforehand.
  *
  * Codes: CLRU_NO_CAPACITY, CLRU_WRONG_LENGTH, CLRU_NO_MEMORY.
- * Cost: a look-up for each request. Memory, until it returns: a copy of the keys, a byte for each, and a cache of as many
- * entries as there are keys, capacity at most, 64 to 80 bytes each. */
+ * Cost: a look-up for each request. Memory: a copy of the keys, a byte for each, and a cache of as many entries as there are keys,
+ * capacity at most, 44 to 56 bytes each. */
 uint32_t clru_hits_at(const uint64_t *keys, size_t keys_len, size_t capacity, uint64_t seed_low, uint64_t seed_high,
                       bool *hits, size_t hits_len, size_t *misses);
 
@@ -69,8 +73,8 @@ uint32_t clru_hits_at(const uint64_t *keys, size_t keys_len, size_t capacity, ui
  * Proved: misses[i] is the number of requests that don't hit, as clru_hits_at says it, at capacity i + 1.
  *
  * Codes: CLRU_NO_MEMORY, and never where there are no keys.
- * Cost: for each request a look-up, and steps that go with the logarithm of their number. Memory, until it returns: a
- * quarter of a byte for each request, and 70 to 280 bytes for each distinct key, the most just as its table has grown fourfold. */
+ * Cost: for each request a look-up, and steps that go with the logarithm of their number. Memory: a quarter to a half of a byte
+ * for each request, and 52 to 104 bytes for each distinct key, the most just as its table has doubled. */
 uint32_t clru_misses_by_capacity(const uint64_t *keys, size_t keys_len, uint64_t seed_low, uint64_t seed_high,
                                  size_t *misses, size_t misses_len, size_t *distinct);
 
@@ -85,7 +89,7 @@ uint32_t clru_misses_by_capacity(const uint64_t *keys, size_t keys_len, uint64_t
  *
  * Codes: CLRU_NO_CAPACITY, CLRU_WRONG_LENGTH, CLRU_NO_MEMORY.
  * Cost: a look-up for each request, once; and for each room a pass whose steps go with the logarithm of the number of
- * requests. Memory, until it returns: 17 to 54 bytes for each request. */
+ * requests. Memory: 17 to 54 bytes for each request. */
 uint32_t clru_least_by_room(const uint64_t *keys, size_t keys_len, const size_t *rooms, size_t rooms_len,
                             uint64_t seed_low, uint64_t seed_high, size_t *least, size_t least_len);
 
@@ -101,15 +105,15 @@ uint32_t clru_least_by_room(const uint64_t *keys, size_t keys_len, const size_t 
  *
  * Proved: a request hits exactly where its object was requested before, and its size and those of the distinct objects since are
  * at most the capacity together; misses[i] is the number of the others, missed_sizes[i] the sum of their sizes. That is an LRU
- * cache that drops the objects that were not used for longest, until what it holds has at most that size together. One of a
- * capacity below the greatest size can't take in some object, and there is no answer then.
+ * cache that drops what was not used for longest until the rest fits. One of a capacity below the greatest size can't take in
+ * some object, and there is no answer then.
  *
  * Codes: CLRU_NO_CAPACITY, CLRU_WRONG_LENGTH, CLRU_NO_MEMORY, CLRU_TOO_LARGE, CLRU_TOO_SMALL. Proved too: CLRU_TOO_LARGE is
  * answered only where the sizes (0 as 1) pass 2^64 - 1 together, CLRU_TOO_SMALL only where a capacity is less than the greatest
  * size, and CLRU_OK in neither case.
  * Cost: for each request a look-up, and steps that go with the logarithm of their number; then two searches for each capacity.
- * Memory, until it returns: 25 to 35 bytes for each request, 16 to 32 for each that asks for an object again, and 80 to 320 for
- * each distinct object; 71 MB for a million requests of 304,200 objects. */
+ * Memory: 25 to 35 bytes for each request, 16 to 32 for each that asks for an object again, and 52 to 104 for each distinct
+ * object. */
 uint32_t clru_misses_by_size(const uint64_t *keys, size_t keys_len, const size_t *sizes, size_t sizes_len,
                              const size_t *capacities, size_t capacities_len, uint64_t seed_low, uint64_t seed_high,
                              size_t *misses, size_t misses_len, size_t *missed_sizes, size_t missed_sizes_len,
