@@ -8,7 +8,8 @@
 //! place is free; where it is refused, it gives back what it was given and the entries stay.
 //!
 //! The entries lie in a linked list, in the order of recency, under a hash index with a chain for each head, or bucket. A
-//! call costs one hash and a walk along one chain; a weighted put besides what it drops.
+//! look-up costs one hash and a walk along one chain. A put of a new key walks along one chain more, and for each entry that
+//! it drops it hashes that key too, and walks along its chain.
 #![tactic(auto)]
 
 mod cache;

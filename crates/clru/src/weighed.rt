@@ -128,7 +128,7 @@ where
         }
     }
 
-    /// Does the same, and where none has to go, finds memory for one more pair instead.
+    /// Drops what does not fit into the room, the back pair first; where none has to go, finds memory for one more pair.
     #[inline]
     pub(crate) fn make_room<F: FnMut(K, V)>(
         &mut self,

@@ -1,11 +1,11 @@
-//! What another way to choose what to drop could gain.
+//! What another way to drop could gain, among those that take in each key that is asked for.
 
 use crate::replays::misses_at;
 use clru::{DefaultState, NonZeroUsize};
 use clru_least::Foresight;
 use std::alloc::{AllocError, Global};
 
-/// The misses of a cache on the requests, and the least that any way to choose what to drop has with as much room.
+/// The misses of a cache on the requests, and the least of any that takes in each requested key, with as much room.
 pub fn misses_and_least(
     alloc: Global,
     capacity: NonZeroUsize,

@@ -191,7 +191,7 @@ pub fn least<K: Eq + Hash + Drop, S: BuildHasher + Drop, A: Allocator + Copy>(
     }
 }
 
-/// The same of borrowed requests.
+/// The least misses of borrowed requests.
 fn of_slice<K: Eq + Hash, S: BuildHasher + Drop, A: Allocator + Copy>(
     alloc: A,
     room: NonZeroUsize,

@@ -60,8 +60,8 @@ impl<T, A: Allocator + Copy> FixedSizeList<T, A> {
         FixedSizeList::with_narrow_places(alloc, capacity, NARROW)
     }
 
-    /// Does the same, and links have 8 bytes for each place once there are more than `limit` places, and 4 else. Without a limit
-    /// that is so past 2^32 - 1 places, where no test comes. A limit past that changes nothing.
+    /// Creates an empty list whose links have 8 bytes for each place once there are more than `limit` places, and 4 else. With
+    /// `new` that is so past 2^32 - 1 places, where no test comes. A limit past that changes nothing.
     pub fn with_narrow_places(alloc: A, capacity: usize, limit: usize) -> Self
         ensures { result ≡ place_list [] capacity 0 }
     {

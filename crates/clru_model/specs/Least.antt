@@ -21,7 +21,7 @@ module _ {K : Type 0} (eq : K → K → Bool) where
   IsNearFromAnyStart h requests n = (schedule : List (List K)) → IsSchedule eq h schedule requests
       → n ≤ schedule_misses eq schedule requests + h
 
-  -- there is one least number
+  -- at most one number is the least
   abbrev pub LeastIsOne : Type 0
   LeastIsOne = (h n m : ℕ) (requests : List K) → IsLeast h requests n → IsLeast h requests m → n ≡ m
 

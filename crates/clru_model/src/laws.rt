@@ -63,8 +63,8 @@ pub fn law_longest_fit<K, V>()
     ensures only { OnlyFitIsLongest K V }
 {}
 
-/// Does nothing at run time. Its contract says that the least possible misses of a list are one number, that with room for
-/// more keys they are no more, and how the misses of a replay stand beside them: they are those of a schedule, so no
+/// Does nothing at run time. Its contract says that at most one number is the least possible misses of a list, that with room
+/// for more keys it is no greater, and how the misses of a replay stand beside it: they are those of a schedule, so no
 /// fewer, and at capacity `k` at most `k / (k - h + 1)` times the least of `h` keys, for `h` from 1 to `k`.
 pub fn law_least<K: Eq>()
     ensures one { LeastIsOne K.eq }

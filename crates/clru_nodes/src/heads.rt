@@ -79,7 +79,7 @@ impl<A: Allocator + Copy> Heads<A> {
         Ok(Heads { words, size, limit })
     }
 
-    /// The same from the allocator of these heads, and with their limit.
+    /// Empty heads for so many places, from the allocator of these and with their limit.
     pub(crate) fn another(&self, places: usize) -> Result<Self, NoMemory>
         ensures free { IfOk result (λ x. (h : ℕ) → place_in x.items h ≡ nowhere) }
         ensures linked { IfOk result (λ x. places ≤ length x.links) }

@@ -46,8 +46,8 @@ impl<K: Eq + Hash, V, S: BuildHasher, A: Allocator + Copy> Nodes<K, V, S, A> {
         Nodes::with_narrow_places(alloc, capacity, hash_builder, NARROW)
     }
 
-    /// Does the same, and what list and index find for more than `limit` places has 8 bytes for each place, and 4 else. Without a
-    /// limit that is so past 2^31 places, where no test comes. A limit past 2^32 - 1 changes nothing.
+    /// Creates nodes whose list and index take 8 bytes for each place where they have more than `limit` places, and 4 else. With
+    /// `new` that is so past 2^31 places, where no test comes. A limit past 2^32 - 1 changes nothing.
     pub fn with_narrow_places(alloc: A, capacity: usize, hash_builder: S, limit: usize) -> Self
         ensures empty { IsEmpty capacity 0 result }
         ensures builder { builder_of result ≡ hash_builder }

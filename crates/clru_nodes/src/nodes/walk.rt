@@ -32,7 +32,7 @@ impl<K: Eq + Hash, V, S: BuildHasher, A: Allocator + Copy> Nodes<K, V, S, A> {
         }
     }
 
-    /// Does the same for a walk that goes down by one.
+    /// Returns the item at an index for writing. It is quick for a walk that goes down by one.
     pub fn item_at_back(&mut self, index: usize) -> &mut Item<K, V>
         requires { index < length (pairs_in self.old) }
         ensures* lends { sem 𝓛 (lends_index K.row V.row S.row A.row S.Hasher.row A.Allocator
