@@ -98,6 +98,7 @@ fn what_is_written_through_an_item_stays(rt: HostRuntime) -> Result<(), Fail> {
 }
 
 #[test]
+#[tactic(auto, using(crate::proofs::Distinct::distinct_pairs))]
 fn the_value_of_a_key_is_lent(rt: HostRuntime) -> Result<(), Fail> {
     let mut nodes = three(rt.alloc())?;
     assert!(rt; nodes.get_mut(nodes.hash(&4), &4).is_none());

@@ -51,8 +51,9 @@ fn calls_of_a_run_at_two_capacities(rt: HostRuntime) -> Result<(), Fail> {
 
 #[test]
 fn a_run_of_puts_holds_what_a_replay_hits(rt: HostRuntime) -> Result<(), Fail> {
-    let mut cache = CLruCache::new(rt.alloc(), capacity_of(2)?);
+    let capacity = capacity_of(2)?;
     let keys = Vec::from_array(rt.alloc(), ["a", "b", "c", "a", "c"])?;
+    let mut cache = CLruCache::new(rt.alloc(), capacity);
     let held = runs::held_before_puts(rt.alloc(), &mut cache, keys).ok_or("no memory")?;
     equal!(rt;
         held.as_slice(),
@@ -80,10 +81,10 @@ fn puts_in_any_form_hold_what_a_replay_hits(rt: HostRuntime) -> Result<(), Fail>
 fn a_run_of_puts_by_weight_misses_by_size(rt: HostRuntime) -> Result<(), Fail> {
     for (capacity, missed) in [(7, Some(3)), (6, Some(5)), (4, Some(5)), (3, None)] {
         let config = CLruCacheConfig::new(capacity_of(capacity)?).with_scale(sizes::ByPage);
+        let pages = Vec::from_array(rt.alloc(), [3, 0, 1, 3, 0])?;
         let Ok(mut cache) = CLruCache::with_config(rt.alloc(), config) else {
             return Err(Fail::from("no reserve is asked for"));
         };
-        let pages = Vec::from_array(rt.alloc(), [3, 0, 1, 3, 0])?;
         equal!(rt; sizes::pages_missed(&mut cache, pages), missed, capacity);
     }
     Ok(())

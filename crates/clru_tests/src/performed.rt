@@ -20,9 +20,11 @@ fn three_calls(alloc: Global) -> Result<Vec<Call<u32, u32>>, AllocError> {
 
 #[test]
 fn the_lesser_of_two_begins_the_greater(rt: HostRuntime) -> Result<(), Fail> {
-    let mut lesser = CLruCache::new(rt.alloc(), capacity_of(1)?);
-    let mut greater = CLruCache::new(rt.alloc(), capacity_of(3)?);
+    // (each `?` before the caches: one where a cache is owned is dear to prove)
+    let (one, three) = (capacity_of(1)?, capacity_of(3)?);
     let (once, again) = (three_calls(rt.alloc())?, three_calls(rt.alloc())?);
+    let mut lesser = CLruCache::new(rt.alloc(), one);
+    let mut greater = CLruCache::new(rt.alloc(), three);
     let Some(answers) = perform_at_both(rt.alloc(), &mut lesser, &mut greater, once, again) else {
         return Err("want of memory".into());
     };
@@ -33,10 +35,11 @@ fn the_lesser_of_two_begins_the_greater(rt: HostRuntime) -> Result<(), Fail> {
 
 #[test]
 fn puts_are_made_of_an_empty_cache(rt: HostRuntime) -> Result<(), Fail> {
-    let mut cache = CLruCache::new(rt.alloc(), capacity_of(1)?);
+    let capacity = capacity_of(1)?;
     let mut puts = Vec::new(rt.alloc());
     puts.push(Put(1u32, 10u32))?;
     puts.push(PutOrModify(1, 20))?;
+    let mut cache = CLruCache::new(rt.alloc(), capacity);
     let answers = perform_puts(rt.alloc(), &mut cache, puts)?;
     equal!(rt; answers.last(), Some(&Lent(Ok(20))));
     Ok(())
