@@ -1,5 +1,5 @@
 //! Does a contract tell its callers enough? Callers with clauses of their own, each proved by the public contracts alone: of the
-//! cache and its runs, and in `of_lists`, `of_stores` and `of_least` of the list, the store and the least. `clru_tests` calls them.
+//! cache and its runs, and in `of_lists`, `of_stores` and `of_least` of the list, the store and the least. `clru_tests` runs most.
 #![tactic(auto)]
 
 ghost use Rattle.std.specs.Prelude.{◌≡◌, ◌+◌, Some, nat_eq, OnOk, OnErr, IfSome};

@@ -1,4 +1,4 @@
-//! The callers of `clru_callers`, run; the laws at types of a caller's, and schedules beside the competitive bound.
+//! Callers of `clru_callers`, run; the laws at types of a caller's, and schedules beside the competitive bound.
 #![tactic(auto)]
 
 #[cfg(test)]
