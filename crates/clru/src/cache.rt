@@ -78,6 +78,7 @@ where
     A: Allocator + Copy,
 {
     /// Returns the number of entries.
+    /// Cost: a read.
     pub fn len(&self) -> usize
         ensures len { result ≡ length self.now.entries }
         ensures valid { IsValid K.eq (W.weight self.now.scale) self.now }
@@ -87,6 +88,7 @@ where
     }
 
     /// Returns what the number of entries and their total weight never pass together.
+    /// Cost: a read.
     pub fn capacity(&self) -> usize
         ensures capacity { result ≡ self.now.capacity }
         ensures valid { IsValid K.eq (W.weight self.now.scale) self.now }
@@ -95,6 +97,7 @@ where
     }
 
     /// Returns the total weight of the entries.
+    /// Cost: a read.
     pub fn weight(&self) -> usize
         ensures weight { result ≡ weight_of (W.weight self.now.scale) self.now.entries }
         ensures valid { IsValid K.eq (W.weight self.now.scale) self.now }
@@ -104,6 +107,7 @@ where
     }
 
     /// Returns whether there is no entry.
+    /// Cost: a read.
     pub fn is_empty(&self) -> bool
         ensures { IsTrue result ↔ (self.now.entries ≡ []) }
     {
@@ -111,6 +115,7 @@ where
     }
 
     /// Returns whether the number of entries and their total weight reach the capacity.
+    /// Cost: a read.
     pub fn is_full(&self) -> bool
         ensures { IsTrue result ↔ (size_of (W.weight self.now.scale) self.now.entries ≡ self.now.capacity) }
     {

@@ -43,6 +43,7 @@ impl<K, V, S, W> Model for CLruCacheConfig<K, V, S, W> {
 
 impl<K, V> CLruCacheConfig<K, V, DefaultState, ZeroWeightScale> {
     /// Creates the configuration of a cache that holds at most `capacity` entries, with memory for none of them.
+    /// Cost: no request for memory.
     pub fn new(capacity: NonZeroUsize) -> Self
         ensures { result ≡ config (non_zero_usize_get capacity) (record {}) 0 (record {}) }
     {
@@ -58,6 +59,7 @@ impl<K, V> CLruCacheConfig<K, V, DefaultState, ZeroWeightScale> {
 
 impl<K, V, S: BuildHasher, W: WeightScale<K, V>> CLruCacheConfig<K, V, S, W> {
     /// Has the cache hash its keys with `hash_builder`.
+    /// Cost: no request for memory.
     pub fn with_hasher<O: BuildHasher>(self, hash_builder: O) -> CLruCacheConfig<K, V, O, W>
     where
         S: Drop,
@@ -73,6 +75,7 @@ impl<K, V, S: BuildHasher, W: WeightScale<K, V>> CLruCacheConfig<K, V, S, W> {
     }
 
     /// Has the cache made with memory for `reserve` entries, or for as many as its capacity where that is less.
+    /// Cost: no request for memory.
     pub fn with_memory(mut self, reserve: usize) -> Self
         ensures { result ≡ config self.capacity self.hash_builder reserve self.scale }
     {
@@ -81,6 +84,7 @@ impl<K, V, S: BuildHasher, W: WeightScale<K, V>> CLruCacheConfig<K, V, S, W> {
     }
 
     /// Has the cache weigh its pairs with `scale`.
+    /// Cost: no request for memory.
     pub fn with_scale<O: WeightScale<K, V>>(self, scale: O) -> CLruCacheConfig<K, V, S, O>
     where
         W: Drop,

@@ -2,31 +2,39 @@
  * at two times that, four times and so on, until all fits. */
 #include "clru.h"
 
+#include <errno.h>
 #include <inttypes.h>
 #include <stdio.h>
 #include <stdlib.h>
 
 #define ROWS 64
 
+/* Whether the word is a number below 2^64, in digits alone. */
+static bool is_number(const char *word, uint64_t *number) {
+    char *end;
+    errno = 0;
+    *number = strtoull(word, &end, 10);
+    return errno == 0 && *end == '\0' && word[0] >= '0' && word[0] <= '9';
+}
+
 int main(void) {
-    size_t count = 0, places = 0, greatest = 1;
-    uint64_t *keys = malloc(1), key;
-    size_t *sizes = malloc(1), size;
-    while (keys && sizes && scanf("%" SCNu64 " %zu", &key, &size) == 2) {
-        if (count == places) {
-            places = 2 * places + 1024;
+    size_t count = 0, places = 1024, greatest = 1;
+    uint64_t *keys = malloc(places * sizeof *keys), size;
+    size_t *sizes = malloc(places * sizeof *sizes);
+    char word[32], size_word[32];
+    int found = EOF;
+    while (keys && sizes && (found = scanf("%31s %31s", word, size_word)) == 2 && is_number(word, &keys[count])
+           && is_number(size_word, &size)) {
+        sizes[count] = size;
+        greatest = size > greatest ? size : greatest;
+        if (++count == places) {
+            places *= 2;
             keys = realloc(keys, places * sizeof *keys);
             sizes = realloc(sizes, places * sizeof *sizes);
-            if (!keys || !sizes) {
-                break;
-            }
         }
-        keys[count] = key;
-        sizes[count++] = size;
-        greatest = size > greatest ? size : greatest;
     }
-    if (!keys || !sizes || !feof(stdin)) {
-        fprintf(stderr, "by_size: want of memory, or no key and size in line %zu\n", count + 1);
+    if (!keys || !sizes || found != EOF || ferror(stdin)) {
+        fprintf(stderr, "by_size: want of memory, or no key and size below 2^64 in line %zu\n", count + 1);
         return 1;
     }
 

@@ -1,5 +1,5 @@
-/* Sees each code of each call, that nothing was written with one, and that all calls agree. Link it with --wrap=malloc and
- * --wrap=realloc, since it refuses memory. */
+/* Sees each code of each call, that nothing was written with one, what memory is asked for, that no block is left behind, and that
+ * all calls agree. Link it with --wrap=malloc, --wrap=realloc and --wrap=free, since it refuses memory and counts it. */
 #include "clru.h"
 
 #include <stdio.h>
@@ -11,24 +11,52 @@
 
 /* So many requests for memory pass; those after them are refused. */
 static size_t passing = (size_t)-1;
+/* Requests that passed, their bytes, and blocks that are not freed. */
+static size_t asked, asked_bytes, blocks;
 
 void *__real_malloc(size_t);
 void *__real_realloc(void *, size_t);
+void __real_free(void *);
 
-static bool passes(void) {
+static bool passes(size_t size) {
     if (passing == 0) {
         return false;
     }
     passing--;
+    asked++;
+    asked_bytes += size;
     return true;
 }
 
-void *__wrap_malloc(size_t size) { return passes() ? __real_malloc(size) : NULL; }
-void *__wrap_realloc(void *block, size_t size) { return passes() ? __real_realloc(block, size) : NULL; }
+/* One block more, if it was given. */
+static void *counted(void *block) {
+    blocks += block != NULL;
+    return block;
+}
+
+void *__wrap_malloc(size_t size) { return passes(size) ? counted(__real_malloc(size)) : NULL; }
+
+void *__wrap_realloc(void *block, size_t size) {
+    if (!block) {
+        return __wrap_malloc(size);
+    }
+    return passes(size) ? __real_realloc(block, size) : NULL;
+}
+
+void __wrap_free(void *block) {
+    blocks -= block != NULL;
+    __real_free(block);
+}
 
 static int faults;
 
+/* Stands behind each call. */
 static void expect(bool holds, const char *what) {
+    if (blocks != 0) {
+        fprintf(stderr, "codes: %zu blocks are left behind: %s\n", blocks, what);
+        blocks = 0;
+        faults++;
+    }
     if (!holds) {
         fprintf(stderr, "codes: %s\n", what);
         faults++;
@@ -81,7 +109,12 @@ static void codes_of_sizes(void) {
     expect(by_size(KEYS - 1, KEYS, KEYS) == CLRU_WRONG_LENGTH, "too few sizes");
     expect(by_size(KEYS, KEYS - 1, KEYS) == CLRU_WRONG_LENGTH, "misses by size too short");
     expect(by_size(KEYS, KEYS, KEYS - 1) == CLRU_WRONG_LENGTH, "missed sizes too short");
-    expect(by_size_with(&sizes[KEYS - 1], SIZE_MAX) == CLRU_TOO_LARGE, "sizes that pass 2^64 - 1");
+    expect(by_size_with(&sizes[KEYS - 1], SIZE_MAX) == CLRU_TOO_LARGE, "sizes that pass 2^64 - 1, and capacities less than the greatest");
+    capacities[0] = 1;
+    expect(by_size(KEYS, KEYS, KEYS) == CLRU_TOO_SMALL, "the first capacity less than the greatest size");
+    expect(by_size(KEYS - 1, KEYS, KEYS) == CLRU_WRONG_LENGTH, "too few sizes beside a capacity too small");
+    expect(by_size_with(&capacities[1], 0) == CLRU_NO_CAPACITY, "a capacity of 0 beside one too small");
+    capacities[0] = LARGEST;
     expect(untouched(), "something was written with a code by size");
 }
 
@@ -109,12 +142,18 @@ static uint32_t call(int which) {
     }
 }
 
+/* What each call asks for, exactly: a table that is made twice, or room for more than is needed, is seen here. */
+static const struct {
+    const char *name;
+    size_t requests, bytes;
+} needs[4] = {{"hits", 4, 4644}, {"misses", 21, 24848}, {"misses by size", 31, 57296}, {"least", 30, 30976}};
+
 /* Refuses each request for memory in turn, until the call meets no refusal. */
 static void code_of_refused_memory(void) {
     for (int which = 0; which < 4; which++) {
-        size_t granted = 0;
-        for (;; granted++) {
+        for (size_t granted = 0;; granted++) {
             reset();
+            asked = asked_bytes = 0;
             passing = granted;
             uint32_t code = call(which);
             passing = (size_t)-1;
@@ -123,7 +162,10 @@ static void code_of_refused_memory(void) {
             }
             expect(code == CLRU_NO_MEMORY && untouched(), "refused memory");
         }
-        expect(granted > 0, "no memory was asked for");
+        if (asked != needs[which].requests || asked_bytes != needs[which].bytes) {
+            fprintf(stderr, "codes: %s asked %zu times for %zu bytes\n", needs[which].name, asked, asked_bytes);
+            faults++;
+        }
     }
 }
 

@@ -21,10 +21,11 @@
  * by SipHash-1-3 under them. The answers are the same.
  *
  * Every call answers CLRU_OK or why it didn't answer. With any other code nothing was written, which is proved too. Where several
- * codes apply, the least is answered. Built and tried on Linux x86-64.
+ * of the others apply, the least is answered, but that CLRU_NO_MEMORY comes last: it is answered where memory was refused before
+ * the call came to what it would have answered. So each input has one answer, or CLRU_NO_MEMORY. Built and tried on Linux x86-64.
  *
- * Memory is given by reckoning from the types, for tables of more than 64 keys, and is held until the call returns. While a table
- * doubles, the old one stands beside the new one.
+ * Memory is what a call holds when it holds the most, as counted by examples/memory.c for 65 to 70,000 keys: also while a table
+ * doubles, and the old one stands beside the new one. All of it is freed when the call returns.
  */
 #ifndef CLRU_H
 #define CLRU_H
@@ -33,12 +34,13 @@
 #include <stddef.h>
 #include <stdint.h>
 
-/* The release of the Rust crate clru whose behaviour this is, and our own number behind it. */
+/* The release of the Rust crate clru whose behaviour this is, and our own number behind it: that of the release to come where
+ * the text says unreleased. */
 #define CLRU_VERSION_MAJOR 0
 #define CLRU_VERSION_MINOR 6
 #define CLRU_VERSION_PATCH 3
-#define CLRU_VERSION_NUMBER 3
-#define CLRU_VERSION "0.6.3+3"
+#define CLRU_VERSION_NUMBER 4
+#define CLRU_VERSION "0.6.3+4-unreleased"
 
 #define CLRU_OK 0u           /* all was written */
 #define CLRU_NO_CAPACITY 1u  /* a capacity or a room was 0 */
@@ -55,9 +57,10 @@ extern "C" {
  *
  * hits has as many elements as keys: true where the request hits. *misses is the number of the others.
  *
- * Proved: a request hits exactly where its key was requested before, and fewer than capacity distinct keys since. And for h from 1
- * to capacity the misses are at most capacity / (capacity - h + 1) times those of each way that starts empty, holds at most h
- * keys, and takes in each key that is asked for and no other, also of one that knows all requests beforehand.
+ * Proved: a request hits exactly where its key was requested before, and fewer than capacity distinct keys since (a stack distance
+ * that begins at 1 is that number and 1). And for h from 1 to capacity the misses are at most capacity / (capacity - h + 1) times
+ * those of each way that starts empty, holds at most h keys, and takes in each key that is asked for and no other, also of one that
+ * knows all requests beforehand.
  *
  * Codes: CLRU_NO_CAPACITY, CLRU_WRONG_LENGTH, CLRU_NO_MEMORY.
  * Cost: a look-up for each request. Memory: a copy of the keys, a byte for each, and a cache of as many entries as there are keys,
@@ -73,8 +76,8 @@ uint32_t clru_hits_at(const uint64_t *keys, size_t keys_len, size_t capacity, ui
  * Proved: misses[i] is the number of requests that don't hit, as clru_hits_at says it, at capacity i + 1.
  *
  * Codes: CLRU_NO_MEMORY, and never where there are no keys.
- * Cost: for each request a look-up, and steps that go with the logarithm of their number. Memory: a quarter to a half of a byte
- * for each request, and 52 to 104 bytes for each distinct key, the most just as its table has doubled. */
+ * Cost: for each request a look-up, and steps that go with the logarithm of their number. Memory: 20 to 43 bytes for each 64
+ * requests, and 68 to 137 bytes for each distinct key. */
 uint32_t clru_misses_by_capacity(const uint64_t *keys, size_t keys_len, uint64_t seed_low, uint64_t seed_high,
                                  size_t *misses, size_t misses_len, size_t *distinct);
 
@@ -88,15 +91,16 @@ uint32_t clru_misses_by_capacity(const uint64_t *keys, size_t keys_len, uint64_t
  * fewer; LRU of that capacity has no fewer.
  *
  * Codes: CLRU_NO_CAPACITY, CLRU_WRONG_LENGTH, CLRU_NO_MEMORY.
- * Cost: a look-up for each request, once; and for each room a pass whose steps go with the logarithm of the number of
- * requests. Memory: 17 to 54 bytes for each request. */
+ * Cost: a look-up for each request, once; and for each room a pass whose steps go with the logarithm of the number of requests.
+ * Memory: 17 to 79 bytes for each request. */
 uint32_t clru_least_by_room(const uint64_t *keys, size_t keys_len, const size_t *rooms, size_t rooms_len,
                             uint64_t seed_low, uint64_t seed_high, size_t *least, size_t least_len);
 
 /* The misses where keys have sizes: the requests that miss at each of the capacities, and the size that they miss.
  *
  * A capacity is a sum of sizes, in bytes say. sizes has as many elements as keys: sizes[i] is the size of what request i asks for.
- * A key that comes with another size is another object, so that a size never changes. A size of 0 counts as 1.
+ * A key that comes with another size is another object, so that a size never changes: two sizes of one key are two objects. Neither
+ * is a hit for the other, they take room side by side, and both count in *distinct_size. A size of 0 counts as 1.
  *
  * misses and missed_sizes have as many elements as capacities: misses[i] is the number of requests that miss at capacities[i], and
  * missed_sizes[i] the sum of their sizes. Capacities may stand in any order, and twice. *distinct_size is the sum of the sizes of
@@ -109,11 +113,10 @@ uint32_t clru_least_by_room(const uint64_t *keys, size_t keys_len, const size_t 
  * some object, and there is no answer then.
  *
  * Codes: CLRU_NO_CAPACITY, CLRU_WRONG_LENGTH, CLRU_NO_MEMORY, CLRU_TOO_LARGE, CLRU_TOO_SMALL. Proved too: CLRU_TOO_LARGE is
- * answered only where the sizes (0 as 1) pass 2^64 - 1 together, CLRU_TOO_SMALL only where a capacity is less than the greatest
- * size, and CLRU_OK in neither case.
+ * answered only where the sizes (0 as 1) pass 2^64 - 1 together, CLRU_TOO_SMALL only where they don't and a capacity is less than
+ * the greatest size, and CLRU_OK in neither case.
  * Cost: for each request a look-up, and steps that go with the logarithm of their number; then two searches for each capacity.
- * Memory: 25 to 35 bytes for each request, 16 to 32 for each that asks for an object again, and 52 to 104 for each distinct
- * object. */
+ * Memory: 96 to 177 bytes for each request of another object, and 48 to 81 bytes for each of one that was requested before. */
 uint32_t clru_misses_by_size(const uint64_t *keys, size_t keys_len, const size_t *sizes, size_t sizes_len,
                              const size_t *capacities, size_t capacities_len, uint64_t seed_low, uint64_t seed_high,
                              size_t *misses, size_t misses_len, size_t *missed_sizes, size_t missed_sizes_len,

@@ -24,7 +24,7 @@ pub record AreSizedMisses (requests : List (ℕ × ℕ)) (capacities misses size
   pub distinct_size : n ≡ total same_object weight_of (reverse requests)
 
 -- the code of a call by size, where sizes stand beside the keys and two arrays of answers beside the capacities: too large is the
--- sum of all sizes, too small a capacity that is not above the greatest weight
+-- sum of all sizes, and too small, where it is not, a capacity that is not above the greatest weight
 pub record IsSizedCode (keys sizes capacities misses missed_sizes : List ℕ) (code : ℕ) : Type 0 where
   pub arguments : IsOfArguments (Contains capacities 0)
       ((length sizes ≡ length keys) × (length misses ≡ length capacities)
@@ -33,6 +33,7 @@ pub record IsSizedCode (keys sizes capacities misses missed_sizes : List ℕ) (c
   pub not_too_large : code ≡ OK → size_of_all weight_of (zip keys sizes) < 2 ^ 64
   pub too_small : code ≡ TOO_SMALL
       → SomeIndex capacities (λ i. slice_index capacities i ≤ greatest_of weight_of (reverse (zip keys sizes)))
+  pub small_alone : code ≡ TOO_SMALL → size_of_all weight_of (zip keys sizes) < 2 ^ 64
   pub none_too_small : code ≡ OK
       → EachIndex capacities (λ i. greatest_of weight_of (reverse (zip keys sizes)) < slice_index capacities i)
   pub known : code ≤ TOO_SMALL

@@ -9,7 +9,7 @@ ghost use Rattle.clru_c.specs.Objects.{AreSizedMisses, IsSizedCode};
 
 use crate::arrays::{hits_at, least_by_room, misses_by_capacity};
 use crate::codes::OK;
-use crate::keyed::KeyedState;
+use crate::keyed::seeded;
 use crate::sized::misses_by_size;
 use clru::DefaultState;
 use std::alloc::Global;
@@ -29,17 +29,9 @@ pub extern "C" fn clru_hits_at(
     ensures left { result ≢ OK → (hits.new ≡ hits.old) × (missed.new ≡ missed.old) }
     ensures codes { IsCode (capacity ≡ 0) (length hits.old ≡ length keys.now) result }
 {
-    if low == 0 && high == 0 {
-        hits_at(alloc, keys, capacity, hits, missed, DefaultState)
-    } else {
-        hits_at(
-            &alloc,
-            keys,
-            capacity,
-            hits,
-            missed,
-            KeyedState { low, high },
-        )
+    match seeded(low, high) {
+        None => hits_at(alloc, keys, capacity, hits, missed, DefaultState),
+        Some(state) => hits_at(&alloc, keys, capacity, hits, missed, state),
     }
 }
 
@@ -59,10 +51,9 @@ pub extern "C" fn clru_misses_by_capacity(
     ensures never_refused { keys.now ≡ [] → result ≡ OK }
     ensures length { length missed.new ≡ length missed.old }
 {
-    if low == 0 && high == 0 {
-        misses_by_capacity(alloc, keys, missed, kinds, DefaultState)
-    } else {
-        misses_by_capacity(&alloc, keys, missed, kinds, KeyedState { low, high })
+    match seeded(low, high) {
+        None => misses_by_capacity(alloc, keys, missed, kinds, DefaultState),
+        Some(state) => misses_by_capacity(&alloc, keys, missed, kinds, state),
     }
 }
 
@@ -81,10 +72,9 @@ pub extern "C" fn clru_least_by_room(
     ensures codes { IsCode (Contains rooms.now 0) (length least.old ≡ length rooms.now) result }
     ensures length { length least.new ≡ length least.old }
 {
-    if low == 0 && high == 0 {
-        least_by_room(alloc, keys, rooms, least, DefaultState)
-    } else {
-        least_by_room(&alloc, keys, rooms, least, KeyedState { low, high })
+    match seeded(low, high) {
+        None => least_by_room(alloc, keys, rooms, least, DefaultState),
+        Some(state) => least_by_room(&alloc, keys, rooms, least, state),
     }
 }
 
@@ -106,19 +96,11 @@ pub extern "C" fn clru_misses_by_size(
     ensures left { result ≢ OK → (missed.new ≡ missed.old) × (lost.new ≡ lost.old) × (size.new ≡ size.old) }
     ensures codes { IsSizedCode keys.now sizes.now capacities.now missed.old lost.old result }
 {
-    if low == 0 && high == 0 {
-        misses_by_size(
-            alloc,
-            keys,
-            sizes,
-            capacities,
-            missed,
-            lost,
-            size,
-            DefaultState,
-        )
-    } else {
-        let state = KeyedState { low, high };
-        misses_by_size(&alloc, keys, sizes, capacities, missed, lost, size, state)
+    match seeded(low, high) {
+        None => {
+            let state = DefaultState;
+            misses_by_size(alloc, keys, sizes, capacities, missed, lost, size, state)
+        }
+        Some(state) => misses_by_size(&alloc, keys, sizes, capacities, missed, lost, size, state),
     }
 }

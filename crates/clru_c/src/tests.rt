@@ -14,12 +14,18 @@ const TEN: &[u64] = &[1, 2, 1, 3, 2, 1, 4, 1, 2, 5];
 // how large each of them is: a 2, b 3, c 4, d 5, e 1, but for the last a, of size 0, which is an object of its own
 const SIZES: &[usize] = &[2, 3, 2, 4, 3, 2, 5, 0, 3, 1];
 
-// of sizes and capacities the code
+// of sizes and capacities the code: where a capacity is 0, where lengths differ, where the sizes are too large beside capacities that
+// are too small and alone, and where a capacity is too small
 static REFUSED: &[(&[usize], &[usize], u32)] = &[
     (SIZES, &[9, 0], 1),
     (&[1, 2], &[9, 9], 2),
     (SIZES, &[9], 2),
     (&[2, 3, 2, 4, usize::MAX, 2, 5, 0, 3, 1], &[9, 9], 4),
+    (
+        &[2305843009213693952; 10],
+        &[2305843009213693952, usize::MAX],
+        4,
+    ),
     (SIZES, &[5, 4], 5),
 ];
 

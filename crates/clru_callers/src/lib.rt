@@ -1,5 +1,6 @@
 //! Does a contract tell its callers enough? Callers with clauses of their own, each proved by the public contracts alone: of the
-//! cache and its runs, and in `of_lists`, `of_stores` and `of_least` of the list, the store and the least. `clru_tests` runs most.
+//! cache and its runs, and in `of_lists`, `of_stores`, `of_curves` and `of_least` of the list, the store, curves and the least.
+//! `clru_tests` runs them.
 #![tactic(auto)]
 
 ghost use Rattle.std.specs.Prelude.{◌≡◌, ◌+◌, Some, nat_eq, OnOk, OnErr, IfSome};
@@ -12,6 +13,7 @@ pub mod errors;
 pub mod lends;
 pub mod lookups;
 pub mod makers;
+pub mod of_curves;
 pub mod of_least;
 pub mod of_lists;
 pub mod of_stores;

@@ -1,10 +1,14 @@
-//! What a caller learns of the least number who reads schedules by positions.
-ghost use Rattle.std.specs.Prelude.{◌≤◌, [], ◌∷◌, List, IfOk};
+//! What a caller learns of the least number: who reads schedules by positions, and who compares it with other policies.
+ghost use Rattle.std.specs.Prelude.{◌≡◌, ℕ, ◌+◌, ◌≤◌, [], ◌∷◌, List, reverse, IfOk};
 ghost use Rattle.std.specs.Int.NonZero.{non_zero_usize_get};
+ghost use Rattle.clru_model.specs.Bypass.{IsBypassSchedule};
 ghost use Rattle.clru_model.specs.ByPosition.{IsCountOf, IsScheduleAt, IsScheduleMissAt};
+ghost use Rattle.clru_model.specs.Least.{IsLeast, IsNearFromAnyStart};
+ghost use Rattle.clru_model.specs.Requests.{distinct};
 ghost use Rattle.clru_model.specs.Schedule.{schedule_misses};
 
-use clru_least::least;
+use clru::replay;
+use clru_least::{law_least, least};
 use clru_model::law_schedules_by_position;
 use std::alloc::Allocator;
 use std::hash::{BuildHasher, Hash};
@@ -27,4 +31,39 @@ pub fn least_by_position<K: Eq + Hash + Drop, S: BuildHasher + Drop, A: Allocato
 {
     law_schedules_by_position::<K>();
     least(alloc, room, keys, hash_builder)
+}
+
+/// Answers the least number, which is no less than the number of distinct keys, and this where all have room. A schedule with
+/// room for one key less misses no fewer, also where it may let keys pass by.
+pub fn least_of_any<K: Eq + Hash + Drop, S: BuildHasher + Drop, A: Allocator + Copy>(
+    alloc: A,
+    room: NonZeroUsize,
+    keys: Vec<K, A>,
+    hash_builder: S,
+) -> Result<usize, Vec<K, A>>
+    ensures floor { IfOk result (λ n. distinct K.eq (reverse keys.items) ≤ n) }
+    ensures all_fit { distinct K.eq (reverse keys.items) ≤ non_zero_usize_get room
+        → IfOk result (λ n. n ≡ distinct K.eq (reverse keys.items)) }
+    ensures may_pass { IfOk result (λ n. (h : ℕ) (schedule : List (List K)) → h + 1 ≡ non_zero_usize_get room
+        → IsBypassSchedule K.eq h ([] ∷ schedule) keys.items → n ≤ schedule_misses K.eq ([] ∷ schedule) keys.items) }
+{
+    law_least::<K>();
+    least(alloc, room, keys, hash_builder)
+}
+
+/// Answers the misses of a replay. There is a least number beside them, which nobody counted.
+pub fn misses_above_least<K: Eq + Hash + Drop, S: BuildHasher + Drop, A: Allocator + Copy>(
+    alloc: A,
+    capacity: NonZeroUsize,
+    keys: Vec<K, A>,
+    hash_builder: S,
+) -> Result<usize, Vec<K, A>>
+    ensures { IfOk result (λ misses. (n : ℕ) × IsLeast K.eq (non_zero_usize_get capacity) keys.items n
+        × IsNearFromAnyStart K.eq (non_zero_usize_get capacity) keys.items n × (n ≤ misses)) }
+{
+    law_least::<K>();
+    match replay(alloc, capacity, keys, hash_builder) {
+        Ok(answer) => Ok(answer.misses),
+        Err(keys) => Err(keys),
+    }
 }

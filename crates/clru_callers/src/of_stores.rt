@@ -4,6 +4,8 @@ ghost use Rattle.std.specs.Map.{lookup};
 ghost use Rattle.clru_through.specs.Steps.{Loads};
 ghost use Rattle.clru_through.specs.declared.answer.Loaded.{Loaded};
 
+pub mod loads;
+pub mod parts;
 pub mod tiers;
 
 use clru::{DefaultState, WeightScale};

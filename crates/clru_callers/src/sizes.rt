@@ -1,8 +1,13 @@
-//! A whole run of puts by weight, by the contract of the put and `law_sizes` alone.
-ghost use Rattle.std.specs.Prelude.{◌≡◌, ℕ, [], nat_eq, IfSome};
-ghost use Rattle.clru.specs.Sizes.{misses_by_size};
+//! Runs of puts by weight and their requests, by the contracts of the calls and the laws alone.
+ghost use Rattle.std.specs.Prelude.{◌≡◌, ℕ, [], List, Some, nat_eq, IfSome, IsSome};
+ghost use Rattle.std.specs.List.{slice_get};
+ghost use Rattle.clru.specs.Requests.{hit};
+ghost use Rattle.clru.specs.Sizes.{span, marks_by_size, misses_by_size};
+ghost use Rattle.clru.specs.SizedRuns.{IsSizedPut};
+ghost use Rattle.clru_model.specs.SpansByPosition.{IsSpanAt};
 
 use clru::{CLruCache, DefaultState, WeightScale, law_sizes};
+use clru_model::{law_distances, law_spans_by_position};
 
 /// A scale by which a page weighs its number, whatever is stored.
 #[derive(Clone, Copy, Drop)]
@@ -36,4 +41,31 @@ pub fn pages_missed<W: WeightScale<usize, ()>>(
         }
     }
     Some(misses)
+}
+
+/// Looks for a page that may be held. Where it is, the cache is then as after a put of its pair.
+pub fn look_again<W: WeightScale<usize, usize>>(
+    cache: &mut CLruCache<usize, usize, DefaultState, W>,
+    page: &usize,
+) -> Option<usize>
+    ensures { IsSome result → IsSizedPut nat_eq (W.weight cache.old.scale) cache.old.capacity page.now
+        cache.old.entries cache.new.entries }
+{
+    law_sizes::<usize, usize>();
+    // It tells that the entries are within the capacity.
+    let _ = cache.len();
+    cache.get(page).copied()
+}
+
+/// Whether a request hits whose span, the least capacity at which it does, is this, told by the positions of the requests; and so where keys weigh nothing.
+pub fn hits_by_span<K: Eq>(least: usize, capacity: usize) -> bool
+    ensures by_position { (weight : K → ℕ) (requests : List K) (i : ℕ) → IsSpanAt K.eq weight requests i least
+        → slice_get (marks_by_size K.eq weight capacity requests) i ≡ Some result }
+    ensures weightless { (weight : K → ℕ) (x : K) (past : List K) → ((k : K) → weight k ≡ 0)
+        → span K.eq weight x past ≡ Some least → result ≡ hit K.eq capacity x past }
+{
+    law_distances::<K>();
+    law_sizes::<K, ()>();
+    law_spans_by_position::<K>();
+    least <= capacity
 }

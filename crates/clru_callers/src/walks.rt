@@ -19,7 +19,7 @@ pub fn total(sizes: &CLruCache<u64, u64>) -> u64
     total
 }
 
-/// The same, from the page that was looked at longest ago.
+/// The sum of the sizes, from the page that was looked at longest ago.
 pub fn total_backwards(sizes: &CLruCache<u64, u64>) -> u64
     requires { sum_by (λ e. e.1) sizes.now.entries < 2 ^ 64 }
     ensures { result ≡ sum_by (λ e. e.1) sizes.now.entries }

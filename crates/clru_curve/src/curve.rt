@@ -25,6 +25,7 @@ impl<A: Allocator> Model for MissCurve<A> {
 impl<A: Allocator> MissCurve<A> {
     /// Returns the number of misses at the capacity, which may be any: where there is room for all keys, there are as many
     /// misses as distinct keys.
+    /// Cost: a read.
     pub fn misses(&self, capacity: NonZeroUsize) -> usize
         ensures { result ≡ misses_at self.now (non_zero_usize_get capacity) }
     {
@@ -35,6 +36,7 @@ impl<A: Allocator> MissCurve<A> {
     }
 
     /// Returns the number of distinct keys: from that capacity on the misses stay the same.
+    /// Cost: a read.
     pub fn distinct(&self) -> usize
         ensures { result ≡ length self.now }
     {
@@ -42,6 +44,7 @@ impl<A: Allocator> MissCurve<A> {
     }
 
     /// Returns the misses at the capacities 1, 2 and so on, up to the number of distinct keys.
+    /// Cost: a read.
     pub fn as_slice(&self) -> &[usize]
         ensures { result.now ≡ self.now }
     {

@@ -46,7 +46,8 @@ impl<K: Eq + Hash, S: BuildHasher, A: Allocator + Copy> Model for DistancePass<K
 }
 
 impl<K: Eq + Hash, A: Allocator + Copy> DistancePass<K, DefaultState, A> {
-    /// Creates a pass that has taken no request. It takes no memory.
+    /// Creates a pass that has taken no request.
+    /// Cost: no request for memory.
     pub fn new(alloc: A) -> Self
         ensures { IsPass K.eq [] result }
     {
@@ -55,7 +56,8 @@ impl<K: Eq + Hash, A: Allocator + Copy> DistancePass<K, DefaultState, A> {
 }
 
 impl<K: Eq + Hash, S: BuildHasher, A: Allocator + Copy> DistancePass<K, S, A> {
-    /// Creates a pass that has taken no request and hashes keys with `hash_builder`. It takes no memory.
+    /// Creates a pass that has taken no request and hashes keys with `hash_builder`.
+    /// Cost: no request for memory.
     pub fn with_hasher(alloc: A, hash_builder: S) -> Self
         ensures { IsPass K.eq [] result }
     {
@@ -66,13 +68,14 @@ impl<K: Eq + Hash, S: BuildHasher, A: Allocator + Copy> DistancePass<K, S, A> {
         }
     }
 
-    /// Takes one more request, and answers its distance, or stack distance: how many distinct keys were requested since the
-    /// latest request of its key, or `None` where there was none. It hits at the capacities above the distance, and at no
-    /// other.
+    /// Takes one more request, and answers its distance: how many distinct keys were requested since the latest request of its
+    /// key, or `None` where there was none. It hits at the capacities above the distance, and at no other. The stack distance of
+    /// the literature is one more, since it counts the key itself.
     ///
     /// Where memory is refused, or there were `usize::MAX` requests, the key comes back and the pass has taken what it had. A
-    /// key that was requested before wants memory at one of 64 requests at most. The cost is a look-up, and for a new key a
-    /// put, besides steps that go with the logarithm of the number of requests.
+    /// key that was requested before wants memory at one of 64 requests at most.
+    /// Cost: one hash and a walk along one chain, for a new key those of a `put` too; and steps that grow as the logarithm of
+    /// the number of requests.
     pub fn request(&mut self, key: K) -> Result<Option<usize>, K>
     where
         K: Drop,
@@ -99,7 +102,7 @@ impl<K: Eq + Hash, S: BuildHasher, A: Allocator + Copy> DistancePass<K, S, A> {
                 let Ok(()) = self.histogram.reserve(1) else {
                     return Err(key);
                 };
-                make_room(&mut self.positions);
+                double_if_full(&mut self.positions);
                 if let Err((key, _)) = self.positions.put(key, number) {
                     return Err(key);
                 }
@@ -110,7 +113,8 @@ impl<K: Eq + Hash, S: BuildHasher, A: Allocator + Copy> DistancePass<K, S, A> {
         }
     }
 
-    /// Returns the curve of the requests so far. It takes no memory; the cost goes with the number of distinct keys.
+    /// Returns the curve of the requests so far.
+    /// Cost: a step for each distinct key; no request for memory.
     pub fn into_curve(self) -> MissCurve<A>
     where
         K: Drop,
@@ -127,8 +131,8 @@ impl<K: Eq + Hash, S: BuildHasher, A: Allocator + Copy> DistancePass<K, S, A> {
         MissCurve::from_misses(histogram)
     }
 
-    /// Returns the curve of the requests so far, and lets the pass go on. It takes memory for a number for each distinct key,
-    /// and none without requests; its cost goes with them.
+    /// Returns the curve of the requests so far, and lets the pass go on.
+    /// Cost: a step for each distinct key; one request for memory, of a number for each, and none without requests.
     pub fn curve(&self, alloc: A) -> Result<MissCurve<A>, NoMemory>
         ensures misses { (past : List K) → IsPass K.eq past self.now
             → IfOk result (λ c. HasMissesOf K.eq (reverse past) c) }
@@ -158,7 +162,7 @@ pub(crate) fn no_positions<K: Eq + Hash, S: BuildHasher, A: Allocator + Copy>(
 /// Doubles the capacity of a cache that is full, so that a put drops nothing.
 ///
 /// The capacity bounds how far the places grow, fourfold else; each takes two heads and a link, which are all written at once.
-pub(crate) fn make_room<K: Eq + Hash + Drop, S: BuildHasher, A: Allocator + Copy>(
+pub(crate) fn double_if_full<K: Eq + Hash + Drop, S: BuildHasher, A: Allocator + Copy>(
     positions: &mut CLruCache<K, usize, S, ZeroWeightScale, A>,
 )
     requires { length positions.old.entries + 1 < 2 ^ 64 }

@@ -1,10 +1,11 @@
 //! A cache within a budget of bytes.
 
 use clru::{CLruCache, DefaultState, NonZeroUsize, ZeroWeightScale};
-use linked_list_allocator::LocalHeap;
+use ration::Rationed;
+use std::alloc::Global;
 
 /// A cache that takes its memory from a heap of a fixed size, whatever its capacity is.
-pub type Within<'a> = CLruCache<u64, u64, DefaultState, ZeroWeightScale, &'a LocalHeap>;
+pub type Within<'a> = CLruCache<u64, u64, DefaultState, ZeroWeightScale, &'a Rationed<Global>>;
 
 /// Remembers the square of a number. Where the heap has no room for one more, the number that was remembered first gives
 /// way.
@@ -30,12 +31,14 @@ mod tests {
 
     #[test]
     fn the_heap_bounds_a_cache_without_bounds(rt: HostRuntime) -> Result<(), Fail> {
-        let heap = LocalHeap::new(rt.alloc(), 4096)?;
+        let heap = Rationed::new(rt.alloc());
+        heap.limit_bytes(4096);
         let mut squares = CLruCache::new(&heap, NonZeroUsize::MAX);
         for number in 0..1000 {
             assert_eq!(rt; remember_square(&mut squares, number), Ok(()));
         }
         assert!(rt; squares.len() > 10 && squares.len() < 100);
+        assert!(rt; heap.held_bytes() <= 4096);
         assert_eq!(rt; squares.peek(&999).copied(), Some(998001));
         Ok(())
     }

@@ -1,32 +1,46 @@
 //! Hash builders.
+ghost use Rattle.std.specs.Prelude.{unwrap_or};
+ghost use Rattle.std.specs.Hash.FoldHasher as folding;
 
-use std::hash::{BuildHasher, Hasher};
+use std::hash::{BuildHasher, FoldHasher, Hasher};
 
-/// Gives each key the same hash.
-#[derive(Clone, Copy, Debug)]
-pub struct Constant(pub u64);
+/// std's hashes, or one hash for each key.
+#[derive(Clone, Copy)]
+pub struct Hashing(pub Option<u64>);
 
-/// The first and the last hash.
-pub const CONSTANTS: [Constant; 2] = [Constant(0), Constant(u64::MAX)];
+/// std's hashes, and the first and the last hash for all keys.
+pub const BUILDERS: [Hashing; 3] = [Hashing(None), Hashing(Some(0)), Hashing(Some(u64::MAX))];
 
-impl Hasher for Constant {
-    ghost write = { λ h _. h };
-
-    ghost finish = { λ h. h.0 };
-
-    fn finish(&self) -> u64 {
-        self.0
-    }
-
-    fn write(&mut self, _bytes: &[u8]) {}
+/// std's hasher, and the hash that is answered in its place where there is one.
+#[derive(Clone, Copy)]
+pub struct Folding {
+    folder: FoldHasher,
+    fixed: Option<u64>,
 }
 
-impl BuildHasher for Constant {
-    type Hasher = Constant;
+impl Hasher for Folding {
+    ghost write = { λ h bytes. record h { folder = folding.write h.folder bytes } };
 
-    ghost build_hasher = { λ s. s };
+    ghost finish = { λ h. unwrap_or h.fixed (folding.finish h.folder) };
 
-    fn build_hasher(&self) -> Constant {
-        *self
+    fn finish(&self) -> u64 {
+        self.fixed.unwrap_or(self.folder.finish())
+    }
+
+    fn write(&mut self, bytes: &[u8]) {
+        self.folder.write(bytes);
+    }
+}
+
+impl BuildHasher for Hashing {
+    type Hasher = Folding;
+
+    ghost build_hasher = { λ s. record { folder = folding.initial; fixed = s.0 } };
+
+    fn build_hasher(&self) -> Folding {
+        Folding {
+            folder: FoldHasher::default(),
+            fixed: self.0,
+        }
     }
 }

@@ -41,8 +41,9 @@ impl<'a, K: Eq, A: Allocator + Copy> Model for Foresight<'a, K, A> {
 impl<'a, K: Eq, A: Allocator + Copy> Foresight<'a, K, A> {
     /// Looks up where the key of each request is requested next.
     ///
-    /// Each request costs a look-up in a table of the keys, which are hashed with `hash_builder`. Memory is taken for a number
-    /// for each request, and meanwhile for the table; it may be refused. Without requests none is asked for.
+    /// Memory may be refused; without requests none is asked for.
+    /// Cost: one look-up for each request in a table of the keys, which hashes them with `hash_builder`; memory for a number
+    /// for each request, and meanwhile for the table.
     pub fn new<S: BuildHasher + Drop>(
         alloc: A,
         keys: &'a [K],
@@ -62,9 +63,9 @@ impl<'a, K: Eq, A: Allocator + Copy> Foresight<'a, K, A> {
     ///
     /// One that starts with keys has at most `room` fewer; a replay of that capacity has no fewer.
     ///
-    /// No key is hashed or compared. The time grows as the requests times the logarithm of their number. Memory is taken at the
-    /// start, for a mark and a number for each request, and given back; it may be refused. Without requests none is
-    /// asked for.
+    /// Memory is asked for at the start, and may be refused; without requests none is.
+    /// Cost: time that grows as the requests times the logarithm of their number; memory for a mark and a number for each
+    /// request, until it returns. No key is hashed or compared.
     pub fn least(&self, room: NonZeroUsize) -> Result<usize, AllocError>
         ensures least { IfOk result (IsLeast K.eq (non_zero_usize_get room) self.now) }
         ensures any_start { IfOk result (IsNearFromAnyStart K.eq (non_zero_usize_get room) self.now) }
@@ -171,8 +172,8 @@ fn mark<A: Allocator>(kept: &mut Vec<bool, A>, position: usize, value: bool)
 /// one room.
 ///
 /// Where memory is refused, the keys come back as they were; else they are dropped: to keep them use `Foresight`, which
-/// borrows. Without keys no memory is asked for. Each key costs a look-up in a
-/// table, with `hash_builder`.
+/// borrows. Without keys no memory is asked for. Keys are hashed with `hash_builder`.
+/// Cost: that of `Foresight::new` and of one call of its `least`.
 pub fn least<K: Eq + Hash + Drop, S: BuildHasher + Drop, A: Allocator + Copy>(
     alloc: A,
     room: NonZeroUsize,

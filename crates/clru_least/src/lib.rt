@@ -5,7 +5,7 @@
 //! much another policy that takes in each key it is asked for, and no other, could gain at the very most.
 //!
 //! Contracts say it by schedules, the keys held before each request, and name no method. A policy that may let a key pass by
-//! misses no fewer than the least with room for one key more; no contract says so.
+//! misses no fewer than the least with room for one key more (`law_least`).
 #![tactic(auto)]
 
 mod foresight;

@@ -1,5 +1,5 @@
 -- Where the lines of an input begin and end.
-use Rattle.std.proofs.Common.{◌≡◌, ℕ, ◌+◌, ◌<◌, ◌≤◌, Bool, false, List, [], ◌∷◌, None, Some, length, get_or, rules, take, drop, refl, ap, ◌∙◌, arith}
+use Rattle.std.proofs.Common.{◌≡◌, ℕ, ◌+◌, ◌<◌, ◌≤◌, Bool, false, List, [], ◌∷◌, ◌++◌, None, Some, length, get_or, rules, take, drop, take-append-drop, drop-cons, add-one, refl, sym, ap, ◌∙◌, arith}
 use Rattle.std.specs.Prelude.{◌==◌, position}
 use Rattle.std.specs.List.{slice_split, position_or_len, before_first, after_first}
 use Rattle.std.proofs.lemmas.Bool.Decides.{nat_tests}
@@ -35,6 +35,13 @@ lines_of-at bytes at h =
     ap lines_of_parts (slice_split_first p bytes 0 (omega (arith, first)))
     ∙ lines_of_parts-cons (before_first p bytes) (slice_split p rest) some
     ∙ ap (λ n. take n bytes ∷ lines_of (drop (n + 1) bytes)) first
+
+-- the first newline has its line before it and the rest behind it
+pub cut_at : (bytes : List ℕ) (at : ℕ) → position (λ b. b == 10) bytes ≡ Some at → bytes ≡ take at bytes ++ 10 ∷ drop (at + 1) bytes
+cut_at bytes at h =
+    let found = position-Some (λ b. b == 10) bytes at 0 h in
+    let here : get_or bytes at 0 ≡ 10 = grind (arith, nat_tests, found.1) in
+    sym (take-append-drop at bytes) ∙ ap (λ rest. take at bytes ++ rest) (rw (add-one, ← here) (drop-cons bytes at 0 found.0))
 
 -- with no newline, all bytes are the last line
 pub lines_of-last : (bytes : List ℕ) → position (λ b. b == 10) bytes ≡ None → 0 < length bytes → lines_of bytes ≡ bytes ∷ []

@@ -15,6 +15,3 @@ pub use capacity::capacity_of;
 pub use input::{ReadError, read_input};
 pub use lines::{Key, keys_of, next_line};
 pub use output::write_text;
-
-#[cfg(test)]
-mod tests;

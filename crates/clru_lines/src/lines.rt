@@ -1,5 +1,5 @@
 //! The lines of the input, each a key without a copy of its bytes.
-ghost use Rattle.std.specs.Prelude.{◌≡◌, ◌==◌, ◌<◌, [], ◌∷◌, map, length, position, IfOk, IfSome, IfNone};
+ghost use Rattle.std.specs.Prelude.{◌≡◌, ◌==◌, ◌<◌, ◌⊎◌, [], ◌∷◌, ◌++◌, map, length, position, IfOk, IfSome, IfNone};
 ghost use Rattle.std.specs.Cmp.Rules.{hashing};
 ghost use Rattle.std.proofs.Common.{rules};
 ghost use Rattle.clru_lines.specs.Lines.{lines_of};
@@ -32,6 +32,8 @@ fn newline_at(bytes: &[u8]) -> Option<usize>
 /// The first line of the bytes and what follows its newline, or `None` where there is no line.
 pub fn next_line(bytes: &[u8]) -> Option<(&[u8], &[u8])>
     ensures line { IfSome result (λ found. lines_of bytes.now ≡ found.0.now ∷ lines_of found.1.now) }
+    ensures bytes { IfSome result (λ found. (bytes.now ≡ found.0.now ++ 10 ∷ found.1.now)
+        ⊎ ((bytes.now ≡ found.0.now) × (found.1.now ≡ []))) }
     ensures shorter { IfSome result (λ found. length found.1.now < length bytes.now) }
     ensures none { IfNone result (lines_of bytes.now ≡ []) }
 {

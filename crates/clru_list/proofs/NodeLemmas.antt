@@ -175,11 +175,11 @@ module _ {T A : Type 0} where
 
     -- where there are no upper halves
     module _ (none : vec_len c.upper ≤ at) where
-      pub links_of-lead : (lower to : ℕ) → place_by lower 0 ≡ to → links_of (record c { nodes = with_item c.nodes at (record n { next = lower }) }) ≡ set_next (links_of c) at to
-      links_of-lead lower to is = links_of-set_next c.upper lower 0 to (sym (put-same (upper_next c.upper) at 0 (upper_next-past c.upper at none))) refl is
+      pub links_of-write_next : (lower to : ℕ) → place_by lower 0 ≡ to → links_of (record c { nodes = with_item c.nodes at (record n { next = lower }) }) ≡ set_next (links_of c) at to
+      links_of-write_next lower to is = links_of-set_next c.upper lower 0 to (sym (put-same (upper_next c.upper) at 0 (upper_next-past c.upper at none))) refl is
 
-      pub links_of-follow : (lower to : ℕ) → place_by lower 0 ≡ to → links_of (record c { nodes = with_item c.nodes at (record n { prev = lower }) }) ≡ set_prev (links_of c) at to
-      links_of-follow lower to is = links_of-set_prev c.upper lower 0 to (sym (put-same (upper_prev c.upper) at 0 (upper_prev-past c.upper at none))) refl is
+      pub links_of-write_prev : (lower to : ℕ) → place_by lower 0 ≡ to → links_of (record c { nodes = with_item c.nodes at (record n { prev = lower }) }) ≡ set_prev (links_of c) at to
+      links_of-write_prev lower to is = links_of-set_prev c.upper lower 0 to (sym (put-same (upper_prev c.upper) at 0 (upper_prev-past c.upper at none))) refl is
 
       pub links_of-stand : (lower other next prev : ℕ) → place_by lower 0 ≡ next → place_by other 0 ≡ prev
           → links_of (record c { nodes = with_item c.nodes at (record n { next = lower; prev = other }) }) ≡ set_prev (set_next (links_of c) at next) at prev
@@ -197,18 +197,18 @@ module _ {T A : Type 0} where
       upper_prev-read : upper_prev c.upper at ≡ u.prev
       upper_prev-read = column-read (λ m. m.prev) 0 c.upper.items at u (omega (arith, c.upper.ok.0)) d
 
-      pub links_of-lead_wide : (lower upper to : ℕ) → place_by lower upper ≡ to
+      pub links_of-write_next_wide : (lower upper to : ℕ) → place_by lower upper ≡ to
           → links_of (record c { nodes = with_item c.nodes at (record n { next = lower }); upper = with_item c.upper at (record u { next = upper }) })
           ≡ set_next (links_of c) at to
-      links_of-lead_wide lower upper to is =
+      links_of-write_next_wide lower upper to is =
           links_of-set_next (with_item c.upper at (record u { next = upper })) lower upper to
           (column-set (λ m. m.next) 0 c.upper.items at (record u { next = upper }) (omega (arith, c.upper.ok.0)))
           (column-set (λ m. m.prev) 0 c.upper.items at (record u { next = upper }) (omega (arith, c.upper.ok.0)) ∙ put-same (upper_prev c.upper) at u.prev upper_prev-read) is
 
-      pub links_of-follow_wide : (lower upper to : ℕ) → place_by lower upper ≡ to
+      pub links_of-write_prev_wide : (lower upper to : ℕ) → place_by lower upper ≡ to
           → links_of (record c { nodes = with_item c.nodes at (record n { prev = lower }); upper = with_item c.upper at (record u { prev = upper }) })
           ≡ set_prev (links_of c) at to
-      links_of-follow_wide lower upper to is =
+      links_of-write_prev_wide lower upper to is =
           links_of-set_prev (with_item c.upper at (record u { prev = upper })) lower upper to
           (column-set (λ m. m.prev) 0 c.upper.items at (record u { prev = upper }) (omega (arith, c.upper.ok.0)))
           (column-set (λ m. m.next) 0 c.upper.items at (record u { prev = upper }) (omega (arith, c.upper.ok.0)) ∙ put-same (upper_next c.upper) at u.next upper_next-read) is

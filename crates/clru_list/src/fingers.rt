@@ -47,7 +47,7 @@ impl Fingers {
         }
     }
 
-    /// The same for the finger that goes down.
+    /// The place of the index, where the finger that goes down has it.
     pub(crate) fn down_at(&self, index: usize) -> Option<usize>
         ensures { IfSome result (λ p. (places : List ℕ) → IsPointed places self.now
             → slice_get places index ≡ Some p) }

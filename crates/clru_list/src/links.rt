@@ -127,12 +127,12 @@ impl<T, A: Allocator> Links<T, A> {
         if at == NOWHERE {
             self.front = to;
         } else {
-            self.lead(at, to);
+            self.write_next(at, to);
         }
     }
 
     /// Has a place name the next one.
-    fn lead(&mut self, at: usize, to: usize)
+    fn write_next(&mut self, at: usize, to: usize)
         requires at { at < vec_len self.old.nodes }
         requires to { IsEnd (links_of self.old) to }
         requires allotted { vec_len self.old.nodes ≤ allotted_of self.old }
@@ -140,15 +140,15 @@ impl<T, A: Allocator> Links<T, A> {
         ensures same_allotted { allotted_of self.new ≡ allotted_of self.old }
     {
         if at < self.upper.len() {
-            self.lead_wide(at, to);
+            self.write_next_wide(at, to);
         } else {
-            self.lead_narrow(at, to);
+            self.write_next_narrow(at, to);
         }
     }
 
     #[cold]
     #[inline(never)]
-    fn lead_wide(&mut self, at: usize, to: usize)
+    fn write_next_wide(&mut self, at: usize, to: usize)
         requires at { at < vec_len self.old.nodes }
         requires wide { at < vec_len self.old.upper }
         ensures links { links_of self.new ≡ set_next (links_of self.old) at to }
@@ -159,7 +159,7 @@ impl<T, A: Allocator> Links<T, A> {
         self.upper[at].next = upper;
     }
 
-    fn lead_narrow(&mut self, at: usize, to: usize)
+    fn write_next_narrow(&mut self, at: usize, to: usize)
         requires at { at < vec_len self.old.nodes }
         requires to { IsEnd (links_of self.old) to }
         requires allotted { vec_len self.old.nodes ≤ allotted_of self.old }
@@ -181,12 +181,12 @@ impl<T, A: Allocator> Links<T, A> {
         if at == NOWHERE {
             self.back = to;
         } else {
-            self.follow(at, to);
+            self.write_prev(at, to);
         }
     }
 
     /// Has a place name the one before.
-    fn follow(&mut self, at: usize, to: usize)
+    fn write_prev(&mut self, at: usize, to: usize)
         requires at { at < vec_len self.old.nodes }
         requires to { IsEnd (links_of self.old) to }
         requires allotted { vec_len self.old.nodes ≤ allotted_of self.old }
@@ -194,15 +194,15 @@ impl<T, A: Allocator> Links<T, A> {
         ensures same_allotted { allotted_of self.new ≡ allotted_of self.old }
     {
         if at < self.upper.len() {
-            self.follow_wide(at, to);
+            self.write_prev_wide(at, to);
         } else {
-            self.follow_narrow(at, to);
+            self.write_prev_narrow(at, to);
         }
     }
 
     #[cold]
     #[inline(never)]
-    fn follow_wide(&mut self, at: usize, to: usize)
+    fn write_prev_wide(&mut self, at: usize, to: usize)
         requires at { at < vec_len self.old.nodes }
         requires wide { at < vec_len self.old.upper }
         ensures links { links_of self.new ≡ set_prev (links_of self.old) at to }
@@ -213,7 +213,7 @@ impl<T, A: Allocator> Links<T, A> {
         self.upper[at].prev = upper;
     }
 
-    fn follow_narrow(&mut self, at: usize, to: usize)
+    fn write_prev_narrow(&mut self, at: usize, to: usize)
         requires at { at < vec_len self.old.nodes }
         requires to { IsEnd (links_of self.old) to }
         requires allotted { vec_len self.old.nodes ≤ allotted_of self.old }
@@ -251,8 +251,8 @@ impl<T, A: Allocator> Links<T, A> {
         ensures links { links_of self.new ≡ linked (links_of self.old) prev place next }
         ensures same_allotted { allotted_of self.new ≡ allotted_of self.old }
     {
-        self.lead(place, next);
-        self.follow(place, prev);
+        self.write_next(place, next);
+        self.write_prev(place, prev);
         self.set_next(prev, place);
         self.set_prev(next, place);
     }
@@ -304,10 +304,10 @@ impl<T, A: Allocator> Links<T, A> {
         let before = self.prev_narrow(place);
         let behind = self.next_narrow(place);
         let front = self.front;
-        self.lead_narrow(before, behind);
+        self.write_next_narrow(before, behind);
         self.set_prev_narrow(behind, before);
         self.stand_narrow(place, NOWHERE, front);
-        self.follow_narrow(front, place);
+        self.write_prev_narrow(front, place);
         // Last, so that no other write may have changed it for a caller that reads it next.
         self.set_next(NOWHERE, place);
     }
@@ -340,7 +340,7 @@ impl<T, A: Allocator> Links<T, A> {
         if at == NOWHERE {
             self.back = to;
         } else {
-            self.follow_narrow(at, to);
+            self.write_prev_narrow(at, to);
         }
     }
 
@@ -367,7 +367,7 @@ impl<T, A: Allocator> Links<T, A> {
         ensures same_allotted { allotted_of self.new ≡ allotted_of self.old }
     {
         let free = self.free;
-        self.lead(place, free);
+        self.write_next(place, free);
         self.free = place;
     }
 

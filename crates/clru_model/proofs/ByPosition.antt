@@ -39,7 +39,7 @@ module _ {K : Type 0} (eq : K → K → Bool) where
       marks_after_next (y ∷ past) k before x after ∙ ap (λ l. Some (hit eq k x l)) (sym (reverse-cons-append eq y before past))
 
   -- requests of which one is of x are those since the latest such request, that one, and older ones
-  split_since : (x : K) (past : List K) → holds eq x past ≡ true
+  pub split_since : (x : K) (past : List K) → holds eq x past ≡ true
       → (y : K) × (older : List K) × (past ≡ since eq x past ++ y ∷ older) × (eq x y ≡ true)
   split_since x [] h = cc
   split_since x (y ∷ past) h =
@@ -49,14 +49,14 @@ module _ {K : Type 0} (eq : K → K → Bool) where
       (z, older, rw (since-cons eq x y past, f) (ap (λ l. y ∷ l) e), same))
 
   -- the requests since the latest one of x, where it is written out
-  since_split : (x y : K) (recent older : List K) → holds eq x recent ≡ false → eq x y ≡ true → since eq x (recent ++ y ∷ older) ≡ recent
+  pub since_split : (x y : K) (recent older : List K) → holds eq x recent ≡ false → eq x y ≡ true → since eq x (recent ++ y ∷ older) ≡ recent
   since_split x y [] older none same = rw (since-cons eq x y older, same) refl
   since_split x y (z ∷ recent) older none same =
       split (eq x z) (λ t. cc (rw t at none))
       (λ f. rw (since-cons eq x z (recent ++ y ∷ older), f) (ap (λ l. z ∷ l) (since_split x y recent older (rw f at none) same)))
 
   -- a list with one element in the middle, reversed
-  reverse_middle : (xs ys : List K) (y : K) → reverse (xs ++ y ∷ ys) ≡ reverse ys ++ y ∷ reverse xs
+  pub reverse_middle : (xs ys : List K) (y : K) → reverse (xs ++ y ∷ ys) ≡ reverse ys ++ y ∷ reverse xs
   reverse_middle xs ys y = reverse-append xs (y ∷ ys) ∙ reverse-cons-append eq y ys (reverse xs)
 
   -- a request hits where one of the same key came before it, with fewer than k distinct keys and no such request between
@@ -79,6 +79,26 @@ module _ {K : Type 0} (eq : K → K → Bool) where
       (marks_after_next [] k front x after
       ∙ ap Some (ap (λ l. hit eq k x l) (append-nil (reverse front)) ∙ hit_after_middle k before y between x same none few))
 
+  -- a key that is not requested between two positions is the same as none there
+  pub latest_middle : (before : List K) (y : K) (between : List K) (x : K) (after : List K) → holds eq x between ≡ false
+      → (p : ℕ) (z : K) → length before < p → p < length before + suc (length between)
+      → slice_get (before ++ y ∷ (between ++ x ∷ after)) p ≡ Some z → eq x z ≡ false
+  latest_middle before y between x after none p z low high at =
+      let j : p ≡ length before + suc (p - length before - 1) = omega arith in
+      let within : p - length before - 1 < length between = omega arith in
+      LacksKey_from_holds eq between x none (p - length before - 1) z
+      (sym (slice_get_between before y between (x ∷ after) (p - length before - 1) within)
+      ∙ ap (slice_get (before ++ y ∷ (between ++ x ∷ after))) (sym j) ∙ at)
+
+  -- and the other way round
+  pub none_between : (before : List K) (y : K) (between : List K) (x : K) (after : List K)
+      → ((p : ℕ) (z : K) → length before < p → p < length before + suc (length between)
+      → slice_get (before ++ y ∷ (between ++ x ∷ after)) p ≡ Some z → eq x z ≡ false)
+      → holds eq x between ≡ false
+  none_between before y between x after latest = holds_from_LacksKey eq between x (λ p z at.
+      let within = slice_get_within between p z at in
+      latest (length before + suc p) z (omega arith) (omega arith) (slice_get_between before y between (x ∷ after) p within ∙ at))
+
   -- the same by positions
   IsHitAt_middle : (k : ℕ) (before : List K) (y : K) (between : List K) (x : K) (after : List K) → eq x y ≡ true → holds eq x between ≡ false
       → distinct eq (reverse between) < k → IsHitAt eq k (before ++ y ∷ (between ++ x ∷ after)) (length before + suc (length between))
@@ -90,12 +110,7 @@ module _ {K : Type 0} (eq : K → K → Bool) where
     key_before = y;
     requested_before = slice_get_middle before (between ++ x ∷ after) y;
     same = same;
-    latest = λ p z low high at.
-        let j : p ≡ length before + suc (p - length before - 1) = omega arith in
-        let within : p - length before - 1 < length between = omega arith in
-        LacksKey_from_holds eq between x none (p - length before - 1) z
-        (sym (slice_get_between before y between (x ∷ after) (p - length before - 1) within)
-        ∙ ap (slice_get (before ++ y ∷ (between ++ x ∷ after))) (sym j) ∙ at);
+    latest = latest_middle before y between x after none;
     between = distinct eq (reverse between);
     distinct_between = rw slice_range_between (distinct_by_position eq between);
     few = few;
@@ -110,9 +125,7 @@ module _ {K : Type 0} (eq : K → K → Bool) where
       subst₂ (λ l j. ((p : ℕ) (z : K) → length before < p → p < j → slice_get l p ≡ Some z → eq x z ≡ false)
       → distinct eq (reverse (slice_range l (length before + 1) j)) < k → slice_get (marks eq k l) j ≡ Some true) e n
       (λ latest few.
-      let none = holds_from_LacksKey eq between x (λ p z at.
-      let within = slice_get_within between p z at in
-      latest (length before + suc p) z (omega arith) (omega arith) (slice_get_between before y between (x ∷ after) p within ∙ at)) in
+      let none = none_between before y between x after latest in
       let less : distinct eq (reverse between) < k = rw slice_range_between at few in
       marks_at_middle k before y between x after same none less)
 

@@ -1,5 +1,5 @@
 -- How many positions have a property.
-use Rattle.std.proofs.Common.{◌≡◌, ℕ, zero, suc, ◌<◌, ◌≤◌, true, false, ◌⊎◌, List, [], ◌∷◌, length, inl, inr}
+use Rattle.std.proofs.Common.{◌≡◌, ℕ, zero, suc, ◌<◌, ◌≤◌, true, false, ◌⊎◌, ◌↔◌, List, [], ◌∷◌, length, inl, inr}
 use Rattle.std.proofs.Common.{refl, sym, ap, ◌∙◌, subst, arith, get_or}
 use Rattle.std.proofs.lemmas.Bool.{eqb-true, eq-eqb}
 use Rattle.std.proofs.lemmas.Bool.Decides.{nat_tests}
@@ -33,29 +33,40 @@ Contains-one : (n p : ℕ) → Contains (n ∷ []) p → n ≡ p
 Contains-one n p (zero, within, same) = same
 Contains-one n p (suc k, within, same) = absurd (omega arith)
 
+-- positions that are pairwise different, those that have the property and no others
+pub record AreAll (P : ℕ → Type 0) (positions : List ℕ) : Type 0 where
+  pub different : IsDistinct nat_eq positions
+  pub each : (p : ℕ) → Contains positions p ↔ P p
+
 -- one more position, past the others
-pub count_next : {P Q : ℕ → Type 0} {m : ℕ} (n : ℕ) → IsCountOf P m → ((p : ℕ) → P p → p < n) → ((p : ℕ) → P p → Q p) → Q n
-    → ((p : ℕ) → Q p → P p ⊎ (p ≡ n)) → IsCountOf Q (suc m)
-count_next {P} {Q} {m} n c below there last cases = record {
-  positions = n ∷ c.positions;
-  many = ap suc c.many;
-  different = IsDistinct-cons nat_eq n c.positions (recursion_from_All (λ y. nat_eq n y ≡ false) c.positions (λ k d within.
-      let less : get_or c.positions k d < n = below (get_or c.positions k d) ((c.each (get_or c.positions k d)).0 (Contains-get_or c.positions k d within)) in
+pub all_next : {P Q : ℕ → Type 0} {positions : List ℕ} (n : ℕ) → AreAll P positions → ((p : ℕ) → P p → p < n) → ((p : ℕ) → P p → Q p) → Q n
+    → ((p : ℕ) → Q p → P p ⊎ (p ≡ n)) → AreAll Q (n ∷ positions)
+all_next {P} {Q} {positions} n c below there last cases = record {
+  different = IsDistinct-cons nat_eq n positions (recursion_from_All (λ y. nat_eq n y ≡ false) positions (λ k d within.
+      let less : get_or positions k d < n = below (get_or positions k d) ((c.each (get_or positions k d)).0 (Contains-get_or positions k d within)) in
       grind (arith, nat_tests))) c.different;
   each = λ p. (
-    λ h. elim (Contains-append_cases (n ∷ []) c.positions p h) [
+    λ h. elim (Contains-append_cases (n ∷ []) positions p h) [
       | inl first ↦ subst Q (Contains-one n p first) last
       | inr later ↦ there p ((c.each p).0 later)
     ],
     λ h. elim (cases p h) [
-      | inl old ↦ Contains-append_right (n ∷ []) c.positions p ((c.each p).1 old)
+      | inl old ↦ Contains-append_right (n ∷ []) positions p ((c.each p).1 old)
       | inr new ↦ (0, omega arith, sym new)
     ],
   );
 }
 
+-- so one more of them
+pub count_next : {P Q : ℕ → Type 0} {m : ℕ} (n : ℕ) → IsCountOf P m → ((p : ℕ) → P p → p < n) → ((p : ℕ) → P p → Q p) → Q n
+    → ((p : ℕ) → Q p → P p ⊎ (p ≡ n)) → IsCountOf Q (suc m)
+count_next {P} {Q} {m} n c below there last cases =
+    let all : AreAll P c.positions = record { different = c.different; each = c.each } in
+    let more = all_next n all below there last cases in
+    record { positions = n ∷ c.positions; many = ap suc c.many; different = more.different; each = more.each }
+
 -- numbers that are pairwise different count as many distinct ones
-distinct_numbers : (xs : List ℕ) → IsDistinct nat_eq xs → distinct nat_eq xs ≡ length xs
+pub distinct_numbers : (xs : List ℕ) → IsDistinct nat_eq xs → distinct nat_eq xs ≡ length xs
 unfolding IsDistinct
 distinct_numbers [] d = refl
 distinct_numbers (x ∷ xs) d =
@@ -66,11 +77,11 @@ distinct_numbers (x ∷ xs) d =
     apart x [] all = refl
     apart x (y ∷ ys) all = rw all.0 (apart x ys all.1)
 
-holds_from_Contains : (xs : List ℕ) (x : ℕ) → Contains xs x → holds nat_eq x xs ≡ true
+pub holds_from_Contains : (xs : List ℕ) (x : ℕ) → Contains xs x → holds nat_eq x xs ≡ true
 holds_from_Contains xs x (k, within, same) =
     any_passes_from_place (nat_eq x) xs k (get_or xs k x) (slice_get-get_or xs k x within) (eq-eqb x (get_or xs k x) (sym same))
 
-Contains_from_holds : (xs : List ℕ) (x : ℕ) → holds nat_eq x xs ≡ true → Contains xs x
+pub Contains_from_holds : (xs : List ℕ) (x : ℕ) → holds nat_eq x xs ≡ true → Contains xs x
 Contains_from_holds xs x h =
     let (p, y, at, same) = HasKey_from_holds nat_eq xs x h in
     (p, slice_get_within xs p y at, get_or_from_slice_get xs p y x at ∙ sym (eqb-true x y same))

@@ -61,7 +61,7 @@ module _ {K : Type 0} (eq : K → K → Bool) where
 
 module _ {K : Type 0} (eq : K → K → Bool) where
   -- a key that stands first still does with one more at the end
-  first_still : (xs : List K) (x : K) (p : ℕ) → IsFirstAt eq xs p → IsFirstAt eq (xs ++ x ∷ []) p
+  pub first_still : (xs : List K) (x : K) (p : ℕ) → IsFirstAt eq xs p → IsFirstAt eq (xs ++ x ∷ []) p
   first_still xs x p f =
       let within : p < length xs = slice_get_within xs p f.key f.at in
       record {
@@ -71,7 +71,7 @@ module _ {K : Type 0} (eq : K → K → Bool) where
       }
 
   -- a key that stands first stood so before, or is the one at the end, which is new
-  first_before : (xs : List K) (x : K) (p : ℕ) → IsFirstAt eq (xs ++ x ∷ []) p
+  pub first_before : (xs : List K) (x : K) (p : ℕ) → IsFirstAt eq (xs ++ x ∷ []) p
       → IsFirstAt eq xs p ⊎ ((p ≡ length xs) × (holds eq x xs ≡ false))
   first_before xs x p f = elim (slice_get_push xs x f.key p f.at) [
     | inl at ↦ let within : p < length xs = slice_get_within xs p f.key at in inl (record {
@@ -88,14 +88,14 @@ module _ {K : Type 0} (eq : K → K → Bool) where
   ]
 
   -- a new key at the end stands first
-  first_new : (xs : List K) (x : K) → holds eq x xs ≡ false → IsFirstAt eq (xs ++ x ∷ []) (length xs)
+  pub first_new : (xs : List K) (x : K) → holds eq x xs ≡ false → IsFirstAt eq (xs ++ x ∷ []) (length xs)
   first_new xs x new = record {
     key = x;
     at = slice_get_middle xs [] x;
     none_before = λ j y less at. LacksKey_from_holds eq xs x new j y (sym (slice_get-append_left xs (x ∷ []) j less) ∙ at);
   }
 
-  first_within : (xs : List K) (p : ℕ) → IsFirstAt eq xs p → p < length xs
+  pub first_within : (xs : List K) (p : ℕ) → IsFirstAt eq xs p → p < length xs
   first_within xs p f = slice_get_within xs p f.key f.at
 
   -- the count with one more request

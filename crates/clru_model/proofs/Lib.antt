@@ -1,5 +1,8 @@
 pub mod Bound
+pub mod Bounds
 pub mod ByPosition
+pub mod Bypass
+pub mod BypassRows
 pub mod Cases
 pub mod Counting
 pub mod Distances
@@ -13,7 +16,9 @@ pub mod Fitting
 pub mod Growing
 pub mod Hits
 pub mod Inclusion
+pub mod KeyedRuns
 pub mod Least
+pub mod LeastIsThere
 pub mod Lookups
 pub mod Marks
 pub mod Optimum
@@ -29,7 +34,9 @@ pub mod SchedulesByPosition
 pub mod SizeRows
 pub mod SizedRuns
 pub mod Spans
+pub mod SpansByPosition
 pub mod Sublists
+pub mod Summing
 pub mod Totals
 pub mod Views
 pub mod Wanted

@@ -27,7 +27,7 @@ module _ {K : Type 0} (eq : K → K → Bool) where
   recent k ks (x ∷ rs) = touched k x ks ∷ recent k (touched k x ks) rs
 
   -- each key of the list is held in another one
-  all_held : (ks ls : List K) → ((z : K) → holds eq z ks ≡ true → holds eq z ls ≡ true) → IsEquivalence eq
+  pub all_held : (ks ls : List K) → ((z : K) → holds eq z ks ≡ true → holds eq z ls ≡ true) → IsEquivalence eq
       → list_all (λ q. holds eq q ls) ks ≡ true
   all_held [] ls within laws = refl
   all_held (k ∷ ks) ls within laws =

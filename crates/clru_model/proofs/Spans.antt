@@ -6,6 +6,8 @@ use Rattle.std.proofs.lemmas.Bool.Decides.{nat_tests}
 use Rattle.std.proofs.lemmas.Option.{same_Some}
 use Rattle.std.specs.Cmp.{IsEquivalence}
 use Rattle.std.specs.List.{slice_get, count_by}
+use Rattle.std.specs.Option.{option_map}
+use Rattle.clru_model.specs.Distances.{distance}
 use Rattle.clru_model.specs.Requests.{holds, distinct, since, hit, marks_after}
 use Rattle.clru_model.specs.Sizes.{SameWeights, total, span, spans_after, hit_by_size, marks_by_size_after}
 use Rattle.clru_model.specs.Sizes.{misses_by_size, missed_size_after, missed_size}
@@ -70,6 +72,11 @@ module _ {K : Type 0} (eq : K → K → Bool) (weight : K → ℕ) where
     total_weightless [] = refl
     total_weightless (x ∷ past) =
         rw (none x, total_weightless past) (split (holds eq x past) (λ t. rw t refl) (λ f. rw f (omega arith)))
+
+    pub span_weightless : (x : K) (past : List K) → span eq weight x past ≡ option_map suc (distance eq x past)
+    span_weightless x past = rw (none x, total_weightless (since eq x past)) (split (holds eq x past)
+        (λ t. rw t (ap Some (omega arith)))
+        (λ f. rw f refl))
 
     hit_weightless : (c : ℕ) (x : K) (past : List K) → hit_by_size eq weight c x past ≡ hit eq c x past
     hit_weightless c x past = rw (none x, total_weightless (since eq x past)) (split (holds eq x past)

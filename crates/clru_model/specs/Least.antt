@@ -1,6 +1,6 @@
 -- The least possible misses: those of the best schedule, which may know all requests beforehand. Public clauses cite them.
-use Rattle.std.specs.Prelude.{◌≡◌, ℕ, ◌+◌, ◌-◌, ◌*◌, ◌≤◌, Bool, List, [], ◌∷◌}
-use Rattle.clru_model.specs.Requests.{misses}
+use Rattle.std.specs.Prelude.{◌≡◌, ℕ, ◌+◌, ◌-◌, ◌*◌, ◌≤◌, Bool, List, [], ◌∷◌, reverse}
+use Rattle.clru_model.specs.Requests.{distinct, misses}
 use Rattle.clru_model.specs.Schedule.{IsSchedule, schedule_misses}
 
 module _ {K : Type 0} (eq : K → K → Bool) where
@@ -21,6 +21,10 @@ module _ {K : Type 0} (eq : K → K → Bool) where
   IsNearFromAnyStart h requests n = (schedule : List (List K)) → IsSchedule eq h schedule requests
       → n ≤ schedule_misses eq schedule requests + h
 
+  -- with room for a key or more some number is the least
+  abbrev pub LeastIsThere : Type 0
+  LeastIsThere = (h : ℕ) (requests : List K) → 1 ≤ h → (n : ℕ) × IsLeast h requests n
+
   -- at most one number is the least
   abbrev pub LeastIsOne : Type 0
   LeastIsOne = (h n m : ℕ) (requests : List K) → IsLeast h requests n → IsLeast h requests m → n ≡ m
@@ -28,6 +32,15 @@ module _ {K : Type 0} (eq : K → K → Bool) where
   -- with room for more keys it is no greater
   abbrev pub LeastFalls : Type 0
   LeastFalls = (h l n m : ℕ) (requests : List K) → h ≤ l → IsLeast h requests n → IsLeast l requests m → m ≤ n
+
+  -- with room for all keys it is their number
+  abbrev pub RoomForAllHasDistinct : Type 0
+  RoomForAllHasDistinct = (h : ℕ) (requests : List K) → 1 ≤ h → distinct eq (reverse requests) ≤ h
+      → IsLeast h requests (distinct eq (reverse requests))
+
+  -- beside schedules that start with any keys it is at most h more
+  abbrev pub LeastIsNearFromAnyStart : Type 0
+  LeastIsNearFromAnyStart = (h n : ℕ) (requests : List K) → 1 ≤ h → IsLeast h requests n → IsNearFromAnyStart h requests n
 
   -- the misses of a replay are those of some schedule
   abbrev pub ReplayIsSchedule : Type 0

@@ -1,4 +1,6 @@
+pub mod Bounds
 pub mod ByPosition
+pub mod Bypass
 pub mod Distances
 pub mod Entries
 pub mod Errors
@@ -11,3 +13,4 @@ pub mod Schedule
 pub mod SizedRuns
 pub mod Sizes
 pub mod Spans
+pub mod SpansByPosition

@@ -1,6 +1,9 @@
 -- Runs of puts by weight, where the weight of a pair is that of its key. Public clauses cite them.
-use Rattle.std.specs.Prelude.{◌≡◌, ℕ, ◌<◌, Bool, true, List, [], ◌∷◌}
-use Rattle.clru_model.specs.Entries.{weighted_put}
+use Rattle.std.specs.Prelude.{◌≡◌, ℕ, ◌<◌, ◌≤◌, Bool, true, Some, List, [], ◌∷◌}
+use Rattle.std.specs.List.{slice_get}
+use Rattle.std.specs.Map.{keys_of}
+use Rattle.clru_model.specs.Entries.{touch, size_of, weighted_put}
+use Rattle.clru_model.specs.Requests.{holds}
 use Rattle.clru_model.specs.Runs.{held_before}
 use Rattle.clru_model.specs.Sizes.{SameWeights, marks_by_size}
 
@@ -25,11 +28,21 @@ module _ {K V : Type 0} (eq : K → K → Bool) (weight : K → V → ℕ) (c : 
   IsSizedPutRun (es ∷ later) [] = later ≡ []
   IsSizedPutRun (es ∷ later) (x ∷ requests) = SizedPutsNext es x later × IsSizedPutRun later requests
 
+-- of the entries after each put, the first pair, which was put, weighs what its key does
+abbrev pub PutsWeighAsKeys : {K V : Type 0} → (K → ℕ) → (K → V → ℕ) → List (List (K × V)) → Type 0
+PutsWeighAsKeys {K} {V} weight pair_weight later = (i : ℕ) (key : K) (value : V) (rest : List (K × V))
+    → slice_get later i ≡ Some ((key, value) ∷ rest) → pair_weight key value ≡ weight key
+
 module _ {K : Type 0} (eq : K → K → Bool) (V : Type 0) where
-  -- where each pair weighs what its key does, a run of puts by weight from the empty list holds a key before its put exactly
-  -- where the request hits by size
+  -- where each pair that is put weighs what its key does, a run of puts by weight from the empty list holds a key before its
+  -- put exactly where the request hits by size
   abbrev pub SizedPutsHit : Type 0
   SizedPutsHit = (weight : K → ℕ) (pair_weight : K → V → ℕ) (c : ℕ) (requests : List K) (later : List (List (K × V)))
-      → SameWeights eq weight → ((k : K) (v : V) → pair_weight k v ≡ weight k)
+      → SameWeights eq weight → PutsWeighAsKeys weight pair_weight later
       → IsSizedPutRun eq pair_weight c ([] ∷ later) requests
       → held_before eq ([] ∷ later) requests ≡ marks_by_size eq weight c requests
+
+  -- a look-up of a key that is held leaves what a put of its pair does
+  abbrev pub TouchesArePuts : Type 0
+  TouchesArePuts = (pair_weight : K → V → ℕ) (c : ℕ) (x : K) (es : List (K × V)) → size_of pair_weight es ≤ c
+      → holds eq x (keys_of es) ≡ true → IsSizedPut eq pair_weight c x es (touch eq x es)

@@ -1,7 +1,8 @@
 -- The laws of requests by size: what their spans say, and how sizes stand beside numbers of keys. Public clauses cite them.
-use Rattle.std.specs.Prelude.{◌≡◌, ℕ, ◌+◌, ◌≤◌, Bool, true, false, if◌then◌else◌, nat_le, Option, Some, List, [], ◌∷◌, map, reverse}
+use Rattle.std.specs.Prelude.{◌≡◌, ℕ, suc, ◌+◌, ◌≤◌, Bool, true, false, if◌then◌else◌, nat_le, Option, Some, List, [], ◌∷◌, map, reverse}
 use Rattle.std.specs.List.{slice_get}
-use Rattle.std.specs.Option.{option_map_or}
+use Rattle.std.specs.Option.{option_map, option_map_or}
+use Rattle.clru_model.specs.Distances.{distance}
 use Rattle.clru_model.specs.Requests.{distinct, marks, misses}
 use Rattle.clru_model.specs.Sizes.{SameWeights, total, span, spans, hit_by_size, marks_by_size, misses_by_size, missed_size}
 
@@ -68,3 +69,8 @@ module _ {K : Type 0} (eq : K → K → Bool) where
   abbrev pub WeightlessMissedSizeIsMisses : Type 0
   WeightlessMissedSizeIsMisses = (weight : K → ℕ) (c : ℕ) (requests : List K) → ((k : K) → weight k ≡ 0)
       → missed_size eq weight c requests ≡ misses eq c requests
+
+  -- and a span is 1 more than the distance
+  abbrev pub WeightlessSpanIsDistance : Type 0
+  WeightlessSpanIsDistance = (weight : K → ℕ) (x : K) (past : List K) → ((k : K) → weight k ≡ 0)
+      → span eq weight x past ≡ option_map suc (distance eq x past)

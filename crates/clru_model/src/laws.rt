@@ -6,11 +6,16 @@ ghost use Rattle.clru_model.specs.Laws.{HitsGrow, MissesFall};
 ghost use Rattle.clru_model.specs.Laws.{LesserBeginsGreater};
 ghost use Rattle.clru_model.specs.Laws.{PutsHit, PutsCompete, PutsCompeteFromAnyStart};
 ghost use Rattle.clru_model.specs.Laws.{FitIsLongest, OnlyFitIsLongest};
-ghost use Rattle.clru_model.specs.SizedRuns.{SizedPutsHit};
+ghost use Rattle.clru_model.specs.SizedRuns.{SizedPutsHit, TouchesArePuts};
 ghost use Rattle.clru_model.specs.Spans.{HitsAreWithin, MarksAreWithin, MissedSizeIsOfMarks, RoomForTotalMissesFirst};
 ghost use Rattle.clru_model.specs.Spans.{HitsBySizeGrow, MissesBySizeFall, MissedSizeFalls};
 ghost use Rattle.clru_model.specs.Spans.{WeightlessTotalIsDistinct, WeightlessMarksAreMarks, WeightlessMissedSizeIsMisses};
-ghost use Rattle.clru_model.specs.Least.{LeastIsOne, LeastFalls, ReplayIsSchedule, LeastIsBelowReplay, ReplayIsNearLeast};
+ghost use Rattle.clru_model.specs.Spans.{WeightlessSpanIsDistance};
+ghost use Rattle.clru_model.specs.SpansByPosition.{SpansAreByPosition, OneSpanForEach, TotalSumsFirst};
+ghost use Rattle.clru_model.specs.Least.{LeastIsThere, LeastIsOne, LeastFalls, RoomForAllHasDistinct, LeastIsNearFromAnyStart};
+ghost use Rattle.clru_model.specs.Least.{ReplayIsSchedule, LeastIsBelowReplay, ReplayIsNearLeast};
+ghost use Rattle.clru_model.specs.Bounds.{DistinctMiss, NoMoreMiss, NoMoreSizeMisses, SizesMissMore, RoomForGreatestMissesLess};
+ghost use Rattle.clru_model.specs.Bypass.{SchedulesMayPass, DistinctIsFloor, OneKeyMoreIsEnough};
 
 /// Does nothing at run time. Its contract says that the hits, misses and numbers of distinct keys that the other contracts
 /// cite, which are defined by computing, are those that a sentence about positions describes.
@@ -26,6 +31,13 @@ pub fn law_schedules_by_position<K: Eq>()
     ensures schedules { SchedulesAreByPosition K.eq }
     ensures marks { FalseMarksAreMisses K.eq }
     ensures misses { ScheduleMissesAreByPosition K.eq }
+{}
+
+/// Does nothing at run time. Its contract says the same of spans and of the size of the distinct keys.
+pub fn law_spans_by_position<K: Eq>()
+    ensures spans { SpansAreByPosition K.eq }
+    ensures one_span_each { OneSpanForEach K.eq }
+    ensures total { TotalSumsFirst K.eq }
 {}
 
 /// Does nothing at run time. Its contract says that a replay of a greater capacity hits wherever one of a lesser capacity
@@ -63,12 +75,23 @@ pub fn law_longest_fit<K, V>()
     ensures only { OnlyFitIsLongest K V }
 {}
 
-/// Does nothing at run time. Its contract says that at most one number is the least possible misses of a list, that with room
-/// for more keys it is no greater, and how the misses of a replay stand beside it: they are those of a schedule, so no
-/// fewer, and at capacity `k` at most `k / (k - h + 1)` times the least of `h` keys, for `h` from 1 to `k`.
+/// Does nothing at run time. Its contract says that with room for a key or more one number is the least possible misses of a
+/// list, that with room for more keys it is no greater, with room for all their number, and beside schedules that start with
+/// keys at most the room more.
+///
+/// It says how the misses of a replay stand beside it: they are those of a schedule, so no fewer, and at capacity `k` at most
+/// `k / (k - h + 1)` times the least of `h` keys, for `h` from 1 to `k`. And how those of a schedule do that may let requested
+/// keys pass by: from nothing held it too misses each distinct key once, and no fewer than the least with room for one key
+/// more.
 pub fn law_least<K: Eq>()
+    ensures there { LeastIsThere K.eq }
     ensures one { LeastIsOne K.eq }
     ensures falls { LeastFalls K.eq }
+    ensures room_for_all { RoomForAllHasDistinct K.eq }
+    ensures any_start { LeastIsNearFromAnyStart K.eq }
+    ensures may_pass { SchedulesMayPass K.eq }
+    ensures floor { DistinctIsFloor K.eq }
+    ensures one_key_more { OneKeyMoreIsEnough K.eq }
     ensures schedule { ReplayIsSchedule K.eq }
     ensures below { LeastIsBelowReplay K.eq }
     ensures near { ReplayIsNearLeast K.eq }
@@ -86,16 +109,17 @@ pub fn law_distances<K: Eq>()
 /// Does nothing at run time. Its contract says where requests hit by size, for keys that each weigh something: an entry's size
 /// is 1 and the weight of its key.
 ///
-/// A cache, empty at first, that takes each key of a list in turn by `put_with_weight`, under a scale by which a pair weighs
-/// what its key does, holds a key before its put exactly where the request hits by size at the cache's capacity. No put is
-/// refused, so the capacity is above each weight, and no other call changes the cache, but that a `get` of a held key leaves
-/// what a put of its value would. A request hits at the sizes from its span on, so one list of spans has the hits at every
+/// A cache, empty at first, that takes each key of a list in turn by `put_with_weight`, with values by which each pair that is
+/// put weighs what its key does, holds a key before its put exactly where the request hits by size at the cache's capacity.
+/// No put is refused, so the capacity is above each weight, and no other call changes the cache, but that a `get` of a held
+/// key leaves what a put of its pair does. A request hits at the sizes from its span on, so one list of spans has the hits at every
 /// size. Where each key weighs 0, all this is what it is for numbers of keys.
 ///
 /// Of keys whose weight changes between their puts it says nothing: what room an entry gave up does not bring back what went
 /// for it. Nor does it at a capacity that is not above each weight, where puts are refused.
 pub fn law_sizes<K: Eq, V>()
     ensures puts { SizedPutsHit K.eq V }
+    ensures gets { TouchesArePuts K.eq V }
     ensures hits { HitsAreWithin K.eq }
     ensures marks { MarksAreWithin K.eq }
     ensures missed_size { MissedSizeIsOfMarks K.eq }
@@ -106,4 +130,17 @@ pub fn law_sizes<K: Eq, V>()
     ensures weightless_total { WeightlessTotalIsDistinct K.eq }
     ensures weightless_marks { WeightlessMarksAreMarks K.eq }
     ensures weightless_size { WeightlessMissedSizeIsMisses K.eq }
+    ensures weightless_span { WeightlessSpanIsDistance K.eq }
+{}
+
+/// Does nothing at run time. Its contract says how many requests miss: at each capacity at least the first of each key, and at
+/// most all. By size at most all of the size is missed. And what keys that weigh something tell of those that don't: a size
+/// has at least the misses of as many keys, and, where no request weighs more than `g`, room for `k` entries of the size
+/// `g + 1` has at most those of `k` keys.
+pub fn law_bounds<K: Eq>()
+    ensures at_least_distinct { DistinctMiss K.eq }
+    ensures at_most_all { NoMoreMiss K.eq }
+    ensures size_at_most_all { NoMoreSizeMisses K.eq }
+    ensures above_keys { SizesMissMore K.eq }
+    ensures below_keys { RoomForGreatestMissesLess K.eq }
 {}

@@ -1,28 +1,11 @@
 //! Tells what an LRU cache of each capacity misses on a list of requests.
 #![tactic(auto)]
 
-mod arguments;
-mod capacities;
-mod fault;
-mod fraction;
-mod help;
-mod options;
-mod output;
-mod pass;
-mod picture;
-mod program;
-mod report;
-mod rows;
-mod sized;
-mod table;
-
-use arguments::{Command, Refusal, command_of, wrong};
-use fault::{Fault, exit_status};
-use help::{HELP, VERSION};
-use options::Options;
-use output::write_report;
-use program::run;
+use clru_report::{
+    Command, Fault, HELP, Options, Refusal, VERSION, command_of, exit_status, run, write_report,
+};
 use std::env;
+use std::hash::RandomState;
 use std::io::{ErrorKind, Read};
 use std::process::ExitCode;
 
@@ -50,10 +33,17 @@ fn asked(rt: &HostRuntime) -> Result<Command, Refusal> {
             command_of(rt.alloc(), &rest)
         }
         Err(error) if error.kind() == ErrorKind::OutOfMemory => Err(Refusal::Memory),
-        Err(_) => Err(wrong(
-            rt.alloc(),
-            "an argument is no UTF-8 text: clru_mrc --help names them",
-        )),
+        Err(_) => Err(no_text(rt)),
+    }
+}
+
+fn no_text(rt: &HostRuntime) -> Refusal {
+    match String::from_str(
+        rt.alloc(),
+        "an argument is no UTF-8 text: clru_mrc --help names them",
+    ) {
+        Ok(line) => Refusal::Wrong(line),
+        Err(_) => Refusal::Memory,
     }
 }
 
@@ -62,16 +52,22 @@ fn done(rt: &HostRuntime, command: &Command) -> u8 {
     let outcome = match command {
         Command::Help => write_report(&mut rt.stdout(), HELP.as_bytes()),
         Command::Version => write_report(&mut rt.stdout(), VERSION.as_bytes()),
-        Command::Report(options) => reported(rt, options),
+        Command::Report(options) => match RandomState::new(rt) {
+            Ok(seed) => reported(rt, options, seed),
+            Err(_) => {
+                say(rt, "the system gives no random bytes, so there is no seed");
+                return 4;
+            }
+        },
     };
     told(rt, &outcome)
 }
 
 // Writes the report, and tells where there was nothing to report on.
-fn reported(rt: &HostRuntime, options: &Options) -> Result<(), Fault> {
+fn reported(rt: &HostRuntime, options: &Options, seed: RandomState) -> Result<(), Fault> {
     // The limit counts what is read. It ends no input, since none that long finds memory.
     let mut input = rt.stdin().take(u64::MAX);
-    let outcome = run(rt.alloc(), options, &mut input, &mut rt.stdout());
+    let outcome = run(rt.alloc(), options, seed, &mut input, &mut rt.stdout());
     if outcome.is_ok() && input.limit() == u64::MAX {
         say(rt, "standard input was empty, so there are no requests");
     }
@@ -93,6 +89,3 @@ fn told(rt: &HostRuntime, outcome: &Result<(), Fault>) -> u8 {
 fn say(rt: &HostRuntime, line: &str) {
     let _ = eprintln!(rt; "clru_mrc: {line}");
 }
-
-#[cfg(test)]
-mod tests;

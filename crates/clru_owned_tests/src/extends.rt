@@ -2,11 +2,11 @@
 
 use crate::plain::{Plain, holds_those_below, takes_out_those_below};
 use assertions::equal;
-use clru::{CLruCache, DefaultState, NoMemory};
+use clru::{CLruCache, DefaultState, NoMemory, NonZeroUsize};
 use clru_fixtures::costs::REQUESTS;
 use clru_fixtures::sizes::capacity_of;
 use ration::Rationed;
-use std::alloc::{AllocError, Global};
+use std::alloc::Global;
 use std::cell::Cell;
 use std::test::Fail;
 
@@ -23,34 +23,67 @@ fn stored_after(requests: u64) -> u64 {
     [0, 4, 9][(requests / REQUESTS).min(2) as usize]
 }
 
+/// How many items are drawn, requests are made, and requests are refused.
+type Counts = (u64, u64, u64);
+
+/// The same where the memory for nine keys is refused after so many requests: none is drawn behind the refusal, and nothing
+/// is asked again.
+fn counts_after(requests: u64) -> Counts {
+    if requests >= 2 * REQUESTS {
+        return (9, requests, 0);
+    }
+    (
+        stored_after(requests).wrapping_add(1),
+        requests.wrapping_add(1),
+        1,
+    )
+}
+
+fn counts(heap: &Rationed<Global>, drawn: &Cell<u64>) -> Counts {
+    (drawn.get(), heap.asked(), heap.refused())
+}
+
 #[test]
 fn each_refusal_ends_an_extend(rt: HostRuntime) -> Result<(), Fail> {
     for n in 0..=2 * REQUESTS {
         let heap = Rationed::new(rt.alloc());
-        {
-            let (stored, drawn) = (stored_after(n), Cell::new(0));
-            let mut cache = CLruCache::new(&heap, capacity_of(9)?);
-            heap.refuse_after(n);
-            let refused = extends(&mut cache, 0, 9, &drawn);
-            if n == 2 * REQUESTS {
-                equal!(rt; (refused, drawn.get(), heap.refused()), (Ok(()), 9, 0));
-            } else {
-                equal!(rt; refused, Err((stored, stored.wrapping_add(10))), n);
-                equal!(rt;
-                    (drawn.get(), heap.asked(), heap.refused()),
-                    (stored.wrapping_add(1), n + 1, 1),
-                    (n, "none behind it is drawn, and nothing is asked again")
-                );
-            }
-            holds_those_below(&rt, &cache, stored);
-            heap.refuse_none();
-            equal!(rt; extends(&mut cache, stored, 9, &drawn), Ok(()), n);
-            holds_those_below(&rt, &cache, 9);
-            takes_out_those_below(&rt, &mut cache, 9);
-        }
+        let stored = stored_after(n);
+        let back = if stored < 9 {
+            Err((stored, stored.wrapping_add(10)))
+        } else {
+            Ok(())
+        };
+        equal!(rt; ends(&heap, capacity_of(9)?, n), (back, counts_after(n), true), n);
         equal!(rt; heap.blocks(), 0, n);
     }
     Ok(())
+}
+
+/// What comes back of an extend by nine keys that is refused memory, its counts, and whether the cache then has what was
+/// stored and takes the rest.
+fn ends(
+    heap: &Rationed<Global>,
+    capacity: NonZeroUsize,
+    n: u64,
+) -> (Result<(), (u64, u64)>, Counts, bool) {
+    let drawn = Cell::new(0);
+    let mut cache = CLruCache::new(heap, capacity);
+    heap.refuse_after(n);
+    let refused = extends(&mut cache, 0, 9, &drawn);
+    let counts = counts(heap, &drawn);
+    heap.refuse_none();
+    (
+        refused,
+        counts,
+        goes_on(&mut cache, stored_after(n), &drawn),
+    )
+}
+
+fn goes_on(cache: &mut Plain, stored: u64, drawn: &Cell<u64>) -> bool {
+    holds_those_below(cache, stored)
+        && extends(cache, stored, 9, drawn).is_ok()
+        && holds_those_below(cache, 9)
+        && takes_out_those_below(cache, 9)
 }
 
 /// Collects the keys below `end`, each with ten more as its value, and counts those that are drawn.
@@ -70,98 +103,109 @@ fn collects<'a>(
 }
 
 #[test]
-fn each_refusal_ends_a_from_iter(rt: HostRuntime) -> Result<(), Fail> {
+fn each_refusal_ends_a_from_iter(rt: HostRuntime) {
     for n in 0..=2 * REQUESTS {
         let heap = Rationed::new(rt.alloc());
-        heap.refuse_after(n);
-        let drawn = Cell::new(0);
-        match collects(&heap, 9, &drawn) {
-            Ok(mut cache) => {
-                equal!(rt; (n, drawn.get(), heap.refused()), (2 * REQUESTS, 9, 0));
-                equal!(rt; (cache.capacity(), heap.asked()), (9, n));
-                holds_those_below(&rt, &cache, 9);
-                takes_out_those_below(&rt, &mut cache, 9);
-            }
-            Err(NoMemory) => {
-                equal!(rt;
-                    (drawn.get(), heap.asked(), heap.refused()),
-                    (stored_after(n).wrapping_add(1), n + 1, 1),
-                    (n, "none behind it is drawn, and nothing is asked again")
-                );
-            }
-        }
+        equal!(rt; is_collected(&heap, n), (n == 2 * REQUESTS, counts_after(n)), n);
         equal!(rt; heap.blocks(), 0, n);
     }
-    Ok(())
 }
 
+/// Whether nine keys make a cache of these where memory is refused, and the counts.
+fn is_collected(heap: &Rationed<Global>, n: u64) -> (bool, Counts) {
+    let drawn = Cell::new(0);
+    heap.refuse_after(n);
+    let collected = match collects(heap, 9, &drawn) {
+        Ok(mut cache) => is_nine(&mut cache),
+        Err(NoMemory) => false,
+    };
+    (collected, counts(heap, &drawn))
+}
+
+fn is_nine(cache: &mut Plain) -> bool {
+    cache.capacity() == 9 && holds_those_below(cache, 9) && takes_out_those_below(cache, 9)
+}
+
+// The places are 4, 16, 64, 256, and then 1,000, or 1,024 where the capacity comes last.
 #[test]
 fn a_thousand_items_go_in(rt: HostRuntime) -> Result<(), Fail> {
     let heap = Rationed::new(rt.alloc());
-    let drawn = Cell::new(0);
-    let mut cache = CLruCache::new(&heap, capacity_of(1000)?);
-    equal!(rt; extends(&mut cache, 0, 1000, &drawn), Ok(()));
-    // The places are 4, 16, 64, 256, and then 1,000, or 1,024 where the capacity comes last.
-    equal!(rt; (cache.len(), heap.asked()), (1000, 5 * REQUESTS));
-    let cache = collects(&heap, 1000, &drawn)?;
-    equal!(rt;
-        (cache.len(), cache.capacity(), heap.asked()),
-        (1000, 1000, 10 * REQUESTS)
-    );
+    equal!(rt; extends_to_1000(&heap, capacity_of(1000)?), (true, 1000, 5 * REQUESTS));
+    equal!(rt; collects_1000(&heap), (1000, 1000, 10 * REQUESTS));
     Ok(())
+}
+
+fn extends_to_1000(heap: &Rationed<Global>, capacity: NonZeroUsize) -> (bool, usize, u64) {
+    let drawn = Cell::new(0);
+    let mut cache = CLruCache::new(heap, capacity);
+    let extended = extends(&mut cache, 0, 1000, &drawn).is_ok();
+    (extended, cache.len(), heap.asked())
+}
+
+/// The number of entries, the capacity, and the requests.
+fn collects_1000(heap: &Rationed<Global>) -> (usize, usize, u64) {
+    let drawn = Cell::new(0);
+    match collects(heap, 1000, &drawn) {
+        Ok(cache) => (cache.len(), cache.capacity(), heap.asked()),
+        Err(NoMemory) => (0, 0, 0),
+    }
 }
 
 type Text<'a> = String<&'a Rationed<Global>>;
 
+type Texts<'a> = Vec<(Text<'a>, Text<'a>), &'a Rationed<Global>>;
+
 /// Pairs of two texts each, in a vector: their blocks are two for each pair, and one.
-fn texts<'a>(
-    heap: &'a Rationed<Global>,
-    letters: &[&str],
-) -> Result<Vec<(Text<'a>, Text<'a>), &'a Rationed<Global>>, AllocError> {
-    let mut pairs = Vec::with_capacity(heap, letters.len())?;
-    for letter in letters {
-        pairs.push((
-            String::from_str(heap, letter)?,
-            String::from_str(heap, "value")?,
-        ))?;
+fn texts(heap: &Rationed<Global>) -> Texts<'_> {
+    let mut pairs = Vec::new(heap);
+    for letter in ["a", "b", "c", "b", "d", "e", "f"] {
+        pushes_text(heap, &mut pairs, letter);
     }
-    Ok(pairs)
+    pairs
+}
+
+/// Pushes a pair. A test that counts its blocks sees where it did not go in.
+fn pushes_text<'a>(heap: &'a Rationed<Global>, pairs: &mut Texts<'a>, letter: &str) {
+    let Ok(key) = String::from_str(heap, letter) else {
+        return;
+    };
+    let Ok(value) = String::from_str(heap, "value") else {
+        return;
+    };
+    let _ = pairs.push((key, value));
 }
 
 #[test]
 fn a_refused_extend_forgets_no_item(rt: HostRuntime) -> Result<(), Fail> {
     for n in 0..=2 * REQUESTS {
         let heap = Rationed::new(rt.alloc());
-        let pairs = texts(&heap, &["a", "b", "c", "b", "d", "e", "f"])?;
-        {
-            let mut cache = CLruCache::new(&heap, capacity_of(9)?);
-            heap.refuse_after(n);
-            let refused = cache.extend(pairs);
-            equal!(rt; refused.is_ok(), n == 2 * REQUESTS, n);
-            drop(refused);
-            // What is held, two texts each, and the cache's own blocks: a list may have grown where its heads did not.
-            let own = n.min(REQUESTS);
-            equal!(rt;
-                heap.blocks(),
-                (cache.len() as u64).wrapping_mul(2).wrapping_add(own),
-                n
-            );
-        }
-        equal!(rt; heap.blocks(), 0, n);
+        let (extended, blocks, owned) = extends_by_texts(&heap, capacity_of(9)?, n);
+        equal!(rt; (extended, blocks, heap.blocks()), (n == 2 * REQUESTS, owned, 0), n);
     }
     Ok(())
 }
 
+/// Whether an extend by texts succeeds where memory is refused, the blocks then, and those of what is held, two texts each,
+/// with the cache's own: a list may have grown where its heads did not.
+fn extends_by_texts(heap: &Rationed<Global>, capacity: NonZeroUsize, n: u64) -> (bool, u64, u64) {
+    let pairs = texts(heap);
+    let mut cache = CLruCache::new(heap, capacity);
+    heap.refuse_after(n);
+    let extended = cache.extend(pairs).is_ok();
+    let held = (cache.len() as u64).wrapping_mul(2);
+    (extended, heap.blocks(), held.wrapping_add(n.min(REQUESTS)))
+}
+
 #[test]
-fn a_refused_from_iter_forgets_no_item(rt: HostRuntime) -> Result<(), Fail> {
+fn a_refused_from_iter_forgets_no_item(rt: HostRuntime) {
     for n in 0..=2 * REQUESTS {
         let heap = Rationed::new(rt.alloc());
-        let pairs = texts(&heap, &["a", "b", "c", "b", "d", "e", "f"])?;
-        heap.refuse_after(n);
-        let made = CLruCache::from_iter(&heap, DefaultState, pairs);
-        equal!(rt; made.is_ok(), n == 2 * REQUESTS, n);
-        drop(made);
-        equal!(rt; heap.blocks(), 0, n);
+        equal!(rt; (collects_texts(&heap, n), heap.blocks()), (n == 2 * REQUESTS, 0), n);
     }
-    Ok(())
+}
+
+fn collects_texts(heap: &Rationed<Global>, n: u64) -> bool {
+    let pairs = texts(heap);
+    heap.refuse_after(n);
+    CLruCache::from_iter(heap, DefaultState, pairs).is_ok()
 }

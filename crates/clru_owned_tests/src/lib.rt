@@ -1,6 +1,6 @@
 //! What is owned is dropped once, and refused memory leaves all as it was, where a script can't say it: iterators that are
-//! drawn no further than to a refusal, makers of configurations, items of a list that own memory, nodes by their hashes, and
-//! a source that takes memory of its own.
+//! drawn no further than to a refusal, makers of configurations, items of a list that own memory, nodes by their hashes, a
+//! source that takes memory of its own, and what the allocator that refuses counts.
 #![tactic(auto)]
 
 #[cfg(test)]
@@ -15,5 +15,7 @@ mod makers;
 mod nodes;
 #[cfg(test)]
 mod plain;
+#[cfg(test)]
+mod rations;
 #[cfg(test)]
 mod stores;

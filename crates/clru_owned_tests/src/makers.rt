@@ -7,7 +7,6 @@ use clru_fixtures::costs::{REQUESTS, free_places};
 use clru_fixtures::sizes::capacity_of;
 use ration::Rationed;
 use std::alloc::Global;
-use std::process::Abort;
 use std::test::Fail;
 
 /// A maker that takes a reserve.
@@ -45,32 +44,40 @@ fn each_refusal_leaves_no_block(rt: HostRuntime) -> Result<(), Fail> {
             let heap = Rationed::new(rt.alloc());
             heap.refuse_after(n);
             let made = makes(&heap, maker, capacity_of(4)?, 3).is_ok();
-            equal!(rt; made, n == REQUESTS, (maker, n));
+            // Nothing is asked again.
             equal!(rt;
-                (heap.asked(), heap.refused() == 0),
-                (REQUESTS.min(n + 1), made),
-                (maker, n, "nothing is asked again")
+                (made, heap.asked(), heap.refused() == 0, heap.blocks()),
+                (n == REQUESTS, REQUESTS.min(n + 1), made, 0),
+                (maker, n)
             );
-            equal!(rt; heap.blocks(), 0, (maker, n));
         }
     }
     Ok(())
 }
 
-/// Makes a cache of a configuration that was refused, as it is or with another reserve, and counts its free places.
-fn makes_again(
-    rt: &impl Abort,
-    heap: &Rationed<Global>,
-    config: CLruCacheConfig<u64, u64>,
-    places: u64,
-) {
-    heap.refuse_none();
+type Config = CLruCacheConfig<u64, u64>;
+
+/// Makes a cache of a configuration, and counts its free places. One that is refused is let go.
+fn places_of(heap: &Rationed<Global>, config: Config) -> Option<(usize, u64)> {
     match CLruCache::with_config(heap, config) {
-        Ok(mut cache) => equal!(rt;
-            (cache.capacity(), free_places(heap, &mut cache)),
-            (4, places)
-        ),
-        Err(_) => assert!(rt; false, "there is memory for {places}"),
+        Ok(mut cache) => Some((cache.capacity(), free_places(heap, &mut cache))),
+        Err(_) => None,
+    }
+}
+
+/// Has the configuration refused, and makes a cache of what came back, as it is or with another reserve.
+fn makes_again(
+    heap: &Rationed<Global>,
+    config: Config,
+    reserve: Option<usize>,
+) -> Option<(usize, u64)> {
+    let Err(config) = CLruCache::with_config(heap, config) else {
+        return None;
+    };
+    heap.refuse_none();
+    match reserve {
+        None => places_of(heap, config),
+        Some(reserve) => places_of(heap, config.with_memory(reserve)),
     }
 }
 
@@ -81,14 +88,7 @@ fn a_refused_configuration_comes_back_as_it_was(rt: HostRuntime) -> Result<(), F
         for (reserve, places) in [(None, 3), (Some(2), 2), (Some(0), 0)] {
             let config = CLruCacheConfig::new(capacity_of(4)?).with_memory(3);
             heap.refuse_after(n);
-            let Err(config) = CLruCache::with_config(&heap, config) else {
-                return Err("a request was refused".into());
-            };
-            let config = match reserve {
-                None => config,
-                Some(reserve) => config.with_memory(reserve),
-            };
-            makes_again(&rt, &heap, config, places);
+            equal!(rt; makes_again(&heap, config, reserve), Some((4, places)), n);
         }
         equal!(rt; heap.blocks(), 0, n);
     }

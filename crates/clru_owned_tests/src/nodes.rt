@@ -1,5 +1,5 @@
 //! Nodes: pairs that come in, that are lent for writing, and that go.
-ghost use Rattle.std.specs.Prelude.{◌≡◌, ◌∷◌, [], nat_eq, IfOk};
+ghost use Rattle.std.specs.Prelude.{◌≡◌, ◌<◌, ◌∷◌, [], nat_eq, IfOk};
 ghost use Rattle.std.specs.Hash as fed;
 ghost use Rattle.std.specs.Hash.FoldHasher.{finish, write, initial};
 ghost use Rattle.std.specs.List.{IsDistinct};
@@ -11,7 +11,6 @@ use clru_model::{DefaultState, WeightScale};
 use clru_nodes::{Item, Nodes};
 use std::alloc::Global;
 use std::mem;
-use std::process::Abort;
 use std::test::Fail;
 
 type Numbers = Nodes<u64, u64, DefaultState, Global>;
@@ -31,27 +30,28 @@ fn three(alloc: Global) -> Result<Numbers, &'static str>
     Ok(nodes)
 }
 
-/// Asserts that the nodes have these pairs and no other, front first.
-fn has(rt: &impl Abort, nodes: &Numbers, pairs: &[(u64, u64)]) {
-    equal!(rt; nodes.len(), pairs.len(), pairs);
+/// Whether the nodes have these pairs and no other, front first.
+fn has(nodes: &Numbers, pairs: &[(u64, u64)]) -> bool {
     let mut walk = nodes.iter();
     for pair in pairs {
-        let shown = walk.next().map(|(_, item)| (item.key, item.value));
-        equal!(rt; shown, Some(*pair), pairs);
+        if walk.next().map(|(_, item)| (item.key, item.value)) != Some(*pair) {
+            return false;
+        }
     }
-    equal!(rt; walk.next().is_none(), true, pairs);
+    nodes.len() == pairs.len() && walk.next().is_none()
 }
 
-/// Asserts the same, and that each key is found by its hash.
-fn finds(rt: &impl Abort, nodes: &Numbers, pairs: &[(u64, u64)])
+/// The same, and whether each key is found by its hash.
+fn finds(nodes: &Numbers, pairs: &[(u64, u64)]) -> bool
     requires indexed { IsIndexed (hash_by finish write (λ _. initial) fed.u64) nodes.now }
     requires distinct { IsDistinct nat_eq (keys_of (pairs_in nodes.now)) }
 {
-    has(rt, nodes, pairs);
     for (key, value) in pairs {
-        equal!(rt; nodes.get(nodes.hash(key), key), Some(value), pairs);
+        if nodes.get(nodes.hash(key), key) != Some(value) {
+            return false;
+        }
     }
-    equal!(rt; nodes.get(nodes.hash(&9), &9), None, pairs);
+    has(nodes, pairs) && nodes.get(nodes.hash(&9), &9).is_none()
 }
 
 #[test]
@@ -59,13 +59,11 @@ fn finds(rt: &impl Abort, nodes: &Numbers, pairs: &[(u64, u64)])
 fn a_pair_that_comes_in_stands_first(rt: HostRuntime) -> Result<(), Fail> {
     let mut nodes = three(rt.alloc())?;
     equal!(rt; nodes.replace_back(nodes.hash(&4), 4, 40), (1, 10));
-    finds(&rt, &nodes, &[(4, 40), (3, 30), (2, 20)]);
+    equal!(rt; finds(&nodes, &[(4, 40), (3, 30), (2, 20)]), true);
     equal!(rt; nodes.put_front(nodes.hash(&5), 5, 50), None);
-    finds(&rt, &nodes, &[(5, 50), (4, 40), (3, 30), (2, 20)]);
     equal!(rt; nodes.put_front(nodes.hash(&6), 6, 60), Some((2, 20)));
-    finds(&rt, &nodes, &[(6, 60), (5, 50), (4, 40), (3, 30)]);
     equal!(rt; nodes.set_front(61), 60);
-    finds(&rt, &nodes, &[(6, 61), (5, 50), (4, 40), (3, 30)]);
+    equal!(rt; finds(&nodes, &[(6, 61), (5, 50), (4, 40), (3, 30)]), true);
     Ok(())
 }
 
@@ -74,27 +72,56 @@ fn overwritten(item: &mut Item<u64, u64>) -> (u64, u64) {
     (item.key, mem::replace(&mut item.value, 7))
 }
 
+/// The pairs after one of them was written, by its place from the front.
+static WRITTEN: [&[(u64, u64)]; 3] = [
+    &[(3, 7), (2, 20), (1, 10)],
+    &[(3, 30), (2, 7), (1, 10)],
+    &[(3, 30), (2, 20), (1, 7)],
+];
+
+/// The pair at a place, to which the steps go from the front or from the back, and whether its value alone is 7 then.
+fn writes_at(alloc: Global, index: usize, back: bool) -> Result<((u64, u64), bool), &'static str>
+    requires { index < 3 }
+{
+    let mut nodes = three(alloc)?;
+    let pair = if back {
+        overwritten(nodes.item_at_back(index))
+    } else {
+        overwritten(nodes.item_at(index))
+    };
+    Ok((pair, has(&nodes, WRITTEN[index])))
+}
+
+/// The same at one of the ends.
+fn writes_at_end(alloc: Global, back: bool) -> Result<((u64, u64), bool), &'static str> {
+    let mut nodes = three(alloc)?;
+    let (pair, index) = if back {
+        (overwritten(nodes.back_item()), 2)
+    } else {
+        (overwritten(nodes.front_item()), 0)
+    };
+    Ok((pair, has(&nodes, WRITTEN[index])))
+}
+
 #[test]
 fn what_is_written_through_an_item_stays(rt: HostRuntime) -> Result<(), Fail> {
-    let mut nodes = three(rt.alloc())?;
-    equal!(rt; overwritten(nodes.front_item()), (3, 30));
-    has(&rt, &nodes, &[(3, 7), (2, 20), (1, 10)]);
-    let mut nodes = three(rt.alloc())?;
-    equal!(rt; overwritten(nodes.back_item()), (1, 10));
-    has(&rt, &nodes, &[(3, 30), (2, 20), (1, 7)]);
-    for index in 0..3 {
-        let (mut up, mut down) = (three(rt.alloc())?, three(rt.alloc())?);
-        let mut want = [(3, 30), (2, 20), (1, 10)];
-        let pairs = (
-            overwritten(up.item_at(index)),
-            overwritten(down.item_at_back(index)),
-        );
-        equal!(rt; pairs, (want[index], want[index]), index);
-        want[index].1 = 7;
-        has(&rt, &up, &want);
-        has(&rt, &down, &want);
+    equal!(rt; writes_at_end(rt.alloc(), false)?, ((3, 30), true));
+    equal!(rt; writes_at_end(rt.alloc(), true)?, ((1, 10), true));
+    for (index, pair) in [(0, (3, 30)), (1, (2, 20)), (2, (1, 10))] {
+        for back in [false, true] {
+            equal!(rt; written_at(rt.alloc(), index, back)?, (pair, true), (index, back));
+        }
     }
     Ok(())
+}
+
+/// What is written at a place that there is.
+fn written_at(alloc: Global, index: usize, back: bool) -> Result<((u64, u64), bool), &'static str> {
+    if index < 3 {
+        writes_at(alloc, index, back)
+    } else {
+        Err("there are three pairs")
+    }
 }
 
 #[test]
@@ -104,7 +131,7 @@ fn the_value_of_a_key_is_lent(rt: HostRuntime) -> Result<(), Fail> {
     assert!(rt; nodes.get_mut(nodes.hash(&4), &4).is_none());
     let value = nodes.get_mut(nodes.hash(&2), &2).ok_or("a key is held")?;
     *value += 1;
-    has(&rt, &nodes, &[(3, 30), (2, 21), (1, 10)]);
+    equal!(rt; has(&nodes, &[(3, 30), (2, 21), (1, 10)]), true);
     Ok(())
 }
 
@@ -125,11 +152,11 @@ fn pairs_that_are_not_kept_go(rt: HostRuntime) -> Result<(), Fail> {
     let mut total_weight = 60;
     nodes.retain(&mut total_weight, &ByValue, |key, _| *key != 2);
     equal!(rt; total_weight, 40);
-    has(&rt, &nodes, &[(3, 30), (1, 10)]);
+    equal!(rt; has(&nodes, &[(3, 30), (1, 10)]), true);
     nodes.retain_mut(|key, value| {
         *value /= 10;
         *key != 1
     });
-    has(&rt, &nodes, &[(3, 3)]);
+    equal!(rt; has(&nodes, &[(3, 3)]), true);
     Ok(())
 }

@@ -1,10 +1,8 @@
 //! Caches of numbers over an allocator that refuses, and what they hold.
 
-use assertions::equal;
 use clru::{CLruCache, DefaultState, ZeroWeightScale};
 use ration::Rationed;
 use std::alloc::Global;
-use std::process::Abort;
 
 /// A cache of numbers over an allocator that refuses.
 pub(crate) type Plain<'a> = CLruCache<
@@ -15,28 +13,41 @@ pub(crate) type Plain<'a> = CLruCache<
     &'a Rationed<Global>,
 >;
 
-/// Asserts that the cache holds the keys below `stored` and no other, each with ten more as its value, the highest first: by
-/// a walk from each end, and by a look-up of each key.
-pub(crate) fn holds_those_below(rt: &impl Abort, cache: &Plain, stored: u64) {
-    equal!(rt; (cache.len() as u64, cache.peek(&stored)), (stored, None));
-    let (mut forward, mut backward) = (cache.iter(), cache.iter());
-    for key in 0..stored {
-        let (last, value) = (
-            stored.wrapping_sub(key).wrapping_sub(1),
-            key.wrapping_add(10),
-        );
-        equal!(rt; forward.next(), Some((&last, &last.wrapping_add(10))), stored);
-        equal!(rt; backward.next_back(), Some((&key, &value)), stored);
-        equal!(rt; (cache.peek(&key), cache.contains(&key)), (Some(&value), true), stored);
-    }
-    equal!(rt; (forward.next(), backward.next_back()), (None, None), stored);
+/// Whether the cache holds the keys below `stored` and no other, each with ten more as its value, the highest first: by a walk
+/// from each end, and by a look-up of each key.
+pub(crate) fn holds_those_below(cache: &Plain, stored: u64) -> bool {
+    (cache.len() as u64, cache.peek(&stored)) == (stored, None)
+        && walks_those_below(cache, stored)
+        && finds_those_below(cache, stored)
 }
 
-/// Asserts that the cache holds the keys below `stored` and no other, the highest first, and takes them out.
-pub(crate) fn takes_out_those_below(rt: &impl Abort, cache: &mut Plain, stored: u64) {
-    equal!(rt; cache.len() as u64, stored);
-    for key in (0..stored).rev() {
-        equal!(rt; cache.pop_front(), Some((key, key.wrapping_add(10))));
+fn walks_those_below(cache: &Plain, stored: u64) -> bool {
+    let (mut forward, mut backward) = (cache.iter(), cache.iter());
+    for key in 0..stored {
+        let last = stored.wrapping_sub(key).wrapping_sub(1);
+        if forward.next() != Some((&last, &last.wrapping_add(10)))
+            || backward.next_back() != Some((&key, &key.wrapping_add(10)))
+        {
+            return false;
+        }
     }
-    equal!(rt; cache.is_empty(), true);
+    forward.next().is_none() && backward.next_back().is_none()
+}
+
+fn finds_those_below(cache: &Plain, stored: u64) -> bool {
+    for key in 0..stored {
+        if cache.peek(&key) != Some(&key.wrapping_add(10)) || !cache.contains(&key) {
+            return false;
+        }
+    }
+    true
+}
+
+/// Takes the keys below `stored` out, the highest first, and answers whether these were all.
+pub(crate) fn takes_out_those_below(cache: &mut Plain, stored: u64) -> bool {
+    let mut right = cache.len() as u64 == stored;
+    for key in (0..stored).rev() {
+        right = cache.pop_front() == Some((key, key.wrapping_add(10))) && right;
+    }
+    cache.is_empty() && right
 }

@@ -22,7 +22,7 @@ pub enum Call<K, V> {
     /// The value to which a walk from the front comes after so many others.
     Nth(usize),
 
-    /// The same from the back.
+    /// The value to which a walk from the back comes after so many others.
     NthBack(usize),
     PopFront,
     PopBack,
@@ -43,7 +43,7 @@ pub enum PlainCall<K, V> {
     /// A new key gets the value, and so does a held one.
     PutOrModify(K, V),
 
-    /// The same by closures that may fail.
+    /// A new key gets the value, and so does a held one, by closures that may fail.
     TryPutOrModify(K, Attempt<V>),
 
     /// The value is written to the one that is lent.

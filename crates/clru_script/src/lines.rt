@@ -18,7 +18,7 @@ pub(crate) struct Line<'s> {
 pub(crate) const COLUMN: usize = 34;
 
 /// What begins a block of lines.
-const SUBJECTS: [&str; 16] = [
+const SUBJECTS: [&str; 17] = [
     "cache",
     "costs",
     "list",
@@ -35,6 +35,7 @@ const SUBJECTS: [&str; 16] = [
     "drawn",
     "makers",
     "runs",
+    "input",
 ];
 
 impl<'s> Line<'s> {

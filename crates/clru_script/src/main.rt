@@ -18,6 +18,7 @@ mod page;
 mod pairs;
 mod passes;
 mod plain;
+mod report;
 mod requested;
 mod requests;
 mod runs;

@@ -5,7 +5,9 @@ use crate::lines::{COLUMN, Line, blocks_of};
 use crate::subject::{Answers, Refusal};
 use crate::words::Wrong;
 use crate::world::World;
-use crate::{cache, costs, drawn, foresight, list, makers, nodes, passes, requests, runs, store};
+use crate::{
+    cache, costs, drawn, foresight, list, makers, nodes, passes, report, requests, runs, store,
+};
 use std::alloc::{AllocError, Global};
 
 /// The script with its answers, and how many of these are faults.
@@ -152,6 +154,7 @@ fn attempt(
         "foresight" => foresight::run(&world, head, rest, hash, refusal),
         "drawn" => drawn::run(&world, head, rest, hash, refusal),
         "runs" => runs::run(&world, head, rest, hash, refusal),
+        "input" => report::run(&world, head, rest, hash, refusal),
         _ => Err(Wrong::NothingMade),
     }
 }

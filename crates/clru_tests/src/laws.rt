@@ -3,13 +3,16 @@
 use crate::lists::capacity_of;
 use assertions::equal;
 use clru::{
-    CLruCache, CLruCacheConfig, ZeroWeightScale, law_by_position, law_dropped, law_growth,
-    law_inclusion, law_longest_fit, law_requests, law_schedules_by_position, law_sizes,
+    CLruCache, CLruCacheConfig, DefaultState, NonZeroUsize, ZeroWeightScale, law_by_position,
+    law_dropped, law_growth, law_inclusion, law_longest_fit, law_requests,
+    law_schedules_by_position, law_sizes,
 };
-use clru_callers::{calls, puts, runs, sizes};
-use clru_curve::law_distances;
+use clru_callers::of_least::least_by_position;
+use clru_callers::{calls, of_curves, of_least, puts, runs, sizes};
+use clru_curve::{law_bounds, law_distances, law_spans_by_position};
 use clru_least::law_least;
 use clru_runs::{law_included_runs, law_put_runs};
+use std::alloc::Global;
 use std::test::Fail;
 
 #[test]
@@ -29,7 +32,9 @@ fn laws_do_nothing() {
 /// Those that speak of curves and of the least.
 #[test]
 fn laws_are_called() {
+    law_bounds::<u64>();
     law_distances::<u64>();
+    law_spans_by_position::<u64>();
     clru_curve::law_sizes::<u64, ()>();
     law_least::<u8>();
 }
@@ -39,53 +44,136 @@ fn law_of_drops<F: FnMut(u64, u64)>(_on_drop: &F) {
     law_dropped::<u64, u64, ZeroWeightScale, F>();
 }
 
+/// Numbers under letters.
+type Letters = CLruCache<&'static str, u64>;
+
 #[test]
 fn calls_of_a_run_at_two_capacities(rt: HostRuntime) -> Result<(), Fail> {
     let mut cache = CLruCache::new(rt.alloc(), capacity_of(2)?);
-    equal!(rt; calls::put_pair(&mut cache, "a", 1), Ok(None));
-    equal!(rt; calls::put_pair(&mut cache, "b", 2), Ok(None));
+    equal!(rt; puts_pairs(&mut cache), (true, true, 2));
     equal!(rt; calls::take_first(&mut cache), Some(("b", 2)));
-    equal!(rt; cache.len(), 1);
+    equal!(rt; takes(&mut cache), (Some(("a", 1)), Some(3), 1, 0));
     Ok(())
+}
+
+fn puts_pairs(cache: &mut Letters) -> (bool, bool, usize) {
+    (
+        calls::put_pair(cache, "a", 1) == Ok(None),
+        calls::put_pair(cache, "b", 2) == Ok(None),
+        cache.len(),
+    )
+}
+
+/// The last pair, the value of one that is put, and how many are left before and after all are taken out.
+fn takes(cache: &mut Letters) -> (Option<(&'static str, u64)>, Option<u64>, usize, usize) {
+    let _ = calls::put_pair(cache, "c", 3);
+    let last = calls::take_last(cache);
+    let value = calls::take_of(cache, &"c");
+    let _ = calls::put_pair(cache, "d", 4);
+    let before = cache.len();
+    calls::take_all(cache);
+    (last, value, before, cache.len())
 }
 
 #[test]
 fn a_run_of_puts_holds_what_a_replay_hits(rt: HostRuntime) -> Result<(), Fail> {
-    let capacity = capacity_of(2)?;
     let keys = Vec::from_array(rt.alloc(), ["a", "b", "c", "a", "c"])?;
-    let mut cache = CLruCache::new(rt.alloc(), capacity);
-    let held = runs::held_before_puts(rt.alloc(), &mut cache, keys).ok_or("no memory")?;
-    equal!(rt;
-        held.as_slice(),
-        [false, false, false, false, true].as_slice()
-    );
+    equal!(rt; holds_the_last(rt.alloc(), capacity_of(2)?, keys), true);
     Ok(())
+}
+
+/// Whether the last of the five keys was held, and no other.
+fn holds_the_last(alloc: Global, capacity: NonZeroUsize, keys: Vec<&'static str>) -> bool {
+    let mut cache = CLruCache::new(alloc, capacity);
+    runs::held_before_puts(alloc, &mut cache, keys).is_some_and(|held| held.as_slice()
+        == [false, false, false, false, true].as_slice())
 }
 
 #[test]
 fn puts_in_any_form_hold_what_a_replay_hits(rt: HostRuntime) -> Result<(), Fail> {
     let mut cache = CLruCache::new(rt.alloc(), capacity_of(2)?);
-    equal!(rt; puts::put(&mut cache, "a", 1), Ok(None));
-    equal!(rt; puts::put_with_weight(&mut cache, "b", 2), Ok(None));
-    assert!(rt; !cache.contains(&"c"));
-    equal!(rt; puts::put_or_modify(&mut cache, "c", 3), Ok(()));
-    assert!(rt; !cache.contains(&"a"));
-    equal!(rt; puts::try_put_or_modify(&mut cache, "a", 4), Ok(()));
-    equal!(rt; puts::put(&mut cache, "c", 5), Ok(Some(3)));
-    equal!(rt; cache.pop_front(), Some(("c", 5)));
-    equal!(rt; cache.pop_front(), Some(("a", 4)));
+    equal!(rt; puts_three(&mut cache), (true, true));
+    equal!(rt; puts_again(&mut cache), (true, Some(("c", 5)), Some(("a", 4))));
     Ok(())
+}
+
+/// Whether three puts are answered, and the third key and then the first are not held.
+fn puts_three(cache: &mut Letters) -> (bool, bool) {
+    let two = puts::put(cache, "a", 1) == Ok(None)
+        && puts::put_with_weight(cache, "b", 2) == Ok(None);
+    let absent = !cache.contains(&"c");
+    let three = puts::put_or_modify(cache, "c", 3) == Ok(());
+    (two && three, absent && !cache.contains(&"a"))
+}
+
+fn puts_again(
+    cache: &mut Letters,
+) -> (
+    bool,
+    Option<(&'static str, u64)>,
+    Option<(&'static str, u64)>,
+) {
+    let both = puts::try_put_or_modify(cache, "a", 4) == Ok(())
+        && puts::put(cache, "c", 5) == Ok(Some(3));
+    (both, cache.pop_front(), cache.pop_front())
 }
 
 #[test]
 fn a_run_of_puts_by_weight_misses_by_size(rt: HostRuntime) -> Result<(), Fail> {
     for (capacity, missed) in [(7, Some(3)), (6, Some(5)), (4, Some(5)), (3, None)] {
-        let config = CLruCacheConfig::new(capacity_of(capacity)?).with_scale(sizes::ByPage);
         let pages = Vec::from_array(rt.alloc(), [3, 0, 1, 3, 0])?;
-        let Ok(mut cache) = CLruCache::with_config(rt.alloc(), config) else {
-            return Err(Fail::from("no reserve is asked for"));
-        };
-        equal!(rt; sizes::pages_missed(&mut cache, pages), missed, capacity);
+        equal!(rt; missed_at(rt.alloc(), capacity_of(capacity)?, pages), missed, capacity);
     }
+    Ok(())
+}
+
+fn missed_at(alloc: Global, capacity: NonZeroUsize, pages: Vec<usize>) -> Option<usize> {
+    let mut cache = CLruCache::with_scale(alloc, capacity, sizes::ByPage);
+    sizes::pages_missed(&mut cache, pages)
+}
+
+#[test]
+fn the_least_by_position_is_the_least(rt: HostRuntime) -> Result<(), Fail> {
+    for (room, misses) in [(1, 6), (2, 4), (3, 3)] {
+        equal!(rt; least_of_a_round(rt.alloc(), capacity_of(room)?)?, Some(misses), room);
+    }
+    Ok(())
+}
+
+/// The least of three keys that come twice in turn.
+fn least_of_a_round(alloc: Global, room: NonZeroUsize) -> Result<Option<usize>, Fail> {
+    let keys = Vec::from_array(alloc, [1u64, 2, 3, 1, 2, 3])?;
+    Ok(least_by_position(alloc, room, keys, DefaultState).ok())
+}
+
+#[test]
+fn a_look_that_finds_is_a_put(rt: HostRuntime) -> Result<(), Fail> {
+    let mut cache = CLruCache::new(rt.alloc(), capacity_of(2)?);
+    let _ = cache.put(3, 1);
+    let _ = cache.put(0, 2);
+    equal!(rt; sizes::look_again(&mut cache, &3), Some(1));
+    equal!(rt; sizes::look_again(&mut cache, &1), None);
+    equal!(rt; cache.pop_back(), Some((0, 2)));
+    assert!(rt; sizes::hits_by_span::<u64>(5, 5));
+    assert!(rt; !sizes::hits_by_span::<u64>(5, 4));
+    Ok(())
+}
+
+#[test]
+fn curves_and_the_least_of_pages(rt: HostRuntime) -> Result<(), Fail> {
+    let pages = [3, 0, 1, 3, 0].as_slice();
+    equal!(rt; of_curves::hits_at(rt.alloc(), pages, capacity_of(3)?), Some(2));
+    equal!(rt; of_curves::misses_between(rt.alloc(), pages, capacity_of(2)?), Some(5));
+    equal!(rt;
+        of_curves::size_hit(rt.alloc(), pages, sizes::ByPage, capacity_of(7)?),
+        Some(5)
+    );
+    equal!(rt; of_curves::size_of_pages(rt.alloc(), pages, sizes::ByPage), Some(7));
+    let keys = Vec::from_slice(rt.alloc(), pages)?;
+    let least = of_least::least_of_any(rt.alloc(), capacity_of(2)?, keys, DefaultState);
+    equal!(rt; least.ok(), Some(4));
+    let keys = Vec::from_slice(rt.alloc(), pages)?;
+    let misses = of_least::misses_above_least(rt.alloc(), capacity_of(2)?, keys, DefaultState);
+    equal!(rt; misses.ok(), Some(5));
     Ok(())
 }

@@ -20,6 +20,10 @@ mod of_lists;
 #[cfg(test)]
 mod performed;
 #[cfg(test)]
+mod printed;
+#[cfg(test)]
 mod schedules;
+#[cfg(test)]
+mod stores;
 #[cfg(test)]
 mod walks;

@@ -1,6 +1,9 @@
-//! What the tests of schedules share.
+//! What the tests share.
 
-use clru::NonZeroUsize;
+use clru::{CLruCache, NonZeroUsize};
+
+/// The sizes of pages.
+pub(crate) type Sizes = CLruCache<u64, u64>;
 
 /// A capacity.
 pub(crate) fn capacity_of(n: usize) -> Result<NonZeroUsize, &'static str> {

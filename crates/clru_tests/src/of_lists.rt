@@ -5,56 +5,58 @@ mod errors;
 use assertions::equal;
 use clru_callers::of_lists::{halve, halve_backwards, halve_by_both_ends, push_and_lift};
 use clru_list::FixedSizeList;
-use std::alloc::{AllocError, Global};
 use std::test::Fail;
 
-/// The items 10, 20 and so on, as many as are asked for.
-fn tens(alloc: Global, n: u64) -> Result<FixedSizeList<u64>, &'static str> {
-    let mut list = FixedSizeList::new(alloc, 9);
-    for k in 1..=n.min(9) {
-        if list.push_back(k * 10).is_err() {
-            return Err("the push is refused");
-        }
+type Numbers = FixedSizeList<u64>;
+
+/// Pushes the items 10, 20 and so on, as many as are asked for, and answers whether all went in.
+fn pushes_tens(list: &mut Numbers, n: u64) -> bool {
+    let mut pushed = true;
+    for k in 1..=n {
+        pushed = list.push_back(k.wrapping_mul(10)).is_ok() && pushed;
     }
-    Ok(list)
+    pushed
 }
 
-/// The items from the front to the back.
-fn items(alloc: Global, list: &FixedSizeList<u64>) -> Result<Vec<u64>, AllocError> {
-    let mut items = Vec::new(alloc);
-    for (_, item) in list {
-        items.push(*item)?;
+/// Whether the list has these items, from the front to the back.
+fn has(list: &Numbers, items: &[u64]) -> bool {
+    let mut walk = list.iter();
+    for wanted in items {
+        if walk.next().map(|(_, item)| *item) != Some(*wanted) {
+            return false;
+        }
     }
-    Ok(items)
+    walk.next().is_none()
 }
 
 #[test]
-fn callers_write_each_item(rt: HostRuntime) -> Result<(), Fail> {
-    for n in 0..6u64 {
-        let mut list = tens(rt.alloc(), n)?;
-        halve(&mut list);
-        halve_by_both_ends(&mut list);
-        equal!(rt; halve_backwards(&mut list), list.front_idx());
-        let mut want = Vec::new(rt.alloc());
-        for half in 1..=n {
-            want.push(half * 10 / 8)?;
-        }
-        equal!(rt; items(rt.alloc(), &list)?.as_slice(), want.as_slice());
+fn callers_write_each_item(rt: HostRuntime) {
+    for n in 0..6usize {
+        let mut list = FixedSizeList::new(rt.alloc(), 9);
+        equal!(rt; is_halved_thrice(&mut list, n), true, n);
     }
-    Ok(())
+}
+
+fn is_halved_thrice(list: &mut Numbers, n: usize) -> bool {
+    let pushed = pushes_tens(list, n as u64);
+    halve(list);
+    halve_by_both_ends(list);
+    let eighths = [1, 2, 3, 5, 6];
+    pushed && halve_backwards(list) == list.front_idx() && has(list, &eighths[..n.min(5)])
 }
 
 #[test]
-fn callers_move_an_item_by_its_place(rt: HostRuntime) -> Result<(), Fail> {
-    let mut list = tens(rt.alloc(), 2)?;
-    let (place, behind) = push_and_lift(&mut list, 5, 6).map_err(|_| "a push is refused")?;
-    equal!(rt;
-        items(rt.alloc(), &list)?.as_slice(),
-        [6u64, 10, 20, 6].as_slice()
-    );
-    equal!(rt;
-        (list.front_idx(), list.back_idx()),
-        (Some(place), Some(behind))
-    );
-    Ok(())
+fn callers_move_an_item_by_its_place(rt: HostRuntime) {
+    let mut list = FixedSizeList::new(rt.alloc(), 9);
+    equal!(rt; is_lifted(&mut list), true);
+}
+
+fn is_lifted(list: &mut Numbers) -> bool {
+    let pushed = pushes_tens(list, 2);
+    let Ok((place, behind)) = push_and_lift(list, 5, 6) else {
+        return false;
+    };
+    pushed
+        && has(list, &[6, 10, 20, 6])
+        && (list.front_idx(), list.back_idx()) == (Some(place), Some(behind))
 }

@@ -1,3 +1,4 @@
 pub mod Fronts
+pub mod LoadRuns
 pub mod Looking
 pub mod Sourced

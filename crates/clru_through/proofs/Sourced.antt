@@ -1,5 +1,5 @@
 -- Entries whose values are the source's, and a key in the lists that a load leaves.
-use Rattle.std.proofs.Common.{◌≡◌, ℕ, ◌-◌, Bool, true, false, List, [], ◌∷◌, Option, Some, None, IsTrue, IfSome, IsSomeAnd, slice_get, refl, sym, ap, ◌∙◌}
+use Rattle.std.proofs.Common.{◌≡◌, ℕ, ◌-◌, ◌⊎◌, Bool, true, false, List, [], ◌∷◌, Option, Some, None, IsTrue, IfSome, IsSomeAnd, slice_get, refl, sym, ap, ◌∙◌, inl, inr}
 use Rattle.std.specs.Option.{option_map_or}
 use Rattle.std.specs.Map.{lookup, lookup_entry}
 use Rattle.clru.specs.Entries.{fit, touch, weighted_put, without}
@@ -46,6 +46,10 @@ module _ {K V : Type 0} (value : K → Option V) where
   pub AllFrom-nil : AllFrom value []
   unfolding AllFrom
   AllFrom-nil = tt
+
+  -- of a cache that a store can be made of
+  pub AllFrom_given : (es : List (K × V)) → (es ≡ []) ⊎ AllFrom value es → AllFrom value es
+  AllFrom_given es given = elim given [ inl empty ↦ rw empty AllFrom-nil | inr all ↦ all ]
 
   AllFrom-sublist : (es fs : List (K × V)) → IsSublist fs es → AllFrom value fs → AllFrom value es
   unfolding AllFrom

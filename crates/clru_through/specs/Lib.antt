@@ -1,3 +1,4 @@
 pub mod Given
+pub mod LoadRuns
 pub mod Steps
 pub mod Store

@@ -8,9 +8,11 @@
 #![tactic(auto)]
 
 mod answer;
+mod laws;
 mod source;
 mod store;
 
 pub use answer::{Answer, Loaded};
+pub use laws::law_loads;
 pub use source::Source;
 pub use store::Through;

@@ -1,5 +1,5 @@
 //! `Through`, and the calls that read the whole of it. A clause sees a store as its `cache` and its `source`.
-ghost use Rattle.std.specs.Prelude.{◌≡◌, [], length};
+ghost use Rattle.std.specs.Prelude.{◌≡◌, ◌⊎◌, [], length};
 ghost use Rattle.clru.specs.Cache.{IsValid};
 ghost use Rattle.clru.specs.Entries.{weight_of};
 ghost use Rattle.clru_through.specs.Store.{AllFrom, store};
@@ -61,10 +61,12 @@ impl<
     W: WeightScale<K, V>,
     A: Allocator + Copy,
 > Through<K, V, E, R, S, W, A> {
-    /// Creates a store of a source and a cache before it. It takes no memory.
-    #[tactic(auto, unfolding(crate::specs::Store::AllFrom))]
+    /// Creates a store of a source and a cache before it, which is empty, or holds values of the source alone, as `into_parts`
+    /// gives it back.
+    /// Cost: no request for memory.
+    #[tactic(auto, using(crate::proofs::Sourced::AllFrom_given))]
     pub fn new(cache: CLruCache<K, V, S, W, A>, source: R) -> Self
-        requires { cache.entries ≡ [] }
+        requires { (cache.entries ≡ []) ⊎ AllFrom (R.value source) cache.entries }
         ensures { result ≡ store cache source }
     {
         Through {
@@ -75,6 +77,7 @@ impl<
     }
 
     /// Returns the number of values that are held.
+    /// Cost: a read.
     pub fn len(&self) -> usize
         ensures len { result ≡ length self.now.cache.entries }
         ensures valid { IsValid K.eq (W.weight self.now.cache.scale) self.now.cache }
@@ -84,6 +87,7 @@ impl<
     }
 
     /// Returns the total weight of what is held.
+    /// Cost: a read.
     pub fn weight(&self) -> usize
         ensures weight { result ≡ weight_of (W.weight self.now.cache.scale) self.now.cache.entries }
         ensures valid { IsValid K.eq (W.weight self.now.cache.scale) self.now.cache }
@@ -92,6 +96,7 @@ impl<
     }
 
     /// Returns what the number of held values and their total weight never pass together.
+    /// Cost: a read.
     pub fn capacity(&self) -> usize
         ensures capacity { result ≡ self.now.cache.capacity }
         ensures valid { IsValid K.eq (W.weight self.now.cache.scale) self.now.cache }

@@ -3,6 +3,7 @@
 
 use clru::{CLruCache, DefaultState, WeightScale};
 use clru_fixtures::scales::ByLength;
+use clru_fixtures::sizes::capacity_of;
 use std::hash::Hash;
 
 /// Words under words.
@@ -13,9 +14,6 @@ pub(crate) type Numbers = CLruCache<&'static str, u64>;
 
 /// Words under words, each of which weighs its letters.
 pub(crate) type Weighed = CLruCache<&'static str, &'static str, DefaultState, ByLength>;
-
-/// Two fruits and their colours.
-pub(crate) const FRUITS: [(&str, &str); 2] = [("apple", "red"), ("banana", "yellow")];
 
 /// Five letters, numbered from 1 on.
 pub(crate) const LETTERS: [(&str, u64); 5] = [("a", 1), ("b", 2), ("c", 3), ("d", 4), ("e", 5)];
@@ -29,25 +27,10 @@ pub(crate) fn puts<V: Copy + Drop>(
     pairs: &[(&'static str, V)],
 ) -> bool {
     for (key, value) in pairs {
-        let is_new = match cache.put(*key, *value) {
-            Ok(put) => put.replaced.is_none(),
-            Err(_) => false,
-        };
-        if !is_new {
-            return false;
-        }
-    }
-    true
-}
-
-/// The same by weight.
-pub(crate) fn puts_by_weight(cache: &mut Weighed, pairs: &[(&'static str, &'static str)]) -> bool {
-    for (key, value) in pairs {
-        let is_new = match cache.put_with_weight(*key, *value, |_, _| {}) {
-            Ok(old) => old.is_none(),
-            Err(_) => false,
-        };
-        if !is_new {
+        if !cache
+            .put(*key, *value)
+            .is_ok_and(|put| put.replaced.is_none())
+        {
             return false;
         }
     }
@@ -72,17 +55,13 @@ pub(crate) fn is<K: Eq + Hash + Copy, V: PartialEq + Copy, W: WeightScale<K, V>>
     cache: &CLruCache<K, V, DefaultState, W>,
     list: &[(K, V)],
 ) -> bool {
-    let mut rest = list.iter();
-    for (key, value) in cache {
-        let same = match rest.next() {
-            Some((wanted, held)) => wanted == key && held == value,
-            None => false,
-        };
-        if !same {
+    let mut walk = cache.iter();
+    for (key, value) in list {
+        if walk.next() != Some((key, value)) {
             return false;
         }
     }
-    rest.next().is_none()
+    walk.next().is_none()
 }
 
 /// Whether the cache hands out these pairs and no other, the most recently used first.
@@ -101,13 +80,26 @@ pub(crate) fn hands_out<
 }
 
 /// The capacity, the number of entries, and whether the cache is empty and full.
-pub(crate) fn sizes<V>(cache: &CLruCache<&'static str, V>) -> (usize, usize, bool, bool) {
+pub(crate) fn sizes<K: Eq + Hash, V, W: WeightScale<K, V>>(
+    cache: &CLruCache<K, V, DefaultState, W>,
+) -> (usize, usize, bool, bool) {
     (
         cache.capacity(),
         cache.len(),
         cache.is_empty(),
         cache.is_full(),
     )
+}
+
+/// The capacity and the number of entries after a resize.
+pub(crate) fn resized<K: Eq + Hash + Drop, V: Drop, W: WeightScale<K, V>>(
+    cache: &mut CLruCache<K, V, DefaultState, W>,
+    capacity: usize,
+) -> (usize, usize) {
+    if let Ok(capacity) = capacity_of(capacity) {
+        cache.resize(capacity);
+    }
+    (cache.capacity(), cache.len())
 }
 
 /// An end of the list.
@@ -125,17 +117,14 @@ pub(crate) fn walks<K: Eq + Hash + Copy, V: PartialEq + Copy, W: WeightScale<K, 
     let mut walk = cache.iter();
     let mut left = steps.len();
     for (end, key, value) in steps {
-        if walk.len() != left {
+        let shown = match end {
+            End::Front => (walk.len(), walk.next()),
+            End::Back => (walk.len(), walk.next_back()),
+        };
+        if shown != (left, Some((key, value))) {
             return false;
         }
         left = left.wrapping_sub(1);
-        let shown = match end {
-            End::Front => walk.next(),
-            End::Back => walk.next_back(),
-        };
-        if shown != Some((key, value)) {
-            return false;
-        }
     }
     walk.len() == 0 && walk.next().is_none() && walk.next_back().is_none()
 }

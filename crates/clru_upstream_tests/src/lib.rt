@@ -25,6 +25,8 @@ mod replays;
 #[cfg(test)]
 mod resizes;
 #[cfg(test)]
+mod steps;
+#[cfg(test)]
 mod walks;
 #[cfg(test)]
 mod weights;

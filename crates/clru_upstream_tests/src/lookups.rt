@@ -1,24 +1,22 @@
 //! Look-ups, for writing too, with keys that own memory, and with another hash builder.
 
-use crate::caches::{FRUITS, Numbers, Words, puts, sizes};
+use crate::caches::{Numbers, puts, sizes};
+use crate::steps::Step::{
+    self, Contains, GetsMut, Peeks, PeeksMut, PeeksMutNone, PeeksNone, Puts, Sizes, Writes,
+};
+use crate::steps::{FRUITS, plain};
 use assertions::equal;
 use clru::CLruCache;
 use clru_fixtures::sizes::capacity_of;
+use std::alloc::Global;
 use std::hash::{BuildHasherDefault, FoldHasher};
 use std::test::Fail;
 
-#[test]
-fn test_insert_and_get_mut(rt: HostRuntime) -> Result<(), Fail> {
-    let mut cache = CLruCache::new(rt.alloc(), capacity_of(2)?);
-    equal!(rt; gets_for_writing(&mut cache), true);
-    Ok(())
-}
+static INSERT_AND_GET_MUT: &[Step] = &[Puts(FRUITS), Sizes(2, 2, false, true), GetsMut(FRUITS)];
 
-fn gets_for_writing(cache: &mut Words) -> bool {
-    puts(cache, &FRUITS)
-        && sizes(cache) == (2, 2, false, true)
-        && cache.get_mut(&"apple").copied() == Some("red")
-        && cache.get_mut(&"banana").copied() == Some("yellow")
+#[test]
+fn test_insert_and_get_mut(rt: HostRuntime) {
+    equal!(rt; plain(rt.alloc(), 2, INSERT_AND_GET_MUT), None);
 }
 
 #[test]
@@ -39,58 +37,46 @@ fn gets_and_updates(cache: &mut Numbers) -> bool {
         && cache.get_mut(&"banana").copied() == Some(3)
 }
 
-#[test]
-fn test_peek(rt: HostRuntime) -> Result<(), Fail> {
-    let mut cache = CLruCache::new(rt.alloc(), capacity_of(2)?);
-    equal!(rt; peeks(&mut cache), true);
-    Ok(())
-}
-
-fn peeks(cache: &mut Words) -> bool {
-    puts(cache, &FRUITS)
-        && cache.peek(&"banana") == Some(&"yellow")
-        && cache.peek(&"apple") == Some(&"red")
-        && puts(cache, &[("pear", "green")])
-        && cache.peek(&"apple").is_none()
-        && cache.peek(&"banana") == Some(&"yellow")
-        && cache.peek(&"pear") == Some(&"green")
-}
+static PEEK: &[Step] = &[
+    Puts(FRUITS),
+    Peeks(&[("banana", "yellow"), ("apple", "red")]),
+    Puts(&[("pear", "green")]),
+    PeeksNone("apple"),
+    Peeks(&[("banana", "yellow"), ("pear", "green")]),
+];
 
 #[test]
-fn test_peek_mut(rt: HostRuntime) -> Result<(), Fail> {
-    let mut cache = CLruCache::new(rt.alloc(), capacity_of(2)?);
-    equal!(rt; peeks_for_writing(&mut cache), true);
-    Ok(())
+fn test_peek(rt: HostRuntime) {
+    equal!(rt; plain(rt.alloc(), 2, PEEK), None);
 }
 
-fn peeks_for_writing(cache: &mut Words) -> bool {
-    let peeked = puts(cache, &FRUITS)
-        && cache.peek_mut(&"banana").copied() == Some("yellow")
-        && cache.peek_mut(&"apple").copied() == Some("red")
-        && cache.peek_mut(&"pear").is_none()
-        && puts(cache, &[("pear", "green")])
-        && cache.peek_mut(&"apple").is_none()
-        && cache.peek_mut(&"banana").copied() == Some("yellow")
-        && cache.peek_mut(&"pear").copied() == Some("green");
-    if let Some(value) = cache.peek_mut(&"banana") {
-        *value = "green";
-    }
-    peeked && cache.peek_mut(&"banana").copied() == Some("green")
-}
+static PEEK_MUT: &[Step] = &[
+    Puts(FRUITS),
+    PeeksMut(&[("banana", "yellow"), ("apple", "red")]),
+    PeeksMutNone("pear"),
+    Puts(&[("pear", "green")]),
+    PeeksMutNone("apple"),
+    PeeksMut(&[("banana", "yellow"), ("pear", "green")]),
+    Writes("banana", "green"),
+    PeeksMut(&[("banana", "green")]),
+];
 
 #[test]
-fn test_contains(rt: HostRuntime) -> Result<(), Fail> {
-    let mut cache = CLruCache::new(rt.alloc(), capacity_of(2)?);
-    equal!(rt; looks_for_keys(&mut cache), true);
-    Ok(())
+fn test_peek_mut(rt: HostRuntime) {
+    equal!(rt; plain(rt.alloc(), 2, PEEK_MUT), None);
 }
 
-fn looks_for_keys(cache: &mut Words) -> bool {
-    puts(cache, &FRUITS)
-        && puts(cache, &[("pear", "green")])
-        && !cache.contains(&"apple")
-        && cache.contains(&"banana")
-        && cache.contains(&"pear")
+static CONTAINS: &[Step] = &[
+    Puts(FRUITS),
+    Puts(&[("pear", "green")]),
+    Contains("apple", false),
+    Contains("banana", true),
+    Contains("pear", true),
+];
+
+#[test]
+fn test_contains(rt: HostRuntime) {
+    equal!(rt; plain(rt.alloc(), 2, CONTAINS), None);
 }
 
 /// Colours under texts that own memory.
@@ -98,28 +84,32 @@ type Texts = CLruCache<String, &'static str>;
 
 #[test]
 fn test_get_with_borrow(rt: HostRuntime) -> Result<(), Fail> {
-    let stored = String::from_str(rt.alloc(), "apple")?;
-    let sought = String::from_str(rt.alloc(), "apple")?;
-    let mut cache = CLruCache::new(rt.alloc(), capacity_of(2)?);
-    equal!(rt; gets_by_another(&mut cache, stored, &sought), true);
+    equal!(rt; finds_by_another(rt.alloc(), false)?, true);
     Ok(())
-}
-
-fn gets_by_another(cache: &mut Texts, stored: String, sought: &String) -> bool {
-    cache.put(stored, "red").is_ok() && cache.get(sought) == Some(&"red")
 }
 
 #[test]
 fn test_get_mut_with_borrow(rt: HostRuntime) -> Result<(), Fail> {
-    let stored = String::from_str(rt.alloc(), "apple")?;
-    let sought = String::from_str(rt.alloc(), "apple")?;
-    let mut cache = CLruCache::new(rt.alloc(), capacity_of(2)?);
-    equal!(rt; gets_mut_by_another(&mut cache, stored, &sought), true);
+    equal!(rt; finds_by_another(rt.alloc(), true)?, true);
     Ok(())
 }
 
-fn gets_mut_by_another(cache: &mut Texts, stored: String, sought: &String) -> bool {
-    cache.put(stored, "red").is_ok() && cache.get_mut(sought).copied() == Some("red")
+/// Whether what is stored under one text is found by another one, for writing or not.
+fn finds_by_another(alloc: Global, writes: bool) -> Result<bool, Fail> {
+    let stored = String::from_str(alloc, "apple")?;
+    let sought = String::from_str(alloc, "apple")?;
+    let mut cache = CLruCache::new(alloc, capacity_of(2)?);
+    Ok(finds_text(&mut cache, stored, &sought, writes))
+}
+
+fn finds_text(cache: &mut Texts, stored: String, sought: &String, writes: bool) -> bool {
+    let put = cache.put(stored, "red").is_ok();
+    let found = if writes {
+        cache.get_mut(sought).copied()
+    } else {
+        cache.get(sought).copied()
+    };
+    put && found == Some("red")
 }
 
 #[test]

@@ -1,86 +1,57 @@
 //! Keys that have no `Clone`: no call asks for one.
 
-use crate::non_clone::Step::{
+use crate::non_clone::Call::{
     Clear, Contains, Extend, Get, Modify, Peek, Pop, PopBack, PopFront, Put, Resize, Retain,
     TryModify, Write,
 };
-use clru::CLruCache;
+use assertions::equal;
+use clru::{CLruCache, NonZeroUsize};
+use clru_fixtures::builders::{BUILDERS, Hashing};
 use clru_fixtures::sizes::capacity_of;
-use clru_fixtures::with_each_builder;
 use std::alloc::{AllocError, Global};
-use std::hash::BuildHasher;
-use std::process::Abort;
 use std::test::Fail;
 
 /// A text that can't be cloned.
 #[derive(Debug, Drop, PartialEq, Eq, Hash)]
 struct NonCloneKey(String);
 
-fn key(alloc: Global, letter: &str) -> Result<NonCloneKey, AllocError> {
-    Ok(NonCloneKey(String::from_str(alloc, letter)?))
-}
+type Keys = CLruCache<NonCloneKey, u64, Hashing>;
 
-/// A call, and its answer.
-enum Step {
-    Put(&'static str, u64, Option<u64>),
-    Get(&'static str, Option<u64>),
-    Peek(&'static str, Option<u64>),
+/// A call with a key, or with none, and its answer.
+enum Call {
+    Put(u64, Option<u64>),
+    Get(Option<u64>),
+    Peek(Option<u64>),
     /// Writes a value, by `get_mut` or by `peek_mut`.
-    Write(&'static str, u64, bool),
-    Contains(&'static str, bool),
-    Pop(&'static str, Option<u64>),
-    PopFront(&'static str, u64),
-    PopBack(&'static str, u64),
+    Write(u64, bool),
+    Contains(bool),
+    Pop(Option<u64>),
+    PopFront(u64),
+    PopBack(u64),
     /// Keeps the values above a number.
     Retain(u64),
     Clear,
     Resize(usize),
     /// Puts 100 under a new key, and adds 1 to the value of a held one.
-    Modify(&'static str, u64),
-    Extend(&'static str, u64),
+    Modify(u64),
+    Extend(u64),
     /// Puts 200 under a new key, and adds 1 to the value of a held one, by closures that might fail.
-    TryModify(&'static str, u64),
+    TryModify(u64),
 }
 
-fn writes<S: BuildHasher>(
-    alloc: Global,
-    cache: &mut CLruCache<NonCloneKey, u64, S>,
-    letter: &str,
-    value: u64,
-    moves: bool,
-) -> Result<bool, AllocError> {
-    let key = key(alloc, letter)?;
-    let lent = if moves {
-        cache.get_mut(&key)
-    } else {
-        cache.peek_mut(&key)
-    };
-    match lent {
-        Some(held) => {
-            *held = value;
-            Ok(true)
-        }
-        None => Ok(false),
-    }
-}
-
-/// Puts a value, and returns the old one, or nothing where memory is refused.
-fn puts<S: BuildHasher>(
-    cache: &mut CLruCache<NonCloneKey, u64, S>,
-    key: NonCloneKey,
-    value: u64,
-) -> Option<Option<u64>> {
-    match cache.put(key, value) {
-        Ok(put) => Some(put.replaced),
-        Err(_) => None,
+/// Makes a call that adds or changes an entry, and returns whether its answer is the one that is wanted.
+fn is_right(alloc: Global, cache: &mut Keys, key: NonCloneKey, call: &Call) -> bool {
+    match call {
+        Put(value, old) => cache.put(key, *value).is_ok_and(|put| put.replaced == *old),
+        Modify(value) => modifies(cache, key) == Some(*value),
+        TryModify(value) => tries(cache, key) == Some(*value),
+        Extend(value) => extends(alloc, cache, key, *value),
+        _ => takes_or_reads(cache, &key, call),
     }
 }
 
 /// Puts 100 under a new key or adds 1 to the value of a held one, and returns that value.
-fn modifies<S: BuildHasher>(
-    cache: &mut CLruCache<NonCloneKey, u64, S>,
-    key: NonCloneKey,
-) -> Option<u64> {
+fn modifies(cache: &mut Keys, key: NonCloneKey) -> Option<u64> {
     let modify = |_: &_, value: &mut u64, _| *value = value.saturating_add(1);
     match cache.put_or_modify(key, |_, _| 100, modify, ()) {
         Ok(lent) => Some(*lent),
@@ -92,10 +63,7 @@ fn modifies<S: BuildHasher>(
 }
 
 /// The same with 200, by closures that might fail.
-fn tries<S: BuildHasher>(
-    cache: &mut CLruCache<NonCloneKey, u64, S>,
-    key: NonCloneKey,
-) -> Option<u64> {
+fn tries(cache: &mut Keys, key: NonCloneKey) -> Option<u64> {
     let modify = |_: &_, value: &mut u64, _| match value.checked_add(1) {
         Some(more) => {
             *value = more;
@@ -112,42 +80,34 @@ fn tries<S: BuildHasher>(
     }
 }
 
-/// Makes a call that adds or changes an entry, and returns whether its answer is the one that is wanted.
-fn is_right<S: BuildHasher>(
-    alloc: Global,
-    cache: &mut CLruCache<NonCloneKey, u64, S>,
-    step: &Step,
-) -> Result<bool, AllocError> {
-    let right = match step {
-        Put(letter, value, old) => puts(cache, key(alloc, letter)?, *value) == Some(*old),
-        Write(letter, value, moves) => writes(alloc, cache, letter, *value, *moves)?,
-        Modify(letter, value) => modifies(cache, key(alloc, letter)?) == Some(*value),
-        TryModify(letter, value) => tries(cache, key(alloc, letter)?) == Some(*value),
-        Extend(letter, value) => {
-            let key = key(alloc, letter)?;
-            match Vec::from_array(alloc, [(key, *value)]) {
-                Ok(pairs) => cache.extend(pairs).is_ok(),
-                Err(_) => false,
-            }
-        }
-        _ => takes_or_reads(alloc, cache, step)?,
-    };
-    Ok(right)
+fn extends(alloc: Global, cache: &mut Keys, key: NonCloneKey, value: u64) -> bool {
+    match Vec::from_array(alloc, [(key, value)]) {
+        Ok(pairs) => cache.extend(pairs).is_ok(),
+        Err(_) => false,
+    }
 }
 
-/// The same for the other calls.
-fn takes_or_reads<S: BuildHasher>(
-    alloc: Global,
-    cache: &mut CLruCache<NonCloneKey, u64, S>,
-    step: &Step,
-) -> Result<bool, AllocError> {
-    let right = match step {
-        Get(letter, value) => cache.get(&key(alloc, letter)?).copied() == *value,
-        Peek(letter, value) => cache.peek(&key(alloc, letter)?).copied() == *value,
-        Contains(letter, held) => cache.contains(&key(alloc, letter)?) == *held,
-        Pop(letter, value) => cache.pop(&key(alloc, letter)?) == *value,
-        PopFront(letter, value) => cache.pop_front() == Some((key(alloc, letter)?, *value)),
-        PopBack(letter, value) => cache.pop_back() == Some((key(alloc, letter)?, *value)),
+/// Makes any other call.
+fn takes_or_reads(cache: &mut Keys, key: &NonCloneKey, call: &Call) -> bool {
+    match call {
+        Get(value) => cache.get(key).copied() == *value,
+        Peek(value) => cache.peek(key).copied() == *value,
+        Contains(held) => cache.contains(key) == *held,
+        Pop(value) => cache.pop(key) == *value,
+        PopFront(value) => is_pair(cache.pop_front(), key, *value),
+        PopBack(value) => is_pair(cache.pop_back(), key, *value),
+        _ => changes(cache, key, call),
+    }
+}
+
+fn is_pair(pair: Option<(NonCloneKey, u64)>, key: &NonCloneKey, value: u64) -> bool {
+    pair.is_some_and(|(held, was)| held == *key && was == value)
+}
+
+/// Writes a value, or changes which entries there may be.
+fn changes(cache: &mut Keys, key: &NonCloneKey, call: &Call) -> bool {
+    match call {
+        Write(value, moves) => writes(cache, key, *value, *moves),
         Retain(above) => {
             cache.retain(|_, value| *value > *above);
             true
@@ -164,58 +124,72 @@ fn takes_or_reads<S: BuildHasher>(
             Err(_) => false,
         },
         _ => false,
-    };
-    Ok(right)
+    }
 }
 
-/// The calls in order, each with the entries after it, the most recently used first.
-static STEPS: &[(Step, &[(&str, u64)])] = &[
-    (Put("a", 1, None), &[("a", 1)]),
-    (Put("b", 2, None), &[("b", 2), ("a", 1)]),
-    (Put("c", 3, None), &[("c", 3), ("b", 2), ("a", 1)]),
-    (Get("a", Some(1)), &[("a", 1), ("c", 3), ("b", 2)]),
-    (Get("b", Some(2)), &[("b", 2), ("a", 1), ("c", 3)]),
-    (Get("c", Some(3)), &[("c", 3), ("b", 2), ("a", 1)]),
-    (Put("a", 10, Some(1)), &[("a", 10), ("c", 3), ("b", 2)]),
-    (Get("a", Some(10)), &[("a", 10), ("c", 3), ("b", 2)]),
-    (Put("d", 4, None), &[("d", 4), ("a", 10), ("c", 3)]),
-    (Get("b", None), &[("d", 4), ("a", 10), ("c", 3)]),
-    (Get("d", Some(4)), &[("d", 4), ("a", 10), ("c", 3)]),
-    (Peek("a", Some(10)), &[("d", 4), ("a", 10), ("c", 3)]),
-    (Write("c", 30, true), &[("c", 30), ("d", 4), ("a", 10)]),
-    (Get("c", Some(30)), &[("c", 30), ("d", 4), ("a", 10)]),
-    (Write("d", 40, false), &[("c", 30), ("d", 40), ("a", 10)]),
-    (Peek("d", Some(40)), &[("c", 30), ("d", 40), ("a", 10)]),
-    (Contains("a", true), &[("c", 30), ("d", 40), ("a", 10)]),
-    (Contains("z", false), &[("c", 30), ("d", 40), ("a", 10)]),
-    (Pop("a", Some(10)), &[("c", 30), ("d", 40)]),
-    (Put("e", 5, None), &[("e", 5), ("c", 30), ("d", 40)]),
-    (PopFront("e", 5), &[("c", 30), ("d", 40)]),
-    (PopBack("d", 40), &[("c", 30)]),
-    (Put("f", 6, None), &[("f", 6), ("c", 30)]),
-    (Put("g", 7, None), &[("g", 7), ("f", 6), ("c", 30)]),
-    (Retain(6), &[("g", 7), ("c", 30)]),
-    (Get("f", None), &[("g", 7), ("c", 30)]),
-    (Get("g", Some(7)), &[("g", 7), ("c", 30)]),
-    (Get("c", Some(30)), &[("c", 30), ("g", 7)]),
-    (Clear, &[]),
-    (Put("h", 8, None), &[("h", 8)]),
-    (Put("i", 9, None), &[("i", 9), ("h", 8)]),
-    (Put("j", 10, None), &[("j", 10), ("i", 9), ("h", 8)]),
-    (Resize(2), &[("j", 10), ("i", 9)]),
-    (Get("h", None), &[("j", 10), ("i", 9)]),
-    (Get("j", Some(10)), &[("j", 10), ("i", 9)]),
-    (Clear, &[]),
-    (Resize(3), &[]),
-    (Extend("j", 1), &[("j", 1)]),
-    (Pop("j", Some(1)), &[]),
-    (Modify("k", 100), &[("k", 100)]),
-    (Modify("k", 101), &[("k", 101)]),
-    (TryModify("l", 200), &[("l", 200), ("k", 101)]),
+fn writes(cache: &mut Keys, key: &NonCloneKey, value: u64, moves: bool) -> bool {
+    let lent = if moves {
+        cache.get_mut(key)
+    } else {
+        cache.peek_mut(key)
+    };
+    match lent {
+        Some(held) => {
+            *held = value;
+            true
+        }
+        None => false,
+    }
+}
+
+/// The calls in order, each with its letter and with the entries after it, the most recently used first.
+static STEPS: &[(&str, Call, &[(&str, u64)])] = &[
+    ("a", Put(1, None), &[("a", 1)]),
+    ("b", Put(2, None), &[("b", 2), ("a", 1)]),
+    ("c", Put(3, None), &[("c", 3), ("b", 2), ("a", 1)]),
+    ("a", Get(Some(1)), &[("a", 1), ("c", 3), ("b", 2)]),
+    ("b", Get(Some(2)), &[("b", 2), ("a", 1), ("c", 3)]),
+    ("c", Get(Some(3)), &[("c", 3), ("b", 2), ("a", 1)]),
+    ("a", Put(10, Some(1)), &[("a", 10), ("c", 3), ("b", 2)]),
+    ("a", Get(Some(10)), &[("a", 10), ("c", 3), ("b", 2)]),
+    ("d", Put(4, None), &[("d", 4), ("a", 10), ("c", 3)]),
+    ("b", Get(None), &[("d", 4), ("a", 10), ("c", 3)]),
+    ("d", Get(Some(4)), &[("d", 4), ("a", 10), ("c", 3)]),
+    ("a", Peek(Some(10)), &[("d", 4), ("a", 10), ("c", 3)]),
+    ("c", Write(30, true), &[("c", 30), ("d", 4), ("a", 10)]),
+    ("c", Get(Some(30)), &[("c", 30), ("d", 4), ("a", 10)]),
+    ("d", Write(40, false), &[("c", 30), ("d", 40), ("a", 10)]),
+    ("d", Peek(Some(40)), &[("c", 30), ("d", 40), ("a", 10)]),
+    ("a", Contains(true), &[("c", 30), ("d", 40), ("a", 10)]),
+    ("z", Contains(false), &[("c", 30), ("d", 40), ("a", 10)]),
+    ("a", Pop(Some(10)), &[("c", 30), ("d", 40)]),
+    ("e", Put(5, None), &[("e", 5), ("c", 30), ("d", 40)]),
+    ("e", PopFront(5), &[("c", 30), ("d", 40)]),
+    ("d", PopBack(40), &[("c", 30)]),
+    ("f", Put(6, None), &[("f", 6), ("c", 30)]),
+    ("g", Put(7, None), &[("g", 7), ("f", 6), ("c", 30)]),
+    ("", Retain(6), &[("g", 7), ("c", 30)]),
+    ("f", Get(None), &[("g", 7), ("c", 30)]),
+    ("g", Get(Some(7)), &[("g", 7), ("c", 30)]),
+    ("c", Get(Some(30)), &[("c", 30), ("g", 7)]),
+    ("", Clear, &[]),
+    ("h", Put(8, None), &[("h", 8)]),
+    ("i", Put(9, None), &[("i", 9), ("h", 8)]),
+    ("j", Put(10, None), &[("j", 10), ("i", 9), ("h", 8)]),
+    ("", Resize(2), &[("j", 10), ("i", 9)]),
+    ("h", Get(None), &[("j", 10), ("i", 9)]),
+    ("j", Get(Some(10)), &[("j", 10), ("i", 9)]),
+    ("", Clear, &[]),
+    ("", Resize(3), &[]),
+    ("j", Extend(1), &[("j", 1)]),
+    ("j", Pop(Some(1)), &[]),
+    ("k", Modify(100), &[("k", 100)]),
+    ("k", Modify(101), &[("k", 101)]),
+    ("l", TryModify(200), &[("l", 200), ("k", 101)]),
 ];
 
 /// Whether the cache holds the pairs of the list and no other, the most recently used first.
-fn is_list<S: BuildHasher>(cache: &CLruCache<NonCloneKey, u64, S>, list: &[(&str, u64)]) -> bool {
+fn is_list(cache: &Keys, list: &[(&str, u64)]) -> bool {
     let mut walk = cache.iter();
     for (letter, value) in list {
         let same = match walk.next() {
@@ -229,17 +203,30 @@ fn is_list<S: BuildHasher>(cache: &CLruCache<NonCloneKey, u64, S>, list: &[(&str
     walk.next().is_none()
 }
 
-/// Takes all steps.
-fn steps<S: BuildHasher + Copy>(rt: &impl Abort, alloc: Global, builder: S) -> Result<(), Fail> {
-    let mut cache = CLruCache::with_hasher(alloc, capacity_of(3)?, builder);
-    for (i, (step, list)) in STEPS.iter().enumerate() {
-        assert!(rt; is_right(alloc, &mut cache, step)?, "step {i}");
-        assert!(rt; is_list(&cache, list), "the list after step {i}");
+/// Makes all calls, and answers which of them answered or left something else, if any.
+fn first_wrong(alloc: Global, cache: &mut Keys) -> Result<Option<usize>, AllocError> {
+    for (i, (letter, call, list)) in STEPS.iter().enumerate() {
+        let key = NonCloneKey(String::from_str(alloc, letter)?);
+        if !is_right(alloc, cache, key, call) || !is_list(cache, list) {
+            return Ok(Some(i));
+        }
     }
-    Ok(())
+    Ok(None)
+}
+
+fn wrong_under(
+    alloc: Global,
+    capacity: NonZeroUsize,
+    builder: Hashing,
+) -> Result<Option<usize>, AllocError> {
+    let mut cache = CLruCache::with_hasher(alloc, capacity, builder);
+    first_wrong(alloc, &mut cache)
 }
 
 #[test]
 fn test_non_clone_key(rt: HostRuntime) -> Result<(), Fail> {
-    with_each_builder!(rt, steps)
+    for builder in BUILDERS {
+        equal!(rt; wrong_under(rt.alloc(), capacity_of(3)?, builder)?, None);
+    }
+    Ok(())
 }

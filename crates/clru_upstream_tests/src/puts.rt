@@ -1,56 +1,50 @@
 //! Puts, with closures too.
 
-use crate::caches::{FRUITS, Numbers, Words, gets, is, puts, sizes};
+use crate::caches::{Numbers, is, puts};
+use crate::steps::Step::{self, Gets, GetsNone, Puts, Replaces, Sizes};
+use crate::steps::{FRUITS, plain};
 use assertions::equal;
 use clru::{CLruCache, TryPutError};
 use clru_fixtures::sizes::capacity_of;
 use std::test::Fail;
 
-#[test]
-fn test_insert_and_get(rt: HostRuntime) -> Result<(), Fail> {
-    let mut cache = CLruCache::new(rt.alloc(), capacity_of(2)?);
-    equal!(rt; inserts_and_gets(&mut cache), true);
-    Ok(())
-}
-
-fn inserts_and_gets(cache: &mut Words) -> bool {
-    cache.is_empty()
-        && puts(cache, &FRUITS)
-        && sizes(cache) == (2, 2, false, true)
-        && gets(cache, &FRUITS)
-}
+static INSERT_AND_GET: &[Step] = &[
+    Sizes(2, 0, true, false),
+    Puts(FRUITS),
+    Sizes(2, 2, false, true),
+    Gets(FRUITS),
+];
 
 #[test]
-fn test_insert_update(rt: HostRuntime) -> Result<(), Fail> {
-    let mut cache = CLruCache::new(rt.alloc(), capacity_of(1)?);
-    equal!(rt; updates(&mut cache), true);
-    Ok(())
+fn test_insert_and_get(rt: HostRuntime) {
+    equal!(rt; plain(rt.alloc(), 2, INSERT_AND_GET), None);
 }
 
-fn updates(cache: &mut Words) -> bool {
-    puts(cache, &[("apple", "red")])
-        && cache
-            .put("apple", "green")
-            .is_ok_and(|put| put.replaced == Some("red"))
-        && cache.len() == 1
-        && gets(cache, &[("apple", "green")])
-}
+static INSERT_UPDATE: &[Step] = &[
+    Puts(&[("apple", "red")]),
+    Replaces("apple", "green", "red"),
+    Sizes(1, 1, false, true),
+    Gets(&[("apple", "green")]),
+];
 
 #[test]
-fn test_insert_removes_oldest(rt: HostRuntime) -> Result<(), Fail> {
-    let mut cache = CLruCache::new(rt.alloc(), capacity_of(2)?);
-    equal!(rt; removes_the_oldest(&mut cache), true);
-    Ok(())
+fn test_insert_update(rt: HostRuntime) {
+    equal!(rt; plain(rt.alloc(), 1, INSERT_UPDATE), None);
 }
 
-fn removes_the_oldest(cache: &mut Words) -> bool {
-    puts(cache, &FRUITS)
-        && puts(cache, &[("pear", "green")])
-        && cache.get(&"apple").is_none()
-        && gets(cache, &[("banana", "yellow"), ("pear", "green")])
-        && puts(cache, &[("apple", "green"), ("tomato", "red")])
-        && cache.get(&"pear").is_none()
-        && gets(cache, &[("apple", "green"), ("tomato", "red")])
+static INSERT_REMOVES_OLDEST: &[Step] = &[
+    Puts(FRUITS),
+    Puts(&[("pear", "green")]),
+    GetsNone("apple"),
+    Gets(&[("banana", "yellow"), ("pear", "green")]),
+    Puts(&[("apple", "green"), ("tomato", "red")]),
+    GetsNone("pear"),
+    Gets(&[("apple", "green"), ("tomato", "red")]),
+];
+
+#[test]
+fn test_insert_removes_oldest(rt: HostRuntime) {
+    equal!(rt; plain(rt.alloc(), 2, INSERT_REMOVES_OLDEST), None);
 }
 
 /// Words with lengths.
@@ -78,19 +72,25 @@ fn test_put_or_modify(rt: HostRuntime) -> Result<(), Fail> {
     Ok(())
 }
 
+/// A key, the base, the value that is lent, and the entries then.
+type Modified = (
+    &'static str,
+    Option<usize>,
+    usize,
+    &'static [(&'static str, usize)],
+);
+
+static MODIFIED: &[Modified] = &[
+    ("a", None, 1, &[("a", 1)]),
+    ("b", Some(3), 4, &[("b", 4), ("a", 1)]),
+    ("a", None, 2, &[("a", 2), ("b", 4)]),
+    ("b", Some(3), 5, &[("b", 5), ("a", 2)]),
+];
+
 fn puts_or_modifies(cache: &mut Lengths) -> bool {
-    let steps: [(&str, Option<usize>, usize, &[(&str, usize)]); 4] = [
-        ("a", None, 1, &[("a", 1)]),
-        ("b", Some(3), 4, &[("b", 4), ("a", 1)]),
-        ("a", None, 2, &[("a", 2), ("b", 4)]),
-        ("b", Some(3), 5, &[("b", 5), ("a", 2)]),
-    ];
-    for (key, base, value, list) in steps {
-        let lent = match cache.put_or_modify(key, with_length, doubled_or_halved, base) {
-            Ok(lent) => *lent == value,
-            Err(_) => false,
-        };
-        if !lent || !is(cache, list) {
+    for (key, base, value, list) in MODIFIED {
+        let lent = cache.put_or_modify(*key, with_length, doubled_or_halved, *base);
+        if lent.map(|lent| *lent) != Ok(*value) || !is(cache, list) {
             return false;
         }
     }
@@ -130,16 +130,25 @@ fn test_try_put_or_modify(rt: HostRuntime) -> Result<(), Fail> {
     Ok(())
 }
 
+/// A key, the data, what is answered, and the entries then.
+type Tried = (
+    &'static str,
+    u64,
+    Result<u64, TryPutError<&'static str, u64, u64>>,
+    &'static [(&'static str, u64)],
+);
+
+static TRIED: &[Tried] = &[
+    ("a", 2, Ok(2), &[("a", 2)]),
+    ("b", 4, Ok(4), &[("b", 4), ("a", 2)]),
+    ("a", 3, Err(TryPutError::Failed(3)), &[("a", 2), ("b", 4)]),
+    ("c", 3, Err(TryPutError::Failed(3)), &[("a", 2), ("b", 4)]),
+];
+
 fn tries_to_put_or_modify(cache: &mut Numbers) -> bool {
-    let steps: [(_, _, _, &[(&str, u64)]); 4] = [
-        ("a", 2, Ok(2), &[("a", 2)]),
-        ("b", 4, Ok(4), &[("b", 4), ("a", 2)]),
-        ("a", 3, Err(TryPutError::Failed(3)), &[("a", 2), ("b", 4)]),
-        ("c", 3, Err(TryPutError::Failed(3)), &[("a", 2), ("b", 4)]),
-    ];
-    for (key, data, answer, list) in steps {
-        let lent = cache.try_put_or_modify(key, |_, data| even(data), writes_even, data);
-        if lent.map(|value| *value) != answer || !is(cache, list) {
+    for (key, data, answer, list) in TRIED {
+        let lent = cache.try_put_or_modify(*key, |_, data| even(data), writes_even, *data);
+        if lent.map(|value| *value) != *answer || !is(cache, list) {
             return false;
         }
     }

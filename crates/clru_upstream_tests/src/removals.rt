@@ -1,39 +1,40 @@
 //! What takes entries out.
 
-use crate::caches::{End, FRUITS, LETTERS, Numbers, Words, gets, is, puts};
+use crate::caches::{End, LETTERS, Numbers, gets, is, puts};
+use crate::steps::Step::{self, Clear, Gets, GetsNone, Pop, Puts, Sizes};
+use crate::steps::{FRUITS, plain};
 use assertions::equal;
 use clru::CLruCache;
 use clru_fixtures::sizes::capacity_of;
+use std::alloc::Global;
 use std::test::Fail;
 
-#[test]
-fn test_pop(rt: HostRuntime) -> Result<(), Fail> {
-    let mut cache = CLruCache::new(rt.alloc(), capacity_of(2)?);
-    equal!(rt; pops(&mut cache), true);
-    Ok(())
-}
-
-fn pops(cache: &mut Words) -> bool {
-    puts(cache, &FRUITS)
-        && cache.len() == 2
-        && gets(cache, &FRUITS)
-        && cache.pop(&"apple") == Some("red")
-        && cache.len() == 1
-        && cache.get(&"apple").is_none()
-        && cache.get(&"banana") == Some(&"yellow")
-}
+static POP: &[Step] = &[
+    Puts(FRUITS),
+    Sizes(2, 2, false, true),
+    Gets(FRUITS),
+    Pop("apple", "red"),
+    Sizes(2, 1, false, false),
+    GetsNone("apple"),
+    Gets(&[("banana", "yellow")]),
+];
 
 #[test]
-fn test_clear(rt: HostRuntime) -> Result<(), Fail> {
-    let mut cache = CLruCache::new(rt.alloc(), capacity_of(2)?);
-    equal!(rt; clears(&mut cache), true);
-    Ok(())
+fn test_pop(rt: HostRuntime) {
+    equal!(rt; plain(rt.alloc(), 2, POP), None);
 }
 
-fn clears(cache: &mut Words) -> bool {
-    let filled = puts(cache, &FRUITS) && cache.len() == 2 && gets(cache, &FRUITS);
-    cache.clear();
-    filled && cache.len() == 0
+static CLEAR: &[Step] = &[
+    Puts(FRUITS),
+    Sizes(2, 2, false, true),
+    Gets(FRUITS),
+    Clear,
+    Sizes(2, 0, true, false),
+];
+
+#[test]
+fn test_clear(rt: HostRuntime) {
+    equal!(rt; plain(rt.alloc(), 2, CLEAR), None);
 }
 
 #[test]
@@ -86,9 +87,7 @@ type Many = CLruCache<u64, &'static str>;
 fn fills(cache: &mut Many) -> bool {
     let mut filled = true;
     for (first, letter) in [(0u64, "A"), (100, "B"), (200, "C")] {
-        for i in 0..75 {
-            filled = cache.put(first.wrapping_add(i), letter).is_ok() && filled;
-        }
+        filled = puts_75(cache, first, letter) && filled;
     }
     filled = cache.len() == 200 && filled;
     for key in (100..175u64).rev() {
@@ -97,25 +96,45 @@ fn fills(cache: &mut Many) -> bool {
     cache.get(&25) == Some(&"A") && filled
 }
 
+fn puts_75(cache: &mut Many, first: u64, letter: &'static str) -> bool {
+    let mut put = true;
+    for i in 0..75 {
+        put = cache.put(first.wrapping_add(i), letter).is_ok() && put;
+    }
+    put
+}
+
 /// Numbers of one letter as they go out: the first, how many there are, and whether each is less than the one before.
 type Going = (u64, u64, bool, &'static str);
 
 /// Whether these go out at the end in turn, and then none, however often it is asked.
-fn go_out(cache: &mut Many, end: End, numbers: &[Going]) -> bool {
-    for (first, number, falls, letter) in numbers {
-        for i in 0..*number {
-            let key = if *falls {
-                first.wrapping_sub(i)
-            } else {
-                first.wrapping_add(i)
-            };
-            if popped(cache, end) != Some((key, *letter)) {
-                return false;
-            }
+fn go_out(alloc: Global, end: End, numbers: &[Going]) -> Result<bool, &'static str> {
+    let mut cache = CLruCache::new(alloc, capacity_of(200)?);
+    Ok(fills(&mut cache) && are_popped(&mut cache, end, numbers))
+}
+
+fn are_popped(cache: &mut Many, end: End, numbers: &[Going]) -> bool {
+    for going in numbers {
+        if !is_popped(cache, end, *going) {
+            return false;
         }
     }
     for _ in 0..50 {
         if popped(cache, end).is_some() {
+            return false;
+        }
+    }
+    true
+}
+
+fn is_popped(cache: &mut Many, end: End, (first, number, falls, letter): Going) -> bool {
+    for i in 0..number {
+        let key = if falls {
+            first.wrapping_sub(i)
+        } else {
+            first.wrapping_add(i)
+        };
+        if popped(cache, end) != Some((key, letter)) {
             return false;
         }
     }
@@ -129,28 +148,26 @@ fn popped(cache: &mut Many, end: End) -> Option<(u64, &'static str)> {
     }
 }
 
-#[test]
-fn test_pop_front(rt: HostRuntime) -> Result<(), Fail> {
-    let mut cache = CLruCache::new(rt.alloc(), capacity_of(200)?);
-    let numbers = [
-        (25, 1, false, "A"),
-        (100, 75, false, "B"),
-        (274, 75, true, "C"),
-        (74, 49, true, "A"),
-    ];
-    equal!(rt; fills(&mut cache) && go_out(&mut cache, End::Front, &numbers), true);
-    Ok(())
-}
+static FROM_THE_FRONT: &[Going] = &[
+    (25, 1, false, "A"),
+    (100, 75, false, "B"),
+    (274, 75, true, "C"),
+    (74, 49, true, "A"),
+];
 
 #[test]
-fn test_pop_back(rt: HostRuntime) -> Result<(), Fail> {
-    let mut cache = CLruCache::new(rt.alloc(), capacity_of(200)?);
-    let numbers = [
-        (26, 49, false, "A"),
-        (200, 75, false, "C"),
-        (174, 75, true, "B"),
-        (25, 1, false, "A"),
-    ];
-    equal!(rt; fills(&mut cache) && go_out(&mut cache, End::Back, &numbers), true);
-    Ok(())
+fn test_pop_front(rt: HostRuntime) {
+    equal!(rt; go_out(rt.alloc(), End::Front, FROM_THE_FRONT), Ok(true));
+}
+
+static FROM_THE_BACK: &[Going] = &[
+    (26, 49, false, "A"),
+    (200, 75, false, "C"),
+    (174, 75, true, "B"),
+    (25, 1, false, "A"),
+];
+
+#[test]
+fn test_pop_back(rt: HostRuntime) {
+    equal!(rt; go_out(rt.alloc(), End::Back, FROM_THE_BACK), Ok(true));
 }

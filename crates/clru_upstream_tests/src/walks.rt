@@ -5,31 +5,48 @@ use crate::caches::{LAST_FIRST, LETTERS, Numbers, hands_out, is, puts, walks};
 use assertions::equal;
 use clru::CLruCache;
 use clru_fixtures::sizes::capacity_of;
+use std::alloc::Global;
 use std::test::Fail;
 
+/// Steps from either end, each with the pair that it shows.
+type Steps = &'static [(End, &'static str, u64)];
+
 /// Whether a cursor lends the value of each step, has one entry less to come after each, and then none.
-fn lends(cache: &mut Numbers, steps: &[(End, &'static str, u64)]) -> bool {
+fn lends(cache: &mut Numbers, steps: Steps) -> bool {
     let mut cursor = cache.iter_mut();
     let mut left = steps.len();
     for (end, _, value) in steps {
-        if cursor.len() != left {
+        let lent = match end {
+            Front => (cursor.len(), cursor.next().copied()),
+            Back => (cursor.len(), cursor.next_back().copied()),
+        };
+        if lent != (left, Some(*value)) {
             return false;
         }
         left = left.wrapping_sub(1);
-        let lent = match end {
-            Front => cursor.next().copied(),
-            Back => cursor.next_back().copied(),
-        };
-        if lent != Some(*value) {
-            return false;
-        }
     }
     cursor.len() == 0 && cursor.next().is_none() && cursor.next_back().is_none()
 }
 
-/// Puts three letters into the cache, and walks over it by these steps, for reading and for writing.
-fn goes(cache: &mut Numbers, steps: &[(End, &'static str, u64)]) -> bool {
+/// Puts three letters into a cache, walks over it by these steps, for reading and for writing, and where it is given an end,
+/// takes one from each value from there on.
+fn goes(alloc: Global, steps: Steps, taking: Option<End>) -> Result<bool, &'static str> {
+    let mut cache = CLruCache::new(alloc, capacity_of(3)?);
+    Ok(goes_by(&mut cache, steps) && takes(&mut cache, taking))
+}
+
+fn goes_by(cache: &mut Numbers, steps: Steps) -> bool {
     puts(cache, &LETTERS[..3]) && walks(cache, steps) && lends(cache, steps)
+}
+
+fn takes(cache: &mut Numbers, taking: Option<End>) -> bool {
+    match taking {
+        Some(end) => {
+            takes_one(cache, end);
+            is(cache, &[("c", 2), ("b", 1), ("a", 0)])
+        }
+        None => true,
+    }
 }
 
 /// Takes one from each value, from that end.
@@ -47,32 +64,25 @@ fn takes_one(cache: &mut Numbers, end: End) {
     }
 }
 
-#[test]
-fn test_iter_forwards(rt: HostRuntime) -> Result<(), Fail> {
-    let mut cache = CLruCache::new(rt.alloc(), capacity_of(3)?);
-    let steps = [(Front, "c", 3), (Front, "b", 2), (Front, "a", 1)];
-    equal!(rt; goes(&mut cache, &steps), true);
-    takes_one(&mut cache, Front);
-    equal!(rt; is(&cache, &[("c", 2), ("b", 1), ("a", 0)]), true);
-    Ok(())
-}
+static FORWARDS: Steps = &[(Front, "c", 3), (Front, "b", 2), (Front, "a", 1)];
 
 #[test]
-fn test_iter_backwards(rt: HostRuntime) -> Result<(), Fail> {
-    let mut cache = CLruCache::new(rt.alloc(), capacity_of(3)?);
-    let steps = [(Back, "a", 1), (Back, "b", 2), (Back, "c", 3)];
-    equal!(rt; goes(&mut cache, &steps), true);
-    takes_one(&mut cache, Back);
-    equal!(rt; is(&cache, &[("c", 2), ("b", 1), ("a", 0)]), true);
-    Ok(())
+fn test_iter_forwards(rt: HostRuntime) {
+    equal!(rt; goes(rt.alloc(), FORWARDS, Some(Front)), Ok(true));
 }
 
+static BACKWARDS: Steps = &[(Back, "a", 1), (Back, "b", 2), (Back, "c", 3)];
+
 #[test]
-fn test_iter_forwards_and_backwards(rt: HostRuntime) -> Result<(), Fail> {
-    let mut cache = CLruCache::new(rt.alloc(), capacity_of(3)?);
-    let steps = [(Front, "c", 3), (Back, "a", 1), (Front, "b", 2)];
-    equal!(rt; goes(&mut cache, &steps), true);
-    Ok(())
+fn test_iter_backwards(rt: HostRuntime) {
+    equal!(rt; goes(rt.alloc(), BACKWARDS, Some(Back)), Ok(true));
+}
+
+static FORWARDS_AND_BACKWARDS: Steps = &[(Front, "c", 3), (Back, "a", 1), (Front, "b", 2)];
+
+#[test]
+fn test_iter_forwards_and_backwards(rt: HostRuntime) {
+    equal!(rt; goes(rt.alloc(), FORWARDS_AND_BACKWARDS, None), Ok(true));
 }
 
 #[test]
@@ -96,12 +106,21 @@ fn walks_twice(cache: &Numbers) -> bool {
 }
 
 #[test]
-fn test_into_iter(rt: HostRuntime) -> Result<(), Fail> {
-    let mut cache = CLruCache::new(rt.alloc(), capacity_of(5)?);
-    equal!(rt; puts(&mut cache, &LETTERS) && is(&cache, &LAST_FIRST), true);
-    takes_one(&mut cache, Front);
-    equal!(rt; hands_out(cache, &[("e", 4), ("d", 3), ("c", 2), ("b", 1), ("a", 0)]), true);
-    Ok(())
+fn test_into_iter(rt: HostRuntime) {
+    equal!(rt; goes_out(rt.alloc()), Ok(true));
+}
+
+fn goes_out(alloc: Global) -> Result<bool, &'static str> {
+    let mut cache = CLruCache::new(alloc, capacity_of(5)?);
+    let filled = fills(&mut cache);
+    let one_less = [("e", 4), ("d", 3), ("c", 2), ("b", 1), ("a", 0)];
+    Ok(hands_out(cache, &one_less) && filled)
+}
+
+fn fills(cache: &mut Numbers) -> bool {
+    let filled = puts(cache, &LETTERS) && is(cache, &LAST_FIRST);
+    takes_one(cache, Front);
+    filled
 }
 
 /// A step from an end of the list at each entry would take minutes.
@@ -119,6 +138,10 @@ fn sum_from_both_ends(cache: &mut CLruCache<usize, u64>, number: usize) -> u64 {
     for key in 0..number {
         let _ = cache.put(key, 1);
     }
+    sum_of(cache, number)
+}
+
+fn sum_of(cache: &mut CLruCache<usize, u64>, number: usize) -> u64 {
     let mut sum = 0u64;
     let mut cursor = cache.iter_mut();
     for _ in 0..number {

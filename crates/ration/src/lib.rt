@@ -1,9 +1,10 @@
-//! An allocator for tests: it counts the requests that reach it and their bytes, and refuses those that it is told to refuse.
+//! An allocator that counts the requests that reach it and their bytes, and refuses those that it is told to refuse, or that
+//! pass a limit of bytes.
 //!
-//! A test lends it, as in `Vec::new(&heap)`. A growth, a `reserve_exact` and a shrink of a `Vec` make one request each: the
+//! An owner lends it, as in `Vec::new(&heap)`. A growth, a `reserve_exact` and a shrink of a `Vec` make one request each: the
 //! trait's own `grow` and `shrink` ask for the new block by `allocate`, and give the old one back by `deallocate`.
 //! It is proved that what it answers is a block of the inner allocator, of the size that was asked for. The counters are
-//! only tested, since no contract can say what a cell holds.
+//! only tested (`clru_owned_tests`), since no contract can say what a cell holds.
 #![tactic(auto)]
 
 use std::alloc::{AllocError, Allocator};
@@ -17,6 +18,8 @@ struct Book {
     given: Cell<u64>,
     returned: Cell<u64>,
     held_bytes: Cell<u64>,
+    /// The bytes that may be held at once.
+    limit_bytes: Cell<u64>,
     /// So many requests pass first,
     passing: Cell<u64>,
     /// and so many after them are refused.
@@ -39,6 +42,7 @@ impl<B: Allocator> Rationed<B> {
             given: Cell::new(0),
             returned: Cell::new(0),
             held_bytes: Cell::new(0),
+            limit_bytes: Cell::new(u64::MAX),
             passing: Cell::new(0),
             refusing: Cell::new(0),
         };
@@ -57,7 +61,13 @@ impl<B: Allocator> Rationed<B> {
         self.book.refusing.set(1);
     }
 
-    /// Lets all requests pass from now on.
+    /// Refuses each request that would bring the bytes of the blocks above so many, whatever else it is told: a heap of a
+    /// fixed size.
+    pub fn limit_bytes(&self, bytes: u64) {
+        self.book.limit_bytes.set(bytes);
+    }
+
+    /// Lets all requests pass from now on, but for the limit of bytes.
     pub fn refuse_none(&self) {
         self.book.refusing.set(0);
     }
@@ -92,6 +102,10 @@ impl<B: Allocator> Rationed<B> {
 fn refuses(book: &Book, size: usize) -> bool {
     add(&book.asked, 1);
     add(&book.asked_bytes, size as u64);
+    let limit = book.limit_bytes.get();
+    if size as u64 > limit.saturating_sub(book.held_bytes.get()) {
+        return true;
+    }
     let passing = book.passing.get();
     let refusing = book.refusing.get();
     if passing > 0 {
@@ -141,6 +155,3 @@ unsafe impl<B: Allocator> Allocator for Rationed<B> {
         self.inner.deallocate(ptr, size, align);
     }
 }
-
-#[cfg(test)]
-mod tests;

@@ -17,6 +17,7 @@ where
     A: Allocator + Copy,
 {
     /// Returns the most recently used entry, and leaves the order as it is.
+    /// Cost: no hash and no comparison.
     pub fn front(&self) -> Option<(&K, &V)>
         ensures { option_map deref_pair result ≡ slice_get self.now.entries 0 }
     {
@@ -24,6 +25,7 @@ where
     }
 
     /// Returns the least recently used entry, and leaves the order as it is.
+    /// Cost: no hash and no comparison.
     pub fn back(&self) -> Option<(&K, &V)>
         ensures { option_map deref_pair result ≡ slice_get self.now.entries (length self.now.entries - 1) }
     {
@@ -48,6 +50,7 @@ where
 
 impl<K: Eq + Hash, V, S: BuildHasher, A: Allocator + Copy> CLruCache<K, V, S, ZeroWeightScale, A> {
     /// Lends the most recently used entry for writing its value, and leaves the order as it is.
+    /// Cost: no hash and no comparison.
     pub fn front_mut(&mut self) -> Option<EntryMut<'_, K, V, S, A>>
         ensures* rests { sem 𝓛 (rests_if_none K.row V.row S.row A.row S.Hasher.row K.Hash S.BuildHasher S.Hasher.Hasher
             A.Allocator ⟦<ZeroWeightScale as WeightScale<K, V>>⟧ self.entry result) }
@@ -65,6 +68,7 @@ impl<K: Eq + Hash, V, S: BuildHasher, A: Allocator + Copy> CLruCache<K, V, S, Ze
     }
 
     /// Lends the least recently used entry for writing its value, and leaves the order as it is.
+    /// Cost: no hash and no comparison.
     pub fn back_mut(&mut self) -> Option<EntryMut<'_, K, V, S, A>>
         ensures* rests { sem 𝓛 (rests_if_none K.row V.row S.row A.row S.Hasher.row K.Hash S.BuildHasher S.Hasher.Hasher
             A.Allocator ⟦<ZeroWeightScale as WeightScale<K, V>>⟧ self.entry result) }

@@ -15,6 +15,7 @@ impl<K: Eq + Hash, V, S: BuildHasher, A: Allocator + Copy> CLruCache<K, V, S, Ze
     /// Puts each of the items in turn, as `put` does.
     ///
     /// The first refused put ends it: its pair comes back, the items before it stay put, and no later one is drawn.
+    /// Cost: that of one `put` for each item.
     ///
     /// ```rust
     /// let pages = Vec::from_array(rt.alloc(), [(1, 10), (2, 20), (3, 30)])?;
@@ -41,6 +42,7 @@ impl<K: Eq + Hash, V, S: BuildHasher, A: Allocator + Copy> CLruCache<K, V, S, Ze
     /// capacity is then the number of its entries, or 1 where there is none.
     ///
     /// The first put for which memory is refused ends it, and what was put is dropped.
+    /// Cost: that of one `put` for each item.
     ///
     /// ```rust
     /// let Ok(looks) = Vec::from_array(alloc, [(1, 10), (2, 20), (1, 30)]) else {

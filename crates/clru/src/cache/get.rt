@@ -20,6 +20,7 @@ where
     ///
     /// A look-up of a `String` key builds the key first: only keys are compared and hashed, so that each clause has one
     /// equality and one hash.
+    /// Cost: one hash and a walk along one chain.
     ///
     /// ```rust
     /// let key = page.to_string(alloc)?;
@@ -43,6 +44,7 @@ where
     }
 
     /// Returns the value of the key, and leaves the order as it is.
+    /// Cost: one hash and a walk along one chain.
     pub fn peek(&self, key: &K) -> Option<&V>
         ensures { option_copied result ≡ lookup (K.eq key.now) self.now.entries }
     {
@@ -50,6 +52,7 @@ where
     }
 
     /// Returns whether the key is held, and leaves the order as it is.
+    /// Cost: one hash and a walk along one chain.
     pub fn contains(&self, key: &K) -> bool
         ensures { result ≡ is_some (lookup (K.eq key.now) self.now.entries) }
     {
@@ -59,6 +62,7 @@ where
 
 impl<K: Eq + Hash, V, S: BuildHasher, A: Allocator + Copy> CLruCache<K, V, S, ZeroWeightScale, A> {
     /// Lends the value of the key for writing, and makes its entry the most recently used.
+    /// Cost: one hash and a walk along one chain.
     pub fn get_mut(&mut self, key: &K) -> Option<&mut V>
         ensures* lends { sem 𝓛 (lends_value K.row V.row S.row zero_scale_row A.row S.Hasher.row K.Hash S.BuildHasher
             S.Hasher.Hasher ⟦<ZeroWeightScale as WeightScale<K, V>>⟧ A.Allocator self.entry key.now
@@ -73,6 +77,7 @@ impl<K: Eq + Hash, V, S: BuildHasher, A: Allocator + Copy> CLruCache<K, V, S, Ze
     }
 
     /// Lends the value of the key for writing, and leaves the order as it is.
+    /// Cost: one hash and a walk along one chain.
     pub fn peek_mut(&mut self, key: &K) -> Option<&mut V>
         ensures* lends { sem 𝓛 (lends_value K.row V.row S.row zero_scale_row A.row S.Hasher.row K.Hash S.BuildHasher
             S.Hasher.Hasher ⟦<ZeroWeightScale as WeightScale<K, V>>⟧ A.Allocator self.entry key.now

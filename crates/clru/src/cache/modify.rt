@@ -20,6 +20,7 @@ impl<K: Eq + Hash, V, S: BuildHasher, A: Allocator + Copy> CLruCache<K, V, S, Ze
     ///
     /// A new entry drops the least recently used one of a full cache, after `put_op` has answered. Where memory is
     /// refused, the key and the data come back and no closure was called.
+    /// Cost: that of a `put`, and one call of a closure.
     ///
     /// ```rust
     /// let one_more = |_: &_, count: &mut u64, _| *count = count.saturating_add(1);
@@ -69,6 +70,7 @@ impl<K: Eq + Hash, V, S: BuildHasher, A: Allocator + Copy> CLruCache<K, V, S, Ze
     /// has gone from a full cache. If it is `modify_op`, its entry is the most recently used, with what it has written.
     /// Where memory is refused, the key and the data come back and no closure was called. Places for which memory was
     /// found stay.
+    /// Cost: that of a `put`, and one call of a closure.
     ///
     /// ```rust
     /// let add = |_: &u64, size: &mut u64, bytes| match size.checked_add(bytes) {

@@ -15,12 +15,14 @@ use std::hash::{BuildHasher, Hash};
 use std::num::NonZeroUsize;
 
 impl<K: Eq + Hash, V, A: Allocator + Copy> CLruCache<K, V, DefaultState, ZeroWeightScale, A> {
-    /// Creates a cache that holds at most `capacity` entries. It takes no memory.
+    /// Creates a cache that holds at most `capacity` entries.
+    /// Cost: no request for memory.
     ///
-    /// The allocator may be a reference, as to a heap of a fixed size from the kit, which then bounds the bytes:
+    /// The allocator may be a reference, as to a heap of a fixed size, which then bounds the bytes:
     ///
     /// ```rust
-    /// let heap = LocalHeap::new(rt.alloc(), 4096)?;
+    /// let heap = Rationed::new(rt.alloc());
+    /// heap.limit_bytes(4096);
     /// let mut squares = CLruCache::new(&heap, NonZeroUsize::MAX);
     /// ```
     pub fn new(alloc: A, capacity: NonZeroUsize) -> Self
@@ -30,7 +32,8 @@ impl<K: Eq + Hash, V, A: Allocator + Copy> CLruCache<K, V, DefaultState, ZeroWei
     }
 
     /// Creates a cache that holds at most `capacity` entries, with memory for `reserve` of them, or for all where `capacity`
-    /// is less. Without a reserve it takes no memory.
+    /// is less.
+    /// Cost: two requests for memory and a write of each head, or none of either without a reserve.
     pub fn with_memory(alloc: A, capacity: NonZeroUsize, reserve: usize) -> Result<Self, NoMemory>
         ensures empty { let size = non_zero_usize_get capacity in
             IfOk result (λ c. c ≡ cache [] size (record {}) (min reserve size)) }
@@ -45,7 +48,8 @@ impl<K: Eq + Hash, V, A: Allocator + Copy> CLruCache<K, V, DefaultState, ZeroWei
 }
 
 impl<K: Eq + Hash, V, S: BuildHasher, A: Allocator + Copy> CLruCache<K, V, S, ZeroWeightScale, A> {
-    /// Creates a cache that holds at most `capacity` entries and hashes keys with `hash_builder`. It takes no memory.
+    /// Creates a cache that holds at most `capacity` entries and hashes keys with `hash_builder`.
+    /// Cost: no request for memory.
     pub fn with_hasher(alloc: A, capacity: NonZeroUsize, hash_builder: S) -> Self
         ensures { result ≡ cache [] (non_zero_usize_get capacity) (record {}) 0 }
     {
@@ -61,7 +65,8 @@ impl<K: Eq + Hash, V, W: WeightScale<K, V>, A> CLruCache<K, V, DefaultState, W, 
 where
     A: Allocator + Copy,
 {
-    /// Creates a cache in which the number of entries and their weight by `scale` are at most `capacity`. It takes no memory.
+    /// Creates a cache in which the number of entries and their weight by `scale` are at most `capacity`.
+    /// Cost: no request for memory.
     pub fn with_scale(alloc: A, capacity: NonZeroUsize, scale: W) -> Self
         ensures { result ≡ cache [] (non_zero_usize_get capacity) scale 0 }
     {
@@ -78,8 +83,9 @@ where
     A: Allocator + Copy,
 {
     /// Creates a cache from its configuration: the capacity, the hash builder and the scale are the configured ones, and
-    /// there is memory for as many entries as its reserve says, or for `capacity` entries where that is less. Without a
-    /// reserve it takes no memory. Where memory is refused, the configuration comes back as it was.
+    /// there is memory for as many entries as its reserve says, or for `capacity` entries where that is less. Where
+    /// memory is refused, the configuration comes back as it was.
+    /// Cost: two requests for memory and a write of each head, or none of either without a reserve.
     pub fn with_config(
         alloc: A,
         config: CLruCacheConfig<K, V, S, W>,

@@ -22,8 +22,10 @@ where
     /// Whatever does not fit beside it is dropped, and nothing else: `on_drop` takes each of these pairs, the least recently
     /// used one first. The old entry of the key is not among them: its value is the answer. A pair that weighs as much as
     /// the capacity or more is refused as too heavy, whether its key is held or not. A refused pair comes back, and
-    /// `on_drop` is not called. The cost grows with the number of entries that are dropped, and no memory is taken for
-    /// handing them out.
+    /// `on_drop` is not called. No memory is taken for handing them out.
+    /// Cost: one weighing, one hash and a walk along one chain, for a new key two walks; for each pair that it drops a
+    /// weighing, a hash and a walk more, and a weighing for the old value of its key. A growth asks for memory twice and hashes
+    /// each held key once.
     ///
     /// ```rust
     /// match pages.put_with_weight(page, bytes, |_, _| {}) {
@@ -59,6 +61,7 @@ where
 
     /// `put_with_weight` for a closure that is lent. Its contract says what the closure ends as: a caller learns from what
     /// it captured which pairs were dropped, which a closure passed by value can't tell.
+    /// Cost: that of `put_with_weight`.
     pub fn put_with_weight_handing_to<F: FnMut(K, V)>(
         &mut self,
         key: K,
@@ -110,6 +113,8 @@ impl<K: Eq + Hash, V, S: BuildHasher, A: Allocator + Copy> CLruCache<K, V, S, Ze
     ///
     /// A new entry drops, or evicts, the least recently used one of a full cache. Where memory is refused, the pair comes
     /// back.
+    /// Cost: one hash and a walk along one chain, for a new key two walks; where it drops a pair, one hash and one walk more.
+    /// A growth asks for memory twice and hashes each held key once.
     pub fn put(&mut self, key: K, value: V) -> Result<Put<K, V>, (K, V)>
     where
         K: Drop,

@@ -16,8 +16,8 @@ where
 {
     /// Sets the capacity, and drops what does not fit it, the least recently used entry first and nothing else.
     ///
-    /// It takes no memory and gives none back: the places stay, also where they are more than the new capacity. The cost
-    /// grows with the number of entries that are dropped.
+    /// It takes no memory and gives none back: the places stay, also where they are more than the new capacity.
+    /// Cost: one hash, a walk along one chain and a weighing for each entry that goes.
     ///
     /// ```rust
     /// sizes.resize(NonZeroUsize::MIN);

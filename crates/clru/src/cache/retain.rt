@@ -15,6 +15,7 @@ where
 {
     /// Calls a closure at each entry once, the most recently used first, and removes those at which it answers `false`. The
     /// others stay in their order.
+    /// Cost: a call of the closure for each entry; one hash, a walk along one chain and a weighing for each that goes.
     ///
     /// ```rust
     /// sizes.retain(|_, size| *size > 4096);
@@ -34,6 +35,7 @@ where
 impl<K: Eq + Hash, V, S: BuildHasher, A: Allocator + Copy> CLruCache<K, V, S, ZeroWeightScale, A> {
     /// Calls a closure at each entry once, the most recently used first, and removes those at which it answers `false`. The
     /// others stay in their order, with the value that it left there.
+    /// Cost: a call of the closure for each entry; one hash and a walk along one chain for each that goes.
     pub fn retain_mut<F: FnMut(&K, &mut V) -> bool>(&mut self, keep: F)
     where
         K: Drop,

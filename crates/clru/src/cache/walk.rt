@@ -18,6 +18,7 @@ where
     A: Allocator + Copy,
 {
     /// Returns an iterator over the pairs, the most recently used first. The order stays as it is.
+    /// Cost: no hash and no comparison, of the call and of each step.
     pub fn iter(&self) -> CLruCacheIter<'_, K, V, A>
         ensures { result ≡ self.now.entries }
     {
@@ -29,6 +30,7 @@ where
 
 impl<K: Eq + Hash, V, S: BuildHasher, A: Allocator + Copy> CLruCache<K, V, S, ZeroWeightScale, A> {
     /// Returns a cursor over the entries, which lends each value for writing. Keys and order stay.
+    /// Cost: no hash and no comparison, of the call and of each step.
     ///
     /// ```rust
     /// let mut cursor = sizes.iter_mut();

@@ -12,6 +12,7 @@ use std::hash::{BuildHasher, Hash};
 
 impl<'a, K: Eq + Hash, V, S: BuildHasher, A: Allocator + Copy> CLruCacheIterMut<'a, K, V, S, A> {
     /// Returns the number of entries that are left.
+    /// Cost: a read.
     pub fn len(&self) -> usize
         ensures { result ≡ length (cursor_rest self.now) }
     {
@@ -19,6 +20,7 @@ impl<'a, K: Eq + Hash, V, S: BuildHasher, A: Allocator + Copy> CLruCacheIterMut<
     }
 
     /// Passes the first entry that is left and returns its value for writing, or nothing where none is left.
+    /// Cost: no hash and no comparison.
     pub fn next(&mut self) -> Option<&mut V>
         ensures* lends { sem 𝓛 (lends_next_if K.row V.row S.row A.row S.Hasher.row K.Hash S.BuildHasher S.Hasher.Hasher
             A.Allocator self.entry result) }
@@ -33,6 +35,7 @@ impl<'a, K: Eq + Hash, V, S: BuildHasher, A: Allocator + Copy> CLruCacheIterMut<
     }
 
     /// Passes the last entry that is left and returns its value for writing, or nothing where none is left.
+    /// Cost: no hash and no comparison.
     pub fn next_back(&mut self) -> Option<&mut V>
         ensures* lends { sem 𝓛 (lends_next_back_if K.row V.row S.row A.row S.Hasher.row K.Hash S.BuildHasher
             S.Hasher.Hasher A.Allocator self.entry result) }
@@ -48,6 +51,7 @@ impl<'a, K: Eq + Hash, V, S: BuildHasher, A: Allocator + Copy> CLruCacheIterMut<
     }
 
     /// Passes the first entry that is left and returns its key, with its value for writing.
+    /// Cost: no hash and no comparison.
     pub fn next_entry(&mut self) -> (&K, &mut V)
         requires { 0 < length (cursor_rest self.old) }
         ensures* lends { sem 𝓛 (lends_next K.row V.row S.row A.row S.Hasher.row K.Hash S.BuildHasher S.Hasher.Hasher
@@ -62,6 +66,7 @@ impl<'a, K: Eq + Hash, V, S: BuildHasher, A: Allocator + Copy> CLruCacheIterMut<
     }
 
     /// Passes the last entry that is left and returns its key, with its value for writing.
+    /// Cost: no hash and no comparison.
     pub fn next_entry_back(&mut self) -> (&K, &mut V)
         requires { 0 < length (cursor_rest self.old) }
         ensures* lends { sem 𝓛 (lends_next_back K.row V.row S.row A.row S.Hasher.row K.Hash S.BuildHasher

@@ -13,6 +13,7 @@ use std::ops::{Deref, DerefMut};
 
 impl<'a, K: Eq + Hash, V, S: BuildHasher, A: Allocator + Copy> EntryMut<'a, K, V, S, A> {
     /// Returns the key.
+    /// Cost: no hash and no comparison.
     pub fn key(&self) -> &K
         ensures { Some result.now ≡ option_map (λ e. e.0) (pair self.now) }
     {
@@ -20,6 +21,7 @@ impl<'a, K: Eq + Hash, V, S: BuildHasher, A: Allocator + Copy> EntryMut<'a, K, V
     }
 
     /// Returns the value for writing, for as long as the cache is lent.
+    /// Cost: no hash and no comparison.
     pub fn into_mut(self) -> &'a mut V
         ensures* lends { sem 𝓛 (lends_cache K.row V.row S.row A.row S.Hasher.row K.Hash S.BuildHasher S.Hasher.Hasher
             A.Allocator ⟦<ZeroWeightScale as WeightScale<K, V>>⟧ self.entry result) }

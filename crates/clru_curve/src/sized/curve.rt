@@ -39,6 +39,7 @@ impl<A: Allocator> Model for SizedCurve<A> {
 
 impl<A: Allocator> SizedCurve<A> {
     /// Returns the number of misses at the capacity, or `None` where that is not above the greatest weight.
+    /// Cost: steps that grow as the logarithm of the number of requests.
     pub fn misses(&self, capacity: NonZeroUsize) -> Option<usize>
         ensures refused { non_zero_usize_get capacity ≤ self.now.greatest_weight → IsNone result }
         ensures answer { self.now.greatest_weight < non_zero_usize_get capacity
@@ -51,6 +52,7 @@ impl<A: Allocator> SizedCurve<A> {
     }
 
     /// Returns the size of the requests that miss at the capacity, or `None` where that is not above the greatest weight.
+    /// Cost: steps that grow as the logarithm of the number of requests.
     pub fn missed_size(&self, capacity: NonZeroUsize) -> Option<usize>
         ensures refused { non_zero_usize_get capacity ≤ self.now.greatest_weight → IsNone result }
         ensures answer { self.now.greatest_weight < non_zero_usize_get capacity
@@ -66,6 +68,7 @@ impl<A: Allocator> SizedCurve<A> {
     }
 
     /// Returns the number of requests.
+    /// Cost: a read.
     pub fn requests(&self) -> usize
         ensures { result ≡ self.now.requests }
     {
@@ -73,6 +76,7 @@ impl<A: Allocator> SizedCurve<A> {
     }
 
     /// Returns the size of all requests together.
+    /// Cost: a read.
     pub fn size(&self) -> usize
         ensures { result ≡ self.now.size }
     {
@@ -80,6 +84,7 @@ impl<A: Allocator> SizedCurve<A> {
     }
 
     /// Returns the size of the distinct keys together: from that capacity on the misses stay the same.
+    /// Cost: a read.
     pub fn distinct_size(&self) -> usize
         ensures { result ≡ self.now.distinct_size }
     {
@@ -87,6 +92,7 @@ impl<A: Allocator> SizedCurve<A> {
     }
 
     /// Returns the greatest weight that was requested, or 0 where there were no requests.
+    /// Cost: a read.
     pub fn greatest_weight(&self) -> usize
         ensures { result ≡ self.now.greatest_weight }
     {
@@ -96,6 +102,7 @@ impl<A: Allocator> SizedCurve<A> {
     /// Returns the capacities at which the numbers fall, each with the size that is missed from there on, the least first.
     /// There is one for each request that can hit at all; where a capacity comes several times, its last one counts. Those that
     /// are not above the greatest weight are no answers: there a cache refuses puts.
+    /// Cost: a read.
     pub fn as_slice(&self) -> &[(usize, usize)]
         ensures steps { result.now ≡ self.now.steps }
         ensures rising { IsNonDecreasingBy (λ s. s.0) result.now }

@@ -17,8 +17,8 @@ use std::hash::{BuildHasher, Hash};
 /// A key weighs what the scale says of it with the value `()`. Keys that are the same are to weigh the same: else nothing is
 /// said of the curve. Keys that are not `Copy` are passed as references. The keys stay the caller's, and without keys no
 /// memory is asked for. Where memory is refused, a key comes back before which all sizes fit; where the sizes of all requests
-/// pass `usize::MAX`, the first with which they do. Cost and memory are those of a `SizedPass`, which also takes requests one
-/// by one.
+/// pass `usize::MAX`, the first with which they do. A `SizedPass` takes requests one by one.
+/// Cost: that of a `SizedPass` which takes each request, and is then turned into its curve.
 pub fn sized_curve<K, W, S, A>(
     alloc: A,
     keys: &[K],

@@ -4,7 +4,7 @@ ghost use Rattle.clru_model.specs.Sizes.{SameWeights, span};
 ghost use Rattle.clru_curve.specs.SizedPasses.{IsSizedPass, key_of, IsTooLarge};
 ghost use Rattle.clru_curve.specs.SizedCurves.{IsSizedCurveOf};
 
-use crate::pass::{copied, make_room, move_position, no_positions};
+use crate::pass::{copied, double_if_full, move_position, no_positions};
 use crate::sized::curve::SizedCurve;
 use crate::sized::error::SizedRequestError;
 use crate::sized::sizes::Sizes;
@@ -46,7 +46,8 @@ impl<K: Eq + Hash, S: BuildHasher, A: Allocator + Copy> Model for SizedPass<K, S
 }
 
 impl<K: Eq + Hash, A: Allocator + Copy> SizedPass<K, DefaultState, A> {
-    /// Creates a pass that has taken no request. It takes no memory.
+    /// Creates a pass that has taken no request.
+    /// Cost: no request for memory.
     pub fn new(alloc: A) -> Self
         ensures { (w : K → ℕ) → IsSizedPass K.eq w [] result }
     {
@@ -55,7 +56,8 @@ impl<K: Eq + Hash, A: Allocator + Copy> SizedPass<K, DefaultState, A> {
 }
 
 impl<K: Eq + Hash, S: BuildHasher, A: Allocator + Copy> SizedPass<K, S, A> {
-    /// Creates a pass that has taken no request and hashes keys with `hash_builder`. It takes no memory.
+    /// Creates a pass that has taken no request and hashes keys with `hash_builder`.
+    /// Cost: no request for memory.
     pub fn with_hasher(alloc: A, hash_builder: S) -> Self
         ensures { (w : K → ℕ) → IsSizedPass K.eq w [] result }
     {
@@ -73,8 +75,9 @@ impl<K: Eq + Hash, S: BuildHasher, A: Allocator + Copy> SizedPass<K, S, A> {
     /// capacities from the span on, and at no other.
     ///
     /// Where memory is refused, or the sizes of all requests, this one among them, pass `usize::MAX`, the key comes back and
-    /// the pass is as before. The cost is a look-up, and for a new key a put, besides steps that go with the logarithm of the
-    /// number of requests.
+    /// the pass is as before.
+    /// Cost: one hash and a walk along one chain, for a new key those of a `put` too; and steps that grow as the logarithm of
+    /// the number of requests.
     pub fn request(&mut self, key: K, weight: usize) -> Result<Option<usize>, SizedRequestError<K>>
     where
         K: Drop,
@@ -110,7 +113,7 @@ impl<K: Eq + Hash, S: BuildHasher, A: Allocator + Copy> SizedPass<K, S, A> {
                 Ok(Some(span))
             }
             None => {
-                make_room(&mut self.positions);
+                double_if_full(&mut self.positions);
                 if let Err((key, _)) = self.positions.put(key, number) {
                     return Err(SizedRequestError::NoMemory(key));
                 }
@@ -122,7 +125,8 @@ impl<K: Eq + Hash, S: BuildHasher, A: Allocator + Copy> SizedPass<K, S, A> {
         }
     }
 
-    /// Returns the curve of the requests so far. It takes no memory; the spans are sorted.
+    /// Returns the curve of the requests so far.
+    /// Cost: a sort of the spans; no request for memory.
     pub fn into_curve(self) -> SizedCurve<A>
     where
         K: Drop,
@@ -140,8 +144,9 @@ impl<K: Eq + Hash, S: BuildHasher, A: Allocator + Copy> SizedPass<K, S, A> {
         SizedCurve::from_hits(hits, latest.sizes.len(), size, latest.total(), greatest)
     }
 
-    /// Returns the curve of the requests so far, and lets the pass go on. It takes memory for two numbers for each request that
-    /// asked for a key again, and none without requests; the spans are sorted.
+    /// Returns the curve of the requests so far, and lets the pass go on.
+    /// Cost: a sort of the spans; one request for memory, of two numbers for each request that asked for a key again, and none
+    /// without requests.
     pub fn curve(&self, alloc: A) -> Result<SizedCurve<A>, NoMemory>
         ensures curve { (w : K → ℕ) (past : List K) → IsSizedPass K.eq w past self.now
             → IfOk result (λ c. IsSizedCurveOf K.eq w (reverse past) c) }

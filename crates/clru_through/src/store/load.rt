@@ -30,9 +30,10 @@ impl<
     ///
     /// What does not fit beside a fetched value is dropped, the least recently used entry first. A value that weighs as much
     /// as the capacity or more, and one for which no memory was found, is passed on, and no entry changes; nor does one where
-    /// the fetch fails, whose error comes out. A held key is searched for once, another one twice.
+    /// the fetch fails, whose error comes out.
     ///
     /// The answer says whether it was fetched. After `Held` the value is that of `front`, and of `peek` of the key.
+    /// Cost: one hash and a walk along one chain; where the key is not held, also a fetch and what a `put_with_weight` costs.
     #[tactic(auto, using(crate::proofs::Sourced::sourced_by))]
     pub fn load(&mut self, key: K) -> Result<Loaded<V>, E>
     where
@@ -58,6 +59,7 @@ impl<
     /// Returns the value of the key, and makes it the most recently used one. It is fetched first if it is not held.
     ///
     /// It is a load, which says what the store is afterwards, and a look at its front.
+    /// Cost: one hash and a walk along one chain; where the key is not held, also a fetch and what a `put_with_weight` costs.
     pub fn get(&mut self, key: K) -> Result<Answer<'_, V>, E>
     where
         K: Drop,
@@ -78,6 +80,7 @@ impl<
 
     /// Returns the most recently used key with its value, which after a load that answered `Held` are those of its key.
     /// Nothing is fetched, and the order stays as it is.
+    /// Cost: no hash and no comparison.
     pub fn front(&self) -> Option<(&K, &V)>
         ensures entry { option_map deref_pair result ≡ slice_get self.now.cache.entries 0 }
         ensures value { IfSome result (λ e. R.value self.now.source e.0.now ≡ Some e.1.now) }
@@ -86,6 +89,7 @@ impl<
     }
 
     /// Returns the value of the key if it is held. Nothing is fetched, and the order stays as it is.
+    /// Cost: one hash and a walk along one chain.
     pub fn peek(&self, key: &K) -> Option<&V>
         ensures held { option_copied result ≡ lookup (K.eq key.now) self.now.cache.entries }
         ensures value { IfSome result (λ v. R.value self.now.source key.now ≡ Some v.now) }

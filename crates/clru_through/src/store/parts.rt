@@ -18,6 +18,7 @@ impl<
     A: Allocator + Copy,
 > Through<K, V, E, R, S, W, A> {
     /// Lends the cache for reading: its walks, `contains`, `is_full` and the like are its own.
+    /// Cost: a read.
     pub fn cache(&self) -> &CLruCache<K, V, S, W, A>
         ensures cache { result.now ≡ self.now.cache }
         ensures from_source { AllFrom (R.value self.now.source) self.now.cache.entries }
@@ -26,6 +27,7 @@ impl<
     }
 
     /// Lends the source for reading, as what it counts.
+    /// Cost: a read.
     pub fn source(&self) -> &R
         ensures { result.now ≡ self.now.source }
     {
@@ -33,6 +35,7 @@ impl<
     }
 
     /// Takes the store apart.
+    /// Cost: a move.
     pub fn into_parts(self) -> (CLruCache<K, V, S, W, A>, R)
         ensures parts { result ≡ (self.cache, self.source) }
         ensures from_source { AllFrom (R.value self.source) self.cache.entries }

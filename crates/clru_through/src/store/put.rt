@@ -25,6 +25,7 @@ impl<
     ///
     /// What does not fit beside it is dropped, as in a load. A value that is too heavy, and one for which no memory was found,
     /// comes back, and no entry changes.
+    /// Cost: that of a `put_with_weight`.
     pub fn put(&mut self, key: K, value: V) -> Result<(), V>
     where
         K: Drop,

@@ -24,6 +24,7 @@ impl<
     /// Takes the value of the key out, and returns it. The next load of the key fetches it again.
     ///
     /// Its place stays ready.
+    /// Cost: one hash and a walk along one chain, and a weighing of what goes.
     pub fn pop(&mut self, key: &K) -> Option<V>
     where
         K: Drop,
@@ -37,6 +38,7 @@ impl<
     }
 
     /// Takes all values out. Their places stay ready.
+    /// Cost: a drop of each value and a write of each head; no hash.
     pub fn clear(&mut self)
     where
         K: Drop,
@@ -49,6 +51,7 @@ impl<
     /// Sets the capacity, and drops what does not fit it, the least recently used value first and nothing else.
     ///
     /// It takes no memory and gives none back.
+    /// Cost: one hash, a walk along one chain and a weighing for each value that goes.
     pub fn resize(&mut self, capacity: NonZeroUsize)
     where
         K: Drop,

@@ -12,6 +12,7 @@ returns-then-has_within-clause-codes g c =
       too_large = search rules;
       not_too_large = search rules;
       too_small = λ _. let (i, inside, at) = c.has_within.ensures.some c.if-has_within.true in (i, inside, omega (arith, at, greatest));
+      small_alone = search rules;
       none_too_small = search rules;
       known = search rules;
     }
@@ -31,6 +32,7 @@ returns-clause-codes g c =
       too_large = search rules;
       not_too_large = search rules;
       too_small = search rules;
+      small_alone = search rules;
       none_too_small = λ _ i inside. omega (arith, c.has_within.ensures.none c.if-has_within.false i inside, greatest);
       known = search rules;
     }

@@ -1,11 +1,13 @@
 use Rattle.std.proofs.Common.{[]}
-use Rattle.clru_model.proofs.SizedRuns.{held_before_marks_by_size}
+use Rattle.clru_model.proofs.KeyedRuns.{sized_puts_hit, touches_are_puts}
 use Rattle.clru_model.proofs.Spans as spans
 use Rattle.clru_model.proofs.laws.law_sizes.Goals as goal
 
 pub returns-clause-puts : goal.returns-clause-puts
-returns-clause-puts g c weight pair_weight capacity requests later same by_key =
-    held_before_marks_by_size g.K.PartialEq.eq g.met.K.Eq.laws weight same pair_weight by_key capacity requests later
+returns-clause-puts g c = sized_puts_hit g.K.PartialEq.eq g.row.V.Denot g.met.K.Eq.laws
+
+pub returns-clause-gets : goal.returns-clause-gets
+returns-clause-gets g c = touches_are_puts g.K.PartialEq.eq g.row.V.Denot g.met.K.Eq.laws
 
 pub returns-clause-hits : goal.returns-clause-hits
 returns-clause-hits g c = spans.hits_within g.K.PartialEq.eq
@@ -41,3 +43,6 @@ returns-clause-weightless_marks g c weight size requests none =
 pub returns-clause-weightless_size : goal.returns-clause-weightless_size
 returns-clause-weightless_size g c weight size requests none =
     spans.missed_weightless g.K.PartialEq.eq weight none size [] requests
+
+pub returns-clause-weightless_span : goal.returns-clause-weightless_span
+returns-clause-weightless_span g c weight x past none = spans.span_weightless g.K.PartialEq.eq weight none x past

@@ -130,7 +130,7 @@ invariant_of-self-in-Err g c =
     record {
       latest = e.kept;
       past = inv.past;
-      taken = rw (c.in-Err.ensures.entries, c.make_room.ensures.entries, same, e.requests, c.reserve.ensures.items)
+      taken = rw (c.in-Err.ensures.entries, c.double_if_full.ensures.entries, same, e.requests, c.reserve.ensures.items)
           (IsPass-same eq inv.past s.positions.entries s.latest.words.items c.make_ready.new.self.words.items s.latest.requests s.histogram.items e.ones inv.taken);
     }
 
@@ -138,7 +138,7 @@ pub returns-in-Err-clause-refused : goal.returns-in-Err-clause-refused
 returns-in-Err-clause-refused g c past before =
     let eq = g.K.PartialEq.eq in let s = c.self.inside in let e = c.make_ready.ensures in
     let same = c.in-None.ensures.same refl in
-    rw (c.in-Err.ensures.entries, c.make_room.ensures.entries, same, e.requests, c.reserve.ensures.items)
+    rw (c.in-Err.ensures.entries, c.double_if_full.ensures.entries, same, e.requests, c.reserve.ensures.items)
     (IsPass-same eq past s.positions.entries s.latest.words.items c.make_ready.new.self.words.items s.latest.requests s.histogram.items e.ones
     (subst (λ v. IsPass eq past v) (sym c.self.view_is) before))
 
@@ -146,21 +146,21 @@ pub invariant_of-self-in-None : goal.invariant_of-self-in-None
 invariant_of-self-in-None g c =
     let eq = g.K.PartialEq.eq in let laws = g.met.K.Eq.laws in let s = c.self.inside in let inv = c.self.invariant in let e = c.make_ready.ensures in
     let same = c.in-None.ensures.same refl in let n = s.latest.requests in
-    let room : length s.positions.entries < c.make_room.new.positions.capacity =
-    omega (arith, c.make_room.ensures.room, ap (λ l. length l) (c.make_room.ensures.entries ∙ ap (λ m. m.entries) same)) in
+    let room : length s.positions.entries < c.double_if_full.new.positions.capacity =
+    omega (arith, c.double_if_full.ensures.room, ap (λ l. length l) (c.double_if_full.ensures.entries ∙ ap (λ m. m.entries) same)) in
     record {
       latest = c.push-in-None.ensures.kept;
       past = c.args.key ∷ inv.past;
       taken = rw (
         c.in_default-put.ensures.entries,
-        c.make_room.ensures.entries,
+        c.double_if_full.ensures.entries,
         same,
         c.push-in-None.ensures.requests,
         e.requests,
         c.push_reserved.ensures.items,
         c.reserve.ensures.items,
       )
-          (IsPass-new eq laws inv.past s.positions.entries s.latest.words.items n s.histogram.items c.args.key inv.taken c.make_room.new.positions.capacity
+          (IsPass-new eq laws inv.past s.positions.entries s.latest.words.items n s.histogram.items c.args.key inv.taken c.double_if_full.new.positions.capacity
           c.push-in-None.new.self.words.items (sym c.in-None.ensures.found) room
           (λ q. omega (arith, c.push-in-None.ensures.ones q, e.ones q, ap (λ r. up_to q r) e.requests)));
     }
@@ -170,10 +170,10 @@ returns-in_default-put-clause-taken g c past before =
     let eq = g.K.PartialEq.eq in let laws = g.met.K.Eq.laws in let s = c.self.inside in let inv = c.self.invariant in let e = c.make_ready.ensures in
     let is = subst (λ v. IsPass eq past v) (sym c.self.view_is) before in
     let same = c.in-None.ensures.same refl in let n = s.latest.requests in
-    let room : length s.positions.entries < c.make_room.new.positions.capacity =
-    omega (arith, c.make_room.ensures.room, ap (λ l. length l) (c.make_room.ensures.entries ∙ ap (λ m. m.entries) same)) in
-    rw (c.in_default-put.ensures.entries, c.make_room.ensures.entries, same, c.push-in-None.ensures.requests, e.requests, c.push_reserved.ensures.items, c.reserve.ensures.items)
-    (IsPass-new eq laws past s.positions.entries s.latest.words.items n s.histogram.items c.args.key is c.make_room.new.positions.capacity
+    let room : length s.positions.entries < c.double_if_full.new.positions.capacity =
+    omega (arith, c.double_if_full.ensures.room, ap (λ l. length l) (c.double_if_full.ensures.entries ∙ ap (λ m. m.entries) same)) in
+    rw (c.in_default-put.ensures.entries, c.double_if_full.ensures.entries, same, c.push-in-None.ensures.requests, e.requests, c.push_reserved.ensures.items, c.reserve.ensures.items)
+    (IsPass-new eq laws past s.positions.entries s.latest.words.items n s.histogram.items c.args.key is c.double_if_full.new.positions.capacity
     c.push-in-None.new.self.words.items (sym c.in-None.ensures.found) room
     (λ q. omega (arith, c.push-in-None.ensures.ones q, e.ones q, ap (λ r. up_to q r) e.requests)))
 
@@ -183,8 +183,8 @@ returns-in_default-put-clause-distance g c past before =
     let is = subst (λ v. IsPass eq past v) (sym c.self.view_is) before in
     distance_none eq g.met.K.Eq.laws past s.positions.entries s.latest.words.items s.latest.requests s.histogram.items c.args.key is (sym c.in-None.ensures.found)
 
-pub make_room-requires : goal.make_room-requires
-make_room-requires g c =
+pub double_if_full-requires : goal.double_if_full-requires
+double_if_full-requires g c =
     let few = c.self.invariant.taken.ranked.few in
     omega (
       arith,

@@ -8,6 +8,6 @@ returns-clause-links g c =
     cc (
       c.set_prev.ensures.links,
       ap (λ l. set_prev l next place) c.set_next.ensures.links,
-      ap (λ l. set_prev (set_next l prev place) next place) c.follow.ensures.links,
-      ap (λ l. set_prev (set_next (set_prev l place prev) prev place) next place) c.lead.ensures.links,
+      ap (λ l. set_prev (set_next l prev place) next place) c.write_prev.ensures.links,
+      ap (λ l. set_prev (set_next (set_prev l place prev) prev place) next place) c.write_next.ensures.links,
     )

@@ -37,14 +37,14 @@ invariant_of-self-in-None g c =
     let eq = g.K.PartialEq.eq in let laws = g.met.K.Eq.laws in let s = c.self.inside in let inv = c.self.invariant in
     let ss = s.latest.sizes.items in let e = c.make_ready.ensures in
     let same = c.in-None.ensures.same refl in
-    let room : length s.positions.entries < c.make_room.new.positions.capacity =
-    omega (arith, c.make_room.ensures.room, ap (λ l. length l) (c.make_room.ensures.entries ∙ ap (λ m. m.entries) same)) in
+    let room : length s.positions.entries < c.double_if_full.new.positions.capacity =
+    omega (arith, c.double_if_full.ensures.room, ap (λ l. length l) (c.double_if_full.ensures.entries ∙ ap (λ m. m.entries) same)) in
     let number : c.len-number.result ≡ length ss = omega (arith, c.len-number.ensures, c.make_ready.new.self.sizes.ok.0, ap (λ l. length l) e.sizes) in
     let grown = c.push-in-None.ensures.sizes ∙ ap (λ l. l ++ (c.args.weight + 1) ∷ []) e.sizes in
-    rw (c.in_default-put.ensures.entries, c.make_room.ensures.entries, same, grown, c.reserve.ensures.items, number)
+    rw (c.in_default-put.ensures.entries, c.double_if_full.ensures.entries, same, grown, c.reserve.ensures.items, number)
     (IsSoundBySize-new eq laws s.positions.entries ss s.hits.items s.size s.greatest c.args.key s.latest.nodes.items inv
     c.args.weight c.greater-greatest.result (omega (arith, c.if-weight-self.false, inv.fits)) c.push-in-None.new.self.nodes.items
-    c.make_room.new.positions.capacity room (sym c.in-None.ensures.found)
+    c.double_if_full.new.positions.capacity room (sym c.in-None.ensures.found)
     (subst (λ l. IsSummed l c.push-in-None.new.self.nodes.items) grown c.push-in-None.ensures.kept))
 
 pub returns-in_default-put-clause-taken : goal.returns-in_default-put-clause-taken
@@ -53,15 +53,15 @@ returns-in_default-put-clause-taken g c w past same_weights before weighs =
     let ss = s.latest.sizes.items in let e = c.make_ready.ensures in
     let is = subst (λ v. IsSizedPass eq w past v) (sym c.self.view_is) before in
     let same = c.in-None.ensures.same refl in
-    let room : length s.positions.entries < c.make_room.new.positions.capacity =
-    omega (arith, c.make_room.ensures.room, ap (λ l. length l) (c.make_room.ensures.entries ∙ ap (λ m. m.entries) same)) in
+    let room : length s.positions.entries < c.double_if_full.new.positions.capacity =
+    omega (arith, c.double_if_full.ensures.room, ap (λ l. length l) (c.double_if_full.ensures.entries ∙ ap (λ m. m.entries) same)) in
     let number : c.len-number.result ≡ length ss = omega (arith, c.len-number.ensures, c.make_ready.new.self.sizes.ok.0, ap (λ l. length l) e.sizes) in
     let grown = c.push-in-None.ensures.sizes ∙ ap (λ l. l ++ (c.args.weight + 1) ∷ []) e.sizes in
-    rw (c.in_default-put.ensures.entries, c.make_room.ensures.entries, same, grown, c.reserve.ensures.items, number)
+    rw (c.in_default-put.ensures.entries, c.double_if_full.ensures.entries, same, grown, c.reserve.ensures.items, number)
     (IsSizedPass-new eq laws s.positions.entries ss s.hits.items s.size s.greatest c.args.key w past is same_weights c.args.weight weighs
-    c.greater-greatest.result c.greater-greatest.ensures c.make_room.new.positions.capacity (sym c.in-None.ensures.found) room)
+    c.greater-greatest.result c.greater-greatest.ensures c.double_if_full.new.positions.capacity (sym c.in-None.ensures.found) room)
 
-pub make_room-requires : goal.make_room-requires
-make_room-requires g c =
+pub double_if_full-requires : goal.double_if_full-requires
+double_if_full-requires g c =
     let inv = c.self.invariant in
     omega (arith, inv.few_keys, inv.many, inv.fits, c.if-weight-self.false, ap (λ l. length l) (ap (λ m. m.entries) (c.in-None.ensures.same refl)))

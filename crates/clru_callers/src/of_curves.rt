@@ -1,0 +1,79 @@
+//! Callers that are proved over the contracts of curves and the laws alone.
+ghost use Rattle.std.specs.Prelude.{◌≡◌, ℕ, ◌+◌, ◌*◌, ◌≤◌, length, reverse, nat_eq, IfSome};
+ghost use Rattle.std.specs.Int.NonZero.{non_zero_usize_get};
+ghost use Rattle.std.specs.List.{All};
+ghost use Rattle.clru_model.specs.ByPosition.{IsFirstAt};
+ghost use Rattle.clru_model.specs.Requests.{distinct, misses};
+ghost use Rattle.clru_model.specs.Sizes.{misses_by_size, missed_size};
+ghost use Rattle.clru_model.specs.SpansByPosition.{IsSumOf, size_at};
+ghost use Rattle.clru_curve.specs.SizedCurves.{size_of_all};
+
+use clru_curve::{
+    DefaultState, NonZeroUsize, WeightScale, law_bounds, law_spans_by_position, miss_curve,
+    sized_curve,
+};
+use std::alloc::Global;
+
+/// The number of requests that hit. First requests are not among them. `None` is for want of memory.
+pub fn hits_at(alloc: Global, pages: &[usize], capacity: NonZeroUsize) -> Option<usize>
+    ensures hits { IfSome result (λ n. n + misses nat_eq (non_zero_usize_get capacity) pages.now ≡ length pages.now) }
+    ensures not_first { IfSome result (λ n. n + distinct nat_eq (reverse pages.now) ≤ length pages.now) }
+{
+    law_bounds::<usize>();
+    match miss_curve(alloc, pages, DefaultState) {
+        Ok(curve) => Some(pages.len() - curve.misses(capacity)),
+        Err(_) => None,
+    }
+}
+
+/// The misses of pages that weigh nothing. As much room misses no fewer of pages that weigh something, and room for so many of
+/// the greatest no more. `None` is for want of memory.
+pub fn misses_between(alloc: Global, pages: &[usize], capacity: NonZeroUsize) -> Option<usize>
+    ensures below { (weight : ℕ → ℕ)
+        → IfSome result (λ n. n ≤ misses_by_size nat_eq weight (non_zero_usize_get capacity) pages.now) }
+    ensures above { (weight : ℕ → ℕ) (g : ℕ) → All (λ page. weight page ≤ g) pages.now
+        → IfSome result (λ n. misses_by_size nat_eq weight ((g + 1) * non_zero_usize_get capacity) pages.now ≤ n) }
+{
+    law_bounds::<usize>();
+    match miss_curve(alloc, pages, DefaultState) {
+        Ok(curve) => Some(curve.misses(capacity)),
+        Err(_) => None,
+    }
+}
+
+/// The size of the requests that hit. `None` is for a refusal, and for a capacity that is not above each weight.
+pub fn size_hit<W: WeightScale<usize, ()> + Drop>(
+    alloc: Global,
+    pages: &[usize],
+    scale: W,
+    capacity: NonZeroUsize,
+) -> Option<usize>
+    ensures { IfSome result (λ n.
+        n + missed_size nat_eq (λ page. W.weight scale page tt) (non_zero_usize_get capacity) pages.now
+        ≡ size_of_all (λ page. W.weight scale page tt) pages.now) }
+{
+    law_bounds::<usize>();
+    let Ok(curve) = sized_curve(alloc, pages, scale, DefaultState) else {
+        return None;
+    };
+    match curve.missed_size(capacity) {
+        Some(missed) => Some(curve.size() - missed),
+        None => None,
+    }
+}
+
+/// The size of all pages, each by its first request. `None` is for a refusal.
+pub fn size_of_pages<W: WeightScale<usize, ()> + Drop>(
+    alloc: Global,
+    pages: &[usize],
+    scale: W,
+) -> Option<usize>
+    ensures { IfSome result (λ n. IsSumOf (IsFirstAt nat_eq pages.now)
+        (size_at (λ page. W.weight scale page tt) pages.now) n) }
+{
+    law_spans_by_position::<usize>();
+    match sized_curve(alloc, pages, scale, DefaultState) {
+        Ok(curve) => Some(curve.distinct_size()),
+        Err(_) => None,
+    }
+}

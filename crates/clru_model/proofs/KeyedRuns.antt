@@ -1,0 +1,98 @@
+-- Runs of puts by weight in which each pair that is put weighs what its key does: by the weights of the keys they are the same.
+use Rattle.std.proofs.Common.{◌≡◌, ℕ, suc, ◌+◌, ◌-◌, ◌≤◌, Bool, true, Some, List, [], ◌∷◌, refl, sym, ap, ◌∙◌, subst, arith}
+use Rattle.std.specs.Cmp.{IsEquivalence}
+use Rattle.std.specs.List.{AllByRecursion}
+use Rattle.std.specs.Map.{keys_of, lookup_entry}
+use Rattle.clru_model.specs.Entries.{without, size_of, fit, weighted_put}
+use Rattle.clru_model.specs.Requests.{holds}
+use Rattle.clru_model.specs.SizedRuns.{IsSizedPutRun, PutsWeighAsKeys, SizedPutsHit, TouchesArePuts}
+use Rattle.clru_model.proofs.Cases.{split}
+use Rattle.clru_model.proofs.Fitting.{size_of-cons, sublist_fit, whole_is_too_long, too_long_fits}
+use Rattle.clru_model.proofs.SizedRuns.{held_before_marks_by_size}
+use Rattle.clru_model.proofs.Sublists.{All-sublist, sublist_trans, sublist_remove_entry}
+
+module _ {K V : Type 0} (eq : K → K → Bool) (weight : K → ℕ) (pair_weight : K → V → ℕ) where
+  -- each pair weighs what its key does
+  abbrev WeighAsKeys : List (K × V) → Type 0
+  WeighAsKeys es = AllByRecursion (λ (e : K × V). pair_weight e.0 e.1 ≡ weight e.0) es
+
+  abbrev key_weight : K → V → ℕ
+  key_weight k v = weight k
+
+  -- what fits is the same by the keys
+  fit-by_key : (c : ℕ) (es : List (K × V)) → WeighAsKeys es → fit pair_weight c es ≡ fit key_weight c es
+  unfolding fit
+  fit-by_key c [] all = refl
+  fit-by_key c (e ∷ es) all = rw (all.0, fit-by_key (c - (1 + weight e.0)) es all.1) refl
+
+  -- of what a put leaves too each pair weighs what its key does
+  WeighAsKeys_put : (c : ℕ) (x : K) (v : V) (es : List (K × V)) → pair_weight x v ≡ weight x → WeighAsKeys es
+      → WeighAsKeys (weighted_put eq pair_weight c x v es)
+  WeighAsKeys_put c x v es first all =
+      let rest = without eq x es in
+      let kept = sublist_fit pair_weight (c - 1 - pair_weight x v) rest in
+      (first, All-sublist (λ (e : K × V). pair_weight e.0 e.1 ≡ weight e.0) (sublist_trans (sublist_remove_entry (eq x) es) kept) all)
+
+  -- and it is the same by the keys
+  weighted_put-by_key : (c : ℕ) (x : K) (v : V) (es : List (K × V)) → pair_weight x v ≡ weight x → WeighAsKeys es
+      → weighted_put eq pair_weight c x v es ≡ weighted_put eq key_weight c x v es
+  weighted_put-by_key c x v es first all =
+      let less = All-sublist (λ (e : K × V). pair_weight e.0 e.1 ≡ weight e.0) (sublist_remove_entry (eq x) es) all in
+      rw first (ap (λ l. (x, v) ∷ l) (fit-by_key (c - 1 - weight x) (without eq x es) less))
+
+  -- so the run is one by the keys
+  run_by_key : (c : ℕ) (es : List (K × V)) (later : List (List (K × V))) (rs : List K) → WeighAsKeys es
+      → PutsWeighAsKeys weight pair_weight later → IsSizedPutRun eq pair_weight c (es ∷ later) rs
+      → IsSizedPutRun eq key_weight c (es ∷ later) rs
+  run_by_key c es later [] all puts run = run
+  run_by_key c es [] (x ∷ rs) all puts run = absurd run.0
+  run_by_key c es (next ∷ later) (x ∷ rs) all puts run =
+      let p = run.0 in
+      let kept = fit pair_weight (c - 1 - pair_weight p.key p.value) (without eq p.key es) in
+      let first = puts 0 p.key p.value kept (ap Some p.entries) in
+      let after = subst (λ l. WeighAsKeys l) (sym p.entries) (WeighAsKeys_put c p.key p.value es first all) in (
+        record {
+          key = p.key;
+          value = p.value;
+          same = p.same;
+          light = omega (arith, first, p.light);
+          entries = p.entries ∙ weighted_put-by_key c p.key p.value es first all;
+        },
+        run_by_key c next later rs after (λ i. puts (suc i)) run.1,
+      )
+
+module _ {K V : Type 0} (eq : K → K → Bool) (pair_weight : K → V → ℕ) where
+  -- a key that is held has an entry, beside which the others are less by its size
+  held_entry : (x : K) (es : List (K × V)) → holds eq x (keys_of es) ≡ true → (e : K × V) × (lookup_entry (eq x) es ≡ Some e)
+      × (eq x e.0 ≡ true) × (1 + pair_weight e.0 e.1 + size_of pair_weight (without eq x es) ≡ size_of pair_weight es)
+  held_entry x [] h = cc
+  held_entry x (e ∷ es) h =
+      split (eq x e.0)
+      (λ t. (e, rw t refl, t, rw t (sym (size_of-cons pair_weight e es))))
+      (λ f. let (d, found, same, size) = held_entry x es (rw f at h) in
+      (d, rw f found, same, rw f (omega (arith, size_of-cons pair_weight e (without eq x es), size_of-cons pair_weight e es, size))))
+
+  -- keys that are the same have the same entry
+  without_same : IsEquivalence eq → (x y : K) (es : List (K × V)) → eq x y ≡ true → without eq x es ≡ without eq y es
+  without_same laws x y [] same = refl
+  without_same laws x y (e ∷ es) same = rw (laws.congr x y e.0 same, without_same laws x y es same) refl
+
+module _ {K : Type 0} (eq : K → K → Bool) (V : Type 0) where
+  pub sized_puts_hit : IsEquivalence eq → SizedPutsHit eq V
+  sized_puts_hit laws weight pair_weight c rs later same puts run =
+      held_before_marks_by_size eq laws weight same (λ k (v : V). weight k) (λ k v. refl) c rs later
+      (run_by_key eq weight pair_weight c [] later rs tt puts run)
+
+  pub touches_are_puts : IsEquivalence eq → TouchesArePuts eq V
+  touches_are_puts laws pair_weight c x es small held =
+      let (e, found, same, size) = held_entry eq pair_weight x es held in
+      let rest = without eq x es in
+      let room : size_of pair_weight rest ≤ c - 1 - pair_weight e.0 e.1 = omega (arith, size, small) in
+      let all = too_long_fits pair_weight (c - 1 - pair_weight e.0 e.1) rest rest (whole_is_too_long pair_weight (c - 1 - pair_weight e.0 e.1) rest) room in
+      record {
+        key = e.0;
+        value = e.1;
+        same = same;
+        light = omega (arith, size, small);
+        entries = rw (found, ← without_same eq pair_weight laws x e.0 es same) (ap (λ l. e ∷ l) all);
+      }

@@ -1,7 +1,0 @@
-use Rattle.std.proofs.Common.{map}
-use Rattle.std.specs.Int.NonZero.{non_zero_usize_get}
-use Rattle.clru_mrc.proofs.Falls.{IsChosen}
-use Rattle.clru_mrc.proofs.sized.capacities.each_fall_by_size.Given as goal
-
-abbrev pub invariant-loop-step : goal.invariant-loop-step
-invariant-loop-step g l = IsChosen l.curve l.last l.step-index (map non_zero_usize_get l.chosen.items)

@@ -1,0 +1,50 @@
+//! Readers and writers that fail.
+
+use std::io::{self, ErrorKind, Read, Write};
+
+/// Gives its bytes one by one, and then an error of the kind.
+#[derive(Drop)]
+pub(crate) struct Breaking<'a> {
+    pub(crate) left: &'a [u8],
+    pub(crate) kind: ErrorKind,
+    pub(crate) calls: usize,
+}
+
+impl<'a> Read for Breaking<'a> {
+    fn read(&mut self, buf: &mut [u8]) -> io::Result<usize> {
+        self.calls = self.calls.saturating_add(1);
+        match (self.left.split_first(), buf.first_mut()) {
+            (Some((byte, rest)), Some(place)) => {
+                *place = *byte;
+                self.left = rest;
+                Ok(1)
+            }
+            _ => Err(io::Error::from(self.kind)),
+        }
+    }
+}
+
+/// Takes two bytes a call and so many in all, and then answers the error or, where there is none, takes nothing.
+#[derive(Drop)]
+pub(crate) struct Filling {
+    pub(crate) got: Vec<u8>,
+    pub(crate) most: usize,
+    pub(crate) error: Option<ErrorKind>,
+}
+
+impl Write for Filling {
+    fn write(&mut self, buf: &[u8]) -> io::Result<usize> {
+        let room = self.most.saturating_sub(self.got.len());
+        let count = buf.len().min(2).min(room);
+        match self.error {
+            Some(kind) if count == 0 => return Err(io::Error::from(kind)),
+            _ => {}
+        }
+        self.got.extend_from_slice(&buf[..count])?;
+        Ok(count)
+    }
+
+    fn flush(&mut self) -> io::Result<()> {
+        Ok(())
+    }
+}

@@ -1,0 +1,157 @@
+//! Reports whose reader, writer or memory fails, each with its status.
+
+use crate::fakes::{Breaking, Filling};
+use assertions::equal;
+use clru_report::{Capacities, DefaultState, Fault, Form, Options, exit_status, run};
+use ration::Rationed;
+use std::alloc::{Allocator, Global};
+use std::io::ErrorKind;
+use std::process::Abort;
+use std::test::Fail;
+
+const TEN: &[u8] = b"a\nb\na\nc\nb\na\nd\na\nb\ne\n";
+
+const SIZED: &[u8] = b"5 a\n3 b\n5 a\n0 z\n12 c\n3 b\n5 a\n0 z\n1 y\n3 b\n";
+
+fn by_keys<A: Allocator>(least: bool, form: Form) -> Options<A> {
+    Options {
+        capacities: Capacities::Usual,
+        sizes: false,
+        least,
+        form,
+    }
+}
+
+fn by_size<A: Allocator>(form: Form) -> Options<A> {
+    Options {
+        capacities: Capacities::Each,
+        sizes: true,
+        least: false,
+        form,
+    }
+}
+
+#[test]
+fn a_failed_read_is_a_fault_and_nothing_is_written(rt: HostRuntime) {
+    let mut reader = Breaking {
+        left: TEN,
+        kind: ErrorKind::TimedOut,
+        calls: 0,
+    };
+    let mut written = Vec::new(rt.alloc());
+    let options = by_keys(true, Form::Picture);
+    let outcome = run(
+        rt.alloc(),
+        &options,
+        DefaultState,
+        &mut reader,
+        &mut written,
+    );
+    equal!(rt; exit_status(&outcome), 4);
+    equal!(rt; outcome, Err(Fault::Reading));
+    equal!(rt; written.len(), 0);
+}
+
+/// How a run ends whose writer takes so many bytes, and how many it got.
+fn filled(alloc: Global, most: usize, kind: ErrorKind) -> (Result<(), Fault>, usize) {
+    let mut writer = Filling {
+        got: Vec::new(alloc),
+        most,
+        error: Some(kind),
+    };
+    let mut reader = TEN;
+    let options = by_keys(true, Form::Picture);
+    let outcome = run(alloc, &options, DefaultState, &mut reader, &mut writer);
+    (outcome, writer.got.len())
+}
+
+#[test]
+fn a_failed_write_is_a_fault_and_a_closed_pipe_another(rt: HostRuntime) {
+    let rows = [
+        (0, ErrorKind::StorageFull, Fault::Writing),
+        (30, ErrorKind::StorageFull, Fault::Writing),
+        (30, ErrorKind::BrokenPipe, Fault::Closed),
+    ];
+    for (most, kind, fault) in rows {
+        let (outcome, count) = filled(rt.alloc(), most, kind);
+        equal!(rt; exit_status(&outcome), 5, most);
+        equal!(rt; outcome, Err(fault), most);
+        equal!(rt; count, most);
+    }
+}
+
+/// Makes a run whose request behind the first n is refused, and answers whether there was one.
+fn refused_after<'h>(
+    rt: &impl Abort,
+    heap: &'h Rationed<Global>,
+    n: u64,
+    options: &Options<&'h Rationed<Global>>,
+    input: &[u8],
+    mut written: Vec<u8>,
+) -> bool {
+    heap.refuse_one_after(n);
+    let mut reader = input;
+    let outcome = run(heap, options, DefaultState, &mut reader, &mut written);
+    equal!(rt; heap.blocks(), 0, n);
+    if heap.refused() == 0 {
+        equal!(rt; outcome, Ok(()), n);
+        return false;
+    }
+    equal!(rt; exit_status(&outcome), 3, n);
+    equal!(rt; outcome, Err(Fault::Memory), n);
+    equal!(rt; written.len(), 0, n);
+    true
+}
+
+/// How many requests are refused in turn at most.
+const MOST: u64 = 1000;
+
+#[test]
+fn each_refused_request_is_want_of_memory(rt: HostRuntime) {
+    let rows = [
+        (false, Form::Picture, TEN),
+        (true, Form::Table, SIZED),
+        (true, Form::Picture, SIZED),
+    ];
+    for (sizes, form, input) in rows {
+        let mut met = 0;
+        for n in 0..MOST {
+            let heap = Rationed::new(rt.alloc());
+            let options = if sizes {
+                by_size(form)
+            } else {
+                by_keys(true, form)
+            };
+            if !refused_after(&rt, &heap, n, &options, input, Vec::new(rt.alloc())) {
+                break;
+            }
+            met = n;
+        }
+        equal!(rt; met > 0 && met < MOST - 1, true, input);
+    }
+}
+
+/// The bytes that a table asks for.
+fn asked_for(rt: &impl Abort, alloc: Global, least: bool, input: &[u8]) -> u64 {
+    let heap = Rationed::new(alloc);
+    let options = by_keys(least, Form::Table);
+    let mut reader = input;
+    let mut written = Vec::new(alloc);
+    let outcome = run(&heap, &options, DefaultState, &mut reader, &mut written);
+    equal!(rt; outcome, Ok(()));
+    heap.asked_bytes()
+}
+
+#[test]
+fn a_list_of_the_lines_is_made_for_the_least_alone(rt: HostRuntime) -> Result<(), Fail> {
+    let mut input = Vec::new(rt.alloc());
+    for _ in 0..5_000 {
+        input.extend_from_slice(b"a\n")?;
+    }
+    for least in [false, true] {
+        // The room for the input, and 16 bytes for each line of a list.
+        let listed = asked_for(&rt, rt.alloc(), least, &input) > 65_536 + 5_000 * 16;
+        equal!(rt; listed, least);
+    }
+    Ok(())
+}

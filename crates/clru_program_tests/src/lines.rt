@@ -1,0 +1,100 @@
+//! Each function of `clru_lines` once, and the errors that only what is called shows.
+
+use crate::fakes::{Breaking, Filling};
+use assertions::equal;
+use clru_lines::{Key, ReadError, capacity_of, keys_of, next_line, read_input, write_text};
+use std::alloc::Global;
+use std::io::ErrorKind;
+use std::test::Fail;
+
+#[test]
+fn a_reader_is_read_to_its_end(rt: HostRuntime) -> Result<(), Fail> {
+    let mut reader = b"a\nb".as_slice();
+    let input = read_input(rt.alloc(), &mut reader)?;
+    equal!(rt; input.as_slice(), b"a\nb".as_slice());
+    equal!(rt; reader.len(), 0);
+    Ok(())
+}
+
+// Bytes, and their lines.
+static LINES: &[(&[u8], &[&[u8]])] = &[
+    (b"", &[]),
+    (b"\n", &[b""]),
+    (b"a\n\nb", &[b"a", b"", b"b"]),
+    (b"a\r\nb\n", &[b"a\r", b"b"]),
+];
+
+#[test]
+fn lines_are_what_stands_between_newlines(rt: HostRuntime) -> Result<(), Fail> {
+    for (bytes, lines) in LINES {
+        let keys = keys_of(rt.alloc(), bytes)?;
+        equal!(rt; keys.len(), lines.len(), *bytes);
+        for (key, line) in keys.iter().zip(lines.iter()) {
+            let same = *key == Key(line);
+            equal!(rt; same, true, *bytes);
+        }
+    }
+    equal!(rt; next_line(b"a\n\nb"), Some((b"a".as_slice(), b"\nb".as_slice())));
+    Ok(())
+}
+
+#[test]
+fn a_word_of_digits_names_a_capacity(rt: HostRuntime) {
+    let rows = [
+        (b"1".as_slice(), Some(1)),
+        (b"007".as_slice(), Some(7)),
+        (b"18446744073709551615".as_slice(), Some(usize::MAX)),
+        (b"18446744073709551616".as_slice(), None),
+        (b"000000000000000000001".as_slice(), None),
+        (b"0".as_slice(), None),
+        (b"".as_slice(), None),
+        (b"+1".as_slice(), None),
+        (b"1\r".as_slice(), None),
+    ];
+    for (word, wanted) in rows {
+        let found = capacity_of(word).map(|capacity| capacity.get());
+        equal!(rt; found, wanted, word);
+    }
+}
+
+/// The error where the text was not written, and what was taken of it: five bytes at most.
+fn written(alloc: Global, text: &[u8], error: Option<ErrorKind>) -> (Option<ErrorKind>, Vec<u8>) {
+    let mut writer = Filling {
+        got: Vec::new(alloc),
+        most: 5,
+        error,
+    };
+    let outcome = write_text(&mut writer, text);
+    (outcome.err().map(|error| error.kind()), writer.got)
+}
+
+#[test]
+fn a_text_is_written_whole_or_the_error_is_told(rt: HostRuntime) {
+    let rows = [
+        (b"".as_slice(), None, None),
+        (b"abcde".as_slice(), Some(ErrorKind::BrokenPipe), None),
+        (b"abcdef".as_slice(), None, Some(ErrorKind::WriteZero)),
+        (
+            b"abcdef".as_slice(),
+            Some(ErrorKind::Interrupted),
+            Some(ErrorKind::Interrupted),
+        ),
+    ];
+    for (text, error, wanted) in rows {
+        let (told, got) = written(rt.alloc(), text, error);
+        equal!(rt; told, wanted, text);
+        equal!(rt; got.as_slice(), &text[..text.len().min(5)], text);
+    }
+}
+
+#[test]
+fn a_failed_read_is_the_last_call(rt: HostRuntime) {
+    let mut reader = Breaking {
+        left: b"a",
+        kind: ErrorKind::Interrupted,
+        calls: 0,
+    };
+    let outcome = read_input(rt.alloc(), &mut reader);
+    equal!(rt; matches!(outcome, Err(ReadError::Reading)), true);
+    equal!(rt; reader.calls, 2);
+}

@@ -1,0 +1,92 @@
+-- How the lists of capacities grow by one.
+use Rattle.std.proofs.Common.{◌≡◌, ℕ, get_or, length, zero, suc, ◌+◌, ◌-◌, ◌^◌, ◌<◌, ◌≤◌, Bool, true, false, cond, ◌||◌, nat_le, nat_lt, leb-true, List, [], ◌∷◌, ◌++◌, map, refl, sym, ap, subst, ◌∙◌, zero-add, arith}
+use Rattle.std.proofs.Math.Nat.{mul-pos, pow-suc}
+use Rattle.std.proofs.lemmas.List.{length-map}
+use Rattle.std.proofs.lemmas.List.FromFn.{filter_of_map_range_with_len_more}
+use Rattle.std.proofs.lemmas.List.Elements.{Contains-get_or, All-contains, All-filter, All-from_get_or, All-map, filter_agree, filter_passes}
+use Rattle.std.specs.List.{Contains, filter, range_with_len}
+use Rattle.std.specs.Prelude.{◌==◌}
+use Rattle.clru_model.proofs.Cases.{split}
+use Rattle.clru_report.specs.Capacities.{capacities_of, is_fall, sized_capacities_of, usual}
+use Rattle.clru_report.specs.Refusals.{NamesBelow}
+use Rattle.clru_report.specs.declared.options.Capacities.{Capacities}
+use Rattle.clru_report.specs.declared.options.Capacities.TheVariants.{Usual, Each, Named}
+
+-- a power of ten is no 0
+pub power_positive : (k : ℕ) → 0 < 10 ^ k
+power_positive zero = omega arith
+power_positive (suc k) = subst (λ n. 0 < n) (sym (pow-suc 10 k)) (mul-pos (power_positive k) (omega arith))
+
+module _ (p : ℕ → Bool) (f : ℕ → ℕ) where
+  -- the numbers of the indices before i that pass
+  abbrev pub passing : ℕ → List ℕ
+  passing i = filter p (map f (range_with_len 0 i))
+
+  -- the next one passes
+  pub passing_one : (i : ℕ) → p (f i) ≡ true → passing (i + 1) ≡ passing i ++ f i ∷ []
+  passing_one i h =
+      filter_of_map_range_with_len_more p f 0 i i (zero-add i) ∙ ap (λ b. passing i ++ cond b (f i ∷ []) []) h
+
+  -- it does not
+  pub passing_none : (i : ℕ) → p (f i) ≡ false → passing (i + 1) ≡ passing i ++ []
+  passing_none i h =
+      filter_of_map_range_with_len_more p f 0 i i (zero-add i) ∙ ap (λ b. passing i ++ cond b (f i ∷ []) []) h
+
+-- where two curves are the same from capacity 1 on, they fall at the same capacities
+module _ (m n : ℕ → ℕ) (alike : (k : ℕ) → 0 < k → m k ≡ n k) where
+  is_fall-alike : (x : ℕ) → is_fall m (x + 1) ≡ is_fall n (x + 1)
+  is_fall-alike zero = refl
+  is_fall-alike (suc y) =
+      let k = suc y + 1 in
+      ap (λ b. (k == 1) || b) (ap (λ l. nat_lt l (m (k - 1))) (alike k (omega arith)) ∙ ap (nat_lt (n k)) (alike (k - 1) (omega arith)))
+
+  filter-alike : (xs : List ℕ) → filter (is_fall m) (map (λ k. k + 1) xs) ≡ filter (is_fall n) (map (λ k. k + 1) xs)
+  filter-alike [] = refl
+  filter-alike (x ∷ xs) =
+      let rest = filter (is_fall m) (map (λ (k : ℕ). k + 1) xs) in
+      ap (λ b. cond b ((x + 1) ∷ rest) rest) (is_fall-alike x)
+      ∙ ap (λ ys. cond (is_fall n (x + 1)) ((x + 1) ∷ ys) ys) (filter-alike xs)
+
+  pub capacities-alike : {A : Type 0} (asked : Capacities A) (d : ℕ) → capacities_of asked m d ≡ capacities_of asked n d
+  capacities-alike Usual d = refl
+  capacities-alike Each d = filter-alike (range_with_len 0 d)
+  capacities-alike (Named named) d = refl
+
+-- what passes of numbers that are shown
+pub map-filter : {X : Type 0} (p : ℕ → Bool) (f : X → ℕ) (xs : List X) → map f (filter (λ x. p (f x)) xs) ≡ filter p (map f xs)
+map-filter p f [] = refl
+map-filter p f (x ∷ xs) =
+    split (p (f x))
+    (λ t. rw t (ap (λ ns. f x ∷ ns) (map-filter p f xs)))
+    (λ u. rw u (map-filter p f xs))
+
+-- curves that are the same everywhere fall at the same capacities
+pub sized-alike : {A : Type 0} (asked : Capacities A) (m n : ℕ → ℕ) (g d : ℕ) → ((c : ℕ) → m c ≡ n c)
+    → sized_capacities_of asked m g d ≡ sized_capacities_of asked n g d
+sized-alike Usual m n g d same = refl
+sized-alike Each m n g d same =
+    filter_agree _ _ (λ c. ap (λ k. (c == g) || nat_lt k (m (c - 1))) (same c) ∙ ap (λ k. (c == g) || nat_lt (n c) k) (same (c - 1))) _
+sized-alike (Named named) m n g d same = refl
+
+-- each of them but those that are named is at least the greatest size
+pub none_below : {A : Type 0} (asked : Capacities A) (m : ℕ → ℕ) (g d n : ℕ) → n < g
+    → Contains (sized_capacities_of asked m g d) n → NamesBelow asked g
+none_below Usual m g d n low is =
+    let passes = All-contains (λ c. nat_le g c ≡ true) _ n (filter_passes (λ c. nat_le g c) (usual d)) is in
+    omega (arith, low, leb-true g n passes)
+none_below Each m g d n low is =
+    let high : g ≤ n = All-contains (λ c. g ≤ c) _ n (All-filter (λ c. (c == g) || nat_lt (m c) (m (c - 1))) (λ c. g ≤ c) _
+    (All-map (λ c. g ≤ c) (λ (k : ℕ). g + k) (range_with_len 0 (d + 1 - g)) (All-from_get_or (λ k. g ≤ g + k) _ 0 (λ i inside. omega arith)))) is in
+    omega (arith, low, high)
+none_below (Named named) m g d n low is = (n, is, low)
+
+-- what is at an index is shown among all
+shown_at : {X : Type 0} (f : X → ℕ) (xs : List X) (i : ℕ) (x : X) → get_or (map f xs) i (f x) ≡ f (get_or xs i x)
+shown_at f [] i x = refl
+shown_at f (y ∷ xs) zero x = refl
+shown_at f (y ∷ xs) (suc i) x = shown_at f xs i x
+
+pub contains_shown : {X : Type 0} (f : X → ℕ) (xs : List X) (i : ℕ) (x : X) → i < length xs → x ≡ get_or xs i x → Contains (map f xs) (f x)
+contains_shown f xs i x inside is =
+    subst (Contains (map f xs)) (shown_at f xs i x ∙ ap f (sym is))
+    (Contains-get_or (map f xs) i (f x) (subst (λ n. i < n) (sym (length-map xs f)) inside))

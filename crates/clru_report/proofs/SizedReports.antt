@@ -1,0 +1,129 @@
+-- From a curve and its rows to the report of the lines that it is of, and to why there is none.
+use Rattle.std.proofs.Common.{◌≡◌, ℕ, ◌+◌, ◌≤◌, Bool, true, false, List, [], ◌∷◌, min, length, reverse, refl, sym, ap, ◌∙◌, arith}
+use Rattle.std.specs.Prelude.{bytes_eq, ◌==◌}
+use Rattle.std.proofs.lemmas.Bool.{eqb-true}
+use Rattle.std.proofs.lemmas.List.Elements.{All-weaker}
+use Rattle.clru_curve.specs.SizedCurves.{CurveBySize, IsSizedCurveOf, misses_within}
+use Rattle.clru_model.proofs.Cases.{split}
+use Rattle.clru_model.proofs.Spans.{room_misses_first}
+use Rattle.clru_model.specs.Requests.{distinct, holds}
+use Rattle.clru_model.specs.Sizes.{total, misses_by_size}
+use Rattle.clru_report.specs.Capacities.{sized_capacities_of}
+use Rattle.clru_report.specs.Faults.{is_of_writing}
+use Rattle.clru_report.specs.Passes.{IsOfCapacities, IsOfLines, IsRowOf, IsTableOf, capacities_on, distinct_in}
+use Rattle.clru_report.specs.Refusals.{IsRefusedFor, is_of_input}
+use Rattle.clru_report.specs.SizedReport.{IsSizedRow, IsSizedTable, distinct_size, summary_by_size}
+use Rattle.clru_report.specs.SizedTables.{capacity_of_sized_row, sized_summary_text, sized_table_text}
+use Rattle.clru_report.specs.Sizes.{HaveSizes, greatest_size, size_of_lines, weight_of_line}
+use Rattle.clru_report.specs.declared.fault.Fault.{Fault}
+use Rattle.clru_report.specs.declared.fault.Fault.TheVariants.{Memory, Reading, Writing, Closed, NoSize, TooLarge, TooSmall}
+use Rattle.clru_report.specs.declared.options.Capacities.{Capacities}
+use Rattle.clru_report.specs.declared.options.Options.{Options}
+use Rattle.clru_report.specs.declared.sized.rows.SizedRow.{SizedRow}
+use Rattle.clru_report.proofs.CapacityLemmas.{none_below, sized-alike}
+use Rattle.clru_report.proofs.SettledCurves.{bytes_laws, same_weights}
+
+-- keys are no more than their sizes together
+few_distinct : {K : Type 0} (eq : K → K → Bool) (weight : K → ℕ) (ks : List K) → distinct eq ks ≤ total eq weight ks
+few_distinct eq weight [] = omega arith
+few_distinct eq weight (x ∷ ks) =
+    let ih = few_distinct eq weight ks in
+    split (holds eq x ks) (λ t. rw t ih) (λ f. rw f (omega (arith, ih)))
+
+module _ (lines : List (List ℕ)) (curve : CurveBySize) (is : IsSizedCurveOf bytes_eq weight_of_line lines curve) where
+  abbrev missing : ℕ → ℕ
+  missing c = misses_by_size bytes_eq weight_of_line c lines
+
+  greatest_is : 1 + curve.greatest_weight ≡ greatest_size lines
+  greatest_is = ap (λ n. 1 + n) is.greatest_weight
+
+  capacities_are : {A : Type 0} (asked : Capacities A)
+      → capacities_on curve asked ≡ sized_capacities_of asked missing (greatest_size lines) (distinct_size lines)
+  capacities_are asked =
+      sized-alike asked (misses_within curve) missing (1 + curve.greatest_weight) curve.distinct_size is.misses
+      ∙ ap (λ g. sized_capacities_of asked missing g curve.distinct_size) greatest_is
+      ∙ ap (sized_capacities_of asked missing (greatest_size lines)) is.distinct_size
+
+  row_is : (row : SizedRow) → IsRowOf curve row → IsSizedRow lines row
+  row_is row r = record {
+    misses = r.misses ∙ is.misses (capacity_of_sized_row row);
+    missed_size = r.missed_size ∙ is.missed_size (capacity_of_sized_row row);
+    holds_each = omega (arith, r.answered, greatest_is);
+  }
+
+  pub table_is : {A : Type 0} (options : Options A) (text : List ℕ) → IsTableOf curve (capacities_on curve options.capacities) text
+      → IsSizedTable options lines text
+  table_is options text t = (
+    t.0,
+    (t.1.0 ∙ capacities_are options.capacities, All-weaker (IsRowOf curve) (IsSizedRow lines) row_is t.0 t.1.1),
+    t.2 ∙ ap (λ n. sized_table_text n curve.size t.0) is.requests_in_all ∙ ap (λ n. sized_table_text (length lines) n t.0) is.size,
+  )
+
+  -- with room for all keys each misses once
+  distinct_are : distinct_in curve ≡ distinct bytes_eq (reverse lines)
+  distinct_are =
+      split (curve.distinct_size == 0)
+      (λ t. let none : distinct bytes_eq (reverse lines) ≡ 0 =
+      omega (arith, few_distinct bytes_eq weight_of_line (reverse lines), is.distinct_size, eqb-true curve.distinct_size 0 t) in
+      rw t (sym none))
+      (λ f. rw f (is.misses curve.distinct_size
+      ∙ (room_misses_first bytes_eq bytes_laws weight_of_line same_weights curve.distinct_size lines (omega (arith, is.distinct_size))).0))
+
+  pub summary_is : (input text : List ℕ) → text ≡ sized_summary_text curve.requests (distinct_in curve) (length input) curve.size
+      curve.distinct_size (min (1 + curve.greatest_weight) curve.distinct_size) → text ≡ summary_by_size input lines
+  summary_is input text t =
+      t ∙ ap (λ n. sized_summary_text n (distinct_in curve) (length input) curve.size curve.distinct_size
+      (min (1 + curve.greatest_weight) curve.distinct_size)) is.requests_in_all
+      ∙ ap (λ n. sized_summary_text (length lines) n (length input) curve.size curve.distinct_size
+      (min (1 + curve.greatest_weight) curve.distinct_size)) distinct_are
+      ∙ ap (λ n. sized_summary_text (length lines) (distinct bytes_eq (reverse lines)) (length input) n curve.distinct_size
+      (min (1 + curve.greatest_weight) curve.distinct_size)) is.size
+      ∙ ap (λ n. sized_summary_text (length lines) (distinct bytes_eq (reverse lines)) (length input) (size_of_lines lines) n
+      (min (1 + curve.greatest_weight) n)) is.distinct_size
+      ∙ ap (λ n. sized_summary_text (length lines) (distinct bytes_eq (reverse lines)) (length input) (size_of_lines lines)
+      (distinct_size lines) (min n (distinct_size lines))) greatest_is
+
+  -- why capacities have no rows
+  pub capacities_refused : {A : Type 0} (options : Options A) (fault : Fault) → HaveSizes lines
+      → IsOfCapacities curve fault (capacities_on curve options.capacities) → is_of_input fault ≡ true → IsRefusedFor fault options lines
+  capacities_refused options Memory sizes why of = cc of
+  capacities_refused options Reading sizes why of = why
+  capacities_refused options Writing sizes why of = why
+  capacities_refused options Closed sizes why of = why
+  capacities_refused options (NoSize n) sizes why of = absurd why
+  capacities_refused options TooLarge sizes why of = absurd why
+  capacities_refused options (TooSmall n) sizes why of = (
+    sizes,
+    why.0 ∙ greatest_is,
+    rw why.0 (none_below options.capacities (misses_within curve) (1 + curve.greatest_weight) curve.distinct_size why.1.0 (omega (arith, why.0, why.1.2)) why.1.1),
+  )
+
+pub capacities_unwritten : (curve : CurveBySize) (capacities : List ℕ) (fault : Fault) → IsOfCapacities curve fault capacities
+    → is_of_writing fault ≡ false
+capacities_unwritten curve capacities Memory why = refl
+capacities_unwritten curve capacities Reading why = refl
+capacities_unwritten curve capacities Writing why = absurd why
+capacities_unwritten curve capacities Closed why = absurd why
+capacities_unwritten curve capacities (NoSize n) why = refl
+capacities_unwritten curve capacities TooLarge why = refl
+capacities_unwritten curve capacities (TooSmall n) why = refl
+
+-- why lines have no curve
+pub lines_refused : {A : Type 0} (options : Options A) (lines : List (List ℕ)) (fault : Fault) → IsOfLines fault lines
+    → is_of_input fault ≡ true → IsRefusedFor fault options lines
+lines_refused options lines Memory why of = cc of
+lines_refused options lines Reading why of = why
+lines_refused options lines Writing why of = why
+lines_refused options lines Closed why of = why
+lines_refused options lines (NoSize n) why of = why
+lines_refused options lines TooLarge why of = why
+lines_refused options lines (TooSmall n) why of = absurd why
+
+pub lines_unwritten : (lines : List (List ℕ)) (fault : Fault) → IsOfLines fault lines → is_of_writing fault ≡ false
+lines_unwritten lines Memory why = refl
+lines_unwritten lines Reading why = refl
+lines_unwritten lines Writing why = absurd why
+lines_unwritten lines Closed why = absurd why
+lines_unwritten lines (NoSize n) why = refl
+lines_unwritten lines TooLarge why = refl
+lines_unwritten lines (TooSmall n) why = refl

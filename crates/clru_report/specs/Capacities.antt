@@ -1,0 +1,43 @@
+-- Which capacities a table has. Public clauses cite them.
+use Rattle.std.specs.Prelude.{ℕ, ◌+◌, ◌-◌, ◌*◌, ◌/◌, ◌%◌, ◌^◌, Bool, ◌||◌, ◌==◌, nat_lt, nat_le, List, [], ◌∷◌, ◌++◌, map, if◌then◌else◌}
+use Rattle.std.specs.List.{filter, range_with_len}
+use Rattle.std.specs.Int.NonZero.{non_zero_usize_get}
+use Rattle.clru_report.specs.declared.options.Capacities.{Capacities}
+use Rattle.clru_report.specs.declared.options.Capacities.TheVariants.{Usual, Each, Named}
+
+-- 1, 2 and 5
+abbrev pub first_digit : ℕ → ℕ
+first_digit k = if k == 0 then 1 else (if k == 1 then 2 else 5)
+
+-- 1, 2, 5, 10, 20, 50, 100 and so on
+abbrev pub round_number : ℕ → ℕ
+round_number k = first_digit (k % 3) * 10 ^ (k / 3)
+
+-- the round numbers below n, and n
+abbrev pub usual : ℕ → List ℕ
+usual n = filter (λ c. nat_lt c n) (map round_number (range_with_len 0 60)) ++ (if n == 0 then [] else n ∷ [])
+
+-- 1, or a capacity with fewer misses than the one before
+abbrev pub is_fall : (ℕ → ℕ) → ℕ → Bool
+is_fall misses c = (c == 1) || nat_lt (misses c) (misses (c - 1))
+
+-- 1, and each such capacity up to n
+abbrev pub falls : (ℕ → ℕ) → ℕ → List ℕ
+falls misses n = filter (is_fall misses) (map (λ k. k + 1) (range_with_len 0 n))
+
+-- the capacities for requests of n distinct keys with so many misses at each
+abbrev pub capacities_of : {A : Type 0} → Capacities A → (ℕ → ℕ) → ℕ → List ℕ
+capacities_of Usual misses n = usual n
+capacities_of Each misses n = falls misses n
+capacities_of (Named named) misses n = map non_zero_usize_get named.items
+
+-- the greatest size g, and each such capacity from there up to n
+abbrev pub falls_from : (ℕ → ℕ) → ℕ → ℕ → List ℕ
+falls_from misses g n = filter (λ c. (c == g) || nat_lt (misses c) (misses (c - 1)))
+    (map (λ k. g + k) (range_with_len 0 (n + 1 - g)))
+
+-- the capacities for requests of the greatest size g, whose distinct keys have the size n together, with so many misses at each
+abbrev pub sized_capacities_of : {A : Type 0} → Capacities A → (ℕ → ℕ) → ℕ → ℕ → List ℕ
+sized_capacities_of Usual misses g n = filter (λ c. nat_le g c) (usual n)
+sized_capacities_of Each misses g n = falls_from misses g n
+sized_capacities_of (Named named) misses g n = map non_zero_usize_get named.items

@@ -1,0 +1,76 @@
+-- What a pass over lines with sizes has taken, and what it answers. No public clause cites it.
+use Rattle.std.specs.Prelude.{◌≡◌, ℕ, ◌+◌, ◌<◌, ◌≤◌, ◌^◌, List, map, reverse, bytes_eq, ◌==◌, if◌then◌else◌, ⊤}
+use Rattle.std.specs.List.{All, Contains}
+use Rattle.clru_curve.specs.SizedCurves.{CurveBySize, misses_within, missed_size_within}
+use Rattle.clru_curve.specs.SizedPasses.{PassBySize, IsSizedPass}
+use Rattle.clru_lines.specs.declared.lines.Key.{Key}
+use Rattle.clru_report.specs.Capacities.{sized_capacities_of}
+use Rattle.clru_report.specs.Refusals.{IsFirstWithout}
+use Rattle.clru_report.specs.Sizes.{HaveSizes, size_of_lines, weight_of_line}
+use Rattle.clru_report.specs.SizedTables.{capacity_of_sized_row, sized_table_text}
+use Rattle.clru_report.specs.declared.fault.Fault.{Fault}
+use Rattle.clru_report.specs.declared.fault.Fault.TheVariants.{Memory, Reading, Writing, Closed, NoSize, TooLarge, TooSmall}
+use Rattle.clru_report.specs.declared.options.Capacities.{Capacities}
+use Rattle.clru_report.specs.declared.sized.rows.SizedRow.{SizedRow}
+
+abbrev pub line_of : Key → List ℕ
+line_of key = key.0.now
+
+-- the pass took these lines, each of which has a size
+pub record HasTaken (lines : List (List ℕ)) (pass : PassBySize Key) : Type 0 where
+  pub past : List Key
+  pub shown : map line_of (reverse past) ≡ lines
+  pub sizes : HaveSizes lines
+  pub taken : IsSizedPass (λ x y. bytes_eq (line_of x) (line_of y)) (λ x. weight_of_line (line_of x)) past pass
+
+-- why lines have no curve
+abbrev pub IsOfLines : Fault → List (List ℕ) → Type 0
+IsOfLines Memory lines = ⊤
+IsOfLines Reading lines = ⊥
+IsOfLines Writing lines = ⊥
+IsOfLines Closed lines = ⊥
+IsOfLines (NoSize n) lines = IsFirstWithout n lines
+IsOfLines TooLarge lines = 2 ^ 64 ≤ size_of_lines lines
+IsOfLines (TooSmall n) lines = ⊥
+
+-- the curve answers capacities from some size on, and from the size of the distinct keys on its misses stay as they are
+pub record IsSettled (curve : CurveBySize) : Type 0 where
+  pub greatest : 0 < curve.distinct_size → curve.greatest_weight < curve.distinct_size
+  pub none : curve.distinct_size ≡ 0 → curve.greatest_weight ≡ 0
+  pub settled : (c : ℕ) → curve.distinct_size ≤ c → misses_within curve c ≡ misses_within curve curve.distinct_size
+
+-- the misses where there is room for all keys, of which each misses once
+abbrev pub distinct_in : CurveBySize → ℕ
+distinct_in curve = if curve.distinct_size == 0 then 0 else misses_within curve curve.distinct_size
+
+module _ (curve : CurveBySize) where
+  -- a row of the curve, which answers at its capacity
+  pub record IsRowOf (row : SizedRow) : Type 0 where
+    pub misses : row.misses ≡ misses_within curve (capacity_of_sized_row row)
+    pub missed_size : row.missed_size ≡ missed_size_within curve (capacity_of_sized_row row)
+    pub answered : curve.greatest_weight < capacity_of_sized_row row
+
+  -- one such row for each capacity, in order
+  abbrev pub AreRowsOf : List ℕ → List SizedRow → Type 0
+  AreRowsOf capacities rows = (map capacity_of_sized_row rows ≡ capacities) × All IsRowOf rows
+
+  -- the text of a table of such rows
+  abbrev pub IsTableOf : List ℕ → List ℕ → Type 0
+  IsTableOf capacities text = (rows : List SizedRow) × AreRowsOf capacities rows
+      × (text ≡ sized_table_text curve.requests curve.size rows)
+
+  -- the capacities that are asked for
+  abbrev pub capacities_on : {A : Type 0} → Capacities A → List ℕ
+  capacities_on capacities = sized_capacities_of capacities (misses_within curve)
+      (1 + curve.greatest_weight) curve.distinct_size
+
+  -- why capacities have no rows
+  abbrev pub IsOfCapacities : Fault → List ℕ → Type 0
+  IsOfCapacities Memory capacities = ⊤
+  IsOfCapacities Reading capacities = ⊥
+  IsOfCapacities Writing capacities = ⊥
+  IsOfCapacities Closed capacities = ⊥
+  IsOfCapacities (NoSize n) capacities = ⊥
+  IsOfCapacities TooLarge capacities = ⊥
+  IsOfCapacities (TooSmall n) capacities =
+      (n ≡ 1 + curve.greatest_weight) × ((capacity : ℕ) × Contains capacities capacity × (capacity < n))

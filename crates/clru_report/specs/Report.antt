@@ -1,0 +1,54 @@
+-- What is written for an input. The numbers are those of the definitions of requests and schedules: no cache is in sight.
+use Rattle.std.specs.Prelude.{◌≡◌, ℕ, Bool, true, false, List, ◌++◌, length, map, reverse, None, IsSomeAnd, bytes_eq}
+use Rattle.std.specs.List.{All}
+use Rattle.clru_model.specs.Requests.{distinct, misses}
+use Rattle.clru_model.specs.Least.{IsLeast}
+use Rattle.clru_lines.specs.Lines.{lines_of}
+use Rattle.clru_report.specs.Capacities.{capacities_of}
+use Rattle.clru_report.specs.SizedReport.{IsReportBySize}
+use Rattle.clru_report.specs.Tables.{capacity_of_row, table_text, summary_text}
+use Rattle.clru_report.specs.declared.options.Form.{Form}
+use Rattle.clru_report.specs.declared.options.Form.TheVariants.{Table, Picture, Summary}
+use Rattle.clru_report.specs.declared.options.Options.{Options}
+use Rattle.clru_report.specs.declared.rows.Row.{Row}
+
+module _ {K : Type 0} (eq : K → K → Bool) (requests : List K) where
+  -- the least possible misses stand in a row where they are asked for
+  abbrev pub HasLeast : Bool → Row → Type 0
+  HasLeast true row = IsSomeAnd row.least (IsLeast eq (capacity_of_row row) requests)
+  HasLeast false row = row.least ≡ None
+
+  -- a row of the requests
+  abbrev pub IsRow : Bool → Row → Type 0
+  IsRow least row = (row.misses ≡ misses eq (capacity_of_row row) requests) × HasLeast least row
+
+  -- one such row for each capacity, in order
+  abbrev pub AreRows : Bool → List ℕ → List Row → Type 0
+  AreRows least capacities rows = (map capacity_of_row rows ≡ capacities) × All (IsRow least) rows
+
+-- the table of these requests, where two keys are the same if their bytes are
+abbrev pub IsTable : {A : Type 0} → Options A → List (List ℕ) → List ℕ → Type 0
+IsTable options requests text = (rows : List Row)
+    × AreRows bytes_eq requests options.least
+    (capacities_of options.capacities (λ c. misses bytes_eq c requests) (distinct bytes_eq (reverse requests))) rows
+    × (text ≡ table_text options.least (length requests) rows)
+
+-- a text that has the table in it; what stands around it, no clause says
+abbrev pub IsPicture : {A : Type 0} → Options A → List (List ℕ) → List ℕ → Type 0
+IsPicture options requests text = (before : List ℕ) × (table : List ℕ) × (after : List ℕ)
+    × IsTable options requests table × (text ≡ before ++ (table ++ after))
+
+abbrev pub IsInForm : {A : Type 0} → Form → Options A → List ℕ → List ℕ → Type 0
+IsInForm Table options input text = IsTable options (lines_of input) text
+IsInForm Picture options input text = IsPicture options (lines_of input) text
+IsInForm Summary options input text =
+    text ≡ summary_text (length (lines_of input)) (distinct bytes_eq (reverse (lines_of input))) (length input)
+
+-- the same by size, where lines begin with sizes
+abbrev pub IsReportBy : {A : Type 0} → Bool → Options A → List ℕ → List ℕ → Type 0
+IsReportBy false options input text = IsInForm options.form options input text
+IsReportBy true options input text = IsReportBySize options input (lines_of input) text
+
+-- the text that the options ask for, of an input whose lines are the requests
+abbrev pub IsReport : {A : Type 0} → Options A → List ℕ → List ℕ → Type 0
+IsReport options input text = IsReportBy options.sizes options input text

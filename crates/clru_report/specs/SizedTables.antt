@@ -1,0 +1,32 @@
+-- The text of a table by size. Public clauses cite it.
+use Rattle.std.specs.Prelude.{ℕ, List, ◌++◌, flat_map, codes, decimal}
+use Rattle.std.specs.Int.NonZero.{non_zero_usize_get}
+use Rattle.clru_report.specs.Tables.{fraction_text, millionths}
+use Rattle.clru_report.specs.declared.sized.rows.SizedRow.{SizedRow}
+
+abbrev pub capacity_of_sized_row : SizedRow → ℕ
+capacity_of_sized_row row = non_zero_usize_get row.capacity
+
+-- capacity, misses and miss ratio, missed size and its ratio, of so many requests of this size in all
+abbrev pub sized_row_line : ℕ → ℕ → SizedRow → List ℕ
+sized_row_line requests size row = decimal (capacity_of_sized_row row) ++ (codes ","
+    ++ (decimal row.misses ++ (codes ","
+    ++ (fraction_text (millionths row.misses requests) ++ (codes "," ++ (decimal row.missed_size ++ (codes ","
+    ++ (fraction_text (millionths row.missed_size size) ++ codes "\n"))))))))
+
+-- the table with these rows
+abbrev pub sized_table_text : ℕ → ℕ → List SizedRow → List ℕ
+sized_table_text requests size rows =
+    codes "capacity,misses,miss_ratio,missed_bytes,byte_miss_ratio\n" ++ flat_map (sized_row_line requests size) rows
+
+-- numbers with commas between them
+abbrev pub three_numbers : ℕ → ℕ → ℕ → List ℕ
+three_numbers a b c = decimal a ++ (codes "," ++ (decimal b ++ (codes "," ++ decimal c)))
+
+-- the summary of so many requests for so many keys, of the bytes of input, of the sizes of all requests and of the distinct
+-- keys, and of the greatest size
+abbrev pub sized_summary_text : ℕ → ℕ → ℕ → ℕ → ℕ → ℕ → List ℕ
+sized_summary_text requests distinct bytes size distinct_size greatest =
+    codes "requests,distinct_keys,input_bytes,requested_bytes,distinct_bytes,greatest_size\n"
+    ++ (three_numbers requests distinct bytes ++ (codes ","
+    ++ (three_numbers size distinct_size greatest ++ codes "\n")))

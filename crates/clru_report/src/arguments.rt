@@ -1,0 +1,195 @@
+//! What the arguments ask for.
+use crate::options::{Capacities, Form, Options};
+use clru_lines::capacity_of;
+use std::alloc::{Allocator, Global};
+use std::convert::AsStr;
+use std::num::NonZeroUsize;
+
+/// What the program is to do.
+#[derive(Drop)]
+pub enum Command<A: Allocator = Global> {
+    /// Print how it is used.
+    Help,
+    /// Print its name and version.
+    Version,
+    /// Read the input and write its report.
+    Report(Options<A>),
+}
+
+/// Why the arguments are refused.
+#[derive(Drop)]
+pub enum Refusal<A: Allocator = Global> {
+    /// What is wrong and what would be right, in one line.
+    Wrong(String<A>),
+    /// A request for memory was refused.
+    Memory,
+}
+
+// What was asked for so far.
+#[derive(Drop)]
+struct Draft<A: Allocator> {
+    named: Vec<NonZeroUsize, A>,
+    all: bool,
+    sizes: bool,
+    least: bool,
+    svg: bool,
+    summary: bool,
+}
+
+/// Reads the words after the program's name, which are in any order. What follows `--help` or `--version` is not read.
+///
+/// It refuses the first word that is no argument, and else arguments that do not go together. No clause says what the words ask
+/// for.
+pub fn command_of<S: AsStr, A: Allocator + Copy>(
+    alloc: A,
+    words: &[S],
+) -> Result<Command<A>, Refusal<A>> {
+    let mut draft = Draft {
+        named: Vec::new(alloc),
+        all: false,
+        sizes: false,
+        least: false,
+        svg: false,
+        summary: false,
+    };
+    // The word after `--at`.
+    let mut capacities_follow = false;
+    for word in words {
+        let word = word.as_str();
+        if capacities_follow {
+            name_capacities(alloc, &mut draft.named, word)?;
+            capacities_follow = false;
+            continue;
+        }
+        match word {
+            "--help" | "-h" => return Ok(Command::Help),
+            "--version" | "-V" => return Ok(Command::Version),
+            "--at" => capacities_follow = true,
+            "--all" => draft.all = true,
+            "--sizes" => draft.sizes = true,
+            "--least" => draft.least = true,
+            "--svg" => draft.svg = true,
+            "--summary" => draft.summary = true,
+            _ => match word.strip_prefix("--at=") {
+                Some(capacities) => name_capacities(alloc, &mut draft.named, capacities)?,
+                None => return Err(unknown(alloc, word)),
+            },
+        }
+    }
+    if capacities_follow {
+        return Err(wrong(alloc, NO_VALUE));
+    }
+    finish(alloc, draft)
+}
+
+const NO_VALUE: &str = "--at wants capacities: write --at 100,1000";
+
+// Each `--at` adds to those before it.
+fn name_capacities<A: Allocator + Copy>(
+    alloc: A,
+    named: &mut Vec<NonZeroUsize, A>,
+    word: &str,
+) -> Result<(), Refusal<A>> {
+    for part in word.split(',') {
+        match capacity_of(part.as_bytes()) {
+            Some(capacity) => {
+                let Ok(()) = named.push(capacity) else {
+                    return Err(Refusal::Memory);
+                };
+            }
+            None => return Err(no_capacity(alloc, part)),
+        }
+    }
+    Ok(())
+}
+
+// Once all words are read, since the order of words is free.
+fn finish<A: Allocator + Copy>(alloc: A, draft: Draft<A>) -> Result<Command<A>, Refusal<A>> {
+    let Draft {
+        mut named,
+        all,
+        sizes,
+        least,
+        svg,
+        summary,
+    } = draft;
+    let some_named = !named.is_empty();
+    if all && some_named {
+        return Err(wrong(alloc, "--all and --at do not go together: leave one out"));
+    }
+    if summary && (all || some_named || least || svg) {
+        return Err(wrong(
+            alloc,
+            "--summary goes alone, or with --sizes: leave the other arguments out",
+        ));
+    }
+    if sizes && least {
+        return Err(wrong(
+            alloc,
+            "--least and --sizes do not go together: the least in bytes is too hard to compute, so leave one out",
+        ));
+    }
+    named.sort_unstable();
+    named.dedup();
+    let capacities = if all {
+        Capacities::Each
+    } else if some_named {
+        Capacities::Named(named)
+    } else {
+        Capacities::Usual
+    };
+    let form = if summary {
+        Form::Summary
+    } else if svg {
+        Form::Picture
+    } else {
+        Form::Table
+    };
+    Ok(Command::Report(Options {
+        capacities,
+        sizes,
+        least,
+        form,
+    }))
+}
+
+fn wrong<A: Allocator + Copy>(alloc: A, line: &str) -> Refusal<A> {
+    match String::from_str(alloc, line) {
+        Ok(line) => Refusal::Wrong(line),
+        Err(_) => Refusal::Memory,
+    }
+}
+
+// What stands in quotes has its line breaks escaped. A word that looks like no option is mostly the name of a file.
+fn unknown<A: Allocator + Copy>(alloc: A, word: &str) -> Refusal<A> {
+    let line = if word.starts_with('-') && word != "-" {
+        format!(in alloc; "{word:?} is no argument: clru_mrc --help names them")
+    } else {
+        format!(in alloc;
+            "{word:?} is no argument: the log goes to standard input, as in clru_mrc < FILE"
+        )
+    };
+    match line {
+        Ok(line) => Refusal::Wrong(line),
+        Err(_) => Refusal::Memory,
+    }
+}
+
+fn no_capacity<A: Allocator + Copy>(alloc: A, part: &str) -> Refusal<A> {
+    if part.is_empty() {
+        return wrong(
+            alloc,
+            "--at has an empty number: write numbers with commas and no blanks, as in --at 100,1000",
+        );
+    }
+    if part.starts_with("--") {
+        return wrong(alloc, NO_VALUE);
+    }
+    let line = format!(in alloc;
+        "{part:?} is no capacity: name numbers from 1 to 18446744073709551615, as in --at 100,1000"
+    );
+    match line {
+        Ok(line) => Refusal::Wrong(line),
+        Err(_) => Refusal::Memory,
+    }
+}

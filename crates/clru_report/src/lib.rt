@@ -1,0 +1,32 @@
+//! What an LRU cache of each capacity misses on a list of requests, as a text: what the program `clru_mrc` is, but for its `main`.
+//!
+//! [`command_of`] reads the words of a command line. What they ask for of an input is a table, a summary or a picture, in keys
+//! or by size, and [`run`] takes it from a reader to a writer: for each of both whose bytes std knows its contract says which
+//! text is written of which input, or why none is. [`exit_status`] makes a status of its answer.
+//!
+//! `specs/Report` and `specs/SizedReport` say what a report is, and `specs/Refusals` which inputs have none.
+#![tactic(auto)]
+
+mod arguments;
+mod capacities;
+mod fault;
+mod fraction;
+mod help;
+mod options;
+mod output;
+mod pass;
+mod picture;
+mod program;
+mod report;
+mod rows;
+mod sized;
+mod table;
+
+pub use arguments::{Command, Refusal, command_of};
+pub use clru_model::DefaultState;
+pub use fault::{Fault, exit_status};
+pub use help::{HELP, VERSION};
+pub use options::{Capacities, Form, Options};
+pub use output::write_report;
+pub use program::run;
+pub use std::num::NonZeroUsize;

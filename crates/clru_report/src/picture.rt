@@ -1,0 +1,68 @@
+//! The picture of a curve, in SVG.
+ghost use Rattle.std.specs.Prelude.{IfOk, string_bytes};
+ghost use Rattle.clru_report.specs.Tables.{HasTable};
+
+mod axes;
+mod by_keys;
+mod curve;
+mod legend;
+mod numbers;
+mod plot;
+mod scale;
+pub(crate) mod style;
+
+use axes::draw_axes;
+pub(crate) use by_keys::picture_by_keys;
+use curve::{draw_least, draw_line};
+use legend::draw_legend;
+pub(crate) use plot::{Line, Plot};
+use scale::Scale;
+use std::alloc::{AllocError, Allocator};
+use std::fmt::{self, Write};
+use style::STYLE;
+
+/// The picture, with the table in its description.
+pub(crate) fn picture_of<A: Allocator + Copy>(
+    alloc: A,
+    plot: &Plot<A>,
+    table: &str,
+) -> Result<String<A>, AllocError>
+    ensures { IfOk result (λ text. HasTable table.now (string_bytes text)) }
+{
+    let mut text = head(alloc)?;
+    text.push_str(table)?;
+    let rest = rest_of(alloc, plot)?;
+    text.push_str(&rest)?;
+    Ok(text)
+}
+
+fn head<A: Allocator>(alloc: A) -> Result<String<A>, AllocError> {
+    let mut text = String::new(alloc);
+    text.push_str("<svg class=\"clru_mrc\" xmlns=\"http://www.w3.org/2000/svg\" role=\"img\"")?;
+    text.push_str(" viewBox=\"0 0 8000 4600\" width=\"800\" height=\"460\">\n")?;
+    text.push_str("<title>Miss ratio by capacity</title>\n<desc>\n")?;
+    Ok(text)
+}
+
+fn rest_of<A: Allocator>(alloc: A, plot: &Plot<A>) -> Result<String<A>, AllocError> {
+    let mut text = String::new(alloc);
+    match draw(&mut text, plot) {
+        Ok(()) => Ok(text),
+        Err(_) => Err(AllocError),
+    }
+}
+
+fn draw<W: Write, A: Allocator>(text: &mut W, plot: &Plot<A>) -> fmt::Result {
+    text.write_str("</desc>\n")?;
+    text.write_str(STYLE)?;
+    text.write_str("<rect class=\"page\" width=\"8000\" height=\"4600\"/>\n")?;
+    draw_legend(text, plot)?;
+    let (first, last) = plot.ends;
+    let scale = Scale::new(first, last);
+    draw_axes(text, &scale, plot.axis)?;
+    for line in plot.lines.iter() {
+        draw_line(text, &scale, line)?;
+    }
+    draw_least(text, &scale, plot)?;
+    text.write_str("</svg>\n")
+}

@@ -1,0 +1,53 @@
+//! From the reader to the writer.
+ghost use Rattle.std.specs.Prelude.{◌≡◌, ℕ, List, true, false, take, string_bytes, IfErr, OnOk};
+ghost use Rattle.std.specs.Io.KnownBytes.{Appends, Keeps};
+ghost use Rattle.clru_lines.specs.Whole.{ReadWhole};
+ghost use Rattle.clru_report.specs.Faults.{is_of_writing};
+ghost use Rattle.clru_report.specs.Refusals.{is_of_input, IsRefused};
+ghost use Rattle.clru_report.specs.Report.{IsReport};
+
+use crate::fault::Fault;
+use crate::options::Options;
+use crate::output::write_report;
+use crate::report::report_on;
+use clru_lines::{ReadError, read_input};
+use std::alloc::Allocator;
+use std::hash::BuildHasher;
+use std::io::{Read, Write};
+
+/// Reads the whole input, and then writes its report. Lines are hashed with `hash_builder`: the report is the same under each
+/// that is lawful.
+pub fn run<R: Read, W: Write, S: BuildHasher + Copy, A: Allocator + Copy>(
+    alloc: A,
+    options: &Options<A>,
+    hash_builder: S,
+    reader: &mut R,
+    writer: &mut W,
+) -> Result<(), Fault>
+    // The writer got a report of the whole input.
+    ensures written { OnOk result (ReadWhole (R.remaining reader.old) (R.remaining reader.new)
+        (λ input. (text : List ℕ) × IsReport options.now input text
+        × Appends (W.contents writer.old) (W.contents writer.new) text)) }
+    // The writer got a beginning of a report of the whole input.
+    ensures cut_short { IfErr result (λ fault. is_of_writing fault ≡ true
+        → ReadWhole (R.remaining reader.old) (R.remaining reader.new)
+        (λ input. (text : List ℕ) × IsReport options.now input text
+        × (n : ℕ) × Appends (W.contents writer.old) (W.contents writer.new) (take n text))) }
+    // The input, or a capacity beside it, is not what sizes want, for the reason that the fault says.
+    ensures refused { IfErr result (λ fault. is_of_input fault ≡ true
+        → ReadWhole (R.remaining reader.old) (R.remaining reader.new) (λ input. IsRefused fault options.now input)) }
+    // Any fault but those of writing comes before the first write.
+    ensures silent { IfErr result (λ fault. is_of_writing fault ≡ false
+        → Keeps (W.contents writer.old) (W.contents writer.new)) }
+{
+    let input = match read_input(alloc, reader) {
+        Ok(input) => input,
+        Err(ReadError::Memory) => return Err(Fault::Memory),
+        Err(ReadError::Reading) => return Err(Fault::Reading),
+    };
+    let text = match report_on(alloc, options, hash_builder, &input) {
+        Ok(text) => text,
+        Err(fault) => return Err(fault),
+    };
+    write_report(writer, text.as_bytes())
+}

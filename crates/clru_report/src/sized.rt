@@ -1,0 +1,85 @@
+//! The report of an input whose lines begin with sizes: capacities are sums of sizes.
+ghost use Rattle.std.specs.Prelude.{◌≡◌, ◌++◌, ℕ, List, true, false, IfOk, IfErr, string_bytes};
+ghost use Rattle.clru_lines.specs.Lines.{lines_of};
+ghost use Rattle.clru_report.specs.Faults.{is_of_writing};
+ghost use Rattle.clru_report.specs.Passes.{capacities_on, IsOfCapacities, IsSettled, IsTableOf};
+ghost use Rattle.clru_report.specs.Refusals.{is_of_input, IsRefusedFor};
+ghost use Rattle.clru_report.specs.SizedReport.{IsReportBySize};
+
+mod capacities;
+mod line;
+mod pass;
+mod picture;
+mod rows;
+mod table;
+
+use crate::fault::Fault;
+use crate::options::{Capacities, Form, Options};
+use clru_curve::SizedCurve;
+use pass::curve_of;
+use picture::picture_by_size;
+use rows::sized_rows_for;
+use std::alloc::Allocator;
+use std::hash::BuildHasher;
+use table::{sized_summary_of, sized_table_of};
+
+/// The report of an input, by the sizes that its lines begin with.
+pub(crate) fn sized_report_on<S: BuildHasher + Drop, A: Allocator + Copy>(
+    alloc: A,
+    options: &Options<A>,
+    hash_builder: S,
+    input: &[u8],
+) -> Result<String<A>, Fault>
+    ensures report { IfOk result (λ text.
+        IsReportBySize options.now input.now (lines_of input.now) (string_bytes text)) }
+    ensures refused { IfErr result (λ fault. is_of_input fault ≡ true
+        → IsRefusedFor fault options.now (lines_of input.now)) }
+    ensures fault { IfErr result (λ fault. is_of_writing fault ≡ false) }
+{
+    let curve = curve_of(alloc, hash_builder, input)?;
+    match options.form {
+        Form::Table => sized_table_for(alloc, &options.capacities, &curve),
+        Form::Picture => sized_picture_for(alloc, &options.capacities, &curve),
+        Form::Summary => match sized_summary_of(alloc, &curve, input.len()) {
+            Ok(text) => Ok(text),
+            Err(_) => Err(Fault::Memory),
+        },
+    }
+}
+
+// The table of a curve.
+fn sized_table_for<A: Allocator + Copy>(
+    alloc: A,
+    capacities: &Capacities<A>,
+    curve: &SizedCurve<A>,
+) -> Result<String<A>, Fault>
+    requires { IsSettled curve.now }
+    ensures table { IfOk result (λ text.
+        IsTableOf curve.now (capacities_on curve.now capacities.now) (string_bytes text)) }
+    ensures refused { IfErr result (λ fault. IsOfCapacities curve.now fault (capacities_on curve.now capacities.now)) }
+{
+    let rows = sized_rows_for(alloc, curve, capacities)?;
+    match sized_table_of(alloc, &rows, curve.requests(), curve.size()) {
+        Ok(text) => Ok(text),
+        Err(_) => Err(Fault::Memory),
+    }
+}
+
+// The picture of a curve, with its table.
+fn sized_picture_for<A: Allocator + Copy>(
+    alloc: A,
+    capacities: &Capacities<A>,
+    curve: &SizedCurve<A>,
+) -> Result<String<A>, Fault>
+    requires { IsSettled curve.now }
+    ensures picture { IfOk result (λ text. (before : List ℕ) × (table : List ℕ) × (after : List ℕ)
+        × IsTableOf curve.now (capacities_on curve.now capacities.now) table
+        × (string_bytes text ≡ before ++ (table ++ after))) }
+    ensures refused { IfErr result (λ fault. IsOfCapacities curve.now fault (capacities_on curve.now capacities.now)) }
+{
+    let table = sized_table_for(alloc, capacities, curve)?;
+    match picture_by_size(alloc, curve, capacities, &table) {
+        Ok(text) => Ok(text),
+        Err(_) => Err(Fault::Memory),
+    }
+}

@@ -1,0 +1,76 @@
+//! Which capacities a table by size has.
+ghost use Rattle.std.specs.Prelude.{◌≡◌, ◌+◌, ◌<◌, map, nat_le, IfOk};
+ghost use Rattle.std.specs.Int.NonZero.{non_zero_usize_get};
+ghost use Rattle.std.specs.List.{filter};
+ghost use Rattle.clru_curve.specs.SizedCurves.{misses_within};
+ghost use Rattle.clru_report.specs.Capacities.{falls_from, usual};
+ghost use Rattle.clru_report.specs.Passes.{capacities_on, IsSettled};
+
+use crate::capacities::{push_capacity, usual_capacities};
+use crate::options::Capacities;
+use clru_curve::SizedCurve;
+use std::alloc::{AllocError, Allocator};
+use std::num::NonZeroUsize;
+
+/// The least capacity that a curve answers, which is the greatest size, and 1 where there is none.
+pub(crate) fn first_capacity<A: Allocator>(curve: &SizedCurve<A>) -> usize
+    requires { IsSettled curve.now }
+    ensures { result ≡ 1 + curve.now.greatest_weight }
+{
+    // It tells that the size is below 2^64.
+    let _ = curve.distinct_size();
+    curve.greatest_weight() + 1
+}
+
+/// The capacities for a curve.
+pub(crate) fn sized_capacities_for<A: Allocator + Copy>(
+    alloc: A,
+    capacities: &Capacities<A>,
+    curve: &SizedCurve<A>,
+) -> Result<Vec<NonZeroUsize, A>, AllocError>
+    requires { IsSettled curve.now }
+    ensures { IfOk result (λ chosen. map non_zero_usize_get chosen.items ≡ capacities_on curve.now capacities.now) }
+{
+    match capacities {
+        Capacities::Usual => usual_from(alloc, first_capacity(curve), curve.distinct_size()),
+        Capacities::Each => each_fall_by_size(alloc, curve),
+        Capacities::Named(named) => Vec::from_slice(alloc, named),
+    }
+}
+
+fn usual_from<A: Allocator>(
+    alloc: A,
+    first: usize,
+    distinct_size: usize,
+) -> Result<Vec<NonZeroUsize, A>, AllocError>
+    ensures { IfOk result (λ chosen. map non_zero_usize_get chosen.items
+        ≡ filter (λ c. nat_le first c) (usual distinct_size)) }
+{
+    let mut chosen = usual_capacities(alloc, distinct_size)?;
+    chosen.retain(|capacity| capacity.get() >= first);
+    Ok(chosen)
+}
+
+// The steps come by their capacities, several where more than one request begins to hit.
+fn each_fall_by_size<A: Allocator>(
+    alloc: A,
+    curve: &SizedCurve<A>,
+) -> Result<Vec<NonZeroUsize, A>, AllocError>
+    requires { IsSettled curve.now }
+    ensures { IfOk result (λ chosen. map non_zero_usize_get chosen.items
+        ≡ falls_from (misses_within curve.now) (1 + curve.now.greatest_weight) curve.now.distinct_size) }
+{
+    let mut chosen = Vec::new(alloc);
+    if curve.distinct_size() == 0 {
+        return Ok(chosen);
+    }
+    let mut last = first_capacity(curve);
+    push_capacity(&mut chosen, last)?;
+    for step in curve.as_slice() {
+        if step.0 > last {
+            last = step.0;
+            push_capacity(&mut chosen, last)?;
+        }
+    }
+    Ok(chosen)
+}

@@ -1,0 +1,51 @@
+//! The size that a line begins with.
+ghost use Rattle.std.specs.Prelude.{◌≡◌, ◌==◌, position, None, Some, IfNone, IfSome};
+ghost use Rattle.std.specs.Int.NonZero.{non_zero_usize_get};
+ghost use Rattle.std.specs.List.{list_all};
+ghost use Rattle.clru_report.specs.Sizes.{is_zero, size_in, size_of_line};
+
+use clru_lines::capacity_of;
+use std::num::NonZeroUsize;
+
+/// The size that stands before the first blank of a line. A size of 0 counts as 1.
+pub(crate) fn size_of(line: &[u8]) -> Option<NonZeroUsize>
+    ensures size { IfSome result (λ size. size_of_line line.now ≡ Some (non_zero_usize_get size)) }
+    ensures none { IfNone result (size_of_line line.now ≡ None) }
+{
+    match blank_at(line) {
+        Some(at) => size_of_word(&line[..at]),
+        None => None,
+    }
+}
+
+fn blank_at(line: &[u8]) -> Option<usize>
+    ensures { result ≡ position (λ b. b == 32) line.now }
+{
+    line.iter().position(|byte| *byte == b' ')
+}
+
+fn size_of_word(word: &[u8]) -> Option<NonZeroUsize>
+    ensures size { IfSome result (λ size. size_in word.now ≡ Some (non_zero_usize_get size)) }
+    ensures none { IfNone result (size_in word.now ≡ None) }
+{
+    match capacity_of(word) {
+        Some(size) => Some(size),
+        None if is_zeros(word) => Some(NonZeroUsize::MIN),
+        None => None,
+    }
+}
+
+// The greatest `usize` has 20 digits.
+const MOST_DIGITS: usize = 20;
+
+fn is_zeros(word: &[u8]) -> bool
+    ensures { result ≡ is_zero word.now }
+{
+    !word.is_empty() && word.len() <= MOST_DIGITS && has_zeros_alone(word)
+}
+
+fn has_zeros_alone(word: &[u8]) -> bool
+    ensures { result ≡ list_all (λ b. b == 48) word.now }
+{
+    word.iter().all(|byte| *byte == b'0')
+}

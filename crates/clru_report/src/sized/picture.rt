@@ -1,0 +1,100 @@
+//! The picture by size.
+ghost use Rattle.std.specs.Prelude.{IfOk, string_bytes};
+ghost use Rattle.clru_report.specs.Passes.{IsSettled};
+ghost use Rattle.clru_report.specs.Tables.{HasTable};
+
+use super::capacities::first_capacity;
+use super::table::distinct_of;
+use crate::options::Capacities;
+use crate::picture::{Line, Plot, picture_of};
+use clru_curve::SizedCurve;
+use std::alloc::{AllocError, Allocator};
+use std::num::NonZeroUsize;
+
+/// The picture of a curve: which part of the requests misses, and which of their size.
+pub(crate) fn picture_by_size<A: Allocator + Copy>(
+    alloc: A,
+    curve: &SizedCurve<A>,
+    capacities: &Capacities<A>,
+    table: &str,
+) -> Result<String<A>, AllocError>
+    requires { IsSettled curve.now }
+    ensures { IfOk result (λ text. HasTable table.now (string_bytes text)) }
+{
+    let first = first_capacity(curve);
+    let last = curve.distinct_size().max(greatest_named(capacities));
+    let plot = Plot {
+        requests: curve.requests(),
+        distinct: distinct_of(curve),
+        axis: "capacity in units of size",
+        ends: (first, last),
+        lines: lines_of(alloc, curve, first)?,
+        least: None,
+    };
+    picture_of(alloc, &plot, table)
+}
+
+// 0 where none is named.
+fn greatest_named<A: Allocator>(capacities: &Capacities<A>) -> usize {
+    match capacities {
+        Capacities::Named(named) => named
+            .iter()
+            .map(|capacity| capacity.get())
+            .max()
+            .unwrap_or(0),
+        _ => 0,
+    }
+}
+
+// The part of the requests that misses, and that of their size.
+fn lines_of<A: Allocator + Copy>(
+    alloc: A,
+    curve: &SizedCurve<A>,
+    first: usize,
+) -> Result<Vec<Line<A>, A>, AllocError> {
+    let (misses, missed_size) = missed_at(curve, first);
+    let hits = curve.requests().saturating_sub(misses);
+    let steps = curve.as_slice().get(hits..).unwrap_or(&[]);
+    let mut lines = Vec::new(alloc);
+    lines.push(Line {
+        class: "lru",
+        name: "miss ratio",
+        whole: curve.requests(),
+        start: misses,
+        steps: steps_of_requests(alloc, steps, misses)?,
+    })?;
+    lines.push(Line {
+        class: "bytes",
+        name: "byte miss ratio",
+        whole: curve.size(),
+        start: missed_size,
+        steps: Vec::from_slice(alloc, steps)?,
+    })?;
+    Ok(lines)
+}
+
+// The misses and their size at the first capacity.
+fn missed_at<A: Allocator>(curve: &SizedCurve<A>, first: usize) -> (usize, usize) {
+    match NonZeroUsize::new(first) {
+        Some(first) => (
+            curve.misses(first).unwrap_or(0),
+            curve.missed_size(first).unwrap_or(0),
+        ),
+        None => (0, 0),
+    }
+}
+
+// Each step is of one request that hits from there on.
+fn steps_of_requests<A: Allocator>(
+    alloc: A,
+    steps: &[(usize, usize)],
+    misses: usize,
+) -> Result<Vec<(usize, usize), A>, AllocError> {
+    let mut left = misses;
+    let mut fallen = Vec::new(alloc);
+    for step in steps {
+        left = left.saturating_sub(1);
+        fallen.push((step.0, left))?;
+    }
+    Ok(fallen)
+}
