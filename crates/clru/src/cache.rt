@@ -43,7 +43,6 @@ use std::num::NonZeroUsize;
 ///     }
 /// }
 /// ```
-#[derive(Drop)]
 pub struct CLruCache<
     K: Eq + Hash,
     V,
@@ -53,6 +52,17 @@ pub struct CLruCache<
 > {
     pub(crate) pairs: Weighed<K, V, S, W, A>,
     pub(crate) capacity: NonZeroUsize,
+}
+
+impl<K: Eq + Hash + Drop, V: Drop, S: BuildHasher + Drop, W: WeightScale<K, V> + Drop, A> Drop
+    for CLruCache<K, V, S, W, A>
+where
+    A: Allocator + Copy,
+{
+    fn drop(self) {
+        let CLruCache { pairs, capacity: _ } = self;
+        drop(pairs);
+    }
 }
 
 impl<K: Eq + Hash, V, S: BuildHasher, W: WeightScale<K, V>, A: Allocator + Copy> Model

@@ -25,11 +25,24 @@ const FIRST_CAPACITY: usize = 64;
 /// that is taken comes in front. A curve can be had at any time.
 ///
 /// Memory goes with the distinct keys, a position in a cache and a number for each, besides 16 bytes for each 64 requests.
-#[derive(Drop)]
 pub struct DistancePass<K: Eq + Hash, S: BuildHasher = DefaultState, A: Allocator + Copy = Global> {
     positions: CLruCache<K, usize, S, ZeroWeightScale, A>,
     latest: Latest<A>,
     histogram: Vec<usize, A>,
+}
+
+impl<K: Eq + Hash + Drop, S: BuildHasher + Drop, A: Allocator + Copy> Drop
+    for DistancePass<K, S, A> {
+    fn drop(self) {
+        let DistancePass {
+            positions,
+            latest,
+            histogram,
+        } = self;
+        drop(positions);
+        drop(latest);
+        drop(histogram);
+    }
 }
 
 impl<K: Eq + Hash, S: BuildHasher, A: Allocator + Copy> Model for DistancePass<K, S, A> {
@@ -123,9 +136,9 @@ impl<K: Eq + Hash, S: BuildHasher, A: Allocator + Copy> DistancePass<K, S, A> {
         ensures distinct { (past : List K) → IsPass K.eq past self → length result ≡ distinct K.eq past }
     {
         let DistancePass {
+            positions: _,
             latest,
             mut histogram,
-            ..
         } = self;
         misses_of(&mut histogram, latest.requests);
         MissCurve::from_misses(histogram)

@@ -22,7 +22,6 @@ mod retain;
 mod walk;
 
 /// A list of at most `capacity` items, each of which keeps its place number until it is removed.
-#[derive(Drop)]
 pub struct FixedSizeList<T, A: Allocator + Copy = Global> {
     pub(crate) links: Links<T, A>,
     pub(crate) len: usize,
@@ -32,6 +31,21 @@ pub struct FixedSizeList<T, A: Allocator + Copy = Global> {
     // Links take 4 bytes each only where the places are no more. A test sets it low, to reach the wide form.
     pub(crate) limit: usize,
     pub(crate) fingers: Fingers,
+}
+
+// By hand, as are those of all that hold a list: each place where one goes is then one call for who proves it.
+impl<T: Drop, A: Allocator + Copy> Drop for FixedSizeList<T, A> {
+    fn drop(self) {
+        let FixedSizeList {
+            links,
+            len: _,
+            capacity: _,
+            places: _,
+            limit: _,
+            fingers: _,
+        } = self;
+        drop(links);
+    }
 }
 
 impl<T, A: Allocator + Copy> Model for FixedSizeList<T, A> {

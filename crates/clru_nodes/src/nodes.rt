@@ -29,11 +29,24 @@ pub struct Item<K, V> {
 }
 
 /// Pairs in order of recency, found by the hash of their keys.
-#[derive(Drop)]
 pub struct Nodes<K: Eq + Hash, V, S: BuildHasher, A: Allocator + Copy> {
     list: FixedSizeList<Item<K, V>, A>,
     heads: Heads<A>,
     hash_builder: S,
+}
+
+impl<K: Eq + Hash + Drop, V: Drop, S: BuildHasher + Drop, A: Allocator + Copy> Drop
+    for Nodes<K, V, S, A> {
+    fn drop(self) {
+        let Nodes {
+            list,
+            heads,
+            hash_builder,
+        } = self;
+        drop(list);
+        drop(heads);
+        drop(hash_builder);
+    }
 }
 
 impl<K: Eq + Hash, V, S: BuildHasher, A: Allocator + Copy> Nodes<K, V, S, A> {

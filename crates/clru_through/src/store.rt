@@ -16,7 +16,6 @@ use std::hash::{BuildHasher, Hash};
 use std::marker::{Model, PhantomData};
 
 /// A source of values, with a cache before it. Each value that is held is the source's value for its key.
-#[derive(Drop)]
 pub struct Through<
     K: Eq + Hash,
     V,
@@ -29,6 +28,23 @@ pub struct Through<
     cache: CLruCache<K, V, S, W, A>,
     source: R,
     error: PhantomData<E>,
+}
+
+impl<K: Eq + Hash + Drop, V: Drop, E, R: Source<K, V, E> + Drop, S: BuildHasher + Drop, W, A> Drop
+    for Through<K, V, E, R, S, W, A>
+where
+    W: WeightScale<K, V> + Drop,
+    A: Allocator + Copy,
+{
+    fn drop(self) {
+        let Through {
+            cache,
+            source,
+            error: _,
+        } = self;
+        drop(cache);
+        drop(source);
+    }
 }
 
 impl<

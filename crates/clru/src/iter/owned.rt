@@ -12,7 +12,6 @@ use std::marker::Model;
 
 /// The pairs of a cache that was given up, the most recently used first, seen as the list of those that are left. Those that
 /// it has not handed out are dropped with it.
-#[derive(Drop)]
 pub struct CLruCacheIntoIter<
     K: Eq + Hash,
     V,
@@ -21,6 +20,17 @@ pub struct CLruCacheIntoIter<
     A: Allocator + Copy = Global,
 > {
     pub(crate) cache: CLruCache<K, V, S, W, A>,
+}
+
+impl<K: Eq + Hash + Drop, V: Drop, S: BuildHasher + Drop, W: WeightScale<K, V> + Drop, A> Drop
+    for CLruCacheIntoIter<K, V, S, W, A>
+where
+    A: Allocator + Copy,
+{
+    fn drop(self) {
+        let CLruCacheIntoIter { cache } = self;
+        drop(cache);
+    }
 }
 
 impl<K: Eq + Hash, V, S: BuildHasher, W: WeightScale<K, V>, A: Allocator + Copy> Model

@@ -23,13 +23,27 @@ use std::marker::Model;
 ///
 /// Memory goes with the requests, nine bytes for each, and sixteen more for each that asks for a key again, besides a
 /// position in a cache for each distinct key.
-#[derive(Drop)]
 pub struct SizedPass<K: Eq + Hash, S: BuildHasher = DefaultState, A: Allocator + Copy = Global> {
     positions: CLruCache<K, usize, S, ZeroWeightScale, A>,
     latest: Sizes<A>,
     hits: Vec<(usize, usize), A>,
     size: usize,
     greatest: usize,
+}
+
+impl<K: Eq + Hash + Drop, S: BuildHasher + Drop, A: Allocator + Copy> Drop for SizedPass<K, S, A> {
+    fn drop(self) {
+        let SizedPass {
+            positions,
+            latest,
+            hits,
+            size: _,
+            greatest: _,
+        } = self;
+        drop(positions);
+        drop(latest);
+        drop(hits);
+    }
 }
 
 impl<K: Eq + Hash, S: BuildHasher, A: Allocator + Copy> Model for SizedPass<K, S, A> {
@@ -135,11 +149,11 @@ impl<K: Eq + Hash, S: BuildHasher, A: Allocator + Copy> SizedPass<K, S, A> {
             → IsSizedCurveOf K.eq w (reverse past) result }
     {
         let SizedPass {
+            positions: _,
             latest,
             hits,
             size,
             greatest,
-            ..
         } = self;
         SizedCurve::from_hits(hits, latest.sizes.len(), size, latest.total(), greatest)
     }

@@ -40,6 +40,11 @@ impl<
         ensures parts { result ≡ (self.cache, self.source) }
         ensures from_source { AllFrom (R.value self.source) self.cache.entries }
     {
-        (self.cache, self.source)
+        let Through {
+            cache,
+            source,
+            error: _,
+        } = self;
+        (cache, source)
     }
 }
