@@ -8,6 +8,7 @@ use Rattle.std.proofs.lemmas.Map.Keys.{IsDistinct-cons}
 use Rattle.clru_model.specs.Entries.{weight_of, size_of, touch, fit}
 use Rattle.clru_model.proofs.Weights.{weight_of-cons, weight_of-zero}
 use Rattle.clru_model.proofs.Lookups.{lookup-without}
+use Rattle.clru_model.proofs.Forms.{IsForm, form_is}
 use Rattle.clru_model.proofs.Fitting.{sublist_fit, size_of-fit}
 use Rattle.clru_model.proofs.Finding.{IsHeld, weight_of-held, touch-held, touch-missed, held_at, missed_at}
 use Rattle.clru_model.proofs.Sublists.{IsSublist, goes, sublist_itself, sublist_remove_entry, sublist_keys, length-sublist, sum_by-sublist, IsDistinct-sublist}
@@ -54,7 +55,7 @@ module _ {K V : Type 0} {eq : K → K → Bool} (weight : K → V → ℕ) where
 
 module _ {K V : Type 0} (weight : K → V → ℕ) where
   -- a touch changes no weight
-  pub weight_of-touch : (eq : K → K → Bool) (x : K) (es : List (K × V)) → weight_of weight (touch eq x es) ≡ weight_of weight es
+  pub weight_of-touch : {X : Type 0} (eq : X → K → Bool) (x : X) (es : List (K × V)) → weight_of weight (touch eq x es) ≡ weight_of weight es
   weight_of-touch eq x es =
       (elim (lookup_entry (eq x) es) as (λ o. lookup_entry (eq x) es ≡ o → weight_of weight (touch eq x es) ≡ weight_of weight es) [
         | None ↦ λ e. ap (weight_of weight) (touch-missed eq x (missed_at (eq x) (sym e)))
@@ -78,6 +79,17 @@ module _ {K V : Type 0} {eq : K → K → Bool} (weight : K → V → ℕ) where
         | None ↦ λ e. subst (λ l. IsKept eq weight l c) (sym (touch-missed eq x (missed_at (eq x) (sym e)))) old
         | Some d ↦ λ e. let h = held_at (eq x) (sym e) in
             subst (λ l. IsKept eq weight l c) (sym (touch-held eq x h)) (IsKept-front x h.entry.1 laws old h refl)
+      ]) refl
+
+  -- the same by a form of the key
+  IsKept-touch_form : {X : Type 0} {es : List (K × V)} {c : ℕ} (by : X → K → Bool) (x : X) → IsForm eq (by x) → IsEquivalence eq
+      → IsKept eq weight es c → IsKept eq weight (touch by x es) c
+  IsKept-touch_form {es = es} {c = c} by x form laws old =
+      (elim (lookup_entry (by x) es) as (λ o. lookup_entry (by x) es ≡ o → IsKept eq weight (touch by x es) c) [
+        | None ↦ λ e. subst (λ l. IsKept eq weight l c) (sym (touch-missed by x (missed_at (by x) (sym e)))) old
+        | Some d ↦ λ e. let h = held_at (by x) (sym e) in
+            subst (λ (test : K → Bool). IsKept eq weight (touch (λ (t : K → Bool). t) test es) c)
+            (sym (form_is eq (by x) form h.entry.0 h.passes)) (IsKept-touch h.entry.0 laws old)
       ]) refl
 
   -- the new pair comes first, and what does not fit beside it goes
@@ -104,13 +116,13 @@ module _ {K V S W A H : Type 0} {eq : K → K → Bool} (weight : W → K → V 
     same_capacity = capacity ∙ old.same_capacity;
   }
 
-  -- after a touch
-  pub IsCache-touch : {n : Nodes K V S A H} (k : K) → IsEquivalence eq → IsCache eq weight hash x c → pairs_in n ≡ touch eq k (pairs_in x.nodes)
-      → IsIndexed hash n → IsSame x.nodes n → IsCache eq weight hash (record x { nodes = n }) c
-  IsCache-touch k laws old same indexed rest =
+  -- after a touch by a form of a key
+  pub IsCache-touch : {X : Type 0} {n : Nodes K V S A H} (by : X → K → Bool) (k : X) → IsForm eq (by k) → IsEquivalence eq → IsCache eq weight hash x c
+      → pairs_in n ≡ touch by k (pairs_in x.nodes) → IsIndexed hash n → IsSame x.nodes n → IsCache eq weight hash (record x { nodes = n }) c
+  IsCache-touch by k form laws old same indexed rest =
       let w = weight x.scale in
-      IsCache-from old same (IsKept-touch w k laws old.pairs) (record {
-        weighs = old.whole.weighs ∙ sym (weight_of-touch w eq k (pairs_in x.nodes)) ∙ ap (weight_of w) (sym same);
+      IsCache-from old same (IsKept-touch_form w by k form laws old.pairs) (record {
+        weighs = old.whole.weighs ∙ sym (weight_of-touch w by k (pairs_in x.nodes)) ∙ ap (weight_of w) (sym same);
         indexed = indexed;
       }) refl rest.capacity
 

@@ -1,5 +1,5 @@
 -- What a cache ends as, once a reference into it has ended. Public clauses cite it.
-use Rattle.std.specs.Prelude.{◌≡◌, List, Option, Result, IfErr, ⊤}
+use Rattle.std.specs.Prelude.{◌≡◌, Bool, List, Option, Result, IfErr, ⊤}
 use Rattle.std.specs.Borrow.{Fml, RattleType, MutBor, LendsIf, LendsSoOk, follows_so}
 use Rattle.std.specs.HashMap.Lent.{HashMembers}
 use Rattle.std.specs.Map.{set_value}
@@ -25,10 +25,11 @@ module _ (K V S W A H : RattleType) (key : HashMembers K.Denot) (build : builder
     abbrev pub ends_with : List (K.Denot × V.Denot) → Fml
     ends_with es = follows_so cache_row cache_row c.ghost_name none (λ _ _. ⊤) (λ n. n ≡ with_entries c.now es)
 
-    -- it has the entries es with the last value written through r at x, and at `None` the entries es as they are
-    abbrev pub lends_value : K.Denot → List (K.Denot × V.Denot) → Option (MutBor V.Denot) → Fml
-    lends_value x es r = LendsIf cache_row V c r
-        (λ w. with_entries c.now (set_value (key.eq x) es w)) (with_entries c.now es)
+    -- it has the entries es with the last value written through r at the first key that passes, and at `None` the entries es
+    -- as they are
+    abbrev pub lends_value : (K.Denot → Bool) → List (K.Denot × V.Denot) → Option (MutBor V.Denot) → Fml
+    lends_value test es r = LendsIf cache_row V c r
+        (λ w. with_entries c.now (set_value test es w)) (with_entries c.now es)
 
     -- it has in front, at x, the last value written through r, as after a plain put, and at `Err` its entries stay; its
     -- places grow only if x needs one

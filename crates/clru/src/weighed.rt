@@ -15,6 +15,7 @@ use clru_list::NoMemory;
 use clru_model::WeightScale;
 use clru_nodes::Nodes;
 use std::alloc::Allocator;
+use std::collections::hash_map::Equivalent;
 use std::hash::{BuildHasher, Hash};
 
 /// Nodes, and what their pairs weigh together by the scale.
@@ -47,12 +48,12 @@ where
 
     /// Takes out the pair with the key, whose hash is given.
     #[inline]
-    pub(crate) fn take(&mut self, hash: u64, key: &K) -> Option<(K, V)>
-        requires hash { hash ≡ hash_of K.Hash S.BuildHasher S.Hasher.Hasher (builder_of self.old.nodes) key.now }
+    pub(crate) fn take<Q: Equivalent<K>>(&mut self, hash: u64, key: Q) -> Option<(K, V)>
+        requires hash { hash ≡ hash_of Q.Hash S.BuildHasher S.Hasher.Hasher (builder_of self.old.nodes) key }
         requires whole { IsWeighed W.weight (hash_of K.Hash S.BuildHasher S.Hasher.Hasher) self.old }
         requires distinct { IsDistinct K.eq (keys_of (pairs_in self.old.nodes)) }
-        ensures pair { result ≡ lookup_entry (K.eq key.now) (pairs_in self.old.nodes) }
-        ensures pairs { pairs_in self.new.nodes ≡ without K.eq key.now (pairs_in self.old.nodes) }
+        ensures pair { result ≡ lookup_entry (Q.equivalent key) (pairs_in self.old.nodes) }
+        ensures pairs { pairs_in self.new.nodes ≡ without Q.equivalent key (pairs_in self.old.nodes) }
         ensures whole { IsWeighed W.weight (hash_of K.Hash S.BuildHasher S.Hasher.Hasher) self.new }
         ensures rest { KeepsRest self.old self.new }
     {

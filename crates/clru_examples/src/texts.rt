@@ -1,34 +1,30 @@
 //! Texts as keys.
 ghost use Rattle.std.specs.Prelude.{◌≡◌, Some, OnOk, OnErr};
 ghost use Rattle.std.specs.Map.{lookup};
-ghost use Rattle.std.specs.String.{string_eq};
+ghost use Rattle.std.specs.Str.{bytes_eq};
+ghost use Rattle.std.specs.String.{string_bytes, string_eq};
 
 use clru::CLruCache;
 use std::alloc::{AllocError, Global};
 
-/// Returns how often a page was looked at, if it is held.
-pub fn looks_at(
-    looks: &mut CLruCache<String, u64>,
-    alloc: Global,
-    page: &str,
-) -> Result<Option<u64>, AllocError> {
-    let key = page.to_string(alloc)?;
-    Ok(looks.get(&key).copied())
+/// Returns how often a page was looked at, if it is held. The text is lent, and no key is built of it.
+pub fn looks_at(looks: &mut CLruCache<String, u64>, page: &str) -> Option<u64>
+    ensures { result ≡ lookup (λ key. bytes_eq page.now (string_bytes key)) looks.old.entries }
+{
+    looks.get(page).copied()
 }
 
-/// Counts one more look at a page, and returns how often it was looked at.
-///
-/// A look-up takes a `&String`, so the key is built first, and where the page is held it is dropped again.
+/// Counts one more look at a page, and returns how often it was looked at. A key is built where the page is not held.
 pub fn look(
     looks: &mut CLruCache<String, u64>,
     alloc: Global,
     page: &str,
 ) -> Result<u64, AllocError> {
-    let key = page.to_string(alloc)?;
-    if let Some(times) = looks.get_mut(&key) {
+    if let Some(times) = looks.get_mut(page) {
         *times = times.saturating_add(1);
         return Ok(*times);
     }
+    let key = page.to_string(alloc)?;
     match looks.put(key, 1) {
         Ok(_) => Ok(1),
         Err(_) => Err(AllocError),
@@ -61,11 +57,7 @@ mod tests {
         let mut looks = CLruCache::new(rt.alloc(), NonZeroUsize::MIN);
         for (page, times) in [("/", 1), ("/", 2), ("/about", 1), ("/", 1)] {
             assert_eq!(rt; look(&mut looks, rt.alloc(), page)?, times, "{page}");
-            assert_eq!(rt;
-                looks_at(&mut looks, rt.alloc(), page)?,
-                Some(times),
-                "{page}"
-            );
+            assert_eq!(rt; looks_at(&mut looks, page), Some(times), "{page}");
         }
         Ok(())
     }
@@ -75,8 +67,8 @@ mod tests {
         let mut looks = CLruCache::new(rt.alloc(), NonZeroUsize::MIN);
         let page = "/about".to_string(rt.alloc())?;
         assert_eq!(rt; remember_looks(&mut looks, page, 3), Ok(()));
-        assert_eq!(rt; looks_at(&mut looks, rt.alloc(), "/about")?, Some(3));
-        assert_eq!(rt; looks_at(&mut looks, rt.alloc(), "/")?, None);
+        assert_eq!(rt; looks_at(&mut looks, "/about"), Some(3));
+        assert_eq!(rt; looks_at(&mut looks, "/"), None);
         Ok(())
     }
 }

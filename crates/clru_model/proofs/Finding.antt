@@ -89,18 +89,12 @@ module _ {K V : Type 0} (test : K → Bool) where
       → weight_of weight (remove_entry test es) + weight h.entry.0 h.entry.1 ≡ weight_of weight es
   weight_of-held weight {es} h = weight_of_found weight es h.entry h.looked_up
 
-module _ {K V : Type 0} (eq : K → K → Bool) (x : K) {es : List (K × V)} where
+module _ {K V X : Type 0} (eq : X → K → Bool) (x : X) {es : List (K × V)} where
   pub touch-missed : IsMissed (eq x) es → touch eq x es ≡ es
   touch-missed m = rw m.looked_up refl
 
   pub touch-held : (h : IsHeld (eq x) es) → touch eq x es ≡ h.entry ∷ remove_entry (eq x) es
   touch-held h = rw h.looked_up refl
-
-  pub plain_put-missed : IsMissed (eq x) es → (c : ℕ) (v : V) → plain_put eq c x v es ≡ (x, v) ∷ take (c - 1) es
-  plain_put-missed m c v = rw m.looked_up refl
-
-  pub plain_put-held : (h : IsHeld (eq x) es) → (c : ℕ) (v : V) → plain_put eq c x v es ≡ (h.entry.0, v) ∷ remove_entry (eq x) es
-  plain_put-held h c v = rw h.looked_up refl
 
   -- a touched list with another value in front
   pub with_front-touch : (h : IsHeld (eq x) es) → (v : V) → with_front v (touch eq x es) ≡ (h.entry.0, v) ∷ remove_entry (eq x) es
@@ -114,3 +108,10 @@ module _ {K V : Type 0} (eq : K → K → Bool) (x : K) {es : List (K × V)} whe
   pub first_touched : {fs : List (K × V)} {o : Option (K × V)} → IsHeld (eq x) es → fs ≡ touch eq x es → o ≡ slice_get fs 0
       → option_map (λ (e : K × V). e.1) o ≡ lookup (eq x) es
   first_touched h same first = rw (first, same, h.looked_up, h.value) refl
+
+module _ {K V : Type 0} (eq : K → K → Bool) (x : K) {es : List (K × V)} where
+  pub plain_put-missed : IsMissed (eq x) es → (c : ℕ) (v : V) → plain_put eq c x v es ≡ (x, v) ∷ take (c - 1) es
+  plain_put-missed m c v = rw m.looked_up refl
+
+  pub plain_put-held : (h : IsHeld (eq x) es) → (c : ℕ) (v : V) → plain_put eq c x v es ≡ (h.entry.0, v) ∷ remove_entry (eq x) es
+  plain_put-held h c v = rw h.looked_up refl

@@ -13,6 +13,7 @@ pub mod Ends
 pub mod EntryRows
 pub mod Finding
 pub mod Fitting
+pub mod Forms
 pub mod Growing
 pub mod Hits
 pub mod Inclusion

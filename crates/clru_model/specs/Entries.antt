@@ -6,18 +6,20 @@ use Rattle.std.specs.Option.{option_map_or}
 use Rattle.std.specs.Map.{lookup, lookup_entry, remove_entry}
 
 module _ {K V : Type 0} where
-  module _ (eq : K → K → Bool) where
+  -- by the words for a key x, or for a form of one, as a `&str` is of a `String`
+  module _ {X : Type 0} (eq : X → K → Bool) where
     -- the pairs less the one whose key is the same as x
-    abbrev pub without : K → List (K × V) → List (K × V)
+    abbrev pub without : X → List (K × V) → List (K × V)
     without x es = remove_entry (eq x) es
 
     -- the pair of x first, and the others in their order
-    abbrev pub touch : K → List (K × V) → List (K × V)
+    abbrev pub touch : X → List (K × V) → List (K × V)
     touch x es = option_map_or (λ e. e ∷ without x es) (lookup_entry (eq x) es) es
 
+  module _ (eq : K → K → Bool) where
     -- a plain put under the capacity c: a key that is held stays with the new value, and a new pair drops what is past the capacity
     abbrev pub plain_put : ℕ → K → V → List (K × V) → List (K × V)
-    plain_put c x v es = option_map_or (λ e. (e.0, v) ∷ without x es) (lookup_entry (eq x) es)
+    plain_put c x v es = option_map_or (λ e. (e.0, v) ∷ without eq x es) (lookup_entry (eq x) es)
         ((x, v) ∷ take (c - 1) es)
 
     -- the pair that a plain put of x drops: the last one, where x is not held and the list has c pairs

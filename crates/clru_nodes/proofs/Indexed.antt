@@ -18,10 +18,10 @@ use Rattle.clru_nodes.proofs.Chaining.{single, met_key, chained_none, chained_sa
 use Rattle.clru_nodes.proofs.ChainWalks.{walk_start}
 use Rattle.clru_nodes.proofs.Cuts.{cut_here}
 
--- keys with the same writes have the same hash
-pub same_hash : {S H W K : Type 0} (finish : H → ℕ) (write : H → W → H) (build : S → H) (input : K → List W) (builder : S) {j k : K} → input j ≡ input k
-    → hash_by finish write build input builder j ≡ hash_by finish write build input builder k
-same_hash {W = W} finish write build input builder e = ap (λ (ws : List W). finish (fold write (build builder) ws)) e
+-- a key has the hash of a form of it, and of each key, with the same writes
+pub same_hash : {S H W X K : Type 0} (finish : H → ℕ) (write : H → W → H) (build : S → H) (form : X → List W) (input : K → List W) (builder : S) {x : X} {k : K}
+    → form x ≡ input k → hash_by finish write build form builder x ≡ hash_by finish write build input builder k
+same_hash {W = W} finish write build form input builder e = ap (λ (ws : List W). finish (fold write (build builder) ws)) e
 
 module _ {K V : Type 0} where
   -- a place that holds something is among the places

@@ -8,12 +8,13 @@ use Rattle.std.specs.List.{IsDistinct}
 use Rattle.std.specs.Map.{keys_of, lookup, lookup_entry, remove_entry}
 use Rattle.std.proofs.lemmas.Map.Keys.{IsDistinct-tail}
 use Rattle.clru_model.specs.Entries.{touch}
+use Rattle.clru_model.proofs.Forms.{IsForm, form_is}
 use Rattle.clru_list.specs.PlaceList.{item_at, with_at, without, IsApart}
 use Rattle.clru_nodes.specs.Heads.{with_value, IsAt}
 use Rattle.clru_nodes.specs.Nodes.{item_with, pair_of, pairs_of}
 use Rattle.clru_nodes.specs.declared.nodes.Item.{Item}
 
-module _ {K V : Type 0} (eq : K → K → Bool) (x : K) where
+module _ {K V X : Type 0} (eq : X → K → Bool) (x : X) where
   -- what a look-up of x gives where its pair stands at the place p
   pub record IsFoundAt (p : ℕ) (item : Item K V) (es : List (ℕ × Item K V)) : Type 0 where
     pub entry : lookup_entry (eq x) (pairs_of es) ≡ Some (item.key, item.value)
@@ -31,28 +32,34 @@ module _ {K V : Type 0} (eq : K → K → Bool) (x : K) where
     | inr there ↦ none_at p es none.1 (record { item = at.item; held = rw (ne_eqb p e.0 there) at at.held; same = at.same })
   ]
 
+  -- no later key passes, where the first does
+  none_past_first : {same : K → K → Bool} → IsEquivalence same → IsForm same (eq x) → (e : K × V) (es : List (K × V))
+      → IsDistinct same (keys_of (e ∷ es)) → eq x e.0 ≡ true → NonePasses (eq x) es
+  none_past_first {same} laws form e es distinct passes =
+      subst (λ test. NonePasses test es) (sym (form_is same (eq x) form e.0 passes)) (none_past_head laws e.0 e es distinct (laws.refl e.0))
+
   -- the pair that stands at a place is the one that a look-up gives
-  pub found_at : IsEquivalence eq → (p : ℕ) (es : List (ℕ × Item K V)) → IsDistinct eq (keys_of (pairs_of es)) → (at : IsAt eq x p es)
-      → IsFoundAt p at.item es
-  found_at laws p [] distinct at = let no = at.held in cc
-  found_at laws p (e ∷ es) distinct at = elim (cases_eq p e.0) [
+  pub found_at : {same : K → K → Bool} → IsEquivalence same → IsForm same (eq x) → (p : ℕ) (es : List (ℕ × Item K V))
+      → IsDistinct same (keys_of (pairs_of es)) → (at : IsAt eq x p es) → IsFoundAt p at.item es
+  found_at laws form p [] distinct at = let no = at.held in cc
+  found_at {same} laws form p (e ∷ es) distinct at = elim (cases_eq p e.0) [
     | inl here ↦
         let item = at.item in
         let is : e.1 ≡ item = let held : Some e.1 ≡ Some item = rw (eq-eqb p e.0 here) at at.held in cc in
-        let same : eq x e.1.key ≡ true = subst (λ (i : Item K V). eq x i.key ≡ true) (sym is) at.same in
+        let passes : eq x e.1.key ≡ true = subst (λ (i : Item K V). eq x i.key ≡ true) (sym is) at.same in
         record {
-          entry = rw (same, is) refl;
-          value = rw (same, is) refl;
-          removed = rw (same, eq-eqb p e.0 here) refl;
-          written = λ v. rw (same, eq-eqb p e.0 here) (ap (λ (i : Item K V). (e.0, item_with i v) ∷ es) (sym is));
+          entry = rw (passes, is) refl;
+          value = rw (passes, is) refl;
+          removed = rw (passes, eq-eqb p e.0 here) refl;
+          written = λ v. rw (passes, eq-eqb p e.0 here) (ap (λ (i : Item K V). (e.0, item_with i v) ∷ es) (sym is));
         }
     | inr there ↦
         let later : IsAt eq x p es = record { item = at.item; held = rw (ne_eqb p e.0 there) at at.held; same = at.same } in
         let apart : eq x e.1.key ≡ false = elim (cases_Bool (eq x e.1.key)) [
-          | inl t ↦ absurd (none_at p es (none_past_head laws x (e.1.key, e.1.value) (pairs_of es) distinct t) later)
+          | inl t ↦ absurd (none_at p es (none_past_first laws form (e.1.key, e.1.value) (pairs_of es) distinct t) later)
           | inr f ↦ f
         ] in
-        let ih = found_at laws p es (IsDistinct-tail eq e.1.key (keys_of (pairs_of es)) distinct) later in
+        let ih = found_at laws form p es (IsDistinct-tail same e.1.key (keys_of (pairs_of es)) distinct) later in
         record {
           entry = rw apart ih.entry;
           value = rw apart ih.value;
@@ -62,11 +69,11 @@ module _ {K V : Type 0} (eq : K → K → Bool) (x : K) where
   ]
 
   -- the same, by what stands there
-  pub found_item : IsEquivalence eq → {p : ℕ} {es : List (ℕ × Item K V)} → IsDistinct eq (keys_of (pairs_of es)) → IsAt eq x p es
-      → (i : Item K V) → item_at p es ≡ Some i → IsFoundAt p i es
-  found_item laws {p} {es} distinct at i held =
+  pub found_item : {same : K → K → Bool} → IsEquivalence same → IsForm same (eq x) → {p : ℕ} {es : List (ℕ × Item K V)}
+      → IsDistinct same (keys_of (pairs_of es)) → IsAt eq x p es → (i : Item K V) → item_at p es ≡ Some i → IsFoundAt p i es
+  found_item laws form {p} {es} distinct at i held =
       let is : at.item ≡ i = let both : Some at.item ≡ Some i = sym at.held ∙ held in cc in
-      subst (λ j. IsFoundAt p j es) is (found_at laws p es distinct at)
+      subst (λ j. IsFoundAt p j es) is (found_at laws form p es distinct at)
 
   -- a found pair that comes first
   pub touch_found : {p : ℕ} {item : Item K V} {es : List (ℕ × Item K V)} → IsFoundAt p item es

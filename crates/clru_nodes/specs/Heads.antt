@@ -35,8 +35,8 @@ module _ {K V : Type 0} where
   abbrev pub IsTaken : K × V → ℕ → List (ℕ × Item K V) → Type 0
   IsTaken pair p es = (i : Item K V) × (item_at p es ≡ Some i) × (pair ≡ (i.key, i.value))
 
-  -- the item at the place has the key x
-  pub record IsAt (eq : K → K → Bool) (x : K) (p : ℕ) (es : List (ℕ × Item K V)) : Type 0 where
+  -- the item at the place has the key x, or the key of which x is a form
+  pub record IsAt {X : Type 0} (eq : X → K → Bool) (x : X) (p : ℕ) (es : List (ℕ × Item K V)) : Type 0 where
     pub item : Item K V
     pub held : item_at p es ≡ Some item
     pub same : eq x item.key ≡ true

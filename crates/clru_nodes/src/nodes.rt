@@ -12,6 +12,7 @@ ghost use Rattle.clru_nodes.specs.Nodes.{hash_of, pairs_of, pairs_in, capacity_o
 use crate::heads::{Heads, NARROW, NOWHERE};
 use clru_list::FixedSizeList;
 use std::alloc::Allocator;
+use std::collections::hash_map::Equivalent;
 use std::hash::{BuildHasher, Hash};
 
 mod chaining;
@@ -123,21 +124,21 @@ impl<K: Eq + Hash, V, S: BuildHasher, A: Allocator + Copy> Nodes<K, V, S, A> {
         self.list.resize(capacity);
     }
 
-    /// Returns the hash of a key.
-    pub fn hash(&self, key: &K) -> u64
-        ensures { result ≡ hash_of K.Hash S.BuildHasher S.Hasher.Hasher (builder_of self.now) key.now }
+    /// Returns the hash of a key, which is that of each form of it.
+    pub fn hash<Q: Equivalent<K>>(&self, key: Q) -> u64
+        ensures { result ≡ hash_of Q.Hash S.BuildHasher S.Hasher.Hasher (builder_of self.now) key }
     {
-        self.hash_builder.hash_one(key)
+        self.hash_builder.hash_one(&key)
     }
 
     /// Returns the place of the pair with the key, whose hash is given.
     #[inline(always)]
-    fn find(&self, hash: u64, key: &K) -> Option<usize>
-        requires hash { hash ≡ hash_of K.Hash S.BuildHasher S.Hasher.Hasher self.now.hash_builder key.now }
+    fn find<Q: Equivalent<K>>(&self, hash: u64, key: Q) -> Option<usize>
+        requires hash { hash ≡ hash_of Q.Hash S.BuildHasher S.Hasher.Hasher self.now.hash_builder key }
         requires indexed { IsIndexed (hash_of K.Hash S.BuildHasher S.Hasher.Hasher) self.now }
-        ensures found { IfSome result (λ p. IsAt K.eq key.now p self.now.list.entries) }
+        ensures found { IfSome result (λ p. IsAt Q.equivalent key p self.now.list.entries) }
         ensures valid { IsValid self.now.list }
-        ensures absent { IfNone result (lookup_entry (K.eq key.now) (pairs_of self.now.list.entries) ≡ None) }
+        ensures absent { IfNone result (lookup_entry (Q.equivalent key) (pairs_of self.now.list.entries) ≡ None) }
     {
         if self.list.is_empty() {
             return None;
@@ -146,7 +147,7 @@ impl<K: Eq + Hash, V, S: BuildHasher, A: Allocator + Copy> Nodes<K, V, S, A> {
         let mut next = self.heads.first(head);
         while next != NOWHERE {
             let item = self.list.item(next);
-            if *key == item.key {
+            if key.equivalent(&item.key) {
                 return Some(next);
             }
             next = self.heads.next(next);
@@ -155,11 +156,11 @@ impl<K: Eq + Hash, V, S: BuildHasher, A: Allocator + Copy> Nodes<K, V, S, A> {
     }
 
     /// Returns the value of the key, whose hash is given.
-    pub fn get(&self, hash: u64, key: &K) -> Option<&V>
-        requires hash { hash ≡ hash_of K.Hash S.BuildHasher S.Hasher.Hasher (builder_of self.now) key.now }
+    pub fn get<Q: Equivalent<K>>(&self, hash: u64, key: Q) -> Option<&V>
+        requires hash { hash ≡ hash_of Q.Hash S.BuildHasher S.Hasher.Hasher (builder_of self.now) key }
         requires indexed { IsIndexed (hash_of K.Hash S.BuildHasher S.Hasher.Hasher) self.now }
         requires distinct { IsDistinct K.eq (keys_of (pairs_in self.now)) }
-        ensures { option_copied result ≡ lookup (K.eq key.now) (pairs_in self.now) }
+        ensures { option_copied result ≡ lookup (Q.equivalent key) (pairs_in self.now) }
     {
         let place = self.find(hash, key)?;
         Some(&self.list.item(place).value)

@@ -95,7 +95,10 @@ fn loads_one<'a>(heap: &'a Rationed<Global>, store: &mut Store<'a>, letter: &str
         return Load::Failed;
     };
     match store.load(key) {
-        Ok(Loaded::Held { .. }) => Load::Held,
+        Ok(Loaded::Held { .. }) => match store.peek(letter) {
+            Some(_) => Load::Held,
+            None => Load::Passed,
+        },
         Ok(Loaded::Passed(page)) => passed_on(&page),
         Err(_) => Load::Failed,
     }

@@ -6,8 +6,9 @@ use Rattle.std.specs.Map.Iter.{deref_pair}
 use Rattle.std.specs.Option.{IfSome, is_some, option_copied, option_map}
 use Rattle.clru.specs.Cache.{Cache, with_entries}
 use Rattle.clru.specs.Entries.{touch}
-use Rattle.clru_through.specs.Store.{AllFrom}
-use Rattle.clru_through.proofs.Sourced.{AllFrom-lookup, touch-absent}
+use Rattle.clru_model.proofs.Forms.{IsForm}
+use Rattle.clru_through.specs.Store.{AllFrom, IsValueOf}
+use Rattle.clru_through.proofs.Sourced.{IsValueOf-lookup, touch-absent}
 
 -- where it answers something, it answers a value
 pub is_there : {V : Type 0} (held : Option V) → is_some held ≡ true → (v : V) × (held ≡ Some v)
@@ -24,12 +25,12 @@ pub with_entries-touch-absent : {K V W : Type 0} (eq : K → K → Bool) (x : K)
     → with_entries c (touch eq x c.entries) ≡ c
 with_entries-touch-absent eq x c absent = ap (with_entries c) (touch-absent eq x c.entries absent)
 
--- the value that a look-up answers is the source's
-pub IfSome-lookup : {K V : Type 0} (eq : K → K → Bool) (x : K) (value : K → Option V) → ((y : K) → IsTrue (eq x y) → value x ≡ value y)
-    → (es : List (K × V)) → AllFrom value es → (answer : Option (Bor V)) → option_copied answer ≡ lookup (eq x) es
-    → IfSome answer (λ v. value x ≡ Some v.now)
-IfSome-lookup eq x value same es all None is = tt
-IfSome-lookup eq x value same es all (Some v) is = AllFrom-lookup eq x value same es v.now all (sym is)
+-- the value that a look-up by a form of a key answers is the source's
+pub IfSome-lookup : {K V : Type 0} {eq : K → K → Bool} {test : K → Bool} → IsForm eq test → {value : K → Option V}
+    → ((x y : K) → IsTrue (eq x y) → value x ≡ value y) → (es : List (K × V)) → AllFrom value es → (answer : Option (Bor V))
+    → option_copied answer ≡ lookup test es → IfSome answer (λ v. IsValueOf value test v.now)
+IfSome-lookup form same es all None is = tt
+IfSome-lookup form same es all (Some v) is = IsValueOf-lookup form same es all v.now (sym is)
 
 -- the first pair has the source's value
 pub IfSome-first : {K V : Type 0} (value : K → Option V) (es : List (K × V)) → AllFrom value es → (answer : Option (Bor K × Bor V))

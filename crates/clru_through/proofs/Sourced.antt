@@ -5,7 +5,8 @@ use Rattle.std.specs.Map.{lookup, lookup_entry}
 use Rattle.clru.specs.Entries.{fit, touch, weighted_put, without}
 use Rattle.clru.proofs.Sublists.{All-sublist, IsSublist, sublist_remove_entry, sublist_trans}
 use Rattle.clru.proofs.Fitting.{sublist_fit}
-use Rattle.clru_through.specs.Store.{AllFrom}
+use Rattle.clru_model.proofs.Forms.{IsForm}
+use Rattle.clru_through.specs.Store.{AllFrom, IsValueOf}
 
 module _ {K V : Type 0} (test : K → Bool) where
   -- the first entry whose key passes has the value v
@@ -55,7 +56,7 @@ module _ {K V : Type 0} (value : K → Option V) where
   unfolding AllFrom
   AllFrom-sublist es fs less all = All-sublist (λ (d : K × V). value d.0 ≡ Some d.1) less all
 
-  pub AllFrom-without : (eq : K → K → Bool) (x : K) (es : List (K × V)) → AllFrom value es → AllFrom value (without eq x es)
+  pub AllFrom-without : {X : Type 0} (eq : X → K → Bool) (x : X) (es : List (K × V)) → AllFrom value es → AllFrom value (without eq x es)
   AllFrom-without eq x es all = AllFrom-sublist (without eq x es) es (sublist_remove_entry (eq x) es) all
 
   pub AllFrom-fit : (weight : K → V → ℕ) (c : ℕ) (es : List (K × V)) → AllFrom value es → AllFrom value (fit weight c es)
@@ -86,12 +87,6 @@ module _ {K V : Type 0} (eq : K → K → Bool) (x : K) where
         → lookup (eq x) es ≡ Some v → IsSomeAnd (slice_get (touch eq x es) 0) (λ e. value x ≡ Some e.1)
     IsSomeAnd-touched same es v all h = let e = entry_of (eq x) es v h in rw e.looked_up (AllFrom-lookup same es v all h)
 
-    -- the value that is taken out is the source's
-    pub IfSome-held : ((y : K) → IsTrue (eq x y) → value x ≡ value y) → (es : List (K × V)) → AllFrom value es → (held : Option V)
-        → held ≡ lookup (eq x) es → IfSome held (λ v. value x ≡ Some v)
-    IfSome-held same es all None is = tt
-    IfSome-held same es all (Some v) is = AllFrom-lookup same es v all (sym is)
-
     AllFrom-touched : (es : List (K × V)) (o : Option (K × V)) → AllFrom value es → lookup_entry (eq x) es ≡ o
         → AllFrom value (option_map_or (λ e. e ∷ without eq x es) o es)
     unfolding AllFrom
@@ -110,3 +105,17 @@ module _ {K V : Type 0} (eq : K → K → Bool) (x : K) where
       All-sublist (λ (d : K × V). value d.0 ≡ Some d.1)
           (sublist_trans (sublist_remove_entry (eq x) es) (sublist_fit weight (c - 1 - weight x v) (without eq x es))) all,
     )
+
+-- by a form of a key, where the source gives one value for keys that are the same
+module _ {K V : Type 0} {eq : K → K → Bool} {test : K → Bool} (form : IsForm eq test) {value : K → Option V}
+    (same : (x y : K) → IsTrue (eq x y) → value x ≡ value y) (es : List (K × V)) (all : AllFrom value es) where
+  -- the value that is found is the source's
+  pub IsValueOf-lookup : (v : V) → lookup test es ≡ Some v → IsValueOf value test v
+  IsValueOf-lookup v h = λ k passes.
+      let e = entry_of test es v h in
+      sym (same e.key k (sym (form e.key k e.passes) ∙ passes)) ∙ AllFrom-lookup_entry test value es (e.key, v) all e.looked_up
+
+  -- and so is the one that is taken out
+  pub IfSome-held : (held : Option V) → held ≡ lookup test es → IfSome held (λ v. IsValueOf value test v)
+  IfSome-held None is = tt
+  IfSome-held (Some v) is = IsValueOf-lookup v (sym is)

@@ -1,5 +1,5 @@
 -- What a contract sees of a store. Public clauses cite it.
-use Rattle.std.specs.Prelude.{◌≡◌, Option, Some, List, refl}
+use Rattle.std.specs.Prelude.{◌≡◌, Bool, IsTrue, Option, Some, List, refl}
 use Rattle.std.specs.Coded.{Coded, code_by, coded×}
 use Rattle.std.specs.List.{AllByRecursion}
 use Rattle.clru.specs.Cache.{Cache}
@@ -19,3 +19,7 @@ module _ {K V W R : Type 0} where
 -- each entry has the value that the source gives for its key
 unfoldable pub AllFrom : {K V : Type 0} → (K → Option V) → List (K × V) → Type 0
 AllFrom value es = AllByRecursion (λ e. value e.0 ≡ Some e.1) es
+
+-- v is the value that the source gives for each key that passes the test
+abbrev pub IsValueOf : {K V : Type 0} → (K → Option V) → (K → Bool) → V → Type 0
+IsValueOf {K} value test v = (k : K) → IsTrue (test k) → value k ≡ Some v

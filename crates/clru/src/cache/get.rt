@@ -10,6 +10,7 @@ ghost use Rattle.clru.specs.Lends.{ends_with, lends_value};
 use crate::cache::CLruCache;
 use clru_model::{WeightScale, ZeroWeightScale};
 use std::alloc::Allocator;
+use std::collections::hash_map::Equivalent;
 use std::hash::{BuildHasher, Hash};
 
 impl<K: Eq + Hash, V, S: BuildHasher, W: WeightScale<K, V>, A> CLruCache<K, V, S, W, A>
@@ -18,19 +19,18 @@ where
 {
     /// Returns the value of the key, and makes its entry the most recently used: it promotes it.
     ///
-    /// A look-up of a `String` key builds the key first: only keys are compared and hashed, so that each clause has one
-    /// equality and one hash.
+    /// The key is lent, or is a form of it: a `&str` where the keys are `String`, a slice where they are `Vec`. No key is built
+    /// for it.
     /// Cost: one hash and a walk along one chain.
     ///
     /// ```rust
-    /// let key = page.to_string(alloc)?;
-    /// Ok(looks.get(&key).copied())
+    /// looks.get(page).copied()
     /// ```
     #[inline]
-    pub fn get(&mut self, key: &K) -> Option<&V>
+    pub fn get<Q: Equivalent<K>>(&mut self, key: Q) -> Option<&V>
         ensures* touches { sem 𝓛 (ends_with K.row V.row S.row W.row A.row S.Hasher.row K.Hash S.BuildHasher
-            S.Hasher.Hasher W.WeightScale A.Allocator self.entry (touch K.eq key.now self.old.entries)) }
-        ensures value { option_copied result ≡ lookup (K.eq key.now) self.old.entries }
+            S.Hasher.Hasher W.WeightScale A.Allocator self.entry (touch Q.equivalent key self.old.entries)) }
+        ensures value { option_copied result ≡ lookup (Q.equivalent key) self.old.entries }
     {
         let hash = self.pairs.nodes.hash(key);
         if self.pairs.nodes.touch(hash, key) {
@@ -45,16 +45,16 @@ where
 
     /// Returns the value of the key, and leaves the order as it is.
     /// Cost: one hash and a walk along one chain.
-    pub fn peek(&self, key: &K) -> Option<&V>
-        ensures { option_copied result ≡ lookup (K.eq key.now) self.now.entries }
+    pub fn peek<Q: Equivalent<K>>(&self, key: Q) -> Option<&V>
+        ensures { option_copied result ≡ lookup (Q.equivalent key) self.now.entries }
     {
         self.pairs.nodes.get(self.pairs.nodes.hash(key), key)
     }
 
     /// Returns whether the key is held, and leaves the order as it is.
     /// Cost: one hash and a walk along one chain.
-    pub fn contains(&self, key: &K) -> bool
-        ensures { result ≡ is_some (lookup (K.eq key.now) self.now.entries) }
+    pub fn contains<Q: Equivalent<K>>(&self, key: Q) -> bool
+        ensures { result ≡ is_some (lookup (Q.equivalent key) self.now.entries) }
     {
         self.peek(key).is_some()
     }
@@ -63,11 +63,11 @@ where
 impl<K: Eq + Hash, V, S: BuildHasher, A: Allocator + Copy> CLruCache<K, V, S, ZeroWeightScale, A> {
     /// Lends the value of the key for writing, and makes its entry the most recently used.
     /// Cost: one hash and a walk along one chain.
-    pub fn get_mut(&mut self, key: &K) -> Option<&mut V>
+    pub fn get_mut<Q: Equivalent<K>>(&mut self, key: Q) -> Option<&mut V>
         ensures* lends { sem 𝓛 (lends_value K.row V.row S.row zero_scale_row A.row S.Hasher.row K.Hash S.BuildHasher
-            S.Hasher.Hasher ⟦<ZeroWeightScale as WeightScale<K, V>>⟧ A.Allocator self.entry key.now
-            (touch K.eq key.now self.old.entries) result) }
-        ensures value { option_copied_mut result ≡ lookup (K.eq key.now) self.old.entries }
+            S.Hasher.Hasher ⟦<ZeroWeightScale as WeightScale<K, V>>⟧ A.Allocator self.entry (Q.equivalent key)
+            (touch Q.equivalent key self.old.entries) result) }
+        ensures value { option_copied_mut result ≡ lookup (Q.equivalent key) self.old.entries }
     {
         let hash = self.pairs.nodes.hash(key);
         if !self.pairs.nodes.touch(hash, key) {
@@ -78,11 +78,11 @@ impl<K: Eq + Hash, V, S: BuildHasher, A: Allocator + Copy> CLruCache<K, V, S, Ze
 
     /// Lends the value of the key for writing, and leaves the order as it is.
     /// Cost: one hash and a walk along one chain.
-    pub fn peek_mut(&mut self, key: &K) -> Option<&mut V>
+    pub fn peek_mut<Q: Equivalent<K>>(&mut self, key: Q) -> Option<&mut V>
         ensures* lends { sem 𝓛 (lends_value K.row V.row S.row zero_scale_row A.row S.Hasher.row K.Hash S.BuildHasher
-            S.Hasher.Hasher ⟦<ZeroWeightScale as WeightScale<K, V>>⟧ A.Allocator self.entry key.now
+            S.Hasher.Hasher ⟦<ZeroWeightScale as WeightScale<K, V>>⟧ A.Allocator self.entry (Q.equivalent key)
             self.old.entries result) }
-        ensures value { option_copied_mut result ≡ lookup (K.eq key.now) self.old.entries }
+        ensures value { option_copied_mut result ≡ lookup (Q.equivalent key) self.old.entries }
     {
         let hash = self.pairs.nodes.hash(key);
         let value = self.pairs.nodes.get_mut(hash, key)?;

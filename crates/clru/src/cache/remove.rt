@@ -7,6 +7,7 @@ ghost use Rattle.clru.specs.Cache.{with_entries};
 use crate::cache::CLruCache;
 use clru_model::WeightScale;
 use std::alloc::Allocator;
+use std::collections::hash_map::Equivalent;
 use std::hash::{BuildHasher, Hash};
 
 impl<K: Eq + Hash, V, S: BuildHasher, W: WeightScale<K, V>, A> CLruCache<K, V, S, W, A>
@@ -15,11 +16,11 @@ where
 {
     /// Removes the entry of the key and returns its value. Its place stays ready.
     /// Cost: one hash and a walk along one chain, and a weighing of the pair that goes.
-    pub fn pop(&mut self, key: &K) -> Option<V>
+    pub fn pop<Q: Equivalent<K>>(&mut self, key: Q) -> Option<V>
     where
         K: Drop,
-        ensures value { result ≡ lookup (K.eq key.now) self.old.entries }
-        ensures entries { self.new ≡ with_entries self.old (without K.eq key.now self.old.entries) }
+        ensures value { result ≡ lookup (Q.equivalent key) self.old.entries }
+        ensures entries { self.new ≡ with_entries self.old (without Q.equivalent key self.old.entries) }
     {
         let hash = self.pairs.nodes.hash(key);
         let (_, value) = self.pairs.take(hash, key)?;

@@ -11,6 +11,7 @@ ghost use Rattle.clru_nodes.specs.NodesLends.{lends_front, lends_back, lends_val
 
 use crate::nodes::{Item, Nodes};
 use std::alloc::Allocator;
+use std::collections::hash_map::Equivalent;
 use std::hash::{BuildHasher, Hash};
 use std::mem;
 
@@ -61,13 +62,13 @@ impl<K: Eq + Hash, V, S: BuildHasher, A: Allocator + Copy> Nodes<K, V, S, A> {
     }
 
     /// Returns the value of the key, whose hash is given, for writing. Its pair stays where it is.
-    pub fn get_mut(&mut self, hash: u64, key: &K) -> Option<&mut V>
-        requires hash { hash ≡ hash_of K.Hash S.BuildHasher S.Hasher.Hasher (builder_of self.old) key.now }
+    pub fn get_mut<Q: Equivalent<K>>(&mut self, hash: u64, key: Q) -> Option<&mut V>
+        requires hash { hash ≡ hash_of Q.Hash S.BuildHasher S.Hasher.Hasher (builder_of self.old) key }
         requires indexed { IsIndexed (hash_of K.Hash S.BuildHasher S.Hasher.Hasher) self.old }
         requires distinct { IsDistinct K.eq (keys_of (pairs_in self.old)) }
         ensures* lends { sem 𝓛 (lends_value K.row V.row S.row A.row S.Hasher.row A.Allocator
-            self.entry (K.eq key.now) result) }
-        ensures value { option_copied_mut result ≡ lookup (K.eq key.now) (pairs_in self.old) }
+            self.entry (Q.equivalent key) result) }
+        ensures value { option_copied_mut result ≡ lookup (Q.equivalent key) (pairs_in self.old) }
     {
         let place = self.find(hash, key)?;
         match self.list.get_mut(place) {

@@ -10,18 +10,19 @@ ghost use Rattle.clru_nodes.specs.Nodes.{hash_of, pairs_of, pairs_in, capacity_o
 
 use crate::nodes::{Item, Nodes};
 use std::alloc::Allocator;
+use std::collections::hash_map::Equivalent;
 use std::hash::{BuildHasher, Hash};
 use std::mem;
 
 impl<K: Eq + Hash, V, S: BuildHasher, A: Allocator + Copy> Nodes<K, V, S, A> {
     /// Moves the pair with the key, whose hash is given, to the front, and answers whether there is one.
     #[inline(always)]
-    pub fn touch(&mut self, hash: u64, key: &K) -> bool
-        requires hash { hash ≡ hash_of K.Hash S.BuildHasher S.Hasher.Hasher (builder_of self.old) key.now }
+    pub fn touch<Q: Equivalent<K>>(&mut self, hash: u64, key: Q) -> bool
+        requires hash { hash ≡ hash_of Q.Hash S.BuildHasher S.Hasher.Hasher (builder_of self.old) key }
         requires indexed { IsIndexed (hash_of K.Hash S.BuildHasher S.Hasher.Hasher) self.old }
         requires distinct { IsDistinct K.eq (keys_of (pairs_in self.old)) }
-        ensures held { result ≡ is_some (lookup (K.eq key.now) (pairs_in self.old)) }
-        ensures pairs { pairs_in self.new ≡ touch K.eq key.now (pairs_in self.old) }
+        ensures held { result ≡ is_some (lookup (Q.equivalent key) (pairs_in self.old)) }
+        ensures pairs { pairs_in self.new ≡ touch Q.equivalent key (pairs_in self.old) }
         ensures indexed { IsIndexed (hash_of K.Hash S.BuildHasher S.Hasher.Hasher) self.new }
         ensures same { IsSame self.old self.new }
     {
@@ -34,12 +35,12 @@ impl<K: Eq + Hash, V, S: BuildHasher, A: Allocator + Copy> Nodes<K, V, S, A> {
 
     /// Takes out the pair with the key, whose hash is given.
     #[inline(always)]
-    pub fn take(&mut self, hash: u64, key: &K) -> Option<(K, V)>
-        requires hash { hash ≡ hash_of K.Hash S.BuildHasher S.Hasher.Hasher (builder_of self.old) key.now }
+    pub fn take<Q: Equivalent<K>>(&mut self, hash: u64, key: Q) -> Option<(K, V)>
+        requires hash { hash ≡ hash_of Q.Hash S.BuildHasher S.Hasher.Hasher (builder_of self.old) key }
         requires indexed { IsIndexed (hash_of K.Hash S.BuildHasher S.Hasher.Hasher) self.old }
         requires distinct { IsDistinct K.eq (keys_of (pairs_in self.old)) }
-        ensures pair { result ≡ lookup_entry (K.eq key.now) (pairs_in self.old) }
-        ensures pairs { pairs_in self.new ≡ entries.without K.eq key.now (pairs_in self.old) }
+        ensures pair { result ≡ lookup_entry (Q.equivalent key) (pairs_in self.old) }
+        ensures pairs { pairs_in self.new ≡ entries.without Q.equivalent key (pairs_in self.old) }
         ensures indexed { IsIndexed (hash_of K.Hash S.BuildHasher S.Hasher.Hasher) self.new }
         ensures same { IsSame self.old self.new }
     {

@@ -6,7 +6,7 @@ ghost use Rattle.std.specs.Map.Iter.{deref_pair};
 ghost use Rattle.clru.specs.Cache.{with_entries};
 ghost use Rattle.clru.specs.Entries.{touch};
 ghost use Rattle.clru_through.specs.Given.{IsAnswerOf, IsHeld, answer_value, loaded_value, was_fetched};
-ghost use Rattle.clru_through.specs.Store.{AllFrom, Store};
+ghost use Rattle.clru_through.specs.Store.{AllFrom, IsValueOf, Store};
 ghost use Rattle.clru_through.specs.Steps.{Loads, Takes};
 ghost use Rattle.clru_through.specs.declared.answer.Loaded.{Loaded};
 
@@ -15,6 +15,7 @@ use crate::source::Source;
 use crate::store::Through;
 use clru::{CLruCache, PutError, WeightScale};
 use std::alloc::Allocator;
+use std::collections::hash_map::Equivalent;
 use std::hash::{BuildHasher, Hash};
 
 impl<
@@ -89,10 +90,12 @@ impl<
     }
 
     /// Returns the value of the key if it is held. Nothing is fetched, and the order stays as it is.
+    ///
+    /// The key is lent, or is a form of it, as in a cache.
     /// Cost: one hash and a walk along one chain.
-    pub fn peek(&self, key: &K) -> Option<&V>
-        ensures held { option_copied result ≡ lookup (K.eq key.now) self.now.cache.entries }
-        ensures value { IfSome result (λ v. R.value self.now.source key.now ≡ Some v.now) }
+    pub fn peek<Q: Equivalent<K>>(&self, key: Q) -> Option<&V>
+        ensures held { option_copied result ≡ lookup (Q.equivalent key) self.now.cache.entries }
+        ensures value { IfSome result (λ v. IsValueOf (R.value self.now.source) (Q.equivalent key) v.now) }
     {
         self.cache.peek(key)
     }

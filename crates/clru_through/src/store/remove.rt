@@ -1,15 +1,16 @@
 //! The calls after which less is held. Nothing is fetched, and the source is as it was.
-ghost use Rattle.std.specs.Prelude.{◌≡◌, [], Some, IfSome};
+ghost use Rattle.std.specs.Prelude.{◌≡◌, [], IfSome};
 ghost use Rattle.std.specs.Int.NonZero.{non_zero_usize_get};
 ghost use Rattle.std.specs.Map.{lookup};
 ghost use Rattle.clru.specs.Cache.{cache as cache_of, with_entries};
 ghost use Rattle.clru.specs.Entries.{fit, without};
-ghost use Rattle.clru_through.specs.Store.{AllFrom, store};
+ghost use Rattle.clru_through.specs.Store.{AllFrom, IsValueOf, store};
 
 use crate::source::Source;
 use crate::store::Through;
 use clru::{NonZeroUsize, WeightScale};
 use std::alloc::Allocator;
+use std::collections::hash_map::Equivalent;
 use std::hash::{BuildHasher, Hash};
 
 impl<
@@ -25,13 +26,13 @@ impl<
     ///
     /// Its place stays ready.
     /// Cost: one hash and a walk along one chain, and a weighing of what goes.
-    pub fn pop(&mut self, key: &K) -> Option<V>
+    pub fn pop<Q: Equivalent<K>>(&mut self, key: Q) -> Option<V>
     where
         K: Drop,
-        ensures held { result ≡ lookup (K.eq key.now) self.old.cache.entries }
-        ensures value { IfSome result (λ v. R.value self.old.source key.now ≡ Some v) }
+        ensures held { result ≡ lookup (Q.equivalent key) self.old.cache.entries }
+        ensures value { IfSome result (λ v. IsValueOf (R.value self.old.source) (Q.equivalent key) v) }
         ensures ends { let old = self.old.cache in
-            self.new ≡ store (with_entries old (without K.eq key.now old.entries)) self.old.source }
+            self.new ≡ store (with_entries old (without Q.equivalent key old.entries)) self.old.source }
         ensures from_source { AllFrom (R.value self.new.source) self.new.cache.entries }
     {
         self.cache.pop(key)

@@ -10,17 +10,17 @@ use Rattle.clru.proofs.cache.CLruCache.get.Goals as goal
 
 pub invariant_of-self : goal.invariant_of-self
 invariant_of-self g c =
-    let e = c.touch.ensures in IsCache-touch g.W.WeightScale.weight c.args.key.now g.met.K.Eq.laws c.self.invariant e.pairs e.indexed e.same
+    let e = c.touch.ensures in IsCache-touch g.W.WeightScale.weight g.Q.Equivalent.equivalent c.args.key (g.met.Q.Equivalent.respects_eq c.args.key) g.met.K.Eq.laws c.self.invariant e.pairs e.indexed e.same
 
 pub unreachable-requires : goal.unreachable-requires
 unreachable-requires g c =
-    let e = c.touch.ensures in let eq = g.K.PartialEq.eq in let key = c.args.key.now in let h = held (eq key) c.if-touch.ensures.held in
+    let e = c.touch.ensures in let eq = g.Q.Equivalent.equivalent in let key = c.args.key in let h = held (eq key) c.if-touch.ensures.held in
     let none : None ≡ slice_get (pairs_in c.touch.new.self) 0 = sym (ap (option_map deref_pair) c.in_default.is) ∙ c.front.ensures in
     let no = first_touched eq key h e.pairs none ∙ h.value in cc
 
 pub returns-then-touch : goal.returns-then-touch
 returns-then-touch g c =
-    let f = c.self.inside in let e = c.touch.ensures in let eq = g.K.PartialEq.eq in let key = c.args.key.now in
+    let f = c.self.inside in let e = c.touch.ensures in let eq = g.Q.Equivalent.equivalent in let key = c.args.key in
     rw (← c.self.view_is) (
       (refl, λ _. tt, λ i. cache (e.pairs i) (non_zero_usize_get f.capacity) f.pairs.scale (e.same.places i)),
       record { touches = tt; value = first_touched eq key (held (eq key) c.if-touch.ensures.held) e.pairs c.in-Some.ensures },
@@ -28,4 +28,4 @@ returns-then-touch g c =
 
 pub invariant_of-self-else-touch : goal.invariant_of-self-else-touch
 invariant_of-self-else-touch g c =
-    let e = c.touch.ensures in IsCache-touch g.W.WeightScale.weight c.args.key.now g.met.K.Eq.laws c.self.invariant e.pairs e.indexed e.same
+    let e = c.touch.ensures in IsCache-touch g.W.WeightScale.weight g.Q.Equivalent.equivalent c.args.key (g.met.Q.Equivalent.respects_eq c.args.key) g.met.K.Eq.laws c.self.invariant e.pairs e.indexed e.same

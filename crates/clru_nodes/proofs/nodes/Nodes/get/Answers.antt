@@ -5,9 +5,9 @@ use Rattle.clru_nodes.proofs.nodes.Nodes.get.Goals as goal
 
 pub returns-in_err-place : goal.returns-in_err-place
 returns-in_err-place g c =
-    rw c.from_residual.ensures (sym (no_value g.K.PartialEq.eq c.args.key.now (pairs_of c.args.self.now.list.entries) c.in_err-place.ensures.absent))
+    rw c.from_residual.ensures (sym (no_value g.Q.Equivalent.equivalent c.args.key (pairs_of c.args.self.now.list.entries) c.in_err-place.ensures.absent))
 
 pub returns : goal.returns
 returns g c =
-    sym (found_item g.K.PartialEq.eq c.args.key.now g.met.K.Eq.laws c.requires.distinct c.in_ok-place.ensures.found c.item.result.now
+    sym (found_item g.Q.Equivalent.equivalent c.args.key g.met.K.Eq.laws (g.met.Q.Equivalent.respects_eq c.args.key) c.requires.distinct c.in_ok-place.ensures.found c.item.result.now
     c.item.ensures.value).value

@@ -10,7 +10,7 @@ use Rattle.clru_nodes.proofs.nodes.Nodes.take.Goals as goal
 
 pub returns-in_err-place-clause-pairs : goal.returns-in_err-place-clause-pairs
 returns-in_err-place-clause-pairs g c =
-    sym (none_removed g.K.PartialEq.eq c.args.key.now (pairs_of c.args.self.now.list.entries) c.in_err-place.ensures.absent)
+    sym (none_removed g.Q.Equivalent.equivalent c.args.key (pairs_of c.args.self.now.list.entries) c.in_err-place.ensures.absent)
 
 pub head_of-head-requires : goal.head_of-head-requires
 head_of-head-requires g c =
@@ -27,7 +27,7 @@ remove-requires-clause-home g c =
       item = at.item;
       held = at.held;
       home = sym (is ∙ ap (λ n. head_by (length x.heads.items) n) (c.requires.hash ∙ same_hash g.S.Hasher.Hasher.finish g.S.Hasher.Hasher.write
-          g.S.BuildHasher.build_hasher g.K.Hash.hash_input x.hash_builder (g.met.K.Hash.respects_eq c.args.key.now at.item.key at.same)));
+          g.S.BuildHasher.build_hasher g.Q.Hash.hash_input g.K.Hash.hash_input x.hash_builder (g.met.Q.Equivalent.respects_hash c.args.key at.item.key at.same)));
       off = λ e. none_at_start x.list c.find.ensures.valid (at.item, subst (λ q. item_at q es ≡ Some at.item) e at.held);
       within = c.head_of-head.ensures.within;
     }
@@ -35,11 +35,11 @@ remove-requires-clause-home g c =
 pub returns-clause-pair : goal.returns-clause-pair
 returns-clause-pair g c =
     let (item, held, is) = c.remove.ensures.pair in
-    let f = found_item g.K.PartialEq.eq c.args.key.now g.met.K.Eq.laws c.requires.distinct c.in_ok-place.ensures.found item held in
+    let f = found_item g.Q.Equivalent.equivalent c.args.key g.met.K.Eq.laws (g.met.Q.Equivalent.respects_eq c.args.key) c.requires.distinct c.in_ok-place.ensures.found item held in
     ap (λ (p : g.row.K.Denot × g.row.V.Denot). Some p) is ∙ sym f.entry
 
 pub returns-clause-pairs : goal.returns-clause-pairs
 returns-clause-pairs g c =
     let (item, held, is) = c.remove.ensures.pair in
-    let f = found_item g.K.PartialEq.eq c.args.key.now g.met.K.Eq.laws c.requires.distinct c.in_ok-place.ensures.found item held in
+    let f = found_item g.Q.Equivalent.equivalent c.args.key g.met.K.Eq.laws (g.met.Q.Equivalent.respects_eq c.args.key) c.requires.distinct c.in_ok-place.ensures.found item held in
     ap (λ l. pairs_of l) c.remove.ensures.entries ∙ sym f.removed

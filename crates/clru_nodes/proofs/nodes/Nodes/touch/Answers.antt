@@ -6,18 +6,18 @@ use Rattle.clru_nodes.proofs.nodes.Nodes.touch.Goals as goal
 
 pub returns-in_default-clause-held : goal.returns-in_default-clause-held
 returns-in_default-clause-held g c =
-    rw (no_value g.K.PartialEq.eq c.args.key.now (pairs_of c.args.self.now.list.entries) c.in_default.ensures.absent) refl
+    rw (no_value g.Q.Equivalent.equivalent c.args.key (pairs_of c.args.self.now.list.entries) c.in_default.ensures.absent) refl
 
 pub returns-clause-held : goal.returns-clause-held
 returns-clause-held g c =
     let found = c.in-Some.ensures.found in
-    rw (found_at g.K.PartialEq.eq c.args.key.now g.met.K.Eq.laws c.in-Some.place c.args.self.now.list.entries c.requires.distinct found).value refl
+    rw (found_at g.Q.Equivalent.equivalent c.args.key g.met.K.Eq.laws (g.met.Q.Equivalent.respects_eq c.args.key) c.in-Some.place c.args.self.now.list.entries c.requires.distinct found).value refl
 
 pub returns-clause-pairs : goal.returns-clause-pairs
 returns-clause-pairs g c =
-    let found = c.in-Some.ensures.found in let eq = g.K.PartialEq.eq in let key = c.args.key.now in
+    let found = c.in-Some.ensures.found in let eq = g.Q.Equivalent.equivalent in let key = c.args.key in
     rw (c.bring_front.ensures.moved, found.held)
-    (touch_found eq key (found_at eq key g.met.K.Eq.laws c.in-Some.place c.args.self.now.list.entries c.requires.distinct found))
+    (touch_found eq key (found_at eq key g.met.K.Eq.laws (g.met.Q.Equivalent.respects_eq c.args.key) c.in-Some.place c.args.self.now.list.entries c.requires.distinct found))
 
 pub returns-clause-indexed : goal.returns-clause-indexed
 returns-clause-indexed g c =

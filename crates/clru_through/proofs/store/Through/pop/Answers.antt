@@ -4,12 +4,12 @@ use Rattle.clru_through.proofs.store.Through.pop.Goals as goal
 pub invariant_of-self : goal.invariant_of-self
 invariant_of-self g c =
     let cache = c.self.inside.cache in
-    rw c.pop.ensures.entries (AllFrom-without (g.R.Source.value c.self.inside.source) g.K.PartialEq.eq c.args.key.now cache.entries c.self.invariant)
+    rw c.pop.ensures.entries
+    (AllFrom-without (g.R.Source.value c.self.inside.source) g.Q.Equivalent.equivalent c.args.key cache.entries c.self.invariant)
 
 pub returns-clause-value : goal.returns-clause-value
 returns-clause-value g c =
-    let source = c.self.inside.source in
-    rw (← c.self.view_is) (IfSome-held g.K.PartialEq.eq c.args.key.now (g.R.Source.value source) (g.met.R.Source.same source c.args.key.now)
+    rw (← c.self.view_is) (IfSome-held (g.met.Q.Equivalent.respects_eq c.args.key) (g.met.R.Source.same c.self.inside.source)
     c.self.inside.cache.entries c.self.invariant c.pop.result c.pop.ensures.value)
 
 pub returns-clause-from_source : goal.returns-clause-from_source

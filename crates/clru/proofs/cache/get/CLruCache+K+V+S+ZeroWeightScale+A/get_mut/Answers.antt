@@ -12,12 +12,12 @@ use Rattle.clru.proofs.cache.get.CLruCache+K+V+S+ZeroWeightScale+A.get_mut.Goals
 pub invariant_of-self-lent : goal.invariant_of-self-lent
 invariant_of-self-lent g c =
     λ w. let e = c.touch.ensures in
-    IsCache-values (IsCache-touch (λ s k v. 0) c.args.key.now g.met.K.Eq.laws c.self.invariant e.pairs e.indexed e.same)
+    IsCache-values (IsCache-touch (λ s k v. 0) g.Q.Equivalent.equivalent c.args.key (g.met.Q.Equivalent.respects_eq c.args.key) g.met.K.Eq.laws c.self.invariant e.pairs e.indexed e.same)
     (first_written _ c.front_item.ensures.first w)
 
 pub returns : goal.returns
 returns g c =
-    let eq = g.K.PartialEq.eq in let key = c.args.key.now in let e = c.touch.ensures in let f = c.self.inside in
+    let eq = g.Q.Equivalent.equivalent in let key = c.args.key in let e = c.touch.ensures in let f = c.self.inside in
     let first = c.front_item.ensures.first in let after = c.touch.new.self in
     let h = held (eq key) c.if-not-touch.ensures.held in let same = first_pair after first (e.pairs ∙ touch-held eq key h) in
     rw (← c.self.view_is) (
@@ -28,4 +28,4 @@ returns g c =
 
 pub invariant_of-self : goal.invariant_of-self
 invariant_of-self g c =
-    let e = c.touch.ensures in IsCache-touch (λ s k v. 0) c.args.key.now g.met.K.Eq.laws c.self.invariant e.pairs e.indexed e.same
+    let e = c.touch.ensures in IsCache-touch (λ s k v. 0) g.Q.Equivalent.equivalent c.args.key (g.met.Q.Equivalent.respects_eq c.args.key) g.met.K.Eq.laws c.self.invariant e.pairs e.indexed e.same
