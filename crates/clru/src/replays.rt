@@ -38,7 +38,9 @@ use std::num::NonZeroUsize;
 ///     alloc: Global,
 ///     capacity: NonZeroUsize,
 ///     requests: &[u64],
-/// ) -> Result<usize, AllocError> {
+/// ) -> Result<usize, AllocError>
+///     ensures { IfOk result (λ n. n ≡ misses nat_eq (non_zero_usize_get capacity) requests.now) }
+/// {
 ///     let keys = Vec::from_slice(alloc, requests)?;
 ///     match replay(alloc, capacity, keys, DefaultState) {
 ///         Ok(answer) => Ok(answer.misses),

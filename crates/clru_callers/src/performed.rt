@@ -1,16 +1,20 @@
 //! Callers that are proved over the contracts of `clru_runs` alone: what a list of calls is known to leave.
-ghost use Rattle.std.specs.Prelude.{◌≡◌, ◌≤◌, ◌++◌, [], List, IfOk, IfSome, not};
+ghost use Rattle.std.specs.Prelude.{◌≡◌, ℕ, ◌≤◌, ◌++◌, [], List, IfOk, IfSome, not};
 ghost use Rattle.std.specs.List.{count_by};
 ghost use Rattle.clru.specs.Requests.{marks};
 ghost use Rattle.clru.specs.Runs.{held_before};
 ghost use Rattle.clru.specs.Schedule.{IsCompetitive};
+ghost use Rattle.clru.specs.Sizes.{SameWeights, marks_by_size};
 ghost use Rattle.clru_runs.specs.IncludedRun.{EachKeepsInclusion};
 ghost use Rattle.clru_runs.specs.PutRun.{PutEach, entries_of};
 ghost use Rattle.clru_runs.specs.Run.{Run};
-ghost use Rattle.clru_runs.specs.Step.{PlainStep};
+ghost use Rattle.clru_runs.specs.SizedPutRun.{PutEachBySize, weighed_entries_of};
+ghost use Rattle.clru_runs.specs.Step.{PlainStep, Step};
 
 use clru::{CLruCache, DefaultState, WeightScale};
-use clru_runs::{Answer, Call, PlainCall, law_included_runs, law_put_runs, perform_all};
+use clru_runs::{
+    Answer, Call, PlainCall, law_included_runs, law_put_runs, law_sized_put_runs, perform_all,
+};
 use std::alloc::Global;
 use std::hash::Hash;
 
@@ -68,6 +72,27 @@ pub fn perform_puts<K: Eq + Hash + Drop, V: Copy>(
     law_put_runs::<K, V, clru::ZeroWeightScale>();
     // It tells that the capacity is no 0.
     let _ = cache.len();
+    match perform_all(alloc, cache, calls) {
+        Ok(answers) => Ok(answers),
+        Err(calls) => Err(calls),
+    }
+}
+
+/// Makes the calls of an empty cache. Where they are puts by weight, none refused, of the keys of a list in turn, each of a pair
+/// that weighs what its key does, a key is held before its put exactly where its request hits by size.
+pub fn perform_puts_by_size<K: Eq + Hash + Drop, V: Copy, W: WeightScale<K, V>>(
+    alloc: Global,
+    cache: &mut CLruCache<K, V, DefaultState, W>,
+    calls: Vec<Call<K, V>>,
+) -> Result<Vec<Answer<K, V>>, Vec<Call<K, V>>>
+    requires { cache.old.entries ≡ [] }
+    ensures { IfOk result (λ answers. (weight : K → ℕ) (requests : List K) → SameWeights K.eq weight
+        → PutEachBySize weight (W.weight cache.old.scale) requests calls.items answers.items
+        → (run : Run (Step K.eq W.weight) cache.old calls.items answers.items cache.new)
+        × (held_before K.eq (weighed_entries_of K.eq W.weight cache.old calls.items answers.items cache.new run) requests
+        ≡ marks_by_size K.eq weight cache.old.capacity requests)) }
+{
+    law_sized_put_runs::<K, V, W>();
     match perform_all(alloc, cache, calls) {
         Ok(answers) => Ok(answers),
         Err(calls) => Err(calls),

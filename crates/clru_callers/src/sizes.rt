@@ -1,5 +1,5 @@
 //! Runs of puts by weight and their requests, by the contracts of the calls and the laws alone.
-ghost use Rattle.std.specs.Prelude.{◌≡◌, ℕ, [], List, Some, nat_eq, IfSome, IsSome};
+ghost use Rattle.std.specs.Prelude.{◌≡◌, ◌<◌, ◌≤◌, ℕ, [], List, Some, nat_eq, IfSome, IsSome};
 ghost use Rattle.std.specs.List.{slice_get};
 ghost use Rattle.clru.specs.Requests.{hit};
 ghost use Rattle.clru.specs.Sizes.{span, marks_by_size, misses_by_size};
@@ -22,7 +22,7 @@ impl<V> WeightScale<usize, V> for ByPage {
 }
 
 /// Puts each page in turn into an empty cache, and counts those that it did not hold before. `None` is for a put that is
-/// refused.
+/// refused, as none is where there are places for all that fit and no page is as heavy as the capacity.
 pub fn pages_missed<W: WeightScale<usize, ()>>(
     cache: &mut CLruCache<usize, (), DefaultState, W>,
     pages: Vec<usize>,
@@ -30,6 +30,8 @@ pub fn pages_missed<W: WeightScale<usize, ()>>(
     requires empty { cache.old.entries ≡ [] }
     ensures misses { (weight : ℕ → ℕ) → ((page : ℕ) → W.weight cache.old.scale page tt ≡ weight page)
         → IfSome result (λ n. n ≡ misses_by_size nat_eq weight cache.old.capacity pages.items) }
+    ensures never_refused { cache.old.capacity ≤ cache.old.places
+        → ((page : ℕ) → W.weight cache.old.scale page tt < cache.old.capacity) → IsSome result }
 {
     law_sizes::<usize, ()>();
     let mut misses = 0;

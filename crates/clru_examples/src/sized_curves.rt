@@ -1,6 +1,7 @@
 //! What misses at every capacity in bytes.
-ghost use Rattle.std.specs.Prelude.{◌≡◌, ℕ, ◌-◌, nat_eq, slice_index_or, IfOk, IfSome};
+ghost use Rattle.std.specs.Prelude.{◌≡◌, ℕ, ◌-◌, ◌≤◌, ◌↔◌, nat_eq, reverse, slice_index_or, IfOk, IfSome, IsNone};
 ghost use Rattle.std.specs.Int.NonZero.{non_zero_usize_get};
+ghost use Rattle.clru_curve.specs.SizedCurves.{greatest_of};
 ghost use Rattle.clru_model.specs.Sizes.{missed_size};
 
 use clru_curve::{DefaultState, NonZeroUsize, SizedRequestError, WeightScale, sized_curve};
@@ -31,9 +32,11 @@ pub fn missed_bytes(
     bytes: &[usize],
     capacity: NonZeroUsize,
 ) -> Result<Option<usize>, SizedRequestError<usize>>
-    ensures { let weight = λ (file : ℕ). slice_index_or bytes.now file 1 - 1 in
+    ensures missed { let weight = λ (file : ℕ). slice_index_or bytes.now file 1 - 1 in
         IfOk result (λ answer. IfSome answer (λ n.
         n ≡ missed_size nat_eq weight (non_zero_usize_get capacity) requests.now)) }
+    ensures too_small { let weight = λ (file : ℕ). slice_index_or bytes.now file 1 - 1 in
+        IfOk result (λ answer. IsNone answer ↔ (non_zero_usize_get capacity ≤ greatest_of weight (reverse requests.now))) }
 {
     let curve = sized_curve(alloc, requests, FileSizes { bytes }, DefaultState)?;
     Ok(curve.missed_size(capacity))

@@ -1,5 +1,6 @@
 mod CapacityLemmas
 mod Falls
+mod FaultLemmas
 mod LeastLemmas
 mod ReportLemmas
 mod RowLemmas

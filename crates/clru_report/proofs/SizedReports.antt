@@ -1,8 +1,9 @@
 -- From a curve and its rows to the report of the lines that it is of, and to why there is none.
-use Rattle.std.proofs.Common.{◌≡◌, ℕ, ◌+◌, ◌≤◌, Bool, true, false, List, [], ◌∷◌, min, length, reverse, refl, sym, ap, ◌∙◌, arith}
+use Rattle.std.proofs.Common.{◌≡◌, ℕ, ◌+◌, ◌≤◌, Bool, true, false, cond, List, [], ◌∷◌, None, Some, min, length, reverse, refl, sym, ap, ◌∙◌, subst, arith}
 use Rattle.std.specs.Prelude.{bytes_eq, ◌==◌}
 use Rattle.std.proofs.lemmas.Bool.{eqb-true}
-use Rattle.std.proofs.lemmas.List.Elements.{All-weaker}
+use Rattle.std.proofs.lemmas.List.Elements.{All-map, All-weaker}
+use Rattle.std.specs.List.{All}
 use Rattle.clru_curve.specs.SizedCurves.{CurveBySize, IsSizedCurveOf, misses_within}
 use Rattle.clru_model.proofs.Cases.{split}
 use Rattle.clru_model.proofs.Spans.{room_misses_first}
@@ -11,7 +12,7 @@ use Rattle.clru_model.specs.Sizes.{total, misses_by_size}
 use Rattle.clru_report.specs.Capacities.{sized_capacities_of}
 use Rattle.clru_report.specs.Faults.{is_of_writing}
 use Rattle.clru_report.specs.Passes.{IsOfCapacities, IsOfLines, IsRowOf, IsTableOf, capacities_on, distinct_in}
-use Rattle.clru_report.specs.Refusals.{IsRefusedFor, is_of_input}
+use Rattle.clru_report.specs.Refusals.{IsRefusedFor, IsSaidOf, fault_beside, fault_from, fault_of, is_of_input, names_below}
 use Rattle.clru_report.specs.SizedReport.{IsSizedRow, IsSizedTable, distinct_size, summary_by_size}
 use Rattle.clru_report.specs.SizedTables.{capacity_of_sized_row, sized_summary_text, sized_table_text}
 use Rattle.clru_report.specs.Sizes.{HaveSizes, greatest_size, size_of_lines, weight_of_line}
@@ -21,6 +22,7 @@ use Rattle.clru_report.specs.declared.options.Capacities.{Capacities}
 use Rattle.clru_report.specs.declared.options.Options.{Options}
 use Rattle.clru_report.specs.declared.sized.rows.SizedRow.{SizedRow}
 use Rattle.clru_report.proofs.CapacityLemmas.{none_below, sized-alike}
+use Rattle.clru_report.proofs.FaultLemmas.{none_beside, none_named, one_named, told_beside, told_of_line}
 use Rattle.clru_report.proofs.SettledCurves.{bytes_laws, same_weights}
 
 -- keys are no more than their sizes together
@@ -83,19 +85,54 @@ module _ (lines : List (List ℕ)) (curve : CurveBySize) (is : IsSizedCurveOf by
       ∙ ap (λ n. sized_summary_text (length lines) (distinct bytes_eq (reverse lines)) (length input) (size_of_lines lines)
       (distinct_size lines) (min n (distinct_size lines))) greatest_is
 
+  -- rows have no fault
+  pub rows_free : {A : Type 0} (options : Options A) (text : List ℕ) → IsTableOf curve (capacities_on curve options.capacities) text
+      → fault_from 1 0 lines ≡ None → fault_of options lines ≡ None
+  rows_free options text t free =
+      let high = All-weaker (IsRowOf curve) (λ row. greatest_size lines ≤ capacity_of_sized_row row)
+      (λ row r. omega (arith, r.answered, greatest_is)) t.0 t.1.1 in
+      let all = subst (All (λ c. greatest_size lines ≤ c)) t.1.0 (All-map (λ c. greatest_size lines ≤ c) capacity_of_sized_row t.0 high) in
+      told_beside options lines None free (none_beside options.form options.capacities (greatest_size lines)
+      (none_named options.capacities (misses_within curve) (1 + curve.greatest_weight) curve.distinct_size (greatest_size lines) all))
+
   -- why capacities have no rows
-  pub capacities_refused : {A : Type 0} (options : Options A) (fault : Fault) → HaveSizes lines
-      → IsOfCapacities curve fault (capacities_on curve options.capacities) → is_of_input fault ≡ true → IsRefusedFor fault options lines
-  capacities_refused options Memory sizes why of = cc of
-  capacities_refused options Reading sizes why of = why
-  capacities_refused options Writing sizes why of = why
-  capacities_refused options Closed sizes why of = why
-  capacities_refused options (NoSize n) sizes why of = absurd why
-  capacities_refused options TooLarge sizes why of = absurd why
-  capacities_refused options (TooSmall n) sizes why of = (
+  capacities_said : {A : Type 0} (options : Options A) (fault : Fault) → HaveSizes lines
+      → IsOfCapacities curve fault (capacities_on curve options.capacities) → is_of_input fault ≡ true → IsSaidOf fault options lines
+  capacities_said options Memory sizes why of = cc of
+  capacities_said options Reading sizes why of = why
+  capacities_said options Writing sizes why of = why
+  capacities_said options Closed sizes why of = why
+  capacities_said options (NoSize n) sizes why of = absurd why
+  capacities_said options TooLarge sizes why of = absurd why
+  capacities_said options (TooSmall n) sizes why of = (
     sizes,
     why.0 ∙ greatest_is,
     rw why.0 (none_below options.capacities (misses_within curve) (1 + curve.greatest_weight) curve.distinct_size why.1.0 (omega (arith, why.0, why.1.2)) why.1.1),
+  )
+
+  small_told : {A : Type 0} (options : Options A) (fault : Fault) → IsOfCapacities curve fault (capacities_on curve options.capacities)
+      → is_of_input fault ≡ true
+      → cond (names_below options.capacities (greatest_size lines)) (Some (TooSmall (greatest_size lines))) None ≡ Some fault
+  small_told options Memory why of = cc of
+  small_told options Reading why of = absurd why
+  small_told options Writing why of = absurd why
+  small_told options Closed why of = absurd why
+  small_told options (NoSize n) why of = absurd why
+  small_told options TooLarge why of = absurd why
+  small_told options (TooSmall n) why of =
+      let below = none_below options.capacities (misses_within curve) (1 + curve.greatest_weight) curve.distinct_size why.1.0
+      (omega (arith, why.0, why.1.2)) why.1.1 in
+      let named = ap (names_below options.capacities) (sym greatest_is) ∙ one_named options.capacities (1 + curve.greatest_weight) below in
+      ap (λ b. cond b (Some (TooSmall (greatest_size lines))) None) named ∙ ap (λ k. Some (TooSmall k)) (sym (why.0 ∙ greatest_is))
+
+  -- and which fault that is, where the form has capacities
+  pub capacities_refused : {A : Type 0} (options : Options A) (fault : Fault) → HaveSizes lines → fault_from 1 0 lines ≡ None
+      → fault_beside options.form options.capacities (greatest_size lines)
+      ≡ cond (names_below options.capacities (greatest_size lines)) (Some (TooSmall (greatest_size lines))) None
+      → IsOfCapacities curve fault (capacities_on curve options.capacities) → is_of_input fault ≡ true → IsRefusedFor fault options lines
+  capacities_refused options fault sizes free shown why of = (
+    told_beside options lines (Some fault) free (shown ∙ small_told options fault why of),
+    capacities_said options fault sizes why of,
   )
 
 pub capacities_unwritten : (curve : CurveBySize) (capacities : List ℕ) (fault : Fault) → IsOfCapacities curve fault capacities
@@ -109,15 +146,22 @@ capacities_unwritten curve capacities TooLarge why = refl
 capacities_unwritten curve capacities (TooSmall n) why = refl
 
 -- why lines have no curve
+lines_said : {A : Type 0} (options : Options A) (lines : List (List ℕ)) (fault : Fault) → IsOfLines fault lines
+    → is_of_input fault ≡ true → IsSaidOf fault options lines
+lines_said options lines Memory why of = cc of
+lines_said options lines Reading why of = why
+lines_said options lines Writing why of = why
+lines_said options lines Closed why of = why
+lines_said options lines (NoSize n) why of = why
+lines_said options lines TooLarge why of = why
+lines_said options lines (TooSmall n) why of = absurd why
+
 pub lines_refused : {A : Type 0} (options : Options A) (lines : List (List ℕ)) (fault : Fault) → IsOfLines fault lines
-    → is_of_input fault ≡ true → IsRefusedFor fault options lines
-lines_refused options lines Memory why of = cc of
-lines_refused options lines Reading why of = why
-lines_refused options lines Writing why of = why
-lines_refused options lines Closed why of = why
-lines_refused options lines (NoSize n) why of = why
-lines_refused options lines TooLarge why of = why
-lines_refused options lines (TooSmall n) why of = absurd why
+    → (is_of_input fault ≡ true → fault_from 1 0 lines ≡ Some fault) → is_of_input fault ≡ true → IsRefusedFor fault options lines
+lines_refused options lines fault why told of = (
+  told_of_line options lines fault (told of),
+  lines_said options lines fault why of,
+)
 
 pub lines_unwritten : (lines : List (List ℕ)) (fault : Fault) → IsOfLines fault lines → is_of_writing fault ≡ false
 lines_unwritten lines Memory why = refl
@@ -127,3 +171,23 @@ lines_unwritten lines Closed why = absurd why
 lines_unwritten lines (NoSize n) why = refl
 lines_unwritten lines TooLarge why = refl
 lines_unwritten lines (TooSmall n) why = refl
+
+-- what is no fault of the input is want of memory
+pub capacities_else : (curve : CurveBySize) (capacities : List ℕ) (fault : Fault) → IsOfCapacities curve fault capacities
+    → is_of_input fault ≡ false → fault ≡ Memory
+capacities_else curve capacities Memory why none = refl
+capacities_else curve capacities Reading why none = absurd why
+capacities_else curve capacities Writing why none = absurd why
+capacities_else curve capacities Closed why none = absurd why
+capacities_else curve capacities (NoSize n) why none = cc none
+capacities_else curve capacities TooLarge why none = cc none
+capacities_else curve capacities (TooSmall n) why none = cc none
+
+pub lines_else : (lines : List (List ℕ)) (fault : Fault) → IsOfLines fault lines → is_of_input fault ≡ false → fault ≡ Memory
+lines_else lines Memory why none = refl
+lines_else lines Reading why none = absurd why
+lines_else lines Writing why none = absurd why
+lines_else lines Closed why none = absurd why
+lines_else lines (NoSize n) why none = cc none
+lines_else lines TooLarge why none = cc none
+lines_else lines (TooSmall n) why none = cc none

@@ -1,3 +1,4 @@
+pub mod Arguments
 pub mod Capacities
 pub mod Faults
 pub mod Passes

@@ -1,13 +1,16 @@
 -- Which inputs have no report by size, and why. Public clauses cite them.
-use Rattle.std.specs.Prelude.{◌≡◌, ℕ, ◌+◌, ◌<◌, ◌≤◌, ◌^◌, Bool, true, false, List, map, take, IsNone, IsSomeAnd}
+use Rattle.std.specs.Prelude.{◌≡◌, ℕ, ◌+◌, ◌<◌, ◌≤◌, ◌^◌, Bool, true, false, nat_le, nat_lt, List, [], ◌∷◌, map, take, Option, None, Some, IsNone, IsSomeAnd, if◌then◌else◌}
 use Rattle.std.specs.Int.NonZero.{non_zero_usize_get}
-use Rattle.std.specs.List.{Contains, slice_get}
+use Rattle.std.specs.List.{Contains, list_any, slice_get}
+use Rattle.std.specs.Option.{is_none, option_or}
 use Rattle.clru_lines.specs.Lines.{lines_of}
-use Rattle.clru_report.specs.Sizes.{HaveSizes, greatest_size, size_of_line, size_of_lines}
+use Rattle.clru_report.specs.Sizes.{HaveSizes, greatest_size, size_of_line, size_of_lines, weight_of_line}
 use Rattle.clru_report.specs.declared.fault.Fault.{Fault}
 use Rattle.clru_report.specs.declared.fault.Fault.TheVariants.{Memory, Reading, Writing, Closed, NoSize, TooLarge, TooSmall}
 use Rattle.clru_report.specs.declared.options.Capacities.{Capacities}
 use Rattle.clru_report.specs.declared.options.Capacities.TheVariants.{Usual, Each, Named}
+use Rattle.clru_report.specs.declared.options.Form.{Form}
+use Rattle.clru_report.specs.declared.options.Form.TheVariants.{Table, Picture, Summary}
 use Rattle.clru_report.specs.declared.options.Options.{Options}
 
 -- the fault is one of the input, or of a capacity beside it
@@ -31,15 +34,45 @@ NamesBelow Usual n = ⊥
 NamesBelow Each n = ⊥
 NamesBelow (Named named) n = (capacity : ℕ) × Contains (map non_zero_usize_get named.items) capacity × (capacity < n)
 
--- what such a fault says of the lines
+-- the same as an answer; it is none of the usual ones
+abbrev pub names_below : {A : Type 0} → Capacities A → ℕ → Bool
+names_below Usual n = false
+names_below Each n = false
+names_below (Named named) n = list_any (λ c. nat_lt c n) (map non_zero_usize_get named.items)
+
+-- the fault of the first of these lines that has one, if any has: no size, or one that takes the sizes past the greatest number.
+-- The lines are counted from the number on, and those before them have the size together
+abbrev pub fault_from : ℕ → ℕ → List (List ℕ) → Option Fault
+fault_from number size [] = None
+fault_from number size (line ∷ lines) =
+    if is_none (size_of_line line) then Some (NoSize number) else
+    (if nat_le (2 ^ 64) (size + (1 + weight_of_line line)) then Some TooLarge else
+    fault_from (number + 1) (size + (1 + weight_of_line line)) lines)
+
+-- the fault of capacities where the greatest size is n, if they have one; a summary has no capacities
+abbrev pub fault_beside : {A : Type 0} → Form → Capacities A → ℕ → Option Fault
+fault_beside Table capacities n = if names_below capacities n then Some (TooSmall n) else None
+fault_beside Picture capacities n = if names_below capacities n then Some (TooSmall n) else None
+fault_beside Summary capacities n = None
+
+-- why lines have no report by size, if they have none: that of the first line with a fault, and else that of the capacities
+abbrev pub fault_of : {A : Type 0} → Options A → List (List ℕ) → Option Fault
+fault_of options lines =
+    option_or (fault_from 1 0 lines) (fault_beside options.form options.capacities (greatest_size lines))
+
+-- what a fault says of the lines
+abbrev pub IsSaidOf : {A : Type 0} → Fault → Options A → List (List ℕ) → Type 0
+IsSaidOf Memory options lines = ⊥
+IsSaidOf Reading options lines = ⊥
+IsSaidOf Writing options lines = ⊥
+IsSaidOf Closed options lines = ⊥
+IsSaidOf (NoSize n) options lines = IsFirstWithout n lines
+IsSaidOf TooLarge options lines = 2 ^ 64 ≤ size_of_lines lines
+IsSaidOf (TooSmall n) options lines = HaveSizes lines × (n ≡ greatest_size lines) × NamesBelow options.capacities n
+
+-- it is the fault of these lines, and what it says of them is so
 abbrev pub IsRefusedFor : {A : Type 0} → Fault → Options A → List (List ℕ) → Type 0
-IsRefusedFor Memory options lines = ⊥
-IsRefusedFor Reading options lines = ⊥
-IsRefusedFor Writing options lines = ⊥
-IsRefusedFor Closed options lines = ⊥
-IsRefusedFor (NoSize n) options lines = IsFirstWithout n lines
-IsRefusedFor TooLarge options lines = 2 ^ 64 ≤ size_of_lines lines
-IsRefusedFor (TooSmall n) options lines = HaveSizes lines × (n ≡ greatest_size lines) × NamesBelow options.capacities n
+IsRefusedFor fault options lines = (fault_of options lines ≡ Some fault) × IsSaidOf fault options lines
 
 -- the input has no report, for the reason that the fault says
 abbrev pub IsRefused : {A : Type 0} → Fault → Options A → List ℕ → Type 0

@@ -1,12 +1,12 @@
 -- What is written for an input. The numbers are those of the definitions of requests and schedules: no cache is in sight.
-use Rattle.std.specs.Prelude.{◌≡◌, ℕ, Bool, true, false, List, ◌++◌, length, map, reverse, None, IsSomeAnd, bytes_eq}
+use Rattle.std.specs.Prelude.{◌≡◌, ℕ, Bool, true, false, List, length, map, reverse, None, IsSomeAnd, bytes_eq}
 use Rattle.std.specs.List.{All}
 use Rattle.clru_model.specs.Requests.{distinct, misses}
 use Rattle.clru_model.specs.Least.{IsLeast}
 use Rattle.clru_lines.specs.Lines.{lines_of}
 use Rattle.clru_report.specs.Capacities.{capacities_of}
 use Rattle.clru_report.specs.SizedReport.{IsReportBySize}
-use Rattle.clru_report.specs.Tables.{capacity_of_row, table_text, summary_text}
+use Rattle.clru_report.specs.Tables.{HasTable, capacity_of_row, table_text, summary_text}
 use Rattle.clru_report.specs.declared.options.Form.{Form}
 use Rattle.clru_report.specs.declared.options.Form.TheVariants.{Table, Picture, Summary}
 use Rattle.clru_report.specs.declared.options.Options.{Options}
@@ -33,10 +33,9 @@ IsTable options requests text = (rows : List Row)
     (capacities_of options.capacities (λ c. misses bytes_eq c requests) (distinct bytes_eq (reverse requests))) rows
     × (text ≡ table_text options.least (length requests) rows)
 
--- a text that has the table in it; what stands around it, no clause says
+-- a picture that has the table in its description; of what is drawn no clause says anything
 abbrev pub IsPicture : {A : Type 0} → Options A → List (List ℕ) → List ℕ → Type 0
-IsPicture options requests text = (before : List ℕ) × (table : List ℕ) × (after : List ℕ)
-    × IsTable options requests table × (text ≡ before ++ (table ++ after))
+IsPicture options requests text = (table : List ℕ) × IsTable options requests table × HasTable table text
 
 abbrev pub IsInForm : {A : Type 0} → Form → Options A → List ℕ → List ℕ → Type 0
 IsInForm Table options input text = IsTable options (lines_of input) text

@@ -1,4 +1,7 @@
 //! What the arguments ask for.
+ghost use Rattle.std.specs.Prelude.{◌≡◌, true, false, IfErr, IfOk, OnOk};
+ghost use Rattle.clru_report.specs.Arguments.{AsksFor, go_together, is_wrong, wants_rows};
+
 use crate::options::{Capacities, Form, Options};
 use clru_lines::capacity_of;
 use std::alloc::{Allocator, Global};
@@ -104,7 +107,12 @@ fn name_capacities<A: Allocator + Copy>(
 }
 
 // Once all words are read, since the order of words is free.
-fn finish<A: Allocator + Copy>(alloc: A, draft: Draft<A>) -> Result<Command<A>, Refusal<A>> {
+fn finish<A: Allocator + Copy>(alloc: A, draft: Draft<A>) -> Result<Command<A>, Refusal<A>>
+    ensures options { IfOk result (λ command. AsksFor draft command) }
+    ensures together { OnOk result (go_together draft ≡ true) }
+    ensures refused { IfErr result (λ refusal. is_wrong refusal ≡ true → go_together draft ≡ false) }
+{
+    let wants_rows = asks_for_rows(&draft);
     let Draft {
         mut named,
         all,
@@ -117,7 +125,7 @@ fn finish<A: Allocator + Copy>(alloc: A, draft: Draft<A>) -> Result<Command<A>, 
     if all && some_named {
         return Err(wrong(alloc, "--all and --at do not go together: leave one out"));
     }
-    if summary && (all || some_named || least || svg) {
+    if summary && wants_rows {
         return Err(wrong(
             alloc,
             "--summary goes alone, or with --sizes: leave the other arguments out",
@@ -151,6 +159,13 @@ fn finish<A: Allocator + Copy>(alloc: A, draft: Draft<A>) -> Result<Command<A>, 
         least,
         form,
     }))
+}
+
+// Whether something is asked for that no summary has.
+fn asks_for_rows<A: Allocator>(draft: &Draft<A>) -> bool
+    ensures { result ≡ wants_rows draft.now }
+{
+    draft.all || !draft.named.is_empty() || draft.least || draft.svg
 }
 
 fn wrong<A: Allocator + Copy>(alloc: A, line: &str) -> Refusal<A> {

@@ -1,6 +1,6 @@
 //! The picture of a curve, in SVG.
-ghost use Rattle.std.specs.Prelude.{IfOk, string_bytes};
-ghost use Rattle.clru_report.specs.Tables.{HasTable};
+ghost use Rattle.std.specs.Prelude.{◌≡◌, IfOk, string_bytes};
+ghost use Rattle.clru_report.specs.Tables.{HasTable, picture_head};
 
 mod axes;
 mod by_keys;
@@ -29,14 +29,18 @@ pub(crate) fn picture_of<A: Allocator + Copy>(
 ) -> Result<String<A>, AllocError>
     ensures { IfOk result (λ text. HasTable table.now (string_bytes text)) }
 {
+    let drawn = drawn_of(alloc, plot)?;
     let mut text = head(alloc)?;
     text.push_str(table)?;
-    let rest = rest_of(alloc, plot)?;
-    text.push_str(&rest)?;
+    text.push_str("</desc>\n")?;
+    text.push_str(&drawn)?;
+    text.push_str("</svg>\n")?;
     Ok(text)
 }
 
-fn head<A: Allocator>(alloc: A) -> Result<String<A>, AllocError> {
+fn head<A: Allocator>(alloc: A) -> Result<String<A>, AllocError>
+    ensures { IfOk result (λ text. string_bytes text ≡ picture_head) }
+{
     let mut text = String::new(alloc);
     text.push_str("<svg class=\"clru_mrc\" xmlns=\"http://www.w3.org/2000/svg\" role=\"img\"")?;
     text.push_str(" viewBox=\"0 0 8000 4600\" width=\"800\" height=\"460\">\n")?;
@@ -44,7 +48,7 @@ fn head<A: Allocator>(alloc: A) -> Result<String<A>, AllocError> {
     Ok(text)
 }
 
-fn rest_of<A: Allocator>(alloc: A, plot: &Plot<A>) -> Result<String<A>, AllocError> {
+fn drawn_of<A: Allocator>(alloc: A, plot: &Plot<A>) -> Result<String<A>, AllocError> {
     let mut text = String::new(alloc);
     match draw(&mut text, plot) {
         Ok(()) => Ok(text),
@@ -53,7 +57,6 @@ fn rest_of<A: Allocator>(alloc: A, plot: &Plot<A>) -> Result<String<A>, AllocErr
 }
 
 fn draw<W: Write, A: Allocator>(text: &mut W, plot: &Plot<A>) -> fmt::Result {
-    text.write_str("</desc>\n")?;
     text.write_str(STYLE)?;
     text.write_str("<rect class=\"page\" width=\"8000\" height=\"4600\"/>\n")?;
     draw_legend(text, plot)?;
@@ -63,6 +66,5 @@ fn draw<W: Write, A: Allocator>(text: &mut W, plot: &Plot<A>) -> fmt::Result {
     for line in plot.lines.iter() {
         draw_line(text, &scale, line)?;
     }
-    draw_least(text, &scale, plot)?;
-    text.write_str("</svg>\n")
+    draw_least(text, &scale, plot)
 }

@@ -24,6 +24,7 @@ pub(crate) fn report_on<S: BuildHasher + Copy, A: Allocator + Copy>(
     ensures report { IfOk result (λ text. IsReport options.now input.now (string_bytes text)) }
     ensures refused { IfErr result (λ fault. is_of_input fault ≡ true → IsRefused fault options.now input.now) }
     ensures fault { IfErr result (λ fault. is_of_writing fault ≡ false) }
+    ensures memory { IfErr result (λ fault. is_of_input fault ≡ false → fault ≡ Fault.Memory) }
 {
     if options.sizes {
         return sized_report_on(alloc, options, hash_builder, input);

@@ -1,10 +1,11 @@
 //! The report of an input whose lines begin with sizes: capacities are sums of sizes.
-ghost use Rattle.std.specs.Prelude.{◌≡◌, ◌++◌, ℕ, List, true, false, IfOk, IfErr, string_bytes};
+ghost use Rattle.std.specs.Prelude.{◌≡◌, ℕ, List, true, false, IfOk, IfErr, string_bytes};
 ghost use Rattle.clru_lines.specs.Lines.{lines_of};
 ghost use Rattle.clru_report.specs.Faults.{is_of_writing};
 ghost use Rattle.clru_report.specs.Passes.{capacities_on, IsOfCapacities, IsSettled, IsTableOf};
 ghost use Rattle.clru_report.specs.Refusals.{is_of_input, IsRefusedFor};
 ghost use Rattle.clru_report.specs.SizedReport.{IsReportBySize};
+ghost use Rattle.clru_report.specs.Tables.{HasTable};
 
 mod capacities;
 mod line;
@@ -35,6 +36,7 @@ pub(crate) fn sized_report_on<S: BuildHasher + Drop, A: Allocator + Copy>(
     ensures refused { IfErr result (λ fault. is_of_input fault ≡ true
         → IsRefusedFor fault options.now (lines_of input.now)) }
     ensures fault { IfErr result (λ fault. is_of_writing fault ≡ false) }
+    ensures memory { IfErr result (λ fault. is_of_input fault ≡ false → fault ≡ Fault.Memory) }
 {
     let curve = curve_of(alloc, hash_builder, input)?;
     match options.form {
@@ -72,9 +74,8 @@ fn sized_picture_for<A: Allocator + Copy>(
     curve: &SizedCurve<A>,
 ) -> Result<String<A>, Fault>
     requires { IsSettled curve.now }
-    ensures picture { IfOk result (λ text. (before : List ℕ) × (table : List ℕ) × (after : List ℕ)
-        × IsTableOf curve.now (capacities_on curve.now capacities.now) table
-        × (string_bytes text ≡ before ++ (table ++ after))) }
+    ensures picture { IfOk result (λ text. (table : List ℕ)
+        × IsTableOf curve.now (capacities_on curve.now capacities.now) table × HasTable table (string_bytes text)) }
     ensures refused { IfErr result (λ fault. IsOfCapacities curve.now fault (capacities_on curve.now capacities.now)) }
 {
     let table = sized_table_for(alloc, capacities, curve)?;

@@ -5,4 +5,5 @@ pub mod Lending
 pub mod PutRunning
 pub mod Retained
 pub mod Running
-pub mod Walking
+pub mod SizedPutRunning
+mod Walking

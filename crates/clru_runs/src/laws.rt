@@ -1,6 +1,7 @@
 //! Laws of runs. They do nothing at run time.
 ghost use Rattle.clru_runs.specs.IncludedRun.{LesserRunBeginsGreater};
 ghost use Rattle.clru_runs.specs.PutRun.{RunsArePutRuns, RunsHit, RunsCompete, RunsCompeteFromAnyStart};
+ghost use Rattle.clru_runs.specs.SizedPutRun.{RunsHitBySize};
 
 /// Does nothing at run time. Its contract says what `clru::law_inclusion` says, of the runs of the model: the same calls of
 /// two caches of one scale, empty at first, leave the lesser with the first entries of the greater, where each call is a put
@@ -18,4 +19,11 @@ pub fn law_put_runs<K: Eq, V, W>()
     ensures hits { RunsHit K.eq V W }
     ensures bound { RunsCompete K.eq V W }
     ensures bound_any_start { RunsCompeteFromAnyStart K.eq V W }
+{}
+
+/// Does nothing at run time. Its contract says what `clru::law_sizes` says of puts, of the runs of the model: where the calls of
+/// a run are puts by weight, none refused, of the keys of a list in turn, each of a pair that weighs what its key does, and the
+/// cache is empty at first, then a key is held before its put exactly where the request hits by size.
+pub fn law_sized_put_runs<K: Eq, V, W>()
+    ensures { RunsHitBySize K.eq V W }
 {}

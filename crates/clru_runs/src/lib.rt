@@ -19,6 +19,6 @@ mod run;
 mod walks;
 
 pub use call::{Answer, Attempt, Call, ListCall, PlainCall, Weighing};
-pub use laws::{law_included_runs, law_put_runs};
+pub use laws::{law_included_runs, law_put_runs, law_sized_put_runs};
 pub use perform::Perform;
 pub use run::perform_all;

@@ -11,7 +11,7 @@ use clru_callers::of_least::least_by_position;
 use clru_callers::{calls, of_curves, of_least, puts, runs, sizes};
 use clru_curve::{law_bounds, law_distances, law_spans_by_position};
 use clru_least::law_least;
-use clru_runs::{law_included_runs, law_put_runs};
+use clru_runs::{law_included_runs, law_put_runs, law_sized_put_runs};
 use std::alloc::Global;
 use std::test::Fail;
 
@@ -26,6 +26,7 @@ fn laws_do_nothing() {
     law_sizes::<usize, &'static str>();
     law_included_runs::<&'static str, u64, ZeroWeightScale>();
     law_put_runs::<&'static str, u64, ZeroWeightScale>();
+    law_sized_put_runs::<&'static str, u64, ZeroWeightScale>();
     law_of_drops(&|_, _| {});
 }
 

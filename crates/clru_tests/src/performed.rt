@@ -3,7 +3,7 @@
 use crate::lists::capacity_of;
 use assertions::equal;
 use clru::{CLruCache, NonZeroUsize};
-use clru_callers::performed::{perform_at_both, perform_puts};
+use clru_callers::performed::{perform_at_both, perform_puts, perform_puts_by_size};
 use clru_runs::Answer::{Lent, Pair};
 use clru_runs::Call::{self, PopBack, PutWithWeight};
 use clru_runs::PlainCall::{self, Put, PutOrModify};
@@ -54,4 +54,17 @@ fn puts_are_made_of_an_empty_cache(rt: HostRuntime) -> Result<(), Fail> {
 fn lends_the_last(alloc: Global, capacity: NonZeroUsize, puts: Vec<PlainCall<u32, u32>>) -> bool {
     let mut cache = CLruCache::new(alloc, capacity);
     perform_puts(alloc, &mut cache, puts).is_ok_and(|it| it.last() == Some(&Lent(Ok(20))))
+}
+
+#[test]
+fn puts_by_weight_are_made_of_an_empty_cache(rt: HostRuntime) -> Result<(), Fail> {
+    let calls = three_calls(rt.alloc())?;
+    equal!(rt; takes_the_last_out(rt.alloc(), capacity_of(2)?, calls), true);
+    Ok(())
+}
+
+fn takes_the_last_out(alloc: Global, capacity: NonZeroUsize, calls: Calls) -> bool {
+    let mut cache = CLruCache::new(alloc, capacity);
+    perform_puts_by_size(alloc, &mut cache, calls).is_ok_and(|it| it.last()
+        == Some(&Pair(Some((1, 10)))))
 }

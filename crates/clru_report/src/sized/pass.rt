@@ -1,8 +1,9 @@
 //! One pass over the lines of an input, each an object with its size.
-ghost use Rattle.std.specs.Prelude.{◌≡◌, ℕ, ◌+◌, List, [], ◌∷◌, ◌++◌, length, IfErr, IfOk, OnOk};
+ghost use Rattle.std.specs.Prelude.{◌≡◌, ℕ, ◌+◌, true, List, [], ◌∷◌, ◌++◌, length, None, Some, IfErr, IfOk, OnOk};
 ghost use Rattle.clru_curve.specs.SizedCurves.{IsSizedCurveOf};
 ghost use Rattle.clru_lines.specs.Lines.{lines_of};
 ghost use Rattle.clru_report.specs.Passes.{HasTaken, IsOfLines, IsSettled};
+ghost use Rattle.clru_report.specs.Refusals.{fault_from, is_of_input};
 ghost use Rattle.clru_report.specs.Sizes.{HaveSizes, weight_of_line};
 ghost use Rattle.std.specs.Str.{bytes_eq};
 
@@ -23,6 +24,8 @@ pub(crate) fn curve_of<S: BuildHasher + Drop, A: Allocator + Copy>(
     ensures curve { IfOk result (λ curve. IsSizedCurveOf bytes_eq weight_of_line (lines_of input.now) curve) }
     ensures settled { IfOk result (λ curve. IsSettled curve) }
     ensures refused { IfErr result (λ fault. IsOfLines fault (lines_of input.now)) }
+    ensures no_fault { OnOk result (fault_from 1 0 (lines_of input.now) ≡ None) }
+    ensures fault { IfErr result (λ fault. is_of_input fault ≡ true → fault_from 1 0 (lines_of input.now) ≡ Some fault) }
 {
     let mut pass = SizedPass::with_hasher(alloc, hash_builder);
     let mut left = input;
@@ -45,6 +48,10 @@ fn take_line<'a, S: BuildHasher, A: Allocator + Copy>(
         → OnOk result (HasTaken (lines ++ key.entry.0.now ∷ []) pass.new) }
     ensures refused { (lines rest : List (List ℕ)) → HasTaken lines pass.old → number ≡ length lines + 1
         → IfErr result (λ fault. IsOfLines fault (lines ++ key.entry.0.now ∷ rest)) }
+    ensures next { (rest : List (List ℕ)) → OnOk result
+        (fault_from number pass.old.size (key.entry.0.now ∷ rest) ≡ fault_from (number + 1) pass.new.size rest) }
+    ensures fault { (rest : List (List ℕ)) → IfErr result (λ fault. is_of_input fault ≡ true
+        → fault_from number pass.old.size (key.entry.0.now ∷ rest) ≡ Some fault) }
 {
     let size = match size_of(key.0) {
         Some(size) => size,

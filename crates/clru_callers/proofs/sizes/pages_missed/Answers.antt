@@ -24,6 +24,7 @@ loop-page-preserved-in-Ok-Some g c =
       fewer = omega (arith, before.fewer, length_push c.loop-page.yielded c.in-Some.page);
       capacity = put.places.capacity ∙ before.capacity;
       scale = put.places.scale ∙ before.scale;
+      places = omega (arith, before.places, put.places.never_falls);
     }
 
 pub loop-page-preserved : goal.loop-page-preserved
@@ -41,6 +42,7 @@ loop-page-preserved g c =
       fewer = omega (arith, before.fewer, length_push c.loop-page.yielded c.in-Some.page);
       capacity = put.places.capacity ∙ before.capacity;
       scale = put.places.scale ∙ before.scale;
+      places = omega (arith, before.places, put.places.never_falls);
     }
 
 pub returns : goal.returns
@@ -54,4 +56,5 @@ returns g c = record {
       let hits = c.law_sizes.ensures.puts weight (g.W.WeightScale.weight c.args.cache.now.scale) c.args.cache.now.capacity
       c.loop-page.yielded r.later (λ x y e. ap weight (eqb-true x y e)) (λ i key value rest at. by_key key) r.run in
       r.missed ∙ ap (count_by not) hits ∙ ap (misses_by_size nat_eq weight c.args.cache.now.capacity) all;
+  never_refused = λ _ _. refl;
 }

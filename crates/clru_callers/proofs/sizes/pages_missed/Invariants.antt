@@ -10,4 +10,5 @@ invariant-loop-page g l = record {
   fewer : l.misses ≤ length l.yielded;
   capacity : l.cache.capacity ≡ l.fn.cache.capacity;
   scale : l.cache.scale ≡ l.fn.cache.scale;
+  places : l.fn.cache.places ≤ l.cache.places;
 }

@@ -5,9 +5,7 @@ use Rattle.clru_report.proofs.sized.sized_picture_for.Goals as goal
 pub returns-in-Ok-clause-picture : goal.returns-in-Ok-clause-picture
 returns-in-Ok-clause-picture g c =
     let drawn = c.in-Ok.ensures in (
-      drawn.0,
       c.deref.result.now,
-      drawn.1,
       subst (λ t. IsTableOf c.args.curve.now (capacities_on c.args.curve.now c.args.capacities.now) t) (sym c.deref.ensures) c.in_ok-table.ensures.table,
-      drawn.2,
+      drawn,
     )

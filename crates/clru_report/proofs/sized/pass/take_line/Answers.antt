@@ -2,6 +2,7 @@ use Rattle.std.proofs.Common.{ℕ, ◌-◌, IsNone, IsSome, refl, sym, ap, ◌�
 use Rattle.std.specs.Option.{option_map_or}
 use Rattle.clru_curve.specs.SizedPasses.{IsTooLarge}
 use Rattle.clru_report.specs.Passes.{line_of}
+use Rattle.clru_report.proofs.FaultLemmas.{none_told}
 use Rattle.clru_report.proofs.SettledCurves.{same_weights}
 use Rattle.clru_report.proofs.TakenLines.{first_without, taken_more, too_large_more, weight_of_key}
 use Rattle.clru_report.proofs.sized.pass.take_line.Goals as goal
@@ -23,3 +24,6 @@ returns-in-Err-TooLarge-clause-refused g c lines rest taken counted =
     let weight = ap (λ o. option_map_or (λ (s : ℕ). s - 1) o 0) sized ∙ ap (λ n. n - 1) (sym c.get.ensures.value) in
     too_large_more lines c.args.pass.now taken c.args.key.0.now rest
     (rw weight (c.in-Err-TooLarge.ensures.too_large.0 (subst IsTooLarge (sym c.in-Err-TooLarge.field-0-is) tt)))
+
+pub returns-in-None-clause-fault : goal.returns-in-None-clause-fault
+returns-in-None-clause-fault g c rest of = none_told c.args.number c.args.pass.now.size c.args.key.0.now rest c.in-None.ensures.none

@@ -1,0 +1,82 @@
+-- Which fault lines have, and which capacities beside them.
+use Rattle.std.proofs.Common.{◌≡◌, ℕ, ◌+◌, ◌≤◌, ◌^◌, Bool, true, false, cond, nat_le, List, ◌∷◌, Option, None, Some, map, inl, inr, refl, ap, ◌∙◌}
+use Rattle.std.specs.Prelude.{nat_lt}
+use Rattle.std.specs.Int.NonZero.{non_zero_usize_get}
+use Rattle.std.specs.List.{All}
+use Rattle.std.specs.Option.{is_none, option_or}
+use Rattle.std.proofs.lemmas.Bool.{cases_lt, le-leb, lt-leb, le-ltb, lt-ltb}
+use Rattle.std.proofs.lemmas.List.Elements.{All-weaker}
+use Rattle.std.proofs.lemmas.List.Folds.{list_any_at, list_any_none}
+use Rattle.clru_report.specs.Capacities.{sized_capacities_of}
+use Rattle.clru_report.specs.Refusals.{NamesBelow, fault_beside, fault_from, fault_of, names_below}
+use Rattle.clru_report.specs.Sizes.{greatest_size, size_of_line, weight_of_line}
+use Rattle.clru_report.specs.declared.fault.Fault.{Fault}
+use Rattle.clru_report.specs.declared.fault.Fault.TheVariants.{NoSize, TooLarge, TooSmall}
+use Rattle.clru_report.specs.declared.options.Capacities.{Capacities}
+use Rattle.clru_report.specs.declared.options.Capacities.TheVariants.{Usual, Each, Named}
+use Rattle.clru_report.specs.declared.options.Form.{Form}
+use Rattle.clru_report.specs.declared.options.Form.TheVariants.{Table, Picture, Summary}
+use Rattle.clru_report.specs.declared.options.Options.{Options}
+
+module _ (number size : ℕ) (line : List ℕ) (rest : List (List ℕ)) where
+  abbrev with_it : ℕ
+  with_it = size + (1 + weight_of_line line)
+
+  abbrev by_size : Bool → Option Fault
+  by_size large = cond large (Some TooLarge) (fault_from (number + 1) with_it rest)
+
+  -- a line without a size is told
+  pub none_told : size_of_line line ≡ None → fault_from number size (line ∷ rest) ≡ Some (NoSize number)
+  none_told none = ap (λ o. cond (is_none o) (Some (NoSize number)) (by_size (nat_le (2 ^ 64) with_it))) none
+
+  module _ (own : ℕ) (sized : size_of_line line ≡ Some own) where
+    told_by_size : fault_from number size (line ∷ rest) ≡ by_size (nat_le (2 ^ 64) with_it)
+    told_by_size = ap (λ o. cond (is_none o) (Some (NoSize number)) (by_size (nat_le (2 ^ 64) with_it))) sized
+
+    -- so is one that takes the sizes past the greatest number
+    pub large_told : 2 ^ 64 ≤ with_it → fault_from number size (line ∷ rest) ≡ Some TooLarge
+    large_told large = told_by_size ∙ ap by_size (le-leb (2 ^ 64) with_it large)
+
+    -- after any other the next line is looked at
+    pub next_told : (2 ^ 64 ≤ with_it → ⊥) → fault_from number size (line ∷ rest) ≡ fault_from (number + 1) with_it rest
+    next_told fits = elim (cases_lt with_it (2 ^ 64)) [
+      | inl low ↦ told_by_size ∙ ap by_size (lt-leb (2 ^ 64) with_it low)
+      | inr large ↦ absurd (fits large)
+    ]
+
+module _ {A : Type 0} where
+  -- where no capacity is below a number, none is named
+  pub none_named : (asked : Capacities A) (m : ℕ → ℕ) (g d n : ℕ) → All (λ c. n ≤ c) (sized_capacities_of asked m g d)
+      → names_below asked n ≡ false
+  none_named Usual m g d n all = refl
+  none_named Each m g d n all = refl
+  none_named (Named named) m g d n all =
+      list_any_none (λ c. nat_lt c n) (map non_zero_usize_get named.items)
+      (All-weaker (λ c. n ≤ c) (λ c. nat_lt c n ≡ false) (λ c h. le-ltb c n h) (map non_zero_usize_get named.items) all)
+
+  -- one that is named below it is found
+  pub one_named : (asked : Capacities A) (n : ℕ) → NamesBelow asked n → names_below asked n ≡ true
+  one_named Usual n is = absurd is
+  one_named Each n is = absurd is
+  one_named (Named named) n is =
+      let at = is.1 in
+      list_any_at (λ c. nat_lt c n) (map non_zero_usize_get named.items) at.0 is.0 at.1
+      (ap (λ c. nat_lt c n) at.2 ∙ lt-ltb is.0 n is.2)
+
+  -- capacities of which none is too small have no fault
+  pub none_beside : (form : Form) (asked : Capacities A) (n : ℕ) → names_below asked n ≡ false → fault_beside form asked n ≡ None
+  none_beside Table asked n h = ap (λ b. cond b (Some (TooSmall n)) None) h
+  none_beside Picture asked n h = ap (λ b. cond b (Some (TooSmall n)) None) h
+  none_beside Summary asked n h = refl
+
+  module _ (options : Options A) (lines : List (List ℕ)) where
+    abbrev beside : Option Fault
+    beside = fault_beside options.form options.capacities (greatest_size lines)
+
+    -- the fault of a line is that of all
+    pub told_of_line : (fault : Fault) → fault_from 1 0 lines ≡ Some fault → fault_of options lines ≡ Some fault
+    told_of_line fault h = ap (λ o. option_or o beside) h
+
+    -- where lines have none, it is what stands beside them
+    pub told_beside : (told : Option Fault) → fault_from 1 0 lines ≡ None → beside ≡ told → fault_of options lines ≡ told
+    told_beside told free h = ap (λ o. option_or o beside) free ∙ h

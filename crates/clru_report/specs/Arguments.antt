@@ -1,0 +1,62 @@
+-- What the words of a command line ask for, once all are read. No public clause cites it.
+use Rattle.std.specs.Prelude.{◌≡◌, Bool, true, false, not, ◌&&◌, ◌||◌, List, [], ◌∷◌, if◌then◌else◌}
+use Rattle.clru_report.specs.declared.arguments.Command.{Command}
+use Rattle.clru_report.specs.declared.arguments.Command.TheVariants.{Help, Version, Report}
+use Rattle.clru_report.specs.declared.arguments.Draft.{Draft}
+use Rattle.clru_report.specs.declared.arguments.Refusal.{Refusal}
+use Rattle.clru_report.specs.declared.arguments.Refusal.TheVariants.{Wrong, Memory}
+use Rattle.clru_report.specs.declared.options.Capacities.{Capacities}
+use Rattle.clru_report.specs.declared.options.Capacities.TheVariants.{Usual, Each, Named}
+use Rattle.clru_report.specs.declared.options.Form.{Form}
+use Rattle.clru_report.specs.declared.options.Form.TheVariants.{Table, Picture, Summary}
+use Rattle.clru_report.specs.declared.options.Options.{Options}
+
+abbrev pub is_each : {A : Type 0} → Capacities A → Bool
+is_each Usual = false
+is_each Each = true
+is_each (Named named) = false
+
+abbrev pub is_named : {A : Type 0} → Capacities A → Bool
+is_named Usual = false
+is_named Each = false
+is_named (Named named) = true
+
+abbrev pub is_some_of : {X : Type 0} → List X → Bool
+is_some_of [] = false
+is_some_of (x ∷ xs) = true
+
+module _ {A : Type 0} where
+  -- some capacity is named
+  abbrev pub names_some : Draft A → Bool
+  names_some draft = is_some_of draft.named.items
+
+  abbrev pub form_of : Draft A → Form
+  form_of draft = if draft.summary then Summary else (if draft.svg then Picture else Table)
+
+  -- something is asked for that no summary has
+  abbrev pub wants_rows : Draft A → Bool
+  wants_rows draft = draft.all || names_some draft || draft.least || draft.svg
+
+  -- no two of the flags exclude one another
+  abbrev pub go_together : Draft A → Bool
+  go_together draft = not (draft.all && names_some draft)
+      && (not (draft.summary && wants_rows draft) && not (draft.sizes && draft.least))
+
+  -- the options are those of the flags
+  pub record AreOf (draft : Draft A) (options : Options A) : Type 0 where
+    pub form : options.form ≡ form_of draft
+    pub sizes : options.sizes ≡ draft.sizes
+    pub least : options.least ≡ draft.least
+    pub each : is_each options.capacities ≡ draft.all
+    pub named : is_named options.capacities ≡ names_some draft
+
+  -- a report with the options of these flags is asked for
+  abbrev pub AsksFor : Draft A → Command A → Type 0
+  AsksFor draft Help = ⊥
+  AsksFor draft Version = ⊥
+  AsksFor draft (Report options) = AreOf draft options
+
+  -- the words are wrong, and memory did not run out
+  abbrev pub is_wrong : Refusal A → Bool
+  is_wrong (Wrong line) = true
+  is_wrong Memory = false
