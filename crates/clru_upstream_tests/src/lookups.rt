@@ -82,34 +82,28 @@ fn test_contains(rt: HostRuntime) {
 /// Colours under texts that own memory.
 type Texts = CLruCache<String, &'static str>;
 
+/// A cache with one pair.
+fn red_apple(alloc: Global) -> Result<Texts, Fail> {
+    let apple = String::from_str(alloc, "apple")?;
+    let mut cache = CLruCache::new(alloc, capacity_of(2)?);
+    match cache.put(apple, "red") {
+        Ok(_) => Ok(cache),
+        Err(_) => Err("there is no memory".into()),
+    }
+}
+
 #[test]
 fn test_get_with_borrow(rt: HostRuntime) -> Result<(), Fail> {
-    equal!(rt; finds_by_another(rt.alloc(), false)?, true);
+    let mut cache = red_apple(rt.alloc())?;
+    equal!(rt; cache.get("apple").copied(), Some("red"));
     Ok(())
 }
 
 #[test]
 fn test_get_mut_with_borrow(rt: HostRuntime) -> Result<(), Fail> {
-    equal!(rt; finds_by_another(rt.alloc(), true)?, true);
+    let mut cache = red_apple(rt.alloc())?;
+    equal!(rt; cache.get_mut("apple").copied(), Some("red"));
     Ok(())
-}
-
-/// Whether what is stored under one text is found by another one, for writing or not.
-fn finds_by_another(alloc: Global, writes: bool) -> Result<bool, Fail> {
-    let stored = String::from_str(alloc, "apple")?;
-    let sought = String::from_str(alloc, "apple")?;
-    let mut cache = CLruCache::new(alloc, capacity_of(2)?);
-    Ok(finds_text(&mut cache, stored, &sought, writes))
-}
-
-fn finds_text(cache: &mut Texts, stored: String, sought: &String, writes: bool) -> bool {
-    let put = cache.put(stored, "red").is_ok();
-    let found = if writes {
-        cache.get_mut(sought).copied()
-    } else {
-        cache.get(sought).copied()
-    };
-    put && found == Some("red")
 }
 
 #[test]
