@@ -34,6 +34,14 @@ pub(crate) fn write_found(
     }
 }
 
+/// Writes a pair that was taken out, or that there is none.
+fn write_taken(pair: &Option<(Key, Value)>, out: &mut String) -> Result<(), AllocError> {
+    match pair {
+        Some((key, value)) => write_pair(key, value, out),
+        None => out.push_str("none"),
+    }
+}
+
 /// Makes a call that changes nothing. Answers `false` where the name is none of these.
 pub(crate) fn read<'a, W: WeightScale<Key<'a>, Value<'a>>>(
     cache: &Made<'a, W>,
@@ -145,7 +153,7 @@ pub(crate) fn walk_owned<'a, W: WeightScale<Key<'a>, Value<'a>> + Drop>(
             "next_back" => walk.next_back(),
             _ => return Err(Wrong::NoSuchWord),
         };
-        write_found(pair.as_ref().map(|(key, value)| (key, value)), out)?;
+        write_taken(&pair, out)?;
     }
     if out.is_empty() {
         out.push_str("done")?;
@@ -177,11 +185,11 @@ pub(crate) fn change<'a, W: WeightScale<Key<'a>, Value<'a>>>(
         }
         "pop_front" => {
             let pair = cache.pop_front();
-            write_found(pair.as_ref().map(|(key, value)| (key, value)), out)?;
+            write_taken(&pair, out)?;
         }
         "pop_back" => {
             let pair = cache.pop_back();
-            write_found(pair.as_ref().map(|(key, value)| (key, value)), out)?;
+            write_taken(&pair, out)?;
         }
         "clear" => cache.clear(),
         "resize" => {

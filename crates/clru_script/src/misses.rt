@@ -251,16 +251,11 @@ fn beside_lists<'a, A: Allocator>(
             if cached(world.alloc, hashing, keys, number)? != missed {
                 write!(out, "; ? at {number} a cache misses others")?;
             }
-            Some(missed)
+            (Some(missed.0), Some(missed.1))
         } else {
-            None
+            (None, None)
         };
-        if (curve.misses(capacity), curve.missed_size(capacity))
-            != (
-                wanted.map(|(misses, _)| misses),
-                wanted.map(|(_, size)| size),
-            )
-        {
+        if (curve.misses(capacity), curve.missed_size(capacity)) != wanted {
             write!(out, "; ? at {number}")?;
         }
     }

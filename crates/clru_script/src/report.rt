@@ -23,6 +23,14 @@ struct Reports<'a> {
     input: String,
 }
 
+/// What stands between quotes, or the whole where there are none.
+fn unquoted(text: &str) -> &str {
+    match text.strip_prefix('"') {
+        Some(rest) => rest.strip_suffix('"').unwrap_or(text),
+        None => text,
+    }
+}
+
 /// Runs a block, which begins with its input: `input a\nb\n`, or `input " a\n"` where a blank stands at an end.
 pub(crate) fn run(
     world: &World,
@@ -32,10 +40,7 @@ pub(crate) fn run(
     refusal: &mut Refusal,
 ) -> Result<Answers, Wrong> {
     let text = first.call.strip_prefix("input").unwrap_or("").trim();
-    let quoted = text
-        .strip_prefix('"')
-        .and_then(|rest| rest.strip_suffix('"'));
-    let input = unescaped(world.alloc, quoted.unwrap_or(text))?;
+    let input = unescaped(world.alloc, unquoted(text))?;
     let mut answers = Vec::new(world.alloc);
     answers.push(String::new(world.alloc))?;
     run_lines(

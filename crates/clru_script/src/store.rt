@@ -72,7 +72,10 @@ impl<'a> Source<Key<'a>, Value<'a>, Failed> for Origin<'a> {
         if failing.from <= number && number < failing.below {
             return Err(Failed::Asked);
         }
-        self.value(key).map_err(|_| Failed::NoMemory)
+        match self.value(key) {
+            Ok(value) => Ok(value),
+            Err(AllocError) => Err(Failed::NoMemory),
+        }
     }
 
     ghost same = { Prim.search (rules, comparing) };

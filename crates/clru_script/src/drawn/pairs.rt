@@ -22,14 +22,19 @@ impl Pairs {
         sum
     }
 
+    /// Where the pair of a key is.
+    fn at(&self, key: usize) -> Option<usize> {
+        self.list.iter().position(|pair| pair.0 == key)
+    }
+
     /// The value of a key.
     pub(crate) fn value(&self, key: usize) -> Option<usize> {
-        let at = self.list.iter().position(|pair| pair.0 == key)?;
+        let at = self.at(key)?;
         Some(self.list[at].1)
     }
 
     fn take(&mut self, key: usize) -> Option<usize> {
-        let at = self.list.iter().position(|pair| pair.0 == key)?;
+        let at = self.at(key)?;
         Some(self.list.remove(at).1)
     }
 
@@ -103,11 +108,11 @@ impl Pairs {
             Call::IsFull => {
                 Answer::Flag(self.list.len().saturating_add(self.weight()) == self.capacity)
             }
-            Call::Front => Answer::Value(self.list.first().map(|pair| pair.1)),
-            Call::Back => Answer::Value(self.list.last().map(|pair| pair.1)),
-            Call::Nth(number) => Answer::Value(self.list.get(*number).map(|pair| pair.1)),
+            Call::Front => Answer::Value(value_of(self.list.first())),
+            Call::Back => Answer::Value(value_of(self.list.last())),
+            Call::Nth(number) => Answer::Value(value_of(self.list.get(*number))),
             Call::NthBack(number) => {
-                Answer::Value(self.list.iter().rev().nth(*number).map(|pair| pair.1))
+                Answer::Value(value_of(self.list.iter().rev().nth(*number)))
             }
             _ => Answer::Done,
         }
@@ -178,7 +183,7 @@ impl Pairs {
             )?)),
             PlainCall::GetMut(key, value) => Ok(Answer::Value(self.gets_mut(*key, *value)?)),
             PlainCall::PeekMut(key, value) => {
-                let at = self.list.iter().position(|pair| pair.0 == *key);
+                let at = self.at(*key);
                 Ok(Answer::Value(self.writes(at, *value)))
             }
             PlainCall::FrontMut(value) => Ok(Answer::Value(self.writes(Some(0), *value))),
@@ -192,5 +197,13 @@ impl Pairs {
             }
             PlainCall::Any(call) => self.perform(call),
         }
+    }
+}
+
+/// The value of a pair, where there is one.
+fn value_of(pair: Option<&(usize, usize)>) -> Option<usize> {
+    match pair {
+        Some(pair) => Some(pair.1),
+        None => None,
     }
 }

@@ -36,6 +36,14 @@ fn asked(world: &World, keep: Keep, place: usize, item: u64) -> bool {
     keep.keeps(item as usize)
 }
 
+/// Writes an item to what is lent, where something is, and answers the old one.
+fn replaced(lent: Option<&mut u64>, item: u64) -> Option<u64> {
+    match lent {
+        Some(lent) => Some(mem::replace(lent, item)),
+        None => None,
+    }
+}
+
 /// Writes an item through what a call lends. The old one is the answer.
 pub(crate) fn write_through(
     list: &mut Numbers,
@@ -46,15 +54,15 @@ pub(crate) fn write_through(
     let old = match name {
         "get_mut" => {
             let (place, item) = (next_number(words)?, next_number(words)? as u64);
-            list.get_mut(place).map(|lent| mem::replace(lent, item))
+            replaced(list.get_mut(place), item)
         }
         "front_mut" => {
             let item = next_number(words)? as u64;
-            list.front_mut().map(|lent| mem::replace(lent, item))
+            replaced(list.front_mut(), item)
         }
         _ => {
             let item = next_number(words)? as u64;
-            list.back_mut().map(|lent| mem::replace(lent, item))
+            replaced(list.back_mut(), item)
         }
     };
     write_number(old, out)?;
@@ -77,11 +85,11 @@ pub(crate) fn writes(list: &mut Numbers, words: &mut Words, out: &mut String) ->
     }
     match step {
         "next" => {
-            let old = cursor.next().map(|lent| mem::replace(lent, item));
+            let old = replaced(cursor.next(), item);
             write_number(old, out)?;
         }
         "next_back" => {
-            let old = cursor.next_back().map(|lent| mem::replace(lent, item));
+            let old = replaced(cursor.next_back(), item);
             write_number(old, out)?;
         }
         "next_entry" => {

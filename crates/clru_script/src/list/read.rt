@@ -14,7 +14,10 @@ pub(crate) fn write_number(number: Option<u64>, out: &mut String) -> Result<(), 
 
 /// Writes a place, or that there is none.
 pub(crate) fn write_place(place: Option<usize>, out: &mut String) -> Result<(), AllocError> {
-    write_number(place.map(|place| place as u64), out)
+    match place {
+        Some(place) => write!(out, "{place}"),
+        None => out.push_str("none"),
+    }
 }
 
 /// Writes a place with its item, or that there is none.

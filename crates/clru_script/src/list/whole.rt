@@ -39,10 +39,17 @@ pub(crate) fn fault_of(list: &Numbers) -> Option<Fault> {
 
 /// What is wrong with the items at the ends.
 fn fault_of_ends(list: &Numbers) -> Option<Fault> {
-    let first = list.front_idx().and_then(|place| list.get(place).copied());
-    let last = list.back_idx().and_then(|place| list.get(place).copied());
-    if list.front().copied() != first || list.back().copied() != last {
+    let (first, last) = (list.front_idx(), list.back_idx());
+    if list.front() != item_at(list, first) || list.back() != item_at(list, last) {
         return Some(Fault::Walk);
     }
     None
+}
+
+/// The item at a place, where there is one.
+fn item_at<'l>(list: &'l Numbers, place: Option<usize>) -> Option<&'l u64> {
+    match place {
+        Some(place) => list.get(place),
+        None => None,
+    }
 }

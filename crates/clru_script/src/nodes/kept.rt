@@ -2,7 +2,7 @@
 
 use crate::fault::Fault;
 use clru_model::DefaultState;
-use clru_nodes::Nodes;
+use clru_nodes::{Item, Nodes};
 use std::alloc::{AllocError, Allocator};
 use std::marker::Model;
 
@@ -66,12 +66,12 @@ impl<A: Allocator + Copy> Kept<A> {
 
     /// The first pair.
     pub(crate) fn front(&self) -> Option<(u64, u64)> {
-        self.nodes.front().map(|(key, value)| (*key, *value))
+        pair_of(self.nodes.front())
     }
 
     /// The last pair.
     pub(crate) fn back(&self) -> Option<(u64, u64)> {
-        self.nodes.back().map(|(key, value)| (*key, *value))
+        pair_of(self.nodes.back())
     }
 
     /// The value of a key.
@@ -156,8 +156,8 @@ impl<A: Allocator + Copy> Kept<A> {
     pub(crate) fn has(&self, pairs: &[(u64, u64)]) -> bool {
         let (mut forward, mut backward) = (self.nodes.iter(), self.nodes.iter());
         for ((key, value), last) in pairs.iter().zip(pairs.iter().rev()) {
-            let shown = forward.next().map(|(_, item)| (item.key, item.value));
-            let other = backward.next_back().map(|(_, item)| (item.key, item.value));
+            let shown = shown_of(forward.next());
+            let other = shown_of(backward.next_back());
             if shown != Some((*key, *value)) || other != Some(*last) {
                 return false;
             }
@@ -183,13 +183,27 @@ impl<A: Allocator + Copy> Kept<A> {
         if self.len() != count || self.nodes.iter().rev().count() != count {
             return Some(Fault::Walk);
         }
-        let first = self.nodes.iter().next();
-        let last = self.nodes.iter().next_back();
-        if self.front() != first.map(|(_, item)| (item.key, item.value))
-            || self.back() != last.map(|(_, item)| (item.key, item.value))
-        {
+        let first = shown_of(self.nodes.iter().next());
+        let last = shown_of(self.nodes.iter().next_back());
+        if self.front() != first || self.back() != last {
             return Some(Fault::Walk);
         }
         None
+    }
+}
+
+/// A copy of a pair.
+fn pair_of(pair: Option<(&u64, &u64)>) -> Option<(u64, u64)> {
+    match pair {
+        Some((key, value)) => Some((*key, *value)),
+        None => None,
+    }
+}
+
+/// A copy of what a walk shows.
+fn shown_of(shown: Option<(usize, &Item<u64, u64>)>) -> Option<(u64, u64)> {
+    match shown {
+        Some((_, item)) => Some((item.key, item.value)),
+        None => None,
     }
 }
