@@ -1,5 +1,5 @@
 //! Callers that are proved over the contracts of the store alone.
-ghost use Rattle.std.specs.Prelude.{◌≡◌, ◌↔◌, ℕ, Some, nat_eq, Result, IfOk, IfErr, IsSome};
+ghost use Rattle.std.specs.Prelude.{◌≡◌, ◌↔◌, ℕ, Some, nat_eq, Result, IfOk, IfErr, IfSome, IsSome};
 ghost use Rattle.std.specs.Map.{lookup};
 ghost use Rattle.clru_through.specs.Steps.{Loads};
 ghost use Rattle.clru_through.specs.declared.answer.Loaded.{Loaded};
@@ -101,6 +101,16 @@ pub fn room_of<E, R: Source<u64, u64, E>, W: WeightScale<u64, u64>>(
     store: &Through<u64, u64, E, R, DefaultState, W>,
 ) -> usize {
     store.capacity() - store.weight() - store.len()
+}
+
+/// The value of a page, if it is held: it is the source's.
+pub fn held_of<E, R: Source<u64, u64, E>, W: WeightScale<u64, u64>>(
+    store: &Through<u64, u64, E, R, DefaultState, W>,
+    page: u64,
+) -> Option<u64>
+    ensures { IfSome result (λ value. R.value store.now.source page ≡ Some value) }
+{
+    store.peek(&page).copied()
 }
 
 /// Loads a page. Where its fetch fails, the answer is what is held of another one, which is what was held before.

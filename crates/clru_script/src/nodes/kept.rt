@@ -98,7 +98,6 @@ impl<A: Allocator + Copy> Kept<A> {
     }
 
     /// Moves the pair with a key to the front, and answers whether there is one.
-    #[tactic(auto, using(crate::proofs::Apart::apart_touched))]
     pub(crate) fn touch(&mut self, key: u64) -> bool {
         let hash = self.nodes.hash(&key);
         self.nodes.touch(hash, &key)
