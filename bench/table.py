@@ -28,7 +28,7 @@ PASSES = {
 
 def print_tables(given, built, measured):
     print(built.tools)
-    print(f"ns of processor time a call: the least and the middle of {given.rounds} rounds")
+    print(f"ns of processor time a call: the minimum and the median of {given.rounds} rounds")
     for rows in (cache_rows(built, measured), pass_rows(measured)):
         if len(rows) > 1:
             print()
