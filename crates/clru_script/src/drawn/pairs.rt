@@ -22,19 +22,18 @@ impl Pairs {
         sum
     }
 
-    /// Where the pair of a key is.
-    fn at(&self, key: usize) -> Option<usize> {
-        self.list.iter().position(|pair| pair.0 == key)
-    }
-
     /// The value of a key.
     pub(crate) fn value(&self, key: usize) -> Option<usize> {
-        let at = self.at(key)?;
-        Some(self.list[at].1)
+        for pair in &self.list {
+            if pair.0 == key {
+                return Some(pair.1);
+            }
+        }
+        None
     }
 
     fn take(&mut self, key: usize) -> Option<usize> {
-        let at = self.at(key)?;
+        let at = self.list.iter().position(|pair| pair.0 == key)?;
         Some(self.list.remove(at).1)
     }
 
@@ -183,7 +182,7 @@ impl Pairs {
             )?)),
             PlainCall::GetMut(key, value) => Ok(Answer::Value(self.gets_mut(*key, *value)?)),
             PlainCall::PeekMut(key, value) => {
-                let at = self.at(*key);
+                let at = self.list.iter().position(|pair| pair.0 == *key);
                 Ok(Answer::Value(self.writes(at, *value)))
             }
             PlainCall::FrontMut(value) => Ok(Answer::Value(self.writes(Some(0), *value))),
