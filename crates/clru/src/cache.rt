@@ -10,6 +10,7 @@ mod extend;
 mod get;
 mod modify;
 mod new;
+mod parts;
 mod put;
 mod remove;
 mod resize;

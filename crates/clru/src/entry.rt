@@ -9,7 +9,7 @@ use std::alloc::{Allocator, Global};
 use std::hash::{BuildHasher, Hash};
 
 /// An end of the entry list.
-#[derive(Clone, Copy)]
+#[derive(Clone, Copy, Debug)]
 pub enum End {
     Front,
     Back,

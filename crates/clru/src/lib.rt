@@ -15,6 +15,7 @@
 mod cache;
 mod config;
 mod cursor;
+mod debug;
 mod entry;
 mod iter;
 mod laws;

@@ -11,6 +11,7 @@
 #![tactic(auto)]
 
 mod curve;
+mod debug;
 mod latest;
 mod list;
 mod pass;

@@ -26,8 +26,8 @@ const FIRST_CAPACITY: usize = 64;
 ///
 /// Memory goes with the distinct keys, a position in a cache and a number for each, besides 16 bytes for each 64 requests.
 pub struct DistancePass<K: Eq + Hash, S: BuildHasher = DefaultState, A: Allocator + Copy = Global> {
-    positions: CLruCache<K, usize, S, ZeroWeightScale, A>,
-    latest: Latest<A>,
+    pub(crate) positions: CLruCache<K, usize, S, ZeroWeightScale, A>,
+    pub(crate) latest: Latest<A>,
     histogram: Vec<usize, A>,
 }
 

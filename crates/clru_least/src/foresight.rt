@@ -19,7 +19,7 @@ use std::num::NonZeroUsize;
 /// any room. It borrows the requests; a clause sees it as their list.
 #[derive(Drop)]
 pub struct Foresight<'a, K: Eq, A: Allocator + Copy> {
-    keys: &'a [K],
+    pub(crate) keys: &'a [K],
     nexts: Vec<usize, A>,
     alloc: A,
 }

@@ -8,6 +8,7 @@
 //! misses no fewer than the least with room for one key more (`law_least`).
 #![tactic(auto)]
 
+mod debug;
 mod foresight;
 mod nexts;
 

@@ -8,7 +8,7 @@ use std::alloc::{AllocError, Allocator};
 use std::hash::{Hash, Hasher};
 
 /// The key of a request: the bytes of its line.
-#[derive(Clone, Copy, PartialEq, Eq)]
+#[derive(Clone, Copy, Debug, PartialEq, Eq)]
 pub struct Key<'a>(pub &'a [u8]);
 
 // The bytes go to the hasher in one call. A slice's own `Hash` gives it one byte a call.

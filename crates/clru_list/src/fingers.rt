@@ -3,7 +3,7 @@ ghost use Rattle.std.specs.Prelude.{◌≡◌, ℕ, List, Some, IfSome, false, s
 ghost use Rattle.clru_list.specs.Fingers.{IsFinger, IsPointed};
 
 /// The place of the entry at an index.
-#[derive(Clone, Copy)]
+#[derive(Clone, Copy, Debug)]
 pub struct Finger {
     pub(crate) index: usize,
     pub(crate) place: usize,
@@ -11,7 +11,7 @@ pub struct Finger {
 
 /// The one that goes up from the front, and the one that goes down from the back. A change of the order clears both, by one
 /// word: what stands in them counts only where they were set since.
-#[derive(Clone, Copy)]
+#[derive(Clone, Copy, Debug)]
 pub struct Fingers {
     pub(crate) kept: bool,
     pub(crate) up: Option<Finger>,

@@ -10,6 +10,7 @@
 #![tactic(auto)]
 
 mod cursor;
+mod debug;
 mod error;
 mod fingers;
 mod halves;

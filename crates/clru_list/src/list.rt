@@ -143,6 +143,11 @@ impl<T, A: Allocator + Copy> FixedSizeList<T, A> {
         self.places
     }
 
+    /// Returns the allocator.
+    pub fn allocator(&self) -> &A {
+        self.links.nodes.allocator()
+    }
+
     /// Returns whether there is no item.
     pub fn is_empty(&self) -> bool
         ensures empty { IsTrue result ↔ (self.now.entries ≡ []) }

@@ -17,7 +17,7 @@ use std::hash::{BuildHasher, FoldHasher};
 ///     Ok(CLruCache::with_hasher(alloc, capacity, seed))
 /// }
 /// ```
-#[derive(Clone, Copy, Default)]
+#[derive(Clone, Copy, Debug, Default)]
 pub struct DefaultState;
 
 impl BuildHasher for DefaultState {

@@ -27,7 +27,7 @@ pub trait WeightScale<K, V> {
 }
 
 /// The scale of a cache whose capacity limits the number of its entries: each pair weighs 0.
-#[derive(Clone, Copy, Default)]
+#[derive(Clone, Copy, Debug, Default)]
 pub struct ZeroWeightScale;
 
 impl<K, V> WeightScale<K, V> for ZeroWeightScale {

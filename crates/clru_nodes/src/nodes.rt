@@ -16,6 +16,7 @@ use std::collections::hash_map::Equivalent;
 use std::hash::{BuildHasher, Hash};
 
 mod chaining;
+mod debug;
 mod front;
 mod growth;
 mod moves;
@@ -109,6 +110,18 @@ impl<K: Eq + Hash, V, S: BuildHasher, A: Allocator + Copy> Nodes<K, V, S, A> {
         ensures { result ≡ length (pairs_in self.now) }
     {
         self.list.len()
+    }
+
+    /// Returns the hash builder.
+    pub fn hasher(&self) -> &S
+        ensures { result.now ≡ builder_of self.now }
+    {
+        &self.hash_builder
+    }
+
+    /// Returns the allocator.
+    pub fn allocator(&self) -> &A {
+        self.list.allocator()
     }
 
     /// Sets the most pairs that the nodes may hold. Pairs and places stay, also where the places are more.

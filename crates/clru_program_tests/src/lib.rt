@@ -10,3 +10,5 @@ mod fakes;
 mod faults;
 #[cfg(test)]
 mod lines;
+#[cfg(test)]
+mod shown;

@@ -9,7 +9,7 @@ use std::convert::AsStr;
 use std::num::NonZeroUsize;
 
 /// What the program is to do.
-#[derive(Drop)]
+#[derive(Debug, Drop)]
 pub enum Command<A: Allocator = Global> {
     /// Print how it is used.
     Help,
@@ -20,7 +20,7 @@ pub enum Command<A: Allocator = Global> {
 }
 
 /// Why the arguments are refused.
-#[derive(Drop)]
+#[derive(Debug, Drop)]
 pub enum Refusal<A: Allocator = Global> {
     /// What is wrong and what would be right, in one line.
     Wrong(String<A>),

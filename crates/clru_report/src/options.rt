@@ -4,7 +4,7 @@ use std::alloc::{Allocator, Global};
 use std::num::NonZeroUsize;
 
 /// The capacities of a table.
-#[derive(Drop)]
+#[derive(Debug, Drop)]
 pub enum Capacities<A: Allocator = Global> {
     /// 1, 2, 5, 10, 20, 50 and so on up to the number of distinct keys, and that number. By size: those from the greatest
     /// size up to the size of the distinct keys together, and that size.
@@ -27,7 +27,7 @@ pub enum Form {
 }
 
 /// What a report is asked to have.
-#[derive(Drop)]
+#[derive(Debug, Drop)]
 pub struct Options<A: Allocator = Global> {
     pub capacities: Capacities<A>,
 

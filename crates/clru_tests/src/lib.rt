@@ -24,6 +24,8 @@ mod printed;
 #[cfg(test)]
 mod schedules;
 #[cfg(test)]
+mod shown;
+#[cfg(test)]
 mod stores;
 #[cfg(test)]
 mod walks;

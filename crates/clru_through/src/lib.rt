@@ -8,6 +8,7 @@
 #![tactic(auto)]
 
 mod answer;
+mod debug;
 mod laws;
 mod source;
 mod store;

@@ -9,6 +9,7 @@
 
 use std::alloc::{AllocError, Allocator};
 use std::cell::Cell;
+use std::fmt;
 
 /// Requests and blocks so far, and the refusals to come.
 #[derive(Drop)]
@@ -95,6 +96,17 @@ impl<B: Allocator> Rationed<B> {
     /// The bytes of those blocks.
     pub fn held_bytes(&self) -> u64 {
         self.book.held_bytes.get()
+    }
+}
+
+impl<B: Allocator> fmt::Debug for Rationed<B> {
+    fn fmt<W: fmt::Write>(&self, f: &mut fmt::Formatter<W>) -> fmt::Result {
+        f.debug_struct("Rationed")
+            .field("asked", &self.asked())
+            .field("refused", &self.refused())
+            .field("blocks", &self.blocks())
+            .field("held_bytes", &self.held_bytes())
+            .finish()
     }
 }
 

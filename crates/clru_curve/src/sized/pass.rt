@@ -24,10 +24,10 @@ use std::marker::Model;
 /// Memory goes with the requests, nine bytes for each, and sixteen more for each that asks for a key again, besides a
 /// position in a cache for each distinct key.
 pub struct SizedPass<K: Eq + Hash, S: BuildHasher = DefaultState, A: Allocator + Copy = Global> {
-    positions: CLruCache<K, usize, S, ZeroWeightScale, A>,
-    latest: Sizes<A>,
+    pub(crate) positions: CLruCache<K, usize, S, ZeroWeightScale, A>,
+    pub(crate) latest: Sizes<A>,
     hits: Vec<(usize, usize), A>,
-    size: usize,
+    pub(crate) size: usize,
     greatest: usize,
 }
 

@@ -1,0 +1,32 @@
+//! What a cache was made with, lent for reading.
+ghost use Rattle.std.specs.Prelude.{◌≡◌};
+
+use crate::cache::CLruCache;
+use clru_model::WeightScale;
+use std::alloc::Allocator;
+use std::hash::{BuildHasher, Hash};
+
+impl<K: Eq + Hash, V, S: BuildHasher, W: WeightScale<K, V>, A> CLruCache<K, V, S, W, A>
+where
+    A: Allocator + Copy,
+{
+    /// Lends the scale.
+    /// Cost: a read.
+    pub fn scale(&self) -> &W
+        ensures { result.now ≡ self.now.scale }
+    {
+        &self.pairs.scale
+    }
+
+    /// Lends the hash builder. No clause tells which it is, since a cache's model has none.
+    /// Cost: a read.
+    pub fn hasher(&self) -> &S {
+        self.pairs.nodes.hasher()
+    }
+
+    /// Lends the allocator. No clause tells which it is, since a cache's model has none.
+    /// Cost: a read.
+    pub fn allocator(&self) -> &A {
+        self.pairs.nodes.allocator()
+    }
+}

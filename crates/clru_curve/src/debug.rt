@@ -1,0 +1,46 @@
+//! What `{:?}` prints of passes and curves: counts, and nothing of the keys.
+
+use crate::curve::MissCurve;
+use crate::pass::DistancePass;
+use crate::sized::{SizedCurve, SizedPass};
+use std::alloc::Allocator;
+use std::fmt;
+use std::hash::{BuildHasher, Hash};
+
+impl<K: Eq + Hash, S: BuildHasher, A: Allocator + Copy> fmt::Debug for DistancePass<K, S, A> {
+    fn fmt<W: fmt::Write>(&self, f: &mut fmt::Formatter<W>) -> fmt::Result {
+        f.debug_struct("DistancePass")
+            .field("requests", &self.latest.requests)
+            .field("distinct", &self.positions.len())
+            .finish()
+    }
+}
+
+impl<K: Eq + Hash, S: BuildHasher, A: Allocator + Copy> fmt::Debug for SizedPass<K, S, A> {
+    fn fmt<W: fmt::Write>(&self, f: &mut fmt::Formatter<W>) -> fmt::Result {
+        f.debug_struct("SizedPass")
+            .field("requests", &self.latest.sizes.len())
+            .field("size", &self.size)
+            .field("distinct", &self.positions.len())
+            .finish()
+    }
+}
+
+impl<A: Allocator> fmt::Debug for MissCurve<A> {
+    fn fmt<W: fmt::Write>(&self, f: &mut fmt::Formatter<W>) -> fmt::Result {
+        f.debug_struct("MissCurve")
+            .field("distinct", &self.distinct())
+            .finish()
+    }
+}
+
+impl<A: Allocator> fmt::Debug for SizedCurve<A> {
+    fn fmt<W: fmt::Write>(&self, f: &mut fmt::Formatter<W>) -> fmt::Result {
+        f.debug_struct("SizedCurve")
+            .field("requests", &self.requests())
+            .field("size", &self.size())
+            .field("distinct_size", &self.distinct_size())
+            .field("greatest_weight", &self.greatest_weight())
+            .finish()
+    }
+}

@@ -1,0 +1,60 @@
+//! What a cache lends of what it was made with, and what nodes and the allocator that refuses print.
+
+use assertions::{equal, shows};
+use clru::{CLruCache, CLruCacheConfig, DefaultState, WeightScale};
+use clru_fixtures::builders::Hashing;
+use clru_fixtures::scales::ByLength;
+use clru_fixtures::sizes::capacity_of;
+use clru_nodes::{Item, Nodes};
+use ration::Rationed;
+use std::alloc::Global;
+use std::test::Fail;
+
+type Texts<'a> = CLruCache<u64, &'static str, Hashing, ByLength, &'a Rationed<Global>>;
+
+#[test]
+fn a_cache_lends_what_it_was_made_with(rt: HostRuntime) -> Result<(), Fail> {
+    let heap = Rationed::new(rt.alloc());
+    let config = CLruCacheConfig::new(capacity_of(4)?)
+        .with_hasher(Hashing(Some(7)))
+        .with_memory(1)
+        .with_scale(ByLength);
+    let Ok(cache) = CLruCache::with_config(&heap, config) else {
+        return Err(Fail::from("no memory"));
+    };
+    equal!(rt; lent_by(&cache), (Some(7), 3, 2));
+    Ok(())
+}
+
+/// The fixed hash, the weight of a text, and the requests of the allocator.
+fn lent_by(cache: &Texts) -> (Option<u64>, usize, u64) {
+    (
+        cache.hasher().0,
+        cache.scale().weight(&1, &"abc"),
+        cache.allocator().asked(),
+    )
+}
+
+#[derive(Drop, PartialEq, Eq, Hash)]
+struct Name(u64);
+
+#[test]
+fn nodes_and_items_print_nothing_of_their_pairs(rt: HostRuntime) -> Result<(), Fail> {
+    let nodes: Nodes<Name, Name, DefaultState, Global> = Nodes::new(rt.alloc(), 3, DefaultState);
+    equal!(rt; shows(rt.alloc(), &nodes, "Nodes { len: 0, capacity: 3 }")?, true);
+    let item = Item {
+        key: Name(1),
+        value: Name(2),
+    };
+    equal!(rt; shows(rt.alloc(), &item, "Item { .. }")?, true);
+    Ok(())
+}
+
+#[test]
+fn the_allocator_prints_its_counts(rt: HostRuntime) -> Result<(), Fail> {
+    let heap = Rationed::new(rt.alloc());
+    let held = Box::new(&heap, 7u64)?;
+    let text = "Rationed { asked: 1, refused: 0, blocks: 1, held_bytes: 8 }";
+    equal!(rt; (*held, shows(rt.alloc(), &heap, text)?), (7, true));
+    Ok(())
+}

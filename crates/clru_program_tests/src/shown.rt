@@ -1,0 +1,36 @@
+//! What `{:?}` prints of what the arguments ask for, and of a key.
+
+use assertions::{equal, shows};
+use clru_lines::Key;
+use clru_report::{Command, Refusal, command_of};
+use std::alloc::Global;
+use std::test::Fail;
+
+#[test]
+fn commands_and_refusals_print(rt: HostRuntime) -> Result<(), Fail> {
+    for (words, text) in [
+        (["--help"].as_slice(), "Ok(Help)"),
+        (
+            &["--at=2,1", "--svg"],
+            "Ok(Report(Options { capacities: Named([1, 2]), sizes: false, least: false, form: Picture }))",
+        ),
+        (
+            &["--sizes"],
+            "Ok(Report(Options { capacities: Usual, sizes: true, least: false, form: Table }))",
+        ),
+        (
+            &["--at"],
+            "Err(Wrong(\"--at wants capacities: write --at 100,1000\"))",
+        ),
+    ] {
+        let command: Result<Command, Refusal> = command_of(rt.alloc(), words);
+        equal!(rt; shows(rt.alloc(), &command, text)?, true, text);
+    }
+    Ok(())
+}
+
+#[test]
+fn a_key_prints_its_bytes(rt: HostRuntime) -> Result<(), Fail> {
+    equal!(rt; shows(rt.alloc(), &Key(b"ab"), "Key([97, 98])")?, true);
+    Ok(())
+}
