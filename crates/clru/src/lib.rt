@@ -34,5 +34,5 @@ pub use entry::EntryMut;
 pub use iter::CLruCacheIter;
 pub use iter::owned::CLruCacheIntoIter;
 pub use laws::law_dropped;
-pub use replays::{Replay, replay};
+pub use replays::{Replay, replay, replay_slice};
 pub use std::num::NonZeroUsize;

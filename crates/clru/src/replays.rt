@@ -9,11 +9,13 @@ ghost use Rattle.clru.specs.Cache.{with_entries};
 ghost use Rattle.clru.specs.Memory.{NeedsPlace};
 
 mod answer;
+mod slice;
 
 use crate::cache::CLruCache;
 use crate::config::CLruCacheConfig;
 pub use answer::Replay;
 use clru_model::ZeroWeightScale;
+pub use slice::replay_slice;
 use std::alloc::Allocator;
 use std::hash::{BuildHasher, Hash};
 use std::num::NonZeroUsize;
@@ -27,7 +29,7 @@ use std::num::NonZeroUsize;
 ///
 /// Memory is taken before the first request: places for as many entries as there are keys, `capacity` at most, and the
 /// marks. Where either is refused, the keys come back as they were, and nothing else can be refused. Without keys no memory
-/// is asked for. Keys are hashed with `hash_builder`.
+/// is asked for. Keys are hashed with `hash_builder`. `replay_slice` leaves the keys with the caller.
 /// Cost: three requests for memory, and a write of each head; for each request one hash and a walk along one chain, and for a
 /// miss up to one hash and two walks more.
 ///

@@ -112,7 +112,7 @@ static Range of_hits(void) {
         fill(count, count);
         size_t entries = count % 2 ? count : (count + 65) / 2;
         size_t held = held_by(clru_hits_at(keys, count, entries, 0, 0, hits, count, &number));
-        take(&range, (double)(held - 9 * count) / entries);
+        take(&range, (double)(held - count) / entries);
     }
     return range;
 }
@@ -181,7 +181,7 @@ static void see_many(void) {
     fill(MANY, MANY);
     asked = asked_bytes = 0;
     held_by(clru_hits_at(keys, MANY, MANY, 0, 0, hits, MANY, &number));
-    see_asked("hits", 4, 4442864);
+    see_asked("hits", 3, 3882864);
     curve(MANY);
     see_asked("misses", 64, 13694992);
     curve_by_size(MANY);

@@ -63,8 +63,8 @@ extern "C" {
  * knows all requests beforehand.
  *
  * Codes: CLRU_NO_CAPACITY, CLRU_WRONG_LENGTH, CLRU_NO_MEMORY.
- * Cost: a look-up for each request. Memory: a copy of the keys, a byte for each, and a cache of as many entries as there are keys,
- * capacity at most, 44 to 56 bytes each. */
+ * Cost: a look-up for each request. Memory: a byte for each request, and a cache of as many entries as there are keys, capacity at
+ * most, 44 to 56 bytes each. */
 uint32_t clru_hits_at(const uint64_t *keys, size_t keys_len, size_t capacity, uint64_t seed_low, uint64_t seed_high,
                       bool *hits, size_t hits_len, size_t *misses);
 

@@ -5,7 +5,7 @@ ghost use Rattle.clru_c.specs.Arrays.{AreHits, IsCurve, AreLeast, IsLeastOf};
 ghost use Rattle.clru_c.specs.Codes.{IsCode};
 
 use crate::codes::{NO_CAPACITY, NO_MEMORY, OK, WRONG_LENGTH};
-use clru::{Replay, replay};
+use clru::{NoMemory, Replay, replay_slice};
 use clru_curve::miss_curve;
 use clru_least::Foresight;
 use std::alloc::{AllocError, Allocator};
@@ -33,10 +33,7 @@ pub(crate) fn hits_at<S: BuildHasher + Drop, A: Allocator + Copy>(
     if hits.len() != keys.len() {
         return WRONG_LENGTH;
     }
-    let Ok(requests) = Vec::from_slice(alloc, keys) else {
-        return NO_MEMORY;
-    };
-    let Ok(answer) = replay_of(alloc, capacity, requests, hash_builder) else {
+    let Ok(answer) = replay_of(alloc, capacity, keys, hash_builder) else {
         return NO_MEMORY;
     };
     hits.copy_from_slice(&answer.marks);
@@ -49,12 +46,12 @@ pub(crate) fn hits_at<S: BuildHasher + Drop, A: Allocator + Copy>(
 fn replay_of<S: BuildHasher + Drop, A: Allocator + Copy>(
     alloc: A,
     capacity: NonZeroUsize,
-    requests: Vec<u64, A>,
+    keys: &[u64],
     hash_builder: S,
-) -> Result<Replay<A>, Vec<u64, A>>
-    ensures { IfOk result (λ r. AreHits nat_eq (non_zero_usize_get capacity) requests.items r.marks.items r.misses) }
+) -> Result<Replay<A>, NoMemory>
+    ensures { IfOk result (λ r. AreHits nat_eq (non_zero_usize_get capacity) keys.now r.marks.items r.misses) }
 {
-    replay(alloc, capacity, requests, hash_builder)
+    replay_slice(alloc, capacity, keys, hash_builder)
 }
 
 /// The misses at the capacities 1, 2 and so on, one for each element of the array, and the number of distinct keys.

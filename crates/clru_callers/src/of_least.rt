@@ -7,27 +7,27 @@ ghost use Rattle.clru_model.specs.Least.{IsLeast, IsNearFromAnyStart};
 ghost use Rattle.clru_model.specs.Requests.{distinct};
 ghost use Rattle.clru_model.specs.Schedule.{schedule_misses};
 
-use clru::replay;
+use clru::{NoMemory, replay_slice};
 use clru_least::{law_least, least};
 use clru_model::law_schedules_by_position;
-use std::alloc::Allocator;
+use std::alloc::{AllocError, Allocator};
 use std::hash::{BuildHasher, Hash};
 use std::num::NonZeroUsize;
 
 /// Answers the least number. Some schedule, as positions describe it, misses the requests at so many positions, and none misses
 /// fewer.
-pub fn least_by_position<K: Eq + Hash + Drop, S: BuildHasher + Drop, A: Allocator + Copy>(
+pub fn least_by_position<K: Eq + Hash, S: BuildHasher + Drop, A: Allocator + Copy>(
     alloc: A,
     room: NonZeroUsize,
-    keys: Vec<K, A>,
+    keys: &[K],
     hash_builder: S,
-) -> Result<usize, Vec<K, A>>
+) -> Result<usize, AllocError>
     ensures attained { IfOk result (λ n. (schedule : List (List K))
-        × IsScheduleAt K.eq (non_zero_usize_get room) ([] ∷ schedule) keys.items
-        × IsCountOf (IsScheduleMissAt K.eq ([] ∷ schedule) keys.items) n) }
+        × IsScheduleAt K.eq (non_zero_usize_get room) ([] ∷ schedule) keys.now
+        × IsCountOf (IsScheduleMissAt K.eq ([] ∷ schedule) keys.now) n) }
     ensures none_fewer { IfOk result (λ n. (schedule : List (List K))
-        → IsScheduleAt K.eq (non_zero_usize_get room) ([] ∷ schedule) keys.items
-        → n ≤ schedule_misses K.eq ([] ∷ schedule) keys.items) }
+        → IsScheduleAt K.eq (non_zero_usize_get room) ([] ∷ schedule) keys.now
+        → n ≤ schedule_misses K.eq ([] ∷ schedule) keys.now) }
 {
     law_schedules_by_position::<K>();
     least(alloc, room, keys, hash_builder)
@@ -35,35 +35,35 @@ pub fn least_by_position<K: Eq + Hash + Drop, S: BuildHasher + Drop, A: Allocato
 
 /// Answers the least number, which is no less than the number of distinct keys, and this where all have room. A schedule with
 /// room for one key less misses no fewer, also where it may let keys pass by.
-pub fn least_of_any<K: Eq + Hash + Drop, S: BuildHasher + Drop, A: Allocator + Copy>(
+pub fn least_of_any<K: Eq + Hash, S: BuildHasher + Drop, A: Allocator + Copy>(
     alloc: A,
     room: NonZeroUsize,
-    keys: Vec<K, A>,
+    keys: &[K],
     hash_builder: S,
-) -> Result<usize, Vec<K, A>>
-    ensures floor { IfOk result (λ n. distinct K.eq (reverse keys.items) ≤ n) }
-    ensures all_fit { distinct K.eq (reverse keys.items) ≤ non_zero_usize_get room
-        → IfOk result (λ n. n ≡ distinct K.eq (reverse keys.items)) }
+) -> Result<usize, AllocError>
+    ensures floor { IfOk result (λ n. distinct K.eq (reverse keys.now) ≤ n) }
+    ensures all_fit { distinct K.eq (reverse keys.now) ≤ non_zero_usize_get room
+        → IfOk result (λ n. n ≡ distinct K.eq (reverse keys.now)) }
     ensures may_pass { IfOk result (λ n. (h : ℕ) (schedule : List (List K)) → h + 1 ≡ non_zero_usize_get room
-        → IsBypassSchedule K.eq h ([] ∷ schedule) keys.items → n ≤ schedule_misses K.eq ([] ∷ schedule) keys.items) }
+        → IsBypassSchedule K.eq h ([] ∷ schedule) keys.now → n ≤ schedule_misses K.eq ([] ∷ schedule) keys.now) }
 {
     law_least::<K>();
     least(alloc, room, keys, hash_builder)
 }
 
 /// Answers the misses of a replay. There is a least number beside them, which nobody counted.
-pub fn misses_above_least<K: Eq + Hash + Drop, S: BuildHasher + Drop, A: Allocator + Copy>(
+pub fn misses_above_least<K: Eq + Hash + Copy, S: BuildHasher + Drop, A: Allocator + Copy>(
     alloc: A,
     capacity: NonZeroUsize,
-    keys: Vec<K, A>,
+    keys: &[K],
     hash_builder: S,
-) -> Result<usize, Vec<K, A>>
-    ensures { IfOk result (λ misses. (n : ℕ) × IsLeast K.eq (non_zero_usize_get capacity) keys.items n
-        × IsNearFromAnyStart K.eq (non_zero_usize_get capacity) keys.items n × (n ≤ misses)) }
+) -> Result<usize, NoMemory>
+    ensures { IfOk result (λ misses. (n : ℕ) × IsLeast K.eq (non_zero_usize_get capacity) keys.now n
+        × IsNearFromAnyStart K.eq (non_zero_usize_get capacity) keys.now n × (n ≤ misses)) }
 {
     law_least::<K>();
-    match replay(alloc, capacity, keys, hash_builder) {
+    match replay_slice(alloc, capacity, keys, hash_builder) {
         Ok(answer) => Ok(answer.misses),
-        Err(keys) => Err(keys),
+        Err(refusal) => Err(refusal),
     }
 }

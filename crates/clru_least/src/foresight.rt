@@ -1,5 +1,5 @@
 //! The least number of misses, for any room.
-ghost use Rattle.std.specs.Prelude.{◌≡◌, ◌+◌, ◌-◌, ◌^◌, ◌<◌, ◌≤◌, [], ◌∷◌, false, true, length, slice_set, All, IfOk, IfErr, OnOk, IsOk};
+ghost use Rattle.std.specs.Prelude.{◌≡◌, ◌+◌, ◌-◌, ◌^◌, ◌<◌, ◌≤◌, [], ◌∷◌, false, true, length, slice_set, All, IfOk, OnOk, IsOk};
 ghost use Rattle.std.specs.BinaryHeap.{IsHeap, IsUpperBound, heap_items, heap_len};
 ghost use Rattle.std.specs.List.Sorted.{IsPermutation};
 ghost use Rattle.std.specs.Ordering.{nat_cmp};
@@ -171,29 +171,9 @@ fn mark<A: Allocator>(kept: &mut Vec<bool, A>, position: usize, value: bool)
 /// also one that knows all requests beforehand, where each key that is asked for is taken in, and no other: `Foresight` for
 /// one room.
 ///
-/// Where memory is refused, the keys come back as they were; else they are dropped: to keep them use `Foresight`, which
-/// borrows. Without keys no memory is asked for. Keys are hashed with `hash_builder`.
+/// Memory may be refused; without keys none is asked for. The keys stay the caller's, and are hashed with `hash_builder`.
 /// Cost: that of `Foresight::new` and of one call of its `least`.
-pub fn least<K: Eq + Hash + Drop, S: BuildHasher + Drop, A: Allocator + Copy>(
-    alloc: A,
-    room: NonZeroUsize,
-    keys: Vec<K, A>,
-    hash_builder: S,
-) -> Result<usize, Vec<K, A>>
-    ensures least { IfOk result (IsLeast K.eq (non_zero_usize_get room) keys.items) }
-    ensures any_start { IfOk result (IsNearFromAnyStart K.eq (non_zero_usize_get room) keys.items) }
-    ensures beside_lru { IfOk result (λ n. n ≤ misses K.eq (non_zero_usize_get room) keys.items) }
-    ensures given_back { IfErr result (λ left. left.items ≡ keys.items) }
-    ensures never_refused { keys.items ≡ [] → IsOk result }
-{
-    match of_slice(alloc, room, &keys, hash_builder) {
-        Ok(misses) => Ok(misses),
-        Err(_) => Err(keys),
-    }
-}
-
-/// The least misses of borrowed requests.
-fn of_slice<K: Eq + Hash, S: BuildHasher + Drop, A: Allocator + Copy>(
+pub fn least<K: Eq + Hash, S: BuildHasher + Drop, A: Allocator + Copy>(
     alloc: A,
     room: NonZeroUsize,
     keys: &[K],

@@ -147,11 +147,10 @@ fn least_of<'a>(
         out.push_str("; no memory")?;
         return Ok(());
     };
-    match least(&world.heap, capacity_of(3)?, keys.clone()?, hashing) {
+    match least(&world.heap, capacity_of(3)?, &keys, hashing) {
         Ok(misses) if misses == wanted => {}
         Ok(misses) => write!(out, "; ? {misses} with room for 3")?,
-        Err(back) if back == keys => write!(out, "; no memory, back {}", back.len())?,
-        Err(_) => out.push_str("; ? other keys are back")?,
+        Err(_) => out.push_str("; no memory")?,
     }
     Ok(())
 }
@@ -197,7 +196,7 @@ fn searches<'a>(
         }
         let room = row % 3 + 1;
         let wanted = searched(&keys, room);
-        match least(world.alloc, capacity_of(room)?, keys, hashing) {
+        match least(world.alloc, capacity_of(room)?, &keys, hashing) {
             Ok(misses) if misses == wanted => {}
             Ok(misses) => {
                 write!(out, "? list {row}: {misses}, by a search {wanted}")?;

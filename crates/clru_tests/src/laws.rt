@@ -136,15 +136,14 @@ fn missed_at(alloc: Global, capacity: NonZeroUsize, pages: Vec<usize>) -> Option
 #[test]
 fn the_least_by_position_is_the_least(rt: HostRuntime) -> Result<(), Fail> {
     for (room, misses) in [(1, 6), (2, 4), (3, 3)] {
-        equal!(rt; least_of_a_round(rt.alloc(), capacity_of(room)?)?, Some(misses), room);
+        equal!(rt; least_of_a_round(rt.alloc(), capacity_of(room)?), Some(misses), room);
     }
     Ok(())
 }
 
 /// The least of three keys that come twice in turn.
-fn least_of_a_round(alloc: Global, room: NonZeroUsize) -> Result<Option<usize>, Fail> {
-    let keys = Vec::from_array(alloc, [1u64, 2, 3, 1, 2, 3])?;
-    Ok(least_by_position(alloc, room, keys, DefaultState).ok())
+fn least_of_a_round(alloc: Global, room: NonZeroUsize) -> Option<usize> {
+    least_by_position(alloc, room, &[1u64, 2, 3, 1, 2, 3], DefaultState).ok()
 }
 
 #[test]
@@ -170,11 +169,9 @@ fn curves_and_the_least_of_pages(rt: HostRuntime) -> Result<(), Fail> {
         Some(5)
     );
     equal!(rt; of_curves::size_of_pages(rt.alloc(), pages, sizes::ByPage), Some(7));
-    let keys = Vec::from_slice(rt.alloc(), pages)?;
-    let least = of_least::least_of_any(rt.alloc(), capacity_of(2)?, keys, DefaultState);
+    let least = of_least::least_of_any(rt.alloc(), capacity_of(2)?, pages, DefaultState);
     equal!(rt; least.ok(), Some(4));
-    let keys = Vec::from_slice(rt.alloc(), pages)?;
-    let misses = of_least::misses_above_least(rt.alloc(), capacity_of(2)?, keys, DefaultState);
+    let misses = of_least::misses_above_least(rt.alloc(), capacity_of(2)?, pages, DefaultState);
     equal!(rt; misses.ok(), Some(5));
     Ok(())
 }

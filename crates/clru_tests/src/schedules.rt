@@ -3,7 +3,7 @@
 
 use crate::lists::capacity_of;
 use assertions::equal;
-use clru::{DefaultState, replay};
+use clru::{DefaultState, replay_slice};
 use clru_least::least;
 use std::alloc::{AllocError, Global};
 use std::test::Fail;
@@ -152,25 +152,17 @@ fn fewest_misses(h: usize, start: &[u8], requests: &[u8]) -> Result<usize, &'sta
 
 /// The misses of a replay.
 fn replay_misses(alloc: Global, capacity: usize, requests: &[u8]) -> Result<usize, &'static str> {
-    let capacity = capacity_of(capacity)?;
-    let Ok(keys) = Vec::from_slice(alloc, requests) else {
-        return Err("no memory for the keys");
-    };
-    match replay(alloc, capacity, keys, DefaultState) {
+    match replay_slice(alloc, capacity_of(capacity)?, requests, DefaultState) {
         Ok(answer) => Ok(answer.misses),
-        Err(_) => Err("the keys came back"),
+        Err(_) => Err("no memory for the replay"),
     }
 }
 
 /// The least misses of any way to hold `h` keys.
 fn least_misses(alloc: Global, h: usize, requests: &[u8]) -> Result<usize, &'static str> {
-    let room = capacity_of(h)?;
-    let Ok(keys) = Vec::from_slice(alloc, requests) else {
-        return Err("no memory for the keys");
-    };
-    match least(alloc, room, keys, DefaultState) {
+    match least(alloc, capacity_of(h)?, requests, DefaultState) {
         Ok(misses) => Ok(misses),
-        Err(_) => Err("the keys came back"),
+        Err(_) => Err("no memory for the least"),
     }
 }
 

@@ -11,7 +11,7 @@ pub returns-clause-floor : goal.returns-clause-floor
 returns-clause-floor g c =
     let eq = g.K.PartialEq.eq in
     let h = non_zero_usize_get c.args.room in
-    let rs = c.args.keys.items in
+    let rs = c.args.keys.now in
     let law = c.law_least.ensures in
     IfOk-weaker c.least.result (λ n. IsLeast eq h rs n) (λ (n : ℕ). distinct eq (reverse rs) ≤ n)
     (λ n least.
@@ -23,7 +23,7 @@ pub returns-clause-all_fit : goal.returns-clause-all_fit
 returns-clause-all_fit g c room =
     let eq = g.K.PartialEq.eq in
     let h = non_zero_usize_get c.args.room in
-    let rs = c.args.keys.items in
+    let rs = c.args.keys.now in
     let law = c.law_least.ensures in
     IfOk-weaker c.least.result (λ n. IsLeast eq h rs n) (λ (n : ℕ). n ≡ distinct eq (reverse rs))
     (λ n least. law.one h n (distinct eq (reverse rs)) rs least (law.room_for_all h rs c.args.room.ok room))
@@ -32,7 +32,7 @@ returns-clause-all_fit g c room =
 pub returns-clause-may_pass : goal.returns-clause-may_pass
 returns-clause-may_pass g c =
     let eq = g.K.PartialEq.eq in
-    let rs = c.args.keys.items in
+    let rs = c.args.keys.now in
     IfOk-weaker c.least.result (λ n. IsLeast eq (non_zero_usize_get c.args.room) rs n)
     (λ (n : ℕ). (h : ℕ) (schedule : List (List g.row.K.Denot)) → h + 1 ≡ non_zero_usize_get c.args.room
     → IsBypassSchedule eq h ([] ∷ schedule) rs → n ≤ schedule_misses eq ([] ∷ schedule) rs)

@@ -5,7 +5,7 @@ use Rattle.clru_callers.proofs.of_least.misses_above_least.Goals as goal
 pub returns-in-Ok : goal.returns-in-Ok
 returns-in-Ok g c =
     let k = non_zero_usize_get c.args.capacity in
-    let rs = c.args.keys.items in
+    let rs = c.args.keys.now in
     let law = c.law_least.ensures in
     let some = c.args.capacity.ok in
     let (n, least) = law.there k rs some in
