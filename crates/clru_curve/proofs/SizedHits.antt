@@ -7,7 +7,8 @@ use Rattle.clru_model.proofs.Cases.{split}
 use Rattle.clru_model.proofs.Marks.{count_by-not-push, reverse-cons-append}
 use Rattle.clru_model.specs.Requests.{holds, since, distinct}
 use Rattle.clru_model.specs.Sizes.{total, hit_by_size, marks_by_size_after, misses_by_size, missed_size_after, missed_size}
-use Rattle.clru_curve.specs.SizedCurves.{hits_within}
+use Rattle.clru_curve.specs.declared.sized.step.Step.{Step}
+use Rattle.clru_curve.specs.SizedCurves.{step, hits_within}
 use Rattle.clru_curve.specs.SizedPasses.{hit_size, AreHits}
 
 pub count_by-cons : {X : Type 0} (p : X → Bool) (x : X) (xs : List X) → count_by p (x ∷ xs) ≡ cond (p x) 1 0 + count_by p xs
@@ -55,7 +56,7 @@ module _ {K : Type 0} (eq : K → K → Bool) (weight : K → ℕ) where
   AreHits-none = record { misses = λ c. refl; size = λ c. refl; again = refl }
 
   -- a key that was not requested before
-  pub AreHits-new : (past : List K) (hits : List (ℕ × ℕ)) (x : K) → AreHits eq weight past hits → holds eq x past ≡ false
+  pub AreHits-new : (past : List K) (hits : List Step) (x : K) → AreHits eq weight past hits → holds eq x past ≡ false
       → AreHits eq weight (x ∷ past) hits
   AreHits-new past hits x are absent = record {
     misses = λ c.
@@ -74,15 +75,15 @@ module _ {K : Type 0} (eq : K → K → Bool) (weight : K → ℕ) where
   }
 
   -- a key that was requested before, and its span
-  pub AreHits-again : (past : List K) (hits : List (ℕ × ℕ)) (x : K) → AreHits eq weight past hits → holds eq x past ≡ true
-      → AreHits eq weight (x ∷ past) (hits ++ (1 + weight x + total eq weight (since eq x past), 1 + weight x) ∷ [])
+  pub AreHits-again : (past : List K) (hits : List Step) (x : K) → AreHits eq weight past hits → holds eq x past ≡ true
+      → AreHits eq weight (x ∷ past) (hits ++ step (1 + weight x + total eq weight (since eq x past)) (1 + weight x) ∷ [])
   AreHits-again past hits x are held =
       let s : ℕ = 1 + weight x + total eq weight (since eq x past) in
-      let h : ℕ × ℕ = (s, 1 + weight x) in
+      let h : Step = step s (1 + weight x) in
       record {
         misses = λ c.
             let pushed = misses_by_size-cons eq weight c x past in
-            let more = count_by_push (λ g. nat_le g.0 c) hits h in
+            let more = count_by_push (λ g. nat_le g.capacity c) hits h in
             split (nat_le s c)
             (λ t. let here : hit_by_size eq weight c x past ≡ true = rw held t in
             let same : misses_by_size eq weight c (reverse (x ∷ past)) ≡ misses_by_size eq weight c (reverse past) + 0 = rw here at pushed in
@@ -94,7 +95,7 @@ module _ {K : Type 0} (eq : K → K → Bool) (weight : K → ℕ) where
             omega (arith, same, one, are.misses c));
         size = λ c.
             let pushed = missed_size-cons eq weight c x past in
-            let more = sum_by_push (λ g. cond (nat_le g.0 c) g.1 0) hits h in
+            let more = sum_by_push (λ g. cond (nat_le g.capacity c) g.missed_size 0) hits h in
             let all = sum_by-cons (λ y. 1 + weight y) x past in
             split (nat_le s c)
             (λ t. let here : hit_by_size eq weight c x past ≡ true = rw held t in

@@ -16,6 +16,8 @@ use Rattle.clru_curve.proofs.SizedHits.{AreHits-none, AreHits-new, AreHits-again
 use Rattle.clru_curve.proofs.Totals.{total_measures}
 use Rattle.clru_curve.proofs.UpTo.{up_by-le}
 use Rattle.clru_curve.specs.LatestSizes.{sizes_from, IsSummed}
+use Rattle.clru_curve.specs.declared.sized.step.Step.{Step}
+use Rattle.clru_curve.specs.SizedCurves.{step}
 use Rattle.clru_curve.specs.SizedPasses.{pass_by_size, IsSizedPass, IsSoundBySize}
 use Rattle.clru_curve.specs.Tree.{up_by}
 
@@ -59,7 +61,7 @@ module _ {K : Type 0} (eq : K → K → Bool) where
       let same = ap (λ a. up_by a q p) (get_or-before ss s p low) in
       omega (arith, less, same, sizes_push ss s q)
 
-module _ {K : Type 0} (eq : K → K → Bool) (laws : IsEquivalence eq) (positions : List (K × ℕ)) (ss : List ℕ) (hs : List (ℕ × ℕ)) (a g : ℕ) (x : K) where
+module _ {K : Type 0} (eq : K → K → Bool) (laws : IsEquivalence eq) (positions : List (K × ℕ)) (ss : List ℕ) (hs : List Step) (a g : ℕ) (x : K) where
   -- the entries after a put of a new key
   put_new : (c n : ℕ) → lookup (eq x) positions ≡ None → length positions < c → plain_put eq c x n positions ≡ (x, n) ∷ positions
   put_new c n absent room =
@@ -109,7 +111,7 @@ module _ {K : Type 0} (eq : K → K → Bool) (laws : IsEquivalence eq) (positio
         span_some = rw was_held (ap (λ d. Some d) span_there)
 
         pub IsSizedPass-again : IsSizedPass eq weight (x ∷ past)
-            (pass_by_size (set_value (eq x) positions (length ss)) (set (ss ++ (w + 1) ∷ []) p 0) (hs ++ (sizes_from ss p, w + 1) ∷ []) (a + (w + 1)) g')
+            (pass_by_size (set_value (eq x) positions (length ss)) (set (ss ++ (w + 1) ∷ []) p 0) (hs ++ step (sizes_from ss p) (w + 1) ∷ []) (a + (w + 1)) g')
         IsSizedPass-again =
             let n = length ss in
             let size : w + 1 ≡ 1 + weight x = omega (arith, weighs) in
@@ -152,11 +154,11 @@ module _ {K : Type 0} (eq : K → K → Bool) (laws : IsEquivalence eq) (positio
         })
 
     pub IsSoundBySize-again : (p s : ℕ) → lookup (eq x) positions ≡ Some p → IsSummed (set (ss ++ (w + 1) ∷ []) p 0) nodes'
-        → IsSoundBySize eq nodes' (pass_by_size (set_value (eq x) positions (length ss)) (set (ss ++ (w + 1) ∷ []) p 0) (hs ++ (s, w + 1) ∷ []) (a + (w + 1)) g')
+        → IsSoundBySize eq nodes' (pass_by_size (set_value (eq x) positions (length ss)) (set (ss ++ (w + 1) ∷ []) p 0) (hs ++ step s (w + 1) ∷ []) (a + (w + 1)) g')
     IsSoundBySize-again p s found summed =
         let n = length ss in let long = length_push ss (w + 1) in let len = length-set (ss ++ (w + 1) ∷ []) p 0 in
         let low = sound.before x p found in
-        let more = length_push hs (s, w + 1) in
+        let more = length_push hs (step s (w + 1)) in
         record {
           summed = summed;
           before = λ y q at.
@@ -169,6 +171,6 @@ module _ {K : Type 0} (eq : K → K → Bool) (laws : IsEquivalence eq) (positio
           few_hits = omega (arith, sound.few_hits, long, len, more);
           many = omega (arith, sound.many, long, len);
           held = omega (arith, sound.held, moved_sizes eq ss (w + 1) p low 0, up_by-le (w + 1) 0 n (omega arith));
-          hit_sizes = omega (arith, sound.hit_sizes, sum_by_push (λ h. h.1) hs (s, w + 1));
+          hit_sizes = omega (arith, sound.hit_sizes, sum_by_push (λ h. h.missed_size) hs (step s (w + 1)));
           fits = fits;
         }

@@ -5,9 +5,10 @@ use Rattle.std.specs.List.{sum_by}
 use Rattle.std.specs.Map.{lookup}
 use Rattle.clru_curve.specs.declared.sized.error.SizedRequestError.{SizedRequestError}
 use Rattle.clru_curve.specs.declared.sized.error.SizedRequestError.TheVariants.{NoMemory, TooLarge}
+use Rattle.clru_curve.specs.declared.sized.step.Step.{Step}
 use Rattle.clru_curve.specs.LatestSizes.{sizes_from, IsSummed}
 use Rattle.clru_curve.specs.Ranked.{IsRanked}
-use Rattle.clru_curve.specs.SizedCurves.{hits_within, size_of_all, greatest_of}
+use Rattle.clru_curve.specs.SizedCurves.{step_code, hits_within, size_of_all, greatest_of}
 use Rattle.clru_model.specs.Requests.{distinct}
 use Rattle.clru_model.specs.Sizes.{total, misses_by_size, missed_size}
 
@@ -16,19 +17,19 @@ use Rattle.clru_model.specs.Sizes.{total, misses_by_size, missed_size}
 pub record PassBySize (K : Type 0) : Type 0 where
   pub positions : List (K × ℕ)
   pub sizes : List ℕ
-  pub hits : List (ℕ × ℕ)
+  pub hits : List Step
   pub size : ℕ
   pub greatest : ℕ
 
 module _ {K : Type 0} where
-  abbrev pub pass_by_size : List (K × ℕ) → List ℕ → List (ℕ × ℕ) → ℕ → ℕ → PassBySize K
+  abbrev pub pass_by_size : List (K × ℕ) → List ℕ → List Step → ℕ → ℕ → PassBySize K
   pass_by_size ps ss hs a g = record { positions = ps; sizes = ss; hits = hs; size = a; greatest = g }
 
   abbrev pub pass_by_size_code : Coded K → Coded (PassBySize K)
   pass_by_size_code k =
-      code_by (List (K × ℕ) × (List ℕ × (List (ℕ × ℕ) × (ℕ × ℕ))))
+      code_by (List (K × ℕ) × (List ℕ × (List Step × (ℕ × ℕ))))
       (coded× (coded_list (coded× k coded_ℕ)) (coded× (coded_list coded_ℕ)
-      (coded× (coded_list (coded× coded_ℕ coded_ℕ)) (coded× coded_ℕ coded_ℕ))))
+      (coded× (coded_list step_code) (coded× coded_ℕ coded_ℕ))))
       (λ p. (p.positions, (p.sizes, (p.hits, (p.size, p.greatest)))))
       (λ t. pass_by_size t.0 t.1.0 t.1.1.0 t.1.1.1.0 t.1.1.1.1) (λ _. refl)
 
@@ -57,13 +58,13 @@ module _ {K : Type 0} where
     pub too_large : IsTooLarge refusal ↔ (2 ^ 64 ≤ size_of_all weight taken + (1 + weight (key_of refusal)))
 
 -- the size of those hits whose span is within the capacity
-abbrev pub hit_size : ℕ → List (ℕ × ℕ) → ℕ
-hit_size c hits = sum_by (λ h. if nat_le h.0 c then h.1 else 0) hits
+abbrev pub hit_size : ℕ → List Step → ℕ
+hit_size c hits = sum_by (λ h. if nat_le h.capacity c then h.missed_size else 0) hits
 
 module _ {K : Type 0} (eq : K → K → Bool) where
   module _ (weight : K → ℕ) where
     -- each span is that of a request for a key that came before, and at each capacity these are the hits
-    pub record AreHits (past : List K) (hits : List (ℕ × ℕ)) : Type 0 where
+    pub record AreHits (past : List K) (hits : List Step) : Type 0 where
       pub misses : (c : ℕ) → misses_by_size eq weight c (reverse past) + hits_within c hits ≡ length past
       pub size : (c : ℕ) → missed_size eq weight c (reverse past) + hit_size c hits ≡ size_of_all weight past
       pub again : length hits + distinct eq past ≡ length past
@@ -86,5 +87,5 @@ module _ {K : Type 0} (eq : K → K → Bool) where
     pub few_hits : length p.hits ≤ length p.sizes
     pub many : length p.sizes ≤ p.size
     pub held : sizes_from p.sizes 0 ≤ p.size
-    pub hit_sizes : sum_by (λ h. h.1) p.hits ≤ p.size
+    pub hit_sizes : sum_by (λ h. h.missed_size) p.hits ≤ p.size
     pub fits : p.size < 2 ^ 64

@@ -23,5 +23,5 @@ pub use clru_model::{law_bounds, law_distances, law_sizes, law_spans_by_position
 pub use curve::MissCurve;
 pub use list::miss_curve;
 pub use pass::DistancePass;
-pub use sized::{SizedCurve, SizedPass, SizedRequestError, sized_curve};
+pub use sized::{SizedCurve, SizedPass, SizedRequestError, Step, sized_curve};
 pub use std::num::NonZeroUsize;

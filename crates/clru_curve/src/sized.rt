@@ -5,8 +5,10 @@ mod error;
 mod list;
 mod pass;
 mod sizes;
+mod step;
 
 pub use curve::SizedCurve;
 pub use error::SizedRequestError;
 pub use list::sized_curve;
 pub use pass::SizedPass;
+pub use step::Step;

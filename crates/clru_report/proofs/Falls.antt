@@ -5,7 +5,8 @@ use Rattle.std.specs.List.Sorted.{IsNonDecreasingBy}
 use Rattle.std.proofs.lemmas.Bool.{cases_lt, le-leb, lt-leb, le-ltb, lt-ltb, ne_eqb, eq-eqb, or_left, or_right, or_from}
 use Rattle.std.proofs.lemmas.List.{append-nil}
 use Rattle.std.proofs.lemmas.List.Sums.{sum_by-cons, count_by-le-length}
-use Rattle.clru_curve.specs.SizedCurves.{CurveBySize, hits_within, misses_within}
+use Rattle.clru_curve.specs.declared.sized.step.Step.{Step}
+use Rattle.clru_curve.specs.SizedCurves.{CurveBySize, step, hits_within, misses_within}
 use Rattle.clru_model.proofs.Cases.{split}
 use Rattle.clru_report.proofs.CapacityLemmas.{passing, passing_one, passing_none}
 use Rattle.clru_report.specs.Passes.{IsSettled}
@@ -14,8 +15,8 @@ abbrev one : Bool → ℕ
 one b = cond b 1 0
 
 -- one more step, and whether it is within
-hits-cons : (c : ℕ) (s : ℕ × ℕ) (ss : List (ℕ × ℕ)) → hits_within c (s ∷ ss) ≡ one (nat_le s.0 c) + hits_within c ss
-hits-cons c s ss = sum_by-cons (λ t. cond (nat_le t.0 c) 1 0) s ss
+hits-cons : (c : ℕ) (s : Step) (ss : List Step) → hits_within c (s ∷ ss) ≡ one (nat_le s.capacity c) + hits_within c ss
+hits-cons c s ss = sum_by-cons (λ t. cond (nat_le t.capacity c) 1 0) s ss
 
 module _ (c : ℕ) where
   within_grows : (s : ℕ) → one (nat_le s c) ≤ one (nat_le s (suc c))
@@ -30,26 +31,26 @@ module _ (c : ℕ) where
       (λ t. ap one (le-leb s (suc c) (omega (arith, leb-true s c t)) ∙ sym t))
       (λ f. ap one (lt-leb s (suc c) (omega (arith, leb-false s c f, other)) ∙ sym f))
 
-  hits_grow : (ss : List (ℕ × ℕ)) → hits_within c ss ≤ hits_within (suc c) ss
+  hits_grow : (ss : List Step) → hits_within c ss ≤ hits_within (suc c) ss
   hits_grow [] = omega arith
-  hits_grow (s ∷ ss) = omega (arith, hits_grow ss, within_grows s.0, hits-cons c s ss, hits-cons (suc c) s ss)
+  hits_grow (s ∷ ss) = omega (arith, hits_grow ss, within_grows s.capacity, hits-cons c s ss, hits-cons (suc c) s ss)
 
   -- where no step is, as many hit as at the capacity before
-  hits_same : (ss : List (ℕ × ℕ)) → ((i : ℕ) → i < length ss → (get_or ss i (0, 0)).0 ≢ suc c) → hits_within (suc c) ss ≡ hits_within c ss
+  hits_same : (ss : List Step) → ((i : ℕ) → i < length ss → (get_or ss i (step 0 0)).capacity ≢ suc c) → hits_within (suc c) ss ≡ hits_within c ss
   hits_same [] none = refl
   hits_same (s ∷ ss) none =
       let ih = hits_same ss (λ i low. none (suc i) (omega (arith, low))) in
-      omega (arith, ih, within_same s.0 (none 0 (omega arith)), hits-cons c s ss, hits-cons (suc c) s ss)
+      omega (arith, ih, within_same s.capacity (none 0 (omega arith)), hits-cons c s ss, hits-cons (suc c) s ss)
 
   -- where a step is, more do
-  hits_more : (ss : List (ℕ × ℕ)) (i : ℕ) → i < length ss → (get_or ss i (0, 0)).0 ≡ suc c → hits_within c ss < hits_within (suc c) ss
+  hits_more : (ss : List Step) (i : ℕ) → i < length ss → (get_or ss i (step 0 0)).capacity ≡ suc c → hits_within c ss < hits_within (suc c) ss
   hits_more [] i low here = omega (arith, low)
   hits_more (s ∷ ss) zero low here =
-      let after = ap one (le-leb s.0 (suc c) (omega (arith, here))) in
-      let before = ap one (lt-leb s.0 c (omega (arith, here))) in
+      let after = ap one (le-leb s.capacity (suc c) (omega (arith, here))) in
+      let before = ap one (lt-leb s.capacity c (omega (arith, here))) in
       omega (arith, after, before, hits_grow ss, hits-cons c s ss, hits-cons (suc c) s ss)
   hits_more (s ∷ ss) (suc i) low here =
-      omega (arith, hits_more ss i (omega (arith, low)) here, within_grows s.0, hits-cons c s ss, hits-cons (suc c) s ss)
+      omega (arith, hits_more ss i (omega (arith, low)) here, within_grows s.capacity, hits-cons c s ss, hits-cons (suc c) s ss)
 
 -- numbers of which none passes add none
 passing_skip : (p : ℕ → Bool) (f : ℕ → ℕ) (i n : ℕ) → ((k : ℕ) → i ≤ k → k < i + n → p (f k) ≡ false) → passing p f (i + n) ≡ passing p f i
@@ -71,7 +72,7 @@ module _ (curve : CurveBySize) where
   from k = first + k
 
   abbrev pub span : ℕ → ℕ
-  span i = (get_or curve.steps i (0, 0)).0
+  span i = (get_or curve.steps i (step 0 0)).capacity
 
   -- what was chosen up to the capacity `last`, at or below which the first i steps are
   pub record IsChosen (last i : ℕ) (chosen : List ℕ) : Type 0 where
@@ -85,11 +86,11 @@ module _ (curve : CurveBySize) where
       let back : suc c - 1 ≡ c = omega arith in
       ap (λ n. (suc c == first) || nat_lt (misses_within curve (suc c)) (misses_within curve n)) back
 
-module _ (curve : CurveBySize) (settled : IsSettled curve) (rising : IsNonDecreasingBy (λ s. s.0) curve.steps)
+module _ (curve : CurveBySize) (settled : IsSettled curve) (rising : IsNonDecreasingBy (λ s. s.capacity) curve.steps)
     (few : length curve.steps ≤ curve.requests) where
   fewer : (i c : ℕ) → i < length curve.steps → span curve i ≡ suc c → misses_within curve (suc c) < misses_within curve c
   fewer i c low here =
-      omega (arith, hits_more c curve.steps i low here, few, count_by-le-length (λ s. nat_le s.0 (suc c)) curve.steps)
+      omega (arith, hits_more c curve.steps i low here, few, count_by-le-length (λ s. nat_le s.capacity (suc c)) curve.steps)
 
   falls_at : (i c : ℕ) → i < length curve.steps → span curve i ≡ suc c → falls curve (suc c) ≡ true
   falls_at i c low here =
@@ -154,7 +155,7 @@ module _ (curve : CurveBySize) (settled : IsSettled curve) (rising : IsNonDecrea
         let k = span curve i - (first curve) in
         let count : span curve i + 1 - (first curve) ≡ k + 1 = omega (arith, more, is.low) in
         let here : from curve k ≡ span curve i = omega (arith, more, is.low) in
-        let later = λ (j : ℕ) (from_i : i ≤ j) (low : j < length curve.steps). rising i j (0, 0) from_i low in
+        let later = λ (j : ℕ) (from_i : i ≤ j) (low : j < length curve.steps). rising i j (step 0 0) from_i low in
         record {
           capacities = sym (ap (passing (falls curve) (from curve)) count
               ∙ passing_one (falls curve) (from curve) k (ap (falls curve) (here ∙ next) ∙ falls_at i c inside next)
@@ -162,7 +163,7 @@ module _ (curve : CurveBySize) (settled : IsSettled curve) (rising : IsNonDecrea
               ∙ ap (λ ns. ns ++ span curve i ∷ []) (gap last i (span curve i) chosen is more later));
           low = omega (arith, more, is.low);
           high = within i inside (omega (arith, is.low, is.high));
-          done = λ j low. omega (arith, rising j i (0, 0) (omega (arith, low)) inside);
+          done = λ j low. omega (arith, rising j i (step 0 0) (omega (arith, low)) inside);
         }
 
     -- one at the last capacity, or below the first, is not

@@ -285,7 +285,8 @@ pub(crate) fn write_sized<A: Allocator>(
     if curve.as_slice().len() > MOST {
         return Ok(());
     }
-    for (number, (capacity, missed)) in curve.as_slice().iter().enumerate() {
+    for (number, step) in curve.as_slice().iter().enumerate() {
+        let (capacity, missed) = (step.capacity, step.missed_size);
         out.push_str(if number == 0 { ", steps" } else { "" })?;
         write!(out, " {capacity}:{missed}")?;
     }

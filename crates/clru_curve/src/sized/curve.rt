@@ -5,6 +5,7 @@ ghost use Rattle.std.specs.List.{sum_by};
 ghost use Rattle.std.specs.List.Sorted.{IsNonDecreasingBy};
 ghost use Rattle.clru_curve.specs.SizedCurves.{misses_within, missed_size_within, hits_within, IsCurveOfHits, IsMissed};
 
+use crate::sized::step::Step;
 use std::alloc::{Allocator, Global};
 use std::marker::Model;
 use std::num::NonZeroUsize;
@@ -16,7 +17,7 @@ use std::num::NonZeroUsize;
 /// others need not be what a curve would say; so there is no answer there.
 #[derive(Drop)]
 pub struct SizedCurve<A: Allocator = Global> {
-    steps: Vec<(usize, usize), A>,
+    steps: Vec<Step, A>,
     requests: usize,
     size: usize,
     distinct_size: usize,
@@ -34,7 +35,7 @@ impl<A: Allocator> Model for SizedCurve<A> {
 
     ghost view = { λ c. curve_by_size c.steps.items c.requests c.size c.distinct_size c.greatest_weight };
 
-    ghost invariant = { λ c. IsNonDecreasingBy (λ s. s.0) c.steps.items × (length c.steps.items ≤ c.requests) };
+    ghost invariant = { λ c. IsNonDecreasingBy (λ s. s.capacity) c.steps.items × (length c.steps.items ≤ c.requests) };
 }
 
 impl<A: Allocator> SizedCurve<A> {
@@ -63,7 +64,7 @@ impl<A: Allocator> SizedCurve<A> {
         }
         match hits_at(&self.steps, capacity.get()) {
             0 => Some(self.size),
-            hits => Some(self.steps[hits - 1].1),
+            hits => Some(self.steps[hits - 1].missed_size),
         }
     }
 
@@ -99,31 +100,31 @@ impl<A: Allocator> SizedCurve<A> {
         self.greatest_weight
     }
 
-    /// Returns the capacities at which the numbers fall, each with the size that is missed from there on, the least first.
-    /// There is one for each request that can hit at all; where a capacity comes several times, its last one counts. Those that
-    /// are not above the greatest weight are no answers: there a cache refuses puts.
+    /// Returns the steps, the least capacity first. There is one for each request that can hit at all; where a capacity comes
+    /// several times, its last one counts. Those that are not above the greatest weight are no answers: there a cache refuses
+    /// puts.
     /// Cost: a read.
-    pub fn as_slice(&self) -> &[(usize, usize)]
+    pub fn as_slice(&self) -> &[Step]
         ensures steps { result.now ≡ self.now.steps }
-        ensures rising { IsNonDecreasingBy (λ s. s.0) result.now }
+        ensures rising { IsNonDecreasingBy (λ s. s.capacity) result.now }
         ensures few { length result.now ≤ self.now.requests }
     {
         self.steps.as_slice()
     }
 
     pub(crate) fn from_hits(
-        hits: Vec<(usize, usize), A>,
+        hits: Vec<Step, A>,
         requests: usize,
         size: usize,
         distinct_size: usize,
         greatest_weight: usize,
     ) -> Self
         requires few { length hits.items ≤ requests }
-        requires within { sum_by (λ h. h.1) hits.items ≤ size }
+        requires within { sum_by (λ h. h.missed_size) hits.items ≤ size }
         ensures { IsCurveOfHits hits.items requests size distinct_size greatest_weight result }
     {
         let mut steps = hits;
-        steps.sort_unstable_by_key(|hit| hit.0);
+        steps.sort_unstable_by_key(|hit| hit.capacity);
         miss_sizes(&mut steps, size);
         SizedCurve {
             steps,
@@ -136,25 +137,28 @@ impl<A: Allocator> SizedCurve<A> {
 }
 
 /// How many steps there are up to the capacity.
-fn hits_at(steps: &[(usize, usize)], capacity: usize) -> usize
-    requires { IsNonDecreasingBy (λ s. s.0) steps.now }
+fn hits_at(steps: &[Step], capacity: usize) -> usize
+    requires { IsNonDecreasingBy (λ s. s.capacity) steps.now }
     ensures { result ≡ hits_within capacity steps.now }
 {
     steps.partition_point(
-        |step: &(usize, usize)| -> bool
-            ensures { result ≡ nat_le step.now.0 capacity }
-        { step.0 <= capacity },
+        |step: &Step| -> bool
+            ensures { result ≡ nat_le step.now.capacity capacity }
+        { step.capacity <= capacity },
     )
 }
 
-/// Turns the size of each hit into the size that misses where it hits, and those before it.
-fn miss_sizes(hits: &mut [(usize, usize)], size: usize)
-    requires within { sum_by (λ h. h.1) hits.old ≤ size }
+/// Turns the size of each hit, which stands there as missed, into the size that misses where it hits, and those before it.
+fn miss_sizes(hits: &mut [Step], size: usize)
+    requires within { sum_by (λ h. h.missed_size) hits.old ≤ size }
     ensures { IsMissed size hits.old hits.new }
 {
     let mut missed = size;
     for hit in hits.iter_mut() {
-        missed -= hit.1;
-        *hit = (hit.0, missed);
+        missed -= hit.missed_size;
+        *hit = Step {
+            capacity: hit.capacity,
+            missed_size: missed,
+        };
     }
 }

@@ -8,6 +8,7 @@ use crate::pass::{copied, double_if_full, move_position, no_positions};
 use crate::sized::curve::SizedCurve;
 use crate::sized::error::SizedRequestError;
 use crate::sized::sizes::Sizes;
+use crate::sized::step::Step;
 use clru::{CLruCache, DefaultState, NoMemory, ZeroWeightScale};
 use std::alloc::{Allocator, Global};
 use std::hash::{BuildHasher, Hash};
@@ -26,7 +27,8 @@ use std::marker::Model;
 pub struct SizedPass<K: Eq + Hash, S: BuildHasher = DefaultState, A: Allocator + Copy = Global> {
     pub(crate) positions: CLruCache<K, usize, S, ZeroWeightScale, A>,
     pub(crate) latest: Sizes<A>,
-    hits: Vec<(usize, usize), A>,
+    // For each request that can hit, from which capacity on it does, and its own size, which is missed below.
+    hits: Vec<Step, A>,
     pub(crate) size: usize,
     greatest: usize,
 }
@@ -121,7 +123,10 @@ impl<K: Eq + Hash, S: BuildHasher, A: Allocator + Copy> SizedPass<K, S, A> {
                 let span = self.latest.total_from(position);
                 self.latest.push(size);
                 self.latest.clear(position);
-                self.hits.push_reserved((span, size));
+                self.hits.push_reserved(Step {
+                    capacity: span,
+                    missed_size: size,
+                });
                 self.size += size;
                 self.greatest = greatest;
                 Ok(Some(span))

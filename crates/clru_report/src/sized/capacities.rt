@@ -67,8 +67,8 @@ fn each_fall_by_size<A: Allocator>(
     let mut last = first_capacity(curve);
     push_capacity(&mut chosen, last)?;
     for step in curve.as_slice() {
-        if step.0 > last {
-            last = step.0;
+        if step.capacity > last {
+            last = step.capacity;
             push_capacity(&mut chosen, last)?;
         }
     }

@@ -7,7 +7,7 @@ use super::capacities::first_capacity;
 use super::table::distinct_of;
 use crate::options::Capacities;
 use crate::picture::{Line, Plot, picture_of};
-use clru_curve::SizedCurve;
+use clru_curve::{SizedCurve, Step};
 use std::alloc::{AllocError, Allocator};
 use std::num::NonZeroUsize;
 
@@ -68,7 +68,7 @@ fn lines_of<A: Allocator + Copy>(
         name: "byte miss ratio",
         whole: curve.size(),
         start: missed_size,
-        steps: Vec::from_slice(alloc, steps)?,
+        steps: steps_of_sizes(alloc, steps)?,
     })?;
     Ok(lines)
 }
@@ -87,14 +87,25 @@ fn missed_at<A: Allocator>(curve: &SizedCurve<A>, first: usize) -> (usize, usize
 // Each step is of one request that hits from there on.
 fn steps_of_requests<A: Allocator>(
     alloc: A,
-    steps: &[(usize, usize)],
+    steps: &[Step],
     misses: usize,
 ) -> Result<Vec<(usize, usize), A>, AllocError> {
     let mut left = misses;
     let mut fallen = Vec::new(alloc);
     for step in steps {
         left = left.saturating_sub(1);
-        fallen.push((step.0, left))?;
+        fallen.push((step.capacity, left))?;
+    }
+    Ok(fallen)
+}
+
+fn steps_of_sizes<A: Allocator>(
+    alloc: A,
+    steps: &[Step],
+) -> Result<Vec<(usize, usize), A>, AllocError> {
+    let mut fallen = Vec::with_capacity(alloc, steps.len())?;
+    for step in steps {
+        fallen.push_reserved((step.capacity, step.missed_size));
     }
     Ok(fallen)
 }
