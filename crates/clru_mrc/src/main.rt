@@ -67,7 +67,7 @@ fn done(rt: &HostRuntime, command: &Command) -> u8 {
 fn reported(rt: &HostRuntime, options: &Options, seed: RandomState) -> Result<(), Fault> {
     // The limit counts what is read. It ends no input, since none that long finds memory.
     let mut input = rt.stdin().take(u64::MAX);
-    let outcome = run(rt.alloc(), options, seed, &mut input, &mut rt.stdout());
+    let outcome = run(rt.alloc(), options, &mut input, &mut rt.stdout(), seed);
     if outcome.is_ok() && input.limit() == u64::MAX {
         say(rt, "standard input was empty, so there are no requests");
     }

@@ -43,9 +43,9 @@ fn a_failed_read_is_a_fault_and_nothing_is_written(rt: HostRuntime) {
     let outcome = run(
         rt.alloc(),
         &options,
-        DefaultState,
         &mut reader,
         &mut written,
+        DefaultState,
     );
     equal!(rt; exit_status(&outcome), 4);
     equal!(rt; outcome, Err(Fault::Reading));
@@ -61,7 +61,7 @@ fn filled(alloc: Global, most: usize, kind: ErrorKind) -> (Result<(), Fault>, us
     };
     let mut reader = TEN;
     let options = by_keys(true, Form::Picture);
-    let outcome = run(alloc, &options, DefaultState, &mut reader, &mut writer);
+    let outcome = run(alloc, &options, &mut reader, &mut writer, DefaultState);
     (outcome, writer.got.len())
 }
 
@@ -91,7 +91,7 @@ fn refused_after<'h>(
 ) -> bool {
     heap.refuse_one_after(n);
     let mut reader = input;
-    let outcome = run(heap, options, DefaultState, &mut reader, &mut written);
+    let outcome = run(heap, options, &mut reader, &mut written, DefaultState);
     equal!(rt; heap.blocks(), 0, n);
     if heap.refused() == 0 {
         equal!(rt; outcome, Ok(()), n);
@@ -137,7 +137,7 @@ fn asked_for(rt: &impl Abort, alloc: Global, least: bool, input: &[u8]) -> u64 {
     let options = by_keys(least, Form::Table);
     let mut reader = input;
     let mut written = Vec::new(alloc);
-    let outcome = run(&heap, &options, DefaultState, &mut reader, &mut written);
+    let outcome = run(&heap, &options, &mut reader, &mut written, DefaultState);
     equal!(rt; outcome, Ok(()));
     heap.asked_bytes()
 }

@@ -15,8 +15,8 @@ use std::hash::BuildHasher;
 /// The pass is handed each line as it is found, since a list of all of them would take 16 bytes a line.
 pub(crate) fn curve_by_keys<S: BuildHasher + Drop, A: Allocator + Copy>(
     alloc: A,
-    hash_builder: S,
     input: &[u8],
+    hash_builder: S,
 ) -> Result<(MissCurve<A>, usize), AllocError>
     ensures misses { IfOk result (λ found. HasMissesOf bytes_eq (lines_of input.now) found.0) }
     ensures distinct { IfOk result (λ found. length found.0 ≡ distinct bytes_eq (reverse (lines_of input.now))) }

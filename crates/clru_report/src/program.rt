@@ -20,9 +20,9 @@ use std::io::{Read, Write};
 pub fn run<R: Read, W: Write, S: BuildHasher + Copy, A: Allocator + Copy>(
     alloc: A,
     options: &Options<A>,
-    hash_builder: S,
     reader: &mut R,
     writer: &mut W,
+    hash_builder: S,
 ) -> Result<(), Fault>
     // The writer got a report of the whole input.
     ensures written { OnOk result (ReadWhole (R.remaining reader.old) (R.remaining reader.new)
@@ -45,7 +45,7 @@ pub fn run<R: Read, W: Write, S: BuildHasher + Copy, A: Allocator + Copy>(
         Err(ReadError::Memory) => return Err(Fault::Memory),
         Err(ReadError::Reading) => return Err(Fault::Reading),
     };
-    let text = match report_on(alloc, options, hash_builder, &input) {
+    let text = match report_on(alloc, options, &input, hash_builder) {
         Ok(text) => text,
         Err(fault) => return Err(fault),
     };

@@ -18,8 +18,8 @@ use std::hash::BuildHasher;
 pub(crate) fn report_on<S: BuildHasher + Copy, A: Allocator + Copy>(
     alloc: A,
     options: &Options<A>,
-    hash_builder: S,
     input: &[u8],
+    hash_builder: S,
 ) -> Result<String<A>, Fault>
     ensures report { IfOk result (λ text. IsReport options.now input.now (string_bytes text)) }
     ensures refused { IfErr result (λ fault. is_of_input fault ≡ true → IsRefused fault options.now input.now) }
@@ -27,9 +27,9 @@ pub(crate) fn report_on<S: BuildHasher + Copy, A: Allocator + Copy>(
     ensures memory { IfErr result (λ fault. is_of_input fault ≡ false → fault ≡ Fault.Memory) }
 {
     if options.sizes {
-        return sized_report_on(alloc, options, hash_builder, input);
+        return sized_report_on(alloc, options, input, hash_builder);
     }
-    match report_by_keys(alloc, options, hash_builder, input) {
+    match report_by_keys(alloc, options, input, hash_builder) {
         Ok(text) => Ok(text),
         Err(_) => Err(Fault::Memory),
     }
@@ -39,19 +39,19 @@ pub(crate) fn report_on<S: BuildHasher + Copy, A: Allocator + Copy>(
 fn report_by_keys<S: BuildHasher + Copy, A: Allocator + Copy>(
     alloc: A,
     options: &Options<A>,
-    hash_builder: S,
     input: &[u8],
+    hash_builder: S,
 ) -> Result<String<A>, AllocError>
     ensures { IfOk result (λ text. IsInForm options.now.form options.now input.now (string_bytes text)) }
 {
-    let (curve, requests) = curve_by_keys(alloc, hash_builder, input)?;
+    let (curve, requests) = curve_by_keys(alloc, input, hash_builder)?;
     match options.form {
         Form::Table => {
-            let rows = rows_for(alloc, options, hash_builder, input, &curve)?;
+            let rows = rows_for(alloc, options, input, &curve, hash_builder)?;
             table_of(alloc, &rows, requests, options.least)
         }
         Form::Picture => {
-            let rows = rows_for(alloc, options, hash_builder, input, &curve)?;
+            let rows = rows_for(alloc, options, input, &curve, hash_builder)?;
             let table = table_of(alloc, &rows, requests, options.least)?;
             picture_by_keys(
                 alloc,

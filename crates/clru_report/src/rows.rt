@@ -32,9 +32,9 @@ pub struct Row {
 pub(crate) fn rows_for<S: BuildHasher + Drop, A: Allocator + Copy>(
     alloc: A,
     options: &Options<A>,
-    hash_builder: S,
     input: &[u8],
     curve: &MissCurve<A>,
+    hash_builder: S,
 ) -> Result<Vec<Row, A>, AllocError>
     requires misses { HasMissesOf bytes_eq (lines_of input.now) curve.now }
     requires distinct { length curve.now ≡ distinct bytes_eq (reverse (lines_of input.now)) }
@@ -44,7 +44,7 @@ pub(crate) fn rows_for<S: BuildHasher + Drop, A: Allocator + Copy>(
 {
     let capacities = capacities_for(alloc, &options.capacities, curve.as_slice())?;
     if options.least {
-        rows_with_least(alloc, hash_builder, input, curve, &capacities)
+        rows_with_least(alloc, input, curve, &capacities, hash_builder)
     } else {
         rows_without_least(alloc, curve, &capacities)
     }
@@ -53,10 +53,10 @@ pub(crate) fn rows_for<S: BuildHasher + Drop, A: Allocator + Copy>(
 // A row for each capacity. The least looks ahead, so that it alone wants a list of the lines.
 fn rows_with_least<S: BuildHasher + Drop, A: Allocator + Copy>(
     alloc: A,
-    hash_builder: S,
     input: &[u8],
     curve: &MissCurve<A>,
     capacities: &[NonZeroUsize],
+    hash_builder: S,
 ) -> Result<Vec<Row, A>, AllocError>
     requires { HasMissesOf bytes_eq (lines_of input.now) curve.now }
     ensures { IfOk result (λ rows. AreRows bytes_eq (lines_of input.now) true (map non_zero_usize_get capacities.now)

@@ -28,8 +28,8 @@ use table::{sized_summary_of, sized_table_of};
 pub(crate) fn sized_report_on<S: BuildHasher + Drop, A: Allocator + Copy>(
     alloc: A,
     options: &Options<A>,
-    hash_builder: S,
     input: &[u8],
+    hash_builder: S,
 ) -> Result<String<A>, Fault>
     ensures report { IfOk result (λ text.
         IsReportBySize options.now input.now (lines_of input.now) (string_bytes text)) }
@@ -38,7 +38,7 @@ pub(crate) fn sized_report_on<S: BuildHasher + Drop, A: Allocator + Copy>(
     ensures fault { IfErr result (λ fault. is_of_writing fault ≡ false) }
     ensures memory { IfErr result (λ fault. is_of_input fault ≡ false → fault ≡ Fault.Memory) }
 {
-    let curve = curve_of(alloc, hash_builder, input)?;
+    let curve = curve_of(alloc, input, hash_builder)?;
     match options.form {
         Form::Table => sized_table_for(alloc, &options.capacities, &curve),
         Form::Picture => sized_picture_for(alloc, &options.capacities, &curve),

@@ -157,9 +157,9 @@ fn reported<'h>(
     let outcome = report(
         &world.heap,
         options,
-        DefaultState,
         &mut reader,
         &mut written,
+        DefaultState,
     );
     let mut text = String::new(world.alloc);
     text.push_str(str::from_utf8(&written).unwrap_or("? it is no text"))?;

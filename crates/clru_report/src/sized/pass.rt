@@ -17,8 +17,8 @@ use std::hash::BuildHasher;
 /// The curve of the lines of an input.
 pub(crate) fn curve_of<S: BuildHasher + Drop, A: Allocator + Copy>(
     alloc: A,
-    hash_builder: S,
     input: &[u8],
+    hash_builder: S,
 ) -> Result<SizedCurve<A>, Fault>
     ensures sizes { OnOk result (HaveSizes (lines_of input.now)) }
     ensures curve { IfOk result (λ curve. IsSizedCurveOf bytes_eq weight_of_line (lines_of input.now) curve) }
