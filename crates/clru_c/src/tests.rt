@@ -6,7 +6,14 @@ use crate::exports::{
 use crate::sized::misses_by_size;
 use clru::DefaultState;
 use ration::Rationed;
-use std::test::Fail;
+use std::fmt::Debug;
+use std::process::Abort;
+
+// Ends the process where the two are not equal, and shows both. std's macro is proved wherever it stands, and a call in a fifth of
+// the time.
+fn equal<T: PartialEq + Debug + Drop>(rt: &impl Abort, left: T, right: T) {
+    assert_eq!(rt; left, right);
+}
 
 // a b a c b a d a b e
 const TEN: &[u64] = &[1, 2, 1, 3, 2, 1, 4, 1, 2, 5];
@@ -30,46 +37,39 @@ static REFUSED: &[(&[usize], &[usize], u32)] = &[
 ];
 
 #[test]
-fn hits_are_written(rt: HostRuntime) -> Result<(), Fail> {
+fn hits_are_written(rt: HostRuntime) {
     for low in 0..2u64 {
         let mut hits = [false; 10];
         let mut missed = 0;
         let code = clru_hits_at(rt.alloc(), TEN, 3, low, 0, &mut hits, &mut missed);
-        assert_eq!(rt; (code, missed), (0, 5));
-        assert_eq!(rt;
-            hits,
-            [
-                false, false, true, false, true, true, false, true, true, false
-            ]
-        );
+        let wanted = [
+            false, false, true, false, true, true, false, true, true, false,
+        ];
+        equal(&rt, (code, missed, hits), (0, 5, wanted));
     }
-    Ok(())
 }
 
 #[test]
-fn misses_are_written(rt: HostRuntime) -> Result<(), Fail> {
+fn misses_are_written(rt: HostRuntime) {
     for high in 0..2u64 {
         let mut missed = [0; 6];
         let mut kinds = 0;
         let code = clru_misses_by_capacity(rt.alloc(), TEN, 0, high, &mut missed, &mut kinds);
-        assert_eq!(rt; (code, kinds), (0, 5));
-        assert_eq!(rt; missed, [10, 8, 5, 5, 5, 5]);
+        equal(&rt, (code, kinds, missed), (0, 5, [10, 8, 5, 5, 5, 5]));
     }
-    Ok(())
 }
 
 #[test]
-fn the_least_is_written(rt: HostRuntime) -> Result<(), Fail> {
+fn the_least_is_written(rt: HostRuntime) {
     for low in 0..2u64 {
         let mut least = [0; 3];
         let code = clru_least_by_room(rt.alloc(), TEN, &[2, 1, 5], low, low, &mut least);
-        assert_eq!(rt; (code, least), (0, [7, 10, 5]));
+        equal(&rt, (code, least), (0, [7, 10, 5]));
     }
-    Ok(())
 }
 
 #[test]
-fn misses_by_size_are_written(rt: HostRuntime) -> Result<(), Fail> {
+fn misses_by_size_are_written(rt: HostRuntime) {
     for low in 0..2u64 {
         let mut missed = [0; 4];
         let mut missed_sizes = [0; 4];
@@ -85,40 +85,26 @@ fn misses_by_size_are_written(rt: HostRuntime) -> Result<(), Fail> {
             &mut missed_sizes,
             &mut size,
         );
-        assert_eq!(rt; (code, size), (0, 16));
-        assert_eq!(rt; (missed, missed_sizes), ([7, 9, 9, 6], [19, 24, 24, 16]));
+        let wanted = ([7, 9, 9, 6], [19, 24, 24, 16]);
+        equal(&rt, (code, size, (missed, missed_sizes)), (0, 16, wanted));
     }
-    Ok(())
 }
 
 #[test]
-fn a_wrong_argument_has_its_code(rt: HostRuntime) -> Result<(), Fail> {
+fn a_wrong_argument_has_its_code(rt: HostRuntime) {
     let mut missed = 9;
     let mut hits = [true; 2];
-    assert_eq!(rt;
-        clru_hits_at(rt.alloc(), TEN, 0, 0, 0, &mut hits, &mut missed),
-        1
-    );
-    assert_eq!(rt;
-        clru_hits_at(rt.alloc(), TEN, 3, 0, 0, &mut hits, &mut missed),
-        2
-    );
-    assert_eq!(rt; (hits, missed), ([true, true], 9));
+    let zero = clru_hits_at(rt.alloc(), TEN, 0, 0, 0, &mut hits, &mut missed);
+    let lengths = clru_hits_at(rt.alloc(), TEN, 3, 0, 0, &mut hits, &mut missed);
+    equal(&rt, (zero, lengths, hits, missed), (1, 2, [true, true], 9));
     let mut least = [8; 2];
-    assert_eq!(rt;
-        clru_least_by_room(rt.alloc(), TEN, &[2, 0], 0, 0, &mut least),
-        1
-    );
-    assert_eq!(rt;
-        clru_least_by_room(rt.alloc(), TEN, &[2], 0, 0, &mut least),
-        2
-    );
-    assert_eq!(rt; least, [8, 8]);
-    Ok(())
+    let zero = clru_least_by_room(rt.alloc(), TEN, &[2, 0], 0, 0, &mut least);
+    let lengths = clru_least_by_room(rt.alloc(), TEN, &[2], 0, 0, &mut least);
+    equal(&rt, (zero, lengths, least), (1, 2, [8, 8]));
 }
 
 #[test]
-fn a_wrong_size_has_its_code(rt: HostRuntime) -> Result<(), Fail> {
+fn a_wrong_size_has_its_code(rt: HostRuntime) {
     let mut missed = [8; 2];
     let mut missed_sizes = [8; 2];
     let mut size = 9;
@@ -134,14 +120,13 @@ fn a_wrong_size_has_its_code(rt: HostRuntime) -> Result<(), Fail> {
             &mut missed_sizes,
             &mut size,
         );
-        assert_eq!(rt; code, *wanted);
+        equal(&rt, code, *wanted);
     }
-    assert_eq!(rt; (missed, missed_sizes, size), ([8, 8], [8, 8], 9));
-    Ok(())
+    equal(&rt, (missed, missed_sizes, size), ([8, 8], [8, 8], 9));
 }
 
 #[test]
-fn refused_memory_has_its_code(rt: HostRuntime) -> Result<(), Fail> {
+fn refused_memory_has_its_code(rt: HostRuntime) {
     let heap = Rationed::new(rt.alloc());
     let mut numbers = [9; 2];
     let mut sizes = [9; 2];
@@ -149,22 +134,13 @@ fn refused_memory_has_its_code(rt: HostRuntime) -> Result<(), Fail> {
     let mut hits = [true; 10];
     for granted in 0..2u64 {
         heap.refuse_after(granted);
-        assert_eq!(rt;
-            hits_at(&heap, TEN, 3, &mut hits, &mut number, DefaultState),
-            3
-        );
+        let by_hits = hits_at(&heap, TEN, 3, &mut hits, &mut number, DefaultState);
         heap.refuse_after(granted);
-        assert_eq!(rt;
-            misses_by_capacity(&heap, TEN, &mut numbers, &mut number, DefaultState),
-            3
-        );
+        let by_misses = misses_by_capacity(&heap, TEN, &mut numbers, &mut number, DefaultState);
         heap.refuse_after(granted);
-        assert_eq!(rt;
-            least_by_room(&heap, TEN, &[2, 1], &mut numbers, DefaultState),
-            3
-        );
+        let by_least = least_by_room(&heap, TEN, &[2, 1], &mut numbers, DefaultState);
         heap.refuse_after(granted);
-        let code = misses_by_size(
+        let by_sizes = misses_by_size(
             &heap,
             TEN,
             SIZES,
@@ -174,11 +150,11 @@ fn refused_memory_has_its_code(rt: HostRuntime) -> Result<(), Fail> {
             &mut number,
             DefaultState,
         );
-        assert_eq!(rt; code, 3);
+        equal(&rt, (by_hits, by_misses, by_least, by_sizes), (3, 3, 3, 3));
     }
-    assert_eq!(rt;
+    equal(
+        &rt,
         (hits, numbers, sizes, number),
-        ([true; 10], [9, 9], [9, 9], 9)
+        ([true; 10], [9, 9], [9, 9], 9),
     );
-    Ok(())
 }

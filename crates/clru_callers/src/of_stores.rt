@@ -4,6 +4,7 @@ ghost use Rattle.std.specs.Map.{lookup};
 ghost use Rattle.clru_through.specs.Steps.{Loads};
 ghost use Rattle.clru_through.specs.declared.answer.Loaded.{Loaded};
 
+pub mod changing;
 pub mod loads;
 pub mod parts;
 pub mod tiers;

@@ -1,4 +1,5 @@
 pub mod Bits
+pub mod Forms
 pub mod Histograms
 pub mod LatestSizes
 pub mod Latests

@@ -1,5 +1,5 @@
 -- What a pass has taken, after one more request.
-use Rattle.std.proofs.Common.{◌≡◌, ℕ, suc, ◌+◌, ◌-◌, ◌%◌, ◌<◌, ◌≤◌, Bool, true, false, cond, List, [], ◌∷◌, ◌++◌, length, get_or, set, take, reverse, Some, None, is_some, refl, sym, ap, ◌∙◌, subst, arith, take_all}
+use Rattle.std.proofs.Common.{◌≡◌, ℕ, suc, ◌+◌, ◌-◌, ◌%◌, ◌<◌, ◌≤◌, Bool, true, false, cond, List, [], ◌∷◌, ◌++◌, length, get_or, set, take, reverse, Option, Some, None, is_some, refl, sym, ap, ◌∙◌, subst, arith, take_all}
 use Rattle.std.specs.Cmp.{IsEquivalence}
 use Rattle.std.specs.Prelude.{sum}
 use Rattle.std.specs.Map.{lookup, set_value}
@@ -61,6 +61,14 @@ module _ {K : Type 0} (eq : K → K → Bool) (laws : IsEquivalence eq) (past : 
   -- a key that is not known was not requested
   not_held : lookup (eq x) positions ≡ None → holds eq x past ≡ false
   not_held absent = sym (is.ranked.known x) ∙ ap is_some absent
+
+  -- and one that was not requested is not known
+  pub absent_key : holds eq x past ≡ false → lookup (eq x) positions ≡ None
+  absent_key new = none_of (lookup (eq x) positions) (is.ranked.known x ∙ new)
+    where
+      none_of : (o : Option ℕ) → is_some o ≡ false → o ≡ None
+      none_of None h = refl
+      none_of (Some p) h = cc
 
   pub distance_none : lookup (eq x) positions ≡ None → None ≡ distance eq x past
   distance_none absent = rw (not_held absent) refl

@@ -1,5 +1,6 @@
 //! `DistancePass`, which takes requests one by one.
-ghost use Rattle.std.specs.Prelude.{◌≡◌, ℕ, suc, ◌+◌, ◌%◌, ◌^◌, ◌<◌, ◌≤◌, List, [], ◌∷◌, length, take, sum, reverse, slice_index, IfOk, IfErr, OnOk, OnErr, IsOk, IsNone, IsSome, true};
+ghost use Rattle.std.specs.Prelude.{◌≡◌, ℕ, suc, ◌+◌, ◌%◌, ◌^◌, ◌<◌, ◌≤◌, List, [], ◌∷◌, length, take, sum, reverse, slice_index, IfOk, IfErr, OnOk, OnErr, IsOk, IsNone, IsSome, IsTrue, is_some, true, false};
+ghost use Rattle.std.specs.List.{list_any};
 ghost use Rattle.std.specs.Map.{lookup, set_value};
 ghost use Rattle.clru_model.specs.Requests.{holds, distinct};
 ghost use Rattle.clru.specs.Cache.{with_entries};
@@ -11,6 +12,7 @@ use crate::curve::MissCurve;
 use crate::latest::Latest;
 use clru::{CLruCache, DefaultState, NoMemory, ZeroWeightScale};
 use std::alloc::{Allocator, Global};
+use std::collections::hash_map::Equivalent;
 use std::hash::{BuildHasher, Hash};
 use std::marker::Model;
 use std::mem;
@@ -99,31 +101,74 @@ impl<K: Eq + Hash, S: BuildHasher, A: Allocator + Copy> DistancePass<K, S, A> {
         ensures memory { (past : List K) → IsPass K.eq past self.old → holds K.eq key past ≡ true
             → 0 < length past % 64 → length past + 1 < 2 ^ 64 → IsOk result }
     {
+        // Its invariant says that some requests were taken.
+        let _ = &self.positions;
+        match self.request_again(&key) {
+            Ok(Some(distance)) => Ok(Some(distance)),
+            Ok(None) => match self.request_new(key) {
+                Ok(()) => Ok(None),
+                Err(key) => Err(key),
+            },
+            Err(_) => Err(key),
+        }
+    }
+
+    /// Takes one more request, of a key that was requested before, by a form of it, and answers its distance; or `None` where no
+    /// such key was: then nothing was taken, and `request` takes the key. So who reads a log owns the keys alone that are new.
+    ///
+    /// Where memory is refused, or there were `usize::MAX` requests, the form comes back and the pass has taken what it had.
+    /// Cost: one hash and a walk along one chain, and where the key is known steps that grow as the logarithm of the number of
+    /// requests.
+    pub fn request_again<Q: Equivalent<K>>(&mut self, key: Q) -> Result<Option<usize>, Q>
+        ensures distance { (past : List K) (x : K) → IsPass K.eq past self.old → IsTrue (Q.equivalent key x)
+            → IfOk result (λ d. d ≡ distance K.eq x past) }
+        ensures taken { (past : List K) (x : K) → IsPass K.eq past self.old → IsTrue (Q.equivalent key x)
+            → IfOk result (λ d. IsSome d → IsPass K.eq (x ∷ past) self.new) }
+        ensures known { (past : List K) → IsPass K.eq past self.old
+            → IfOk result (λ d. is_some d ≡ list_any (Q.equivalent key) past) }
+        ensures not_taken { (past : List K) → IsPass K.eq past self.old
+            → IfOk result (λ d. IsNone d → IsPass K.eq past self.new) }
+        ensures refused { (past : List K) → IsPass K.eq past self.old → OnErr result (IsPass K.eq past self.new) }
+        ensures given_back { IfErr result (λ back. back ≡ key) }
+        ensures memory { (past : List K) → IsPass K.eq past self.old
+            → 0 < length past % 64 → length past + 1 < 2 ^ 64 → IsOk result }
+    {
         let Ok(()) = self.latest.make_ready() else {
             return Err(key);
         };
         let number = self.latest.requests;
-        match move_position(&mut self.positions, &key, number) {
-            Some(position) => {
-                let distance = self.latest.count_after(position);
-                self.latest.push();
-                self.latest.clear(position);
-                self.histogram[distance] += 1;
-                Ok(Some(distance))
-            }
-            None => {
-                let Ok(()) = self.histogram.reserve(1) else {
-                    return Err(key);
-                };
-                double_if_full(&mut self.positions);
-                if let Err((key, _)) = self.positions.put(key, number) {
-                    return Err(key);
-                }
-                self.latest.push();
-                self.histogram.push_reserved(0);
-                Ok(None)
-            }
+        let Some(position) = move_position(&mut self.positions, key, number) else {
+            return Ok(None);
+        };
+        let distance = self.latest.count_after(position);
+        self.latest.push();
+        self.latest.clear(position);
+        self.histogram[distance] += 1;
+        Ok(Some(distance))
+    }
+
+    /// Takes one more request, of a key that was not requested before.
+    fn request_new(&mut self, key: K) -> Result<(), K>
+    where
+        K: Drop,
+        requires new { (past : List K) × IsPass K.eq past self.old × (holds K.eq key past ≡ false) }
+        ensures taken { (past : List K) → IsPass K.eq past self.old → OnOk result (IsPass K.eq (key ∷ past) self.new) }
+        ensures refused { (past : List K) → IsPass K.eq past self.old → OnErr result (IsPass K.eq past self.new) }
+        ensures given_back { IfErr result (λ back. back ≡ key) }
+    {
+        let Ok(()) = self.latest.make_ready() else {
+            return Err(key);
+        };
+        let Ok(()) = self.histogram.reserve(1) else {
+            return Err(key);
+        };
+        double_if_full(&mut self.positions);
+        if let Err((key, _)) = self.positions.put(key, self.latest.requests) {
+            return Err(key);
         }
+        self.latest.push();
+        self.histogram.push_reserved(0);
+        Ok(())
     }
 
     /// Returns the curve of the requests so far.
@@ -193,15 +238,20 @@ pub(crate) fn double_if_full<K: Eq + Hash + Drop, S: BuildHasher, A: Allocator +
 }
 
 /// Gives a key that is held another number, and returns the one that it had.
-pub(crate) fn move_position<K: Eq + Hash, S: BuildHasher, A: Allocator + Copy>(
+pub(crate) fn move_position<K, S, A, Q>(
     positions: &mut CLruCache<K, usize, S, ZeroWeightScale, A>,
-    key: &K,
+    key: Q,
     number: usize,
 ) -> Option<usize>
-    ensures found { result ≡ lookup (K.eq key.now) positions.old.entries }
+where
+    K: Eq + Hash,
+    S: BuildHasher,
+    A: Allocator + Copy,
+    Q: Equivalent<K>,
+    ensures found { result ≡ lookup (Q.equivalent key) positions.old.entries }
     ensures same { IsNone result → positions.new ≡ positions.old }
     ensures moved { IsSome result → positions.new
-        ≡ with_entries positions.old (set_value (K.eq key.now) positions.old.entries number) }
+        ≡ with_entries positions.old (set_value (Q.equivalent key) positions.old.entries number) }
 {
     match positions.peek_mut(key) {
         Some(position) => Some(mem::replace(position, number)),

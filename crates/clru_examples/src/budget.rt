@@ -23,23 +23,3 @@ pub fn remember_square(squares: &mut Within, number: u64) -> Result<(), (u64, u6
         }
     }
 }
-
-#[cfg(test)]
-mod tests {
-    use super::*;
-    use std::test::Fail;
-
-    #[test]
-    fn the_heap_bounds_a_cache_without_bounds(rt: HostRuntime) -> Result<(), Fail> {
-        let heap = Rationed::new(rt.alloc());
-        heap.limit_bytes(4096);
-        let mut squares = CLruCache::new(&heap, NonZeroUsize::MAX);
-        for number in 0..1000 {
-            assert_eq!(rt; remember_square(&mut squares, number), Ok(()));
-        }
-        assert!(rt; squares.len() > 10 && squares.len() < 100);
-        assert!(rt; heap.held_bytes() <= 4096);
-        assert_eq!(rt; squares.peek(&999).copied(), Some(998001));
-        Ok(())
-    }
-}

@@ -13,20 +13,3 @@ pub fn misses_of(alloc: Global, requests: &[u64], capacity: NonZeroUsize) -> Res
     let curve = miss_curve(alloc, requests, DefaultState)?;
     Ok(curve.misses(capacity))
 }
-
-#[cfg(test)]
-mod tests {
-    use super::*;
-    use std::test::Fail;
-
-    #[test]
-    fn a_greater_capacity_misses_less(rt: HostRuntime) -> Result<(), Fail> {
-        let curve = miss_curve(rt.alloc(), &[1, 2, 3, 1, 2, 3], DefaultState)?;
-        assert_eq!(rt; curve.as_slice(), [6, 6, 3].as_slice());
-        assert_eq!(rt;
-            misses_of(rt.alloc(), &[1, 2, 3, 1, 2, 3], NonZeroUsize::MAX)?,
-            3
-        );
-        Ok(())
-    }
-}

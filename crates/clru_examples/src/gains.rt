@@ -22,22 +22,3 @@ pub fn misses_and_least(
     let least = foresight.least(capacity)?;
     Ok((misses_at(alloc, capacity, requests)?, least))
 }
-
-#[cfg(test)]
-mod tests {
-    use super::*;
-    use std::test::Fail;
-
-    #[test]
-    fn a_loop_is_no_good_for_a_cache(rt: HostRuntime) -> Result<(), Fail> {
-        for (capacity, both) in [(1, (6, 6)), (2, (6, 4)), (3, (3, 3))] {
-            let room = NonZeroUsize::new(capacity).ok_or("a capacity is no 0")?;
-            assert_eq!(rt;
-                misses_and_least(rt.alloc(), room, &[1, 2, 3, 1, 2, 3])?,
-                both,
-                "{capacity}"
-            );
-        }
-        Ok(())
-    }
-}

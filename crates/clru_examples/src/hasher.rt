@@ -36,31 +36,3 @@ impl BuildHasher for FnvState {
         Fnv(14695981039346656037)
     }
 }
-
-#[cfg(test)]
-mod tests {
-    use super::*;
-    use clru::{CLruCache, NonZeroUsize};
-    use std::test::Fail;
-
-    // The values are those of the page of the hash's authors.
-    #[test]
-    fn it_is_the_hash_that_it_is_named_for(rt: HostRuntime) -> Result<(), Fail> {
-        for (bytes, hash) in [
-            (b"".as_slice(), 0xcbf29ce484222325),
-            (b"a".as_slice(), 0xaf63dc4c8601ec8c),
-            (b"foobar".as_slice(), 0x85944171f73967e8),
-        ] {
-            let mut state = FnvState.build_hasher();
-            state.write(bytes);
-            assert_eq!(rt; state.finish(), hash);
-        }
-        let mut sizes = CLruCache::with_hasher(rt.alloc(), NonZeroUsize::MIN, FnvState);
-        assert!(rt; sizes.put(1, 10).is_ok() && sizes.put(2, 20).is_ok());
-        assert_eq!(rt;
-            (sizes.peek(&1).copied(), sizes.peek(&2).copied()),
-            (None, Some(20))
-        );
-        Ok(())
-    }
-}

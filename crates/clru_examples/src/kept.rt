@@ -21,21 +21,3 @@ pub fn keep_last(sizes: &mut CLruCache<u64, u64>)
 {
     sizes.resize(NonZeroUsize::MIN);
 }
-
-#[cfg(test)]
-mod tests {
-    use super::*;
-    use std::test::Fail;
-
-    #[test]
-    fn large_pages_are_kept_and_then_the_last_one(rt: HostRuntime) -> Result<(), Fail> {
-        let mut sizes = CLruCache::new(rt.alloc(), NonZeroUsize::MAX);
-        let pages = Vec::from_array(rt.alloc(), [(1, 10), (2, 20), (3, 30)])?;
-        assert_eq!(rt; sizes.extend(pages), Ok(()));
-        keep_larger(&mut sizes, 10);
-        assert_eq!(rt; (sizes.len(), sizes.contains(&1)), (2, false));
-        keep_last(&mut sizes);
-        assert_eq!(rt; (sizes.len(), sizes.contains(&3)), (1, true));
-        Ok(())
-    }
-}

@@ -1,8 +1,9 @@
-//! The examples of the docs. A test runs each, and `tools/quotes` compares what the docs quote with the text here.
+//! The examples of the docs. `clru_tests` runs each, and `tools/quotes` compares what the docs quote with the text here.
 #![tactic(auto)]
 
 pub mod budget;
 pub mod curves;
+pub mod files;
 pub mod gains;
 pub mod hasher;
 pub mod kept;

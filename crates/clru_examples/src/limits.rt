@@ -29,23 +29,3 @@ pub fn grow(
         Err(refusal) => Err(refusal),
     }
 }
-
-#[cfg(test)]
-mod tests {
-    use super::*;
-    use clru::NonZeroUsize;
-    use std::test::Fail;
-
-    #[test]
-    fn a_sum_that_is_too_large_is_refused(rt: HostRuntime) -> Result<(), Fail> {
-        let mut sizes = CLruCache::new(rt.alloc(), NonZeroUsize::MIN);
-        assert_eq!(rt; grow(&mut sizes, 1, 10), Ok(10));
-        assert_eq!(rt; grow(&mut sizes, 1, 20), Ok(30));
-        assert_eq!(rt;
-            grow(&mut sizes, 1, u64::MAX),
-            Err(TryPutError::Failed(TooLarge))
-        );
-        assert_eq!(rt; sizes.peek(&1).copied(), Some(30));
-        Ok(())
-    }
-}

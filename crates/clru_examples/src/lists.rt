@@ -19,29 +19,3 @@ pub fn leave(line: &mut FixedSizeList<u64>, ticket: usize) -> Option<u64>
 {
     line.remove(ticket)
 }
-
-#[cfg(test)]
-mod tests {
-    use super::*;
-    use std::test::Fail;
-
-    #[test]
-    fn a_ticket_stays_until_its_holder_leaves(rt: HostRuntime) -> Result<(), Fail> {
-        let mut line = FixedSizeList::new(rt.alloc(), 3);
-        let ann = join(&mut line, 1)?;
-        let bob = join(&mut line, 2)?;
-        let cid = join(&mut line, 3)?;
-        assert_eq!(rt; join(&mut line, 4), Err(PushError::Full(4)));
-        assert_eq!(rt; leave(&mut line, bob), Some(2));
-        assert_eq!(rt; line.get(bob).copied(), None);
-        assert_eq!(rt; line.move_front(cid).copied(), Some(3));
-        assert_eq!(rt; line.next_idx(cid), Some(ann));
-
-        let mut waiting = Vec::new(rt.alloc());
-        for (_, who) in &line {
-            waiting.push(*who)?;
-        }
-        assert_eq!(rt; waiting.as_slice(), [3, 1].as_slice());
-        Ok(())
-    }
-}

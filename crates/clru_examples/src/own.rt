@@ -35,23 +35,3 @@ pub fn hold(pages: &mut Pages, page: u64, bytes: Vec<u8>) -> Result<(), PutError
         Err(refusal) => Err(refusal),
     }
 }
-
-#[cfg(test)]
-mod tests {
-    use super::*;
-    use std::test::Fail;
-
-    #[test]
-    fn pages_are_held_within_a_number_of_bytes(rt: HostRuntime) -> Result<(), Fail> {
-        let capacity = NonZeroUsize::new(10).ok_or("a capacity is no 0")?;
-        let mut pages = empty(rt.alloc(), capacity);
-        for page in [1, 2, 3] {
-            let bytes = Vec::from_slice(rt.alloc(), b"four")?;
-            assert!(rt; hold(&mut pages, page, bytes).is_ok());
-        }
-        let bytes = Vec::from_slice(rt.alloc(), b"ten bytes.")?;
-        assert!(rt; hold(&mut pages, 4, bytes).is_err());
-        assert_eq!(rt; (pages.len(), pages.contains(&1)), (2, false));
-        Ok(())
-    }
-}

@@ -36,37 +36,3 @@ pub fn halve(sizes: &mut CLruCache<u64, u64>) {
         *size /= 2;
     }
 }
-
-#[cfg(test)]
-mod tests {
-    use super::*;
-    use clru::NonZeroUsize;
-    use std::test::Fail;
-
-    #[test]
-    fn the_page_looked_at_last_stays(rt: HostRuntime) -> Result<(), Fail> {
-        let capacity = NonZeroUsize::new(2).ok_or("a capacity is no 0")?;
-        let mut sizes = CLruCache::new(rt.alloc(), capacity);
-        assert_eq!(rt; remember(&mut sizes, 1, 10), Ok(None));
-        assert_eq!(rt; remember(&mut sizes, 2, 20), Ok(None));
-        assert_eq!(rt; sizes.get(&1).copied(), Some(10));
-        assert_eq!(rt; remember(&mut sizes, 3, 30), Ok(Some((2, 20))));
-        assert_eq!(rt; sizes.peek(&2).copied(), None);
-        Ok(())
-    }
-
-    #[test]
-    fn a_page_is_forgotten_and_the_others_halved(rt: HostRuntime) -> Result<(), Fail> {
-        let capacity = NonZeroUsize::new(2).ok_or("a capacity is no 0")?;
-        let mut sizes = CLruCache::new(rt.alloc(), capacity);
-        assert_eq!(rt; remember(&mut sizes, 1, 10), Ok(None));
-        assert_eq!(rt; remember(&mut sizes, 2, 20), Ok(None));
-        assert_eq!(rt; forget(&mut sizes, 1), Some(10));
-        halve(&mut sizes);
-        assert_eq!(rt;
-            (sizes.peek(&1).copied(), sizes.peek(&2).copied()),
-            (None, Some(10))
-        );
-        Ok(())
-    }
-}

@@ -20,22 +20,3 @@ pub fn misses_at(
         Err(_) => Err(AllocError),
     }
 }
-
-#[cfg(test)]
-mod tests {
-    use super::*;
-    use std::test::Fail;
-
-    #[test]
-    fn a_greater_capacity_misses_less(rt: HostRuntime) -> Result<(), Fail> {
-        for (capacity, misses) in [(1, 6), (2, 6), (3, 3)] {
-            let room = NonZeroUsize::new(capacity).ok_or("a capacity is no 0")?;
-            assert_eq!(rt;
-                misses_at(rt.alloc(), room, &[1, 2, 3, 1, 2, 3])?,
-                misses,
-                "{capacity}"
-            );
-        }
-        Ok(())
-    }
-}

@@ -41,28 +41,3 @@ pub fn missed_bytes(
     let curve = sized_curve(alloc, requests, FileSizes { bytes }, DefaultState)?;
     Ok(curve.missed_size(capacity))
 }
-
-#[cfg(test)]
-mod tests {
-    use super::*;
-    use std::test::Fail;
-
-    #[test]
-    fn more_room_misses_fewer_bytes(rt: HostRuntime) -> Result<(), Fail> {
-        let bytes = [300, 100, 50];
-        let requests = [0, 1, 2, 1, 0];
-        for (room, missed) in [
-            (299, None),
-            (300, Some(750)),
-            (449, Some(750)),
-            (450, Some(450)),
-        ] {
-            let room = NonZeroUsize::new(room).ok_or("a capacity is no 0")?;
-            assert!(rt;
-                matches!(missed_bytes(rt.alloc(), &requests, &bytes, room), Ok(it) if it == missed),
-                "{room}"
-            );
-        }
-        Ok(())
-    }
-}

@@ -26,7 +26,7 @@ impl Model for Page {
 #[derive(Drop)]
 pub struct Shelf {
     alloc: Global,
-    fetches: u64,
+    pub fetches: u64,
 }
 
 impl Source<String, Page, AllocError> for Shelf {
@@ -65,33 +65,5 @@ pub fn length_of(pages: &mut Pages, name: String) -> Result<(usize, bool), Alloc
             Some((_, page)) => Ok((page.bytes.len(), !fetched)),
             None => unreachable!(),
         },
-    }
-}
-
-#[cfg(test)]
-mod tests {
-    use super::*;
-    use std::test::Fail;
-
-    #[test]
-    fn a_page_is_fetched_once_and_the_last_ones_are_held(rt: HostRuntime) -> Result<(), Fail> {
-        let capacity = NonZeroUsize::new(2).ok_or("a capacity is no 0")?;
-        let mut pages = pages_of(rt.alloc(), capacity);
-        let mut hits = 0u64;
-        for name in ["home", "home", "about", "home", "contact"] {
-            let (length, held) = length_of(&mut pages, name.to_string(rt.alloc())?)?;
-            assert_eq!(rt; length, name.len() + 1);
-            if held {
-                hits = hits.saturating_add(1);
-            }
-        }
-        assert_eq!(rt; (hits, pages.source().fetches), (2, 3));
-
-        let mut last = Vec::new(rt.alloc());
-        for (name, _) in pages.cache().iter().take(10) {
-            last.push(name.as_str())?;
-        }
-        assert_eq!(rt; last.as_slice(), ["contact", "home"].as_slice());
-        Ok(())
     }
 }

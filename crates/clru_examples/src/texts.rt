@@ -45,30 +45,3 @@ pub fn remember_looks(
         Err(pair) => Err(pair),
     }
 }
-
-#[cfg(test)]
-mod tests {
-    use super::*;
-    use clru::NonZeroUsize;
-    use std::test::Fail;
-
-    #[test]
-    fn looks_are_counted(rt: HostRuntime) -> Result<(), Fail> {
-        let mut looks = CLruCache::new(rt.alloc(), NonZeroUsize::MIN);
-        for (page, times) in [("/", 1), ("/", 2), ("/about", 1), ("/", 1)] {
-            assert_eq!(rt; look(&mut looks, rt.alloc(), page)?, times, "{page}");
-            assert_eq!(rt; looks_at(&mut looks, page), Some(times), "{page}");
-        }
-        Ok(())
-    }
-
-    #[test]
-    fn looks_are_found_by_the_same_text(rt: HostRuntime) -> Result<(), Fail> {
-        let mut looks = CLruCache::new(rt.alloc(), NonZeroUsize::MIN);
-        let page = "/about".to_string(rt.alloc())?;
-        assert_eq!(rt; remember_looks(&mut looks, page, 3), Ok(()));
-        assert_eq!(rt; looks_at(&mut looks, "/about"), Some(3));
-        assert_eq!(rt; looks_at(&mut looks, "/"), None);
-        Ok(())
-    }
-}

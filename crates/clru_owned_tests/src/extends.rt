@@ -26,7 +26,7 @@ fn stored_after(requests: u64) -> u64 {
 /// How many items are drawn, requests are made, and requests are refused.
 type Counts = (u64, u64, u64);
 
-/// The same where the memory for nine keys is refused after so many requests: none is drawn behind the refusal, and nothing
+/// These counts where the memory for nine keys is refused after so many requests: none is drawn behind the refusal, and nothing
 /// is asked again.
 fn counts_after(requests: u64) -> Counts {
     if requests >= 2 * REQUESTS {
@@ -45,6 +45,7 @@ fn counts(heap: &Rationed<Global>, drawn: &Cell<u64>) -> Counts {
 
 #[test]
 fn each_refusal_ends_an_extend(rt: HostRuntime) -> Result<(), Fail> {
+    let nine = capacity_of(9)?;
     for n in 0..=2 * REQUESTS {
         let heap = Rationed::new(rt.alloc());
         let stored = stored_after(n);
@@ -53,7 +54,7 @@ fn each_refusal_ends_an_extend(rt: HostRuntime) -> Result<(), Fail> {
         } else {
             Ok(())
         };
-        equal!(rt; ends(&heap, capacity_of(9)?, n), (back, counts_after(n), true), n);
+        equal!(rt; ends(&heap, nine, n), (back, counts_after(n), true), n);
         equal!(rt; heap.blocks(), 0, n);
     }
     Ok(())
@@ -129,8 +130,9 @@ fn is_nine(cache: &mut Plain) -> bool {
 // The places are 4, 16, 64, 256, and then 1,000, or 1,024 where the capacity comes last.
 #[test]
 fn a_thousand_items_go_in(rt: HostRuntime) -> Result<(), Fail> {
+    let thousand = capacity_of(1000)?;
     let heap = Rationed::new(rt.alloc());
-    equal!(rt; extends_to_1000(&heap, capacity_of(1000)?), (true, 1000, 5 * REQUESTS));
+    equal!(rt; extends_to_1000(&heap, thousand), (true, 1000, 5 * REQUESTS));
     equal!(rt; collects_1000(&heap), (1000, 1000, 10 * REQUESTS));
     Ok(())
 }
@@ -177,9 +179,10 @@ fn pushes_text<'a>(heap: &'a Rationed<Global>, pairs: &mut Texts<'a>, letter: &s
 
 #[test]
 fn a_refused_extend_forgets_no_item(rt: HostRuntime) -> Result<(), Fail> {
+    let nine = capacity_of(9)?;
     for n in 0..=2 * REQUESTS {
         let heap = Rationed::new(rt.alloc());
-        let (extended, blocks, owned) = extends_by_texts(&heap, capacity_of(9)?, n);
+        let (extended, blocks, owned) = extends_by_texts(&heap, nine, n);
         equal!(rt; (extended, blocks, heap.blocks()), (n == 2 * REQUESTS, owned, 0), n);
     }
     Ok(())

@@ -2,6 +2,7 @@
 
 use assertions::equal;
 use clru::{CLruCache, DefaultState, NonZeroUsize, ZeroWeightScale};
+use clru_curve::{DistancePass, SizedPass};
 use clru_fixtures::sizes::capacity_of;
 use ration::Rationed;
 use std::alloc::Global;
@@ -13,22 +14,27 @@ type Texts<'a> = CLruCache<Key<'a>, u64, DefaultState, ZeroWeightScale, &'a Rati
 
 #[test]
 fn a_look_up_by_a_lent_text_asks_for_no_memory(rt: HostRuntime) -> Result<(), Fail> {
+    let two = capacity_of(2)?;
     let heap = Rationed::new(rt.alloc());
-    equal!(rt; (requests(&heap, capacity_of(2)?), heap.blocks()), (Some(0), 0));
+    equal!(rt; (requests(&heap, two), heap.blocks()), (Some(0), 0));
     Ok(())
 }
 
 /// How many requests each look-up of a held text makes with the others, where each finds it.
 fn requests(heap: &Rationed<Global>, capacity: NonZeroUsize) -> Option<u64> {
-    let Ok(key) = String::from_str(heap, "apple") else {
-        return None;
-    };
-    let mut cache = CLruCache::new(heap, capacity);
-    let Ok(_) = cache.put(key, 3) else {
-        return None;
-    };
+    match String::from_str(heap, "apple") {
+        Ok(key) => {
+            let mut cache = CLruCache::new(heap, capacity);
+            requests_of(heap, &mut cache, key)
+        }
+        Err(_) => None,
+    }
+}
+
+fn requests_of<'a>(heap: &'a Rationed<Global>, cache: &mut Texts<'a>, key: Key<'a>) -> Option<u64> {
+    let _ = cache.put(key, 3);
     let before = heap.asked();
-    if looks(&mut cache, "apple") {
+    if looks(cache, "apple") {
         Some(heap.asked().wrapping_sub(before))
     } else {
         None
@@ -43,4 +49,49 @@ fn looks(cache: &mut Texts, text: &str) -> bool {
         && cache.get_mut(text).copied() == Some(3)
         && cache.pop(text) == Some(3)
         && !cache.contains(text)
+}
+
+#[test]
+fn a_pass_is_asked_again_by_a_lent_text_and_asks_for_no_memory(
+    rt: HostRuntime,
+) -> Result<(), Fail> {
+    let heap = Rationed::new(rt.alloc());
+    equal!(rt; (distances(&heap), spans(&heap), heap.blocks()), (Some((1, 0)), Some((5, 0)), 0));
+    Ok(())
+}
+
+/// The distance of a key that comes again, asked for by its text, and the requests for memory of that.
+fn distances(heap: &Rationed<Global>) -> Option<(usize, u64)> {
+    let mut pass = DistancePass::new(heap);
+    for text in ["apple", "banana"] {
+        let Ok(None) = pass.request_again(text) else {
+            return None;
+        };
+        let Ok(None) = pass.request(String::from_str(heap, text).ok()?) else {
+            return None;
+        };
+    }
+    let before = heap.asked();
+    match pass.request_again("apple") {
+        Ok(Some(distance)) => Some((distance, heap.asked().wrapping_sub(before))),
+        _ => None,
+    }
+}
+
+/// The same of spans, where the weights are 1 and 2.
+fn spans(heap: &Rationed<Global>) -> Option<(usize, u64)> {
+    let mut pass = SizedPass::new(heap);
+    for (text, weight) in [("apple", 1), ("banana", 2)] {
+        let Ok(None) = pass.request_again(text, weight) else {
+            return None;
+        };
+        let Ok(None) = pass.request(String::from_str(heap, text).ok()?, weight) else {
+            return None;
+        };
+    }
+    let before = heap.asked();
+    match pass.request_again("apple", 1) {
+        Ok(Some(span)) => Some((span, heap.asked().wrapping_sub(before))),
+        _ => None,
+    }
 }

@@ -39,11 +39,12 @@ fn makes<'a>(
 
 #[test]
 fn each_refusal_leaves_no_block(rt: HostRuntime) -> Result<(), Fail> {
+    let four = capacity_of(4)?;
     for maker in RESERVING {
         for n in 0..=REQUESTS {
             let heap = Rationed::new(rt.alloc());
             heap.refuse_after(n);
-            let made = makes(&heap, maker, capacity_of(4)?, 3).is_ok();
+            let made = makes(&heap, maker, four, 3).is_ok();
             // Nothing is asked again.
             equal!(rt;
                 (made, heap.asked(), heap.refused() == 0, heap.blocks()),
@@ -83,10 +84,11 @@ fn makes_again(
 
 #[test]
 fn a_refused_configuration_comes_back_as_it_was(rt: HostRuntime) -> Result<(), Fail> {
+    let four = capacity_of(4)?;
     for n in 0..REQUESTS {
         let heap = Rationed::new(rt.alloc());
         for (reserve, places) in [(None, 3), (Some(2), 2), (Some(0), 0)] {
-            let config = CLruCacheConfig::new(capacity_of(4)?).with_memory(3);
+            let config = CLruCacheConfig::new(four).with_memory(3);
             heap.refuse_after(n);
             equal!(rt; makes_again(&heap, config, reserve), Some((4, places)), n);
         }

@@ -41,7 +41,7 @@ fn has(nodes: &Numbers, pairs: &[(u64, u64)]) -> bool {
     nodes.len() == pairs.len() && walk.next().is_none()
 }
 
-/// The same, and whether each key is found by its hash.
+/// Whether the nodes have these pairs and no other, front first, and each key is found by its hash.
 fn finds(nodes: &Numbers, pairs: &[(u64, u64)]) -> bool
     requires indexed { IsIndexed (hash_by finish write (λ _. initial) fed.u64) nodes.now }
     requires distinct { IsDistinct nat_eq (keys_of (pairs_in nodes.now)) }
@@ -58,12 +58,14 @@ fn finds(nodes: &Numbers, pairs: &[(u64, u64)]) -> bool
 #[tactic(auto, using(crate::proofs::Distinct::distinct_pairs))]
 fn a_pair_that_comes_in_stands_first(rt: HostRuntime) -> Result<(), Fail> {
     let mut nodes = three(rt.alloc())?;
-    equal!(rt; nodes.replace_back(nodes.hash(&4), 4, 40), (1, 10));
-    equal!(rt; finds(&nodes, &[(4, 40), (3, 30), (2, 20)]), true);
-    equal!(rt; nodes.put_front(nodes.hash(&5), 5, 50), None);
-    equal!(rt; nodes.put_front(nodes.hash(&6), 6, 60), Some((2, 20)));
-    equal!(rt; nodes.set_front(61), 60);
-    equal!(rt; finds(&nodes, &[(6, 61), (5, 50), (4, 40), (3, 30)]), true);
+    let dropped = nodes.replace_back(nodes.hash(&4), 4, 40);
+    let found = finds(&nodes, &[(4, 40), (3, 30), (2, 20)]);
+    let none = nodes.put_front(nodes.hash(&5), 5, 50);
+    let last = nodes.put_front(nodes.hash(&6), 6, 60);
+    let old = nodes.set_front(61);
+    let all = finds(&nodes, &[(6, 61), (5, 50), (4, 40), (3, 30)]);
+    equal!(rt; (dropped, none, last, old), ((1, 10), None, Some((2, 20)), 60));
+    equal!(rt; found && all, true);
     Ok(())
 }
 
@@ -72,66 +74,56 @@ fn overwritten(item: &mut Item<u64, u64>) -> (u64, u64) {
     (item.key, mem::replace(&mut item.value, 7))
 }
 
-/// The pairs after one of them was written, by its place from the front.
-static WRITTEN: [&[(u64, u64)]; 3] = [
-    &[(3, 7), (2, 20), (1, 10)],
-    &[(3, 30), (2, 7), (1, 10)],
-    &[(3, 30), (2, 20), (1, 7)],
+/// How an item is found: at an end, or at a place counted from the front, to which the steps go from there or from the back.
+#[derive(Clone, Copy, Debug)]
+enum At {
+    Front,
+    Back,
+    FromFront(usize),
+    FromBack(usize),
+}
+
+/// Where a value is written, the pair that stood there, and all pairs then.
+static WRITTEN: &[(At, (u64, u64), &[(u64, u64)])] = &[
+    (At::Front, (3, 30), &[(3, 7), (2, 20), (1, 10)]),
+    (At::Back, (1, 10), &[(3, 30), (2, 20), (1, 7)]),
+    (At::FromFront(0), (3, 30), &[(3, 7), (2, 20), (1, 10)]),
+    (At::FromFront(1), (2, 20), &[(3, 30), (2, 7), (1, 10)]),
+    (At::FromFront(2), (1, 10), &[(3, 30), (2, 20), (1, 7)]),
+    (At::FromBack(0), (3, 30), &[(3, 7), (2, 20), (1, 10)]),
+    (At::FromBack(1), (2, 20), &[(3, 30), (2, 7), (1, 10)]),
+    (At::FromBack(2), (1, 10), &[(3, 30), (2, 20), (1, 7)]),
 ];
-
-/// The pair at a place, to which the steps go from the front or from the back, and whether its value alone is 7 then.
-fn writes_at(alloc: Global, index: usize, back: bool) -> Result<((u64, u64), bool), &'static str>
-    requires { index < 3 }
-{
-    let mut nodes = three(alloc)?;
-    let pair = if back {
-        overwritten(nodes.item_at_back(index))
-    } else {
-        overwritten(nodes.item_at(index))
-    };
-    Ok((pair, has(&nodes, WRITTEN[index])))
-}
-
-/// The same at one of the ends.
-fn writes_at_end(alloc: Global, back: bool) -> Result<((u64, u64), bool), &'static str> {
-    let mut nodes = three(alloc)?;
-    let (pair, index) = if back {
-        (overwritten(nodes.back_item()), 2)
-    } else {
-        (overwritten(nodes.front_item()), 0)
-    };
-    Ok((pair, has(&nodes, WRITTEN[index])))
-}
 
 #[test]
 fn what_is_written_through_an_item_stays(rt: HostRuntime) -> Result<(), Fail> {
-    equal!(rt; writes_at_end(rt.alloc(), false)?, ((3, 30), true));
-    equal!(rt; writes_at_end(rt.alloc(), true)?, ((1, 10), true));
-    for (index, pair) in [(0, (3, 30)), (1, (2, 20)), (2, (1, 10))] {
-        for back in [false, true] {
-            equal!(rt; written_at(rt.alloc(), index, back)?, (pair, true), (index, back));
-        }
+    for (at, pair, pairs) in WRITTEN {
+        equal!(rt; writes(rt.alloc(), *at, pairs)?, (*pair, true), *at);
     }
     Ok(())
 }
 
-/// What is written at a place that there is.
-fn written_at(alloc: Global, index: usize, back: bool) -> Result<((u64, u64), bool), &'static str> {
-    if index < 3 {
-        writes_at(alloc, index, back)
-    } else {
-        Err("there are three pairs")
-    }
+/// The pair that is found, and whether the pairs are these where its value is 7 then.
+fn writes(alloc: Global, at: At, pairs: &[(u64, u64)]) -> Result<((u64, u64), bool), &'static str> {
+    let mut nodes = three(alloc)?;
+    let pair = match at {
+        At::Front => overwritten(nodes.front_item()),
+        At::Back => overwritten(nodes.back_item()),
+        At::FromFront(index) => overwritten(nodes.item_at(index.min(2))),
+        At::FromBack(index) => overwritten(nodes.item_at_back(index.min(2))),
+    };
+    Ok((pair, has(&nodes, pairs)))
 }
 
 #[test]
 #[tactic(auto, using(crate::proofs::Distinct::distinct_pairs))]
 fn the_value_of_a_key_is_lent(rt: HostRuntime) -> Result<(), Fail> {
     let mut nodes = three(rt.alloc())?;
-    assert!(rt; nodes.get_mut(nodes.hash(&4), &4).is_none());
-    let value = nodes.get_mut(nodes.hash(&2), &2).ok_or("a key is held")?;
-    *value += 1;
-    equal!(rt; has(&nodes, &[(3, 30), (2, 21), (1, 10)]), true);
+    let none = nodes.get_mut(nodes.hash(&4), &4).is_none();
+    if let Some(value) = nodes.get_mut(nodes.hash(&2), &2) {
+        *value += 1;
+    }
+    equal!(rt; none && has(&nodes, &[(3, 30), (2, 21), (1, 10)]), true);
     Ok(())
 }
 
@@ -151,12 +143,11 @@ fn pairs_that_are_not_kept_go(rt: HostRuntime) -> Result<(), Fail> {
     let mut nodes = three(rt.alloc())?;
     let mut total_weight = 60;
     nodes.retain(&mut total_weight, &ByValue, |key, _| *key != 2);
-    equal!(rt; total_weight, 40);
-    equal!(rt; has(&nodes, &[(3, 30), (1, 10)]), true);
+    let kept = has(&nodes, &[(3, 30), (1, 10)]);
     nodes.retain_mut(|key, value| {
         *value /= 10;
         *key != 1
     });
-    equal!(rt; has(&nodes, &[(3, 3)]), true);
+    equal!(rt; (total_weight, kept && has(&nodes, &[(3, 3)])), (40, true));
     Ok(())
 }

@@ -1,14 +1,26 @@
 //! What a cache lends of what it was made with, and what nodes and the allocator that refuses print.
+ghost use Rattle.std.specs.Prelude.{length};
 
 use assertions::{equal, shows};
 use clru::{CLruCache, CLruCacheConfig, DefaultState, WeightScale};
 use clru_fixtures::builders::Hashing;
-use clru_fixtures::scales::ByLength;
 use clru_fixtures::sizes::capacity_of;
 use clru_nodes::{Item, Nodes};
 use ration::Rationed;
 use std::alloc::Global;
 use std::test::Fail;
+
+/// A text weighs its number of bytes.
+#[derive(Clone, Copy)]
+struct ByLength;
+
+impl WeightScale<u64, &'static str> for ByLength {
+    ghost weight = { λ _ _ value. length value.now };
+
+    fn weight(&self, _key: &u64, value: &&'static str) -> usize {
+        value.len()
+    }
+}
 
 type Texts<'a> = CLruCache<u64, &'static str, Hashing, ByLength, &'a Rationed<Global>>;
 

@@ -114,10 +114,11 @@ fn passed_on(page: &Page) -> Load {
 
 #[test]
 fn nothing_is_lost_where_memory_is_refused(rt: HostRuntime) -> Result<(), Fail> {
+    let room = capacity_of(20)?;
     for n in 0..40u64 {
         let heap = Rationed::new(rt.alloc());
         heap.refuse_one_after(n);
-        let (passed, failed) = loads(&heap, capacity_of(20)?);
+        let (passed, failed) = loads(&heap, room);
         equal!(rt;
             (passed.saturating_add(failed), heap.blocks()),
             (heap.refused(), 0),
@@ -129,4 +130,18 @@ fn nothing_is_lost_where_memory_is_refused(rt: HostRuntime) -> Result<(), Fail> 
         }
     }
     Err("each run met a refusal".into())
+}
+
+#[test]
+fn a_hit_by_a_text_makes_no_key(rt: HostRuntime) -> Result<(), Fail> {
+    let heap = Rationed::new(rt.alloc());
+    let cache = CLruCache::with_scale(&heap, capacity_of(20)?, ByBytes);
+    let mut store = Through::new(cache, Pages { heap: &heap });
+    let key = String::from_str(&heap, "a")?;
+    equal!(rt; store.load(key).is_ok(), true);
+
+    let asked = heap.asked();
+    equal!(rt; (store.hit("a"), store.hit("b"), heap.asked()), (true, false, asked));
+    equal!(rt; store.front().is_some(), true);
+    Ok(())
 }

@@ -8,7 +8,7 @@ pub(crate) fn equal<T: PartialEq + Debug + Drop>(rt: &impl Abort, left: T, right
     assert_eq!(rt; left, right);
 }
 
-/// Does the same, and the message of a failure shows `of`.
+/// Returns where the two are equal, and ends the process where they are not, by a message that shows `of`.
 pub(crate) fn equal_of<T: PartialEq + Debug + Drop>(
     rt: &impl Abort,
     left: T,

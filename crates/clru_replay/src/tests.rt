@@ -1,20 +1,40 @@
 // What the program answers for worked inputs.
 mod costs;
-mod devices;
 mod fakes;
 mod faults;
 mod large;
 mod memory;
-mod million;
 
 use crate::fault::{Fault, exit_status, status};
 use crate::program::run;
-use std::alloc::Global;
+use std::alloc::{AllocError, Global};
+use std::fmt::Debug;
+use std::process::Abort;
 use std::test::Fail;
 
 const FOUR: &[u8] = b"2\na\nb\nc\na";
 
 const FOUR_MISSES: &[u8] = b"M\nM\nM\nM\nmisses 4\n";
+
+// Ends the process where the two are not equal, by a message that shows `of`. std's macro is proved wherever it stands, and a
+// call in a fifth of the time.
+fn equal<T: PartialEq + Debug + Drop>(rt: &impl Abort, left: T, right: T, of: impl Debug + Drop) {
+    assert_eq!(rt; left, right, "{of:?}");
+}
+
+// The first text, the second so many times, and the third.
+fn lines(
+    alloc: Global,
+    times: usize,
+    [first, line, last]: [&[u8]; 3],
+) -> Result<Vec<u8>, AllocError> {
+    let mut text = Vec::from_slice(alloc, first)?;
+    for _ in 0..times {
+        text.extend_from_slice(line)?;
+    }
+    text.extend_from_slice(last)?;
+    Ok(text)
+}
 
 // How a run ends, and what it writes.
 fn ran(alloc: Global, input: &[u8]) -> (Result<(), Fault>, Vec<u8>) {
@@ -42,8 +62,7 @@ fn worked_inputs_give_their_reports(rt: HostRuntime) {
     ];
     for (input, report) in rows {
         let (outcome, written) = ran(rt.alloc(), input);
-        assert_eq!(rt; outcome, Ok(()), "at {input:?}");
-        assert_eq!(rt; written.as_slice(), report, "at {input:?}");
+        equal(&rt, (outcome, written.as_slice()), (Ok(()), report), input);
     }
 }
 
@@ -60,8 +79,12 @@ fn a_first_line_that_is_no_capacity_is_a_fault(rt: HostRuntime) {
     ];
     for input in inputs {
         let (outcome, written) = ran(rt.alloc(), input);
-        assert_eq!(rt; outcome, Err(Fault::BadCapacity), "at {input:?}");
-        assert!(rt; written.is_empty(), "at {input:?}");
+        equal(
+            &rt,
+            (outcome, written.len()),
+            (Err(Fault::BadCapacity), 0),
+            input,
+        );
     }
 }
 
@@ -74,36 +97,36 @@ fn each_fault_has_its_status(rt: HostRuntime) {
         (Fault::Writing, 5),
     ];
     for (fault, number) in rows {
-        assert_eq!(rt; status(&fault), number, "at {fault:?}");
-        assert_eq!(rt; exit_status(&Err(fault)), number, "at {fault:?}");
+        equal(
+            &rt,
+            (status(&fault), exit_status(&Err(fault))),
+            (number, number),
+            number,
+        );
     }
-    assert_eq!(rt; exit_status(&Ok(())), 0);
+    equal(&rt, exit_status(&Ok(())), 0, "no fault");
 }
 
 // A capacity, and then 1,000 requests that go round four keys.
-fn round_of_four(alloc: Global, capacity: &[u8]) -> Result<Vec<u8>, Fail> {
-    let mut input = Vec::from_slice(alloc, capacity)?;
-    for _ in 0..250 {
-        input.extend_from_slice(b"\na\nb\nc\nd")?;
-    }
-    Ok(input)
+fn round_of_four(alloc: Global, capacity: &[u8]) -> Result<Vec<u8>, AllocError> {
+    lines(alloc, 250, [capacity, b"\na\nb\nc\nd", b""])
 }
 
 #[test]
 fn a_round_of_four_keys_hits_with_room_for_four_alone(rt: HostRuntime) -> Result<(), Fail> {
     let rows = [
-        (b"3", 1000, b"misses 1000\n".as_slice()),
-        (b"4", 4, b"misses 4\n".as_slice()),
+        (b"3", b"M\n", b"misses 1000\n".as_slice()),
+        (b"4", b"H\n", b"misses 4\n".as_slice()),
     ];
-    for (capacity, misses, last) in rows {
+    for (capacity, line, last) in rows {
         let (outcome, written) = ran(rt.alloc(), &round_of_four(rt.alloc(), capacity)?);
-        let mut report = Vec::new(rt.alloc());
-        for at in 0..1000 {
-            report.extend_from_slice(if at < misses { b"M\n" } else { b"H\n" })?;
-        }
-        report.extend_from_slice(last)?;
-        assert_eq!(rt; outcome, Ok(()));
-        assert_eq!(rt; written.as_slice(), report.as_slice());
+        let report = lines(rt.alloc(), 996, [b"M\nM\nM\nM\n", line, last])?;
+        equal(
+            &rt,
+            (outcome, written.as_slice()),
+            (Ok(()), report.as_slice()),
+            capacity,
+        );
     }
     Ok(())
 }

@@ -1,127 +1,136 @@
 //! The calls that a cache with any scale has.
 
-use crate::cache::{Made, Of};
+use crate::cache::Made;
 use crate::closures::Keep;
+use crate::out::Out;
 use crate::pairs::{Key, Value};
-use crate::words::{Words, Wrong, end, next_number, yes};
+use crate::words::{Words, Wrong};
 use crate::world::World;
-use clru::{NonZeroUsize, PutError, WeightScale};
-use std::alloc::AllocError;
+use clru::{CLruCacheIter, PutError, WeightScale};
+use ration::Rationed;
+use std::alloc::Global;
 
-/// Writes a value, or that there is none.
-pub(crate) fn write_value(value: Option<&Value>, out: &mut String) -> Result<(), AllocError> {
+/// A walk over pairs.
+type Walk<'c, 'a> = CLruCacheIter<'c, Key<'a>, Value<'a>, &'a Rationed<Global>>;
+
+/// Says a value, or that there is none.
+pub(crate) fn say_value(value: Option<&Value>, out: &mut Out) {
     match value {
-        Some(value) => out.push_str(&value.text),
-        None => out.push_str("none"),
+        Some(value) => out.say(&value.text),
+        None => out.say("none"),
     }
 }
 
-/// Writes a pair.
-pub(crate) fn write_pair(key: &Key, value: &Value, out: &mut String) -> Result<(), AllocError> {
-    out.push_str(&key.text)?;
-    out.push(' ')?;
-    out.push_str(&value.text)
+/// Says a pair.
+pub(crate) fn say_pair(key: &Key, value: &Value, out: &mut Out) {
+    out.say(&key.text);
+    out.say(" ");
+    out.say(&value.text);
 }
 
-/// Writes a pair, or that there is none.
-pub(crate) fn write_found(
-    pair: Option<(&Key, &Value)>,
-    out: &mut String,
-) -> Result<(), AllocError> {
+/// Says a pair, or that there is none.
+pub(crate) fn say_found(pair: Option<(&Key, &Value)>, out: &mut Out) {
     match pair {
-        Some((key, value)) => write_pair(key, value, out),
-        None => out.push_str("none"),
+        Some((key, value)) => say_pair(key, value, out),
+        None => out.say("none"),
     }
 }
 
-/// Writes a pair that was taken out, or that there is none.
-fn write_taken(pair: &Option<(Key, Value)>, out: &mut String) -> Result<(), AllocError> {
+/// Says a pair that was taken out, or that there is none.
+fn say_taken(pair: &Option<(Key, Value)>, out: &mut Out) {
     match pair {
-        Some((key, value)) => write_pair(key, value, out),
-        None => out.push_str("none"),
+        Some((key, value)) => say_pair(key, value, out),
+        None => out.say("none"),
     }
 }
 
 /// Makes a call that changes nothing. Answers `false` where the name is none of these.
 pub(crate) fn read<'a, W: WeightScale<Key<'a>, Value<'a>>>(
     cache: &Made<'a, W>,
-    of: Of<'a>,
+    world: &'a World,
     name: &str,
     words: &mut Words,
-    out: &mut String,
-) -> Result<bool, Wrong> {
+    out: &mut Out,
+) -> bool {
     match name {
-        "peek" => {
-            let key = of.key(words)?;
-            write_value(cache.peek(&key), out)?;
-        }
-        "contains" => {
-            let key = of.key(words)?;
-            out.push_str(yes(cache.contains(&key)))?;
-        }
-        "len" => write!(out, "{}", cache.len())?,
-        "weight" => write!(out, "{}", cache.weight())?,
-        "capacity" => write!(out, "{}", cache.capacity())?,
-        "is_empty" => out.push_str(yes(cache.is_empty()))?,
-        "is_full" => out.push_str(yes(cache.is_full()))?,
-        "front" => write_found(cache.front(), out)?,
-        "back" => write_found(cache.back(), out)?,
-        "list" => write_list(cache, out)?,
-        "iter" => walk(cache, words, out)?,
-        _ => return Ok(false),
+        "peek" => say_value(cache.peek(&Key::next(world, words)), out),
+        "contains" => out.truth(cache.contains(&Key::next(world, words))),
+        "front" => say_found(cache.front(), out),
+        "back" => say_found(cache.back(), out),
+        "list" => say_list(cache.iter(), out),
+        "iter" => walk(cache.iter(), words, out),
+        "is_empty" => out.truth(cache.is_empty()),
+        "is_full" => out.truth(cache.is_full()),
+        _ => match count_of(cache, name) {
+            Some(count) => out.number(count),
+            None => return false,
+        },
     }
-    end(words)?;
-    Ok(true)
+    true
 }
 
-/// Writes the pairs, the most recently used first.
-fn write_list<'a, W: WeightScale<Key<'a>, Value<'a>>>(
+/// What a call of the whole cache counts, or `None` where the name is none of these.
+fn count_of<'a, W: WeightScale<Key<'a>, Value<'a>>>(
     cache: &Made<'a, W>,
-    out: &mut String,
-) -> Result<(), AllocError> {
-    for (key, value) in cache {
-        if !out.is_empty() {
-            out.push_str(", ")?;
-        }
-        write_pair(key, value, out)?;
+    name: &str,
+) -> Option<usize> {
+    match name {
+        "len" => Some(cache.len()),
+        "weight" => Some(cache.weight()),
+        "capacity" => Some(cache.capacity()),
+        _ => None,
     }
-    if out.is_empty() {
-        out.push_str("nothing")?;
+}
+
+/// Says the pairs, the most recently used first.
+fn say_list(walk: Walk, out: &mut Out) {
+    for (key, value) in walk {
+        out.part(", ");
+        say_pair(key, value, out);
     }
-    Ok(())
+    out.or("nothing");
 }
 
 /// Steps of one iterator, in turn: `next`, `next_back`, `nth N`, `len`, `size_hint`, `count`, and `clone`, which goes on with a
 /// copy.
-fn walk<'a, W: WeightScale<Key<'a>, Value<'a>>>(
-    cache: &Made<'a, W>,
-    words: &mut Words,
-    out: &mut String,
-) -> Result<(), Wrong> {
-    let mut walk = cache.iter();
+fn walk(mut walk: Walk, words: &mut Words, out: &mut Out) {
     for _ in 0..usize::MAX {
         let Some(step) = words.next() else {
             break;
         };
-        if !out.is_empty() {
-            out.push_str("; ")?;
-        }
+        out.part("; ");
         match step {
-            "next" => write_found(walk.next(), out)?,
-            "next_back" => write_found(walk.next_back(), out)?,
-            "nth" => write_found(walk.nth(next_number(words)?), out)?,
-            "nth_back" => write_found(walk.nth_back(next_number(words)?), out)?,
-            "len" => write!(out, "{}", walk.len())?,
-            "count" => write!(out, "{}", walk.clone()?.count())?,
-            "size_hint" => write!(out, "{:?}", walk.size_hint())?,
-            "clone" => {
-                walk = walk.clone()?;
-                out.push_str("done")?;
+            "next" => say_found(walk.next(), out),
+            "next_back" => say_found(walk.next_back(), out),
+            "nth" => say_found(walk.nth(words.number()), out),
+            "nth_back" => say_found(walk.nth_back(words.number()), out),
+            "len" => out.number(walk.len()),
+            "size_hint" => say_hint(walk.size_hint(), out),
+            "count" | "clone" => {
+                if let Ok(copy) = walk.clone() {
+                    if step == "count" {
+                        out.number(copy.count());
+                    } else {
+                        walk = copy;
+                        out.say("done");
+                    }
+                }
             }
-            _ => return Err(Wrong::NoSuchWord),
+            _ => words.note(Wrong::NoSuchWord),
         }
     }
-    Ok(())
+}
+
+/// Says how many steps are left at least and at most.
+pub(crate) fn say_hint(hint: (usize, Option<usize>), out: &mut Out) {
+    out.count("(", hint.0);
+    match hint.1 {
+        Some(most) => {
+            out.count(", Some(", most);
+            out.say("))");
+        }
+        None => out.say(", None)"),
+    }
 }
 
 /// Gives a cache up for its pairs, and takes steps of that iterator, in turn: `next`, `next_back`, `len`, `size_hint`. Those that
@@ -129,102 +138,66 @@ fn walk<'a, W: WeightScale<Key<'a>, Value<'a>>>(
 pub(crate) fn walk_owned<'a, W: WeightScale<Key<'a>, Value<'a>> + Drop>(
     cache: Made<'a, W>,
     words: &mut Words,
-    out: &mut String,
-) -> Result<(), Wrong> {
-    let count = words.clone()?.count();
+    out: &mut Out,
+) {
     let mut walk = cache.into_iter();
-    for _ in 0..count {
+    for _ in 0..usize::MAX {
         let Some(step) = words.next() else {
             break;
         };
-        if !out.is_empty() {
-            out.push_str("; ")?;
+        out.part("; ");
+        match step {
+            "len" => out.number(walk.len()),
+            "size_hint" => say_hint(walk.size_hint(), out),
+            "next" => say_taken(&walk.next(), out),
+            "next_back" => say_taken(&walk.next_back(), out),
+            _ => words.note(Wrong::NoSuchWord),
         }
-        let pair = match step {
-            "len" => {
-                write!(out, "{}", walk.len())?;
-                continue;
-            }
-            "size_hint" => {
-                write!(out, "{:?}", walk.size_hint())?;
-                continue;
-            }
-            "next" => walk.next(),
-            "next_back" => walk.next_back(),
-            _ => return Err(Wrong::NoSuchWord),
-        };
-        write_taken(&pair, out)?;
     }
-    if out.is_empty() {
-        out.push_str("done")?;
-    }
-    Ok(())
+    out.or("done");
 }
 
 /// Makes a call that may change the cache. Answers `false` where the name is none of these.
 pub(crate) fn change<'a, W: WeightScale<Key<'a>, Value<'a>>>(
     cache: &mut Made<'a, W>,
-    of: Of<'a>,
+    world: &'a World,
     name: &str,
     words: &mut Words,
-    out: &mut String,
-) -> Result<bool, Wrong> {
+    out: &mut Out,
+) -> bool {
     match name {
-        "put_with_weight" | "put_with_weight_handing_to" => {
-            let (key, value) = (of.key(words)?, of.value(words)?);
-            put(cache, of.world, name == "put_with_weight", key, value, out)?;
-        }
-        "get" => {
-            let key = of.key(words)?;
-            write_value(cache.get(&key), out)?;
-        }
-        "pop" => {
-            let key = of.key(words)?;
-            let value = cache.pop(&key);
-            write_value(value.as_ref(), out)?;
-        }
-        "pop_front" => {
-            let pair = cache.pop_front();
-            write_taken(&pair, out)?;
-        }
-        "pop_back" => {
-            let pair = cache.pop_back();
-            write_taken(&pair, out)?;
-        }
+        "put_with_weight" => put(cache, world, true, words, out),
+        "put_with_weight_handing_to" => put(cache, world, false, words, out),
+        "get" => say_value(cache.get(&Key::next(world, words)), out),
+        "pop" => say_value(cache.pop(&Key::next(world, words)).as_ref(), out),
+        "pop_front" => say_taken(&cache.pop_front(), out),
+        "pop_back" => say_taken(&cache.pop_back(), out),
         "clear" => cache.clear(),
-        "resize" => {
-            let Some(capacity) = NonZeroUsize::new(next_number(words)?) else {
-                return Err(Wrong::NoCapacity);
-            };
-            cache.resize(capacity);
-        }
+        "resize" => cache.resize(words.capacity()),
         "retain" => {
-            let (keep, world) = (Keep::read(words)?, of.world);
+            let keep = Keep::read(words);
             cache.retain(|key, value| keep.asked(world, key, value));
         }
-        _ => return Ok(false),
+        _ => return false,
     }
-    end(words)?;
-    if out.is_empty() {
-        out.push_str("done")?;
-    }
-    Ok(true)
+    out.or("done");
+    true
 }
 
 /// A put by weight, whose closure notes what it is handed.
-fn put<'a, W: WeightScale<Key<'a>, Value<'a>>>(
+pub(crate) fn put<'a, W: WeightScale<Key<'a>, Value<'a>>>(
     cache: &mut Made<'a, W>,
     world: &'a World,
     by_value: bool,
-    key: Key<'a>,
-    value: Value<'a>,
-    out: &mut String,
-) -> Result<(), AllocError> {
-    let mut dropped = String::new(world.alloc);
+    words: &mut Words,
+    out: &mut Out,
+) {
+    let (key, value) = (Key::next(world, words), Value::next(world, words));
+    let mut dropped = Out::new(world.alloc);
     let mut note = |key: Key, value: Value| {
         world.note("on_drop", &key.text);
-        let _ = dropped.push_str(", dropped ");
-        let _ = write_pair(&key, &value, &mut dropped);
+        dropped.say(", dropped ");
+        say_pair(&key, &value, &mut dropped);
     };
     let put = if by_value {
         cache.put_with_weight(key, value, note)
@@ -233,25 +206,27 @@ fn put<'a, W: WeightScale<Key<'a>, Value<'a>>>(
     };
     world.note("answered", "");
     match &put {
-        Ok(replaced) => write_stored(replaced.as_ref(), out)?,
+        Ok(replaced) => say_stored(replaced.as_ref(), out),
         Err(PutError::TooHeavy(key, value)) => {
-            out.push_str("too heavy, back ")?;
-            write_pair(key, value, out)?;
+            out.say("too heavy, back ");
+            say_pair(key, value, out);
         }
-        Err(PutError::NoMemory(key, value)) => {
-            out.push_str("no memory, back ")?;
-            write_pair(key, value, out)?;
-        }
+        Err(PutError::NoMemory(key, value)) => say_back(key, value, out),
     }
-    out.push_str(&dropped)
+    out.say(&dropped.text);
 }
 
-/// Writes that a pair was stored, and the old value of its key.
-pub(crate) fn write_stored(replaced: Option<&Value>, out: &mut String) -> Result<(), AllocError> {
-    out.push_str("stored")?;
+/// Says that a pair was stored, and the old value of its key.
+pub(crate) fn say_stored(replaced: Option<&Value>, out: &mut Out) {
+    out.say("stored");
     if let Some(value) = replaced {
-        out.push_str(", replaced ")?;
-        out.push_str(&value.text)?;
+        out.say(", replaced ");
+        out.say(&value.text);
     }
-    Ok(())
+}
+
+/// Says that memory was refused, and what came back.
+pub(crate) fn say_back(key: &Key, value: &Value, out: &mut Out) {
+    out.say("no memory, back ");
+    say_pair(key, value, out);
 }

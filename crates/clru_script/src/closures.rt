@@ -1,7 +1,7 @@
 //! The closures that a line can name. Each notes its calls in the world.
 
 use crate::pairs::{Key, Value};
-use crate::words::{Words, Wrong, next, next_number};
+use crate::words::{Words, Wrong};
 use crate::world::World;
 
 /// Which entries a retain keeps.
@@ -16,13 +16,16 @@ pub(crate) enum Keep {
 }
 
 impl Keep {
-    pub(crate) fn read(words: &mut Words) -> Result<Keep, Wrong> {
-        match next(words)? {
-            "all" => Ok(Keep::All),
-            "none" => Ok(Keep::None),
-            "even" => Ok(Keep::Even),
-            "below" => Ok(Keep::Below(next_number(words)?)),
-            _ => Err(Wrong::NoSuchWord),
+    pub(crate) fn read(words: &mut Words) -> Keep {
+        match words.word() {
+            "all" => Keep::All,
+            "none" => Keep::None,
+            "even" => Keep::Even,
+            "below" => Keep::Below(words.number()),
+            _ => {
+                words.note(Wrong::NoSuchWord);
+                Keep::All
+            }
         }
     }
 
@@ -44,7 +47,7 @@ impl Keep {
 }
 
 /// What the closures of a put-or-modify do.
-#[derive(Clone, Copy, PartialEq)]
+#[derive(Clone, Copy)]
 pub(crate) enum Form {
     /// The data are the value, of a held key too.
     Store,
@@ -61,15 +64,18 @@ pub(crate) enum Form {
 }
 
 impl Form {
-    pub(crate) fn read(words: &mut Words) -> Result<Form, Wrong> {
-        match words.next() {
-            None | Some("store") => Ok(Form::Store),
-            Some("add") => Ok(Form::Add),
-            Some("length") => Ok(Form::Length),
-            Some("fails") => Ok(Form::Fails),
-            Some("write-fails") => Ok(Form::WriteFails),
-            Some("odd-fails") => Ok(Form::OddFails),
-            Some(_) => Err(Wrong::NoSuchWord),
+    pub(crate) fn read(words: &mut Words) -> Form {
+        match words.next().unwrap_or("store") {
+            "store" => Form::Store,
+            "add" => Form::Add,
+            "length" => Form::Length,
+            "fails" => Form::Fails,
+            "write-fails" => Form::WriteFails,
+            "odd-fails" => Form::OddFails,
+            _ => {
+                words.note(Wrong::NoSuchWord);
+                Form::Store
+            }
         }
     }
 
@@ -77,26 +83,27 @@ impl Form {
     pub(crate) fn put<'a>(self, world: &World, key: &Key, data: Value<'a>) -> Value<'a> {
         world.note("put_op", &key.text);
         let mut value = data;
-        if self == Form::Length {
+        if let Form::Length = self {
             value.set(value.number().saturating_add(key.text.len()));
         }
         value
     }
 
-    /// The number that becomes of a held value, or `None` where the data take its place.
-    pub(crate) fn changed(self, key: &Key, old: usize, data: usize) -> Option<usize> {
+    /// What becomes of a held value.
+    pub(crate) fn modify(self, world: &World, key: &Key, held: &mut Value, data: &Value) {
+        world.note("modify_op", &key.text);
+        self.write(key, held, data);
+    }
+
+    fn write(self, key: &Key, held: &mut Value, data: &Value) {
+        let (old, more) = (held.number(), data.number());
         match self {
-            Form::Add => Some(old.saturating_add(data)),
-            Form::Length => {
-                let is_length = old == key.text.len();
-                let new = if is_length {
-                    old.saturating_mul(2)
-                } else {
-                    old / 2
-                };
-                Some(new.saturating_add(data))
+            Form::Add => held.set(old.saturating_add(more)),
+            Form::Length if old == key.text.len() => {
+                held.set(old.saturating_mul(2).saturating_add(more));
             }
-            _ => None,
+            Form::Length => held.set((old / 2).saturating_add(more)),
+            _ => held.copy(data),
         }
     }
 
@@ -114,8 +121,28 @@ impl Form {
         Ok(self.put(world, key, data))
     }
 
+    /// What becomes of a held value, and whether the closure fails.
+    pub(crate) fn try_modify(
+        self,
+        world: &World,
+        key: &Key,
+        held: &mut Value,
+        data: &Value,
+    ) -> Result<(), Failed> {
+        world.note("modify_op", &key.text);
+        let fails = self.fails(data);
+        if !fails {
+            self.write(key, held, data);
+            return Ok(());
+        }
+        if let Form::WriteFails = self {
+            held.copy(data);
+        }
+        Err(Failed)
+    }
+
     /// Whether the closures fail at these data.
-    pub(crate) fn fails(self, data: &Value) -> bool {
+    fn fails(self, data: &Value) -> bool {
         match self {
             Form::Fails | Form::WriteFails => true,
             Form::OddFails => data.number() % 2 == 1,
@@ -125,5 +152,5 @@ impl Form {
 }
 
 /// The error of a closure that fails.
-#[derive(Clone, Copy, Debug, PartialEq)]
+#[derive(Clone, Copy)]
 pub(crate) struct Failed;

@@ -1,79 +1,53 @@
 //! Blocks of costs: each line is a call of a cache of its own, and what it costs is the answer.
 
-use crate::cache::{Cache, Made, Of, made};
-use crate::head::{Hash, Head};
+use crate::answers::Answers;
+use crate::cache::filled;
+use crate::fault::say_fault;
 use crate::lines::Line;
-use crate::pairs::{Scale, Weigh};
-use crate::subject::{Answers, Refusal, Subject, make, write_cost};
+use crate::out::Out;
+use crate::pairs::Scale;
+use crate::subject::{Subject, make, say_cost};
 use crate::words::Wrong;
 use crate::world::World;
 use clru::ZeroWeightScale;
 
 /// Runs a block.
-pub(crate) fn run(
-    world: &World,
-    first: &Line,
-    lines: &[Line],
-    hash: Hash,
-    _refusal: &mut Refusal,
-) -> Result<Answers, Wrong> {
-    let (head, _items) = Head::read(first.call)?;
-    let of = Of { world, head, hash };
-    let mut answers = Vec::new(world.alloc);
-    answers.push(String::new(world.alloc))?;
+pub(crate) fn run(world: &World, lines: &[Line], answers: &mut Answers) {
+    answers.say("");
     for line in lines {
-        let answer = if line.call.is_empty() {
-            String::new(world.alloc)
-        } else if head.weigh == Weigh::Nothing {
-            cost_of(
-                world,
-                Cache {
-                    of,
-                    cache: held(made(of, ZeroWeightScale)?)?,
-                },
-                line,
-            )?
+        if line.call.is_empty() {
+            answers.say("");
+        } else if world.head.weighs {
+            let on = filled(world, Scale { world }, answers);
+            cost_of(world, on, line, answers);
         } else {
-            cost_of(
-                world,
-                Cache {
-                    of,
-                    cache: held(made(of, Scale { world })?)?,
-                },
-                line,
-            )?
-        };
-        answers.push(answer)?;
+            let on = filled(world, ZeroWeightScale, answers);
+            cost_of(world, on, line, answers);
+        }
     }
-    Ok(answers)
-}
-
-/// A cache for which there was memory.
-fn held<C: Drop>(cache: Option<C>) -> Result<C, Wrong> {
-    cache.ok_or(Wrong::NotFilled)
 }
 
 /// What the call of a line costs, and what is wrong after it.
 pub(crate) fn cost_of<T: Subject + Drop>(
     world: &World,
-    mut on: T,
+    made: Option<T>,
     line: &Line,
-) -> Result<String, Wrong> {
-    let mut answer = String::new(world.alloc);
+    answers: &mut Answers,
+) {
+    let Some(mut on) = made else {
+        answers.wrong = Some(Wrong::NotFilled);
+        return;
+    };
+    let mut out = Out::new(world.alloc);
     let before = world.cost();
-    make(&mut on, line, &mut answer)?;
+    make(&mut on, line, &mut out);
     let cost = world.cost().since(before);
-    if answer.starts_with("? ") {
-        return Ok(answer);
-    }
-    answer.clear();
-    write_cost(cost, &mut answer)?;
-    if let Some(fault) = on.fault() {
-        write!(&mut answer, "; ? {fault}")?;
+    if !out.text.starts_with("? ") {
+        out.clear();
+        say_cost(cost, &mut out);
+        say_fault(on.fault(), &mut out);
     }
     drop(on);
-    if world.heap.blocks() != 0 || world.owned.blocks() != 0 {
-        answer.push_str("; ? memory is left over")?;
-    }
-    Ok(answer)
+    answers.add(out);
+    answers.say_left_over(world);
 }

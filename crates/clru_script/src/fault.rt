@@ -1,9 +1,9 @@
 //! What is wrong with what a script calls, where something is: no contract would let it be so.
 
-use std::fmt;
+use crate::out::Out;
 
 /// What a look after a call found.
-#[derive(Clone, Copy, Debug, PartialEq)]
+#[derive(Clone, Copy)]
 pub(crate) enum Fault {
     Blocks,
     Size,
@@ -11,13 +11,13 @@ pub(crate) enum Fault {
     Walk,
 }
 
-impl fmt::Display for Fault {
-    fn fmt<W: fmt::Write>(&self, f: &mut fmt::Formatter<W>) -> fmt::Result {
-        f.write_str(match self {
-            Fault::Blocks => "pairs are forgotten, or go too early",
-            Fault::Size => "the size is above the capacity",
-            Fault::LookUp => "a key of the walk is not found",
-            Fault::Walk => "the walks from both ends differ",
-        })
-    }
+/// Says what is wrong behind an answer, where something is.
+pub(crate) fn say_fault(fault: Option<Fault>, out: &mut Out) {
+    out.say(match fault {
+        Some(Fault::Blocks) => "; ? pairs are forgotten, or go too early",
+        Some(Fault::Size) => "; ? the size is above the capacity",
+        Some(Fault::LookUp) => "; ? a key of the walk is not found",
+        Some(Fault::Walk) => "; ? the walks from both ends differ",
+        None => "",
+    });
 }

@@ -1,86 +1,51 @@
-//! The first line of a block of cache calls: what the cache is made of.
+//! The first line of a block: what its subject is made of.
 
-use crate::pairs::Weigh;
-use crate::words::{Words, Wrong, next, next_number};
+use crate::words::{Words, Wrong, number_of};
 
-/// Which hashes a block is run under.
-#[derive(Clone, Copy, PartialEq)]
+/// std's hashes, or the first or the last number as the hash of all keys.
+#[derive(Clone, Copy)]
 pub(crate) enum Hash {
-    /// std's alone.
     Std,
-    /// All keys have the first number as their hash, or
     First,
-    /// the last one.
     Last,
-    /// Under each of these, which have to answer alike.
-    Each,
 }
 
 impl Hash {
-    /// The one whose answers are written.
-    pub(crate) fn first(self) -> Hash {
-        match self {
-            Hash::Each => Hash::Std,
-            one => one,
-        }
-    }
-
     /// The hash of all keys, where it is one.
     pub(crate) fn fixed(self) -> Option<u64> {
         match self {
+            Hash::Std => None,
             Hash::First => Some(0),
             Hash::Last => Some(u64::MAX),
-            Hash::Std | Hash::Each => None,
-        }
-    }
-
-    pub(crate) fn name(self) -> &'static str {
-        match self {
-            Hash::Std => "hash std",
-            Hash::First => "hash first",
-            Hash::Last => "hash last",
-            Hash::Each => "hash each",
-        }
-    }
-
-    fn named(name: &str) -> Result<Hash, Wrong> {
-        match name {
-            "std" => Ok(Hash::Std),
-            "first" => Ok(Hash::First),
-            "last" => Ok(Hash::Last),
-            "each" => Ok(Hash::Each),
-            _ => Err(Wrong::NoSuchWord),
         }
     }
 }
 
-/// The hashes that a first line asks for: each, where it names none. A list has none, and nodes have std's.
-pub(crate) fn hash_of(call: &str) -> Result<Hash, Wrong> {
-    let mut words = call.split_whitespace();
-    if let Some("list" | "nodes") = words.next() {
-        return Ok(Hash::Std);
-    }
-    for _ in 0..call.len() {
-        match words.next() {
-            Some("hash") => return Hash::named(next(&mut words)?),
-            Some(_) => {}
-            None => break,
-        }
-    }
-    Ok(Hash::Each)
-}
-
-/// What a cache is made of.
+/// What a first line asks for, of which each kind of block takes what it knows.
 #[derive(Clone, Copy)]
 pub(crate) struct Head {
     pub(crate) capacity: usize,
-    pub(crate) reserve: usize,
-    pub(crate) weigh: Weigh,
+    /// The places that there is memory for from the start.
+    pub(crate) reserve: Option<usize>,
+    /// The places up to which links take 4 bytes.
+    pub(crate) limit: Option<usize>,
+    /// The requests of the maker that pass before all are refused.
+    pub(crate) refuse: Option<usize>,
+    /// Whether values weigh something, and
+    pub(crate) weighs: bool,
+    /// whether that is the number that they are, and not their letters.
+    pub(crate) by_number: bool,
     /// Whether letters of either case are equal.
     pub(crate) folded: bool,
     /// How many entries it holds at first: the keys 0, 1, .. in this order, each with itself as its value, or with 0 where values
     /// weigh something.
     pub(crate) filled: usize,
+    /// How many calls are drawn, of how many caches, from where on.
+    pub(crate) calls: usize,
+    pub(crate) caches: usize,
+    pub(crate) seed: usize,
+    /// The hash that it names, or `None` where the block is run under each of them.
+    pub(crate) hash: Option<Hash>,
 }
 
 impl Head {
@@ -88,50 +53,82 @@ impl Head {
     pub(crate) fn empty() -> Head {
         Head {
             capacity: 0,
-            reserve: 0,
-            weigh: Weigh::Nothing,
+            reserve: None,
+            limit: None,
+            refuse: None,
+            weighs: false,
+            by_number: false,
             folded: false,
             filled: 0,
+            calls: 0,
+            caches: 1,
+            seed: 1,
+            hash: None,
         }
     }
 
-    /// Reads what follows the name: `capacity N`, and in any order `reserve N`, `weigh length`, `weigh number`, `fold`,
-    /// `fill N` and `hash NAME`.
-    /// A word `from_iter` is the last one: behind it stand the items.
-    pub(crate) fn read<'s>(call: &'s str) -> Result<(Head, Option<Words<'s>>), Wrong> {
-        let mut words = call.split_whitespace();
-        let _name = words.next();
+    /// Reads what follows the name, in any order. A word `from_iter` is the last one: behind it stand the items. A block of
+    /// requests, or of an input, says nothing but its hash.
+    pub(crate) fn read(words: &mut Words, name: &str) -> Head {
         let mut head = Head::empty();
-        for _ in 0..call.len() {
-            let Some(word) = words.next() else {
-                break;
-            };
-            if word == "from_iter" {
-                return Ok((head, Some(words)));
+        let asks = [
+            "cache",
+            "costs",
+            "list",
+            "nodes",
+            "store",
+            "store_costs",
+            "drawn",
+            "runs",
+        ]
+        .contains(&name);
+        for _ in 0..usize::MAX {
+            match words.next() {
+                Some("from_iter") | None => break,
+                Some("hash") => head.hash = hash_of(words),
+                Some(word) if asks => head.take(word, words),
+                Some(_) => {}
             }
-            head.take(word, &mut words)?;
         }
-        Ok((head, None))
+        if name == "list" || name == "nodes" {
+            head.hash = Some(Hash::Std);
+        }
+        head
     }
 
-    fn take(&mut self, word: &str, words: &mut Words) -> Result<(), Wrong> {
+    fn take(&mut self, word: &str, words: &mut Words) {
         match word {
-            "capacity" => self.capacity = next_number(words)?,
-            "reserve" => self.reserve = next_number(words)?,
-            "fill" => self.filled = next_number(words)?,
+            "capacity" => self.capacity = words.number(),
+            "reserve" => self.reserve = Some(words.number()),
+            "limit" => self.limit = Some(words.number()),
+            "refuse" => self.refuse = Some(words.number()),
+            "fill" => self.filled = words.number(),
             "fold" => self.folded = true,
-            "hash" => {
-                let _hash = Hash::named(next(words)?)?;
-            }
+            "seed" => self.seed = words.number(),
+            "caches" => self.caches = words.number(),
             "weigh" => {
-                self.weigh = match next(words)? {
-                    "length" => Weigh::Length,
-                    "number" => Weigh::Number,
-                    _ => return Err(Wrong::NoSuchWord),
-                };
+                self.weighs = true;
+                self.by_number = words.passes("number");
+                if !self.by_number && !words.passes("length") {
+                    words.note(Wrong::NoSuchWord);
+                }
             }
-            _ => return Err(Wrong::NoSuchWord),
+            _ => match number_of(word) {
+                Some(calls) => self.calls = calls,
+                None => words.note(Wrong::NoSuchWord),
+            },
         }
-        Ok(())
     }
+}
+
+/// The hash of that name, or `None` for `each`.
+fn hash_of(words: &mut Words) -> Option<Hash> {
+    match words.word() {
+        "std" => return Some(Hash::Std),
+        "first" => return Some(Hash::First),
+        "last" => return Some(Hash::Last),
+        "each" => {}
+        _ => words.note(Wrong::NoSuchWord),
+    }
+    None
 }

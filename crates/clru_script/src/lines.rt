@@ -1,10 +1,10 @@
 //! A script as lines: what stands before the arrow, and the call in it.
 
+use crate::words::Words;
 use std::alloc::{AllocError, Global};
-use std::mem;
 
 /// A line of a script, without its answer.
-#[derive(Clone, Copy, Drop)]
+#[derive(Clone, Copy)]
 pub(crate) struct Line<'s> {
     /// What is written again, up to the arrow, and
     pub(crate) text: &'s str,
@@ -13,9 +13,6 @@ pub(crate) struct Line<'s> {
     /// The call, without the comment. It is empty where the line has none.
     pub(crate) call: &'s str,
 }
-
-/// Where the answer begins in a line that has none yet.
-pub(crate) const COLUMN: usize = 34;
 
 /// What begins a block of lines.
 const SUBJECTS: [&str; 17] = [
@@ -49,10 +46,7 @@ impl<'s> Line<'s> {
         if kept.is_empty() && width.is_some() {
             return None;
         }
-        let call = match before.split_once("#") {
-            Some((call, _)) => call,
-            None => before,
-        };
+        let (call, _) = before.split_once("#").unwrap_or((before, ""));
         Some(Line {
             text: kept,
             width,
@@ -62,30 +56,27 @@ impl<'s> Line<'s> {
 
     /// The first word of the call.
     pub(crate) fn name(&self) -> &'s str {
-        self.call.split_whitespace().next().unwrap_or("")
-    }
-
-    /// Whether a block begins here. `list` alone is a call.
-    pub(crate) fn begins(&self) -> bool {
-        SUBJECTS.contains(&self.name()) && self.call != "list"
+        Words::new(self.call).next().unwrap_or("")
     }
 }
 
-/// The lines of a script, block by block. What stands before the first block is one too.
-pub(crate) fn blocks_of<'s>(
-    alloc: Global,
-    script: &'s str,
-) -> Result<Vec<Vec<Line<'s>>>, AllocError> {
-    let mut blocks = Vec::new(alloc);
-    let mut block = Vec::new(alloc);
+/// The lines of a script.
+pub(crate) fn lines_of<'s>(alloc: Global, script: &'s str) -> Result<Vec<Line<'s>>, AllocError> {
+    let mut lines = Vec::new(alloc);
     for text in script.lines() {
         if let Some(line) = Line::new(text) {
-            if line.begins() && !block.is_empty() {
-                blocks.push(mem::replace(&mut block, Vec::new(alloc)))?;
-            }
-            block.push(line)?;
+            lines.push(line)?;
         }
     }
-    blocks.push(block)?;
-    Ok(blocks)
+    Ok(lines)
+}
+
+/// How many lines the first block has. What stands before a line that begins one is a block too. `list` alone is a call.
+pub(crate) fn block_len(lines: &[Line]) -> usize {
+    for (at, line) in lines.iter().enumerate() {
+        if at > 0 && SUBJECTS.contains(&line.name()) && line.call != "list" {
+            return at;
+        }
+    }
+    lines.len()
 }

@@ -1,6 +1,7 @@
 //! Answers a script of calls: writes it again, each call with what it answered.
 #![tactic(auto)]
 
+mod answers;
 mod cache;
 mod calls;
 mod closures;
@@ -14,6 +15,7 @@ mod list;
 mod makers;
 mod misses;
 mod nodes;
+mod out;
 mod page;
 mod pairs;
 mod passes;
@@ -30,7 +32,6 @@ mod words;
 mod world;
 
 use clru_lines::{read_input, write_text};
-use std::alloc::AllocError;
 use std::process::ExitCode;
 
 /// The statuses of a run without a fault, with one, and of one that could not be made.
@@ -47,11 +48,13 @@ fn main(rt: HostRuntime) -> ExitCode {
     let Ok(script) = str::from_utf8(&input) else {
         return ExitCode::from(FAILED);
     };
-    let page = match page::answered(rt.alloc(), script) {
-        Ok(page) => page,
-        Err(AllocError) => return ExitCode::from(FAILED),
+    let Ok(page) = page::answered(rt.alloc(), script) else {
+        return ExitCode::from(FAILED);
     };
-    match write_text(&mut rt.stdout(), page.text.as_bytes()) {
+    if page.out.is_short {
+        return ExitCode::from(FAILED);
+    }
+    match write_text(&mut rt.stdout(), page.out.text.as_bytes()) {
         Ok(()) if page.faults == 0 => ExitCode::from(WELL),
         Ok(()) => ExitCode::from(FAULTS),
         Err(_) => ExitCode::from(FAILED),

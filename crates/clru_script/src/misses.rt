@@ -1,19 +1,23 @@
 //! The misses of a list of requests at each capacity, by a pass and as a whole; those of drawn ones also by a replay, a list
 //! that is searched from its front, and a cache.
 
+use crate::out::Out;
 use crate::pairs::Hashing;
-use crate::passes::{write_misses, write_sized, write_span};
-use crate::requested::read_keys;
-use crate::requests::MOST;
+use crate::passes::{say_misses, say_sized, say_span};
+use crate::requested::Requested;
+use crate::requests::{MOST, texts_of};
 use crate::simulated::simulated;
-use crate::words::{Words, Wrong, capacity_of, number_of};
+use crate::words::{Words, capacity_of, number_of};
 use crate::world::World;
 use clru::{CLruCache, CLruCacheConfig, WeightScale, replay};
 use clru_curve::{
     DistancePass, MissCurve, SizedCurve, SizedPass, SizedRequestError, miss_curve, sized_curve,
 };
 use ration::Rationed;
-use std::alloc::{Allocator, Global};
+use std::alloc::Global;
+
+/// The memory of passes and curves.
+type Heap<'a> = &'a Rationed<Global>;
 
 /// The capacities at which drawn requests are run by other ways.
 const CAPACITIES: [usize; 24] = [
@@ -23,58 +27,38 @@ const CAPACITIES: [usize; 24] = [
 
 /// `misses KEYS`: the distance of each request, and the misses at the capacities 1, 2 and so on. A request that is refused memory
 /// is made again.
-pub(crate) fn misses_of<'a>(
-    world: &'a World,
-    hashing: Hashing<'a>,
-    words: &mut Words,
-    out: &mut String,
-) -> Result<(), Wrong> {
-    let list = read_keys(world.alloc, words)?;
-    misses_of_list(world, hashing, &list.keys, list.drawn, out)
-}
-
-fn misses_of_list<'a, 's>(
-    world: &'a World,
-    hashing: Hashing<'a>,
-    list: &'s [String],
-    drawn: bool,
-    out: &mut String,
-) -> Result<(), Wrong> {
-    let mut keys: Vec<&'s str> = Vec::new(world.alloc);
-    for key in list {
-        keys.push(key)?;
-    }
-    let mut pass = DistancePass::with_hasher(&world.heap, hashing);
-    if !requested(&mut pass, &keys, out)? {
-        return Ok(());
+pub(crate) fn misses_of(world: &World, list: &Requested, out: &mut Out) {
+    let keys = texts_of(world, world.alloc, list);
+    let mut pass = DistancePass::with_hasher(&world.heap, world.hashing());
+    if !requested(&mut pass, &keys, out) {
+        return;
     }
     let Ok(early) = pass.curve(&world.heap) else {
-        out.push_str("; no memory for a curve")?;
-        return Ok(());
+        out.say("; no memory for a curve");
+        return;
     };
     let late = pass.into_curve();
-    let Ok(whole) = miss_curve(&world.heap, &keys, hashing) else {
-        out.push_str("; no memory for the whole")?;
-        return Ok(());
+    let Ok(whole) = miss_curve(&world.heap, &keys, world.hashing()) else {
+        out.say("; no memory for the whole");
+        return;
     };
     if early.as_slice() != late.as_slice() || early.as_slice() != whole.as_slice() {
-        out.push_str("; ? the curves differ")?;
+        out.say("; ? the curves differ");
     }
-    write_misses(&whole, out)?;
-    if drawn {
-        beside_replays(world, hashing, &keys, &whole, out)?;
+    say_misses(&whole, out);
+    if list.drawn {
+        beside_replays(world, &keys, &whole, out);
     }
-    Ok(())
 }
 
 /// Makes the requests one by one, and answers whether each was taken.
 fn requested<'a, 's>(
-    pass: &mut DistancePass<&'s str, Hashing<'a>, &'a Rationed<Global>>,
+    pass: &mut DistancePass<&'s str, Hashing<'a>, Heap<'a>>,
     keys: &[&'s str],
-    out: &mut String,
-) -> Result<bool, Wrong> {
+    out: &mut Out,
+) -> bool {
     if keys.len() <= MOST {
-        out.push_str("distances")?;
+        out.say("distances");
     }
     for key in keys {
         let taken = match pass.request(*key) {
@@ -82,62 +66,55 @@ fn requested<'a, 's>(
             taken => taken,
         };
         match taken {
-            Ok(distance) if keys.len() <= MOST => write_span(distance, out)?,
+            Ok(distance) if keys.len() <= MOST => say_span(distance, out),
             Ok(_) => {}
             Err(back) => {
-                write!(out, " no memory, back {back}")?;
-                return Ok(false);
+                out.say(" no memory, back ");
+                out.say(back);
+                return false;
             }
         }
     }
-    Ok(true)
+    true
 }
 
 /// Says whether a replay at each capacity misses as often.
-fn beside_replays<'a, A: Allocator>(
-    world: &'a World,
-    hashing: Hashing<'a>,
-    keys: &[&str],
-    curve: &MissCurve<A>,
-    out: &mut String,
-) -> Result<(), Wrong> {
+fn beside_replays(world: &World, keys: &[&str], curve: &MissCurve<Heap>, out: &mut Out) {
     for number in CAPACITIES {
-        let capacity = capacity_of(number)?;
-        let list = Vec::from_slice(world.alloc, keys)?;
-        match replay(world.alloc, capacity, list, hashing) {
+        let capacity = capacity_of(number);
+        let Ok(list) = Vec::from_slice(world.alloc, keys) else {
+            out.is_short = true;
+            return;
+        };
+        match replay(world.alloc, capacity, list, world.hashing()) {
             Ok(answer) if answer.misses == curve.misses(capacity) => {}
-            Ok(answer) => write!(out, "; ? at {number} replayed {}", answer.misses)?,
-            Err(_) => return Err(Wrong::NoMemory),
+            Ok(_) => out.count("; ? a replay at ", number),
+            Err(_) => out.is_short = true,
         }
     }
-    out.push_str(", as replayed")?;
-    Ok(())
+    out.say(", as replayed");
 }
 
 /// A key with its weight behind a colon.
-#[derive(Clone, Copy, PartialEq, Eq, Hash)]
-struct Heavy<'s> {
-    text: &'s str,
-    weight: usize,
-}
+type Heavy<'s> = (&'s str, usize);
 
 /// A key weighs what stands behind its colon.
-#[derive(Clone, Copy, Drop)]
+#[derive(Clone, Copy)]
 struct ByColon;
 
 impl<'s> WeightScale<Heavy<'s>, ()> for ByColon {
-    ghost weight = { λ _ key _. key.weight };
+    ghost weight = { λ _ key _. key.1 };
 
     fn weight(&self, key: &Heavy<'s>, _value: &()) -> usize {
-        key.weight
+        key.1
     }
 }
 
 /// The weight behind the colon, or 0 where there is none.
-pub(crate) fn weight_of(word: &str) -> Result<usize, Wrong> {
+pub(crate) fn weight_of(word: &str, words: &mut Words) -> usize {
     match word.split_once(":") {
-        Some((_, weight)) => number_of(weight),
-        None => Ok(0),
+        Some((_, weight)) => words.number_of(weight),
+        None => 0,
     }
 }
 
@@ -145,86 +122,91 @@ pub(crate) fn weight_of(word: &str) -> Result<usize, Wrong> {
 type Curved<'s, A> = Result<SizedCurve<A>, SizedRequestError<Heavy<'s>>>;
 
 /// `sizes KEY:WEIGHT ..`: the span of each request, and the curve by size. A request that is refused memory is made again.
-pub(crate) fn sizes_of<'a>(
-    world: &'a World,
-    hashing: Hashing<'a>,
-    words: &mut Words,
-    out: &mut String,
-) -> Result<(), Wrong> {
-    let list = read_keys(world.alloc, words)?;
-    sizes_of_list(world, hashing, &list.keys, list.drawn, out)
+pub(crate) fn sizes_of(world: &World, list: &Requested, words: &mut Words, out: &mut Out) {
+    let keys = heavy_of(world, list, words);
+    let by_pass = passed(world, &keys, out);
+    let whole = sized_curve(&world.heap, &keys, ByColon, world.hashing());
+    out.part(", ");
+    match &by_pass {
+        Ok(curve) if say_curved(curve, &whole, out) && list.drawn => {
+            beside_lists(world, &keys, curve, out);
+        }
+        Ok(_) => {}
+        Err(refused) => say_refused(refused, &whole, out),
+    }
 }
 
-fn sizes_of_list<'a, 's>(
-    world: &'a World,
-    hashing: Hashing<'a>,
-    list: &'s [String],
-    drawn: bool,
-    out: &mut String,
-) -> Result<(), Wrong> {
+/// The keys of a list, with their weights.
+fn heavy_of<'s>(world: &World, list: &'s Requested, words: &mut Words) -> Vec<Heavy<'s>> {
     let mut keys: Vec<Heavy<'s>> = Vec::new(world.alloc);
-    for text in list {
-        let weight = weight_of(text)?;
-        keys.push(Heavy { text, weight })?;
+    for text in &list.keys {
+        if keys.push((text, weight_of(text, words))).is_err() {
+            world.is_short.set(true);
+        }
     }
-    let by_pass = passed(world, hashing, &keys, out)?;
-    let whole = sized_curve(&world.heap, &keys, ByColon, hashing);
-    if !out.is_empty() {
-        out.push_str(", ")?;
-    }
+    keys
+}
+
+/// Says the curve of a pass beside that of the whole, and answers whether the whole is one.
+fn say_curved(curve: &SizedCurve<Heap>, whole: &Curved<Heap>, out: &mut Out) -> bool {
     match whole {
-        Ok(whole) => match by_pass {
-            Ok(curve) => {
-                write_sized(&curve, out)?;
-                if !alike(&curve, &whole) {
-                    out.push_str("; ? the curves differ")?;
-                }
-                if drawn {
-                    beside_lists(world, hashing, &keys, &curve, out)?;
-                }
+        Ok(whole) => {
+            say_sized(curve, out);
+            if !alike(curve, whole) {
+                out.say("; ? the curves differ");
             }
-            Err(_) => out.push_str("? the pass was refused")?,
-        },
-        Err(SizedRequestError::NoMemory(back)) => write!(out, "no memory, back {}", back.text)?,
-        Err(SizedRequestError::TooLarge(back)) => match by_pass {
-            Err(SizedRequestError::TooLarge(key)) if key == back => write!(
-                out,
-                "too large, back {}",
-                key.text
-            )?,
-            _ => out.push_str("? the pass was not too large")?,
-        },
+            true
+        }
+        Err(SizedRequestError::NoMemory(back)) => {
+            out.say("no memory, back ");
+            out.say(back.0);
+            false
+        }
+        Err(SizedRequestError::TooLarge(_)) => {
+            out.say("? the pass was not too large");
+            false
+        }
     }
-    Ok(())
+}
+
+/// Says why a pass was refused, which the whole is for the same key.
+fn say_refused(refused: &SizedRequestError<Heavy>, whole: &Curved<Heap>, out: &mut Out) {
+    match (refused, whole) {
+        (_, Err(SizedRequestError::NoMemory(back))) => {
+            out.say("no memory, back ");
+            out.say(back.0);
+        }
+        (SizedRequestError::TooLarge(key), Err(SizedRequestError::TooLarge(back)))
+            if *key == *back => {
+            out.say("too large, back ");
+            out.say(key.0);
+        }
+        _ => out.say("? the pass was refused"),
+    }
 }
 
 /// Makes the requests one by one.
-fn passed<'w, 's>(
-    world: &'w World,
-    hashing: Hashing<'w>,
-    keys: &[Heavy<'s>],
-    out: &mut String,
-) -> Result<Curved<'s, &'w Rationed<Global>>, Wrong> {
-    let mut pass = SizedPass::with_hasher(&world.heap, hashing);
+fn passed<'w, 's>(world: &'w World, keys: &[Heavy<'s>], out: &mut Out) -> Curved<'s, Heap<'w>> {
+    let mut pass = SizedPass::with_hasher(&world.heap, world.hashing());
     if keys.len() <= MOST {
-        out.push_str("spans")?;
+        out.say("spans");
     }
     for key in keys {
-        let taken = match pass.request(*key, key.weight) {
-            Err(SizedRequestError::NoMemory(back)) => pass.request(back, back.weight),
+        let taken = match pass.request(*key, key.1) {
+            Err(SizedRequestError::NoMemory(back)) => pass.request(back, back.1),
             other => other,
         };
         match taken {
-            Ok(span) if keys.len() <= MOST => write_span(span, out)?,
+            Ok(span) if keys.len() <= MOST => say_span(span, out),
             Ok(_) => {}
-            Err(error) => return Ok(Err(error)),
+            Err(error) => return Err(error),
         }
     }
-    Ok(Ok(pass.into_curve()))
+    Ok(pass.into_curve())
 }
 
 /// Whether two curves say the same.
-fn alike<A: Allocator>(curve: &SizedCurve<A>, other: &SizedCurve<A>) -> bool {
+fn alike(curve: &SizedCurve<Heap>, other: &SizedCurve<Heap>) -> bool {
     curve.as_slice() == other.as_slice()
         && (curve.requests(), curve.size()) == (other.requests(), other.size())
         && curve.distinct_size() == other.distinct_size()
@@ -232,87 +214,71 @@ fn alike<A: Allocator>(curve: &SizedCurve<A>, other: &SizedCurve<A>) -> bool {
 }
 
 /// Says whether a list that is searched, a cache, and the misses where nothing weighs anything, are as the curve.
-fn beside_lists<'a, A: Allocator>(
-    world: &'a World,
-    hashing: Hashing<'a>,
-    keys: &[Heavy],
-    curve: &SizedCurve<A>,
-    out: &mut String,
-) -> Result<(), Wrong> {
+fn beside_lists(world: &World, keys: &[Heavy], curve: &SizedCurve<Heap>, out: &mut Out) {
     let mut sizes = Vec::new(world.alloc);
     for key in keys {
-        let (number, _) = key.text.split_once(":").unwrap_or((key.text, ""));
-        sizes.push((number_of(number)?, key.weight.saturating_add(1)))?;
-    }
-    for number in CAPACITIES {
-        let capacity = capacity_of(number)?;
-        let wanted = if number > curve.greatest_weight() {
-            let missed = simulated(world.alloc, &sizes, number)?;
-            if cached(world.alloc, hashing, keys, number)? != missed {
-                write!(out, "; ? at {number} a cache misses others")?;
-            }
-            (Some(missed.0), Some(missed.1))
-        } else {
-            (None, None)
-        };
-        if (curve.misses(capacity), curve.missed_size(capacity)) != wanted {
-            write!(out, "; ? at {number}")?;
+        let (number, _) = key.0.split_once(":").unwrap_or((key.0, ""));
+        let size = (number_of(number).unwrap_or(0), key.1.saturating_add(1));
+        if sizes.push(size).is_err() {
+            out.is_short = true;
         }
     }
-    out.push_str(", as simulated")?;
-    if curve.greatest_weight() == 0 {
-        beside_misses(world, hashing, keys, curve, out)?;
+    for number in CAPACITIES {
+        let capacity = capacity_of(number);
+        let mut wanted = (None, None);
+        if number > curve.greatest_weight() {
+            let missed = simulated(world, &sizes, number);
+            if cached(world, keys, number) != missed {
+                out.count("; ? a cache misses others at ", number);
+            }
+            wanted = (Some(missed.0), Some(missed.1));
+        }
+        if (curve.misses(capacity), curve.missed_size(capacity)) != wanted {
+            out.count("; ? at ", number);
+        }
     }
-    Ok(())
+    out.say(", as simulated");
+    if curve.greatest_weight() == 0 {
+        beside_misses(world, keys, curve, out);
+    }
 }
 
 /// Says whether a curve of keys that weigh nothing is that by number.
-fn beside_misses<'a, A: Allocator>(
-    world: &'a World,
-    hashing: Hashing<'a>,
-    keys: &[Heavy],
-    curve: &SizedCurve<A>,
-    out: &mut String,
-) -> Result<(), Wrong> {
-    let Ok(plain) = miss_curve(world.alloc, keys, hashing) else {
-        return Err(Wrong::NoMemory);
+fn beside_misses(world: &World, keys: &[Heavy], curve: &SizedCurve<Heap>, out: &mut Out) {
+    let Ok(plain) = miss_curve(world.alloc, keys, world.hashing()) else {
+        out.is_short = true;
+        return;
     };
     for number in CAPACITIES {
-        let capacity = capacity_of(number)?;
+        let capacity = capacity_of(number);
         let misses = Some(plain.misses(capacity));
         if (curve.misses(capacity), curve.missed_size(capacity)) != (misses, misses) {
-            write!(out, "; ? at {number}")?;
+            out.count("; ? at ", number);
         }
     }
     if plain.distinct() == curve.distinct_size() {
-        out.push_str(", as by number")?;
+        out.say(", as by number");
     }
-    Ok(())
 }
 
 /// The misses of a cache and their size.
-fn cached(
-    alloc: Global,
-    hashing: Hashing,
-    keys: &[Heavy],
-    capacity: usize,
-) -> Result<(usize, usize), Wrong> {
-    let config = CLruCacheConfig::new(capacity_of(capacity)?)
-        .with_hasher(hashing)
+fn cached(world: &World, keys: &[Heavy], capacity: usize) -> (usize, usize) {
+    let config = CLruCacheConfig::new(capacity_of(capacity))
+        .with_hasher(world.hashing())
         .with_scale(ByColon);
-    let Ok(mut cache) = CLruCache::with_config(alloc, config) else {
-        return Err(Wrong::NoMemory);
+    let Ok(mut cache) = CLruCache::with_config(world.alloc, config) else {
+        return (0, 0);
     };
     let mut missed = (0usize, 0usize);
     for key in keys {
         match cache.put_with_weight(*key, (), |_, _| {}) {
             Ok(None) => {
-                let size = key.weight.saturating_add(1);
+                let size = key.1.saturating_add(1);
                 missed = (missed.0.saturating_add(1), missed.1.saturating_add(size));
             }
             Ok(Some(())) => {}
-            Err(_) => return Err(Wrong::NoMemory),
+            Err(_) => world.is_short.set(true),
         }
     }
-    Ok(missed)
+    missed
 }

@@ -1,19 +1,16 @@
 //! Blocks of calls of nodes with numbers for keys and values.
 
+use crate::answers::Answers;
 use crate::fault::Fault;
-use crate::head::Hash;
 use crate::lines::Line;
-use crate::list::head::Head;
-use crate::list::none_made;
-use crate::list::read::write_number;
 use crate::nodes::beside::{fill, holds, pairs_of, thin};
 use crate::nodes::kept::Kept;
-use crate::subject::{Answers, Refusal, Subject, run_lines};
-use crate::words::{Words, Wrong, end, next_number, yes};
+use crate::out::{Out, Told};
+use crate::subject::{Subject, run_lines};
+use crate::words::{Words, Wrong};
 use crate::world::World;
 use ration::Rationed;
-use std::alloc::{AllocError, Global};
-use std::ops::Range;
+use std::alloc::Global;
 
 mod beside;
 mod kept;
@@ -23,77 +20,79 @@ pub(crate) type Numbers<'a> = Kept<&'a Rationed<Global>>;
 
 /// Nodes, and the world that their memory is of.
 #[derive(Drop)]
-struct Held<'a> {
+struct Held<'a, N: Drop> {
     world: &'a World,
-    kept: Numbers<'a>,
+    kept: N,
 }
 
 /// Runs a block: makes the nodes of its first line, and the calls of the others.
-pub(crate) fn run(
-    world: &World,
-    first: &Line,
-    lines: &[Line],
-    _hash: Hash,
-    refusal: &mut Refusal,
-) -> Result<Answers, Wrong> {
-    let head = Head::read(first.call)?;
-    let mut answers = Vec::new(world.alloc);
-    let made = made(world, head);
-    answers.push(String::from_str(
-        world.alloc,
-        if made.is_some() { "made" } else { "no memory" },
-    )?)?;
-    match made {
-        Some(kept) => run_lines(world, Held { world, kept }, lines, refusal, &mut answers)?,
-        None => none_made(world, lines, &mut answers)?,
+pub(crate) fn run(world: &World, lines: &[Line], answers: &mut Answers) {
+    match made(world) {
+        Some(kept) => {
+            answers.say("made");
+            run_lines(world, Held { world, kept }, lines, answers);
+        }
+        None => {
+            answers.say("no memory");
+            answers.refuse(lines, Wrong::NothingMade);
+        }
     }
-    Ok(answers)
 }
 
 /// Makes nodes, or answers `None` for want of memory.
-fn made(world: &World, head: Head) -> Option<Numbers<'_>> {
+fn made(world: &World) -> Option<Numbers<'_>> {
+    let (heap, head) = (&world.heap, world.head);
     match (head.reserve, head.limit) {
-        (Some(reserve), _) => Kept::with_memory(&world.heap, head.capacity, reserve),
-        (None, Some(limit)) => Some(Kept::with_narrow_places(&world.heap, head.capacity, limit)),
-        (None, None) => Some(Kept::new(&world.heap, head.capacity)),
+        (Some(reserve), _) => Kept::with_memory(heap, head.capacity, reserve),
+        (None, Some(limit)) => Some(Kept::with_narrow_places(heap, head.capacity, limit)),
+        (None, None) => Some(Kept::new(heap, head.capacity)),
     }
 }
 
-/// Writes a pair, or that there is none.
-fn write_pair(pair: Option<(u64, u64)>, out: &mut String) -> Result<(), AllocError> {
+/// Says a pair, or that there is none.
+fn say_pair(pair: Option<(u64, u64)>, out: &mut Out) {
     match pair {
-        Some((key, value)) => write!(out, "{key} {value}"),
-        None => out.push_str("none"),
-    }
-}
-
-/// Writes the pairs, front first.
-fn write_list(kept: &Numbers, world: &World, out: &mut String) -> Result<(), Wrong> {
-    for pair in &pairs_of(kept, world)? {
-        if !out.is_empty() {
-            out.push_str(", ")?;
+        Some((key, value)) => {
+            out.number(key as usize);
+            out.count(" ", value as usize);
         }
-        write_pair(Some(*pair), out)?;
+        None => out.say("none"),
     }
-    if out.is_empty() {
-        out.push_str("nothing")?;
-    }
-    Ok(())
 }
 
-/// The keys from a number up to another.
-fn next_keys(words: &mut Words) -> Result<Range<u64>, Wrong> {
-    let (from, to) = (next_number(words)?, next_number(words)?);
-    Ok(from as u64..to as u64)
+/// A number, where there is one.
+fn number_of(value: Option<u64>) -> Option<usize> {
+    match value {
+        Some(value) => Some(value as usize),
+        None => None,
+    }
 }
 
-/// Writes whether many calls did as the list beside them.
-fn write_alike(alike: bool, out: &mut String) -> Result<(), AllocError> {
-    out.push_str(if alike {
+/// Says the pairs, front first.
+fn say_list(kept: &Numbers, world: &World, out: &mut Out) {
+    for pair in &pairs_of(kept, world) {
+        out.part(", ");
+        say_pair(Some(*pair), out);
+    }
+    out.or("nothing");
+}
+
+/// Says whether many calls did as the list beside them.
+fn alike(alike: bool) -> Told {
+    Told::Word(if alike {
         "as a list does"
     } else {
         "? the list does otherwise"
     })
+}
+
+/// How many numbers a call takes.
+fn arity(name: &str) -> usize {
+    match name {
+        "put" | "fill" | "thin" | "holds" => 2,
+        "take" | "get" | "touch" | "set_front" | "resize" => 1,
+        _ => 0,
+    }
 }
 
 /// Makes a call. Answers `false` where the name is none of these.
@@ -102,53 +101,54 @@ fn made_call(
     world: &World,
     name: &str,
     words: &mut Words,
-    out: &mut String,
-) -> Result<bool, Wrong> {
+    out: &mut Out,
+) -> bool {
+    let (first, second) = words.numbers(arity(name));
     match name {
-        "put" => {
-            let (key, value) = (next_number(words)? as u64, next_number(words)? as u64);
-            out.push_str(if kept.put(key, value) {
-                "stored"
-            } else {
-                "not stored"
-            })?;
-        }
-        "take" => write_pair(kept.take(next_number(words)? as u64), out)?,
-        "pop_front" => write_pair(kept.pop_front(), out)?,
-        "pop_back" => write_pair(kept.pop_back(), out)?,
-        "front" => write_pair(kept.front(), out)?,
-        "back" => write_pair(kept.back(), out)?,
-        "get" => write_number(kept.get(next_number(words)? as u64), out)?,
-        "touch" => out.push_str(yes(kept.touch(next_number(words)? as u64)))?,
-        "set_front" => write_number(kept.set_front(next_number(words)? as u64), out)?,
-        "clear" => kept.clear(),
-        "make_ready" => out.push_str(if kept.make_ready() {
-            "done"
-        } else {
-            "no memory"
-        })?,
-        "resize" => kept.resize(next_number(words)?),
-        "len" => write!(out, "{}", kept.len())?,
-        "capacity" => write!(out, "{}", kept.capacity())?,
-        "list" => write_list(kept, world, out)?,
-        "fill" => write_alike(fill(kept, world, next_keys(words)?)?, out)?,
-        "thin" => write_alike(thin(kept, world, next_keys(words)?)?, out)?,
-        "holds" => out.push_str(yes(holds(kept, world, next_keys(words)?)?))?,
-        _ => return Ok(false),
+        "list" => say_list(kept, world, out),
+        "take" => say_pair(kept.take(first as u64), out),
+        "pop_front" => say_pair(kept.pop_front(), out),
+        "pop_back" => say_pair(kept.pop_back(), out),
+        "front" => say_pair(kept.front(), out),
+        "back" => say_pair(kept.back(), out),
+        "fill" => return out.told(alike(fill(kept, world, first, second))),
+        "thin" => return out.told(alike(thin(kept, world, first, second))),
+        "holds" => out.truth(holds(kept, world, first, second)),
+        _ => return out.told(told_of(kept, name, first as u64, second as u64)),
     }
-    Ok(true)
+    true
 }
 
-impl<'a> Subject for Held<'a> {
-    fn call(&mut self, name: &str, words: &mut Words, out: &mut String) -> Result<(), Wrong> {
-        if !made_call(&mut self.kept, self.world, name, words, out)? {
-            return Err(Wrong::NoSuchCall);
+/// What a call tells.
+fn told_of(kept: &mut Numbers, name: &str, first: u64, second: u64) -> Told {
+    match name {
+        "put" if kept.put(first, second) => Told::Word("stored"),
+        "put" => Told::Word("not stored"),
+        "get" => Told::Number(number_of(kept.get(first))),
+        "touch" => Told::Truth(kept.touch(first)),
+        "set_front" => Told::Number(number_of(kept.set_front(first))),
+        "clear" => {
+            kept.clear();
+            Told::Word("done")
         }
-        end(words)?;
-        if out.is_empty() {
-            out.push_str("done")?;
+        "make_ready" if kept.make_ready() => Told::Word("done"),
+        "make_ready" => Told::Word("no memory"),
+        "resize" => {
+            kept.resize(first as usize);
+            Told::Word("done")
         }
-        Ok(())
+        "len" => Told::Number(Some(kept.len())),
+        "capacity" => Told::Number(Some(kept.capacity())),
+        _ => Told::NoCall,
+    }
+}
+
+impl<'a> Subject for Held<'a, Numbers<'a>> {
+    fn call(&mut self, name: &str, words: &mut Words, out: &mut Out) {
+        if !made_call(&mut self.kept, self.world, name, words, out) {
+            words.note(Wrong::NoSuchCall);
+        }
+        out.or("done");
     }
 
     fn fault(&self) -> Option<Fault> {

@@ -1,9 +1,10 @@
 //! A script, written again with its answers.
 
-use crate::head::{Hash, hash_of};
-use crate::lines::{COLUMN, Line, blocks_of};
-use crate::subject::{Answers, Refusal};
-use crate::words::Wrong;
+use crate::answers::Answers;
+use crate::head::{Hash, Head};
+use crate::lines::{Line, block_len, lines_of};
+use crate::out::Out;
+use crate::words::{Words, Wrong};
 use crate::world::World;
 use crate::{
     cache, costs, drawn, foresight, list, makers, nodes, passes, report, requests, runs, store,
@@ -13,23 +14,32 @@ use std::alloc::{AllocError, Global};
 /// The script with its answers, and how many of these are faults.
 #[derive(Drop)]
 pub(crate) struct Page {
-    alloc: Global,
-    pub(crate) text: String,
+    pub(crate) out: Out,
     pub(crate) faults: u64,
 }
 
+/// Where the answer begins in a line that has none yet.
+const COLUMN: usize = 34;
+
 /// Answers a script.
 pub(crate) fn answered(alloc: Global, script: &str) -> Result<Page, AllocError> {
+    let lines = lines_of(alloc, script)?;
     let mut page = Page {
-        alloc,
-        text: String::new(alloc),
+        out: Out::new(alloc),
         faults: 0,
     };
-    for block in &blocks_of(alloc, script)? {
-        match answers_of(alloc, block) {
-            Ok(answers) => page.write(block, &answers)?,
-            Err(Wrong::NoMemory) => return Err(AllocError),
-            Err(wrong) => page.refuse(block, wrong)?,
+    let mut at = 0usize;
+    for _ in 0..lines.len() {
+        let Some((_, rest)) = lines.split_at_checked(at) else {
+            break;
+        };
+        let len = block_len(rest);
+        if let Some((block, _)) = rest.split_at_checked(len) {
+            page.write(block, &answers_of(alloc, block));
+        }
+        at = at.saturating_add(len);
+        if at == lines.len() {
+            break;
         }
     }
     Ok(page)
@@ -37,29 +47,19 @@ pub(crate) fn answered(alloc: Global, script: &str) -> Result<Page, AllocError> 
 
 impl Page {
     /// Writes the lines of a block, each with its answer. There are fewer answers where nothing was made.
-    fn write(&mut self, lines: &[Line], answers: &[String]) -> Result<(), AllocError> {
-        for (at, line) in lines.iter().enumerate() {
-            match answers.get(at) {
-                Some(answer) => self.line(line, answer)?,
-                None => self.line(line, "")?,
+    fn write(&mut self, block: &[Line], answers: &Answers) {
+        for (at, line) in block.iter().enumerate() {
+            match answers.list.get(at) {
+                Some(answer) => self.line(line, answer),
+                None => self.line(line, ""),
             }
         }
-        Ok(())
-    }
-
-    /// Writes the lines of a block whose first line is no call.
-    fn refuse(&mut self, lines: &[Line], wrong: Wrong) -> Result<(), AllocError> {
-        let mut answer = String::new(self.alloc);
-        write!(&mut answer, "? {wrong}")?;
-        for line in lines {
-            self.line(line, if line.call.is_empty() { "" } else { &answer })?;
-        }
-        Ok(())
+        self.out.is_short = self.out.is_short || answers.is_short || answers.met.is_short;
     }
 
     /// Writes a line. An answer of several lines has them one below the other.
-    fn line(&mut self, line: &Line, answer: &str) -> Result<(), AllocError> {
-        self.text.push_str(line.text)?;
+    fn line(&mut self, line: &Line, answer: &str) {
+        self.out.say(line.text);
         if answer.contains("?") {
             self.faults = self.faults.saturating_add(1);
         }
@@ -70,128 +70,118 @@ impl Page {
         let mut at = line.text.len();
         for part in answer.lines() {
             for _ in at..column {
-                self.text.push(' ')?;
+                self.out.say(" ");
             }
-            self.text.push_str("-> ")?;
-            self.text.push_str(part)?;
-            self.text.push('\n')?;
+            self.out.say("-> ");
+            self.out.say(part);
+            self.out.say("\n");
             at = 0;
         }
         if answer.is_empty() {
-            self.text.push('\n')?;
+            self.out.say("\n");
         }
-        Ok(())
     }
 }
 
 /// The answers of a block, under each of the hashes that its first line asks for.
-fn answers_of(alloc: Global, lines: &[Line]) -> Result<Answers, Wrong> {
-    let Some(head) = lines.first() else {
-        return Ok(Vec::new(alloc));
-    };
-    let hash = hash_of(head.call)?;
-    let mut answers = attempt(alloc, lines, hash.first(), &mut no_refusal(alloc))?;
-    if hash == Hash::Each {
+fn answers_of(alloc: Global, block: &[Line]) -> Answers {
+    let mut words = Words::new(match block.first() {
+        Some(first) => first.call,
+        None => "",
+    });
+    let name = words.next().unwrap_or("");
+    let head = Head::read(&mut words, name);
+    if let Some(wrong) = words.wrong {
+        let mut answers = Answers::new(alloc, None);
+        answers.refuse(block, wrong);
+        return answers;
+    }
+    let first = head.hash.unwrap_or(Hash::Std);
+    let mut answers = attempt(alloc, block, head, first, None);
+    if head.hash.is_none() {
         for other in [Hash::First, Hash::Last] {
-            let others = attempt(alloc, lines, other, &mut no_refusal(alloc))?;
-            compare(answers.as_mut_slice(), others.as_slice(), other)?;
+            answers.compare(&attempt(alloc, block, head, other, None));
         }
     }
-    for (at, line) in lines.iter().enumerate() {
-        if line.call == "refuse each" {
-            let (before, _) = lines.split_at(at);
-            let each = each_refused(alloc, before, hash.first(), answers.as_slice())?;
-            if let Some(answer) = answers.get_mut(at) {
-                *answer = each;
-            }
-        }
-    }
-    Ok(answers)
-}
-
-fn no_refusal(alloc: Global) -> Refusal {
-    Refusal {
-        number: None,
-        met: String::new(alloc),
-    }
-}
-
-/// Says where answers under another hash differ.
-fn compare(answers: &mut [String], others: &[String], other: Hash) -> Result<(), AllocError> {
-    for (answer, given) in answers.iter_mut().zip(others) {
-        if *answer != *given {
-            write!(answer, "; ? under {}: {given}", other.name())?;
-        }
-    }
-    Ok(())
+    refuse_each(alloc, block, head, first, &mut answers);
+    answers
 }
 
 /// The answers of a block under one hash, in a world of its own.
-fn attempt(
-    alloc: Global,
-    lines: &[Line],
-    hash: Hash,
-    refusal: &mut Refusal,
-) -> Result<Answers, Wrong> {
-    let world = World::new(alloc);
-    if let Some(number) = refusal.number {
+fn attempt(alloc: Global, block: &[Line], head: Head, hash: Hash, refused: Option<u64>) -> Answers {
+    let world = World::new(alloc, head, hash.fixed());
+    if let Some(number) = refused {
         world.heap.refuse_one_after(number.saturating_sub(1));
     }
-    let Some((head, rest)) = lines.split_first() else {
-        return Ok(Vec::new(alloc));
+    let mut answers = Answers::new(alloc, refused);
+    run(&world, block, &mut answers);
+    if let Some(wrong) = answers.wrong {
+        answers.list.clear();
+        answers.refuse(block, wrong);
+        answers.meet("? the block is none");
+    }
+    answers.is_short = answers.is_short || world.is_short.get();
+    answers
+}
+
+fn run(world: &World, block: &[Line], answers: &mut Answers) {
+    let Some((first, lines)) = block.split_first() else {
+        return;
     };
-    match head.name() {
-        "cache" => cache::run(&world, head, rest, hash, refusal),
-        "costs" => costs::run(&world, head, rest, hash, refusal),
-        "makers" => makers::run(&world, head, rest, hash, refusal),
-        "list" => list::run(&world, head, rest, hash, refusal),
-        "nodes" => nodes::run(&world, head, rest, hash, refusal),
-        "store" | "store_costs" => store::run(&world, head, rest, hash, refusal),
-        "replay" | "misses" | "sizes" | "least" => {
-            requests::run(&world, head, rest, hash, refusal)
-        }
-        "distances" | "spans" => passes::run(&world, head, rest, hash, refusal),
-        "foresight" => foresight::run(&world, head, rest, hash, refusal),
-        "drawn" => drawn::run(&world, head, rest, hash, refusal),
-        "runs" => runs::run(&world, head, rest, hash, refusal),
-        "input" => report::run(&world, head, rest, hash, refusal),
-        _ => Err(Wrong::NothingMade),
+    match first.name() {
+        "cache" => cache::run(world, first, lines, answers),
+        "costs" => costs::run(world, lines, answers),
+        "makers" => makers::run(world, lines, answers),
+        "list" => list::run(world, lines, answers),
+        "nodes" => nodes::run(world, lines, answers),
+        "store" => store::run(world, lines, answers),
+        "store_costs" => store::run_costs(world, lines, answers),
+        "replay" | "misses" | "sizes" | "least" => requests::run(world, block, answers),
+        "distances" => passes::run_distances(world, lines, answers),
+        "spans" => passes::run_spans(world, lines, answers),
+        "foresight" => foresight::run(world, first, lines, answers),
+        "drawn" => drawn::run(world, lines, answers),
+        "runs" => runs::run(world, lines, answers),
+        "input" => report::run(world, first, lines, answers),
+        _ => answers.wrong = Some(Wrong::NothingMade),
     }
 }
 
 /// How many requests are refused in turn at most.
 const MOST: u64 = 1000;
 
-/// Makes the calls with the first request for memory refused, with the second, and so on until none is. A call that meets the
+/// Answers the lines `refuse each`.
+fn refuse_each(alloc: Global, block: &[Line], head: Head, hash: Hash, answers: &mut Answers) {
+    for (at, line) in block.iter().enumerate() {
+        if line.call == "refuse each" {
+            let (before, _) = block.split_at(at);
+            let mut said = Out::new(alloc);
+            each_refused(alloc, before, head, hash, answers, &mut said);
+            answers.set(at, said);
+        }
+    }
+}
+
+/// Calls the lines with the first request for memory refused, with the second, and so on until none is. A call that meets the
 /// refusal is made again, and all others answer as before.
 fn each_refused(
     alloc: Global,
     lines: &[Line],
+    head: Head,
     hash: Hash,
-    wanted: &[String],
-) -> Result<String, Wrong> {
-    let mut said = String::new(alloc);
+    answers: &Answers,
+    said: &mut Out,
+) {
     for number in 1..=MOST {
-        let mut refusal = Refusal {
-            number: Some(number),
-            met: String::new(alloc),
-        };
-        let answers = attempt(alloc, lines, hash, &mut refusal)?;
-        if refusal.met.is_empty() {
-            write!(&mut said, "request {number}: none")?;
-            return Ok(said);
+        let again = attempt(alloc, lines, head, hash, Some(number));
+        if again.met.text.is_empty() {
+            said.count("request ", number as usize);
+            said.say(": none");
+            return;
         }
-        said.push_str(&refusal.met)?;
-        for ((line, answer), other) in lines.iter().zip(&answers).zip(wanted) {
-            if answers.len() == lines.len()
-                && *answer != *other
-                && !["cost", "notes", "blocks", "bytes"].contains(&line.name())
-            {
-                write!(&mut said, "; ? {} -> {answer}", line.call)?;
-            }
-        }
-        said.push('\n')?;
+        said.say(&again.met.text);
+        answers.compare_again(&again, lines, said);
+        said.say("\n");
     }
-    said.push_str("? so many requests are refused that it is not seen to its end")?;
-    Ok(said)
+    said.say("? so many requests are refused that it is not seen to its end");
 }

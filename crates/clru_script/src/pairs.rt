@@ -1,47 +1,68 @@
 //! Keys, values, scales and hashes whose use is counted. Each key and each value owns a block of memory.
-ghost use Rattle.std.specs.Prelude.{◌≡◌, IfOk, nat_eq, unwrap_or};
+ghost use Rattle.std.specs.Prelude.{◌≡◌, nat_eq, unwrap_or};
 ghost use Rattle.std.specs.Hash as fed;
 ghost use Rattle.std.specs.Hash.FoldHasher as folding;
 ghost use Rattle.std.specs.Ordering.{on};
 ghost use Rattle.std.specs.Cmp.Rules.{comparing, hashing};
 ghost use Rattle.std.proofs.Common.{rules};
 
-use crate::words::{Wrong, number_of};
+use crate::out::Out;
+use crate::words::{Words, Wrong, number_of};
 use crate::world::{World, add};
 use clru::WeightScale;
 use ration::Rationed;
-use std::alloc::{AllocError, Global};
+use std::alloc::Global;
 use std::cell::Cell;
 use std::hash::{BuildHasher, FoldHasher, Hash, Hasher};
 use std::marker::Model;
 
+/// A text of counted memory.
+type Owned<'a> = String<&'a Rationed<Global>>;
+
+/// A word that owns memory. Where it finds none, it is empty, and that is known at the end.
+fn owned<'a>(world: &'a World, word: &str) -> Owned<'a> {
+    match String::from_str(&world.owned, word) {
+        Ok(text) => text,
+        Err(_) => {
+            world.is_short.set(true);
+            String::new(&world.owned)
+        }
+    }
+}
+
 /// A word as a key. Its number is made of its letters, and two keys are equal where their numbers are.
 pub(crate) struct Key<'a> {
-    pub(crate) text: String<&'a Rationed<Global>>,
+    pub(crate) text: Owned<'a>,
     pub(crate) number: u64,
     world: &'a World,
 }
 
 impl<'a> Key<'a> {
-    /// The key of a word. With `folded`, upper and lower case are equal.
-    pub(crate) fn new(world: &'a World, word: &str, folded: bool) -> Result<Key<'a>, Wrong> {
-        if word.len() > 8 {
-            return Err(Wrong::LongKey);
-        }
+    /// The key of a word of at most eight letters. Where a block folds, upper and lower case are equal.
+    pub(crate) fn new(world: &'a World, word: &str) -> Key<'a> {
         let mut number = 0u64;
         for byte in word.bytes() {
-            let letter = if folded {
+            let letter = if world.head.folded {
                 byte.to_ascii_lowercase()
             } else {
                 byte
             };
             number = number.wrapping_mul(256).wrapping_add(u64::from(letter));
         }
-        Ok(Key {
-            text: String::from_str(&world.owned, word)?,
+        Key {
+            text: owned(world, word),
             number,
             world,
-        })
+        }
+    }
+
+    /// The next word as a key.
+    pub(crate) fn next(world: &'a World, words: &mut Words) -> Key<'a> {
+        let word = words.word();
+        if word.len() > 8 {
+            words.note(Wrong::LongKey);
+        }
+        Key::new(world, word)
     }
 }
 
@@ -82,59 +103,56 @@ impl<'a> Hash for Key<'a> {
     }
 }
 
-/// What a value weighs in a cache with a scale.
-#[derive(Clone, Copy, PartialEq)]
-pub(crate) enum Weigh {
-    /// There is no scale, and it weighs nothing.
-    Nothing,
-    /// Its letters.
-    Length,
-    /// The number that it is.
-    Number,
-}
-
 /// A word as a value. Contracts see its weight alone.
 pub(crate) struct Value<'a> {
-    pub(crate) text: String<&'a Rationed<Global>>,
+    pub(crate) text: Owned<'a>,
     weight: usize,
     world: &'a World,
 }
 
 impl<'a> Value<'a> {
-    pub(crate) fn new(world: &'a World, word: &str, weigh: Weigh) -> Result<Value<'a>, Wrong> {
-        let weight = match weigh {
-            Weigh::Nothing => 0,
-            Weigh::Length => word.len(),
-            Weigh::Number => number_of(word)?,
+    /// The value of a word. What should be a number and is none weighs 0.
+    pub(crate) fn new(world: &'a World, word: &str) -> Value<'a> {
+        let weight = if !world.head.weighs {
+            0
+        } else if world.head.by_number {
+            number_of(word).unwrap_or(0)
+        } else {
+            word.len()
         };
-        let text = String::from_str(&world.owned, word)?;
-        Ok(Value {
-            text,
+        Value {
+            text: owned(world, word),
             weight,
             world,
-        })
+        }
+    }
+
+    /// The next word as a value.
+    pub(crate) fn next(world: &'a World, words: &mut Words) -> Value<'a> {
+        let word = words.word();
+        if world.head.by_number {
+            let _weight = words.number_of(word);
+        }
+        Value::new(world, word)
     }
 
     /// The word twice, as a value of this weight.
-    pub(crate) fn doubled(
-        world: &'a World,
-        word: &str,
-        weight: usize,
-    ) -> Result<Value<'a>, AllocError>
-        ensures { IfOk result (λ value. value ≡ weight) }
+    pub(crate) fn doubled(world: &'a World, word: &str, weight: usize) -> Value<'a>
+        ensures { result ≡ weight }
     {
-        let mut text = String::from_str(&world.owned, word)?;
-        text.push_str(word)?;
-        Ok(Value {
+        let mut text = owned(world, word);
+        if text.push_str(word).is_err() {
+            world.is_short.set(true);
+        }
+        Value {
             text,
             weight,
             world,
-        })
+        }
     }
 
-    /// Writes it.
-    pub(crate) fn write(&self, out: &mut String) -> Result<(), AllocError> {
-        out.push_str(&self.text)
+    pub(crate) fn say(&self, out: &mut Out) {
+        out.say(&self.text);
     }
 
     /// Another number in its place. Where there is no memory for it, it stays cut short.

@@ -1,18 +1,19 @@
 //! Blocks of requests one by one: `distances` of keys, and `spans` of keys with sizes.
 
+use crate::answers::Answers;
 use crate::fault::Fault;
-use crate::head::Hash;
 use crate::lines::Line;
 use crate::misses::weight_of;
+use crate::out::Out;
 use crate::pairs::{Hashing, Key};
 use crate::requested::read_keys;
-use crate::requests::{MOST, hashing_of};
-use crate::subject::{Answers, Refusal, Subject, run_lines};
-use crate::words::{Words, Wrong, capacity_of, number_of};
+use crate::requests::MOST;
+use crate::subject::{Subject, begin};
+use crate::words::{Words, Wrong};
 use crate::world::World;
 use clru_curve::{DistancePass, MissCurve, SizedCurve, SizedPass, SizedRequestError};
 use ration::Rationed;
-use std::alloc::{AllocError, Allocator, Global};
+use std::alloc::Global;
 
 /// A pass over what is counted, by keys, and
 type Distances<'a> = DistancePass<Key<'a>, Hashing<'a>, &'a Rationed<Global>>;
@@ -27,57 +28,38 @@ struct Pass<'a, P: Drop> {
     pass: Option<P>,
 }
 
-/// Runs a block.
-pub(crate) fn run(
-    world: &World,
-    first: &Line,
-    lines: &[Line],
-    hash: Hash,
-    refusal: &mut Refusal,
-) -> Result<Answers, Wrong> {
-    let mut answers = Vec::new(world.alloc);
-    answers.push(String::new(world.alloc))?;
-    let hashing = hashing_of(world, hash);
-    if first.name() == "distances" {
-        let pass = Some(DistancePass::with_hasher(&world.heap, hashing));
-        run_lines(world, Pass { world, pass }, lines, refusal, &mut answers)?;
-    } else {
-        let pass = Some(SizedPass::with_hasher(&world.heap, hashing));
-        run_lines(world, Pass { world, pass }, lines, refusal, &mut answers)?;
-    }
-    Ok(answers)
+/// Runs a block of distances.
+pub(crate) fn run_distances(world: &World, lines: &[Line], answers: &mut Answers) {
+    let pass = Some(DistancePass::with_hasher(&world.heap, world.hashing()));
+    begin(world, Some(Pass { world, pass }), lines, answers);
+}
+
+/// Runs a block of spans.
+pub(crate) fn run_spans(world: &World, lines: &[Line], answers: &mut Answers) {
+    let pass = Some(SizedPass::with_hasher(&world.heap, world.hashing()));
+    begin(world, Some(Pass { world, pass }), lines, answers);
 }
 
 impl<'a> Subject for Pass<'a, Distances<'a>> {
-    fn call(&mut self, name: &str, words: &mut Words, out: &mut String) -> Result<(), Wrong> {
+    fn call(&mut self, name: &str, words: &mut Words, out: &mut Out) {
         let Some(mut pass) = self.pass.take() else {
-            return Err(Wrong::NothingMade);
+            words.note(Wrong::NothingMade);
+            return;
         };
         match name {
-            "request" => {
-                let asked = request_all(self.world, &mut pass, words, out);
-                self.pass = Some(pass);
-                asked
-            }
-            "curve" => {
-                match pass.curve(&self.world.heap) {
-                    Ok(curve) => write_misses(&curve, out)?,
-                    Err(_) => out.push_str("no memory")?,
-                }
-                self.pass = Some(pass);
-                Ok(())
-            }
+            "request" => request_all(self.world, &mut pass, words, out),
+            "curve" => match pass.curve(&self.world.heap) {
+                Ok(curve) => say_misses(&curve, out),
+                Err(_) => out.say("no memory"),
+            },
             "into_curve" => {
-                write_misses(&pass.into_curve(), out)?;
-                Ok(())
+                say_misses(&pass.into_curve(), out);
+                return;
             }
-            "at" => {
-                let at = at_capacity(self.world, &pass, words, out);
-                self.pass = Some(pass);
-                at
-            }
-            _ => Err(Wrong::NoSuchCall),
+            "at" => at_capacity(self.world, &pass, words, out),
+            _ => words.note(Wrong::NoSuchCall),
         }
+        self.pass = Some(pass);
     }
 
     fn fault(&self) -> Option<Fault> {
@@ -86,76 +68,68 @@ impl<'a> Subject for Pass<'a, Distances<'a>> {
 }
 
 /// `request KEYS`: the distance of each, up to the first one that is refused. Of many the last one is written.
-fn request_all<'a>(
-    world: &'a World,
-    pass: &mut Distances<'a>,
-    words: &mut Words,
-    out: &mut String,
-) -> Result<(), Wrong> {
-    let list = read_keys(world.alloc, words)?;
+fn request_all<'a>(world: &'a World, pass: &mut Distances<'a>, words: &mut Words, out: &mut Out) {
+    let list = read_keys(world, words);
     for key in &list.keys {
         if list.keys.len() > MOST {
             out.clear();
         }
-        match pass.request(Key::new(world, key, false)?) {
-            Ok(distance) => write_span(distance, out)?,
+        match pass.request(Key::new(world, key)) {
+            Ok(distance) => say_span(distance, out),
             Err(back) => {
-                spaced(out)?;
-                write!(out, "no memory, back {}", back.text)?;
-                return Ok(());
+                say_back("no memory, back ", &back, out);
+                return;
             }
         }
     }
-    Ok(())
+}
+
+/// Says which key came back.
+fn say_back(why: &str, key: &Key, out: &mut Out) {
+    out.part(" ");
+    out.say(why);
+    out.say(&key.text);
 }
 
 /// `at CAPACITY ..`: the misses there.
-fn at_capacity<'a>(
-    world: &'a World,
-    pass: &Distances<'a>,
-    words: &mut Words,
-    out: &mut String,
-) -> Result<(), Wrong> {
+fn at_capacity<'a>(world: &'a World, pass: &Distances<'a>, words: &mut Words, out: &mut Out) {
     let Ok(curve) = pass.curve(&world.owned) else {
-        return Err(Wrong::NoMemory);
+        out.is_short = true;
+        return;
     };
-    for word in words {
-        spaced(out)?;
-        write!(out, "{}", curve.misses(capacity_of(number_of(word)?)?))?;
+    say_all_at(&curve, words, out);
+}
+
+fn say_all_at(curve: &MissCurve<&Rationed<Global>>, words: &mut Words, out: &mut Out) {
+    for _ in 0..usize::MAX {
+        if words.is_empty() {
+            break;
+        }
+        out.part(" ");
+        out.number(curve.misses(words.capacity()));
     }
-    Ok(())
 }
 
 impl<'a> Subject for Pass<'a, Spans<'a>> {
-    fn call(&mut self, name: &str, words: &mut Words, out: &mut String) -> Result<(), Wrong> {
+    fn call(&mut self, name: &str, words: &mut Words, out: &mut Out) {
         let Some(mut pass) = self.pass.take() else {
-            return Err(Wrong::NothingMade);
+            words.note(Wrong::NothingMade);
+            return;
         };
         match name {
-            "request" => {
-                let asked = request_sized(self.world, &mut pass, words, out);
-                self.pass = Some(pass);
-                asked
-            }
-            "curve" => {
-                match pass.curve(&self.world.heap) {
-                    Ok(curve) => write_sized(&curve, out)?,
-                    Err(_) => out.push_str("no memory")?,
-                }
-                self.pass = Some(pass);
-                Ok(())
-            }
+            "request" => request_sized(self.world, &mut pass, words, out),
+            "curve" => match pass.curve(&self.world.heap) {
+                Ok(curve) => say_sized(&curve, out),
+                Err(_) => out.say("no memory"),
+            },
             "into_curve" => {
-                write_sized(&pass.into_curve(), out)?;
-                Ok(())
+                say_sized(&pass.into_curve(), out);
+                return;
             }
-            "at" => {
-                let at = at_size(self.world, &pass, words, out);
-                self.pass = Some(pass);
-                at
-            }
-            _ => Err(Wrong::NoSuchCall),
+            "at" => at_size(self.world, &pass, words, out),
+            _ => words.note(Wrong::NoSuchCall),
         }
+        self.pass = Some(pass);
     }
 
     fn fault(&self) -> Option<Fault> {
@@ -164,131 +138,87 @@ impl<'a> Subject for Pass<'a, Spans<'a>> {
 }
 
 /// `request KEY:WEIGHT ..`: the span of each, up to the first one that is refused. Of many the last one is written.
-fn request_sized<'a>(
-    world: &'a World,
-    pass: &mut Spans<'a>,
-    words: &mut Words,
-    out: &mut String,
-) -> Result<(), Wrong> {
-    let list = read_keys(world.alloc, words)?;
+fn request_sized<'a>(world: &'a World, pass: &mut Spans<'a>, words: &mut Words, out: &mut Out) {
+    let list = read_keys(world, words);
     for text in &list.keys {
         if list.keys.len() > MOST {
             out.clear();
         }
         let (key, _) = text.split_once(":").unwrap_or((text, ""));
-        match pass.request(Key::new(world, key, false)?, weight_of(text)?) {
-            Ok(span) => write_span(span, out)?,
-            Err(error) => {
-                spaced(out)?;
-                match error {
-                    SizedRequestError::NoMemory(back) => write!(
-                        out,
-                        "no memory, back {}",
-                        back.text
-                    )?,
-                    SizedRequestError::TooLarge(back) => write!(
-                        out,
-                        "too large, back {}",
-                        back.text
-                    )?,
-                }
-                return Ok(());
+        match pass.request(Key::new(world, key), weight_of(text, words)) {
+            Ok(span) => say_span(span, out),
+            Err(SizedRequestError::NoMemory(back)) => {
+                say_back("no memory, back ", &back, out);
+                return;
+            }
+            Err(SizedRequestError::TooLarge(back)) => {
+                say_back("too large, back ", &back, out);
+                return;
             }
         }
     }
-    Ok(())
 }
 
 /// `at CAPACITY ..`: the misses there and their size, or that there is no answer.
-fn at_size<'a>(
-    world: &'a World,
-    pass: &Spans<'a>,
-    words: &mut Words,
-    out: &mut String,
-) -> Result<(), Wrong> {
+fn at_size<'a>(world: &'a World, pass: &Spans<'a>, words: &mut Words, out: &mut Out) {
     let Ok(curve) = pass.curve(&world.owned) else {
-        return Err(Wrong::NoMemory);
+        out.is_short = true;
+        return;
     };
-    for word in words {
-        if !out.is_empty() {
-            out.push_str(", ")?;
+    for _ in 0..usize::MAX {
+        if words.is_empty() {
+            break;
         }
-        write_at(&curve, number_of(word)?, out)?;
-    }
-    Ok(())
-}
-
-/// Parts what is written from what comes next.
-fn spaced(out: &mut String) -> Result<(), AllocError> {
-    if out.is_empty() {
-        Ok(())
-    } else {
-        out.push(' ')
+        out.part(", ");
+        let capacity = words.capacity();
+        say_at(curve.misses(capacity), curve.missed_size(capacity), out);
     }
 }
 
-/// Writes a distance or a span, or that a key is requested for the first time.
-pub(crate) fn write_span(span: Option<usize>, out: &mut String) -> Result<(), AllocError> {
-    spaced(out)?;
+fn say_at(misses: Option<usize>, size: Option<usize>, out: &mut Out) {
+    match (misses, size) {
+        (Some(misses), Some(size)) => {
+            out.number(misses);
+            out.count(" of size ", size);
+        }
+        (None, None) => out.say("none"),
+        _ => out.say("? a number without the other"),
+    }
+}
+
+/// Says a distance or a span, or that a key is requested for the first time.
+pub(crate) fn say_span(span: Option<usize>, out: &mut Out) {
+    out.part(" ");
     match span {
-        Some(span) => write!(out, "{span}"),
-        None => out.push_str("new"),
+        Some(span) => out.number(span),
+        None => out.say("new"),
     }
 }
 
-/// Writes the misses by capacity, or how many capacities have numbers of their own.
-pub(crate) fn write_misses<A: Allocator>(
-    curve: &MissCurve<A>,
-    out: &mut String,
-) -> Result<(), AllocError> {
-    if !out.is_empty() {
-        out.push_str(", ")?;
-    }
-    write!(out, "distinct {}", curve.distinct())?;
+/// Says the misses by capacity, or how many capacities have numbers of their own.
+pub(crate) fn say_misses(curve: &MissCurve<&Rationed<Global>>, out: &mut Out) {
+    out.part(", ");
+    out.count("distinct ", curve.distinct());
     if curve.distinct() <= MOST {
-        out.push_str(", misses")?;
+        out.say(", misses");
         for misses in curve.as_slice() {
-            write!(out, " {misses}")?;
+            out.count(" ", *misses);
         }
     }
-    Ok(())
 }
 
-/// Writes the misses at a capacity and their size.
-fn write_at<A: Allocator>(
-    curve: &SizedCurve<A>,
-    capacity: usize,
-    out: &mut String,
-) -> Result<(), Wrong> {
-    let capacity = capacity_of(capacity)?;
-    match (curve.misses(capacity), curve.missed_size(capacity)) {
-        (Some(misses), Some(size)) => write!(out, "{misses} of size {size}")?,
-        (None, None) => out.push_str("none")?,
-        _ => out.push_str("? a number without the other")?,
-    }
-    Ok(())
-}
-
-/// Writes a curve by size. Each of its steps is a capacity with the size that is missed from there on.
-pub(crate) fn write_sized<A: Allocator>(
-    curve: &SizedCurve<A>,
-    out: &mut String,
-) -> Result<(), AllocError> {
-    write!(
-        out,
-        "requests {} of size {}, distinct size {}, greatest weight {}",
-        curve.requests(),
-        curve.size(),
-        curve.distinct_size(),
-        curve.greatest_weight()
-    )?;
+/// Says a curve by size. Each of its steps is a capacity with the size that is missed from there on.
+pub(crate) fn say_sized(curve: &SizedCurve<&Rationed<Global>>, out: &mut Out) {
+    out.count("requests ", curve.requests());
+    out.count(" of size ", curve.size());
+    out.count(", distinct size ", curve.distinct_size());
+    out.count(", greatest weight ", curve.greatest_weight());
     if curve.as_slice().len() > MOST {
-        return Ok(());
+        return;
     }
     for (number, step) in curve.as_slice().iter().enumerate() {
-        let (capacity, missed) = (step.capacity, step.missed_size);
-        out.push_str(if number == 0 { ", steps" } else { "" })?;
-        write!(out, " {capacity}:{missed}")?;
+        out.say(if number == 0 { ", steps" } else { "" });
+        out.count(" ", step.capacity);
+        out.count(":", step.missed_size);
     }
-    Ok(())
 }

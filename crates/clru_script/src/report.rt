@@ -1,26 +1,34 @@
 //! Blocks of an input, whose lines ask for reports of it: what the program `clru_mrc` writes for these words, and its status.
 
+use crate::answers::Answers;
 use crate::fault::Fault;
-use crate::head::Hash;
 use crate::lines::Line;
-use crate::subject::{Answers, Refusal, Subject, run_lines};
+use crate::out::Out;
+use crate::subject::{Subject, begin};
 use crate::words::{Words, Wrong};
 use crate::world::World;
 use clru_report::{
-    Command, DefaultState, Fault as RunFault, Options, Refusal as Refused, command_of, exit_status,
-    run as report,
+    Command, DefaultState, Options, Refusal, command_of, exit_status, run as report,
 };
 use ration::Rationed;
-use std::alloc::{AllocError, Global};
-
-/// The memory of reports.
-type Heap<'a> = &'a Rationed<Global>;
+use std::alloc::Global;
 
 /// What reports are of.
 #[derive(Drop)]
 struct Reports<'a> {
     world: &'a World,
-    input: String,
+    input: Out,
+}
+
+/// Runs a block, which begins with its input: `input a\nb\n`, or `input " a\n"` where a blank stands at an end.
+pub(crate) fn run(world: &World, first: &Line, lines: &[Line], answers: &mut Answers) {
+    let text = first.call.strip_prefix("input").unwrap_or("").trim();
+    let mut input = Out::new(world.alloc);
+    if !unescape(unquoted(text), &mut input) {
+        answers.wrong = Some(Wrong::NoSuchWord);
+        return;
+    }
+    begin(world, Some(Reports { world, input }), lines, answers);
 }
 
 /// What stands between quotes, or the whole where there are none.
@@ -31,58 +39,40 @@ fn unquoted(text: &str) -> &str {
     }
 }
 
-/// Runs a block, which begins with its input: `input a\nb\n`, or `input " a\n"` where a blank stands at an end.
-pub(crate) fn run(
-    world: &World,
-    first: &Line,
-    lines: &[Line],
-    _hash: Hash,
-    refusal: &mut Refusal,
-) -> Result<Answers, Wrong> {
-    let text = first.call.strip_prefix("input").unwrap_or("").trim();
-    let input = unescaped(world.alloc, unquoted(text))?;
-    let mut answers = Vec::new(world.alloc);
-    answers.push(String::new(world.alloc))?;
-    run_lines(
-        world,
-        Reports { world, input },
-        lines,
-        refusal,
-        &mut answers,
-    )?;
-    Ok(answers)
-}
-
-/// The text with a newline for each `\n`, a tab for `\t`, and a carriage return for `\r`.
-fn unescaped(alloc: Global, text: &str) -> Result<String, Wrong> {
-    let mut plain = String::new(alloc);
-    let mut parts = text.split('\\');
-    plain.push_str(parts.next().unwrap_or(""))?;
-    for part in parts {
-        let (letter, rest) = part.split_at_checked(1).ok_or(Wrong::Missing)?;
-        plain.push(byte_of(letter)?)?;
-        plain.push_str(rest)?;
+/// Writes the text with a newline for each `\n`, a tab for `\t`, and a carriage return for `\r`. Answers `false` where another
+/// letter stands behind a `\`.
+fn unescape(text: &str, out: &mut Out) -> bool {
+    let mut is_first = true;
+    for part in text.split('\\') {
+        let (letter, rest) = if is_first {
+            ("", part)
+        } else {
+            part.split_at_checked(1).unwrap_or(("?", ""))
+        };
+        match letter {
+            "" => {}
+            "n" => out.say("\n"),
+            "t" => out.say("\t"),
+            "r" => out.say("\r"),
+            _ => return false,
+        }
+        out.say(rest);
+        is_first = false;
     }
-    Ok(plain)
-}
-
-fn byte_of(letter: &str) -> Result<char, Wrong> {
-    match letter {
-        "n" => Ok('\n'),
-        "t" => Ok('\t'),
-        "r" => Ok('\r'),
-        _ => Err(Wrong::NoSuchWord),
-    }
+    true
 }
 
 impl<'a> Subject for Reports<'a> {
-    fn call(&mut self, name: &str, words: &mut Words, out: &mut String) -> Result<(), Wrong> {
+    fn call(&mut self, name: &str, words: &mut Words, out: &mut Out) {
+        let (mut status, mut text) = (Out::new(self.world.alloc), Out::new(self.world.alloc));
+        report_of(self.world, &self.input.text, words, &mut status, &mut text);
         match name {
-            "report" => self.whole(words, out),
-            "axis" => self.part(words, "y=\"4270\"", out),
-            "legend" => self.part(words, "y=\"430\"", out),
-            _ => Err(Wrong::NoSuchCall),
+            "report" => say_whole(&status.text, &text.text, out),
+            "axis" => say_part(&text.text, "y=\"4270\"", out),
+            "legend" => say_part(&text.text, "y=\"430\"", out),
+            _ => words.note(Wrong::NoSuchCall),
         }
+        out.is_short = out.is_short || status.is_short || text.is_short;
     }
 
     fn fault(&self) -> Option<Fault> {
@@ -90,70 +80,43 @@ impl<'a> Subject for Reports<'a> {
     }
 }
 
-impl<'a> Reports<'a> {
-    fn whole(&self, words: &mut Words, out: &mut String) -> Result<(), Wrong> {
-        let ended = self.answered(words)?;
-        write_whole(&ended, out)?;
-        Ok(())
-    }
-
-    fn part(&self, words: &mut Words, height: &str, out: &mut String) -> Result<(), Wrong> {
-        let ended = self.answered(words)?;
-        write_part(&ended.text, height, out)?;
-        Ok(())
-    }
-
-    fn answered(&self, words: &mut Words) -> Result<Ended, Wrong> {
-        let list = list_of(self.world.alloc, words)?;
-        match command_of(&self.world.heap, &list) {
-            Ok(command) => done(self.world, &command, self.input.as_bytes()),
-            Err(Refused::Wrong(line)) => said(self.world.alloc, "refused: ", &line),
-            Err(Refused::Memory) => said(self.world.alloc, "refused: ", "no memory"),
+/// How a run by the words that are left ends, and what it writes.
+fn report_of(world: &World, input: &str, words: &mut Words, status: &mut Out, text: &mut Out) {
+    let mut list = Vec::new(world.alloc);
+    for _ in 0..usize::MAX {
+        let Some(word) = words.next() else {
+            break;
+        };
+        let mut plain = Out::new(world.alloc);
+        if !unescape(word, &mut plain) {
+            words.note(Wrong::NoSuchWord);
+        }
+        let Out { text, is_short } = plain;
+        if is_short || list.push(text).is_err() {
+            status.is_short = true;
         }
     }
-}
-
-/// How a run ends, and what it writes.
-#[derive(Drop)]
-struct Ended {
-    status: String,
-    text: String,
-}
-
-/// All words that are left.
-fn list_of(alloc: Global, words: &mut Words) -> Result<Vec<String>, Wrong> {
-    let mut list = Vec::new(alloc);
-    for word in words {
-        list.push(unescaped(alloc, word)?)?;
+    match command_of(&world.heap, &list) {
+        Ok(Command::Help) => status.say("help"),
+        Ok(Command::Version) => status.say("version"),
+        Ok(Command::Report(options)) => reported(world, &options, input, status, text),
+        Err(Refusal::Wrong(line)) => {
+            status.say("refused: ");
+            status.say(&line);
+        }
+        Err(Refusal::Memory) => status.say("refused: no memory"),
     }
-    Ok(list)
-}
-
-/// Does what words ask for.
-fn done<'h>(world: &'h World, command: &Command<Heap<'h>>, input: &[u8]) -> Result<Ended, Wrong> {
-    match command {
-        Command::Help => said(world.alloc, "help", ""),
-        Command::Version => said(world.alloc, "version", ""),
-        Command::Report(options) => reported(world, options, input),
-    }
-}
-
-/// An end with nothing written.
-fn said(alloc: Global, what: &str, of: &str) -> Result<Ended, Wrong> {
-    let mut status = String::new(alloc);
-    status.push_str(what)?;
-    status.push_str(of)?;
-    let text = String::new(alloc);
-    Ok(Ended { status, text })
 }
 
 fn reported<'h>(
     world: &'h World,
-    options: &Options<Heap<'h>>,
-    input: &[u8],
-) -> Result<Ended, Wrong> {
+    options: &Options<&'h Rationed<Global>>,
+    input: &str,
+    status: &mut Out,
+    text: &mut Out,
+) {
     let mut written = Vec::new(world.alloc);
-    let mut reader = input;
+    let mut reader = input.as_bytes();
     let outcome = report(
         &world.heap,
         options,
@@ -161,46 +124,37 @@ fn reported<'h>(
         &mut written,
         DefaultState,
     );
-    let mut text = String::new(world.alloc);
-    text.push_str(str::from_utf8(&written).unwrap_or("? it is no text"))?;
-    let status = status_of(world.alloc, &outcome)?;
-    Ok(Ended { status, text })
-}
-
-fn status_of(alloc: Global, outcome: &Result<(), RunFault>) -> Result<String, AllocError> {
-    let mut status = String::new(alloc);
-    write!(&mut status, "status {}", exit_status(outcome))?;
+    text.say(str::from_utf8(&written).unwrap_or("? it is no text"));
+    status.count("status ", exit_status(&outcome) as usize);
     if let Err(fault) = outcome {
-        write!(&mut status, ": {fault}")?;
-    }
-    Ok(status)
-}
-
-/// Writes how a run ended, and below it each line that it wrote, of which the last one ends too.
-fn write_whole(ended: &Ended, out: &mut String) -> Result<(), AllocError> {
-    out.push_str(&ended.status)?;
-    if !ended.text.is_empty() {
-        out.push('\n')?;
-        out.push_str(&ended.text)?;
-        if !ended.text.ends_with('\n') {
-            out.push_str("; ? the last line has no end")?;
+        if write!(&mut status.text, ": {fault}").is_err() {
+            status.is_short = true;
         }
     }
-    Ok(())
 }
 
-/// Writes the words that stand at a height of a picture. In brackets stand those that only a wide one shows.
-fn write_part(picture: &str, height: &str, out: &mut String) -> Result<(), AllocError> {
+/// Says how a run ended, and below it each line that it wrote, of which the last one ends too.
+fn say_whole(status: &str, text: &str, out: &mut Out) {
+    out.say(status);
+    if !text.is_empty() {
+        out.say("\n");
+        out.say(text);
+        if !text.ends_with('\n') {
+            out.say("; ? the last line has no end");
+        }
+    }
+}
+
+/// Says the words that stand at a height of a picture. In brackets stand those that only a wide one shows.
+fn say_part(picture: &str, height: &str, out: &mut Out) {
     for line in picture.lines() {
         if line.contains(height) {
             let words = line.split(['<', '>']).nth(2).unwrap_or("");
-            let bar = if out.is_empty() { "" } else { " | " };
-            if line.contains("class=\"wide\"") {
-                write!(out, "{bar}({words})")?;
-            } else {
-                write!(out, "{bar}{words}")?;
-            }
+            let is_wide = line.contains("class=\"wide\"");
+            out.part(" | ");
+            out.say(if is_wide { "(" } else { "" });
+            out.say(words);
+            out.say(if is_wide { ")" } else { "" });
         }
     }
-    Ok(())
 }

@@ -1,7 +1,7 @@
 //! The requests of a line: keys that it names, or that it counts or draws.
 
-use crate::words::{Words, Wrong, next, next_number};
-use std::alloc::Global;
+use crate::words::Words;
+use crate::world::World;
 
 /// Requests, and how they were asked for.
 #[derive(Drop)]
@@ -11,115 +11,77 @@ pub(crate) struct Requested {
     pub(crate) drawn: bool,
 }
 
-/// Reads what is left of a line, up to the word `hash`: `count N of M`, the numbers below M in turn; `drawn N seed S of M`,
-/// numbers below M, of which small ones come more often; or the keys themselves. Behind `weigh M` a counted or drawn key has the
-/// rest of its number by M for a weight, behind a colon.
-pub(crate) fn read_keys(alloc: Global, words: &mut Words) -> Result<Requested, Wrong> {
+/// Reads what is left of a line, without the word `hash` and the one behind it: `count N of M`, the numbers below M in turn;
+/// `drawn N seed S of M`, numbers below M, of which small ones come more often; or the keys themselves. Behind `weigh M` a
+/// counted or drawn key has the rest of its number by M for a weight, behind a colon.
+pub(crate) fn read_keys(world: &World, words: &mut Words) -> Requested {
     let mut list = Requested {
-        keys: Vec::new(alloc),
+        keys: Vec::new(world.alloc),
         drawn: false,
     };
-    read_all(alloc, words, &mut list)?;
-    Ok(list)
-}
-
-/// Reads to the end of the line.
-fn read_all(alloc: Global, words: &mut Words, list: &mut Requested) -> Result<(), Wrong> {
     for _ in 0..usize::MAX {
-        let Some(word) = words.next() else {
-            break;
-        };
-        read_word(alloc, word, words, list)?;
-    }
-    Ok(())
-}
-
-/// Reads on from a word: one key, many, or the name of a hash, which is no key.
-fn read_word(
-    alloc: Global,
-    word: &str,
-    words: &mut Words,
-    list: &mut Requested,
-) -> Result<(), Wrong> {
-    match word {
-        "hash" => {
-            let _name = next(words)?;
-        }
-        "count" => {
-            let count = next_number(words)?;
-            let distinct = named(words, "of")?;
-            let numbers = counted(alloc, count, distinct)?;
-            name(alloc, &numbers, words, &mut list.keys)?;
-        }
-        "drawn" => {
-            let count = next_number(words)?;
-            let seed = named(words, "seed")?;
-            let distinct = named(words, "of")?;
-            let numbers = draws(alloc, count, seed, distinct)?;
-            list.drawn = true;
-            name(alloc, &numbers, words, &mut list.keys)?;
-        }
-        key => {
-            let key = String::from_str(alloc, key)?;
-            list.keys.push(key)?;
+        match words.next() {
+            Some("hash") => {
+                let _name = words.word();
+            }
+            Some("count") => number_keys(world, false, words, &mut list.keys),
+            Some("drawn") => {
+                list.drawn = true;
+                number_keys(world, true, words, &mut list.keys);
+            }
+            Some(key) => push(world, key, &mut list.keys),
+            None => break,
         }
     }
-    Ok(())
+    list
 }
 
-/// So many numbers, those below `distinct` in turn.
-fn counted(alloc: Global, count: usize, distinct: u64) -> Result<Vec<u64>, Wrong> {
-    let mut numbers = Vec::new(alloc);
+fn push(world: &World, key: &str, keys: &mut Vec<String>) {
+    let Ok(key) = String::from_str(world.alloc, key) else {
+        world.is_short.set(true);
+        return;
+    };
+    if keys.push(key).is_err() {
+        world.is_short.set(true);
+    }
+}
+
+/// So many numbers as keys.
+fn number_keys(world: &World, drawn: bool, words: &mut Words, keys: &mut Vec<String>) {
+    let count = words.number();
+    let mut state = if drawn { words.named("seed") as u64 } else { 0 };
+    let distinct = words.named("of") as u64;
+    let weighed = words.passes("weigh");
+    let below = if weighed { words.number() as u64 } else { 1 };
     for number in 0..count as u64 {
-        numbers.push(number.checked_rem(distinct).unwrap_or(0))?;
-    }
-    Ok(numbers)
-}
-
-/// The number behind this word, which comes next.
-pub(crate) fn named(words: &mut Words, name: &str) -> Result<u64, Wrong> {
-    if next(words)? == name {
-        return Ok(next_number(words)? as u64);
-    }
-    Err(Wrong::NoSuchWord)
-}
-
-/// Writes numbers as keys, with a weight where `weigh` comes next.
-fn name(
-    alloc: Global,
-    numbers: &[u64],
-    words: &mut Words,
-    keys: &mut Vec<String>,
-) -> Result<(), Wrong> {
-    let mut rest = words.clone()?;
-    let weighed = rest.next() == Some("weigh");
-    let mut below = 1;
-    if weighed {
-        below = next_number(&mut rest)? as u64;
-        *words = rest;
-    }
-    for number in numbers {
-        let mut key = number.to_string(alloc)?;
-        if weighed {
-            write!(&mut key, ":{}", number.checked_rem(below).unwrap_or(0))?;
+        let number = if drawn {
+            next_drawn(&mut state, distinct)
+        } else {
+            rest(number, distinct)
+        };
+        let written = if weighed {
+            format!(in world.alloc; "{number}:{}", rest(number, below))
+        } else {
+            number.to_string(world.alloc)
+        };
+        match written {
+            Ok(key) => push(world, &key, keys),
+            Err(_) => world.is_short.set(true),
         }
-        keys.push(key)?;
     }
-    Ok(())
 }
 
-/// Draws so many numbers below `distinct`, of which small ones come more often.
-fn draws(alloc: Global, count: usize, seed: u64, distinct: u64) -> Result<Vec<u64>, Wrong> {
-    let mut drawn = Vec::new(alloc);
-    let mut state = seed;
-    for _ in 0..count {
-        state = stepped(state);
-        let first = (state >> 33).checked_rem(distinct).unwrap_or(0);
-        state = stepped(state);
-        let number = (state >> 33).checked_rem(first.wrapping_add(1));
-        drawn.push(number.unwrap_or(0))?;
-    }
-    Ok(drawn)
+/// The rest of a number by another, and 0 by 0.
+fn rest(number: u64, by: u64) -> u64 {
+    number.checked_rem(by).unwrap_or(0)
+}
+
+/// A drawn number below `distinct`, of which small ones come more often.
+fn next_drawn(state: &mut u64, distinct: u64) -> u64 {
+    *state = stepped(*state);
+    let first = rest(*state >> 33, distinct);
+    *state = stepped(*state);
+    rest(*state >> 33, first.wrapping_add(1))
 }
 
 /// The next state of what draws.

@@ -1,63 +1,42 @@
 //! Whole lists of requests: what a replay marks, and the least that any choice misses.
 
-use crate::cache::Of;
+use crate::answers::Answers;
 use crate::fault::Fault;
-use crate::head::{Hash, Head};
 use crate::lines::Line;
 use crate::misses::{misses_of, sizes_of};
-use crate::pairs::{Hashing, Key};
-use crate::requested::{named, read_keys, stepped};
+use crate::out::Out;
+use crate::pairs::Key;
+use crate::requested::{Requested, read_keys, stepped};
 use crate::simulated::searched;
-use crate::subject::{Answers, Refusal, Subject, run_lines};
-use crate::words::{Words, Wrong, capacity_of, next_number};
+use crate::subject::{Subject, run_lines};
+use crate::words::{Words, Wrong, capacity_of};
 use crate::world::World;
 use clru::replay;
 use clru_least::{Foresight, least};
 use ration::Rationed;
-use std::alloc::{AllocError, Global};
+use std::alloc::{Allocator, Global};
 
 /// Makes each call anew, of the line alone.
 #[derive(Drop)]
 struct Requests<'a> {
     world: &'a World,
-    hashing: Hashing<'a>,
-}
-
-/// The builder of a block.
-pub(crate) fn hashing_of(world: &World, hash: Hash) -> Hashing<'_> {
-    let head = Head::empty();
-    Of { world, head, hash }.hashing()
 }
 
 /// Runs a block, whose first line is its call.
-pub(crate) fn run(
-    world: &World,
-    first: &Line,
-    lines: &[Line],
-    hash: Hash,
-    refusal: &mut Refusal,
-) -> Result<Answers, Wrong> {
-    let (mut all, mut answers) = (Vec::new(world.alloc), Vec::new(world.alloc));
-    all.push(*first)?;
-    for line in lines {
-        all.push(*line)?;
-    }
-    let requests = Requests {
-        world,
-        hashing: hashing_of(world, hash),
-    };
-    run_lines(world, requests, &all, refusal, &mut answers)?;
-    Ok(answers)
+pub(crate) fn run(world: &World, block: &[Line], answers: &mut Answers) {
+    run_lines(world, Requests { world }, block, answers);
 }
 
 impl<'a> Subject for Requests<'a> {
-    fn call(&mut self, name: &str, words: &mut Words, out: &mut String) -> Result<(), Wrong> {
+    fn call(&mut self, name: &str, words: &mut Words, out: &mut Out) {
+        let world = self.world;
         match name {
-            "replay" => replayed(self.world, self.hashing, words, out),
-            "misses" => misses_of(self.world, self.hashing, words, out),
-            "sizes" => sizes_of(self.world, self.hashing, words, out),
-            "least" => least_of(self.world, self.hashing, words, out),
-            _ => Err(Wrong::NoSuchCall),
+            "replay" => replayed(world, words, out),
+            "misses" => misses_of(world, &read_keys(world, words), out),
+            "sizes" => sizes_of(world, &read_keys(world, words), words, out),
+            "least" if words.passes("searched") => searches(world, words, out),
+            "least" => least_of(world, &read_keys(world, words), out),
+            _ => words.note(Wrong::NoSuchCall),
         }
     }
 
@@ -69,142 +48,130 @@ impl<'a> Subject for Requests<'a> {
 /// The requests up to which each is written.
 pub(crate) const MOST: usize = 40;
 
-/// Writes that memory was refused, and which keys came back, or how many.
-fn write_back(keys: &[String], out: &mut String) -> Result<(), AllocError> {
-    out.push_str("no memory, back")?;
-    if keys.len() > MOST {
-        return write!(out, " {}", keys.len());
-    }
-    for key in keys {
-        out.push(' ')?;
-        out.push_str(key)?;
-    }
-    Ok(())
-}
-
-/// `replay CAPACITY KEYS`: M for each miss and H for each hit, and the number of misses.
-fn replayed<'a>(
-    world: &'a World,
-    hashing: Hashing<'a>,
-    words: &mut Words,
-    out: &mut String,
-) -> Result<(), Wrong> {
-    let capacity = capacity_of(next_number(words)?)?;
-    let list = read_keys(world.alloc, words)?;
+/// `replay CAPACITY KEYS`: M for each miss and H for each hit, and the number of misses; or the keys that came back for want of
+/// memory, or how many.
+fn replayed(world: &World, words: &mut Words, out: &mut Out) {
+    let capacity = words.capacity();
+    let list = read_keys(world, words);
     let mut keys = Vec::new(&world.owned);
     for key in &list.keys {
-        keys.push(Key::new(world, key, false)?)?;
+        if keys.push(Key::new(world, key)).is_err() {
+            world.is_short.set(true);
+        }
     }
     let before = world.heap.blocks();
-    match replay(&world.heap, capacity, keys, hashing) {
+    match replay(&world.heap, capacity, keys, world.hashing()) {
         Ok(answer) => {
             if answer.marks.len() <= MOST {
                 for hit in &answer.marks {
-                    out.push_str(if *hit { "H " } else { "M " })?;
+                    out.say(if *hit { "H " } else { "M " });
                 }
             }
-            write!(out, "misses {} of {}", answer.misses, answer.marks.len())?;
+            out.count("misses ", answer.misses);
+            out.count(" of ", answer.marks.len());
         }
-        Err(keys) => {
-            let mut texts = Vec::new(world.alloc);
-            for key in &keys {
-                texts.push(String::from_str(world.alloc, &key.text)?)?;
-            }
-            write_back(&texts, out)?;
-        }
+        Err(keys) => say_back(keys.as_slice(), out),
     }
     if world.heap.blocks() != before {
-        out.push_str("; ? memory is left over")?;
+        out.say("; ? memory is left over");
     }
-    Ok(())
+}
+
+/// Says that memory was refused, and which keys came back, or how many.
+fn say_back(keys: &[Key], out: &mut Out) {
+    out.say("no memory, back");
+    if keys.len() > MOST {
+        out.count(" ", keys.len());
+        return;
+    }
+    for key in keys {
+        out.say(" ");
+        out.say(&key.text);
+    }
+}
+
+/// The keys of a list.
+pub(crate) fn texts_of<'k, A: Allocator>(
+    world: &World,
+    alloc: A,
+    list: &'k Requested,
+) -> Vec<&'k str, A> {
+    let mut keys: Vec<&'k str, A> = Vec::new(alloc);
+    for key in &list.keys {
+        if keys.push(key).is_err() {
+            world.is_short.set(true);
+        }
+    }
+    keys
 }
 
 /// `least KEYS`: the least misses with room for 1, 2 and so on, up to where they stay the same.
-fn least_of<'a>(
-    world: &'a World,
-    hashing: Hashing<'a>,
-    words: &mut Words,
-    out: &mut String,
-) -> Result<(), Wrong> {
-    let mut rest = words.clone()?;
-    if rest.next() == Some("searched") {
-        let count = next_number(&mut rest)?;
-        let seed = named(&mut rest, "seed")?;
-        *words = rest;
-        return searches(world, hashing, count, seed, out);
-    }
-    let list = read_keys(world.alloc, words)?;
-    let mut keys: Vec<&str, &Rationed<Global>> = Vec::new(&world.owned);
-    for key in &list.keys {
-        keys.push(key)?;
-    }
-    let Ok(foresight) = Foresight::new(&world.heap, &keys, hashing) else {
-        out.push_str("no memory")?;
-        return Ok(());
+fn least_of(world: &World, list: &Requested, out: &mut Out) {
+    let keys = texts_of(world, &world.owned, list);
+    let Ok(foresight) = Foresight::new(&world.heap, &keys, world.hashing()) else {
+        out.say("no memory");
+        return;
     };
-    write_rooms(&foresight, out)?;
-    let Ok(wanted) = foresight.least(capacity_of(3)?) else {
-        out.push_str("; no memory")?;
-        return Ok(());
+    say_rooms(&foresight, out);
+    let Ok(wanted) = foresight.least(capacity_of(3)) else {
+        out.say("; no memory");
+        return;
     };
-    match least(&world.heap, capacity_of(3)?, &keys, hashing) {
+    match least(&world.heap, capacity_of(3), &keys, world.hashing()) {
         Ok(misses) if misses == wanted => {}
-        Ok(misses) => write!(out, "; ? {misses} with room for 3")?,
-        Err(_) => out.push_str("; no memory")?,
+        Ok(misses) => {
+            out.count("; ? ", misses);
+            out.say(" with room for 3");
+        }
+        Err(_) => out.say("; no memory"),
     }
-    Ok(())
 }
 
-/// Writes the least misses by room.
-fn write_rooms(
-    foresight: &Foresight<&str, &Rationed<Global>>,
-    out: &mut String,
-) -> Result<(), Wrong> {
-    let Ok(last) = foresight.least(capacity_of(usize::MAX)?) else {
-        out.push_str("no memory")?;
-        return Ok(());
+/// Says the least misses by room.
+fn say_rooms(foresight: &Foresight<&str, &Rationed<Global>>, out: &mut Out) {
+    let Ok(last) = foresight.least(capacity_of(usize::MAX)) else {
+        out.say("no memory");
+        return;
     };
     for room in 1..=MOST {
-        let Ok(misses) = foresight.least(capacity_of(room)?) else {
-            out.push_str(" no memory")?;
-            return Ok(());
+        let Ok(misses) = foresight.least(capacity_of(room)) else {
+            out.say(" no memory");
+            return;
         };
-        let blank = if out.is_empty() { "" } else { " " };
-        write!(out, "{blank}{misses}")?;
+        out.part(" ");
+        out.number(misses);
         if misses == last {
-            return Ok(());
+            return;
         }
     }
-    write!(out, " .. {last}")?;
-    Ok(())
+    out.count(" .. ", last);
 }
 
 /// `least searched N seed S`: N drawn lists of ten requests of four keys, with room for 1, 2 and 3 of them in turn.
-fn searches<'a>(
-    world: &'a World,
-    hashing: Hashing<'a>,
-    count: usize,
-    seed: u64,
-    out: &mut String,
-) -> Result<(), Wrong> {
-    let mut state = seed;
+fn searches(world: &World, words: &mut Words, out: &mut Out) {
+    let count = words.number();
+    let mut state = words.named("seed") as u64;
+    if words.passes("hash") {
+        let _name = words.word();
+    }
     for row in 0..count {
         let mut keys = Vec::new(world.alloc);
         for _ in 0..10usize {
             state = stepped(state);
-            keys.push(((state >> 60) % 4) as u8)?;
+            if keys.push(((state >> 60) % 4) as u8).is_err() {
+                out.is_short = true;
+            }
         }
         let room = row % 3 + 1;
         let wanted = searched(&keys, room);
-        match least(world.alloc, capacity_of(room)?, &keys, hashing) {
+        match least(world.alloc, capacity_of(room), &keys, world.hashing()) {
             Ok(misses) if misses == wanted => {}
-            Ok(misses) => {
-                write!(out, "? list {row}: {misses}, by a search {wanted}")?;
-                return Ok(());
+            Ok(_) => {
+                out.count("? another number than by a search, list ", row);
+                return;
             }
-            Err(_) => return Err(Wrong::NoMemory),
+            Err(_) => out.is_short = true,
         }
     }
-    out.push_str("as searched")?;
-    Ok(())
+    out.say("as searched");
 }

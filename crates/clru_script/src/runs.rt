@@ -1,17 +1,17 @@
 //! Runs of calls, made by `clru_runs` on a cache of numbers: each line on one of its own. Its answer is those of its calls,
 //! and how many hashes and requests they cost.
 
-mod answers;
+pub(crate) mod answers;
 mod named;
 
+use crate::answers::Answers;
+use crate::drawn::numbers::{Of, is_whole, made};
 use crate::drawn::pairs::Pairs;
-use crate::drawn::{Numbers, is_whole, made};
-use crate::head::{Hash, Head};
 use crate::lines::Line;
-use crate::runs::answers::write_answer;
+use crate::out::Out;
+use crate::runs::answers::say_answer;
 use crate::runs::named::calls_of;
-use crate::subject::{Answers, Refusal, told};
-use crate::words::{Words, Wrong, end, next_number, number_of};
+use crate::words::{Words, Wrong};
 use crate::world::World;
 use clru::ZeroWeightScale;
 use clru_runs::{Attempt, Perform, PlainCall, perform_all};
@@ -22,199 +22,163 @@ use std::alloc::Global;
 type Calls<'a> = Vec<PlainCall<usize, usize>, &'a Rationed<Global>>;
 
 /// A cache of numbers that weigh nothing.
-type Plain<'a> = Numbers<'a, ZeroWeightScale>;
+type Plain<'a> = Of<'a, ZeroWeightScale>;
 
 /// Answers the lines of a block: each is a run of its own.
-pub(crate) fn run(
-    world: &World,
-    first: &Line,
-    lines: &[Line],
-    hash: Hash,
-    _refusal: &mut Refusal,
-) -> Result<Answers, Wrong> {
-    let (head, _items) = Head::read(first.call)?;
-    let mut answers = Vec::new(world.alloc);
-    answers.push(String::new(world.alloc))?;
+pub(crate) fn run(world: &World, lines: &[Line], answers: &mut Answers) {
+    answers.say("");
     for line in lines {
-        let mut out = String::new(world.alloc);
+        let mut out = Out::new(world.alloc);
         if !line.call.is_empty() {
-            if let Err(wrong) = line_made(world, head, hash, line.call, &mut out) {
-                told(wrong, &mut out)?;
-            }
+            let mut words = Words::new(line.call);
+            line_made(world, &mut words, &mut out);
+            words.end(&mut out);
             world.heap.refuse_none();
-            if world.heap.blocks() != 0 || world.owned.blocks() != 0 {
-                out.push_str("; ? memory is left over")?;
-            }
         }
-        answers.push(out)?;
+        answers.add(out);
+        answers.say_left_over(world);
     }
-    Ok(answers)
 }
 
 /// Makes the calls of a line on a new cache. The first word may say what the run meets.
-fn line_made(
-    world: &World,
-    head: Head,
-    hash: Hash,
-    text: &str,
-    out: &mut String,
-) -> Result<(), Wrong> {
-    let mut words = text.split_whitespace();
-    match words.next() {
-        Some("fails") => return fails(world, head, hash, &mut words, out),
-        Some("puts") => return puts(world, head, hash, &mut words, out),
-        Some("refused") => {
-            let calls = calls_of(world, &mut words, text.len())?;
-            let mut cache = filled(world, head, hash)?;
+fn line_made(world: &World, words: &mut Words, out: &mut Out) {
+    if words.passes("fails") {
+        fails(world, words, out);
+    } else if let Some(mut cache) = filled(world, words) {
+        if words.passes("puts") {
+            puts(world, &mut cache, words, out);
+        } else if words.passes("refused") {
             world.heap.refuse_after(0);
-            run_of(world, &mut cache, calls, out)
-        }
-        Some("unanswered") => {
-            let calls = calls_of(world, &mut words, text.len())?;
-            let mut cache = filled(world, head, hash)?;
-            unanswered(world, &mut cache, calls, out)
-        }
-        _ => {
-            let calls = calls_of(world, &mut text.split_whitespace(), text.len())?;
-            let mut cache = filled(world, head, hash)?;
-            run_of(world, &mut cache, calls, out)
+            run_of(world, &mut cache, calls_of(world, words), out);
+        } else if words.passes("unanswered") {
+            unanswered(world, &mut cache, calls_of(world, words), out);
+        } else {
+            run_of(world, &mut cache, calls_of(world, words), out);
         }
     }
 }
 
 /// A cache with the first entries.
-fn filled<'a>(world: &'a World, head: Head, hash: Hash) -> Result<Plain<'a>, Wrong> {
-    let mut cache = made(world, head.capacity, head.reserve, hash, ZeroWeightScale)?;
+fn filled<'a>(world: &'a World, words: &mut Words) -> Option<Plain<'a>> {
+    let head = world.head;
+    let reserve = head.reserve.unwrap_or(0);
+    let mut cache = made(world, head.capacity, reserve, ZeroWeightScale)?;
     for number in 0..head.filled {
         if cache.put(number, number).is_err() {
-            return Err(Wrong::NotFilled);
+            words.note(Wrong::NotFilled);
         }
     }
-    Ok(cache)
+    Some(cache)
 }
 
 /// Makes a run, and writes its answers and what it cost. One request is made for the answers.
-fn run_of<'a>(
-    world: &'a World,
-    cache: &mut Plain<'a>,
-    calls: Calls<'a>,
-    out: &mut String,
-) -> Result<(), Wrong> {
+fn run_of<'a>(world: &'a World, cache: &mut Plain<'a>, calls: Calls<'a>, out: &mut Out) {
     let (before, asked) = (world.cost(), world.owned.asked());
     let Ok(answers) = perform_all(&world.owned, cache, calls) else {
-        return Err(Wrong::NoMemory);
+        out.is_short = true;
+        return;
     };
     let cost = world.cost().since(before);
-    for answer in &answers {
-        if !out.is_empty() {
-            out.push_str("; ")?;
-        }
-        write_answer(answer, out)?;
+    for (at, answer) in answers.iter().enumerate() {
+        out.say(if at > 0 { "; " } else { "" });
+        say_answer(answer, out);
     }
     if cost.hashed > 0 {
-        write!(out, "; hashes {}", cost.hashed)?;
+        out.count("; hashes ", cost.hashed as usize);
     }
     if cost.asked > 0 {
-        write!(out, "; requests {}", cost.asked)?;
+        out.count("; requests ", cost.asked as usize);
     }
     if world.owned.asked().wrapping_sub(asked) != 1 {
-        out.push_str("; ? more than one request is made for the answers")?;
+        out.say("; ? more than one request is made for the answers");
     }
-    Ok(())
 }
 
 /// Makes a run whose answers find no memory: no call is made, and all come back. They are made again then.
-fn unanswered<'a>(
-    world: &'a World,
-    cache: &mut Plain<'a>,
-    calls: Calls<'a>,
-    out: &mut String,
-) -> Result<(), Wrong> {
+fn unanswered<'a>(world: &'a World, cache: &mut Plain<'a>, calls: Calls<'a>, out: &mut Out) {
     world.owned.refuse_one_after(0);
     match perform_all(&world.owned, cache, calls) {
-        Ok(_) => {
-            out.push_str("? the memory is not refused")?;
-            Ok(())
-        }
+        Ok(_) => out.say("? the memory is not refused"),
         Err(calls) => {
-            write!(
-                out,
-                "{} calls back, {} held; again ",
-                calls.len(),
-                cache.len()
-            )?;
-            let mut again = String::new(world.alloc);
-            run_of(world, cache, calls, &mut again)?;
-            out.push_str(&again)?;
-            Ok(())
+            out.number(calls.len());
+            out.count(" calls back, ", cache.len());
+            out.say(" held; again ");
+            run_of(world, cache, calls, out);
         }
     }
 }
 
 /// `puts N`: a run of puts of the keys below N.
-fn puts(
-    world: &World,
-    head: Head,
-    hash: Hash,
-    words: &mut Words,
-    out: &mut String,
-) -> Result<(), Wrong> {
-    let count = next_number(words)?;
-    end(words)?;
-    let mut cache = filled(world, head, hash)?;
-    let mut calls = Vec::with_capacity(&world.owned, count)?;
+fn puts<'a>(world: &'a World, cache: &mut Plain<'a>, words: &mut Words, out: &mut Out) {
+    let count = words.number();
+    let mut calls = Vec::new(&world.owned);
     for number in 0..count {
-        calls.push(PlainCall::Put(number, number))?;
+        if calls.push(PlainCall::Put(number, number)).is_err() {
+            out.is_short = true;
+        }
     }
     let asked = world.owned.asked();
-    let Ok(answers) = perform_all(&world.owned, &mut cache, calls) else {
-        return Err(Wrong::NoMemory);
+    let Ok(answers) = perform_all(&world.owned, cache, calls) else {
+        out.is_short = true;
+        return;
     };
     let asked = world.owned.asked().wrapping_sub(asked);
-    let (answered, held) = (answers.len(), cache.len());
-    write!(out, "{answered} answers by {asked} request, {held} held")?;
-    Ok(())
+    out.number(answers.len());
+    out.count(" answers by ", asked as usize);
+    out.count(" request, ", cache.len());
+    out.say(" held");
 }
 
 /// `fails K ..`: puts of these keys by closures, of which the first one fails, or the second, and so on, with and without a
 /// value written. After each, the cache holds what the list does.
-fn fails(
-    world: &World,
-    head: Head,
-    hash: Hash,
-    words: &mut Words,
-    out: &mut String,
-) -> Result<(), Wrong> {
+fn fails(world: &World, words: &mut Words, out: &mut Out) {
     let mut keys = Vec::new(world.alloc);
-    for word in words {
-        keys.push(number_of(word)?)?;
+    for _ in 0..usize::MAX {
+        if words.is_empty() {
+            break;
+        }
+        if keys.push(words.number()).is_err() {
+            out.is_short = true;
+        }
     }
-    let (mut calls, mut failed) = (0u64, 0u64);
+    let (mut calls, mut failed) = (0usize, 0usize);
     for at in 0..=keys.len() {
         for left in [None, Some(9)] {
-            let mut cache = filled(world, head, hash)?;
-            let mut pairs = Pairs {
-                list: Vec::new(world.alloc),
-                capacity: head.capacity,
-                weighs: false,
-            };
-            for (number, key) in keys.iter().enumerate() {
-                let attempt = if number == at {
-                    failed = failed.wrapping_add(1);
-                    Attempt::Fail(left)
-                } else {
-                    Attempt::Store(number)
-                };
-                let call = PlainCall::TryPutOrModify(*key, attempt);
-                calls = calls.wrapping_add(1);
-                let wanted = pairs.perform_plain(&call)?;
-                let given = call.perform(&mut cache);
-                if given != wanted || !is_whole(&cache, &pairs) {
-                    write!(out, "? call {number}, where {at} fails: {given:?}; ")?;
-                }
+            if let Some(mut cache) = filled(world, words) {
+                failing(world, &mut cache, &keys, at, left, out);
+                calls = calls.wrapping_add(keys.len());
+                failed = failed.wrapping_add(usize::from(at < keys.len()));
             }
         }
     }
-    write!(out, "{calls} calls as a list answers, {failed} failed")?;
-    Ok(())
+    out.number(calls);
+    out.count(" calls as a list answers, ", failed);
+    out.say(" failed");
+}
+
+/// Puts of keys, of which the one of a number fails.
+fn failing(
+    world: &World,
+    cache: &mut Plain,
+    keys: &[usize],
+    at: usize,
+    left: Option<usize>,
+    out: &mut Out,
+) {
+    let mut pairs = Pairs::new(world, world.head.capacity);
+    for (number, key) in keys.iter().enumerate() {
+        let attempt = if number == at {
+            Attempt::Fail(left)
+        } else {
+            Attempt::Store(number)
+        };
+        let wanted = pairs.perform_plain(&PlainCall::TryPutOrModify(*key, attempt));
+        let given = PlainCall::TryPutOrModify(*key, attempt).perform(cache);
+        if given != wanted || !is_whole(cache, &pairs) {
+            out.count("? call ", number);
+            out.count(", where this one fails: ", at);
+            out.say("; ");
+        }
+    }
+    out.is_short = out.is_short || pairs.is_short;
 }

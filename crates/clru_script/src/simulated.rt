@@ -1,35 +1,39 @@
 //! Direct ways to count misses, beside which drawn requests are run.
 
-use std::alloc::{AllocError, Global};
+use crate::world::World;
 
 /// The misses at a capacity and their size, by a list of numbers with sizes that is searched from its front.
 pub(crate) fn simulated(
-    alloc: Global,
+    world: &World,
     requests: &[(usize, usize)],
     capacity: usize,
-) -> Result<(usize, usize), AllocError> {
-    let mut held: Vec<(usize, usize)> = Vec::new(alloc);
+) -> (usize, usize) {
+    let mut held: Vec<(usize, usize)> = Vec::new(world.alloc);
     let mut missed = (0usize, 0usize);
-    for (key, size) in requests {
-        let mut before = Vec::new(alloc);
-        before.push((*key, *size))?;
-        let (mut found, mut used) = (false, *size);
+    for request in requests {
+        let (key, size) = *request;
+        let mut before = Vec::new(world.alloc);
+        let mut is_short = before.push((key, size)).is_err();
+        let (mut found, mut used) = (false, size);
         for (other, its) in &held {
-            if *other == *key {
+            if *other == key {
                 found = true;
                 continue;
             }
             used = used.saturating_add(*its);
-            if used <= capacity {
-                before.push((*other, *its))?;
+            if used <= capacity && before.push((*other, *its)).is_err() {
+                is_short = true;
             }
         }
         if !found {
-            missed = (missed.0.saturating_add(1), missed.1.saturating_add(*size));
+            missed = (missed.0.saturating_add(1), missed.1.saturating_add(size));
+        }
+        if is_short {
+            world.is_short.set(true);
         }
         held = before;
     }
-    Ok(missed)
+    missed
 }
 
 /// No way to hold these keys was found yet.

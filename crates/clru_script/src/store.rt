@@ -1,56 +1,41 @@
 //! Blocks of calls of a store, over a source whose value of a key is the key's letters twice.
-ghost use Rattle.std.specs.Prelude.{◌*◌, ◌+◌, ◌-◌, ◌/◌, ◌^◌, ◌≡◌, IfOk, Some, min, ⊤};
+ghost use Rattle.std.specs.Prelude.{◌*◌, ◌+◌, ◌-◌, ◌/◌, ◌^◌, ◌≡◌, Some, min, ⊤};
 ghost use Rattle.std.specs.Int.Count.{count_leading_zeros};
 ghost use Rattle.std.specs.Cmp.Rules.{comparing};
 ghost use Rattle.std.proofs.Common.{rules};
 
-use crate::cache::{Of, begin, made};
-use crate::calls::{read, write_found, write_value};
+use crate::answers::Answers;
+use crate::cache::made;
+use crate::calls::{read, say_found, say_value};
 use crate::costs::cost_of;
 use crate::fault::Fault;
-use crate::head::{Hash, Head};
 use crate::lines::Line;
-use crate::pairs::{Hashing, Key, Scale, Value, Weigh};
-use crate::subject::{Answers, Refusal, Subject, run_lines};
+use crate::out::{Out, Told};
+use crate::pairs::{Hashing, Key, Scale, Value};
+use crate::subject::{Subject, begin};
 use crate::whole::fault_of;
-use crate::words::{Words, Wrong, end, next_number};
+use crate::words::{Words, Wrong};
 use crate::world::{World, add};
-use clru::NonZeroUsize;
 use clru_through::{Answer, Loaded, Source, Through};
 use ration::Rationed;
-use std::alloc::{AllocError, Global};
-use std::cell::Cell;
+use std::alloc::Global;
 
-/// Which fetches fail: those of these numbers, counted from the start of the block.
+/// A fetch fails where the line `fail` asked for it.
 #[derive(Clone, Copy)]
-struct Failing {
-    from: u64,
-    below: u64,
-}
-
-/// Why a fetch fails.
-#[derive(Drop)]
-enum Failed {
-    /// The line `fail` asked for it, or
-    Asked,
-    /// the program found no memory of its own.
-    NoMemory,
-}
+struct Failed;
 
 /// Gives each key twice.
 #[derive(Drop)]
 struct Origin<'a> {
     world: &'a World,
-    failing: &'a Cell<Failing>,
     /// What a letter of a key adds to the weight of its value.
     unit: usize,
 }
 
 impl<'a> Origin<'a> {
     /// The value of a key.
-    fn value(&self, key: &Key<'a>) -> Result<Value<'a>, AllocError>
-        ensures { IfOk result (λ value.
-            value ≡ min (self.now.unit * (8 - count_leading_zeros 64 key.now.number / 8)) (2 ^ 64 - 1)) }
+    fn value(&self, key: &Key<'a>) -> Value<'a>
+        ensures { result ≡ min (self.now.unit * (8 - count_leading_zeros 64 key.now.number / 8)) (2 ^ 64 - 1) }
     {
         let letters = 8u32.saturating_sub(key.number.leading_zeros() / 8);
         Value::doubled(
@@ -67,15 +52,12 @@ impl<'a> Source<Key<'a>, Value<'a>, Failed> for Origin<'a> {
     ghost fetches = { λ _ _ _ _. ⊤ };
 
     fn fetch(&mut self, key: &Key<'a>) -> Result<Value<'a>, Failed> {
-        let (number, failing) = (self.world.fetched.get(), self.failing.get());
+        let number = self.world.fetched.get();
         add(&self.world.fetched);
-        if failing.from <= number && number < failing.below {
-            return Err(Failed::Asked);
+        if self.world.fails_from.get() <= number && number < self.world.fails_below.get() {
+            return Err(Failed);
         }
-        match self.value(key) {
-            Ok(value) => Ok(value),
-            Err(AllocError) => Err(Failed::NoMemory),
-        }
+        Ok(self.value(key))
     }
 
     ghost same = { Prim.search (rules, comparing) };
@@ -95,220 +77,171 @@ type Counted<'a> = Through<
 /// A store with what its calls are made of, until it is taken apart.
 #[derive(Drop)]
 struct Store<'a, T: Drop> {
-    of: Of<'a>,
-    failing: &'a Cell<Failing>,
+    world: &'a World,
     through: Option<T>,
 }
 
-/// Runs a block: makes the store of its first line, and the calls of the others. In a block of `store_costs` each line has a store
-/// of its own, and its answer is what its call costs.
-pub(crate) fn run(
-    world: &World,
-    first: &Line,
-    lines: &[Line],
-    hash: Hash,
-    refusal: &mut Refusal,
-) -> Result<Answers, Wrong> {
-    let (head, _items) = Head::read(first.call)?;
-    let of = Of { world, head, hash };
-    let failing = Cell::new(Failing { from: 0, below: 0 });
-    let mut answers = Vec::new(world.alloc);
-    if first.name() == "store_costs" {
-        answers.push(String::new(world.alloc))?;
-        for line in lines {
-            if line.call.is_empty() {
-                answers.push(String::new(world.alloc))?;
-            } else if let Some(store) = filled(of, &failing)? {
-                answers.push(cost_of(world, store, line)?)?;
-            } else {
-                return Err(Wrong::NotFilled);
-            }
+/// Runs a block: makes the store of its first line, and the calls of the others.
+pub(crate) fn run(world: &World, lines: &[Line], answers: &mut Answers) {
+    let store = filled(world, answers);
+    begin(world, store, lines, answers);
+}
+
+/// Runs a block whose lines have a store each, and as their answer what its call costs.
+pub(crate) fn run_costs(world: &World, lines: &[Line], answers: &mut Answers) {
+    answers.say("");
+    for line in lines {
+        if line.call.is_empty() {
+            answers.say("");
+        } else {
+            let store = filled(world, answers);
+            cost_of(world, store, line, answers);
         }
-    } else if let Some(store) = begin(of, filled(of, &failing)?, refusal, &mut answers)? {
-        run_lines(world, store, lines, refusal, &mut answers)?;
     }
-    Ok(answers)
 }
 
 /// Makes a store and loads the first keys, or answers `None` for want of memory.
-fn filled<'a>(
-    of: Of<'a>,
-    failing: &'a Cell<Failing>,
-) -> Result<Option<Store<'a, Counted<'a>>>, Wrong> {
-    let (world, head) = (of.world, of.head);
-    let unit = match head.weigh {
-        Weigh::Nothing => 0,
-        Weigh::Length => 2,
-        Weigh::Number => return Err(Wrong::NoSuchWord),
-    };
-    let empty = Head { filled: 0, ..head };
-    let Some(mut cache) = made(Of { head: empty, ..of }, Scale { world })? else {
-        return Ok(None);
-    };
+fn filled<'a>(world: &'a World, answers: &mut Answers) -> Option<Store<'a, Counted<'a>>> {
+    let head = world.head;
+    let reserve = head.reserve.unwrap_or(0);
+    let mut cache = made(world, head.capacity, reserve, Scale { world })?;
     // It is empty. A store asks for that to be seen.
     cache.clear();
-    let source = Origin {
-        world,
-        failing,
-        unit,
-    };
-    let mut through = Through::new(cache, source);
-    for number in 0..head.filled {
-        let word = number.to_string(world.alloc)?;
-        if through.load(Key::new(world, &word, head.folded)?).is_err() {
-            return Err(Wrong::NotFilled);
+    let unit = if head.weighs { 2 } else { 0 };
+    let mut through = Through::new(cache, Origin { world, unit });
+    load(world, &mut through, answers);
+    let through = Some(through);
+    Some(Store { world, through })
+}
+
+fn load<'a>(world: &'a World, store: &mut Counted<'a>, answers: &mut Answers) {
+    for number in 0..world.head.filled {
+        let Ok(word) = number.to_string(world.alloc) else {
+            answers.is_short = true;
+            return;
+        };
+        if store.load(Key::new(world, &word)).is_err() {
+            answers.wrong = Some(Wrong::NotFilled);
+            return;
         }
     }
-    Ok(Some(Store {
-        of,
-        failing,
-        through: Some(through),
-    }))
 }
 
 impl<'a> Subject for Store<'a, Counted<'a>> {
-    fn call(&mut self, name: &str, words: &mut Words, out: &mut String) -> Result<(), Wrong> {
+    fn call(&mut self, name: &str, words: &mut Words, out: &mut Out) {
+        let world = self.world;
         if name == "fail" {
-            self.failing.set(fails(self.of.world.fetched.get(), words)?);
-            out.push_str("done")?;
-            return Ok(());
+            fail(world, words);
+            out.say("done");
+            return;
         }
         let Some(mut store) = self.through.take() else {
-            return Err(Wrong::NothingMade);
+            words.note(Wrong::NothingMade);
+            return;
         };
         if name == "into_parts" {
             let (cache, source) = store.into_parts();
-            let _listed = read(&cache, self.of, "list", words, out)?;
-            write!(out, "; fetches {}", source.world.fetched.get())?;
-            return Ok(());
+            let _listed = read(&cache, world, "list", words, out);
+            out.count("; fetches ", source.world.fetched.get() as usize);
+            return;
         }
-        let called = called(&mut store, self.of, name, words, out);
+        if !looked_up(&mut store, world, name, words, out)
+            && !changed(&mut store, name, words, out)
+            && !read(store.cache(), world, name, words, out)
+        {
+            words.note(Wrong::NoSuchCall);
+        }
         self.through = Some(store);
-        called
     }
 
     fn fault(&self) -> Option<Fault> {
         match &self.through {
-            Some(store) => fault_of(self.of.world, store.cache()),
+            Some(store) => fault_of(self.world, store.cache()),
             None => None,
         }
     }
 }
 
 /// `fail N`: each fetch after the next N ones; `fail one N`: the one after them alone; `fail none`.
-fn fails(fetched: u64, words: &mut Words) -> Result<Failing, Wrong> {
-    let mut rest = words.clone()?;
-    let failing = match rest.next() {
-        Some("none") => Failing { from: 0, below: 0 },
-        Some("one") => {
-            let from = fetched.saturating_add(next_number(&mut rest)? as u64);
-            Failing {
-                from,
-                below: from.saturating_add(1),
-            }
-        }
-        _ => {
-            rest = words.clone()?;
-            Failing {
-                from: fetched.saturating_add(next_number(&mut rest)? as u64),
-                below: u64::MAX,
-            }
-        }
-    };
-    end(&mut rest)?;
-    Ok(failing)
-}
-
-/// Makes a call.
-fn called<'a>(
-    store: &mut Counted<'a>,
-    of: Of<'a>,
-    name: &str,
-    words: &mut Words,
-    out: &mut String,
-) -> Result<(), Wrong> {
-    if looked_up(store, of, name, words, out)? || changed(store, of, name, words, out)? {
-        end(words)?;
-        return Ok(());
+fn fail(world: &World, words: &mut Words) {
+    if words.passes("none") {
+        world.fails_below.set(0);
+        return;
     }
-    if read(store.cache(), of, name, words, out)? {
-        return Ok(());
-    }
-    Err(Wrong::NoSuchCall)
+    let is_one = words.passes("one");
+    let from = world.fetched.get().saturating_add(words.number() as u64);
+    world.fails_from.set(from);
+    world.fails_below.set(if is_one {
+        from.saturating_add(1)
+    } else {
+        u64::MAX
+    });
 }
 
 /// Makes a call that looks for a key. Answers `false` where the name is none of these.
 fn looked_up<'a>(
     store: &mut Counted<'a>,
-    of: Of<'a>,
+    world: &'a World,
     name: &str,
     words: &mut Words,
-    out: &mut String,
-) -> Result<bool, Wrong> {
+    out: &mut Out,
+) -> bool {
     match name {
-        "load" => match store.load(of.key(words)?) {
-            Ok(Loaded::Held { fetched: true }) => out.push_str("fetched")?,
-            Ok(Loaded::Held { fetched: false }) => out.push_str("held")?,
-            Ok(Loaded::Passed(value)) => write!(out, "passed {}", value.text)?,
-            Err(failed) => write_failed(failed, out)?,
+        "load" => match store.load(Key::next(world, words)) {
+            Ok(Loaded::Held { fetched: true }) => out.say("fetched"),
+            Ok(Loaded::Held { fetched: false }) => out.say("held"),
+            Ok(Loaded::Passed(value)) => say_of("passed ", &value, out),
+            Err(Failed) => out.say("failed"),
         },
-        "get" => match store.get(of.key(words)?) {
-            Ok(Answer::Held(value)) => write!(out, "held {}", value.text)?,
-            Ok(Answer::Passed(value)) => write!(out, "passed {}", value.text)?,
-            Err(failed) => write_failed(failed, out)?,
+        "get" => match store.get(Key::next(world, words)) {
+            Ok(Answer::Held(value)) => say_of("held ", value, out),
+            Ok(Answer::Passed(value)) => say_of("passed ", &value, out),
+            Err(Failed) => out.say("failed"),
         },
         "put" => {
-            let key = of.key(words)?;
-            let value = store.source().value(&key)?;
+            let key = Key::next(world, words);
+            let value = store.source().value(&key);
             match store.put(key, value) {
-                Ok(()) => out.push_str("stored")?,
-                Err(value) => write!(out, "back {}", value.text)?,
+                Ok(()) => out.say("stored"),
+                Err(value) => say_of("back ", &value, out),
             }
         }
-        "peek" => write_value(store.peek(&of.key(words)?), out)?,
+        "hit" => out.truth(store.hit(&Key::next(world, words))),
+        "peek" => say_value(store.peek(&Key::next(world, words)), out),
         "pop" => {
-            let value = store.pop(&of.key(words)?);
-            write_value(value.as_ref(), out)?;
+            let value = store.pop(&Key::next(world, words));
+            say_value(value.as_ref(), out);
         }
-        _ => return Ok(false),
+        _ => return false,
     }
-    Ok(true)
+    true
+}
+
+/// Says what became of a value.
+fn say_of(what: &str, value: &Value, out: &mut Out) {
+    out.say(what);
+    out.say(&value.text);
 }
 
 /// Makes a call of the whole store. Answers `false` where the name is none of these.
-fn changed<'a>(
-    store: &mut Counted<'a>,
-    of: Of<'a>,
-    name: &str,
-    words: &mut Words,
-    out: &mut String,
-) -> Result<bool, Wrong> {
+fn changed<'a>(store: &mut Counted<'a>, name: &str, words: &mut Words, out: &mut Out) -> bool {
     match name {
-        "len" => write!(out, "{}", store.len())?,
-        "weight" => write!(out, "{}", store.weight())?,
-        "capacity" => write!(out, "{}", store.capacity())?,
-        "front" => write_found(store.front(), out)?,
-        "source" => write!(out, "fetches {}", store.source().world.fetched.get())?,
-        "clear" => {
-            store.clear();
-            out.push_str("done")?;
-        }
-        "resize" => {
-            let Some(capacity) = NonZeroUsize::new(next_number(words)?) else {
-                return Err(Wrong::NoCapacity);
-            };
-            store.resize(capacity);
-            out.push_str("done")?;
-        }
-        _ => return Ok(false),
+        "clear" => store.clear(),
+        "resize" => store.resize(words.capacity()),
+        "source" => out.count("fetches ", store.source().world.fetched.get() as usize),
+        "front" => say_found(store.front(), out),
+        _ => return out.told(told_of(store, name)),
     }
-    Ok(true)
+    out.or("done");
+    true
 }
 
-/// Writes that a fetch failed. Want of the program's own memory is passed on.
-fn write_failed(failed: Failed, out: &mut String) -> Result<(), AllocError> {
-    match failed {
-        Failed::Asked => out.push_str("failed"),
-        Failed::NoMemory => Err(AllocError),
+/// What a call of the whole store tells.
+fn told_of(store: &Counted, name: &str) -> Told {
+    match name {
+        "len" => Told::Number(Some(store.len())),
+        "weight" => Told::Number(Some(store.weight())),
+        "capacity" => Told::Number(Some(store.capacity())),
+        _ => Told::NoCall,
     }
 }

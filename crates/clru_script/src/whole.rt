@@ -25,20 +25,29 @@ pub(crate) fn fault_of<'a, W: WeightScale<Key<'a>, Value<'a>>>(
     if len > MOST {
         return None;
     }
-    let mut count = 0usize;
+    let (mut count, mut is_held, mut is_alike) = (0usize, true, true);
     for (key, _) in cache {
-        if !cache.contains(key) {
-            return Some(Fault::LookUp);
-        }
         count = count.saturating_add(1);
-        match cache.iter().nth_back(len.saturating_sub(count)) {
-            Some((other, _)) if other.number == key.number => {}
-            _ => return Some(Fault::Walk),
-        }
+        is_held = is_held && cache.contains(key);
+        is_alike = is_alike && is_at(cache, key, len.saturating_sub(count));
     }
-    if count == len {
+    if !is_held {
+        Some(Fault::LookUp)
+    } else if is_alike && count == len {
         None
     } else {
         Some(Fault::Walk)
+    }
+}
+
+/// Whether a key has this index from the back.
+fn is_at<'a, W: WeightScale<Key<'a>, Value<'a>>>(
+    cache: &Made<'a, W>,
+    key: &Key<'a>,
+    index: usize,
+) -> bool {
+    match cache.iter().nth_back(index) {
+        Some((other, _)) => other.number == key.number,
+        None => false,
     }
 }

@@ -1,12 +1,10 @@
 //! The words of a line: keys, values, numbers and forms.
 
-use std::alloc::{AllocError, AllocFailed};
-use std::fmt;
+use crate::out::Out;
 use std::num::NonZeroUsize;
-use std::str::SplitWhitespace;
 
 /// Why a line is no call.
-#[derive(Clone, Copy, Debug, PartialEq)]
+#[derive(Clone, Copy)]
 pub(crate) enum Wrong {
     NoSuchCall,
     NoSuchWord,
@@ -19,81 +17,150 @@ pub(crate) enum Wrong {
 
     /// The entries that a first line asks for are refused.
     NotFilled,
-
-    /// The program found no memory of its own.
-    NoMemory,
 }
 
-impl fmt::Display for Wrong {
-    fn fmt<W: fmt::Write>(&self, f: &mut fmt::Formatter<W>) -> fmt::Result {
-        f.write_str(match self {
-            Wrong::NoSuchCall => "there is no such call",
-            Wrong::NoSuchWord => "this word has no meaning here",
-            Wrong::Missing => "a word is missing",
-            Wrong::TooMany => "there is a word too many",
-            Wrong::NoNumber => "this is no number",
-            Wrong::LongKey => "a key has at most eight letters",
-            Wrong::NoCapacity => "a capacity is no 0",
-            Wrong::NothingMade => "nothing is made yet",
-            Wrong::NotFilled => "the first entries are refused",
-            Wrong::NoMemory => "out of memory",
-        })
+impl Wrong {
+    /// Says so in place of an answer.
+    pub(crate) fn say(self, out: &mut Out) {
+        out.clear();
+        out.say(match self {
+            Wrong::NoSuchCall => "? there is no such call",
+            Wrong::NoSuchWord => "? this word has no meaning here",
+            Wrong::Missing => "? a word is missing",
+            Wrong::TooMany => "? there is a word too many",
+            Wrong::NoNumber => "? this is no number",
+            Wrong::LongKey => "? a key has at most eight letters",
+            Wrong::NoCapacity => "? a capacity is no 0",
+            Wrong::NothingMade => "? nothing is made yet",
+            Wrong::NotFilled => "? the first entries are refused",
+        });
     }
 }
 
-impl From<AllocError> for Wrong {
-    fn from(_: AllocError) -> Wrong {
-        Wrong::NoMemory
+/// The words of a call that are left, and what is wrong with those that were read. A word that is missing is read as an empty
+/// one, and what is no number as 0, so that a call takes them without a look at each: the answer is then what is wrong.
+#[derive(Clone, Copy)]
+pub(crate) struct Words<'s> {
+    rest: &'s str,
+    pub(crate) wrong: Option<Wrong>,
+}
+
+impl<'s> Words<'s> {
+    pub(crate) fn new(text: &'s str) -> Words<'s> {
+        Words {
+            rest: text,
+            wrong: None,
+        }
     }
-}
 
-impl<T: Drop> From<AllocFailed<T>> for Wrong {
-    fn from(_: AllocFailed<T>) -> Wrong {
-        Wrong::NoMemory
+    /// The next word, where there is one.
+    pub(crate) fn next(&mut self) -> Option<&'s str> {
+        let text = self.rest.trim_start();
+        let (word, rest) = text.split_once(' ').unwrap_or((text, ""));
+        self.rest = rest;
+        if word.is_empty() { None } else { Some(word) }
     }
-}
 
-/// The words of a call that are left.
-pub(crate) type Words<'s> = SplitWhitespace<'s>;
+    /// Whether none is left.
+    pub(crate) fn is_empty(&self) -> bool {
+        self.rest.trim_start().is_empty()
+    }
 
-/// The next word, which has to be there.
-pub(crate) fn next<'s>(words: &mut Words<'s>) -> Result<&'s str, Wrong> {
-    words.next().ok_or(Wrong::Missing)
-}
+    /// The next word, which has to be there.
+    pub(crate) fn word(&mut self) -> &'s str {
+        match self.next() {
+            Some(word) => word,
+            None => {
+                self.note(Wrong::Missing);
+                ""
+            }
+        }
+    }
 
-/// The next word as a number.
-pub(crate) fn next_number(words: &mut Words) -> Result<usize, Wrong> {
-    number_of(next(words)?)
+    /// The next word as a number.
+    pub(crate) fn number(&mut self) -> usize {
+        let word = self.word();
+        self.number_of(word)
+    }
+
+    /// So many words as numbers, up to two, and 0 for the others.
+    pub(crate) fn numbers(&mut self, count: usize) -> (usize, usize) {
+        let first = if count > 0 { self.number() } else { 0 };
+        let second = if count > 1 { self.number() } else { 0 };
+        (first, second)
+    }
+
+    /// A word as a number.
+    pub(crate) fn number_of(&mut self, word: &str) -> usize {
+        match number_of(word) {
+            Some(number) => number,
+            None => {
+                self.note(Wrong::NoNumber);
+                0
+            }
+        }
+    }
+
+    /// The next word as a capacity.
+    pub(crate) fn capacity(&mut self) -> NonZeroUsize {
+        let number = self.number();
+        if number == 0 {
+            self.note(Wrong::NoCapacity);
+        }
+        capacity_of(number)
+    }
+
+    /// Passes this word, where it is the next one.
+    pub(crate) fn passes(&mut self, word: &str) -> bool {
+        let mut ahead = *self;
+        let is = ahead.next() == Some(word);
+        if is {
+            *self = ahead;
+        }
+        is
+    }
+
+    /// The number behind this word, which comes next.
+    pub(crate) fn named(&mut self, word: &str) -> usize {
+        if !self.passes(word) {
+            self.note(Wrong::NoSuchWord);
+        }
+        self.number()
+    }
+
+    /// Says what is wrong, where nothing is so far.
+    pub(crate) fn note(&mut self, wrong: Wrong) {
+        if self.wrong.is_none() {
+            self.wrong = Some(wrong);
+        }
+    }
+
+    /// Writes what is wrong in place of an answer, where something is, or a word is left.
+    pub(crate) fn end(&mut self, out: &mut Out) {
+        if !self.is_empty() {
+            self.note(Wrong::TooMany);
+        }
+        if let Some(wrong) = self.wrong {
+            wrong.say(out);
+        }
+    }
 }
 
 /// A number in digits, `max` for the greatest, or `max-` and how far it is below that.
-pub(crate) fn number_of(word: &str) -> Result<usize, Wrong> {
-    let (digits, below) = match word.strip_prefix("max") {
-        Some("") => return Ok(usize::MAX),
-        Some(rest) => (rest.strip_prefix("-").unwrap_or("?"), true),
-        None => (word, false),
-    };
-    match digits.parse::<usize>() {
-        Ok(number) if below => Ok(usize::MAX - number),
-        Ok(number) => Ok(number),
-        Err(_) => Err(Wrong::NoNumber),
+pub(crate) fn number_of(word: &str) -> Option<usize> {
+    if let Some(rest) = word.strip_prefix("max") {
+        if rest.is_empty() {
+            return Some(usize::MAX);
+        }
+        return match rest.strip_prefix("-")?.parse::<usize>() {
+            Ok(below) => Some(usize::MAX - below),
+            Err(_) => None,
+        };
     }
+    word.parse::<usize>().ok()
 }
 
-/// A number as a capacity.
-pub(crate) fn capacity_of(number: usize) -> Result<NonZeroUsize, Wrong> {
-    NonZeroUsize::new(number).ok_or(Wrong::NoCapacity)
-}
-
-/// Nothing, where no word is left.
-pub(crate) fn end(words: &mut Words) -> Result<(), Wrong> {
-    match words.next() {
-        Some(_) => Err(Wrong::TooMany),
-        None => Ok(()),
-    }
-}
-
-/// The word for a truth.
-pub(crate) fn yes(is: bool) -> &'static str {
-    if is { "yes" } else { "no" }
+/// A number as a capacity, and 1 for 0.
+pub(crate) fn capacity_of(number: usize) -> NonZeroUsize {
+    NonZeroUsize::new(number).unwrap_or(NonZeroUsize::MIN)
 }

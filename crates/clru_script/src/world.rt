@@ -1,5 +1,7 @@
 //! What a script's caches stand on: memory that is counted and can be refused, and what was done so far.
 
+use crate::head::Head;
+use crate::pairs::Hashing;
 use ration::Rationed;
 use std::alloc::Global;
 use std::cell::Cell;
@@ -8,14 +10,23 @@ use std::cell::Cell;
 #[derive(Drop)]
 pub(crate) struct World {
     pub(crate) alloc: Global,
+    /// What the first line asks for.
+    pub(crate) head: Head,
+    /// The hash of all keys, where it is one.
+    pub(crate) fixed: Option<u64>,
     pub(crate) compared: Cell<u64>,
     pub(crate) hashed: Cell<u64>,
     pub(crate) weighed: Cell<u64>,
     pub(crate) fetched: Cell<u64>,
+    /// The fetches from the first of these numbers to below the second one fail, counted from the start of the block.
+    pub(crate) fails_from: Cell<u64>,
+    pub(crate) fails_below: Cell<u64>,
     /// The memory of caches, and
     pub(crate) heap: Rationed<Global>,
     /// that of keys and values.
     pub(crate) owned: Rationed<Global>,
+    /// Whether a key or a value found none.
+    pub(crate) is_short: Cell<bool>,
     /// What the last call did, in order.
     notes: Cell<String>,
 }
@@ -51,16 +62,29 @@ pub(crate) fn add(count: &Cell<u64>) {
 }
 
 impl World {
-    pub(crate) fn new(alloc: Global) -> World {
+    pub(crate) fn new(alloc: Global, head: Head, fixed: Option<u64>) -> World {
         World {
             alloc,
+            head,
+            fixed,
             compared: Cell::new(0),
             hashed: Cell::new(0),
             weighed: Cell::new(0),
             fetched: Cell::new(0),
+            fails_from: Cell::new(0),
+            fails_below: Cell::new(0),
             heap: Rationed::new(alloc),
             owned: Rationed::new(alloc),
+            is_short: Cell::new(false),
             notes: Cell::new(String::new(alloc)),
+        }
+    }
+
+    /// The builder of the block.
+    pub(crate) fn hashing(&self) -> Hashing<'_> {
+        Hashing {
+            hashed: &self.hashed,
+            fixed: self.fixed,
         }
     }
 
@@ -73,6 +97,11 @@ impl World {
             asked: self.heap.asked(),
             bytes: self.heap.asked_bytes(),
         }
+    }
+
+    /// Whether a block of caches, keys or values is there now.
+    pub(crate) fn is_used(&self) -> bool {
+        self.heap.blocks() != 0 || self.owned.blocks() != 0
     }
 
     /// Notes that something was done with a key or a value. Where there is no memory for it, the note is left out.

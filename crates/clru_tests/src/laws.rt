@@ -149,29 +149,44 @@ fn least_of_a_round(alloc: Global, room: NonZeroUsize) -> Option<usize> {
 #[test]
 fn a_look_that_finds_is_a_put(rt: HostRuntime) -> Result<(), Fail> {
     let mut cache = CLruCache::new(rt.alloc(), capacity_of(2)?);
-    let _ = cache.put(3, 1);
-    let _ = cache.put(0, 2);
-    equal!(rt; sizes::look_again(&mut cache, &3), Some(1));
-    equal!(rt; sizes::look_again(&mut cache, &1), None);
-    equal!(rt; cache.pop_back(), Some((0, 2)));
-    assert!(rt; sizes::hits_by_span::<u64>(5, 5));
-    assert!(rt; !sizes::hits_by_span::<u64>(5, 4));
+    equal!(rt; looks_again(&mut cache), (Some(1), None, Some((0, 2))));
+    let spans = (
+        sizes::hits_by_span::<u64>(5, 5),
+        sizes::hits_by_span::<u64>(5, 4),
+    );
+    equal!(rt; spans, (true, false));
     Ok(())
 }
 
+/// The value of a held page, that of one that is not held, and the pair that is then the last one.
+fn looks_again(
+    cache: &mut CLruCache<usize, usize>,
+) -> (Option<usize>, Option<usize>, Option<(usize, usize)>) {
+    let _ = cache.put(3, 1);
+    let _ = cache.put(0, 2);
+    (
+        sizes::look_again(cache, &3),
+        sizes::look_again(cache, &1),
+        cache.pop_back(),
+    )
+}
+
+static PAGES: &[usize] = &[3, 0, 1, 3, 0];
+
 #[test]
 fn curves_and_the_least_of_pages(rt: HostRuntime) -> Result<(), Fail> {
-    let pages = [3, 0, 1, 3, 0].as_slice();
-    equal!(rt; of_curves::hits_at(rt.alloc(), pages, capacity_of(3)?), Some(2));
-    equal!(rt; of_curves::misses_between(rt.alloc(), pages, capacity_of(2)?), Some(5));
-    equal!(rt;
-        of_curves::size_hit(rt.alloc(), pages, sizes::ByPage, capacity_of(7)?),
-        Some(5)
+    let (two, three, seven) = (capacity_of(2)?, capacity_of(3)?, capacity_of(7)?);
+    let curves = (
+        of_curves::hits_at(rt.alloc(), PAGES, three),
+        of_curves::misses_between(rt.alloc(), PAGES, two),
+        of_curves::size_hit(rt.alloc(), PAGES, sizes::ByPage, seven),
+        of_curves::size_of_pages(rt.alloc(), PAGES, sizes::ByPage),
     );
-    equal!(rt; of_curves::size_of_pages(rt.alloc(), pages, sizes::ByPage), Some(7));
-    let least = of_least::least_of_any(rt.alloc(), capacity_of(2)?, pages, DefaultState);
-    equal!(rt; least.ok(), Some(4));
-    let misses = of_least::misses_above_least(rt.alloc(), capacity_of(2)?, pages, DefaultState);
-    equal!(rt; misses.ok(), Some(5));
+    let least = (
+        of_least::least_of_any(rt.alloc(), two, PAGES, DefaultState).ok(),
+        of_least::misses_above_least(rt.alloc(), two, PAGES, DefaultState).ok(),
+    );
+    equal!(rt; curves, (Some(2), Some(5), Some(5), Some(7)));
+    equal!(rt; least, (Some(4), Some(5)));
     Ok(())
 }

@@ -1,10 +1,12 @@
-//! Callers of `clru_callers`, run; the laws at types of a caller's, and schedules beside the competitive bound.
+//! Callers of `clru_callers` and the examples of the docs, run; the laws at types of a caller's, and schedules beside the competitive bound.
 #![tactic(auto)]
 
 #[cfg(test)]
 mod asserts;
 #[cfg(test)]
 mod errors;
+#[cfg(test)]
+mod examples;
 #[cfg(test)]
 mod finding;
 #[cfg(test)]

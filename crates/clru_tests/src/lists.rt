@@ -5,6 +5,11 @@ use clru::{CLruCache, NonZeroUsize};
 /// The sizes of pages.
 pub(crate) type Sizes = CLruCache<u64, u64>;
 
+/// The size of a page. What is lent goes at once: a function in which it stays is dear to prove.
+pub(crate) fn peek(sizes: &Sizes, page: u64) -> Option<u64> {
+    sizes.peek(&page).copied()
+}
+
 /// A capacity.
 pub(crate) fn capacity_of(n: usize) -> Result<NonZeroUsize, &'static str> {
     NonZeroUsize::new(n).ok_or("a capacity is no 0")

@@ -19,7 +19,7 @@ fn pushes_tens(list: &mut Numbers, n: u64) -> bool {
 }
 
 /// Whether the list has these items, from the front to the back.
-fn has(list: &Numbers, items: &[u64]) -> bool {
+pub(crate) fn has(list: &Numbers, items: &[u64]) -> bool {
     let mut walk = list.iter();
     for wanted in items {
         if walk.next().map(|(_, item)| *item) != Some(*wanted) {

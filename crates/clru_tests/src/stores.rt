@@ -5,6 +5,7 @@ ghost use Rattle.std.proofs.Common.{rules};
 
 use assertions::equal;
 use clru::{CLruCache, NonZeroUsize, ZeroWeightScale};
+use clru_callers::of_stores::changing::{Tickets, ticket_of};
 use clru_callers::of_stores::tiers::{Tier, value_through_two};
 use clru_callers::of_stores::{
     fetches_of, got_both, got_twice, load_beside, room_of, twice, value_of,
@@ -98,4 +99,13 @@ type Tiers = Through<u64, u64, (), Tier<(), Doubles, ZeroWeightScale>>;
 
 fn both_values(store: &mut Tiers) -> (Fetched<u64>, Fetched<u64>) {
     (value_through_two(store, 4), value_through_two(store, 4))
+}
+
+#[test]
+fn a_source_may_give_another_value_each_time(rt: HostRuntime) {
+    let cache = CLruCache::new(rt.alloc(), NonZeroUsize::MIN);
+    let mut store = Through::new(cache, Tickets { given: 0 });
+    equal!(rt; (ticket_of(&mut store, 4), ticket_of(&mut store, 4)), (Ok(5), Ok(5)));
+    store.clear();
+    equal!(rt; (ticket_of(&mut store, 4), ticket_of(&mut store, u64::MAX)), (Ok(6), Err(())));
 }

@@ -7,8 +7,8 @@ use Rattle.std.specs.Option.{IfSome, is_some, option_copied, option_map}
 use Rattle.clru.specs.Cache.{Cache, with_entries}
 use Rattle.clru.specs.Entries.{touch}
 use Rattle.clru_model.proofs.Forms.{IsForm}
-use Rattle.clru_through.specs.Store.{AllFrom, IsValueOf}
-use Rattle.clru_through.proofs.Sourced.{IsValueOf-lookup, touch-absent}
+use Rattle.clru_through.specs.Store.{AllKeep, KeepsFor}
+use Rattle.clru_through.proofs.Sourced.{KeepsFor-lookup, touch-absent}
 
 -- where it answers something, it answers a value
 pub is_there : {V : Type 0} (held : Option V) → is_some held ≡ true → (v : V) × (held ≡ Some v)
@@ -21,22 +21,23 @@ is_absent None held is none = sym is
 is_absent (Some v) held is none = cc
 
 -- where x is not held, bringing its entry to the front leaves the cache as it is
-pub with_entries-touch-absent : {K V W : Type 0} (eq : K → K → Bool) (x : K) (c : Cache K V W) → lookup (eq x) c.entries ≡ None
+pub with_entries-touch-absent : {X K V W : Type 0} (eq : X → K → Bool) (x : X) (c : Cache K V W) → lookup (eq x) c.entries ≡ None
     → with_entries c (touch eq x c.entries) ≡ c
 with_entries-touch-absent eq x c absent = ap (with_entries c) (touch-absent eq x c.entries absent)
 
--- the value that a look-up by a form of a key answers is the source's
-pub IfSome-lookup : {K V : Type 0} {eq : K → K → Bool} {test : K → Bool} → IsForm eq test → {value : K → Option V}
-    → ((x y : K) → IsTrue (eq x y) → value x ≡ value y) → (es : List (K × V)) → AllFrom value es → (answer : Option (Bor V))
-    → option_copied answer ≡ lookup test es → IfSome answer (λ v. IsValueOf value test v.now)
-IfSome-lookup form same es all None is = tt
-IfSome-lookup form same es all (Some v) is = IsValueOf-lookup form same es all v.now (sym is)
+-- the value that a look-up by a form of a key answers keeps what is promised
+pub IfSome-lookup : {K P V : Type 0} {eq : K → K → Bool} {test : K → Bool} → IsForm eq test → (keeps : P → V → Type 0) {promised : K → P}
+    → ((x y : K) → IsTrue (eq x y) → promised x ≡ promised y) → (es : List (K × V)) → AllKeep keeps promised es → (answer : Option (Bor V))
+    → option_copied answer ≡ lookup test es → IfSome answer (λ v. KeepsFor keeps promised test v.now)
+IfSome-lookup form keeps same es all None is = tt
+IfSome-lookup form keeps same es all (Some v) is = KeepsFor-lookup form keeps same es all v.now (sym is)
 
--- the first pair has the source's value
-pub IfSome-first : {K V : Type 0} (value : K → Option V) (es : List (K × V)) → AllFrom value es → (answer : Option (Bor K × Bor V))
-    → option_map deref_pair answer ≡ slice_get es 0 → IfSome answer (λ e. value e.0.now ≡ Some e.1.now)
-unfolding AllFrom
-IfSome-first value es all None is = tt
-IfSome-first value [] all (Some e) is = cc
-IfSome-first {K = K} {V = V} value (d ∷ es) all (Some e) is =
-    let same : (e.0.now, e.1.now) ≡ d = cc in subst (λ (p : K × V). value p.0 ≡ Some p.1) (sym same) all.0
+-- so does that of the first pair
+pub IfSome-first : {K P V : Type 0} (keeps : P → V → Type 0) (promised : K → P) (es : List (K × V)) → AllKeep keeps promised es
+    → (answer : Option (Bor K × Bor V)) → option_map deref_pair answer ≡ slice_get es 0
+    → IfSome answer (λ e. keeps (promised e.0.now) e.1.now)
+unfolding AllKeep
+IfSome-first keeps promised es all None is = tt
+IfSome-first keeps promised [] all (Some e) is = cc
+IfSome-first {K = K} {V = V} keeps promised (d ∷ es) all (Some e) is =
+    let same : (e.0.now, e.1.now) ≡ d = cc in subst (λ (p : K × V). keeps (promised p.0) p.1) (sym same) all.0

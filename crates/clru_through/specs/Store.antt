@@ -16,10 +16,18 @@ module _ {K V W R : Type 0} where
   abbrev pub store_code : Coded (Cache K V W) → Coded R → Coded (Store K V W R)
   store_code c r = code_by (Cache K V W × R) (coded× c r) (λ t. (t.cache, t.source)) (λ p. store p.0 p.1) (λ _. refl)
 
--- each entry has the value that the source gives for its key
-unfoldable pub AllFrom : {K V : Type 0} → (K → Option V) → List (K × V) → Type 0
-AllFrom value es = AllByRecursion (λ e. value e.0 ≡ Some e.1) es
+-- each entry has a value that keeps what is promised of its key
+unfoldable pub AllKeep : {K P V : Type 0} → (P → V → Type 0) → (K → P) → List (K × V) → Type 0
+AllKeep keeps promised es = AllByRecursion (λ e. keeps (promised e.0) e.1) es
 
--- v is the value that the source gives for each key that passes the test
+-- v keeps what is promised of each key that passes the test
+abbrev pub KeepsFor : {K P V : Type 0} → (P → V → Type 0) → (K → P) → (K → Bool) → V → Type 0
+KeepsFor {K} keeps promised test v = (k : K) → IsTrue (test k) → keeps (promised k) v
+
+-- both where the promise is the value itself: each entry has the value that the source gives for its key
+abbrev pub AllFrom : {K V : Type 0} → (K → Option V) → List (K × V) → Type 0
+AllFrom value es = AllKeep (λ promise v. promise ≡ Some v) value es
+
+-- and v is the value that the source gives for each key that passes the test
 abbrev pub IsValueOf : {K V : Type 0} → (K → Option V) → (K → Bool) → V → Type 0
-IsValueOf {K} value test v = (k : K) → IsTrue (test k) → value k ≡ Some v
+IsValueOf value test v = KeepsFor (λ promise v. promise ≡ Some v) value test v

@@ -4,6 +4,9 @@
 //! fetched; of another one the value is fetched once, and put into the cache. A value that is too heavy for the cache, or for
 //! which no memory was found, is passed on to the caller. What is taken out is fetched again when it is asked for.
 //!
+//! A source whose values are no function of the key, as those of files, promises of them what it can; each value that is held
+//! keeps that.
+//!
 //! The store stands on the contract of the cache: whatever the cache's entries lie in, this crate stays as it is.
 #![tactic(auto)]
 
@@ -15,5 +18,5 @@ mod store;
 
 pub use answer::{Answer, Loaded};
 pub use laws::law_loads;
-pub use source::Source;
+pub use source::{ByPromise, ByValue, Fetch, Source};
 pub use store::Through;

@@ -20,3 +20,53 @@ pub trait Source<K: Eq, V, E> {
     // Keys that are the same have one value.
     ghost same: { (s : Self) (x y : K) → IsTrue (K.eq x y) → value s x ≡ value s y };
 }
+
+/// What a store fetches from: at `ByValue` each `Source`; at `ByPromise` what gives values that need not be the same each time,
+/// as those of files.
+///
+/// Of the value of a key it promises something, and each fetch of the key that succeeds gives a value that keeps that.
+pub trait Fetch<K: Eq, V, E, M> {
+    // What can be promised of a value: a type of one's own, as a length. `⊤` promises nothing.
+    ghost Promise: { Type 0 };
+
+    // What is promised of the values of the key.
+    ghost promised: { Self → K → Self.Promise };
+
+    // The value keeps the promise.
+    ghost keeps: { Self.Promise → V → Type 0 };
+
+    // One fetch: it may answer the result, and leave the source as the last one.
+    ghost fetches: { Self → K → Result V E → Self → Type 0 };
+
+    /// Fetches a value of the key.
+    fn fetch(&mut self, key: &K) -> Result<V, E>
+        ensures value { IfOk result (λ v. keeps (promised self.old key.now) v) }
+        ensures kept { (k : K) → promised self.new k ≡ promised self.old k }
+        ensures step { fetches self.old key.now result self.new };
+
+    // Of keys that are the same the same is promised.
+    ghost same: { (s : Self) (x y : K) → IsTrue (K.eq x y) → promised s x ≡ promised s y };
+}
+
+/// The store's source is a `Source`: it has one value for a key, and no other keeps its promise.
+pub struct ByValue;
+
+/// The store's source is a `Fetch` of one's own, which promises what it can.
+pub struct ByPromise;
+
+// What is promised is the value.
+impl<K: Eq, V, E, R: Source<K, V, E>> Fetch<K, V, E, ByValue> for R {
+    ghost Promise = { Option V };
+
+    ghost promised = { R.value };
+
+    ghost keeps = { λ promise v. promise ≡ Some v };
+
+    ghost fetches = { R.fetches };
+
+    fn fetch(&mut self, key: &K) -> Result<V, E> {
+        Source::fetch(self, key)
+    }
+
+    ghost same = { R.same };
+}

@@ -2,36 +2,46 @@
 ghost use Rattle.std.specs.Prelude.{◌≡◌, ◌⊎◌, [], length};
 ghost use Rattle.clru.specs.Cache.{IsValid};
 ghost use Rattle.clru.specs.Entries.{weight_of};
-ghost use Rattle.clru_through.specs.Store.{AllFrom, store};
+ghost use Rattle.clru_through.specs.Store.{AllKeep, store};
 
 mod load;
 mod parts;
 mod put;
 mod remove;
 
-use crate::source::Source;
+use crate::source::{ByValue, Fetch};
 use clru::{CLruCache, DefaultState, WeightScale, ZeroWeightScale};
 use std::alloc::{Allocator, Global};
 use std::hash::{BuildHasher, Hash};
 use std::marker::{Model, PhantomData};
 
-/// A source of values, with a cache before it. Each value that is held is the source's value for its key.
+/// A source of values, with a cache before it. Each value that is held is the source's value for its key, or at `ByPromise` one
+/// that keeps what the source promises of the key.
 pub struct Through<
     K: Eq + Hash,
     V,
     E,
-    R: Source<K, V, E>,
+    R: Fetch<K, V, E, M>,
     S: BuildHasher = DefaultState,
     W: WeightScale<K, V> = ZeroWeightScale,
     A: Allocator + Copy = Global,
+    M = ByValue,
 > {
     cache: CLruCache<K, V, S, W, A>,
     source: R,
-    error: PhantomData<E>,
+    marks: PhantomData<(E, M)>,
 }
 
-impl<K: Eq + Hash + Drop, V: Drop, E, R: Source<K, V, E> + Drop, S: BuildHasher + Drop, W, A> Drop
-    for Through<K, V, E, R, S, W, A>
+impl<
+    K: Eq + Hash + Drop,
+    V: Drop,
+    E,
+    R: Fetch<K, V, E, M> + Drop,
+    S: BuildHasher + Drop,
+    W,
+    A,
+    M,
+> Drop for Through<K, V, E, R, S, W, A, M>
 where
     W: WeightScale<K, V> + Drop,
     A: Allocator + Copy,
@@ -40,7 +50,7 @@ where
         let Through {
             cache,
             source,
-            error: _,
+            marks: _,
         } = self;
         drop(cache);
         drop(source);
@@ -51,13 +61,14 @@ impl<
     K: Eq + Hash,
     V,
     E,
-    R: Source<K, V, E>,
+    R: Fetch<K, V, E, M>,
     S: BuildHasher,
     W: WeightScale<K, V>,
     A: Allocator + Copy,
-> Model for Through<K, V, E, R, S, W, A> {
+    M,
+> Model for Through<K, V, E, R, S, W, A, M> {
     ghost use Rattle.clru.specs.Cache.{cache_code};
-    ghost use Rattle.clru_through.specs.Store.{Store, store, store_code, AllFrom};
+    ghost use Rattle.clru_through.specs.Store.{Store, store, store_code, AllKeep};
 
     ghost Value = { Store K V W R };
 
@@ -65,30 +76,31 @@ impl<
 
     ghost view = { λ t. store t.cache t.source };
 
-    ghost invariant = { λ t. AllFrom (R.value t.source) t.cache.entries };
+    ghost invariant = { λ t. AllKeep R.keeps (R.promised t.source) t.cache.entries };
 }
 
 impl<
     K: Eq + Hash,
     V,
     E,
-    R: Source<K, V, E>,
+    R: Fetch<K, V, E, M>,
     S: BuildHasher,
     W: WeightScale<K, V>,
     A: Allocator + Copy,
-> Through<K, V, E, R, S, W, A> {
+    M,
+> Through<K, V, E, R, S, W, A, M> {
     /// Creates a store of a source and a cache before it, which is empty, or holds values of the source alone, as `into_parts`
     /// gives it back.
     /// Cost: no request for memory.
-    #[tactic(auto, using(crate::proofs::Sourced::AllFrom_given))]
+    #[tactic(auto, using(crate::proofs::Sourced::AllKeep_given))]
     pub fn new(cache: CLruCache<K, V, S, W, A>, source: R) -> Self
-        requires { (cache.entries ≡ []) ⊎ AllFrom (R.value source) cache.entries }
+        requires { (cache.entries ≡ []) ⊎ AllKeep R.keeps (R.promised source) cache.entries }
         ensures { result ≡ store cache source }
     {
         Through {
             cache,
             source,
-            error: PhantomData,
+            marks: PhantomData,
         }
     }
 
@@ -97,7 +109,7 @@ impl<
     pub fn len(&self) -> usize
         ensures len { result ≡ length self.now.cache.entries }
         ensures valid { IsValid K.eq (W.weight self.now.cache.scale) self.now.cache }
-        ensures from_source { AllFrom (R.value self.now.source) self.now.cache.entries }
+        ensures from_source { AllKeep R.keeps (R.promised self.now.source) self.now.cache.entries }
     {
         self.cache.len()
     }

@@ -1,49 +1,65 @@
-//! The caches of the tests, and looks at them. A test makes its cache, and a function that borrows it makes the calls: a
-//! cache that is owned across a `?` is dear to prove.
+//! The caches of the tests, and looks at them. A type parameter is dear to prove, so all have words as keys and numbers as
+//! values; colours and letters are numbers too.
 
-use clru::{CLruCache, DefaultState, WeightScale};
-use clru_fixtures::scales::ByLength;
+use clru::CLruCache;
 use clru_fixtures::sizes::capacity_of;
-use std::hash::Hash;
-
-/// Words under words.
-pub(crate) type Words = CLruCache<&'static str, &'static str>;
 
 /// Numbers under words.
 pub(crate) type Numbers = CLruCache<&'static str, u64>;
 
-/// Words under words, each of which weighs its letters.
-pub(crate) type Weighed = CLruCache<&'static str, &'static str, DefaultState, ByLength>;
+// Words as values. The last digit of each is the number of its letters.
+pub(crate) const RED: u64 = 3;
+
+pub(crate) const GREEN: u64 = 5;
+
+pub(crate) const YELLOW: u64 = 6;
+
+pub(crate) const A: u64 = 11;
+
+pub(crate) const B: u64 = 21;
+
+pub(crate) const C: u64 = 31;
+
+pub(crate) const D: u64 = 41;
+
+pub(crate) const E: u64 = 51;
+
+/// Words, each with a number.
+pub(crate) type Pairs = &'static [(&'static str, u64)];
 
 /// Five letters, numbered from 1 on.
-pub(crate) const LETTERS: [(&str, u64); 5] = [("a", 1), ("b", 2), ("c", 3), ("d", 4), ("e", 5)];
+pub(crate) const LETTERS: Pairs = &[("a", 1), ("b", 2), ("c", 3), ("d", 4), ("e", 5)];
 
-/// The same, the last one first.
-pub(crate) const LAST_FIRST: [(&str, u64); 5] = [("e", 5), ("d", 4), ("c", 3), ("b", 2), ("a", 1)];
+/// These letters, the last one first.
+pub(crate) const LAST_FIRST: Pairs = &[("e", 5), ("d", 4), ("c", 3), ("b", 2), ("a", 1)];
+
+/// Puts a pair, and answers the old value, or nothing for want of memory.
+pub(crate) fn put(cache: &mut Numbers, key: &'static str, value: u64) -> Option<Option<u64>> {
+    match cache.put(key, value) {
+        Ok(put) => Some(put.replaced),
+        Err(_) => None,
+    }
+}
 
 /// Puts the pairs, and answers whether each was stored with no old value.
-pub(crate) fn puts<V: Copy + Drop>(
-    cache: &mut CLruCache<&'static str, V>,
-    pairs: &[(&'static str, V)],
-) -> bool {
+pub(crate) fn puts(cache: &mut Numbers, pairs: Pairs) -> bool {
     for (key, value) in pairs {
-        if !cache
-            .put(*key, *value)
-            .is_ok_and(|put| put.replaced.is_none())
-        {
+        if put(cache, key, *value) != Some(None) {
             return false;
         }
     }
     true
 }
 
+/// The value of a key. What is lent goes at once: a function in which it stays is dear to prove.
+pub(crate) fn get(cache: &mut Numbers, key: &&'static str) -> Option<u64> {
+    cache.get(key).copied()
+}
+
 /// Gets the pairs, and answers whether each key has its value.
-pub(crate) fn gets<K: Eq + Hash + Copy, V: PartialEq + Copy, W: WeightScale<K, V>>(
-    cache: &mut CLruCache<K, V, DefaultState, W>,
-    pairs: &[(K, V)],
-) -> bool {
+pub(crate) fn gets(cache: &mut Numbers, pairs: Pairs) -> bool {
     for (key, value) in pairs {
-        if cache.get(key) != Some(value) {
+        if get(cache, key) != Some(*value) {
             return false;
         }
     }
@@ -51,10 +67,7 @@ pub(crate) fn gets<K: Eq + Hash + Copy, V: PartialEq + Copy, W: WeightScale<K, V
 }
 
 /// Whether the cache holds these pairs and no other, the most recently used first.
-pub(crate) fn is<K: Eq + Hash + Copy, V: PartialEq + Copy, W: WeightScale<K, V>>(
-    cache: &CLruCache<K, V, DefaultState, W>,
-    list: &[(K, V)],
-) -> bool {
+pub(crate) fn is(cache: &Numbers, list: Pairs) -> bool {
     let mut walk = cache.iter();
     for (key, value) in list {
         if walk.next() != Some((key, value)) {
@@ -65,11 +78,7 @@ pub(crate) fn is<K: Eq + Hash + Copy, V: PartialEq + Copy, W: WeightScale<K, V>>
 }
 
 /// Whether the cache hands out these pairs and no other, the most recently used first.
-pub(crate) fn hands_out<
-    K: Eq + Hash + Copy + Drop,
-    V: PartialEq + Copy + Drop,
-    W: WeightScale<K, V> + Drop,
->(cache: CLruCache<K, V, DefaultState, W>, list: &[(K, V)]) -> bool {
+pub(crate) fn hands_out(cache: Numbers, list: Pairs) -> bool {
     let mut rest = cache.into_iter();
     for pair in list {
         if rest.next() != Some(*pair) {
@@ -80,9 +89,7 @@ pub(crate) fn hands_out<
 }
 
 /// The capacity, the number of entries, and whether the cache is empty and full.
-pub(crate) fn sizes<K: Eq + Hash, V, W: WeightScale<K, V>>(
-    cache: &CLruCache<K, V, DefaultState, W>,
-) -> (usize, usize, bool, bool) {
+pub(crate) fn sizes(cache: &Numbers) -> (usize, usize, bool, bool) {
     (
         cache.capacity(),
         cache.len(),
@@ -92,10 +99,7 @@ pub(crate) fn sizes<K: Eq + Hash, V, W: WeightScale<K, V>>(
 }
 
 /// The capacity and the number of entries after a resize.
-pub(crate) fn resized<K: Eq + Hash + Drop, V: Drop, W: WeightScale<K, V>>(
-    cache: &mut CLruCache<K, V, DefaultState, W>,
-    capacity: usize,
-) -> (usize, usize) {
+pub(crate) fn resized(cache: &mut Numbers, capacity: usize) -> (usize, usize) {
     if let Ok(capacity) = capacity_of(capacity) {
         cache.resize(capacity);
     }
@@ -109,11 +113,11 @@ pub(crate) enum End {
     Back,
 }
 
+/// Steps from either end, each with the pair that it shows.
+pub(crate) type Walk = &'static [(End, &'static str, u64)];
+
 /// Whether a walk shows the pair of each step, from that end, has one entry less to come after each, and then none.
-pub(crate) fn walks<K: Eq + Hash + Copy, V: PartialEq + Copy, W: WeightScale<K, V>>(
-    cache: &CLruCache<K, V, DefaultState, W>,
-    steps: &[(End, K, V)],
-) -> bool {
+pub(crate) fn walks(cache: &Numbers, steps: Walk) -> bool {
     let mut walk = cache.iter();
     let mut left = steps.len();
     for (end, key, value) in steps {

@@ -11,9 +11,13 @@ mod caches;
 #[cfg(test)]
 mod collects;
 #[cfg(test)]
+mod cursors;
+#[cfg(test)]
 mod lists;
 #[cfg(test)]
 mod lookups;
+#[cfg(test)]
+mod modifies;
 #[cfg(test)]
 mod non_clone;
 #[cfg(test)]
@@ -28,6 +32,8 @@ mod resizes;
 mod steps;
 #[cfg(test)]
 mod walks;
+#[cfg(test)]
+mod weighing;
 #[cfg(test)]
 mod weights;
 #[cfg(test)]

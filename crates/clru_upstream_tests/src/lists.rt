@@ -1,54 +1,69 @@
 //! The list below the cache.
 
 use assertions::equal;
-use clru_list::{FixedSizeList, PushError};
-use std::test::Fail;
+use clru_list::FixedSizeList;
+
+type List = FixedSizeList<u64>;
 
 #[test]
-fn test_fixed_size_list(rt: HostRuntime) -> Result<(), Fail> {
+fn test_fixed_size_list(rt: HostRuntime) {
     let mut list = FixedSizeList::new(rt.alloc(), 4);
-    equal!(rt; pushes_and_removes(&mut list), Ok(true));
-    Ok(())
+    equal!(rt; pushes(&mut list) && removes(&mut list), true);
 }
 
-fn pushes_and_removes(list: &mut FixedSizeList<u64>) -> Result<bool, PushError<u64>> {
-    let empty = is(list, &[]);
-    let seven = list.push_front(7)?;
-    let one = is(list, &[(seven, 7)]);
-    let five = list.push_front(5)?;
-    let two = is(list, &[(five, 5), (seven, 7)]);
-    let three = list.push_front(3)?;
-    let all = is(list, &[(three, 3), (five, 5), (seven, 7)]);
-    list.remove(five);
-    let ends = is(list, &[(three, 3), (seven, 7)]);
-    list.remove(seven);
-    let last = is(list, &[(three, 3)]);
-    list.remove(three);
-    Ok(empty && one && two && all && ends && last && is(list, &[]))
+/// Pushes three items, and answers whether each comes first, at the next place.
+fn pushes(list: &mut List) -> bool {
+    is(list, &[])
+        && pushes_one(list, 7, &[(0, 7)])
+        && pushes_one(list, 5, &[(1, 5), (0, 7)])
+        && pushes_one(list, 3, &[(2, 3), (1, 5), (0, 7)])
+}
+
+fn pushes_one(list: &mut List, item: u64, items: &[(usize, u64)]) -> bool {
+    list.push_front(item).is_ok() && is(list, items)
+}
+
+/// Removes the middle one, the last one and the first one, and answers whether the others stay where they are.
+fn removes(list: &mut List) -> bool {
+    list.remove(1);
+    let ends = is(list, &[(2, 3), (0, 7)]);
+    list.remove(0);
+    let last = is(list, &[(2, 3)]);
+    list.remove(2);
+    ends && last && is(list, &[])
 }
 
 /// Whether the list has these items at these places: by a walk from each end, and at the ends, read or lent for writing.
-fn is(list: &mut FixedSizeList<u64>, items: &[(usize, u64)]) -> bool {
+fn is(list: &mut List, items: &[(usize, u64)]) -> bool {
     let front = items.first().map(|item| item.1);
     let back = items.last().map(|item| item.1);
     (list.len(), list.is_empty()) == (items.len(), items.is_empty())
-        && (list.front().copied(), list.front_mut().copied()) == (front, front)
-        && (list.back().copied(), list.back_mut().copied()) == (back, back)
+        && (list.front().copied(), list.back().copied()) == (front, back)
+        && lends(list, front, back)
         && is_walked(list, items)
+        && is_walked_back(list, items)
 }
 
-fn is_walked(list: &FixedSizeList<u64>, items: &[(usize, u64)]) -> bool {
-    let mut forward = list.iter();
+fn lends(list: &mut List, front: Option<u64>, back: Option<u64>) -> bool {
+    list.front_mut().copied() == front && list.back_mut().copied() == back
+}
+
+fn is_walked(list: &List, items: &[(usize, u64)]) -> bool {
+    let mut walk = list.iter();
     for (place, item) in items {
-        if forward.next() != Some((*place, item)) {
+        if walk.next() != Some((*place, item)) {
             return false;
         }
     }
-    let mut backward = list.iter();
+    walk.next().is_none()
+}
+
+fn is_walked_back(list: &List, items: &[(usize, u64)]) -> bool {
+    let mut walk = list.iter();
     for (place, item) in items.iter().rev() {
-        if backward.next_back() != Some((*place, item)) {
+        if walk.next_back() != Some((*place, item)) {
             return false;
         }
     }
-    forward.next().is_none() && backward.next_back().is_none()
+    walk.next_back().is_none()
 }

@@ -1,6 +1,6 @@
 //! Look-ups, for writing too, with keys that own memory, and with another hash builder.
 
-use crate::caches::{Numbers, puts, sizes};
+use crate::caches::{GREEN, RED, YELLOW};
 use crate::steps::Step::{
     self, Contains, GetsMut, Peeks, PeeksMut, PeeksMutNone, PeeksNone, Puts, Sizes, Writes,
 };
@@ -19,30 +19,24 @@ fn test_insert_and_get_mut(rt: HostRuntime) {
     equal!(rt; plain(rt.alloc(), 2, INSERT_AND_GET_MUT), None);
 }
 
-#[test]
-fn test_get_mut_and_update(rt: HostRuntime) -> Result<(), Fail> {
-    let mut cache = CLruCache::new(rt.alloc(), capacity_of(2)?);
-    equal!(rt; gets_and_updates(&mut cache), true);
-    Ok(())
-}
+static GET_MUT_AND_UPDATE: &[Step] = &[
+    Puts(&[("apple", 1), ("banana", 3)]),
+    Writes("apple", 4, true),
+    Sizes(2, 2, false, true),
+    GetsMut(&[("apple", 4), ("banana", 3)]),
+];
 
-fn gets_and_updates(cache: &mut Numbers) -> bool {
-    let stored = puts(cache, &[("apple", 1), ("banana", 3)]);
-    if let Some(value) = cache.get_mut(&"apple") {
-        *value = 4;
-    }
-    stored
-        && sizes(cache) == (2, 2, false, true)
-        && cache.get_mut(&"apple").copied() == Some(4)
-        && cache.get_mut(&"banana").copied() == Some(3)
+#[test]
+fn test_get_mut_and_update(rt: HostRuntime) {
+    equal!(rt; plain(rt.alloc(), 2, GET_MUT_AND_UPDATE), None);
 }
 
 static PEEK: &[Step] = &[
     Puts(FRUITS),
-    Peeks(&[("banana", "yellow"), ("apple", "red")]),
-    Puts(&[("pear", "green")]),
+    Peeks(&[("banana", YELLOW), ("apple", RED)]),
+    Puts(&[("pear", GREEN)]),
     PeeksNone("apple"),
-    Peeks(&[("banana", "yellow"), ("pear", "green")]),
+    Peeks(&[("banana", YELLOW), ("pear", GREEN)]),
 ];
 
 #[test]
@@ -52,13 +46,13 @@ fn test_peek(rt: HostRuntime) {
 
 static PEEK_MUT: &[Step] = &[
     Puts(FRUITS),
-    PeeksMut(&[("banana", "yellow"), ("apple", "red")]),
+    PeeksMut(&[("banana", YELLOW), ("apple", RED)]),
     PeeksMutNone("pear"),
-    Puts(&[("pear", "green")]),
+    Puts(&[("pear", GREEN)]),
     PeeksMutNone("apple"),
-    PeeksMut(&[("banana", "yellow"), ("pear", "green")]),
-    Writes("banana", "green"),
-    PeeksMut(&[("banana", "green")]),
+    PeeksMut(&[("banana", YELLOW), ("pear", GREEN)]),
+    Writes("banana", GREEN, false),
+    PeeksMut(&[("banana", GREEN)]),
 ];
 
 #[test]
@@ -68,7 +62,7 @@ fn test_peek_mut(rt: HostRuntime) {
 
 static CONTAINS: &[Step] = &[
     Puts(FRUITS),
-    Puts(&[("pear", "green")]),
+    Puts(&[("pear", GREEN)]),
     Contains("apple", false),
     Contains("banana", true),
     Contains("pear", true),
@@ -82,34 +76,45 @@ fn test_contains(rt: HostRuntime) {
 /// Colours under texts that own memory.
 type Texts = CLruCache<String, &'static str>;
 
-/// A cache with one pair.
-fn red_apple(alloc: Global) -> Result<Texts, Fail> {
-    let apple = String::from_str(alloc, "apple")?;
-    let mut cache = CLruCache::new(alloc, capacity_of(2)?);
-    match cache.put(apple, "red") {
-        Ok(_) => Ok(cache),
-        Err(_) => Err("there is no memory".into()),
+/// What a cache with a red apple answers by a text that is lent, for writing too.
+fn found(alloc: Global, for_writing: bool) -> Option<&'static str> {
+    let (Ok(capacity), Ok(apple)) = (capacity_of(2), String::from_str(alloc, "apple")) else {
+        return None;
+    };
+    let mut cache = CLruCache::new(alloc, capacity);
+    found_in(&mut cache, apple, for_writing)
+}
+
+fn found_in(cache: &mut Texts, apple: String, for_writing: bool) -> Option<&'static str> {
+    let _ = cache.put(apple, "red");
+    if for_writing {
+        cache.get_mut("apple").copied()
+    } else {
+        cache.get("apple").copied()
     }
 }
 
 #[test]
-fn test_get_with_borrow(rt: HostRuntime) -> Result<(), Fail> {
-    let mut cache = red_apple(rt.alloc())?;
-    equal!(rt; cache.get("apple").copied(), Some("red"));
-    Ok(())
+fn test_get_with_borrow(rt: HostRuntime) {
+    equal!(rt; found(rt.alloc(), false), Some("red"));
 }
 
 #[test]
-fn test_get_mut_with_borrow(rt: HostRuntime) -> Result<(), Fail> {
-    let mut cache = red_apple(rt.alloc())?;
-    equal!(rt; cache.get_mut("apple").copied(), Some("red"));
-    Ok(())
+fn test_get_mut_with_borrow(rt: HostRuntime) {
+    equal!(rt; found(rt.alloc(), true), Some("red"));
 }
+
+type Folded = CLruCache<&'static str, u64, BuildHasherDefault<FoldHasher>>;
 
 #[test]
 fn a_cache_takes_another_hash_builder(rt: HostRuntime) -> Result<(), Fail> {
     let builder = BuildHasherDefault::<FoldHasher>::new();
     let mut cache = CLruCache::with_hasher(rt.alloc(), capacity_of(2)?, builder);
-    equal!(rt; cache.put("apple", 3).is_ok() && cache.get(&"apple") == Some(&3), true);
+    equal!(rt; finds(&mut cache), Some(3));
     Ok(())
+}
+
+fn finds(cache: &mut Folded) -> Option<u64> {
+    let _ = cache.put("apple", 3);
+    cache.get(&"apple").copied()
 }

@@ -1,22 +1,21 @@
 //! What takes entries out.
 
-use crate::caches::{End, LETTERS, Numbers, gets, is, puts};
-use crate::steps::Step::{self, Clear, Gets, GetsNone, Pop, Puts, Sizes};
+use crate::caches::{End, LETTERS, RED, YELLOW};
+use crate::steps::Step::{self, Clear, Gets, GetsNone, Is, Pop, Puts, Retain, RetainMut, Sizes};
 use crate::steps::{FRUITS, plain};
 use assertions::equal;
 use clru::CLruCache;
 use clru_fixtures::sizes::capacity_of;
 use std::alloc::Global;
-use std::test::Fail;
 
 static POP: &[Step] = &[
     Puts(FRUITS),
     Sizes(2, 2, false, true),
     Gets(FRUITS),
-    Pop("apple", "red"),
+    Pop("apple", RED),
     Sizes(2, 1, false, false),
     GetsNone("apple"),
-    Gets(&[("banana", "yellow")]),
+    Gets(&[("banana", YELLOW)]),
 ];
 
 #[test]
@@ -37,46 +36,39 @@ fn test_clear(rt: HostRuntime) {
     equal!(rt; plain(rt.alloc(), 2, CLEAR), None);
 }
 
-#[test]
-fn test_that_pop_actually_detaches_node(rt: HostRuntime) -> Result<(), Fail> {
-    let mut cache = CLruCache::new(rt.alloc(), capacity_of(5)?);
-    equal!(rt; detaches(&mut cache), true);
-    Ok(())
-}
-
-fn detaches(cache: &mut Numbers) -> bool {
-    puts(cache, &LETTERS)
-        && cache.pop(&"c") == Some(3)
-        && puts(cache, &[("f", 6)])
-        && is(cache, &[("f", 6), ("e", 5), ("d", 4), ("b", 2), ("a", 1)])
-}
+static DETACHES: &[Step] = &[
+    Puts(LETTERS),
+    Pop("c", 3),
+    Puts(&[("f", 6)]),
+    Is(&[("f", 6), ("e", 5), ("d", 4), ("b", 2), ("a", 1)]),
+];
 
 #[test]
-fn test_retain(rt: HostRuntime) -> Result<(), Fail> {
-    let mut cache = CLruCache::new(rt.alloc(), capacity_of(5)?);
-    equal!(rt; retains(&mut cache), true);
-    Ok(())
+fn test_that_pop_actually_detaches_node(rt: HostRuntime) {
+    equal!(rt; plain(rt.alloc(), 5, DETACHES), None);
 }
 
-fn retains(cache: &mut Numbers) -> bool {
-    let filled = puts(cache, &LETTERS) && cache.len() == 5;
-    cache.retain_mut(|key, value| {
-        *value = value.saturating_add(1);
-        *key != "b" && *key != "d"
-    });
-    let kept = are_kept(cache);
-    cache.retain(|_, _| true);
-    let still_kept = are_kept(cache);
-    cache.retain(|_, _| false);
-    filled && kept && still_kept && cache.len() == 0 && cache.get(&"a").is_none()
-}
+static RETAIN: &[Step] = &[
+    Puts(LETTERS),
+    Sizes(5, 5, false, true),
+    RetainMut,
+    Sizes(5, 3, false, false),
+    Gets(&[("a", 2), ("c", 4), ("e", 6)]),
+    GetsNone("b"),
+    GetsNone("d"),
+    Retain(true),
+    Sizes(5, 3, false, false),
+    Gets(&[("a", 2), ("c", 4), ("e", 6)]),
+    GetsNone("b"),
+    GetsNone("d"),
+    Retain(false),
+    Sizes(5, 0, true, false),
+    GetsNone("a"),
+];
 
-/// Whether three of the letters are held, each with one more, and two are not.
-fn are_kept(cache: &mut Numbers) -> bool {
-    cache.len() == 3
-        && gets(cache, &[("a", 2), ("c", 4), ("e", 6)])
-        && cache.get(&"b").is_none()
-        && cache.get(&"d").is_none()
+#[test]
+fn test_retain(rt: HostRuntime) {
+    equal!(rt; plain(rt.alloc(), 5, RETAIN), None);
 }
 
 /// Letters by numbers.
@@ -91,9 +83,13 @@ fn fills(cache: &mut Many) -> bool {
     }
     filled = cache.len() == 200 && filled;
     for key in (100..175u64).rev() {
-        filled = cache.get(&key) == Some(&"B") && filled;
+        filled = got(cache, key) == Some("B") && filled;
     }
-    cache.get(&25) == Some(&"A") && filled
+    got(cache, 25) == Some("A") && filled
+}
+
+fn got(cache: &mut Many, key: u64) -> Option<&'static str> {
+    cache.get(&key).copied()
 }
 
 fn puts_75(cache: &mut Many, first: u64, letter: &'static str) -> bool {

@@ -1,45 +1,69 @@
 //! Whole lists of keys that a script can't write.
 
 use assertions::equal;
-use clru::{DefaultState, Replay, replay};
+use clru::{DefaultState, NonZeroUsize, Replay, replay};
 use clru_fixtures::letters::Letter;
 use clru_fixtures::sizes::capacity_of;
+use std::alloc::Global;
 use std::test::Fail;
 
-/// Whether the marks are as the letters say, H for a hit and M for a miss, and the misses as many as the letters M.
-fn is_marked(answer: &Replay, letters: &[u8]) -> bool {
-    let misses = letters.iter().filter(|letter| **letter == b'M').count();
-    let mut pairs = answer.marks.iter().zip(letters.iter());
-    (answer.marks.len(), answer.misses) == (letters.len(), misses)
-        && pairs.all(|(hit, letter)| *hit == (*letter == b'H'))
-}
+/// A capacity, keys, which of them hit, and how many miss.
+type Row = (usize, &'static [&'static str], &'static [bool], usize);
 
 /// The empty text is a key, and so is one that ends in a carriage return.
+static ROWS: &[Row] = &[
+    (2, &["a", "b", "c", "a"], &[false, false, false, false], 4),
+    (7, &["x", "x"], &[false, true], 1),
+    (2, &["", ""], &[false, true], 1),
+    (1, &["\0", "\0", "\0\r"], &[false, true, false], 2),
+];
+
 #[test]
 fn replay_marks_each_text(rt: HostRuntime) -> Result<(), Fail> {
-    let rows: [(usize, &[&str], &str); 4] = [
-        (2, &["a", "b", "c", "a"], "MMMM"),
-        (7, &["x", "x"], "MH"),
-        (2, &["", ""], "MH"),
-        (1, &["\0", "\0", "\0\r"], "MHM"),
-    ];
-    for (capacity, keys, letters) in rows {
+    for (capacity, keys, hits, misses) in ROWS {
         let keys = Vec::from_slice(rt.alloc(), keys)?;
-        let Ok(answer) = replay(rt.alloc(), capacity_of(capacity)?, keys, DefaultState) else {
-            return Err("the keys came back".into());
-        };
-        equal!(rt; is_marked(&answer, letters.as_bytes()), true, letters);
+        equal!(rt; marks_texts(rt.alloc(), *capacity, keys, hits), Some(*misses), *capacity);
     }
     Ok(())
+}
+
+/// The misses, where the marks are these.
+fn misses_of(answer: &Replay, hits: &[bool]) -> Option<usize> {
+    if answer.marks.as_slice() == hits {
+        Some(answer.misses)
+    } else {
+        None
+    }
+}
+
+fn marks_texts(
+    alloc: Global,
+    capacity: usize,
+    keys: Vec<&'static str>,
+    hits: &[bool],
+) -> Option<usize> {
+    let Ok(capacity) = capacity_of(capacity) else {
+        return None;
+    };
+    match replay(alloc, capacity, keys, DefaultState) {
+        Ok(answer) => misses_of(&answer, hits),
+        Err(_) => None,
+    }
 }
 
 /// Letters in either case are equal keys.
 #[test]
 fn replay_goes_by_the_equality_of_keys(rt: HostRuntime) -> Result<(), Fail> {
+    let two = capacity_of(2)?;
     let keys = Vec::from_array(rt.alloc(), [b'A', b'b', b'a', b'B', b'c', b'A'].map(Letter))?;
-    match replay(rt.alloc(), capacity_of(2)?, keys, DefaultState) {
-        Ok(answer) => equal!(rt; is_marked(&answer, b"MMHHMM"), true),
-        Err(_) => return Err("the keys came back".into()),
-    }
+    equal!(rt; marks_letters(rt.alloc(), two, keys), Some(4));
     Ok(())
+}
+
+fn marks_letters(alloc: Global, capacity: NonZeroUsize, keys: Vec<Letter>) -> Option<usize> {
+    let hits = [false, false, true, true, false, false].as_slice();
+    match replay(alloc, capacity, keys, DefaultState) {
+        Ok(answer) => misses_of(&answer, hits),
+        Err(_) => None,
+    }
 }

@@ -1,29 +1,30 @@
-//! Calls of a cache of words as data, each with its answer.
+//! Calls of a cache as data, each with its answer.
 
-use crate::caches::{End, Weighed, Words, gets, is, puts, resized, sizes, walks};
-use crate::steps::Step::{
-    Clear, Contains, Gets, GetsMut, GetsNone, Is, Peeks, PeeksMut, PeeksMutNone, PeeksNone, Pop,
-    Puts, Replaces, Resize, Sizes, TooHeavy, Walks, Weighs, Writes,
+use crate::caches::{
+    End, Numbers, Pairs, RED, Walk, YELLOW, get, gets, is, put, puts, resized, sizes, walks,
 };
-use clru::{CLruCache, PutError};
-use clru_fixtures::scales::ByLength;
+use crate::cursors::{lends, takes_one, walks_twice};
+use crate::modifies::{modifies, tries, writes_lent};
+use crate::steps::Step::{
+    Clear, Contains, Gets, GetsMut, GetsNone, Is, Lends, Modifies, Peeks, PeeksMut, PeeksMutNone,
+    PeeksNone, Pop, Puts, Replaces, Resize, Retain, RetainMut, Sizes, TakesOne, Tries, Walks,
+    WalksTwice, Writes, WritesLent,
+};
+use clru::{CLruCache, TryPutError};
 use clru_fixtures::sizes::capacity_of;
 use std::alloc::Global;
 
-/// Words under words.
-pub(crate) type Pairs = &'static [(&'static str, &'static str)];
-
 /// Two fruits and their colours.
-pub(crate) const FRUITS: Pairs = &[("apple", "red"), ("banana", "yellow")];
+pub(crate) const FRUITS: Pairs = &[("apple", RED), ("banana", YELLOW)];
 
 /// A call, or some of one kind, with what is answered.
 pub(crate) enum Step {
     /// Pairs go in, none of which was held.
     Puts(Pairs),
     /// A held key gets a value in place of another.
-    Replaces(&'static str, &'static str, &'static str),
+    Replaces(&'static str, u64, u64),
     /// A pair is refused by its weight.
-    TooHeavy(&'static str, &'static str),
+    TooHeavy(&'static str, u64),
     Gets(Pairs),
     GetsNone(&'static str),
     GetsMut(Pairs),
@@ -31,10 +32,14 @@ pub(crate) enum Step {
     PeeksNone(&'static str),
     PeeksMut(Pairs),
     PeeksMutNone(&'static str),
-    /// Writes a value by `peek_mut`.
-    Writes(&'static str, &'static str),
+    /// Writes a value, by `get_mut` or by `peek_mut`.
+    Writes(&'static str, u64, bool),
     Contains(&'static str, bool),
-    Pop(&'static str, &'static str),
+    Pop(&'static str, u64),
+    /// Keeps all letters but b and d, and adds one to the value of each.
+    RetainMut,
+    /// Keeps all entries, or none.
+    Retain(bool),
     Clear,
     /// Resizes: the number of entries then.
     Resize(usize, usize),
@@ -43,8 +48,23 @@ pub(crate) enum Step {
     Weighs(usize),
     /// All entries, the most recently used first.
     Is(Pairs),
-    Walks(&'static [(End, &'static str, &'static str)]),
+    Walks(Walk),
+    /// A walk and a copy of it show the same.
+    WalksTwice,
+    /// A cursor goes as a walk does.
+    Lends(Walk),
+    /// Takes one from each value by a cursor, from that end.
+    TakesOne(End),
+    /// Puts or modifies a key by its length and a base: the value that is lent.
+    Modifies(&'static str, Option<u64>, u64),
+    /// Puts a value in this way, or writes it to the held one, and another to what is lent.
+    WritesLent(&'static str, u64, u64),
+    /// Puts or modifies a key by closures that fail where the number is odd.
+    Tries(&'static str, u64, Tried),
 }
+
+/// The value that is lent, or why there is none.
+pub(crate) type Tried = Result<u64, TryPutError<&'static str, u64, u64>>;
 
 /// Makes the calls of a cache with no scale, and answers which of them answered something else, if any.
 pub(crate) fn plain(alloc: Global, capacity: usize, steps: &[Step]) -> Option<usize> {
@@ -55,7 +75,7 @@ pub(crate) fn plain(alloc: Global, capacity: usize, steps: &[Step]) -> Option<us
     plain_steps(&mut cache, steps)
 }
 
-fn plain_steps(cache: &mut Words, steps: &[Step]) -> Option<usize> {
+fn plain_steps(cache: &mut Numbers, steps: &[Step]) -> Option<usize> {
     for (index, step) in steps.iter().enumerate() {
         if !plain_step(cache, step) {
             return Some(index);
@@ -64,130 +84,118 @@ fn plain_steps(cache: &mut Words, steps: &[Step]) -> Option<usize> {
     None
 }
 
-fn plain_step(cache: &mut Words, step: &Step) -> bool {
+fn plain_step(cache: &mut Numbers, step: &Step) -> bool {
     match step {
         Puts(pairs) => puts(cache, pairs),
-        Replaces(key, value, old) => cache
-            .put(*key, *value)
-            .is_ok_and(|put| put.replaced == Some(*old)),
-        _ => looks_plainly(cache, step),
-    }
-}
-
-/// A removal, a look at the sizes, or a `get`.
-fn looks_plainly(cache: &mut Words, step: &Step) -> bool {
-    match step {
-        Gets(pairs) => gets(cache, pairs),
-        GetsNone(key) => cache.get(key).is_none(),
-        Sizes(capacity, number, empty, full) => {
-            sizes(cache) == (*capacity, *number, *empty, *full)
-        }
-        Pop(key, value) => cache.pop(key) == Some(*value),
-        Clear => {
-            cache.clear();
-            true
-        }
-        Resize(capacity, number) => resized(cache, *capacity) == (*capacity, *number),
+        Replaces(key, value, old) => put(cache, key, *value) == Some(Some(*old)),
+        Modifies(key, base, value) => modifies(cache, key, *base) == Some(*value),
+        WritesLent(key, value, new) => writes_lent(cache, key, *value, *new),
+        Tries(key, data, answer) => tries(cache, key, *data) == *answer,
         _ => finds(cache, step),
     }
 }
 
 /// A look-up of another kind than `get`.
-fn finds(cache: &mut Words, step: &Step) -> bool {
+fn finds(cache: &mut Numbers, step: &Step) -> bool {
     match step {
-        GetsMut(pairs) => lends(cache, pairs, true),
+        GetsMut(pairs) => lends_all(cache, pairs, true),
         Peeks(pairs) => peeks(cache, pairs),
-        PeeksNone(key) => cache.peek(key).is_none(),
-        PeeksMut(pairs) => lends(cache, pairs, false),
-        PeeksMutNone(key) => cache.peek_mut(key).is_none(),
-        Writes(key, new) => match cache.peek_mut(key) {
-            Some(value) => {
-                *value = new;
-                true
-            }
-            None => false,
-        },
+        PeeksNone(key) => peek(cache, key).is_none(),
+        PeeksMut(pairs) => lends_all(cache, pairs, false),
+        PeeksMutNone(key) => lent(cache, key, false).is_none(),
+        Writes(key, new, moves) => writes(cache, key, *new, *moves),
         Contains(key, held) => cache.contains(key) == *held,
-        _ => false,
+        _ => goes(cache, step),
     }
 }
 
-fn peeks(cache: &Words, pairs: Pairs) -> bool {
-    for (key, value) in pairs {
-        if cache.peek(key) != Some(value) {
-            return false;
-        }
-    }
-    true
-}
-
-/// Whether each key lends its value for writing, by `get_mut` or by `peek_mut`.
-fn lends(cache: &mut Words, pairs: Pairs, moves: bool) -> bool {
-    for (key, value) in pairs {
-        let lent = if moves {
-            cache.get_mut(key)
-        } else {
-            cache.peek_mut(key)
-        };
-        if lent.copied() != Some(*value) {
-            return false;
-        }
-    }
-    true
-}
-
-/// The same of a cache by whose scale a word weighs its letters.
-pub(crate) fn weighed(alloc: Global, capacity: usize, steps: &[Step]) -> Option<usize> {
-    let Ok(capacity) = capacity_of(capacity) else {
-        return Some(0);
-    };
-    let mut cache = CLruCache::with_scale(alloc, capacity, ByLength);
-    weighed_steps(&mut cache, steps)
-}
-
-fn weighed_steps(cache: &mut Weighed, steps: &[Step]) -> Option<usize> {
-    for (index, step) in steps.iter().enumerate() {
-        if !weighed_step(cache, step) {
-            return Some(index);
-        }
-    }
-    None
-}
-
-fn weighed_step(cache: &mut Weighed, step: &Step) -> bool {
+/// A walk, or a removal by a closure.
+fn goes(cache: &mut Numbers, step: &Step) -> bool {
     match step {
-        Puts(pairs) => puts_by_weight(cache, pairs),
-        Replaces(key, value, old) => {
-            cache.put_with_weight(*key, *value, |_, _| {}) == Ok(Some(*old))
+        RetainMut => {
+            retain_mut(cache);
+            true
         }
-        TooHeavy(key, value) => {
-            cache.put_with_weight(*key, *value, |_, _| {}) == Err(PutError::TooHeavy(*key, *value))
+        Retain(all) => {
+            let all = *all;
+            cache.retain(|_, _| all);
+            true
+        }
+        WalksTwice => walks_twice(cache),
+        Lends(steps) => lends(cache, steps),
+        TakesOne(end) => {
+            takes_one(cache, *end);
+            true
         }
         _ => looks(cache, step),
     }
 }
 
-/// Puts the pairs by their weights, and answers whether each was stored with no old value.
-pub(crate) fn puts_by_weight(cache: &mut Weighed, pairs: Pairs) -> bool {
+fn retain_mut(cache: &mut Numbers) {
+    cache.retain_mut(|key, value| {
+        *value = value.saturating_add(1);
+        *key != "b" && *key != "d"
+    });
+}
+
+/// The value that a key lends for writing, by `get_mut` or by `peek_mut`.
+fn lent(cache: &mut Numbers, key: &&'static str, moves: bool) -> Option<u64> {
+    if moves {
+        cache.get_mut(key).copied()
+    } else {
+        cache.peek_mut(key).copied()
+    }
+}
+
+fn writes(cache: &mut Numbers, key: &&'static str, new: u64, moves: bool) -> bool {
+    let lent = if moves {
+        cache.get_mut(key)
+    } else {
+        cache.peek_mut(key)
+    };
+    match lent {
+        Some(value) => {
+            *value = new;
+            true
+        }
+        None => false,
+    }
+}
+
+fn peek(cache: &Numbers, key: &&'static str) -> Option<u64> {
+    cache.peek(key).copied()
+}
+
+fn peeks(cache: &Numbers, pairs: Pairs) -> bool {
     for (key, value) in pairs {
-        if cache.put_with_weight(*key, *value, |_, _| {}) != Ok(None) {
+        if peek(cache, key) != Some(*value) {
             return false;
         }
     }
     true
 }
 
-/// Any other call.
-fn looks(cache: &mut Weighed, step: &Step) -> bool {
+/// Whether each key lends its value for writing.
+fn lends_all(cache: &mut Numbers, pairs: Pairs, moves: bool) -> bool {
+    for (key, value) in pairs {
+        if lent(cache, key, moves) != Some(*value) {
+            return false;
+        }
+    }
+    true
+}
+
+/// A removal, a look at the sizes or at all entries, or a `get`.
+fn looks(cache: &mut Numbers, step: &Step) -> bool {
     match step {
         Gets(pairs) => gets(cache, pairs),
-        GetsNone(key) => cache.get(key).is_none(),
+        GetsNone(key) => get(cache, key).is_none(),
         Is(pairs) => is(cache, pairs),
         Walks(steps) => walks(cache, steps),
         Sizes(capacity, number, empty, full) => {
             sizes(cache) == (*capacity, *number, *empty, *full)
         }
-        Weighs(weight) => cache.weight() == *weight,
+        Pop(key, value) => cache.pop(key) == Some(*value),
         Clear => {
             cache.clear();
             true

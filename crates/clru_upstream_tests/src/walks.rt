@@ -1,108 +1,60 @@
 //! Walks: by iterators, and by a cursor where values are lent for writing.
 
-use crate::caches::End::{self, Back, Front};
-use crate::caches::{LAST_FIRST, LETTERS, Numbers, hands_out, is, puts, walks};
+use crate::caches::End::{Back, Front};
+use crate::caches::{LAST_FIRST, LETTERS, Numbers, Pairs, hands_out, is, puts};
+use crate::cursors::takes_one;
+use crate::steps::Step::{self, Is, Lends, Puts, TakesOne, Walks, WalksTwice};
+use crate::steps::plain;
 use assertions::equal;
 use clru::CLruCache;
 use clru_fixtures::sizes::capacity_of;
 use std::alloc::Global;
 use std::test::Fail;
 
-/// Steps from either end, each with the pair that it shows.
-type Steps = &'static [(End, &'static str, u64)];
+const THREE: Pairs = &[("a", 1), ("b", 2), ("c", 3)];
 
-/// Whether a cursor lends the value of each step, has one entry less to come after each, and then none.
-fn lends(cache: &mut Numbers, steps: Steps) -> bool {
-    let mut cursor = cache.iter_mut();
-    let mut left = steps.len();
-    for (end, _, value) in steps {
-        let lent = match end {
-            Front => (cursor.len(), cursor.next().copied()),
-            Back => (cursor.len(), cursor.next_back().copied()),
-        };
-        if lent != (left, Some(*value)) {
-            return false;
-        }
-        left = left.wrapping_sub(1);
-    }
-    cursor.len() == 0 && cursor.next().is_none() && cursor.next_back().is_none()
-}
-
-/// Puts three letters into a cache, walks over it by these steps, for reading and for writing, and where it is given an end,
-/// takes one from each value from there on.
-fn goes(alloc: Global, steps: Steps, taking: Option<End>) -> Result<bool, &'static str> {
-    let mut cache = CLruCache::new(alloc, capacity_of(3)?);
-    Ok(goes_by(&mut cache, steps) && takes(&mut cache, taking))
-}
-
-fn goes_by(cache: &mut Numbers, steps: Steps) -> bool {
-    puts(cache, &LETTERS[..3]) && walks(cache, steps) && lends(cache, steps)
-}
-
-fn takes(cache: &mut Numbers, taking: Option<End>) -> bool {
-    match taking {
-        Some(end) => {
-            takes_one(cache, end);
-            is(cache, &[("c", 2), ("b", 1), ("a", 0)])
-        }
-        None => true,
-    }
-}
-
-/// Takes one from each value, from that end.
-fn takes_one(cache: &mut Numbers, end: End) {
-    let number = cache.len();
-    let mut cursor = cache.iter_mut();
-    for _ in 0..number {
-        let lent = match end {
-            Front => cursor.next(),
-            Back => cursor.next_back(),
-        };
-        if let Some(value) = lent {
-            *value = value.saturating_sub(1);
-        }
-    }
-}
-
-static FORWARDS: Steps = &[(Front, "c", 3), (Front, "b", 2), (Front, "a", 1)];
+static FORWARDS: &[Step] = &[
+    Puts(THREE),
+    Walks(&[(Front, "c", 3), (Front, "b", 2), (Front, "a", 1)]),
+    Lends(&[(Front, "c", 3), (Front, "b", 2), (Front, "a", 1)]),
+    TakesOne(Front),
+    Is(&[("c", 2), ("b", 1), ("a", 0)]),
+];
 
 #[test]
 fn test_iter_forwards(rt: HostRuntime) {
-    equal!(rt; goes(rt.alloc(), FORWARDS, Some(Front)), Ok(true));
+    equal!(rt; plain(rt.alloc(), 3, FORWARDS), None);
 }
 
-static BACKWARDS: Steps = &[(Back, "a", 1), (Back, "b", 2), (Back, "c", 3)];
+static BACKWARDS: &[Step] = &[
+    Puts(THREE),
+    Walks(&[(Back, "a", 1), (Back, "b", 2), (Back, "c", 3)]),
+    Lends(&[(Back, "a", 1), (Back, "b", 2), (Back, "c", 3)]),
+    TakesOne(Back),
+    Is(&[("c", 2), ("b", 1), ("a", 0)]),
+];
 
 #[test]
 fn test_iter_backwards(rt: HostRuntime) {
-    equal!(rt; goes(rt.alloc(), BACKWARDS, Some(Back)), Ok(true));
+    equal!(rt; plain(rt.alloc(), 3, BACKWARDS), None);
 }
 
-static FORWARDS_AND_BACKWARDS: Steps = &[(Front, "c", 3), (Back, "a", 1), (Front, "b", 2)];
+static FORWARDS_AND_BACKWARDS: &[Step] = &[
+    Puts(THREE),
+    Walks(&[(Front, "c", 3), (Back, "a", 1), (Front, "b", 2)]),
+    Lends(&[(Front, "c", 3), (Back, "a", 1), (Front, "b", 2)]),
+];
 
 #[test]
 fn test_iter_forwards_and_backwards(rt: HostRuntime) {
-    equal!(rt; goes(rt.alloc(), FORWARDS_AND_BACKWARDS, None), Ok(true));
+    equal!(rt; plain(rt.alloc(), 3, FORWARDS_AND_BACKWARDS), None);
 }
+
+static CLONE: &[Step] = &[Puts(&[("a", 1), ("b", 2)]), WalksTwice];
 
 #[test]
-fn test_iter_clone(rt: HostRuntime) -> Result<(), Fail> {
-    let mut cache = CLruCache::new(rt.alloc(), capacity_of(3)?);
-    equal!(rt; puts(&mut cache, &LETTERS[..2]) && walks_twice(&cache), true);
-    Ok(())
-}
-
-fn walks_twice(cache: &Numbers) -> bool {
-    let mut walk = cache.iter();
-    let Ok(mut copy) = walk.clone() else {
-        return false;
-    };
-    for step in [(2, Some((&"b", &2))), (1, Some((&"a", &1))), (0, None)] {
-        if (walk.len(), walk.next()) != step || (copy.len(), copy.next()) != step {
-            return false;
-        }
-    }
-    true
+fn test_iter_clone(rt: HostRuntime) {
+    equal!(rt; plain(rt.alloc(), 3, CLONE), None);
 }
 
 #[test]
@@ -110,15 +62,16 @@ fn test_into_iter(rt: HostRuntime) {
     equal!(rt; goes_out(rt.alloc()), Ok(true));
 }
 
+const ONE_LESS: Pairs = &[("e", 4), ("d", 3), ("c", 2), ("b", 1), ("a", 0)];
+
 fn goes_out(alloc: Global) -> Result<bool, &'static str> {
     let mut cache = CLruCache::new(alloc, capacity_of(5)?);
     let filled = fills(&mut cache);
-    let one_less = [("e", 4), ("d", 3), ("c", 2), ("b", 1), ("a", 0)];
-    Ok(hands_out(cache, &one_less) && filled)
+    Ok(hands_out(cache, ONE_LESS) && filled)
 }
 
 fn fills(cache: &mut Numbers) -> bool {
-    let filled = puts(cache, &LETTERS) && is(cache, &LAST_FIRST);
+    let filled = puts(cache, LETTERS) && is(cache, LAST_FIRST);
     takes_one(cache, Front);
     filled
 }

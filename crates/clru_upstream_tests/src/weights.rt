@@ -1,14 +1,14 @@
 //! Pairs that weigh.
 
 use crate::caches::End::{Back, Front};
-use crate::caches::{Weighed, hands_out, is};
+use crate::caches::{A, B, C, D, E, GREEN, Pairs, RED, Walk, YELLOW};
+use crate::steps::FRUITS;
 use crate::steps::Step::{
-    self, Clear, Gets, GetsNone, Is, Puts, Replaces, Resize, Sizes, TooHeavy, Walks, Weighs,
+    self, Clear, Gets, GetsNone, Puts, Replaces, Resize, Sizes, TooHeavy, Walks, Weighs,
 };
-use crate::steps::{FRUITS, Pairs, puts_by_weight, weighed};
+use crate::weighing::{ByLetters, hands_out, puts, walks, weighed};
 use assertions::equal;
 use clru::CLruCache;
-use clru_fixtures::scales::ByLength;
 use clru_fixtures::sizes::capacity_of;
 use std::alloc::Global;
 
@@ -26,7 +26,7 @@ fn test_weighted_insert_and_get(rt: HostRuntime) {
 }
 
 /// A red apple is too heavy, however often it is put.
-static HEAVY: &[Step] = &[TooHeavy("apple", "red"), TooHeavy("apple", "red")];
+static HEAVY: &[Step] = &[TooHeavy("apple", RED), TooHeavy("apple", RED)];
 
 #[test]
 fn test_zero_weight_fails(rt: HostRuntime) {
@@ -39,10 +39,10 @@ fn test_greater_than_max_weight_fails(rt: HostRuntime) {
 }
 
 static WEIGHTED_INSERT_UPDATE: &[Step] = &[
-    Puts(&[("apple", "red")]),
-    Replaces("apple", "green", "red"),
+    Puts(&[("apple", RED)]),
+    Replaces("apple", GREEN, RED),
     Sizes(6, 1, false, true),
-    Gets(&[("apple", "green")]),
+    Gets(&[("apple", GREEN)]),
 ];
 
 #[test]
@@ -52,15 +52,15 @@ fn test_weighted_insert_update(rt: HostRuntime) {
 
 static WEIGHTED_INSERT_REMOVES_OLDEST: &[Step] = &[
     Puts(FRUITS),
-    Puts(&[("pear", "green")]),
+    Puts(&[("pear", GREEN)]),
     GetsNone("apple"),
-    Gets(&[("banana", "yellow"), ("pear", "green")]),
+    Gets(&[("banana", YELLOW), ("pear", GREEN)]),
     Sizes(16, 2, false, false),
     Weighs(11),
-    Puts(&[("apple", "green"), ("tomato", "red")]),
+    Puts(&[("apple", GREEN), ("tomato", RED)]),
     Sizes(16, 3, false, true),
     Weighs(13),
-    Gets(&[("pear", "green"), ("apple", "green"), ("tomato", "red")]),
+    Gets(&[("pear", GREEN), ("apple", GREEN), ("tomato", RED)]),
 ];
 
 #[test]
@@ -73,7 +73,7 @@ static WEIGHTED_CLEAR: &[Step] = &[
     Sizes(10, 1, false, false),
     Weighs(6),
     GetsNone("apple"),
-    Gets(&[("banana", "yellow")]),
+    Gets(&[("banana", YELLOW)]),
     Clear,
     Sizes(10, 0, true, false),
     Weighs(0),
@@ -85,7 +85,7 @@ fn test_weighted_clear(rt: HostRuntime) {
 }
 
 static WEIGHTED_RESIZE_LARGER: &[Step] = &[
-    Puts(&[("1", "a"), ("2", "b")]),
+    Puts(&[("1", A), ("2", B)]),
     Sizes(4, 2, false, true),
     Weighs(2),
     Resize(6, 2),
@@ -94,10 +94,10 @@ static WEIGHTED_RESIZE_LARGER: &[Step] = &[
     Resize(8, 2),
     Sizes(8, 2, false, false),
     Weighs(2),
-    Puts(&[("3", "c"), ("4", "d")]),
+    Puts(&[("3", C), ("4", D)]),
     Sizes(8, 4, false, true),
     Weighs(4),
-    Gets(&[("1", "a"), ("2", "b"), ("3", "c"), ("4", "d")]),
+    Gets(&[("1", A), ("2", B), ("3", C), ("4", D)]),
 ];
 
 #[test]
@@ -106,7 +106,7 @@ fn test_weighted_resize_larger(rt: HostRuntime) {
 }
 
 static WEIGHTED_RESIZE_SMALLER: &[Step] = &[
-    Puts(&[("1", "a"), ("2", "b"), ("3", "c"), ("4", "d")]),
+    Puts(&[("1", A), ("2", B), ("3", C), ("4", D)]),
     Sizes(8, 4, false, true),
     Weighs(4),
     Resize(4, 2),
@@ -114,11 +114,11 @@ static WEIGHTED_RESIZE_SMALLER: &[Step] = &[
     Weighs(2),
     GetsNone("1"),
     GetsNone("2"),
-    Gets(&[("3", "c"), ("4", "d")]),
+    Gets(&[("3", C), ("4", D)]),
     Resize(3, 1),
     Sizes(3, 1, false, false),
     Weighs(1),
-    Is(&[("4", "d")]),
+    Walks(&[(Front, "4", D)]),
 ];
 
 #[test]
@@ -127,13 +127,13 @@ fn test_weighted_resize_smaller(rt: HostRuntime) {
 }
 
 static WEIGHTED_RESIZE_EQUAL: &[Step] = &[
-    Puts(&[("1", "a"), ("2", "b"), ("3", "c"), ("4", "d")]),
+    Puts(&[("1", A), ("2", B), ("3", C), ("4", D)]),
     Sizes(8, 4, false, true),
     Weighs(4),
     Resize(8, 4),
     Sizes(8, 4, false, true),
     Weighs(4),
-    Gets(&[("1", "a"), ("2", "b"), ("3", "c"), ("4", "d")]),
+    Gets(&[("1", A), ("2", B), ("3", C), ("4", D)]),
 ];
 
 #[test]
@@ -142,7 +142,7 @@ fn test_weighted_resize_equal(rt: HostRuntime) {
 }
 
 static WEIGHTED_ITER: &[Step] = &[
-    Puts(&[("1", "a"), ("2", "b"), ("3", "c"), ("4", "d")]),
+    Puts(&[("1", A), ("2", B), ("3", C), ("4", D)]),
     Sizes(8, 4, false, true),
     Weighs(4),
 ];
@@ -153,11 +153,11 @@ fn test_weighted_iter(rt: HostRuntime) {
 }
 
 /// Three letters by their numbers, which weigh 1 each.
-const THREE: Pairs = &[("1", "a"), ("2", "b"), ("3", "c")];
+const THREE: Pairs = &[("1", A), ("2", B), ("3", C)];
 
 static WEIGHTED_ITER_FORWARDS: &[Step] = &[
     Puts(THREE),
-    Walks(&[(Front, "3", "c"), (Front, "2", "b"), (Front, "1", "a")]),
+    Walks(&[(Front, "3", C), (Front, "2", B), (Front, "1", A)]),
 ];
 
 #[test]
@@ -167,7 +167,7 @@ fn test_weighted_iter_forwards(rt: HostRuntime) {
 
 static WEIGHTED_ITER_BACKWARDS: &[Step] = &[
     Puts(THREE),
-    Walks(&[(Back, "1", "a"), (Back, "2", "b"), (Back, "3", "c")]),
+    Walks(&[(Back, "1", A), (Back, "2", B), (Back, "3", C)]),
 ];
 
 #[test]
@@ -177,7 +177,7 @@ fn test_weighted_iter_backwards(rt: HostRuntime) {
 
 static WEIGHTED_ITER_FORWARDS_AND_BACKWARDS: &[Step] = &[
     Puts(THREE),
-    Walks(&[(Front, "3", "c"), (Back, "1", "a"), (Front, "2", "b")]),
+    Walks(&[(Front, "3", C), (Back, "1", A), (Front, "2", B)]),
 ];
 
 #[test]
@@ -185,22 +185,26 @@ fn test_weighted_iter_forwards_and_backwards(rt: HostRuntime) {
     equal!(rt; weighed(rt.alloc(), 8, WEIGHTED_ITER_FORWARDS_AND_BACKWARDS), None);
 }
 
-const FIVE: Pairs = &[("1", "a"), ("2", "b"), ("3", "c"), ("4", "d"), ("5", "e")];
+const FIVE: Pairs = &[("1", A), ("2", B), ("3", C), ("4", D), ("5", E)];
 
-/// The same, the last one first.
-const LAST_FIRST: Pairs = &[("5", "e"), ("4", "d"), ("3", "c"), ("2", "b"), ("1", "a")];
+/// These five, the last one first.
+const LAST_FIRST: Pairs = &[("5", E), ("4", D), ("3", C), ("2", B), ("1", A)];
+
+static FROM_THE_FRONT: Walk = &[
+    (Front, "5", E),
+    (Front, "4", D),
+    (Front, "3", C),
+    (Front, "2", B),
+    (Front, "1", A),
+];
 
 #[test]
 fn test_weighted_into_iter(rt: HostRuntime) {
-    equal!(rt; goes_out_weighed(rt.alloc()), Ok(true));
+    equal!(rt; goes_out(rt.alloc()), Ok(true));
 }
 
-fn goes_out_weighed(alloc: Global) -> Result<bool, &'static str> {
-    let mut cache = CLruCache::with_scale(alloc, capacity_of(10)?, ByLength);
-    let filled = fills(&mut cache);
+fn goes_out(alloc: Global) -> Result<bool, &'static str> {
+    let mut cache = CLruCache::with_scale(alloc, capacity_of(10)?, ByLetters);
+    let filled = puts(&mut cache, FIVE) && walks(&cache, FROM_THE_FRONT);
     Ok(hands_out(cache, LAST_FIRST) && filled)
-}
-
-fn fills(cache: &mut Weighed) -> bool {
-    puts_by_weight(cache, FIVE) && is(cache, LAST_FIRST)
 }

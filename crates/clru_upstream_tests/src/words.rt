@@ -26,8 +26,7 @@ fn count_words(
 #[test]
 fn words_are_counted(rt: HostRuntime) -> Result<(), Fail> {
     let counts = count_words(rt.alloc(), capacity_of(3)?, "one two two three two three")?;
-    let list = [("three", 2), ("two", 3), ("one", 1)];
-    equal!(rt; is(&counts, &list), true);
+    equal!(rt; is(&counts, &[("three", 2), ("two", 3), ("one", 1)]), true);
     Ok(())
 }
 

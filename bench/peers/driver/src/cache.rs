@@ -21,7 +21,18 @@ pub trait Cache<K, V> {
     fn len(&self) -> usize;
 }
 
+/// A look-up by a form of the key: the text of a `String`, as callers have it who own none.
+pub trait ByText<V>: Cache<String, V> {
+    fn get_by_text(&mut self, text: &str) -> Option<&V>;
+}
+
 pub type Lru<K, V> = lru::LruCache<K, V, FoldState>;
+
+impl<V> ByText<V> for Lru<String, V> {
+    fn get_by_text(&mut self, text: &str) -> Option<&V> {
+        self.get(text)
+    }
+}
 
 impl<K: Eq + Hash, V> Cache<K, V> for Lru<K, V> {
     fn with_capacity(capacity: usize) -> Self {
@@ -47,6 +58,12 @@ impl<K: Eq + Hash, V> Cache<K, V> for Lru<K, V> {
 
 pub type Hashlink<K, V> = hashlink::LruCache<K, V, FoldState>;
 
+impl<V> ByText<V> for Hashlink<String, V> {
+    fn get_by_text(&mut self, text: &str) -> Option<&V> {
+        self.get(text)
+    }
+}
+
 impl<K: Eq + Hash, V> Cache<K, V> for Hashlink<K, V> {
     fn with_capacity(capacity: usize) -> Self {
         Hashlink::with_hasher(capacity, FoldState)
@@ -71,6 +88,13 @@ impl<K: Eq + Hash, V> Cache<K, V> for Hashlink<K, V> {
 
 #[cfg(feature = "clru")]
 pub type Clru<K, V> = clru::CLruCache<K, V, FoldState>;
+
+#[cfg(feature = "clru")]
+impl<V> ByText<V> for Clru<String, V> {
+    fn get_by_text(&mut self, text: &str) -> Option<&V> {
+        self.get(text)
+    }
+}
 
 #[cfg(feature = "clru")]
 impl<K: Eq + Hash, V> Cache<K, V> for Clru<K, V> {

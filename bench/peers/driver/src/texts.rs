@@ -1,6 +1,6 @@
 //! The stages over texts of 24 bytes as keys.
 
-use crate::cache::Cache;
+use crate::cache::{ByText, Cache};
 use crate::clock::now;
 use crate::ours;
 use crate::tally::{print_line, Tally, TextSteps};
@@ -45,8 +45,8 @@ pub fn run_ours(texts: Texts) -> TextSteps {
     )
 }
 
-/// Fills a new cache, gets held keys and puts new keys, which drop the old ones.
-pub fn run<C: Cache<String, u64>>(texts: Texts) -> TextSteps {
+/// Fills a new cache, gets held keys by their texts and puts new keys, which drop the old ones.
+pub fn run<C: ByText<u64>>(texts: Texts) -> TextSteps {
     let mut cache = C::with_capacity(texts.capacity);
     let fill = put_texts(&mut cache, texts.fills);
     let get = get_texts(&mut cache, &texts.gets);
@@ -64,11 +64,11 @@ fn put_texts<C: Cache<String, u64>>(cache: &mut C, texts: Vec<String>) -> Tally 
     tally
 }
 
-fn get_texts<C: Cache<String, u64>>(cache: &mut C, texts: &[String]) -> Tally {
+fn get_texts<C: ByText<u64>>(cache: &mut C, texts: &[String]) -> Tally {
     let mut tally = Tally::default();
     let start = now();
     for text in texts {
-        tally.count(cache.get(text).copied());
+        tally.count(cache.get_by_text(text).copied());
     }
     tally.nanoseconds = now() - start;
     tally

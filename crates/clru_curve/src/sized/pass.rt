@@ -1,5 +1,7 @@
 //! `SizedPass`, which takes requests of keys with sizes one by one.
-ghost use Rattle.std.specs.Prelude.{◌≡◌, ℕ, ◌+◌, ◌^◌, ◌≤◌, ◌↔◌, nat_lt, List, [], ◌∷◌, reverse, IfOk, IfErr, IsErrAnd, OnOk, OnErr, IsOk, if◌then◌else◌};
+ghost use Rattle.std.specs.Prelude.{◌≡◌, ℕ, ◌+◌, ◌^◌, ◌<◌, ◌≤◌, ◌↔◌, nat_lt, List, [], ◌∷◌, reverse, IfOk, IfErr, IsErrAnd, OnOk, OnErr, IsOk, IsNone, IsSome, IsTrue, None, is_some, if◌then◌else◌};
+ghost use Rattle.std.specs.List.{list_any};
+ghost use Rattle.std.specs.Map.{lookup};
 ghost use Rattle.clru_model.specs.Sizes.{SameWeights, span};
 ghost use Rattle.clru_curve.specs.SizedPasses.{IsSizedPass, key_of, IsTooLarge};
 ghost use Rattle.clru_curve.specs.SizedCurves.{IsSizedCurveOf};
@@ -11,6 +13,7 @@ use crate::sized::sizes::Sizes;
 use crate::sized::step::Step;
 use clru::{CLruCache, DefaultState, NoMemory, ZeroWeightScale};
 use std::alloc::{Allocator, Global};
+use std::collections::hash_map::Equivalent;
 use std::hash::{BuildHasher, Hash};
 use std::marker::Model;
 
@@ -106,6 +109,64 @@ impl<K: Eq + Hash, S: BuildHasher, A: Allocator + Copy> SizedPass<K, S, A> {
         ensures given_back { IfErr result (λ e. key_of e ≡ key) }
         ensures too_large { IsErrAnd result IsTooLarge ↔ (2 ^ 64 ≤ self.old.size + (1 + weight)) }
     {
+        match self.again(&key, weight) {
+            Ok(Some(span)) => Ok(Some(span)),
+            Ok(None) => match self.request_new(key, weight) {
+                Ok(()) => Ok(None),
+                Err(key) => Err(SizedRequestError::NoMemory(key)),
+            },
+            Err(SizedRequestError::NoMemory(_)) => Err(SizedRequestError::NoMemory(key)),
+            Err(SizedRequestError::TooLarge(_)) => Err(SizedRequestError::TooLarge(key)),
+        }
+    }
+
+    /// Takes one more request, of a key of this weight that was requested before, by a form of it, and answers its span; or
+    /// `None` where no such key was: then nothing was taken, and `request` takes the key. So who reads a log owns the keys alone
+    /// that are new.
+    ///
+    /// Where memory is refused, or the sizes of all requests, this one among them, pass `usize::MAX`, the form comes back and
+    /// the pass is as before.
+    /// Cost: one hash and a walk along one chain, and where the key is known steps that grow as the logarithm of the number of
+    /// requests.
+    pub fn request_again<Q: Equivalent<K>>(
+        &mut self,
+        key: Q,
+        weight: usize,
+    ) -> Result<Option<usize>, SizedRequestError<Q>>
+        ensures span { (w : K → ℕ) (past : List K) (x : K) → SameWeights K.eq w → IsSizedPass K.eq w past self.old
+            → w x ≡ weight → IsTrue (Q.equivalent key x) → IfOk result (λ s. s ≡ span K.eq w x past) }
+        ensures taken { (w : K → ℕ) (past : List K) (x : K) → SameWeights K.eq w → IsSizedPass K.eq w past self.old
+            → w x ≡ weight → IsTrue (Q.equivalent key x)
+            → IfOk result (λ s. IsSome s → IsSizedPass K.eq w (x ∷ past) self.new) }
+        ensures known { (w : K → ℕ) (past : List K) → IsSizedPass K.eq w past self.old
+            → IfOk result (λ s. is_some s ≡ list_any (Q.equivalent key) past) }
+        ensures size { IfOk result (λ s. IsSome s → self.new.size ≡ self.old.size + (1 + weight)) }
+        ensures not_taken { IfOk result (λ s. IsNone s → self.new ≡ self.old) }
+        ensures refused { OnErr result (self.new ≡ self.old) }
+        ensures given_back { IfErr result (λ e. key_of e ≡ key) }
+        ensures too_large { IsErrAnd result IsTooLarge ↔ (2 ^ 64 ≤ self.old.size + (1 + weight)) }
+    {
+        self.again(key, weight)
+    }
+
+    /// `request_again`, which also says by the positions alone whether the key is known, whatever keys weighed.
+    fn again<Q: Equivalent<K>>(
+        &mut self,
+        key: Q,
+        weight: usize,
+    ) -> Result<Option<usize>, SizedRequestError<Q>>
+        ensures span { (w : K → ℕ) (past : List K) (x : K) → SameWeights K.eq w → IsSizedPass K.eq w past self.old
+            → w x ≡ weight → IsTrue (Q.equivalent key x) → IfOk result (λ s. s ≡ span K.eq w x past) }
+        ensures taken { (w : K → ℕ) (past : List K) (x : K) → SameWeights K.eq w → IsSizedPass K.eq w past self.old
+            → w x ≡ weight → IsTrue (Q.equivalent key x)
+            → IfOk result (λ s. IsSome s → IsSizedPass K.eq w (x ∷ past) self.new) }
+        ensures known { IfOk result (λ s. is_some s ≡ is_some (lookup (Q.equivalent key) self.old.positions)) }
+        ensures size { IfOk result (λ s. IsSome s → self.new.size ≡ self.old.size + (1 + weight)) }
+        ensures not_taken { IfOk result (λ s. IsNone s → self.new ≡ self.old) }
+        ensures refused { OnErr result (self.new ≡ self.old) }
+        ensures given_back { IfErr result (λ e. key_of e ≡ key) }
+        ensures too_large { IsErrAnd result IsTooLarge ↔ (2 ^ 64 ≤ self.old.size + (1 + weight)) }
+    {
         if weight >= usize::MAX - self.size {
             return Err(SizedRequestError::TooLarge(key));
         }
@@ -118,30 +179,46 @@ impl<K: Eq + Hash, S: BuildHasher, A: Allocator + Copy> SizedPass<K, S, A> {
             return Err(SizedRequestError::NoMemory(key));
         };
         let number = self.latest.sizes.len();
-        match move_position(&mut self.positions, &key, number) {
-            Some(position) => {
-                let span = self.latest.total_from(position);
-                self.latest.push(size);
-                self.latest.clear(position);
-                self.hits.push_reserved(Step {
-                    capacity: span,
-                    missed_size: size,
-                });
-                self.size += size;
-                self.greatest = greatest;
-                Ok(Some(span))
-            }
-            None => {
-                double_if_full(&mut self.positions);
-                if let Err((key, _)) = self.positions.put(key, number) {
-                    return Err(SizedRequestError::NoMemory(key));
-                }
-                self.latest.push(size);
-                self.size += size;
-                self.greatest = greatest;
-                Ok(None)
-            }
+        let Some(position) = move_position(&mut self.positions, key, number) else {
+            return Ok(None);
+        };
+        let span = self.latest.total_from(position);
+        self.latest.push(size);
+        self.latest.clear(position);
+        self.hits.push_reserved(Step {
+            capacity: span,
+            missed_size: size,
+        });
+        self.size += size;
+        self.greatest = greatest;
+        Ok(Some(span))
+    }
+
+    /// Takes one more request, of a key that was not requested before.
+    fn request_new(&mut self, key: K, weight: usize) -> Result<(), K>
+    where
+        K: Drop,
+        requires new { lookup (K.eq key) self.old.positions ≡ None }
+        requires fits { self.old.size + (1 + weight) < 2 ^ 64 }
+        ensures taken { (w : K → ℕ) (past : List K) → SameWeights K.eq w → IsSizedPass K.eq w past self.old
+            → w key ≡ weight → OnOk result (IsSizedPass K.eq w (key ∷ past) self.new) }
+        ensures size { OnOk result (self.new.size ≡ self.old.size + (1 + weight)) }
+        ensures refused { OnErr result (self.new ≡ self.old) }
+        ensures given_back { IfErr result (λ back. back ≡ key) }
+    {
+        let greatest = greater(self.greatest, weight);
+        let Ok(()) = self.latest.make_ready() else {
+            return Err(key);
+        };
+        let number = self.latest.sizes.len();
+        double_if_full(&mut self.positions);
+        if let Err((key, _)) = self.positions.put(key, number) {
+            return Err(key);
         }
+        self.latest.push(weight + 1);
+        self.size += weight + 1;
+        self.greatest = greatest;
+        Ok(())
     }
 
     /// Returns the curve of the requests so far.

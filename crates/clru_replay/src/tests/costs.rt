@@ -1,6 +1,6 @@
 // What a run asks for, what it offers its reader, and that no block is left however it ends.
-use super::FOUR;
 use super::fakes::Noting;
+use super::{FOUR, equal, lines};
 use crate::fault::Fault;
 use crate::program::run;
 use ration::Rationed;
@@ -50,10 +50,7 @@ const HEAD: u64 = 6;
 
 #[test]
 fn a_run_asks_for_what_its_input_needs(rt: HostRuntime) -> Result<(), Fail> {
-    let mut large = Vec::from_slice(rt.alloc(), b"1")?;
-    for _ in 0..600_000 {
-        large.extend_from_slice(b"\na")?;
-    }
+    let large = lines(rt.alloc(), 600_000, [b"1", b"\na", b""])?;
     // Room for the input, the keys, places, heads and marks, the report, and its last line.
     let small = 65_536 + 4 * 16 + 2 * PLACE + 4 * HEAD + 4 + (8 + 17) + (8 + 16);
     // Input, keys and report double from 65,536, 4 and 8: six, 19 and 19 times.
@@ -77,11 +74,17 @@ fn a_run_asks_for_what_its_input_needs(rt: HostRuntime) -> Result<(), Fail> {
         let heap = Rationed::new(rt.alloc());
         let mut writer = Noting::new(rt.alloc(), usize::MAX, 0);
         let (outcome, lengths) = ran(rt.alloc(), &heap, input, false, &mut writer);
-        assert_eq!(rt;
-            (outcome, heap.asked(), heap.asked_bytes()),
-            (Ok(()), requests, bytes)
+        equal(
+            &rt,
+            (
+                outcome,
+                heap.asked(),
+                heap.asked_bytes(),
+                lengths.as_slice(),
+            ),
+            (Ok(()), requests, bytes, offers),
+            requests,
         );
-        assert_eq!(rt; lengths.as_slice(), offers);
     }
     Ok(())
 }
@@ -102,6 +105,6 @@ fn no_block_is_left_however_a_run_ends(rt: HostRuntime) {
         // A report of 17 bytes in six writes, and the flush.
         let mut writer = Noting::new(rt.alloc(), 3, call);
         let (outcome, _) = ran(rt.alloc(), &heap, input, failing, &mut writer);
-        assert_eq!(rt; (outcome, heap.blocks()), (wanted, 0), "{call}");
+        equal(&rt, (outcome, heap.blocks()), (wanted, 0), call);
     }
 }

@@ -1,6 +1,6 @@
 // Readers and writers that fail, and how they are called.
 use super::fakes::{Call, Dripping, Noting};
-use super::{FOUR, FOUR_MISSES};
+use super::{FOUR, FOUR_MISSES, equal};
 use crate::fault::Fault;
 use crate::program::run;
 use std::alloc::Global;
@@ -27,9 +27,13 @@ fn ran_dripping(
 #[test]
 fn a_reader_is_asked_until_it_answers_no_byte(rt: HostRuntime) {
     let (outcome, reads, writer) = ran_dripping(rt.alloc(), FOUR, 0, ErrorKind::TimedOut);
-    assert_eq!(rt; outcome, Ok(()));
-    assert_eq!(rt; writer.got.as_slice(), FOUR_MISSES);
-    assert_eq!(rt; reads, 10, "nine bytes, and the end");
+    // Nine bytes, and the end.
+    equal(
+        &rt,
+        (outcome, writer.got.as_slice(), reads),
+        (Ok(()), FOUR_MISSES, 10),
+        "",
+    );
 }
 
 #[test]
@@ -37,9 +41,12 @@ fn a_failed_read_of_any_kind_is_the_last_call(rt: HostRuntime) {
     for failing in [1, 2, 3, 10] {
         for kind in [ErrorKind::TimedOut, ErrorKind::Interrupted] {
             let (outcome, reads, writer) = ran_dripping(rt.alloc(), FOUR, failing, kind);
-            assert_eq!(rt; outcome, Err(Fault::Reading), "at {failing}");
-            assert_eq!(rt; reads, failing);
-            assert!(rt; writer.calls.is_empty(), "at {failing}");
+            equal(
+                &rt,
+                (outcome, reads, writer.calls.len()),
+                (Err(Fault::Reading), failing, 0),
+                failing,
+            );
         }
     }
 }
@@ -47,9 +54,13 @@ fn a_failed_read_of_any_kind_is_the_last_call(rt: HostRuntime) {
 #[test]
 fn a_bad_capacity_is_no_call_of_the_writer(rt: HostRuntime) {
     let (outcome, reads, writer) = ran_dripping(rt.alloc(), b"0\na\n", 0, ErrorKind::TimedOut);
-    assert_eq!(rt; outcome, Err(Fault::BadCapacity));
-    assert_eq!(rt; reads, 5, "four bytes, and the end");
-    assert!(rt; writer.calls.is_empty());
+    // Four bytes, and the end.
+    equal(
+        &rt,
+        (outcome, reads, writer.calls.len()),
+        (Err(Fault::BadCapacity), 5, 0),
+        "",
+    );
 }
 
 // What a writer that takes three bytes a call is offered of the report, and the flush.
@@ -80,8 +91,11 @@ fn a_writer_is_offered_all_that_is_left_and_flushed_once(rt: HostRuntime) {
         let outcome = run(rt.alloc(), &mut reader, &mut writer);
         let fails = most == 0 || failing > 0;
         let wanted = if fails { Err(Fault::Writing) } else { Ok(()) };
-        assert_eq!(rt; outcome, wanted, "{failing} of {most}");
-        assert_eq!(rt; writer.got.as_slice(), got, "{failing} of {most}");
-        assert_eq!(rt; writer.calls.as_slice(), calls, "{failing} of {most}");
+        equal(
+            &rt,
+            (outcome, writer.got.as_slice(), writer.calls.as_slice()),
+            (wanted, got, calls),
+            (failing, most),
+        );
     }
 }

@@ -1,5 +1,5 @@
 // What the program answers where requests for memory are refused.
-use super::{FOUR, FOUR_MISSES};
+use super::{FOUR, FOUR_MISSES, equal};
 use crate::fault::Fault;
 use crate::program::run;
 use ration::Rationed;
@@ -20,18 +20,21 @@ fn each_refused_request_is_want_of_memory(rt: HostRuntime) {
         let heap = Rationed::new(rt.alloc());
         heap.refuse_one_after(n);
         let (outcome, written) = ran_over(rt.alloc(), &heap, FOUR);
-        assert_eq!(rt; heap.blocks(), 0, "after {n}");
-        if heap.refused() == 0 {
-            assert_eq!(rt; outcome, Ok(()), "after {n}");
-            assert_eq!(rt; written.as_slice(), FOUR_MISSES, "after {n}");
-            met_none = true;
+        met_none = heap.refused() == 0;
+        let asked = heap.asked();
+        let wanted = if met_none {
+            (Ok(()), FOUR_MISSES, asked)
+        } else {
+            // Nothing is asked again.
+            (Err(Fault::Memory), b"".as_slice(), n + 1)
+        };
+        equal(&rt, (outcome, written.as_slice(), asked), wanted, n);
+        equal(&rt, heap.blocks(), 0, n);
+        if met_none {
             break;
         }
-        assert_eq!(rt; outcome, Err(Fault::Memory), "after {n}");
-        assert_eq!(rt; heap.asked(), n + 1, "nothing is asked again");
-        assert!(rt; written.is_empty(), "after {n}");
     }
-    assert!(rt; met_none);
+    equal(&rt, met_none, true, "the last one");
 }
 
 #[test]
@@ -40,8 +43,11 @@ fn a_first_line_is_tested_before_other_memory_is_asked_for(rt: HostRuntime) {
         let heap = Rationed::new(rt.alloc());
         heap.refuse_after(n);
         let (outcome, written) = ran_over(rt.alloc(), &heap, b"0\na\n");
-        assert_eq!(rt; outcome, Err(wanted), "after {n}");
-        assert_eq!(rt; heap.asked(), 1, "after {n}");
-        assert!(rt; written.is_empty(), "after {n}");
+        equal(
+            &rt,
+            (outcome, heap.asked(), written.len()),
+            (Err(wanted), 1, 0),
+            n,
+        );
     }
 }

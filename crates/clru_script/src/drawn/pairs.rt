@@ -1,8 +1,8 @@
 //! A list of pairs that answers the calls of a cache, with no index and no running total.
 
+use crate::world::World;
 use clru::{Put, PutError, TryPutError};
 use clru_runs::{Answer, Attempt, Call, PlainCall, Weighing};
-use std::alloc::AllocError;
 use std::mem;
 
 /// The pairs in order, and whether each weighs its value or nothing.
@@ -10,10 +10,21 @@ use std::mem;
 pub(crate) struct Pairs {
     pub(crate) list: Vec<(usize, usize)>,
     pub(crate) capacity: usize,
-    pub(crate) weighs: bool,
+    weighs: bool,
+    /// Whether there was no memory for one.
+    pub(crate) is_short: bool,
 }
 
 impl Pairs {
+    pub(crate) fn new(world: &World, capacity: usize) -> Pairs {
+        Pairs {
+            list: Vec::new(world.alloc),
+            capacity,
+            weighs: world.head.weighs,
+            is_short: false,
+        }
+    }
+
     pub(crate) fn weight(&self) -> usize {
         let mut sum = 0usize;
         for (_, value) in &self.list {
@@ -24,29 +35,41 @@ impl Pairs {
 
     /// The value of a key.
     pub(crate) fn value(&self, key: usize) -> Option<usize> {
+        self.place(key).1
+    }
+
+    /// How many pairs stand before that of a key, and its value.
+    fn place(&self, key: usize) -> (usize, Option<usize>) {
+        let mut at = 0usize;
         for pair in &self.list {
             if pair.0 == key {
-                return Some(pair.1);
+                return (at, Some(pair.1));
             }
+            at = at.saturating_add(1);
         }
-        None
+        (at, None)
     }
 
     fn take(&mut self, key: usize) -> Option<usize> {
-        let at = self.list.iter().position(|pair| pair.0 == key)?;
-        Some(self.list.remove(at).1)
+        let (at, value) = self.place(key);
+        if at < self.list.len() {
+            let _pair = self.list.remove(at);
+        }
+        value
     }
 
     /// Takes out the old pair of the key, puts the new one to the front, and drops pairs from the back until all fits.
-    fn put(&mut self, key: usize, value: usize) -> Result<Weighing<usize, usize>, AllocError> {
+    fn put(&mut self, key: usize, value: usize) -> Weighing<usize, usize> {
         let replaced = self.take(key);
-        self.list.insert(0, (key, value))?;
+        if self.list.insert(0, (key, value)).is_err() {
+            self.is_short = true;
+        }
         let (drop_count, last) = self.shrink();
-        Ok(Weighing {
+        Weighing {
             replaced,
             drop_count,
             last,
-        })
+        }
     }
 
     /// Drops pairs from the back until all fits, and answers how many, and the last of them.
@@ -62,17 +85,20 @@ impl Pairs {
     }
 
     /// Takes out what is of the key, and writes the value to the others, where one is given.
-    fn retain(&mut self, key: usize, value: Option<usize>) {
+    fn retain(&mut self, key: usize, value: Option<usize>) -> Answer<usize, usize> {
         let _gone = self.take(key);
         for pair in self.list.iter_mut() {
             pair.1 = value.unwrap_or(pair.1);
         }
+        Answer::Done
     }
 
     /// Writes a value to the pair at a place, and returns the old one.
-    fn writes(&mut self, at: Option<usize>, value: usize) -> Option<usize> {
-        let pair = self.list.get_mut(at?)?;
-        Some(mem::replace(&mut pair.1, value))
+    fn writes(&mut self, at: usize, value: usize) -> Answer<usize, usize> {
+        Answer::Value(match self.list.get_mut(at) {
+            Some(pair) => Some(mem::replace(&mut pair.1, value)),
+            None => None,
+        })
     }
 
     /// Stores a value, or fails, once the pair of a held key has come first and was written, where that is said.
@@ -80,17 +106,17 @@ impl Pairs {
         &mut self,
         key: usize,
         attempt: Attempt<usize>,
-    ) -> Result<Result<usize, TryPutError<usize, Attempt<usize>, ()>>, AllocError> {
+    ) -> Result<usize, TryPutError<usize, Attempt<usize>, ()>> {
         match attempt {
             Attempt::Store(value) => {
-                let _old = self.put(key, value)?;
-                Ok(Ok(value))
+                let _old = self.put(key, value);
+                Ok(value)
             }
             Attempt::Fail(left) => {
                 if let Some(old) = self.value(key) {
-                    let _old = self.put(key, left.unwrap_or(old))?;
+                    let _old = self.put(key, left.unwrap_or(old));
                 }
-                Ok(Err(TryPutError::Failed(())))
+                Err(TryPutError::Failed(()))
             }
         }
     }
@@ -118,82 +144,66 @@ impl Pairs {
     }
 
     /// Makes a call of a cache with any scale.
-    pub(crate) fn perform(
-        &mut self,
-        call: &Call<usize, usize>,
-    ) -> Result<Answer<usize, usize>, AllocError> {
+    fn perform(&mut self, call: &Call<usize, usize>) -> Answer<usize, usize> {
         match call {
             Call::PutWithWeight(key, value) if self.weighs && *value >= self.capacity => {
-                return Ok(Answer::Weighed(Err(PutError::TooHeavy(*key, *value))));
+                Answer::Weighed(Err(PutError::TooHeavy(*key, *value)))
             }
-            Call::PutWithWeight(key, value) => {
-                return Ok(Answer::Weighed(Ok(self.put(*key, *value)?)));
+            Call::PutWithWeight(key, value) => Answer::Weighed(Ok(self.put(*key, *value))),
+            Call::Get(key) => self.gets(*key, None),
+            Call::PopFront if self.list.is_empty() => Answer::Pair(None),
+            Call::PopFront => Answer::Pair(Some(self.list.remove(0))),
+            Call::Pop(key) => Answer::Value(self.take(*key)),
+            Call::PopBack => Answer::Pair(self.list.pop()),
+            Call::Clear => {
+                self.list.clear();
+                Answer::Done
             }
-            Call::Get(key) => {
-                let value = self.value(*key);
-                if let Some(value) = value {
-                    let _old = self.put(*key, value)?;
-                }
-                return Ok(Answer::Value(value));
-            }
-            Call::PopFront if self.list.is_empty() => return Ok(Answer::Pair(None)),
-            Call::PopFront => return Ok(Answer::Pair(Some(self.list.remove(0)))),
-            Call::Pop(key) => return Ok(Answer::Value(self.take(*key))),
-            Call::PopBack => return Ok(Answer::Pair(self.list.pop())),
-            Call::Clear => self.list.clear(),
             Call::Resize(capacity) => {
                 self.capacity = (*capacity).max(1);
                 let _gone = self.shrink();
+                Answer::Done
             }
             Call::Retain(key) => self.retain(*key, None),
-            _ => {}
+            _ => self.reads(call),
         }
-        Ok(self.reads(call))
     }
 
-    /// Writes a value to the pair of a held key, which then comes first, and answers the old one.
-    fn gets_mut(&mut self, key: usize, value: usize) -> Result<Option<usize>, AllocError> {
-        let old = self.value(key);
-        if old.is_some() {
-            let _old = self.put(key, value)?;
+    /// Brings the pair of a held key to the front, with another value where one is given, and answers the old one.
+    fn gets(&mut self, key: usize, value: Option<usize>) -> Answer<usize, usize> {
+        let held = self.value(key);
+        if let Some(old) = held {
+            let _old = self.put(key, value.unwrap_or(old));
         }
-        Ok(old)
+        Answer::Value(held)
     }
 
     /// Makes a call of a cache without weights.
-    pub(crate) fn perform_plain(
-        &mut self,
-        call: &PlainCall<usize, usize>,
-    ) -> Result<Answer<usize, usize>, AllocError> {
+    pub(crate) fn perform_plain(&mut self, call: &PlainCall<usize, usize>) -> Answer<usize, usize> {
         match call {
             PlainCall::Put(key, value) => {
-                let put = self.put(*key, *value)?;
-                Ok(Answer::Stored(Ok(Put {
+                let put = self.put(*key, *value);
+                Answer::Stored(Ok(Put {
                     replaced: put.replaced,
                     dropped: put.last,
-                })))
+                }))
             }
             PlainCall::PutOrModify(key, value) => {
-                let _old = self.put(*key, *value)?;
-                Ok(Answer::Lent(Ok(*value)))
+                let _old = self.put(*key, *value);
+                Answer::Lent(Ok(*value))
             }
-            PlainCall::TryPutOrModify(key, attempt) => Ok(Answer::Tried(self.tries(
-                *key, *attempt,
-            )?)),
-            PlainCall::GetMut(key, value) => Ok(Answer::Value(self.gets_mut(*key, *value)?)),
+            PlainCall::TryPutOrModify(key, attempt) => Answer::Tried(self.tries(*key, *attempt)),
+            PlainCall::GetMut(key, value) => self.gets(*key, Some(*value)),
             PlainCall::PeekMut(key, value) => {
-                let at = self.list.iter().position(|pair| pair.0 == *key);
-                Ok(Answer::Value(self.writes(at, *value)))
+                let (at, _) = self.place(*key);
+                self.writes(at, *value)
             }
-            PlainCall::FrontMut(value) => Ok(Answer::Value(self.writes(Some(0), *value))),
+            PlainCall::FrontMut(value) => self.writes(0, *value),
             PlainCall::BackMut(value) => {
-                let last = self.list.len().checked_sub(1);
-                Ok(Answer::Value(self.writes(last, *value)))
+                let len = self.list.len();
+                self.writes(len.wrapping_sub(1), *value)
             }
-            PlainCall::RetainMut(key, value) => {
-                self.retain(*key, Some(*value));
-                Ok(Answer::Done)
-            }
+            PlainCall::RetainMut(key, value) => self.retain(*key, Some(*value)),
             PlainCall::Any(call) => self.perform(call),
         }
     }

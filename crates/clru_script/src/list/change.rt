@@ -2,12 +2,12 @@
 
 use crate::list::Numbers;
 use crate::list::beside::{fill, schedule};
-use crate::list::lend::{retain, write_through, writes};
-use crate::list::read::{write_number, write_place};
-use crate::words::{Words, Wrong, next_number};
+use crate::list::lend::{retain, retain_mut, swap, writes};
+use crate::list::read::number_of;
+use crate::out::{Out, Told};
+use crate::words::Words;
 use crate::world::World;
 use clru_list::PushError;
-use std::alloc::AllocError;
 
 /// Makes a call that may change the list. Answers `false` where the name is none of these.
 pub(crate) fn change(
@@ -15,60 +15,81 @@ pub(crate) fn change(
     world: &World,
     name: &str,
     words: &mut Words,
-    out: &mut String,
-) -> Result<bool, Wrong> {
+    out: &mut Out,
+) -> bool {
     match name {
-        "push_front" => write_pushed(list.push_front(next_number(words)? as u64), out)?,
-        "push_back" => write_pushed(list.push_back(next_number(words)? as u64), out)?,
-        "remove" => write_number(list.remove(next_number(words)?), out)?,
-        "pop_front" => write_number(list.pop_front(), out)?,
-        "move_front" => write_number(list.move_front(next_number(words)?).copied(), out)?,
-        "bring_front" => bring_front(list, next_number(words)?, out)?,
-        "place_at" => write_place(list.place_at(next_number(words)?), out)?,
-        "place_at_back" => write_place(list.place_at_back(next_number(words)?), out)?,
-        "make_ready" => {
-            if list.make_ready().is_err() {
-                out.push_str("no memory")?;
-            }
+        "push_front" => say_pushed(list.push_front(words.number() as u64), out),
+        "push_back" => say_pushed(list.push_back(words.number() as u64), out),
+        "fill" => fill(list, words.number(), out),
+        "schedule" => schedule(list, world, words.number(), out),
+        "retain" => retain(list, world, words),
+        "retain_mut" => retain_mut(list, world, words),
+        "get_mut" | "front_mut" | "back_mut" => lend(list, name, words, out),
+        "iter_mut" => writes(list, words, out),
+        "pop_front" | "make_ready" | "clear" => return out.told(told_of(list, name, 0)),
+        _ => {
+            let told = told_of(list, name, words.number());
+            return out.told(told);
         }
-        "clear" => list.clear(),
-        "resize" => resize(list, next_number(words)?, out)?,
-        "fill" => fill(list, next_number(words)?, out)?,
-        "schedule" => schedule(list, world, next_number(words)?, out)?,
-        "retain" | "retain_mut" => retain(list, world, name, words)?,
-        "get_mut" | "front_mut" | "back_mut" => write_through(list, name, words, out)?,
-        "iter_mut" => writes(list, words, out)?,
-        _ => return Ok(false),
     }
-    Ok(true)
+    true
 }
 
-/// Writes the place of a push, or why it was refused, with the item that came back.
-pub(crate) fn write_pushed(
-    pushed: Result<usize, PushError<u64>>,
-    out: &mut String,
-) -> Result<(), AllocError> {
+/// What a call tells, of a place or an index.
+fn told_of(list: &mut Numbers, name: &str, number: usize) -> Told {
+    match name {
+        "remove" => Told::Number(number_of(list.remove(number).as_ref())),
+        "pop_front" => Told::Number(number_of(list.pop_front().as_ref())),
+        "move_front" => Told::Number(number_of(list.move_front(number).copied().as_ref())),
+        "place_at" => Told::Number(list.place_at(number)),
+        "place_at_back" => Told::Number(list.place_at_back(number)),
+        "make_ready" => Told::Word(if list.make_ready().is_ok() {
+            "done"
+        } else {
+            "no memory"
+        }),
+        "clear" => {
+            list.clear();
+            Told::Word("done")
+        }
+        "bring_front" => bring_front(list, number),
+        "resize" => resize(list, number),
+        _ => Told::NoCall,
+    }
+}
+
+/// Writes through what a call lends.
+fn lend(list: &mut Numbers, name: &str, words: &mut Words, out: &mut Out) {
+    match name {
+        "get_mut" => swap(list.get_mut(words.number()), words, out),
+        "front_mut" => swap(list.front_mut(), words, out),
+        _ => swap(list.back_mut(), words, out),
+    }
+}
+
+/// Says the place of a push, or why it was refused, with the item that came back.
+pub(crate) fn say_pushed(pushed: Result<usize, PushError<u64>>, out: &mut Out) {
     match pushed {
-        Ok(place) => write!(out, "{place}"),
-        Err(PushError::Full(item)) => write!(out, "full, back {item}"),
-        Err(PushError::NoMemory(item)) => write!(out, "no memory, back {item}"),
+        Ok(place) => out.number(place),
+        Err(PushError::Full(item)) => out.count("full, back ", item as usize),
+        Err(PushError::NoMemory(item)) => out.count("no memory, back ", item as usize),
     }
 }
 
 /// Brings the item at a place to the front, which asks that one is there.
-fn bring_front(list: &mut Numbers, place: usize, out: &mut String) -> Result<(), AllocError> {
+fn bring_front(list: &mut Numbers, place: usize) -> Told {
     if list.get(place).is_none() {
-        return out.push_str("none");
+        return Told::Number(None);
     }
     list.bring_front(place);
-    Ok(())
+    Told::Word("done")
 }
 
 /// Sets the capacity, which asks that the items fit.
-fn resize(list: &mut Numbers, capacity: usize, out: &mut String) -> Result<(), AllocError> {
+fn resize(list: &mut Numbers, capacity: usize) -> Told {
     if list.len() > capacity {
-        return out.push_str("they do not fit");
+        return Told::Word("they do not fit");
     }
     list.resize(capacity);
-    Ok(())
+    Told::Word("done")
 }

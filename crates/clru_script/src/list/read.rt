@@ -1,105 +1,104 @@
 //! The calls of a list that change nothing.
 
+use crate::calls::say_hint;
 use crate::list::Numbers;
-use crate::words::{Words, Wrong, next_number, yes};
-use std::alloc::AllocError;
+use crate::out::{Out, Told};
+use crate::words::{Words, Wrong};
 
-/// Writes a number, or that there is none.
-pub(crate) fn write_number(number: Option<u64>, out: &mut String) -> Result<(), AllocError> {
-    match number {
-        Some(number) => write!(out, "{number}"),
-        None => out.push_str("none"),
+/// An item as a number, where there is one.
+pub(crate) fn number_of(item: Option<&u64>) -> Option<usize> {
+    match item {
+        Some(item) => Some(*item as usize),
+        None => None,
     }
 }
 
-/// Writes a place, or that there is none.
-pub(crate) fn write_place(place: Option<usize>, out: &mut String) -> Result<(), AllocError> {
-    match place {
-        Some(place) => write!(out, "{place}"),
-        None => out.push_str("none"),
-    }
-}
-
-/// Writes a place with its item, or that there is none.
-fn write_entry(entry: Option<(usize, &u64)>, out: &mut String) -> Result<(), AllocError> {
+/// Says a place with its item, or that there is none.
+fn say_entry(entry: Option<(usize, &u64)>, out: &mut Out) {
     match entry {
-        Some((place, item)) => write!(out, "{place} {item}"),
-        None => out.push_str("none"),
+        Some((place, item)) => {
+            out.number(place);
+            out.count(" ", *item as usize);
+        }
+        None => out.say("none"),
     }
 }
 
 /// Makes a call that changes nothing. Answers `false` where the name is none of these.
-pub(crate) fn read(
-    list: &Numbers,
-    name: &str,
-    words: &mut Words,
-    out: &mut String,
-) -> Result<bool, Wrong> {
+pub(crate) fn read(list: &Numbers, name: &str, words: &mut Words, out: &mut Out) -> bool {
     match name {
-        "get" => write_number(list.get(next_number(words)?).copied(), out)?,
-        "item" => {
-            let place = next_number(words)?;
-            // `item` asks that one is there.
-            if list.get(place).is_some() {
-                write!(out, "{}", list.item(place))?;
-            } else {
-                out.push_str("none")?;
-            }
+        "list" => say_list(list, out),
+        "iter" => walk(list, words, out),
+        "get" | "item" | "next_idx" | "prev_idx" => {
+            let told = told_at(list, name, words.number());
+            return out.told(told);
         }
-        "front" => write_number(list.front().copied(), out)?,
-        "back" => write_number(list.back().copied(), out)?,
-        "front_idx" => write_place(list.front_idx(), out)?,
-        "back_idx" => write_place(list.back_idx(), out)?,
-        "next_idx" => write_place(list.next_idx(next_number(words)?), out)?,
-        "prev_idx" => write_place(list.prev_idx(next_number(words)?), out)?,
-        "len" => write!(out, "{}", list.len())?,
-        "capacity" => write!(out, "{}", list.capacity())?,
-        "places" => write!(out, "{}", list.places())?,
-        "is_empty" => out.push_str(yes(list.is_empty()))?,
-        "is_full" => out.push_str(yes(list.is_full()))?,
-        "list" => write_list(list, out)?,
-        "iter" => walk(list, words, out)?,
-        _ => return Ok(false),
+        _ => return out.told(told_of(list, name)),
     }
-    Ok(true)
+    true
 }
 
-/// Writes each place with its item, front first.
-fn write_list(list: &Numbers, out: &mut String) -> Result<(), AllocError> {
+/// What a call of the whole list tells.
+fn told_of(list: &Numbers, name: &str) -> Told {
+    match name {
+        "front" => Told::Number(number_of(list.front())),
+        "back" => Told::Number(number_of(list.back())),
+        "front_idx" => Told::Number(list.front_idx()),
+        "back_idx" => Told::Number(list.back_idx()),
+        "len" => Told::Number(Some(list.len())),
+        "capacity" => Told::Number(Some(list.capacity())),
+        "places" => Told::Number(Some(list.places())),
+        "is_empty" => Told::Truth(list.is_empty()),
+        "is_full" => Told::Truth(list.is_full()),
+        _ => Told::NoCall,
+    }
+}
+
+/// What a call tells of a place.
+fn told_at(list: &Numbers, name: &str, place: usize) -> Told {
+    match name {
+        "get" => Told::Number(number_of(list.get(place))),
+        // `item` asks that one is there.
+        "item" if list.get(place).is_some() => Told::Number(Some(*list.item(place) as usize)),
+        "item" => Told::Number(None),
+        "next_idx" => Told::Number(list.next_idx(place)),
+        _ => Told::Number(list.prev_idx(place)),
+    }
+}
+
+/// Says each place with its item, front first.
+fn say_list(list: &Numbers, out: &mut Out) {
     for entry in list {
-        if !out.is_empty() {
-            out.push_str(", ")?;
-        }
-        write_entry(Some(entry), out)?;
+        out.part(", ");
+        say_entry(Some(entry), out);
     }
-    if out.is_empty() {
-        out.push_str("nothing")?;
-    }
-    Ok(())
+    out.or("nothing");
 }
 
 /// Steps of one iterator, in turn: `next`, `next_back`, `len`, `count`, `size_hint`, and `clone`, which goes on with a copy.
-fn walk(list: &Numbers, words: &mut Words, out: &mut String) -> Result<(), Wrong> {
+fn walk(list: &Numbers, words: &mut Words, out: &mut Out) {
     let mut walk = list.iter();
     for _ in 0..usize::MAX {
         let Some(step) = words.next() else {
             break;
         };
-        if !out.is_empty() {
-            out.push_str("; ")?;
-        }
+        out.part("; ");
         match step {
-            "next" => write_entry(walk.next(), out)?,
-            "next_back" => write_entry(walk.next_back(), out)?,
-            "len" => write!(out, "{}", walk.len())?,
-            "count" => write!(out, "{}", walk.clone()?.count())?,
-            "size_hint" => write!(out, "{:?}", walk.size_hint())?,
-            "clone" => {
-                walk = walk.clone()?;
-                out.push_str("done")?;
+            "next" => say_entry(walk.next(), out),
+            "next_back" => say_entry(walk.next_back(), out),
+            "len" => out.number(walk.len()),
+            "size_hint" => say_hint(walk.size_hint(), out),
+            "count" | "clone" => {
+                if let Ok(copy) = walk.clone() {
+                    if step == "count" {
+                        out.number(copy.count());
+                    } else {
+                        walk = copy;
+                        out.say("done");
+                    }
+                }
             }
-            _ => return Err(Wrong::NoSuchWord),
+            _ => words.note(Wrong::NoSuchWord),
         }
     }
-    Ok(())
 }

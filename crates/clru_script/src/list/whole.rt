@@ -12,38 +12,40 @@ pub(crate) fn fault_of(list: &Numbers) -> Option<Fault> {
     if len > list.places() || list.is_empty() != (len == 0) {
         return Some(Fault::Size);
     }
-    if list.iter().count() != len || list.iter().rev().count() != len {
-        return Some(Fault::Walk);
-    }
-    let mut at = list.front_idx();
-    let mut before = None;
+    let (first, last) = (list.front_idx(), list.back_idx());
+    let is_alike = is_linked(list, first, last)
+        && is_linked_back(list, last)
+        && list.front() == item_at(list, first)
+        && list.back() == item_at(list, last)
+        && list.iter().count() == len
+        && list.iter().rev().count() == len;
+    if is_alike { None } else { Some(Fault::Walk) }
+}
+
+/// Whether a walk is that by places, from the first one to the last.
+fn is_linked(list: &Numbers, first: Option<usize>, last: Option<usize>) -> bool {
+    let (mut at, mut before, mut is_alike) = (first, None, true);
     for (place, item) in list {
-        if at != Some(place) || list.prev_idx(place) != before || list.get(place) != Some(item) {
-            return Some(Fault::Walk);
-        }
+        is_alike = is_alike && at == Some(place) && is_behind(list, place, before, item);
         before = at;
         at = list.next_idx(place);
     }
-    if at.is_some() || before != list.back_idx() {
-        return Some(Fault::Walk);
-    }
-    let mut at = list.back_idx();
-    for (place, _) in list.iter().rev() {
-        if at != Some(place) {
-            return Some(Fault::Walk);
-        }
-        at = list.prev_idx(place);
-    }
-    fault_of_ends(list)
+    is_alike && at.is_none() && before == last
 }
 
-/// What is wrong with the items at the ends.
-fn fault_of_ends(list: &Numbers) -> Option<Fault> {
-    let (first, last) = (list.front_idx(), list.back_idx());
-    if list.front() != item_at(list, first) || list.back() != item_at(list, last) {
-        return Some(Fault::Walk);
+/// Whether a place has this item, and this one before it.
+pub(crate) fn is_behind(list: &Numbers, place: usize, before: Option<usize>, item: &u64) -> bool {
+    list.prev_idx(place) == before && list.get(place) == Some(item)
+}
+
+/// Whether a walk from the back is that by places.
+fn is_linked_back(list: &Numbers, last: Option<usize>) -> bool {
+    let (mut at, mut is_alike) = (last, true);
+    for (place, _) in list.iter().rev() {
+        is_alike = is_alike && at == Some(place);
+        at = list.prev_idx(place);
     }
-    None
+    is_alike && at.is_none()
 }
 
 /// The item at a place, where there is one.

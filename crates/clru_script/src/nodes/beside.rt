@@ -1,17 +1,17 @@
 //! Many calls of nodes at once, beside a plain list of the same pairs.
 
 use crate::nodes::Numbers;
-use crate::words::Wrong;
 use crate::world::World;
-use std::ops::Range;
 
 type Pairs = Vec<(u64, u64)>;
 
 /// The pairs that the nodes hold, front first.
-pub(crate) fn pairs_of(kept: &Numbers, world: &World) -> Result<Pairs, Wrong> {
+pub(crate) fn pairs_of(kept: &Numbers, world: &World) -> Pairs {
     let mut pairs = Vec::new(world.alloc);
-    kept.copy_to(&mut pairs)?;
-    Ok(pairs)
+    if kept.copy_to(&mut pairs).is_err() {
+        world.is_short.set(true);
+    }
+    pairs
 }
 
 /// The value that goes with a key.
@@ -20,37 +20,40 @@ fn value_of(key: u64) -> u64 {
 }
 
 /// Puts new keys in, and looks at all pairs at each sixteenth and at the end. Answers whether the list does the same.
-pub(crate) fn fill(kept: &mut Numbers, world: &World, keys: Range<u64>) -> Result<bool, Wrong> {
-    let mut pairs = pairs_of(kept, world)?;
-    for key in keys {
-        if !kept.put(key, value_of(key)) {
-            return Ok(false);
+pub(crate) fn fill(kept: &mut Numbers, world: &World, from: usize, to: usize) -> bool {
+    let mut pairs = pairs_of(kept, world);
+    for key in from as u64..to as u64 {
+        let pair = (key, value_of(key));
+        if !kept.put(pair.0, pair.1) || pairs.insert(0, pair).is_err() {
+            return false;
         }
-        pairs.insert(0, (key, value_of(key)))?;
-        if pairs.len() > kept.capacity() {
-            if let Some((gone, _)) = pairs.pop() {
-                if kept.get(gone).is_some() {
-                    return Ok(false);
-                }
-            }
+        if pairs.len() > kept.capacity() && is_held(kept, pairs.pop()) {
+            return false;
         }
         if key % 16 == 0 && !kept.has(pairs.as_slice()) {
-            return Ok(false);
+            return false;
         }
     }
-    Ok(kept.has(pairs.as_slice()))
+    kept.has(pairs.as_slice())
+}
+
+/// Whether the key of a pair is held, where there is one.
+fn is_held(kept: &Numbers, pair: Option<(u64, u64)>) -> bool {
+    match pair {
+        Some((key, _)) => kept.get(key).is_some(),
+        None => false,
+    }
 }
 
 /// Takes out each seventh key, and a pair at each end. Answers whether the list does the same.
-pub(crate) fn thin(kept: &mut Numbers, world: &World, keys: Range<u64>) -> Result<bool, Wrong> {
-    let mut pairs = pairs_of(kept, world)?;
-    for key in keys {
+pub(crate) fn thin(kept: &mut Numbers, world: &World, from: usize, to: usize) -> bool {
+    let mut pairs = pairs_of(kept, world);
+    for key in from as u64..to as u64 {
         if key % 7 == 0 {
-            let held = pairs.iter().find(|pair| pair.0 == key).copied();
+            let held = taken(&mut pairs, key);
             if kept.take(key) != held || kept.get(key).is_some() {
-                return Ok(false);
+                return false;
             }
-            pairs.retain(|pair| pair.0 != key);
         }
     }
     let first = if pairs.is_empty() {
@@ -58,17 +61,28 @@ pub(crate) fn thin(kept: &mut Numbers, world: &World, keys: Range<u64>) -> Resul
     } else {
         Some(pairs.remove(0))
     };
-    if kept.pop_front() != first || kept.pop_back() != pairs.pop() {
-        return Ok(false);
+    kept.pop_front() == first && kept.pop_back() == pairs.pop() && kept.has(pairs.as_slice())
+}
+
+/// Takes the pair with a key out of the list.
+fn taken(pairs: &mut Pairs, key: u64) -> Option<(u64, u64)> {
+    for at in 0..pairs.len() {
+        if let Some(pair) = pairs.get(at).copied() {
+            if pair.0 == key {
+                return Some(pairs.remove(at));
+            }
+        }
     }
-    Ok(kept.has(pairs.as_slice()))
+    None
 }
 
 /// Whether these keys are held and no other, the last one first.
-pub(crate) fn holds(kept: &Numbers, world: &World, keys: Range<u64>) -> Result<bool, Wrong> {
+pub(crate) fn holds(kept: &Numbers, world: &World, from: usize, to: usize) -> bool {
     let mut pairs = Vec::new(world.alloc);
-    for key in keys {
-        pairs.insert(0, (key, value_of(key)))?;
+    for key in from as u64..to as u64 {
+        if pairs.insert(0, (key, value_of(key))).is_err() {
+            world.is_short.set(true);
+        }
     }
-    Ok(kept.has(pairs.as_slice()))
+    kept.has(pairs.as_slice())
 }

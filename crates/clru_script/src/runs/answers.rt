@@ -1,76 +1,66 @@
 //! The answers of a run in words.
 
+use crate::out::Out;
 use clru::{PutError, TryPutError};
-use clru_runs::{Answer, Attempt, Weighing};
-use std::alloc::AllocError;
+use clru_runs::{Answer, Attempt};
 
 type Pair = (usize, usize);
 
-/// Writes what a call answered.
-pub(crate) fn write_answer(
-    answer: &Answer<usize, usize>,
-    out: &mut String,
-) -> Result<(), AllocError> {
+/// Says what a call answered.
+pub(crate) fn say_answer(answer: &Answer<usize, usize>, out: &mut Out) {
     match answer {
-        Answer::Stored(Ok(put)) => {
-            out.push_str("stored")?;
-            write_replaced(put.replaced, out)?;
-            write_dropped(put.dropped, out)
-        }
+        Answer::Stored(Ok(put)) => say_stored(put.replaced, put.dropped, out),
         Answer::Stored(Err(pair)) | Answer::Lent(Err(pair)) | Answer::Extended(Err(pair)) => {
-            write!(out, "no memory, back {} {}", pair.0, pair.1)
+            say_pair("no memory, back ", *pair, out);
         }
-        Answer::Weighed(Ok(weighing)) => write_weighing(weighing, out),
+        Answer::Weighed(Ok(weighing)) => {
+            say_stored(weighing.replaced, weighing.last, out);
+            if weighing.drop_count > 1 {
+                out.count(" as the last of ", weighing.drop_count);
+            }
+        }
         Answer::Weighed(Err(PutError::NoMemory(key, value))) => {
-            write!(out, "no memory, back {key} {value}")
+            say_pair("no memory, back ", (*key, *value), out);
         }
         Answer::Weighed(Err(PutError::TooHeavy(key, value))) => {
-            write!(out, "too heavy, back {key} {value}")
+            say_pair("too heavy, back ", (*key, *value), out);
         }
-        Answer::Lent(Ok(value)) | Answer::Tried(Ok(value)) => write!(out, "lent {value}"),
-        Answer::Tried(Err(refusal)) => write_refusal(refusal, out),
-        Answer::Value(Some(value)) => write!(out, "{value}"),
-        Answer::Pair(Some((key, value))) => write!(out, "{key} {value}"),
-        Answer::Value(None) | Answer::Pair(None) => out.push_str("none"),
-        Answer::Number(number) => write!(out, "{number}"),
-        Answer::Flag(is) => out.push_str(if *is { "yes" } else { "no" }),
-        Answer::Extended(Ok(())) | Answer::Done => out.push_str("done"),
+        Answer::Lent(Ok(value)) | Answer::Tried(Ok(value)) => out.count("lent ", *value),
+        Answer::Tried(Err(refusal)) => say_refusal(refusal, out),
+        Answer::Value(value) => out.found(*value),
+        Answer::Pair(Some(pair)) => say_pair("", *pair, out),
+        Answer::Pair(None) => out.say("none"),
+        Answer::Number(number) => out.number(*number),
+        Answer::Flag(is) => out.truth(*is),
+        Answer::Extended(Ok(())) | Answer::Done => out.say("done"),
     }
 }
 
-fn write_replaced(replaced: Option<usize>, out: &mut String) -> Result<(), AllocError> {
+fn say_pair(what: &str, pair: Pair, out: &mut Out) {
+    out.count(what, pair.0);
+    out.count(" ", pair.1);
+}
+
+fn say_stored(replaced: Option<usize>, dropped: Option<Pair>, out: &mut Out) {
+    out.say("stored");
     if let Some(value) = replaced {
-        write!(out, ", replaced {value}")?;
+        out.count(", replaced ", value);
     }
-    Ok(())
+    if let Some(pair) = dropped {
+        say_pair(", dropped ", pair, out);
+    }
 }
 
-fn write_dropped(dropped: Option<Pair>, out: &mut String) -> Result<(), AllocError> {
-    if let Some((key, value)) = dropped {
-        write!(out, ", dropped {key} {value}")?;
-    }
-    Ok(())
-}
-
-fn write_weighing(weighing: &Weighing<usize, usize>, out: &mut String) -> Result<(), AllocError> {
-    out.push_str("stored")?;
-    write_replaced(weighing.replaced, out)?;
-    write_dropped(weighing.last, out)?;
-    if weighing.drop_count > 1 {
-        write!(out, " as the last of {}", weighing.drop_count)?;
-    }
-    Ok(())
-}
-
-fn write_refusal(
-    refusal: &TryPutError<usize, Attempt<usize>, ()>,
-    out: &mut String,
-) -> Result<(), AllocError> {
+fn say_refusal(refusal: &TryPutError<usize, Attempt<usize>, ()>, out: &mut Out) {
     match refusal {
         TryPutError::NoMemory(key, Attempt::Store(value)) => {
-            write!(out, "no memory, back {key} store {value}")
+            out.count("no memory, back ", *key);
+            out.count(" store ", *value);
         }
-        TryPutError::NoMemory(key, Attempt::Fail(_)) => write!(out, "no memory, back {key} fail"),
-        TryPutError::Failed(()) => out.push_str("failed"),
+        TryPutError::NoMemory(key, Attempt::Fail(_)) => {
+            out.count("no memory, back ", *key);
+            out.say(" fail");
+        }
+        TryPutError::Failed(()) => out.say("failed"),
     }
 }

@@ -1,6 +1,6 @@
 //! The calls of a run by their names.
 
-use crate::words::{Words, Wrong, next, next_number};
+use crate::words::{Words, Wrong};
 use crate::world::World;
 use clru_runs::{Attempt, Call, PlainCall};
 use ration::Rationed;
@@ -10,65 +10,93 @@ use std::alloc::Global;
 pub(crate) fn calls_of<'a>(
     world: &'a World,
     words: &mut Words,
-    length: usize,
-) -> Result<Vec<PlainCall<usize, usize>, &'a Rationed<Global>>, Wrong> {
+) -> Vec<PlainCall<usize, usize>, &'a Rationed<Global>> {
     let mut calls = Vec::new(&world.owned);
-    for _ in 0..length {
-        match words.next() {
-            Some(name) => calls.push(next_call(name, words)?)?,
-            None => break,
+    for _ in 0..usize::MAX {
+        let Some(name) = words.next() else {
+            break;
+        };
+        if calls.push(next_call(name, words)).is_err() {
+            world.is_short.set(true);
         }
     }
-    Ok(calls)
+    calls
 }
 
 /// A call of that name, with what follows it.
-pub(crate) fn next_call(name: &str, words: &mut Words) -> Result<PlainCall<usize, usize>, Wrong> {
-    match name {
-        "put" => Ok(PlainCall::Put(next_number(words)?, next_number(words)?)),
-        "put_or_modify" => Ok(PlainCall::PutOrModify(next_number(words)?, next_number(words)?)),
-        "try_put_or_modify" => Ok(PlainCall::TryPutOrModify(next_number(words)?, attempt(words)?)),
-        "get_mut" => Ok(PlainCall::GetMut(next_number(words)?, next_number(words)?)),
-        "peek_mut" => Ok(PlainCall::PeekMut(next_number(words)?, next_number(words)?)),
-        "front_mut" => Ok(PlainCall::FrontMut(next_number(words)?)),
-        "back_mut" => Ok(PlainCall::BackMut(next_number(words)?)),
-        "retain_mut" => Ok(PlainCall::RetainMut(next_number(words)?, next_number(words)?)),
-        _ => Ok(PlainCall::Any(any_call(name, words)?)),
+fn next_call(name: &str, words: &mut Words) -> PlainCall<usize, usize> {
+    if name == "try_put_or_modify" {
+        return PlainCall::TryPutOrModify(words.number(), attempt(words));
+    }
+    let (first, second) = words.numbers(arity(name));
+    match call_of(name, first, second) {
+        Some(call) => call,
+        None => {
+            words.note(Wrong::NoSuchCall);
+            PlainCall::Any(Call::Len)
+        }
     }
 }
 
-/// `store V`, `fail`, or `write-fail V`.
-fn attempt(words: &mut Words) -> Result<Attempt<usize>, Wrong> {
-    match next(words)? {
-        "store" => Ok(Attempt::Store(next_number(words)?)),
-        "fail" => Ok(Attempt::Fail(None)),
-        "write-fail" => Ok(Attempt::Fail(Some(next_number(words)?))),
-        _ => Err(Wrong::NoSuchWord),
+/// How many numbers a call takes.
+fn arity(name: &str) -> usize {
+    match name {
+        "put" | "put_or_modify" | "get_mut" | "peek_mut" | "retain_mut" | "put_with_weight" => 2,
+        "len" | "weight" | "capacity" | "is_empty" | "is_full" | "clear" => 0,
+        "front" | "back" | "pop_front" | "pop_back" => 0,
+        _ => 1,
     }
+}
+
+/// The call of that name with these numbers.
+fn call_of(name: &str, first: usize, second: usize) -> Option<PlainCall<usize, usize>> {
+    Some(match name {
+        "put" => PlainCall::Put(first, second),
+        "put_or_modify" => PlainCall::PutOrModify(first, second),
+        "get_mut" => PlainCall::GetMut(first, second),
+        "peek_mut" => PlainCall::PeekMut(first, second),
+        "front_mut" => PlainCall::FrontMut(first),
+        "back_mut" => PlainCall::BackMut(first),
+        "retain_mut" => PlainCall::RetainMut(first, second),
+        _ => return any_call(name, first, second),
+    })
 }
 
 /// A call that each cache has.
-fn any_call(name: &str, words: &mut Words) -> Result<Call<usize, usize>, Wrong> {
-    Ok(match name {
-        "put_with_weight" => Call::PutWithWeight(next_number(words)?, next_number(words)?),
-        "get" => Call::Get(next_number(words)?),
-        "peek" => Call::Peek(next_number(words)?),
-        "contains" => Call::Contains(next_number(words)?),
+fn any_call(name: &str, first: usize, second: usize) -> Option<PlainCall<usize, usize>> {
+    Some(PlainCall::Any(match name {
+        "put_with_weight" => Call::PutWithWeight(first, second),
+        "get" => Call::Get(first),
+        "peek" => Call::Peek(first),
+        "contains" => Call::Contains(first),
         "len" => Call::Len,
         "weight" => Call::Weight,
         "capacity" => Call::Capacity,
         "is_empty" => Call::IsEmpty,
         "is_full" => Call::IsFull,
-        "pop" => Call::Pop(next_number(words)?),
+        "pop" => Call::Pop(first),
         "front" => Call::Front,
         "back" => Call::Back,
-        "nth" => Call::Nth(next_number(words)?),
-        "nth_back" => Call::NthBack(next_number(words)?),
+        "nth" => Call::Nth(first),
+        "nth_back" => Call::NthBack(first),
         "pop_front" => Call::PopFront,
         "pop_back" => Call::PopBack,
         "clear" => Call::Clear,
-        "resize" => Call::Resize(next_number(words)?),
-        "retain" => Call::Retain(next_number(words)?),
-        _ => return Err(Wrong::NoSuchCall),
-    })
+        "resize" => Call::Resize(first),
+        "retain" => Call::Retain(first),
+        _ => return None,
+    }))
+}
+
+/// `store V`, `fail`, or `write-fail V`.
+fn attempt(words: &mut Words) -> Attempt<usize> {
+    match words.word() {
+        "store" => Attempt::Store(words.number()),
+        "fail" => Attempt::Fail(None),
+        "write-fail" => Attempt::Fail(Some(words.number())),
+        _ => {
+            words.note(Wrong::NoSuchWord);
+            Attempt::Fail(None)
+        }
+    }
 }

@@ -1,17 +1,17 @@
 //! The calls that look for a key.
-ghost use Rattle.std.specs.Prelude.{◌≡◌, Option, Some, None, Result, slice_get, IfOk, IfErr, IfSome, IsFalse, IsSomeAnd, is_none, is_some};
+ghost use Rattle.std.specs.Prelude.{◌≡◌, Option, Some, None, Result, slice_get, IfOk, IfErr, IfSome, IsFalse, IsTrue, IsSomeAnd, is_none, is_some};
 ghost use Rattle.std.specs.Option.{option_copied, option_map};
 ghost use Rattle.std.specs.Map.{lookup};
 ghost use Rattle.std.specs.Map.Iter.{deref_pair};
 ghost use Rattle.clru.specs.Cache.{with_entries};
 ghost use Rattle.clru.specs.Entries.{touch};
 ghost use Rattle.clru_through.specs.Given.{IsAnswerOf, IsHeld, answer_value, loaded_value, was_fetched};
-ghost use Rattle.clru_through.specs.Store.{AllFrom, IsValueOf, Store};
+ghost use Rattle.clru_through.specs.Store.{KeepsFor, Store, store};
 ghost use Rattle.clru_through.specs.Steps.{Loads, Takes};
 ghost use Rattle.clru_through.specs.declared.answer.Loaded.{Loaded};
 
 use crate::answer::{Answer, Loaded};
-use crate::source::Source;
+use crate::source::Fetch;
 use crate::store::Through;
 use clru::{CLruCache, PutError, WeightScale};
 use std::alloc::Allocator;
@@ -22,11 +22,12 @@ impl<
     K: Eq + Hash,
     V,
     E,
-    R: Source<K, V, E>,
+    R: Fetch<K, V, E, M>,
     S: BuildHasher,
     W: WeightScale<K, V>,
     A: Allocator + Copy,
-> Through<K, V, E, R, S, W, A> {
+    M,
+> Through<K, V, E, R, S, W, A, M> {
     /// Makes the value of the key the most recently used one, and fetches it first if it is not held.
     ///
     /// What does not fit beside a fetched value is dropped, the least recently used entry first. A value that weighs as much
@@ -35,20 +36,19 @@ impl<
     ///
     /// The answer says whether it was fetched. After `Held` the value is that of `front`, and of `peek` of the key.
     /// Cost: one hash and a walk along one chain; where the key is not held, also a fetch and what a `put_with_weight` costs.
-    #[tactic(auto, using(crate::proofs::Sourced::sourced_by))]
     pub fn load(&mut self, key: K) -> Result<Loaded<V>, E>
     where
         K: Drop,
         V: Drop,
         ensures step { Loads K.eq (W.weight self.old.cache.scale) R.fetches self.old key result self.new }
         ensures value { IfOk result (λ loaded. IsSomeAnd (loaded_value (K.eq key) self.new.cache.entries loaded)
-            (λ v. R.value self.old.source key ≡ Some v)) }
+            (λ v. R.keeps (R.promised self.old.source key) v)) }
         ensures fetched { IfOk result (λ loaded.
             was_fetched loaded ≡ is_none (lookup (K.eq key) self.old.cache.entries)) }
         ensures front { IfOk result (λ loaded. IsHeld loaded → IsSomeAnd (slice_get self.new.cache.entries 0)
-            (λ e. R.value self.old.source key ≡ Some e.1)) }
+            (λ e. R.keeps (R.promised self.old.source key) e.1)) }
         ensures refused { IfErr result (λ _. self.new.cache ≡ self.old.cache) }
-        ensures kept { (k : K) → R.value self.new.source k ≡ R.value self.old.source k }
+        ensures kept { (k : K) → R.promised self.new.source k ≡ R.promised self.old.source k }
     {
         if move_to_front_if_held(&mut self.cache, &key) {
             return Ok(Loaded::Held { fetched: false });
@@ -65,7 +65,7 @@ impl<
     where
         K: Drop,
         V: Drop,
-        ensures value { IfOk result (λ answer. R.value self.old.source key ≡ Some (answer_value answer)) }
+        ensures value { IfOk result (λ answer. R.keeps (R.promised self.old.source key) (answer_value answer)) }
         ensures step { (after : Store K V W R) × (loaded : Result (Loaded V) E)
             × Loads K.eq (W.weight self.old.cache.scale) R.fetches self.old key loaded after
             × IsAnswerOf (lookup (K.eq key) after.cache.entries) loaded result }
@@ -79,12 +79,30 @@ impl<
         }
     }
 
+    /// Makes the value of the key the most recently used one if it is held, and returns whether it is. Nothing is fetched.
+    ///
+    /// The key is lent, or is a form of it, as in a cache, so that a hit makes no key of its own. After `true` the value is that
+    /// of `front`; after `false` a `load` of the key fetches it.
+    /// Cost: one hash and a walk along one chain.
+    pub fn hit<Q: Equivalent<K>>(&mut self, key: Q) -> bool
+        ensures held { result ≡ is_some (lookup (Q.equivalent key) self.old.cache.entries) }
+        ensures ends { let old = self.old.cache in
+            self.new ≡ store (with_entries old (touch Q.equivalent key old.entries)) self.old.source }
+        ensures missed { IsFalse result → self.new ≡ self.old }
+        ensures front { IsTrue result → IsSomeAnd (slice_get self.new.cache.entries 0)
+            (λ e. lookup (Q.equivalent key) self.old.cache.entries ≡ Some e.1) }
+        ensures value { IsTrue result → IsSomeAnd (slice_get self.new.cache.entries 0)
+            (λ e. KeepsFor R.keeps (R.promised self.old.source) (Q.equivalent key) e.1) }
+    {
+        move_to_front_if_held(&mut self.cache, key)
+    }
+
     /// Returns the most recently used key with its value, which after a load that answered `Held` are those of its key.
     /// Nothing is fetched, and the order stays as it is.
     /// Cost: no hash and no comparison.
     pub fn front(&self) -> Option<(&K, &V)>
         ensures entry { option_map deref_pair result ≡ slice_get self.now.cache.entries 0 }
-        ensures value { IfSome result (λ e. R.value self.now.source e.0.now ≡ Some e.1.now) }
+        ensures value { IfSome result (λ e. R.keeps (R.promised self.now.source e.0.now) e.1.now) }
     {
         self.cache.front()
     }
@@ -95,24 +113,24 @@ impl<
     /// Cost: one hash and a walk along one chain.
     pub fn peek<Q: Equivalent<K>>(&self, key: Q) -> Option<&V>
         ensures held { option_copied result ≡ lookup (Q.equivalent key) self.now.cache.entries }
-        ensures value { IfSome result (λ v. IsValueOf (R.value self.now.source) (Q.equivalent key) v.now) }
+        ensures value { IfSome result (λ v. KeepsFor R.keeps (R.promised self.now.source) (Q.equivalent key) v.now) }
     {
         self.cache.peek(key)
     }
 }
 
 /// Makes the value of the key the most recently used one, and returns whether it is held.
-fn move_to_front_if_held<K: Eq + Hash, V, S: BuildHasher, W: WeightScale<K, V>, A>(
+fn move_to_front_if_held<K: Eq + Hash, V, S: BuildHasher, W: WeightScale<K, V>, A, Q>(
     cache: &mut CLruCache<K, V, S, W, A>,
-    key: &K,
+    key: Q,
 ) -> bool
 where
     A: Allocator + Copy,
-    ensures found { result ≡ is_some (lookup (K.eq key.now) cache.old.entries) }
-    ensures touches { cache.new ≡ with_entries cache.old (touch K.eq key.now cache.old.entries) }
-    ensures absent { IsFalse result → lookup (K.eq key.now) cache.old.entries ≡ None }
+    Q: Equivalent<K>,
+    ensures found { result ≡ is_some (lookup (Q.equivalent key) cache.old.entries) }
+    ensures touches { cache.new ≡ with_entries cache.old (touch Q.equivalent key cache.old.entries) }
+    ensures absent { IsFalse result → lookup (Q.equivalent key) cache.old.entries ≡ None }
     ensures missed { IsFalse result → cache.new ≡ cache.old }
-    ensures sourced { (value : K → Option V) → AllFrom value cache.old.entries → AllFrom value cache.new.entries }
 {
     cache.get(key).is_some()
 }
@@ -127,8 +145,6 @@ where
     A: Allocator + Copy,
     ensures taken { Takes K.eq (W.weight cache.old.scale) cache.old key value result cache.new }
     ensures value { loaded_value (K.eq key) cache.new.entries result ≡ Some value }
-    ensures sourced { (gives : K → Option V) → gives key ≡ Some value → AllFrom gives cache.old.entries
-        → AllFrom gives cache.new.entries }
 {
     match cache.put_with_weight(key, value, |_, _| {}) {
         Ok(_) => Loaded::Held { fetched: true },

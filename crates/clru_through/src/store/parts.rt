@@ -1,8 +1,8 @@
 //! The cache and the source of a store.
 ghost use Rattle.std.specs.Prelude.{◌≡◌};
-ghost use Rattle.clru_through.specs.Store.{AllFrom};
+ghost use Rattle.clru_through.specs.Store.{AllKeep};
 
-use crate::source::Source;
+use crate::source::Fetch;
 use crate::store::Through;
 use clru::{CLruCache, WeightScale};
 use std::alloc::Allocator;
@@ -12,16 +12,17 @@ impl<
     K: Eq + Hash,
     V,
     E,
-    R: Source<K, V, E>,
+    R: Fetch<K, V, E, M>,
     S: BuildHasher,
     W: WeightScale<K, V>,
     A: Allocator + Copy,
-> Through<K, V, E, R, S, W, A> {
+    M,
+> Through<K, V, E, R, S, W, A, M> {
     /// Lends the cache for reading: its walks, `contains`, `is_full` and the like are its own.
     /// Cost: a read.
     pub fn cache(&self) -> &CLruCache<K, V, S, W, A>
         ensures cache { result.now ≡ self.now.cache }
-        ensures from_source { AllFrom (R.value self.now.source) self.now.cache.entries }
+        ensures from_source { AllKeep R.keeps (R.promised self.now.source) self.now.cache.entries }
     {
         &self.cache
     }
@@ -38,12 +39,12 @@ impl<
     /// Cost: a move.
     pub fn into_parts(self) -> (CLruCache<K, V, S, W, A>, R)
         ensures parts { result ≡ (self.cache, self.source) }
-        ensures from_source { AllFrom (R.value self.source) self.cache.entries }
+        ensures from_source { AllKeep R.keeps (R.promised self.source) self.cache.entries }
     {
         let Through {
             cache,
             source,
-            error: _,
+            marks: _,
         } = self;
         (cache, source)
     }

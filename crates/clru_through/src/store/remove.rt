@@ -4,9 +4,9 @@ ghost use Rattle.std.specs.Int.NonZero.{non_zero_usize_get};
 ghost use Rattle.std.specs.Map.{lookup};
 ghost use Rattle.clru.specs.Cache.{cache as cache_of, with_entries};
 ghost use Rattle.clru.specs.Entries.{fit, without};
-ghost use Rattle.clru_through.specs.Store.{AllFrom, IsValueOf, store};
+ghost use Rattle.clru_through.specs.Store.{AllKeep, KeepsFor, store};
 
-use crate::source::Source;
+use crate::source::Fetch;
 use crate::store::Through;
 use clru::{NonZeroUsize, WeightScale};
 use std::alloc::Allocator;
@@ -17,11 +17,12 @@ impl<
     K: Eq + Hash,
     V,
     E,
-    R: Source<K, V, E>,
+    R: Fetch<K, V, E, M>,
     S: BuildHasher,
     W: WeightScale<K, V>,
     A: Allocator + Copy,
-> Through<K, V, E, R, S, W, A> {
+    M,
+> Through<K, V, E, R, S, W, A, M> {
     /// Takes the value of the key out, and returns it. The next load of the key fetches it again.
     ///
     /// Its place stays ready.
@@ -30,10 +31,10 @@ impl<
     where
         K: Drop,
         ensures held { result ≡ lookup (Q.equivalent key) self.old.cache.entries }
-        ensures value { IfSome result (λ v. IsValueOf (R.value self.old.source) (Q.equivalent key) v) }
+        ensures value { IfSome result (λ v. KeepsFor R.keeps (R.promised self.old.source) (Q.equivalent key) v) }
         ensures ends { let old = self.old.cache in
             self.new ≡ store (with_entries old (without Q.equivalent key old.entries)) self.old.source }
-        ensures from_source { AllFrom (R.value self.new.source) self.new.cache.entries }
+        ensures from_source { AllKeep R.keeps (R.promised self.new.source) self.new.cache.entries }
     {
         self.cache.pop(key)
     }
@@ -60,7 +61,7 @@ impl<
         ensures ends { let size = non_zero_usize_get capacity in let old = self.old.cache in
             self.new ≡ store
             (cache_of (fit (W.weight old.scale) size old.entries) size old.scale old.places) self.old.source }
-        ensures from_source { AllFrom (R.value self.new.source) self.new.cache.entries }
+        ensures from_source { AllKeep R.keeps (R.promised self.new.source) self.new.cache.entries }
     {
         self.cache.resize(capacity);
     }

@@ -1,5 +1,5 @@
-use Rattle.clru_through.proofs.Sourced.{AllFrom-nil}
+use Rattle.clru_through.proofs.Sourced.{AllKeep-nil}
 use Rattle.clru_through.proofs.store.Through.clear.Goals as goal
 
 pub invariant_of-self : goal.invariant_of-self
-invariant_of-self g c = rw c.clear.ensures (AllFrom-nil (g.R.Source.value c.self.inside.source))
+invariant_of-self g c = rw c.clear.ensures (AllKeep-nil g.R.Fetch.keeps (g.R.Fetch.promised c.self.inside.source))

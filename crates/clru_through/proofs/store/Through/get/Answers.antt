@@ -15,7 +15,7 @@ returns-in-Passed-clause-step g c = (c.load.new.self, Ok c.in_ok-value.field-0, 
 pub returns-in-Some-clause-step : goal.returns-in-Some-clause-step
 returns-in-Some-clause-step g c =
     let eq = g.K.PartialEq.eq in let old = c.args.self.now in let weight = g.W.WeightScale.weight old.cache.scale in
-    let fetches = g.R.Source.fetches in let new = c.load.new.self in
+    let fetches = g.R.Fetch.fetches in let new = c.load.new.self in
     let step = subst (λ loaded. Loads eq weight fetches old c.args.key (Ok loaded) new) c.in-Held.is c.in_ok-value.ensures.step in
     let shown = front_loaded eq g.met.K.Eq.laws weight fetches old c.args.key new c.in-Held.fetched step c.front.result
     (c.in-Some.field-0-0, c.in-Some.value) c.front.ensures.entry c.in-Some.is in

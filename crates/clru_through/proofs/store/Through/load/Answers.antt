@@ -2,7 +2,7 @@ use Rattle.std.proofs.Common.{rules, Ok, Err, sym, ◌∙◌, subst}
 use Rattle.std.proofs.lemmas.Result.{err_from_is_err_and}
 use Rattle.std.specs.Map.{lookup}
 use Rattle.clru_through.specs.Steps.{Takes}
-use Rattle.clru_through.proofs.Sourced.{AllFrom-lookup, IsSomeAnd-touched, lookup-touch}
+use Rattle.clru_through.proofs.Sourced.{AllKeep-lookup, AllKeep_promised, AllKeep-taken, AllKeep-touch, first-touch, lookup-touch}
 use Rattle.clru_through.proofs.Looking.{is_there}
 use Rattle.clru_through.proofs.store.Through.load.Goals as goal
 
@@ -11,14 +11,15 @@ returns-then-move_to_front_if_held-clause-value g c =
     let eq = g.K.PartialEq.eq in let es = c.self.inside.cache.entries in let source = c.self.inside.source in
     let step = c.move_to_front_if_held.ensures in let held = is_there (lookup (eq c.args.key) es) (sym step.found ∙ c.if-move_to_front_if_held.true) in
     rw (step.touches, lookup-touch eq c.args.key es held.0 held.1, ← c.self.view_is)
-    (AllFrom-lookup eq c.args.key (g.R.Source.value source) (g.met.R.Source.same source c.args.key) es held.0 c.self.invariant held.1)
+    (AllKeep-lookup g.met.K.Eq.laws c.args.key g.R.Fetch.keeps (g.met.R.Fetch.same source) es c.self.invariant held.0 held.1)
 
 pub returns-then-move_to_front_if_held-clause-front : goal.returns-then-move_to_front_if_held-clause-front
 returns-then-move_to_front_if_held-clause-front g c = λ _.
     let eq = g.K.PartialEq.eq in let es = c.self.inside.cache.entries in let source = c.self.inside.source in
     let step = c.move_to_front_if_held.ensures in let held = is_there (lookup (eq c.args.key) es) (sym step.found ∙ c.if-move_to_front_if_held.true) in
     rw (step.touches, ← c.self.view_is)
-    (IsSomeAnd-touched eq c.args.key (g.R.Source.value source) (g.met.R.Source.same source c.args.key) es held.0 c.self.invariant held.1)
+    (first-touch eq c.args.key es held.0 held.1 (g.R.Fetch.keeps (g.R.Fetch.promised source c.args.key))
+    (AllKeep-lookup g.met.K.Eq.laws c.args.key g.R.Fetch.keeps (g.met.R.Fetch.same source) es c.self.invariant held.0 held.1))
 
 pub returns-in_err-value-clause-step : goal.returns-in_err-value-clause-step
 returns-in_err-value-clause-step g c =
@@ -37,3 +38,17 @@ returns-clause-step g c =
       passes = subst (λ cache. Takes eq (g.W.WeightScale.weight cache.scale) cache c.args.key c.in_ok-value.value c.taken.result c.taken.new.cache)
           (look.missed missed) c.taken.ensures.taken;
     })
+
+pub invariant_of-self : goal.invariant_of-self
+invariant_of-self g c =
+    rw c.move_to_front_if_held.ensures.touches
+    (AllKeep-touch g.K.PartialEq.eq c.args.key g.R.Fetch.keeps (g.R.Fetch.promised c.self.inside.source) c.self.inside.cache.entries c.self.invariant)
+
+pub invariant_of-self-2 : goal.invariant_of-self-2
+invariant_of-self-2 g c =
+    let old = c.self.inside in let new = c.fetch.new.self in let keeps = g.R.Fetch.keeps in let promised = g.R.Fetch.promised in
+    let kept = c.in_ok-value.ensures.kept in let look = c.move_to_front_if_held in
+    AllKeep-taken g.K.PartialEq.eq (g.W.WeightScale.weight look.new.cache.scale) keeps (promised new) look.new.cache c.taken.new.cache
+    c.args.key c.in_ok-value.value c.taken.result (rw (kept c.args.key) c.in_ok-value.ensures.value) c.taken.ensures.taken
+    (AllKeep_promised keeps (promised new) (promised old.source) kept look.new.cache.entries
+    (rw look.ensures.touches (AllKeep-touch g.K.PartialEq.eq c.args.key keeps (promised old.source) old.cache.entries c.self.invariant)))

@@ -1,0 +1,100 @@
+//! Caches of numbers over an allocator that refuses.
+
+use crate::drawn::calls::KEYS;
+use crate::drawn::pairs::Pairs;
+use crate::pairs::Hashing;
+use crate::words::capacity_of;
+use crate::world::World;
+use clru::{CLruCache, CLruCacheConfig, WeightScale, ZeroWeightScale};
+use clru_runs::{Answer, Perform, PlainCall};
+use ration::Rationed;
+use std::alloc::Global;
+
+/// A cache of numbers.
+pub(crate) type Of<'a, W> = CLruCache<usize, usize, Hashing<'a>, W, &'a Rationed<Global>>;
+
+/// A value weighs the number that it is.
+#[derive(Clone, Copy)]
+pub(crate) struct ByNumber;
+
+impl WeightScale<usize, usize> for ByNumber {
+    ghost weight = { λ _ _ value. value };
+
+    fn weight(&self, _key: &usize, value: &usize) -> usize {
+        *value
+    }
+}
+
+/// One in which values weigh nothing, or the number that they are.
+#[derive(Drop)]
+pub(crate) enum Numbers<'a> {
+    Plain(Of<'a, ZeroWeightScale>),
+    Weighed(Of<'a, ByNumber>),
+}
+
+impl<'a> Numbers<'a> {
+    /// An empty one, or `None` for want of memory.
+    pub(crate) fn new(world: &'a World, capacity: usize, reserve: usize) -> Option<Numbers<'a>> {
+        if world.head.weighs {
+            Some(Numbers::Weighed(made(world, capacity, reserve, ByNumber)?))
+        } else {
+            let scale = ZeroWeightScale;
+            Some(Numbers::Plain(made(world, capacity, reserve, scale)?))
+        }
+    }
+
+    /// Makes a call. Where values weigh something, it is one that each cache has.
+    pub(crate) fn perform(&mut self, call: PlainCall<usize, usize>) -> Answer<usize, usize> {
+        match self {
+            Numbers::Plain(cache) => call.perform(cache),
+            Numbers::Weighed(cache) => match call {
+                PlainCall::Any(call) => call.perform(cache),
+                _ => Answer::Done,
+            },
+        }
+    }
+
+    pub(crate) fn is_whole(&self, pairs: &Pairs) -> bool {
+        match self {
+            Numbers::Plain(cache) => is_whole(cache, pairs),
+            Numbers::Weighed(cache) => is_whole(cache, pairs),
+        }
+    }
+}
+
+/// An empty cache of numbers.
+pub(crate) fn made<'a, W: WeightScale<usize, usize> + Copy>(
+    world: &'a World,
+    capacity: usize,
+    reserve: usize,
+    scale: W,
+) -> Option<Of<'a, W>> {
+    let config = CLruCacheConfig::new(capacity_of(capacity))
+        .with_hasher(world.hashing())
+        .with_scale(scale)
+        .with_memory(reserve);
+    CLruCache::with_config(&world.heap, config).ok()
+}
+
+/// Whether the cache holds the pairs of the list and no other: from the front, from the back, and by a look-up of each key.
+pub(crate) fn is_whole<'a, W: WeightScale<usize, usize>>(cache: &Of<'a, W>, pairs: &Pairs) -> bool {
+    if (cache.len(), cache.weight(), cache.capacity())
+        != (pairs.list.len(), pairs.weight(), pairs.capacity)
+    {
+        return false;
+    }
+    let (mut forward, mut backward) = (cache.iter(), cache.iter());
+    for (first, last) in pairs.list.iter().zip(pairs.list.iter().rev()) {
+        if forward.next() != Some((&first.0, &first.1))
+            || backward.next_back() != Some((&last.0, &last.1))
+        {
+            return false;
+        }
+    }
+    for key in 0..KEYS {
+        if cache.peek(&key).copied() != pairs.value(key) {
+            return false;
+        }
+    }
+    forward.next().is_none() && backward.next_back().is_none()
+}

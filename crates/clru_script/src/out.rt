@@ -1,0 +1,90 @@
+//! What a call answers, as it is written.
+
+use std::alloc::Global;
+
+/// A text. What finds no memory is left out of it, and that is known at the end.
+#[derive(Drop)]
+pub(crate) struct Out {
+    pub(crate) text: String,
+    pub(crate) is_short: bool,
+}
+
+/// An answer without items: a proof of a function that gives one is short, where it has many calls.
+#[derive(Clone, Copy)]
+pub(crate) enum Told {
+    Number(Option<usize>),
+    Truth(bool),
+    Word(&'static str),
+    /// The name is none of these calls.
+    NoCall,
+}
+
+impl Out {
+    pub(crate) fn new(alloc: Global) -> Out {
+        Out {
+            text: String::new(alloc),
+            is_short: false,
+        }
+    }
+
+    pub(crate) fn say(&mut self, text: &str) {
+        if self.text.push_str(text).is_err() {
+            self.is_short = true;
+        }
+    }
+
+    pub(crate) fn number(&mut self, number: usize) {
+        if write!(&mut self.text, "{number}").is_err() {
+            self.is_short = true;
+        }
+    }
+
+    /// A word, and a number behind it.
+    pub(crate) fn count(&mut self, word: &str, number: usize) {
+        self.say(word);
+        self.number(number);
+    }
+
+    /// What parts this from what stands before, where something does.
+    pub(crate) fn part(&mut self, mark: &str) {
+        if !self.text.is_empty() {
+            self.say(mark);
+        }
+    }
+
+    /// A number, or that there is none.
+    pub(crate) fn found(&mut self, number: Option<usize>) {
+        match number {
+            Some(number) => self.number(number),
+            None => self.say("none"),
+        }
+    }
+
+    /// The word for a truth.
+    pub(crate) fn truth(&mut self, is: bool) {
+        self.say(if is { "yes" } else { "no" });
+    }
+
+    /// What a call answered. Answers whether there was such a call.
+    pub(crate) fn told(&mut self, told: Told) -> bool {
+        match told {
+            Told::Number(number) => self.found(number),
+            Told::Truth(is) => self.truth(is),
+            Told::Word(word) => self.say(word),
+            Told::NoCall => return false,
+        }
+        true
+    }
+
+    /// A word for an answer that has none.
+    pub(crate) fn or(&mut self, word: &str) {
+        if self.text.is_empty() {
+            self.say(word);
+        }
+    }
+
+    /// Begins anew.
+    pub(crate) fn clear(&mut self) {
+        self.text.clear();
+    }
+}

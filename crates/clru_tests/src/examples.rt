@@ -1,0 +1,5 @@
+//! The examples of the docs, run.
+
+mod caches;
+mod curves;
+mod owners;
