@@ -1,6 +1,6 @@
 //! A cache within a budget of bytes.
 
-use clru::{CLruCache, DefaultState, NonZeroUsize, ZeroWeightScale};
+use clru::{CLruCache, DefaultState, ZeroWeightScale};
 use ration::Rationed;
 use std::alloc::Global;
 

@@ -207,6 +207,11 @@ fn looked_up<'a>(
             }
         }
         "hit" => out.truth(store.hit(&Key::next(world, words))),
+        "is_too_heavy" => {
+            let key = Key::next(world, words);
+            let value = store.source().value(&key);
+            out.truth(store.is_too_heavy(&key, &value));
+        }
         "peek" => say_value(store.peek(&Key::next(world, words)), out),
         "pop" => {
             let value = store.pop(&Key::next(world, words));

@@ -3,9 +3,8 @@
 use crate::lists::capacity_of;
 use assertions::equal;
 use clru::{
-    CLruCache, CLruCacheConfig, DefaultState, NonZeroUsize, ZeroWeightScale, law_by_position,
-    law_dropped, law_growth, law_inclusion, law_longest_fit, law_requests,
-    law_schedules_by_position, law_sizes,
+    CLruCache, DefaultState, NonZeroUsize, ZeroWeightScale, law_by_position, law_dropped,
+    law_growth, law_inclusion, law_longest_fit, law_requests, law_schedules_by_position, law_sizes,
 };
 use clru_callers::of_least::least_by_position;
 use clru_callers::{calls, of_curves, of_least, puts, runs, sizes};

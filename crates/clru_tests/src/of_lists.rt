@@ -5,7 +5,6 @@ mod errors;
 use assertions::equal;
 use clru_callers::of_lists::{halve, halve_backwards, halve_by_both_ends, push_and_lift};
 use clru_list::FixedSizeList;
-use std::test::Fail;
 
 type Numbers = FixedSizeList<u64>;
 

@@ -1,6 +1,6 @@
 //! What `{:?}` prints of a store: counts, and nothing of keys, values and source.
 
-use crate::source::Source;
+use crate::source::Fetch;
 use crate::store::Through;
 use clru::WeightScale;
 use std::alloc::Allocator;
@@ -11,11 +11,12 @@ impl<
     K: Eq + Hash,
     V,
     E,
-    R: Source<K, V, E>,
+    R: Fetch<K, V, E, M>,
     S: BuildHasher,
     W: WeightScale<K, V>,
     A: Allocator + Copy,
-> fmt::Debug for Through<K, V, E, R, S, W, A> {
+    M,
+> fmt::Debug for Through<K, V, E, R, S, W, A, M> {
     fn fmt<O: fmt::Write>(&self, f: &mut fmt::Formatter<O>) -> fmt::Result {
         f.debug_struct("Through")
             .field("len", &self.len())

@@ -1,5 +1,5 @@
 //! `Through`, and the calls that read the whole of it. A clause sees a store as its `cache` and its `source`.
-ghost use Rattle.std.specs.Prelude.{◌≡◌, ◌⊎◌, [], length};
+ghost use Rattle.std.specs.Prelude.{◌≡◌, ◌≤◌, ◌↔◌, ◌⊎◌, [], length, IsTrue};
 ghost use Rattle.clru.specs.Cache.{IsValid};
 ghost use Rattle.clru.specs.Entries.{weight_of};
 ghost use Rattle.clru_through.specs.Store.{AllKeep, store};
@@ -130,5 +130,14 @@ impl<
         ensures valid { IsValid K.eq (W.weight self.now.cache.scale) self.now.cache }
     {
         self.cache.capacity()
+    }
+
+    /// Returns whether the value weighs as much as the capacity or more, so that no load and no `put` holds it. A value that was
+    /// passed on though it is lighter found no memory.
+    /// Cost: a weighing.
+    pub fn is_too_heavy(&self, key: &K, value: &V) -> bool
+        ensures { IsTrue result ↔ (self.now.cache.capacity ≤ W.weight self.now.cache.scale key.now value.now) }
+    {
+        self.cache.scale().weight(key, value) >= self.cache.capacity()
     }
 }

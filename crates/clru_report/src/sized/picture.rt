@@ -105,7 +105,7 @@ fn steps_of_sizes<A: Allocator>(
 ) -> Result<Vec<(usize, usize), A>, AllocError> {
     let mut fallen = Vec::with_capacity(alloc, steps.len())?;
     for step in steps {
-        fallen.push_reserved((step.capacity, step.missed_size));
+        fallen.push((step.capacity, step.missed_size))?;
     }
     Ok(fallen)
 }
