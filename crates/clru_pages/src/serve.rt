@@ -104,6 +104,7 @@ fn serve<'f, R: Files>(pages: &mut Pages<'f, R>, alloc: Global, line: &[u8]) -> 
 fn first_of<'f, R: Files>(pages: &Pages<'f, R>) -> Told {
     match pages.front() {
         Some((_, page)) => about(page),
+        // (it is called where one is held, so this is not met)
         None => Told {
             length: 0,
             checksum: 0,
