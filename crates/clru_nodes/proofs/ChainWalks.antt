@@ -35,7 +35,7 @@ length_within (p ∷ ps) qs within =
     omega (arith, ih, less_length p qs here)
 
 -- at the start nothing was passed
-none_before : (f : ℕ → ℕ) (before : List ℕ) → Reaches f nowhere before nowhere → count nowhere (nowhere ∷ before) ≤ 1 → before ≡ []
+pub none_before : (f : ℕ → ℕ) (before : List ℕ) → Reaches f nowhere before nowhere → count nowhere (nowhere ∷ before) ≤ 1 → before ≡ []
 none_before f [] r once = refl
 none_before f (p ∷ ps) r once = let met = reaches_meets f p ps nowhere r.1 in absurd (omega (arith, met, once))
 
@@ -114,6 +114,14 @@ module _ {f : ℕ → ℕ} {alive wanted : ℕ → Type 0} {next len : ℕ} (w :
             let all = rw same at (w.held q (wants q s)) in
             let t = ne_eqb q next (λ e. left (subst still e s)) in let k = rw t at all in omega (arith, k);
       }
+
+-- a walk that comes to its last place, or to its end, where nothing was wanted before
+pub walk_last : {f : ℕ → ℕ} {alive wanted : ℕ → Type 0} {next len : ℕ} → (w : IsWalk f alive wanted next len) → (alive nowhere → ⊥)
+    → ((next ≡ nowhere → ⊥) → wanted next → ⊥) → ((next ≡ nowhere → ⊥) → f next ≡ nowhere) → (q : ℕ) → wanted q → ⊥
+walk_last {f} {alive} {wanted} {next} {len} w none other ends q is = elim (cases_eq next nowhere) [
+  | inl e ↦ walk_missed w none (λ a. none (subst alive e a)) q is
+  | inr off ↦ walk_missed (walk_step w none off wanted (λ p h. h) (other off)) none (λ a. none (subst alive (ends off) a)) q is
+]
 
 steps_of_path : (f : ℕ → ℕ) (next : ℕ) (rest : List ℕ) (n : ℕ) → IsRest f next rest → ((q : ℕ) → 0 < count q rest → q ≡ nowhere → ⊥) → length rest ≤ n
     → steps_left f next n ≡ length rest

@@ -40,7 +40,7 @@ module _ {K : Type 0} (home : K → ℕ) where
   ]
 
   -- two chains meet at the start alone
-  heads_apart : (h g : ℕ) (key : ℕ → Option K) (q : ℕ) → (q ≡ nowhere → ⊥) → 0 < of_head home h key q → 0 < of_head home g key q → g ≡ h
+  pub heads_apart : (h g : ℕ) (key : ℕ → Option K) (q : ℕ) → (q ≡ nowhere → ⊥) → 0 < of_head home h key q → 0 < of_head home g key q → g ≡ h
   heads_apart h g key q off here there =
       let (k, is, e) = met_key h key q off here in
       let (l, as_well, d) = met_key g key q off there in

@@ -2,7 +2,7 @@
 use Rattle.std.proofs.Common.{◌≡◌, ℕ, ◌+◌, ◌<◌, ◌≤◌, ◌==◌, true, List, [], ◌∷◌, ◌++◌, refl, sym, ap, ◌∙◌, subst, arith, inl, inr}
 use Rattle.std.proofs.lemmas.Bool.{cases_eq, eq-eqb, ne_eqb}
 use Rattle.clru_list.specs.Places.{nowhere, put, count, IsRest}
-use Rattle.clru_nodes.specs.Chained.{IsCut}
+use Rattle.clru_nodes.specs.Chained.{IsCut, IsCutBehind}
 use Rattle.clru_list.proofs.Paths.{count-append}
 use Rattle.clru_list.proofs.Puts.{put-here, put-other}
 use Rattle.clru_nodes.proofs.Chains.{count_here, reaches_meets, reaches_same, reaches_next, path_same, path_join}
@@ -19,7 +19,7 @@ cut_here {f} {met} {at} c =
     omega (arith, here, c.once at)
 
 -- the next place, if there is one, stands first in the rest
-rest_of_next : (f met : ℕ → ℕ) (at p : ℕ) (rest : List ℕ) → IsRest f (f at) rest → f at ≡ p → (p ≡ nowhere → ⊥)
+pub rest_of_next : (f met : ℕ → ℕ) (at p : ℕ) (rest : List ℕ) → IsRest f (f at) rest → f at ≡ p → (p ≡ nowhere → ⊥)
     → (later : List ℕ) × (rest ≡ p ∷ later) × IsRest f (f p) later
 rest_of_next f met at p [] path step is = absurd (is (sym step ∙ path))
 rest_of_next f met at p (q ∷ qs) path step is =
@@ -32,8 +32,17 @@ cut_next {f} {met} {at} c p step is =
     let there : 0 < count p c.rest = rw same (count_here p later) in
     omega (arith, there, c.once p)
 
+-- it was not passed
+pub next_not_passed : {f met : ℕ → ℕ} {at : ℕ} → (c : IsCut f met at) → (p : ℕ) → met p ≤ 1 → f at ≡ p → (p ≡ nowhere → ⊥)
+    → (q : ℕ) → 0 < count q (nowhere ∷ c.before) → q ≡ p → ⊥
+next_not_passed {f} {met} {at} c p single step is q passed e =
+    let (later, same, path) = rest_of_next f met at p c.rest c.ahead step is in
+    let there : 0 < count p c.rest = rw same (count_here p later) in
+    let here = subst (λ x. 0 < count x (nowhere ∷ c.before)) e passed in
+    omega (arith, there, here, c.once p, single)
+
 -- one step further
-pub cut_step : {f met : ℕ → ℕ} {at : ℕ} → IsCut f met at → (p : ℕ) → f at ≡ p → (p ≡ nowhere → ⊥) → IsCut f met p
+abbrev pub cut_step : {f met : ℕ → ℕ} {at : ℕ} → IsCut f met at → (p : ℕ) → f at ≡ p → (p ≡ nowhere → ⊥) → IsCut f met p
 cut_step {f} {met} {at} c p step is =
     let (later, same, path) = rest_of_next f met at p c.rest c.ahead step is in
     record {
@@ -43,6 +52,24 @@ cut_step {f} {met} {at} c p step is =
       ahead = path;
       once = λ q. let all = rw same at (c.once q) in omega (arith, all, count-append q c.before (p ∷ []));
     }
+
+-- a place that a walk passed, or where it stands, is met
+pub passed_met : {f met : ℕ → ℕ} {behind at : ℕ} → (c : IsCutBehind f met behind at) → 0 < met behind
+passed_met {f} {met} {behind} {at} c = omega (arith, c.passed, c.cut.once behind)
+
+pub cut_passed : {f met : ℕ → ℕ} {at : ℕ} → (c : IsCut f met at) → 0 < count at (nowhere ∷ c.before)
+cut_passed {f} {met} {at} c = reaches_meets f nowhere c.before at c.behind
+
+-- at the start nothing is behind
+pub behind_start : {f met : ℕ → ℕ} → IsCut f met nowhere → IsCutBehind f met nowhere nowhere
+behind_start c = record { cut = c; passed = count_here nowhere c.before }
+
+-- one step further, the walk has passed where it stood
+pub behind_step : {f met : ℕ → ℕ} {behind at : ℕ} → IsCutBehind f met behind at → (p : ℕ) → f at ≡ p → (p ≡ nowhere → ⊥) → IsCutBehind f met at p
+behind_step {f} {met} {behind} {at} c p step is = record {
+  cut = cut_step c.cut p step is;
+  passed = let here = cut_passed c.cut in omega (arith, here, count-append at c.cut.before (p ∷ []));
+}
 
 -- a walk that is at its end has no rest
 rest_at_end : (f : ℕ → ℕ) (at : ℕ) (rest : List ℕ) → IsRest f (f at) rest → f at ≡ nowhere → count nowhere rest ≡ 0 → rest ≡ []

@@ -1,46 +1,38 @@
--- Numbers as places: those of heads, and behind them those of links.
-use Rattle.std.proofs.Common.{◌≡◌, ℕ, zero, suc, ◌+◌, ◌<◌, List, [], ◌∷◌, map, length, take, drop, set, replicate, refl, ap, ◌∙◌, arith}
-use Rattle.std.proofs.lemmas.List.{map-set, take-set-le, drop-set-lt, drop-set-add}
+-- Numbers of heads, and behind them those of links.
+use Rattle.std.proofs.Common.{◌≡◌, ℕ, zero, suc, ◌+◌, ◌<◌, List, [], ◌∷◌, length, take, drop, set, replicate, refl, ap, arith}
+use Rattle.std.proofs.lemmas.List.{take-set-le, drop-set-lt, drop-set-add}
 use Rattle.std.proofs.Math.Seq.{take-set-lt}
-use Rattle.clru_list.specs.Places.{nowhere}
-use Rattle.clru_nodes.specs.HeadList.{place_numbered}
-use Rattle.clru_nodes.specs.Heads.{place_in}
+use Rattle.clru_nodes.specs.Heads.{number_in}
 
 -- new heads lead nowhere
-pub none_led : (size len h : ℕ) → place_in (map place_numbered (take size (replicate len 0))) h ≡ nowhere
+pub none_led : (size len h : ℕ) → number_in (take size (replicate len 0)) h ≡ 0
 none_led zero len h = refl
 none_led (suc size) zero h = refl
 none_led (suc size) (suc len) zero = refl
 none_led (suc size) (suc len) (suc h) = none_led size len h
 
 -- heads and links that are written over with 0
-pub heads_cleared : (size : ℕ) (xs : List ℕ)
-    → map place_numbered (take size (replicate (length xs) 0)) ≡ replicate (length (map place_numbered (take size xs))) nowhere
+pub heads_cleared : (size : ℕ) (xs : List ℕ) → take {A = ℕ} size (replicate (length xs) 0) ≡ replicate (length (take size xs)) 0
 heads_cleared zero xs = refl
 heads_cleared (suc size) [] = refl
-heads_cleared (suc size) (x ∷ xs) = ap (λ ps. nowhere ∷ ps) (heads_cleared size xs)
+heads_cleared (suc size) (x ∷ xs) = ap (λ ps. 0 ∷ ps) (heads_cleared size xs)
 
-all_cleared : (xs : List ℕ) → map place_numbered (replicate (length xs) 0) ≡ replicate (length (map place_numbered xs)) nowhere
-all_cleared [] = refl
-all_cleared (x ∷ xs) = ap (λ ps. nowhere ∷ ps) (all_cleared xs)
-
-pub links_cleared : (size : ℕ) (xs : List ℕ)
-    → map place_numbered (drop size (replicate (length xs) 0)) ≡ replicate (length (map place_numbered (drop size xs))) nowhere
-links_cleared zero xs = all_cleared xs
+pub links_cleared : (size : ℕ) (xs : List ℕ) → drop {A = ℕ} size (replicate (length xs) 0) ≡ replicate (length (drop size xs)) 0
+links_cleared zero xs = refl
 links_cleared (suc size) [] = refl
 links_cleared (suc size) (x ∷ xs) = links_cleared size xs
 
 module _ (size : ℕ) (xs : List ℕ) (k n : ℕ) where
   -- the number of a head is written
-  pub head_written : k < size → map place_numbered (take size (set xs k n)) ≡ set (map place_numbered (take size xs)) k (place_numbered n)
-  head_written within = ap (map place_numbered) (take-set-lt size xs k n within) ∙ map-set place_numbered (take size xs) k n
+  pub head_written : k < size → take size (set xs k n) ≡ set (take size xs) k n
+  head_written within = take-set-lt size xs k n within
 
-  pub links_stay : k < size → map place_numbered (drop size (set xs k n)) ≡ map place_numbered (drop size xs)
-  links_stay within = ap (map place_numbered) (drop-set-lt size xs k n within)
+  pub links_stay : k < size → drop size (set xs k n) ≡ drop size xs
+  links_stay within = drop-set-lt size xs k n within
 
   -- the number of a link is written
-  pub link_written : map place_numbered (drop size (set xs (size + k) n)) ≡ set (map place_numbered (drop size xs)) k (place_numbered n)
-  link_written = ap (map place_numbered) (drop-set-add size xs k n) ∙ map-set place_numbered (drop size xs) k n
+  pub link_written : drop size (set xs (size + k) n) ≡ set (drop size xs) k n
+  link_written = drop-set-add size xs k n
 
-  pub heads_stay : map place_numbered (take size (set xs (size + k) n)) ≡ map place_numbered (take size xs)
-  heads_stay = ap (map place_numbered) (take-set-le size xs (size + k) n (omega arith))
+  pub heads_stay : take size (set xs (size + k) n) ≡ take size xs
+  heads_stay = take-set-le size xs (size + k) n (omega arith)

@@ -1,5 +1,5 @@
 -- The index over a list of nodes: what keeps it, by the chains and by what stands where.
-use Rattle.std.proofs.Common.{◌≡◌, ℕ, ◌<◌, ◌≤◌, Option, Some, None, List, [], ◌∷◌, length, replicate, set, refl, sym, ap, ◌∙◌, subst, arith, inl, inr}
+use Rattle.std.proofs.Common.{◌≡◌, ℕ, ◌+◌, ◌<◌, ◌≤◌, Option, Some, None, List, [], ◌∷◌, length, replicate, set, refl, sym, ap, ◌∙◌, subst, arith, inl, inr}
 use Rattle.std.proofs.lemmas.Bool.{cases_eq, cases_lt, eq-eqb, ne_eqb}
 use Rattle.std.proofs.lemmas.List.{get_or-replicate, get_or-set_same, get_or-set_other, get_or_past, length-replicate}
 use Rattle.std.proofs.lemmas.Map.Entries.{length-keys_of}
@@ -8,13 +8,15 @@ use Rattle.std.specs.Map.{keys_of}
 use Rattle.std.specs.Option.{option_map}
 use Rattle.clru_list.specs.PlaceList.{item_at}
 use Rattle.clru_list.specs.Places.{nowhere, put, count}
-use Rattle.clru_nodes.specs.Chained.{steps_of, of_head, IsCut, IsChained, IsWalk}
-use Rattle.clru_nodes.specs.Heads.{head_by, key_at, place_in, home_at, IsLive}
+use Rattle.clru_nodes.specs.Chained.{steps_of, of_head, IsCut, IsChained, IsLinked, IsWalk}
+use Rattle.clru_nodes.specs.HeadList.{place_named, tag_by}
+use Rattle.clru_nodes.specs.Heads.{head_by, key_at, number_in, IsLive}
 use Rattle.clru_nodes.specs.Nodes.{hash_by, IsIndexed}
 use Rattle.clru_nodes.specs.declared.nodes.Item.{Item}
 use Rattle.clru_nodes.specs.declared.nodes.Nodes.{Nodes}
 use Rattle.clru_list.proofs.Puts.{put-here, put-other}
-use Rattle.clru_nodes.proofs.Chaining.{single, met_key, chained_none, chained_same}
+use Rattle.clru_nodes.proofs.Chaining.{single, met_key}
+use Rattle.clru_nodes.proofs.Hints.{linked_none, linked_same}
 use Rattle.clru_nodes.proofs.ChainWalks.{walk_start}
 use Rattle.clru_nodes.proofs.Cuts.{cut_here}
 
@@ -42,11 +44,10 @@ module _ {K V : Type 0} where
   module _ (home : K → ℕ) {heads link : ℕ → ℕ} (es : List (ℕ × Item K V)) {key : ℕ → Option K}
       (c : IsChained home heads link key) (lives : (q : ℕ) (k : K) → key q ≡ Some k → IsLive es q) where
     -- a walk along a chain begins at its head
-    pub walk_of_chain : (h : ℕ) (wanted : ℕ → Type 0) → ((q : ℕ) → wanted q → (q ≡ nowhere → ⊥) × (0 < of_head home h key q))
-        → IsWalk (steps_of heads link h) (IsLive es) wanted (heads h) (length es)
-    walk_of_chain h wanted held =
-        walk_start (c.chain h) (IsLive es) wanted (length es) (keys_of es) (single home h key nowhere)
-        (λ q off met. let (k, is, _) = met_key home h key q off met in lives q k is)
+    pub walk_along : (h : ℕ) (alive wanted : ℕ → Type 0) → ((q : ℕ) → (q ≡ nowhere → ⊥) → 0 < of_head home h key q → alive q)
+        → ((q : ℕ) → wanted q → (q ≡ nowhere → ⊥) × (0 < of_head home h key q)) → IsWalk (steps_of heads link h) alive wanted (heads h) (length es)
+    walk_along h alive wanted living held =
+        walk_start (c.chain h) alive wanted (length es) (keys_of es) (single home h key nowhere) living
         (λ q off. elim (cases_eq (of_head home h key q) 0) [
           | inl e ↦ omega (arith, e)
           | inr n ↦
@@ -55,9 +56,17 @@ module _ {K V : Type 0} where
         ])
         (omega (arith, length-keys_of es)) held
 
+    pub walk_of_chain : (h : ℕ) (wanted : ℕ → Type 0) → ((q : ℕ) → wanted q → (q ≡ nowhere → ⊥) × (0 < of_head home h key q))
+        → IsWalk (steps_of heads link h) (IsLive es) wanted (heads h) (length es)
+    walk_of_chain h wanted held = walk_along h (IsLive es) wanted (λ q off met. let (k, is, _) = met_key home h key q off met in lives q k is) held
+
+    -- a place that a chain meets holds something
+    pub live_met : (h q : ℕ) → 0 < of_head home h key q → (q ≡ nowhere → ⊥) → IsLive es q
+    live_met h q met off = let (k, is, _) = met_key home h key q off met in lives q k is
+
     -- a place on the way holds something
     pub live_at_cut : (h at : ℕ) → IsCut (steps_of heads link h) (of_head home h key) at → (at ≡ nowhere → ⊥) → IsLive es at
-    live_at_cut h at cut off = let (k, is, _) = met_key home h key at off (cut_here cut) in lives at k is
+    live_at_cut h at cut off = live_met h at (cut_here cut) off
 
   -- the keys that are chained stand in items, also where one is out
   pub live_but : (es : List (ℕ × Item K V)) (out q : ℕ) (k : K) → put (key_at es) out None q ≡ Some k → IsLive es q
@@ -66,42 +75,47 @@ module _ {K V : Type 0} where
     | inr n ↦ live_of_key es q k (sym (put-other (key_at es) out None q n) ∙ is)
   ]
 
--- the heads of keys stay where there are as many
-pub homes_stay : {K : Type 0} (hash : K → ℕ) {heads link : ℕ → ℕ} {key : ℕ → Option K} {n m : ℕ} → m ≡ n
-    → IsChained (λ k. head_by n (hash k)) heads link key → IsChained (λ k. head_by m (hash k)) heads link key
-homes_stay hash {heads} {link} {key} same c = subst (λ i. IsChained (λ k. head_by i (hash k)) heads link key) (sym same) c
+-- all stays where there are as many heads
+pub sized_stay : {K : Type 0} (hash : K → ℕ) {n m b c t u : ℕ} {first next : ℕ → ℕ} {key : ℕ → Option K} → m ≡ n → c ≡ b → u ≡ t
+    → IsLinked hash (tag_by t) (b + t) nowhere (λ k. head_by n (hash k)) (place_named b) first next key
+    → IsLinked hash (tag_by u) (c + u) nowhere (λ k. head_by m (hash k)) (place_named c) first next key
+sized_stay hash {n} {m} {b} {c} {t} {u} {first} {next} {key} size bound tags l =
+    subst (λ i. IsLinked hash (tag_by u) (c + u) nowhere (λ k. head_by i (hash k)) (place_named c) first next key) (sym size)
+    (subst (λ i. IsLinked hash (tag_by u) (i + u) nowhere (λ k. head_by n (hash k)) (place_named i) first next key) (sym bound)
+    (subst (λ i. IsLinked hash (tag_by i) (b + i) nowhere (λ k. head_by n (hash k)) (place_named b) first next key) (sym tags) l))
 
 -- a link that is written
-pub link_set : (links : List ℕ) (p to q : ℕ) → p < length links → place_in (set links p to) q ≡ put (place_in links) p to q
-link_set links p to q within = elim (cases_eq p q) [
-  | inl e ↦ subst (λ k. place_in (set links p to) k ≡ to) e (get_or-set_same links p to nowhere within) ∙ sym (put-here (place_in links) p to q e)
-  | inr n ↦ get_or-set_other links p q to nowhere (λ e. n (sym e)) ∙ sym (put-other (place_in links) p to q n)
+pub link_set : (links : List ℕ) (p n q : ℕ) → p < length links → number_in (set links p n) q ≡ put (number_in links) p n q
+link_set links p n q within = elim (cases_eq p q) [
+  | inl e ↦ subst (λ k. number_in (set links p n) k ≡ n) e (get_or-set_same links p n 0 within) ∙ sym (put-here (number_in links) p n q e)
+  | inr d ↦ get_or-set_other links p q n 0 (λ e. d (sym e)) ∙ sym (put-other (number_in links) p n q d)
 ]
 
 -- a place that is in no chain may be linked
-pub chained_apart : {K : Type 0} (home : K → ℕ) {heads : ℕ → ℕ} (links : List ℕ) (p to : ℕ) (key : ℕ → Option K) → p < length links
-    → IsChained home heads (place_in links) (put key p None) → IsChained home heads (place_in (set links p to)) (put key p None)
-chained_apart home {heads} links p to key within c =
-    chained_same home c heads (place_in (set links p to)) (put key p None) (λ h. refl)
+pub linked_apart : {K : Type 0} {hash : K → ℕ} {tag : ℕ → ℕ} {low ahead : ℕ} {home : K → ℕ} {place first : ℕ → ℕ} (links : List ℕ) (p n : ℕ) (key : ℕ → Option K)
+    → p < length links → IsLinked hash tag low ahead home place first (number_in links) (put key p None)
+    → IsLinked hash tag low ahead home place first (number_in (set links p n)) (put key p None)
+linked_apart {K} {hash} {tag} {low} {ahead} {home} {place} {first} links p n key within l =
+    linked_same l first (number_in (set links p n)) (λ h. refl)
     (λ q k off is. elim (cases_eq p q) [
       | inl e ↦ let no : None ≡ Some k = sym (put-here key p None q e) ∙ is in cc
-      | inr n ↦ link_set links p to q within ∙ put-other (place_in links) p to q n
-    ]) (λ q off. refl)
+      | inr d ↦ link_set links p n q within ∙ put-other (number_in links) p n q d
+    ])
 
 -- new heads lead nowhere
-pub free-replicate : (n h : ℕ) (heads : List ℕ) → heads ≡ replicate n nowhere → place_in heads h ≡ nowhere
+pub free-replicate : (n h : ℕ) (heads : List ℕ) → heads ≡ replicate n 0 → number_in heads h ≡ 0
 free-replicate n h heads same =
     rw same (elim (cases_lt h n) [
-      | inl within ↦ get_or-replicate n h nowhere nowhere within
-      | inr past ↦ get_or_past (replicate n nowhere) h nowhere (omega (arith, length-replicate n nowhere))
+      | inl within ↦ get_or-replicate n h 0 0 within
+      | inr past ↦ get_or_past (replicate {A = ℕ} n 0) h 0 (omega (arith, length-replicate {A = ℕ} n 0))
     ])
 
 module _ {K V S A H : Type 0} (hash : S → K → ℕ) (x : Nodes K V S A H) where
   -- with no pair all chains are empty
-  pub indexed_none : x.list.entries ≡ [] → ((h : ℕ) → place_in x.heads.items h ≡ nowhere)
+  pub indexed_none : x.list.entries ≡ [] → ((h : ℕ) → number_in x.heads.items h ≡ 0)
       → length x.heads.links ≤ length x.heads.items → x.list.places ≤ length x.heads.links → x.list.places ≤ x.heads.bound → IsIndexed hash x
   indexed_none none free headed linked named = record {
-    chained = chained_none (home_at hash x) (place_in x.heads.items) (place_in x.heads.links) (key_at x.list.entries) free (λ q off. rw none refl);
+    chained = linked_none (number_in x.heads.items) (number_in x.heads.links) (key_at x.list.entries) free refl (λ q off. rw none refl);
     held = rw none (omega arith);
     headed = headed;
     linked = linked;

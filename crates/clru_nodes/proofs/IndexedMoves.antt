@@ -5,42 +5,37 @@ use Rattle.std.proofs.lemmas.Map.{length-set_value}
 use Rattle.std.specs.Option.{option_map}
 use Rattle.clru_list.specs.PlaceList.{item_at, without, with_at, with_entries, IsApart}
 use Rattle.clru_list.specs.Places.{put}
-use Rattle.clru_nodes.specs.Chained.{IsChained}
-use Rattle.clru_nodes.specs.Heads.{key_at, home_at, IsChainedAs}
+use Rattle.clru_nodes.specs.Chained.{IsLinked}
+use Rattle.clru_nodes.specs.Heads.{key_at, IsChainedAs}
 use Rattle.clru_nodes.specs.Nodes.{IsIndexed, IsSame}
 use Rattle.clru_nodes.specs.declared.nodes.Item.{Item}
 use Rattle.clru_nodes.specs.declared.nodes.Nodes.{Nodes}
 use Rattle.clru_list.proofs.Puts.{put-here, put-other}
-use Rattle.clru_nodes.proofs.Chaining.{chained_same}
+use Rattle.clru_nodes.proofs.Hints.{keys_stay}
 use Rattle.clru_nodes.proofs.Placed.{item_at-with_at, item_at-without, length-without_held}
 
--- all chains stay where the keys stand where they stood
-pub keys_stay : {K : Type 0} (home : K → ℕ) {heads link : ℕ → ℕ} (key key' : ℕ → Option K) → ((q : ℕ) → key' q ≡ key q)
-    → IsChained home heads link key → IsChained home heads link key'
-keys_stay home {heads} {link} key key' same c = chained_same home c heads link key' (λ h. refl) (λ q k off is. refl) (λ q off. same q)
-
-module _ {K V : Type 0} (home : K → ℕ) {heads link : ℕ → ℕ} where
-  -- and where they do but at one place, which is in no chain
+module _ {K V : Type 0} {hash : K → ℕ} {tag : ℕ → ℕ} {low ahead : ℕ} {home : K → ℕ} {place first next : ℕ → ℕ} where
+  -- all chains stay where the keys do but at one place, which is in no chain
   moved : (es fs : List (ℕ × Item K V)) (key key' : ℕ → Option K) (p : ℕ) → ((q : ℕ) → (p ≡ q → ⊥) → item_at q fs ≡ item_at q es)
       → key p ≡ None → ((q : ℕ) → (p ≡ q → ⊥) → key q ≡ key_at es q) → key' p ≡ None → ((q : ℕ) → (p ≡ q → ⊥) → key' q ≡ key_at fs q)
-      → IsChained home heads link key → IsChained home heads link key'
+      → IsLinked hash tag low ahead home place first next key → IsLinked hash tag low ahead home place first next key'
   moved es fs key key' p items out keys out' keys' =
-      keys_stay home key key' (λ q. elim (cases_eq p q) [
+      keys_stay key key' (λ q. elim (cases_eq p q) [
         | inl e ↦ ap key' (sym e) ∙ out' ∙ sym out ∙ ap key e
         | inr n ↦ keys' q n ∙ ap (λ (o : Option (Item K V)). option_map (λ (i : Item K V). i.key) o) (items q n) ∙ sym (keys q n)
       ])
 
   -- a new item is in no chain yet
-  pub chained_push : (p : ℕ) (i : Item K V) (es : List (ℕ × Item K V)) → item_at p es ≡ None → IsChained home heads link (key_at es)
-      → IsChained home heads link (put (key_at ((p, i) ∷ es)) p None)
+  pub chained_push : (p : ℕ) (i : Item K V) (es : List (ℕ × Item K V)) → item_at p es ≡ None → IsLinked hash tag low ahead home place first next (key_at es)
+      → IsLinked hash tag low ahead home place first next (put (key_at ((p, i) ∷ es)) p None)
   chained_push p i es fresh =
       let fs = (p, i) ∷ es in
       moved es fs (key_at es) (put (key_at fs) p None) p (λ q n. rw (ne_eqb q p (λ e. n (sym e))) refl) (rw fresh refl) (λ q n. refl)
       (put-here (key_at fs) p None p refl) (λ q n. put-other (key_at fs) p None q n)
 
   -- an item that is in no chain goes
-  pub chained_drop : (p : ℕ) (es : List (ℕ × Item K V)) → IsApart es → IsChained home heads link (put (key_at es) p None)
-      → IsChained home heads link (key_at (without p es))
+  pub chained_drop : (p : ℕ) (es : List (ℕ × Item K V)) → IsApart es → IsLinked hash tag low ahead home place first next (put (key_at es) p None)
+      → IsLinked hash tag low ahead home place first next (key_at (without p es))
   chained_drop p es apart =
       let fs = without p es in
       moved es fs (put (key_at es) p None) (key_at fs) p (λ q n. item_at-without p q es apart ∙ rw (ne_eqb p q n) refl)
@@ -48,8 +43,8 @@ module _ {K V : Type 0} (home : K → ℕ) {heads link : ℕ → ℕ} where
       (rw (item_at-without p p es apart, eq-eqb p p refl) refl) (λ q n. refl)
 
   -- an item that is in no chain is written, and comes first
-  pub chained_replace : (p : ℕ) (i : Item K V) (es : List (ℕ × Item K V)) → IsApart es → IsChained home heads link (put (key_at es) p None)
-      → IsChained home heads link (put (key_at ((p, i) ∷ without p es)) p None)
+  pub chained_replace : (p : ℕ) (i : Item K V) (es : List (ℕ × Item K V)) → IsApart es → IsLinked hash tag low ahead home place first next (put (key_at es) p None)
+      → IsLinked hash tag low ahead home place first next (put (key_at ((p, i) ∷ without p es)) p None)
   chained_replace p i es apart =
       let fs = (p, i) ∷ without p es in
       moved es fs (put (key_at es) p None) (put (key_at fs) p None) p
@@ -58,10 +53,10 @@ module _ {K V : Type 0} (home : K → ℕ) {heads link : ℕ → ℕ} where
       (put-here (key_at fs) p None p refl) (λ q n. put-other (key_at fs) p None q n)
 
   -- where each place holds what it held, all chains stay
-  pub chained_stays : (es fs : List (ℕ × Item K V)) → ((q : ℕ) → item_at q fs ≡ item_at q es) → IsChained home heads link (key_at es)
-      → IsChained home heads link (key_at fs)
+  pub chained_stays : (es fs : List (ℕ × Item K V)) → ((q : ℕ) → item_at q fs ≡ item_at q es) → IsLinked hash tag low ahead home place first next (key_at es)
+      → IsLinked hash tag low ahead home place first next (key_at fs)
   chained_stays es fs items =
-      keys_stay home (key_at es) (key_at fs) (λ q. ap (λ (o : Option (Item K V)). option_map (λ (i : Item K V). i.key) o) (items q))
+      keys_stay (key_at es) (key_at fs) (λ q. ap (λ (o : Option (Item K V)). option_map (λ (i : Item K V). i.key) o) (items q))
 
 -- an item that comes first leaves each place with what it held
 pub items_to_front : {T : Type 0} (p : ℕ) (i : T) (es : List (ℕ × T)) → IsApart es → item_at p es ≡ Some i
@@ -89,7 +84,7 @@ same_nodes = record {
   capacity = refl;
   places = refl;
   builder = refl;
-  heads = record { heads = refl; links = refl; bound = refl };
+  heads = record { heads = refl; links = refl; bound = refl; tags = refl };
 }
 
 module _ {K V S A H : Type 0} {hash : S → K → ℕ} {x : Nodes K V S A H} where
@@ -98,7 +93,7 @@ module _ {K V S A H : Type 0} {hash : S → K → ℕ} {x : Nodes K V S A H} whe
       → IsIndexed hash (record x { list = with_entries x.list ((p, i) ∷ without p x.list.entries) })
   indexed_front p i old apart held =
       indexed_from old same_nodes
-      (chained_stays (home_at hash x) x.list.entries ((p, i) ∷ without p x.list.entries) (items_to_front p i x.list.entries apart held) old.chained)
+      (chained_stays x.list.entries ((p, i) ∷ without p x.list.entries) (items_to_front p i x.list.entries apart held) old.chained)
       (omega (arith, length-without_held p x.list.entries i held))
 
   -- an item that gets another value keeps it
@@ -107,7 +102,7 @@ module _ {K V S A H : Type 0} {hash : S → K → ℕ} {x : Nodes K V S A H} whe
   indexed_written p i v old held =
       let es = x.list.entries in let w : Item K V = record { key = i.key; value = v } in
       indexed_from old same_nodes
-      (keys_stay (home_at hash x) (key_at es) _ (λ q. elim (cases_eq p q) [
+      (keys_stay (key_at es) _ (λ q. elim (cases_eq p q) [
         | inl e ↦ rw (item_at-with_at p q w es i held, eq-eqb p q e, ← e, held) refl
         | inr n ↦ rw (item_at-with_at p q w es i held, ne_eqb p q n) refl
       ]) old.chained)

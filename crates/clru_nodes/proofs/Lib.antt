@@ -3,9 +3,12 @@ pub mod Chaining
 pub mod Chains
 pub mod Cuts
 pub mod HeadLists
+pub mod Hints
 pub mod Indexed
 pub mod IndexedMoves
 pub mod Lending
+pub mod Linking
+pub mod Numbers
 pub mod AtIndex
 pub mod PlaceEnds
 pub mod Placed
@@ -13,6 +16,7 @@ pub mod PlacedPairs
 pub mod Relinking
 pub mod Same
 pub mod Sifting
+pub mod Steps
 pub mod Valid
 pub mod Values
 pub mod WrittenItems

@@ -1,15 +1,14 @@
 -- Chaining all keys anew: from the last place on, each comes first in the chain of its head.
-use Rattle.std.proofs.Common.{◌≡◌, ℕ, ◌+◌, ◌<◌, ◌≤◌, nat_le, cond, Option, Some, None, IsSome, List, refl, sym, ap, ◌∙◌, subst, arith, inl, inr}
+use Rattle.std.proofs.Common.{◌≡◌, ℕ, ◌+◌, ◌<◌, ◌≤◌, nat_le, cond, Option, Some, None, IsSome, List, refl, sym, ◌∙◌, subst, arith, inl, inr}
 use Rattle.std.proofs.lemmas.Bool.{cases_eq, cases_lt, le-leb, lt-leb}
 use Rattle.std.specs.Option.{option_map}
 use Rattle.clru_list.specs.PlaceList.{PlaceList, item_at, IsValid}
 use Rattle.clru_list.specs.Places.{nowhere}
-use Rattle.clru_nodes.specs.Chained.{steps_of, IsChained, IsRelinked}
+use Rattle.clru_nodes.specs.Chained.{IsLinked, IsRelinked}
 use Rattle.clru_nodes.specs.Heads.{key_at}
 use Rattle.clru_nodes.specs.declared.nodes.Item.{Item}
-use Rattle.clru_list.proofs.Puts.{put-here, put-other}
-use Rattle.clru_nodes.proofs.IndexedMoves.{keys_stay}
-use Rattle.clru_nodes.proofs.Chaining.{steps_off, chained_same, chained_insert}
+use Rattle.clru_nodes.proofs.Hints.{keys_stay}
+use Rattle.clru_nodes.proofs.Linking.{linked_first}
 
 module _ {K V : Type 0} where
   -- the keys from a place on
@@ -43,48 +42,30 @@ module _ {K V : Type 0} where
     ]
   ]
 
-module _ {K : Type 0} (home : K → ℕ) {heads link : ℕ → ℕ} {key : ℕ → Option K} (c : IsChained home heads link key) where
-  -- a place in no chain is written, and then put first into the chain of its key's head
-  pub chained_first : (h p : ℕ) (k : K) → (p ≡ nowhere → ⊥) → key p ≡ None → home k ≡ h → {heads₁ link₁ heads₂ link₂ : ℕ → ℕ}
-      → IsRelinked heads link h p (heads h) heads₁ link₁ → IsRelinked heads₁ link₁ h nowhere p heads₂ link₂ → (key' : ℕ → Option K)
-      → key' p ≡ Some k → ((q : ℕ) → (q ≡ p → ⊥) → key' q ≡ key q) → IsChained home heads₂ link₂ key'
-  chained_first h p k off fresh is {heads₁} {link₁} {heads₂} {link₂} one two key' new keys =
-      let start : heads₁ h ≡ heads h =
-      one.here nowhere ∙ put-other (steps_of heads link h) p (heads h) nowhere off in
-      let same : (g : ℕ) → heads₁ g ≡ heads g = λ g. elim (cases_eq g h) [
-        | inl e ↦ ap heads₁ e ∙ start ∙ ap heads (sym e)
-        | inr n ↦ one.others g n
-      ] in
-      let links : (q : ℕ) → (q ≡ nowhere → ⊥) → (p ≡ q → ⊥) → link₁ q ≡ link q = λ q away n.
-      sym (steps_off heads₁ link₁ h q away) ∙ one.here q ∙ put-other (steps_of heads link h) p (heads h) q n ∙ steps_off heads link h q away in
-      let c₁ : IsChained home heads₁ link₁ key = chained_same home c heads₁ link₁ key same
-      (λ q j away held. links q away (λ e. let no : None ≡ Some j = sym fresh ∙ ap key e ∙ held in cc)) (λ q away. refl) in
-      let onward : link₁ p ≡ steps_of heads₁ link₁ h nowhere =
-      sym (steps_off heads₁ link₁ h p off) ∙ one.here p ∙ put-here (steps_of heads link h) p (heads h) p refl ∙ sym start in
-      chained_insert home c₁ h (c₁.chain h) p heads₂ link₂ key' k off fresh onward two new is keys
-
-module _ {K V : Type 0} (home : K → ℕ) {heads link : ℕ → ℕ} (p : ℕ) (es : List (ℕ × Item K V))
-    (c : IsChained home heads link (key_from (p + 1) es)) where
+module _ {K V : Type 0} {hash : K → ℕ} {tag : ℕ → ℕ} {low : ℕ} {home : K → ℕ} {place first next : ℕ → ℕ} (p : ℕ) (es : List (ℕ × Item K V))
+    (l : IsLinked hash tag low nowhere home place first next (key_from (p + 1) es)) where
   -- a place without an item adds no key
-  pub chained_skip : item_at p es ≡ None → IsChained home heads link (key_from p es)
-  chained_skip none =
-      keys_stay home (key_from (p + 1) es) (key_from p es)
+  pub linked_skip : item_at p es ≡ None → IsLinked hash tag low nowhere home place first next (key_from p es)
+  linked_skip none =
+      keys_stay (key_from (p + 1) es) (key_from p es)
       (λ q. elim (cases_eq q p) [
         | inl e ↦
             let here : key_from p es p ≡ key_from (p + 1) es p =
             key_from-within p p es (omega arith) ∙ rw none refl ∙ sym (key_from-past (p + 1) p es (omega arith)) in
             subst (λ x. key_from p es x ≡ key_from (p + 1) es x) (sym e) here
         | inr n ↦ key_from-next p q es n
-      ]) c
+      ]) l
 
   -- an item's place is linked
-  pub chained_more : (h : ℕ) (i : Item K V) → (p ≡ nowhere → ⊥) → item_at p es ≡ Some i → home i.key ≡ h → {heads₁ link₁ heads₂ link₂ : ℕ → ℕ}
-      → IsRelinked heads link h p (heads h) heads₁ link₁ → IsRelinked heads₁ link₁ h nowhere p heads₂ link₂ → IsChained home heads₂ link₂ (key_from p es)
-  chained_more h i off held is one two =
-      chained_first home c h p i.key off (key_from-past (p + 1) p es (omega arith)) is one two (key_from p es)
-      (key_from-within p p es (omega arith) ∙ rw held refl) (λ q n. key_from-next p q es n)
+  pub linked_more : (h n : ℕ) (i : Item K V) → (p ≡ nowhere → ⊥) → item_at p es ≡ Some i → home i.key ≡ h → place n ≡ p → tag n ≡ tag (hash i.key)
+      → (n ≤ low → place (first h) ≡ nowhere) → (low < n → place (first h) ≡ nowhere → ⊥) → {first₁ next₁ first₂ next₂ : ℕ → ℕ}
+      → IsRelinked first next h p (first h) first₁ next₁ → IsRelinked first₁ next₁ h nowhere n first₂ next₂
+      → IsLinked hash tag low nowhere home place first₂ next₂ (key_from p es)
+  linked_more h n i off held is named tagged last led one two =
+      linked_first l h p n i.key off (key_from-past (p + 1) p es (omega arith)) is named tagged last led one two (key_from p es)
+      (key_from-within p p es (omega arith) ∙ rw held refl) (λ q d. key_from-next p q es d)
 
 -- from place 0 on these are all keys
-pub chained_whole : {K V : Type 0} (home : K → ℕ) {heads link : ℕ → ℕ} (es : List (ℕ × Item K V)) → IsChained home heads link (key_from 0 es)
-    → IsChained home heads link (key_at es)
-chained_whole home es c = keys_stay home (key_from 0 es) (key_at es) (λ q. sym (key_from-within 0 q es (omega arith))) c
+pub linked_whole : {K V : Type 0} {hash : K → ℕ} {tag : ℕ → ℕ} {low : ℕ} {home : K → ℕ} {place first next : ℕ → ℕ} (es : List (ℕ × Item K V))
+    → IsLinked hash tag low nowhere home place first next (key_from 0 es) → IsLinked hash tag low nowhere home place first next (key_at es)
+linked_whole es l = keys_stay (key_from 0 es) (key_at es) (λ q. sym (key_from-within 0 q es (omega arith))) l

@@ -8,10 +8,10 @@ use Rattle.clru_nodes.specs.declared.nodes.Item.{Item}
 use Rattle.clru_nodes.specs.declared.nodes.Nodes.{Nodes}
 
 size_refl : {h : HeadList} → IsSameSize h h
-size_refl = record { heads = refl; links = refl; bound = refl }
+size_refl = record { heads = refl; links = refl; bound = refl; tags = refl }
 
 pub size_trans : {h i j : HeadList} → IsSameSize h i → IsSameSize i j → IsSameSize h j
-size_trans a b = record { heads = b.heads ∙ a.heads; links = b.links ∙ a.links; bound = b.bound ∙ a.bound }
+size_trans a b = record { heads = b.heads ∙ a.heads; links = b.links ∙ a.links; bound = b.bound ∙ a.bound; tags = b.tags ∙ a.tags }
 
 pub same_refl : {K V S A H : Type 0} {x : Nodes K V S A H} → IsSame x x
 same_refl = record { capacity = refl; places = refl; builder = refl; heads = size_refl }

@@ -5,11 +5,12 @@ use Rattle.std.specs.Option.{option_map}
 use Rattle.clru_model.specs.Entries.{with_value_at, with_front}
 use Rattle.clru_model.proofs.Cases.{split}
 use Rattle.clru_list.specs.PlaceList.{item_at, with_entries, first_entry, last_entry, with_first, with_last}
-use Rattle.clru_nodes.specs.Heads.{with_value, key_at, home_at}
+use Rattle.clru_nodes.specs.Heads.{with_value, key_at}
 use Rattle.clru_nodes.specs.Nodes.{item_with, pair_of, pairs_of, IsIndexed}
 use Rattle.clru_nodes.specs.declared.nodes.Item.{Item}
 use Rattle.clru_nodes.specs.declared.nodes.Nodes.{Nodes}
-use Rattle.clru_nodes.proofs.IndexedMoves.{indexed_from, keys_stay, same_nodes}
+use Rattle.clru_nodes.proofs.Hints.{keys_stay}
+use Rattle.clru_nodes.proofs.IndexedMoves.{indexed_from, same_nodes}
 
 module _ {K V : Type 0} where
   -- all of the items but the values
@@ -77,6 +78,6 @@ module _ {K V S A H : Type 0} {hash : S → K → ℕ} {x : Nodes K V S A H} whe
   indexed_frame old {es} same =
       let before = x.list.entries in
       indexed_from old same_nodes
-      (keys_stay (home_at hash x) (key_at before) (key_at es)
+      (keys_stay (key_at before) (key_at es)
       (λ q. key_at-frame q es ∙ ap (λ l. item_at q l) same ∙ sym (key_at-frame q before)) old.chained)
       (omega (arith, length-frame es, length-frame before, ap length same))

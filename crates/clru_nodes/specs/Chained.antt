@@ -15,6 +15,11 @@ pub record IsCut (f : ℕ → ℕ) (met : ℕ → ℕ) (at : ℕ) : Type 0 where
   pub ahead : IsRest f (f at) rest
   pub once : (q : ℕ) → count q (nowhere ∷ before) + count q rest ≡ met q
 
+-- the same, with a place that the walk passed, or its start, before it came to this one
+pub record IsCutBehind (f : ℕ → ℕ) (met : ℕ → ℕ) (behind at : ℕ) : Type 0 where
+  pub cut : IsCut f met at
+  pub passed : 0 < count behind (nowhere ∷ cut.before)
+
 -- the steps of the chain of a head: from the start to its first place, and along the links
 abbrev pub steps_of : (heads link : ℕ → ℕ) → ℕ → ℕ → ℕ
 steps_of heads link h = put link nowhere (heads h)
@@ -32,6 +37,21 @@ module _ {K : Type 0} (home : K → ℕ) where
   -- the chain of each head meets each place whose key has that head once, and no other place
   pub record IsChained (heads link : ℕ → ℕ) (key : ℕ → Option K) : Type 0 where
     pub chain : (h : ℕ) → IsCut (steps_of heads link h) (of_head h key) nowhere
+
+-- what a number tells of the place that it names, from which `link` leads on: numbers above `low` name places that are linked,
+-- but for one, `ahead`, that is about to be, and others the last place of a chain; and the number has the tag of the key's hash
+module _ {K : Type 0} (hash : K → ℕ) (tag : ℕ → ℕ) (low ahead : ℕ) where
+  pub record IsHint (link : ℕ → ℕ) (key : ℕ → Option K) (n p : ℕ) : Type 0 where
+    pub leads : low < n → p ≡ nowhere → ⊥
+    pub on : low < n → link p ≡ nowhere → p ≡ ahead
+    pub tagged : (k : K) → (p ≡ nowhere → ⊥) → key p ≡ Some k → tag n ≡ tag (hash k)
+    pub ends : (k : K) → (p ≡ nowhere → ⊥) → key p ≡ Some k → n ≤ low → link p ≡ nowhere
+
+  -- the places that the numbers of heads and links name are chains, and each number in a chain tells what is true of its place
+  pub record IsLinked (home : K → ℕ) (place first next : ℕ → ℕ) (key : ℕ → Option K) : Type 0 where
+    pub chains : IsChained home (λ h. place (first h)) (λ q. place (next q)) key
+    pub hints : (h q : ℕ) → 0 < of_head home h key q
+        → IsHint (λ p. place (next p)) key (steps_of first next h q) (steps_of (λ g. place (first g)) (λ p. place (next p)) h q)
 
 -- one step of the chain of h is written: that at `at` now leads to `to`
 pub record IsRelinked (heads link : ℕ → ℕ) (h at to : ℕ) (heads' link' : ℕ → ℕ) : Type 0 where

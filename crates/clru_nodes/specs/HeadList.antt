@@ -1,26 +1,43 @@
 -- Private: what heads are seen as. No public clause cites it.
-use Rattle.std.specs.Prelude.{ℕ, ◌+◌, ◌-◌, ◌≤◌, ◌==◌, if◌then◌else◌, List, map, length, take, drop, refl}
+use Rattle.std.specs.Prelude.{◌≡◌, ℕ, ◌+◌, ◌-◌, ◌*◌, ◌^◌, ◌<◌, ◌≤◌, ◌==◌, if◌then◌else◌, List, length, take, drop, bit_and, refl}
 use Rattle.std.specs.Coded.{Coded, code_by, coded×, coded_list, coded_ℕ}
 use Rattle.clru_list.specs.Places.{nowhere, narrow}
 use Rattle.clru_nodes.specs.declared.heads.words.Words.{Words}
 use Rattle.clru_nodes.specs.declared.heads.words.Words.TheVariants.{Narrow, Wide}
 
--- the place that each head leads to, the place that each place is linked to, and the bound of the places that can be named
+-- the number of each head, the number of the link of each place, the bound of the places that can be named, and the bits of a
+-- number that are those of a hash
 pub record HeadList : Type 0 where
   pub items : List ℕ
   pub links : List ℕ
   pub bound : ℕ
+  pub tags : ℕ
 
-abbrev pub head_list : List ℕ → List ℕ → ℕ → HeadList
-head_list items links bound = record { items = items; links = links; bound = bound }
+abbrev pub head_list : List ℕ → List ℕ → ℕ → ℕ → HeadList
+head_list items links bound tags = record { items = items; links = links; bound = bound; tags = tags }
 
 abbrev pub head_list_code : Coded HeadList
-head_list_code = code_by (List ℕ × (List ℕ × ℕ)) (coded× (coded_list coded_ℕ) (coded× (coded_list coded_ℕ) coded_ℕ))
-    (λ h. (h.items, (h.links, h.bound))) (λ p. head_list p.0 p.1.0 p.1.1) (λ _. refl)
+head_list_code = code_by (List ℕ × (List ℕ × (ℕ × ℕ))) (coded× (coded_list coded_ℕ) (coded× (coded_list coded_ℕ) (coded× coded_ℕ coded_ℕ)))
+    (λ h. (h.items, (h.links, (h.bound, h.tags)))) (λ p. head_list p.0 p.1.0 p.1.1.0 p.1.1.1) (λ _. refl)
 
--- a number is one more than its place, and 0 leads nowhere
+-- the place that is one less, and 0 leads nowhere
 abbrev pub place_numbered : ℕ → ℕ
 place_numbered n = if n == 0 then nowhere else n - 1
+
+-- the place that a number names: the bits of the mask are one more than it
+abbrev pub place_named : ℕ → ℕ → ℕ
+place_named mask n = place_numbered (bit_and n mask)
+
+-- the bits of a number, or of a hash, that tell keys apart
+abbrev pub tag_by : ℕ → ℕ → ℕ
+tag_by tags n = bit_and n tags
+
+-- the mask has the lowest bits, the tags have those above it, and one bit is left above them
+pub record IsShaped (mask tags : ℕ) : Type 0 where
+  pub low : ℕ
+  pub high : ℕ
+  pub masked : mask + 1 ≡ 2 ^ low
+  pub tagged : mask + tags + 1 ≡ 2 ^ (high + low)
 
 module _ {A : Type 0} where
   abbrev pub numbers_in : Words A → List ℕ
@@ -31,12 +48,14 @@ module _ {A : Type 0} where
   bound_of (Narrow words) = narrow
   bound_of (Wide words) = nowhere
 
-  -- the first `size` numbers are those of heads, and the others those of links
-  abbrev pub list_of : Words A → ℕ → HeadList
-  list_of words size =
-      head_list (map place_numbered (take size (numbers_in words))) (map place_numbered (drop size (numbers_in words))) (bound_of words)
+  -- the first numbers, as many as the mask and one, are those of heads, and the others those of links
+  abbrev pub list_of : Words A → ℕ → ℕ → HeadList
+  list_of words mask tags = head_list (take (mask + 1) (numbers_in words)) (drop (mask + 1) (numbers_in words)) mask tags
 
-  -- there are so many heads, and each place with a link can be named
-  pub record IsWorded (words : Words A) (size : ℕ) : Type 0 where
-    pub sized : size ≤ length (numbers_in words)
-    pub named : length (numbers_in words) ≤ size + bound_of words
+  -- there are so many heads, or none, each place with a link can be named, and a number has its tag and one bit more
+  pub record IsWorded (words : Words A) (mask tags : ℕ) : Type 0 where
+    pub sized : 0 < length (numbers_in words) → mask < length (numbers_in words)
+    pub named : length (numbers_in words) ≤ mask + 1 + mask
+    pub shaped : IsShaped mask tags
+    pub fits : (mask + tags + 1) * 2 ≡ bound_of words + 1
+    pub countable : mask + tags < 2 ^ 63

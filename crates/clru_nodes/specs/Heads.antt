@@ -1,10 +1,10 @@
 -- Private: how the heads, the links and the places of nodes go together. No public clause cites it.
-use Rattle.std.specs.Prelude.{◌≡◌, ◌⊎◌, ℕ, zero, suc, ◌-◌, ◌<◌, Bool, true, if◌then◌else◌, Option, Some, None, List, [], ◌∷◌, map, length, slice_index_or, bit_and}
+use Rattle.std.specs.Prelude.{◌≡◌, ℕ, zero, suc, ◌+◌, ◌-◌, ◌<◌, ◌≤◌, Bool, true, if◌then◌else◌, Option, Some, None, List, [], ◌∷◌, map, length, slice_index_or, bit_and}
 use Rattle.std.specs.Option.{option_map}
 use Rattle.clru_list.specs.PlaceList.{item_at}
 use Rattle.clru_list.specs.Places.{nowhere, put}
-use Rattle.clru_nodes.specs.Chained.{steps_of, IsChained}
-use Rattle.clru_nodes.specs.HeadList.{HeadList}
+use Rattle.clru_nodes.specs.Chained.{steps_of, IsLinked, IsRelinked}
+use Rattle.clru_nodes.specs.HeadList.{HeadList, place_named, tag_by}
 use Rattle.clru_nodes.specs.declared.nodes.Item.{Item}
 use Rattle.clru_nodes.specs.declared.nodes.Nodes.{Nodes}
 
@@ -47,36 +47,67 @@ with_item_at k x [] = []
 with_item_at zero x (e ∷ es) = (e.0, x) ∷ es
 with_item_at (suc k) x (e ∷ es) = e ∷ with_item_at k x es
 
--- what stands in a list of places: a head's first one, or the one that a place is linked to
-abbrev pub place_in : List ℕ → ℕ → ℕ
-place_in places k = slice_index_or places k nowhere
+-- the number of a head, or of the link of a place
+abbrev pub number_in : List ℕ → ℕ → ℕ
+number_in numbers k = slice_index_or numbers k 0
+
+-- the place that it names: a head's first one, or the one that a place is linked to
+abbrev pub place_in : ℕ → List ℕ → ℕ → ℕ
+place_in bound numbers k = place_named bound (number_in numbers k)
 
 -- the steps along the chain of a head
 abbrev pub steps_in : HeadList → ℕ → ℕ → ℕ
-steps_in x h = steps_of (place_in x.items) (place_in x.links) h
+steps_in x h = steps_of (place_in x.bound x.items) (place_in x.bound x.links) h
+
+-- the numbers along it
+abbrev pub numbers_along : HeadList → ℕ → ℕ → ℕ
+numbers_along x h = steps_of (number_in x.items) (number_in x.links) h
+
+-- a greater number says that the place that it names is linked on
+abbrev pub low_of : HeadList → ℕ
+low_of x = x.bound + x.tags
 
 -- the place has a link
 abbrev pub HasLink : HeadList → ℕ → Type 0
 HasLink x q = q < length x.links
 
--- a place that can be written, or none
-abbrev pub IsNamed : HeadList → ℕ → Type 0
-IsNamed x q = (q ≡ nowhere) ⊎ (q < x.bound)
+-- a number that can be written
+abbrev pub IsNumber : HeadList → ℕ → Type 0
+IsNumber x n = n ≤ low_of x + low_of x + 1
+
+-- a number for a place, whose key has the hash, and which is not linked on
+pub record IsNumberOf (x : HeadList) (p hash n : ℕ) : Type 0 where
+  pub place : place_named x.bound n ≡ p
+  pub tag : tag_by x.tags n ≡ tag_by x.tags hash
+  pub ends : n ≤ low_of x
+
+-- one number of a chain is written anew: it names the same place, and has the same tag
+pub record IsRewritten (old new : HeadList) (h at : ℕ) : Type 0 where
+  pub number : ℕ
+  pub written : IsRelinked (number_in old.items) (number_in old.links) h at number (number_in new.items) (number_in new.links)
+  pub place : place_named old.bound number ≡ steps_in old h at
+  pub tag : tag_by old.tags number ≡ tag_by old.tags (numbers_along old h at)
 
 -- as many heads and links, which can name as many places
 pub record IsSameSize (old new : HeadList) : Type 0 where
   pub heads : length new.items ≡ length old.items
   pub links : length new.links ≡ length old.links
   pub bound : new.bound ≡ old.bound
+  pub tags : new.tags ≡ old.tags
+
+-- the keys by their places stand in the chains of their heads, and nothing else does
+abbrev pub IsChainedIn : {K : Type 0} → (K → ℕ) → HeadList → (ℕ → Option K) → Type 0
+IsChainedIn hash x key = IsLinked hash (tag_by x.tags) (low_of x) nowhere (λ k. head_by (length x.items) (hash k)) (place_named x.bound)
+    (number_in x.items) (number_in x.links) key
 
 module _ {K V S A H : Type 0} where
   -- the head of a key
   abbrev pub home_at : (S → K → ℕ) → Nodes K V S A H → K → ℕ
   home_at hash x k = head_by (length x.heads.items) (hash x.hash_builder k)
 
-  -- the keys by their places stand in the chains of their heads, and nothing else does
+  -- the same of nodes
   abbrev pub IsChainedAs : (S → K → ℕ) → (ℕ → Option K) → Nodes K V S A H → Type 0
-  IsChainedAs hash key x = IsChained (home_at hash x) (place_in x.heads.items) (place_in x.heads.links) key
+  IsChainedAs hash key x = IsChainedIn (hash x.hash_builder) x.heads key
 
   -- each key stands in the chain of its head, but for the one at the place `out`
   abbrev pub IsChainedBut : (S → K → ℕ) → ℕ → Nodes K V S A H → Type 0
@@ -89,6 +120,13 @@ module _ {K V S A H : Type 0} where
     pub home : home_at hash x item.key ≡ h
     pub off : p ≡ nowhere → ⊥
     pub within : h < length x.heads.items
+
+  -- what a place holds, whose key has the hash n
+  pub record HasHash (hash : S → K → ℕ) (n p : ℕ) (x : Nodes K V S A H) : Type 0 where
+    pub item : Item K V
+    pub held : item_at p x.list.entries ≡ Some item
+    pub hashed : hash x.hash_builder item.key ≡ n
+    pub off : p ≡ nowhere → ⊥
 
   -- all but heads and links is as it was
   pub record KeepsPlaces (old new : Nodes K V S A H) : Type 0 where

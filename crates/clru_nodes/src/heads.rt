@@ -1,10 +1,14 @@
 //! `Heads`: which place each head leads to, and which place each place is linked to in its chain. A place takes 4 bytes there,
 //! or 8 where the places may be more than those name, or more than a limit that the maker set.
-ghost use Rattle.std.specs.Prelude.{◌≡◌, ℕ, ◌+◌, ◌*◌, ◌^◌, ◌<◌, ◌≤◌, [], Some, length, replicate, set, IfOk, IfSome, IfNone, IsOk};
-ghost use Rattle.std.specs.Int.{IsNextPowerOfTwo};
-ghost use Rattle.clru_list.specs.Places.{nowhere, narrow};
-ghost use Rattle.clru_nodes.specs.HeadList.{head_list, place_numbered};
-ghost use Rattle.clru_nodes.specs.Heads.{place_in, head_by, HasLink, IsNamed};
+//!
+//! A number there is 0 for no place. Else its lowest bits, those of the mask that picks a head, are the place and 1; those above
+//! are the same bits of the hash of the key at that place, its tag; and the highest one says that the place is linked on. So a
+//! look-up passes the places of other keys by their tags, and sees where a chain ends, without going there.
+ghost use Rattle.std.specs.Prelude.{◌≡◌, ℕ, ◌+◌, ◌*◌, ◌^◌, ◌<◌, ◌≤◌, ◌==◌, [], Some, false, true, length, replicate, set, IfOk, IfSome, IfNone, IsOk};
+ghost use Rattle.std.specs.Int.{IsNextPowerOfTwo, IsPowerOfTwo};
+ghost use Rattle.clru_list.specs.Places.{nowhere};
+ghost use Rattle.clru_nodes.specs.HeadList.{head_list, place_named, place_numbered, tag_by};
+ghost use Rattle.clru_nodes.specs.Heads.{number_in, head_by, low_of, HasLink, IsNumber, IsNumberOf};
 
 use crate::heads::words::Words;
 use clru_list::NoMemory;
@@ -20,14 +24,21 @@ pub(crate) const NOWHERE: usize = usize::MAX;
 /// The places that 4 bytes can name are those below.
 pub(crate) const NARROW: usize = 4294967295;
 
-/// A clause sees heads as the places that they lead to, the places that places are linked to, and the bound of the places that
-/// can be named.
+// The highest bits of 4 bytes and of 8.
+const NARROW_MORE: usize = 2147483648;
+
+const WIDE_MORE: usize = 9223372036854775808;
+
+/// A clause sees heads as the numbers of the heads and of the links, the bound of the places that can be named, and the bits of a
+/// number that are those of a hash.
 #[derive(Drop)]
 pub(crate) struct Heads<A: Allocator + Copy> {
     // The heads, and behind them the links by their places, since one request for memory finds both.
     words: Words<A>,
-    // How many heads there are.
-    size: usize,
+    // How many heads there are, less one. They are a power of two, so it is a mask.
+    mask: usize,
+    // The bits of a tag: those between the mask and the highest one.
+    tags: usize,
     // Heads for more places have 8 bytes for each. A test sets it low, to reach that form.
     limit: usize,
 }
@@ -39,26 +50,29 @@ impl<A: Allocator + Copy> Model for Heads<A> {
 
     ghost coded = { head_list_code };
 
-    ghost view = { λ h. list_of h.words h.size };
+    ghost view = { λ h. list_of h.words h.mask h.tags };
 
-    ghost invariant = { λ h. IsWorded h.words h.size };
+    ghost invariant = { λ h. IsWorded h.words h.mask h.tags };
 }
 
 impl<A: Allocator + Copy> Heads<A> {
     /// No heads. They take no memory.
     pub(crate) fn new(alloc: A, limit: usize) -> Self
-        ensures { result ≡ head_list [] [] narrow }
+        ensures none { length result.items ≡ 0 }
+        ensures unlinked { length result.links ≡ 0 }
+        ensures free { (h : ℕ) → number_in result.items h ≡ 0 }
     {
         Heads {
             words: Words::Narrow(Vec::new(alloc)),
-            size: 0,
+            mask: 0,
+            tags: NARROW_MORE - 1,
             limit,
         }
     }
 
     /// Heads of empty chains, with links for so many places, and which can name these. Without places they take no memory.
     pub(crate) fn empty(alloc: A, places: usize, limit: usize) -> Result<Self, NoMemory>
-        ensures free { IfOk result (λ x. (h : ℕ) → place_in x.items h ≡ nowhere) }
+        ensures free { IfOk result (λ x. (h : ℕ) → number_in x.items h ≡ 0) }
         ensures linked { IfOk result (λ x. places ≤ length x.links) }
         ensures headed { IfOk result (λ x. length x.links ≤ length x.items) }
         ensures named { IfOk result (λ x. length x.links ≤ x.bound) }
@@ -70,18 +84,22 @@ impl<A: Allocator + Copy> Heads<A> {
         let Some(size) = heads_for(places) else {
             return Err(NoMemory);
         };
-        let links = size / 2;
-        let Some(len) = size.checked_add(links) else {
+        let Some(len) = size.checked_add(size / 2) else {
             return Err(NoMemory);
         };
-        let is_narrow = places <= limit && links <= NARROW;
+        let is_narrow = fits_narrow(places, size, limit);
         let words = Words::zeros(alloc, len, is_narrow)?;
-        Ok(Heads { words, size, limit })
+        Ok(Heads {
+            words,
+            mask: size - 1,
+            tags: tags_above(size, is_narrow),
+            limit,
+        })
     }
 
     /// Empty heads for so many places, from the allocator of these and with their limit.
     pub(crate) fn another(&self, places: usize) -> Result<Self, NoMemory>
-        ensures free { IfOk result (λ x. (h : ℕ) → place_in x.items h ≡ nowhere) }
+        ensures free { IfOk result (λ x. (h : ℕ) → number_in x.items h ≡ 0) }
         ensures linked { IfOk result (λ x. places ≤ length x.links) }
         ensures headed { IfOk result (λ x. length x.links ≤ length x.items) }
         ensures named { IfOk result (λ x. length x.links ≤ x.bound) }
@@ -94,7 +112,7 @@ impl<A: Allocator + Copy> Heads<A> {
         ensures count { result ≡ length self.now.links }
         ensures named { length self.now.links ≤ self.now.bound }
     {
-        self.words.len() - self.size
+        self.words.len().saturating_sub(self.mask).saturating_sub(1)
     }
 
     /// The head of the keys with the hash.
@@ -103,50 +121,107 @@ impl<A: Allocator + Copy> Heads<A> {
         ensures head { result ≡ head_by (length self.now.items) hash }
         ensures within { result < length self.now.items }
     {
-        hash as usize & (self.size - 1)
+        hash as usize & self.mask
     }
 
-    /// The place that a head leads to.
+    /// The number of a head.
     pub(crate) fn first(&self, head: usize) -> usize
         requires { head < length self.now.items }
-        ensures place { result ≡ place_in self.now.items head }
-        ensures named { IsNamed self.now result }
+        ensures number { result ≡ number_in self.now.items head }
+        ensures fits { IsNumber self.now result }
         ensures countable { length self.now.links < nowhere }
     {
-        place_numbered(self.words.get(head))
+        self.words.get(head)
     }
 
-    /// The place that a place is linked to.
+    /// The number of the link of a place.
     pub(crate) fn next(&self, place: usize) -> usize
         requires { HasLink self.now place }
-        ensures place { result ≡ place_in self.now.links place }
-        ensures named { IsNamed self.now result }
+        ensures number { result ≡ number_in self.now.links place }
+        ensures fits { IsNumber self.now result }
     {
-        place_numbered(self.words.get(self.size + place))
+        self.words.get(self.mask + 1 + place)
     }
 
-    /// Has a head lead to a place, or nowhere.
-    pub(crate) fn set_first(&mut self, head: usize, to: usize)
+    /// The place that a number names.
+    pub(crate) fn place(&self, number: usize) -> usize
+        ensures { result ≡ place_named self.now.bound number }
+    {
+        place_numbered(number & self.mask)
+    }
+
+    /// Answers whether a number has another tag than a hash.
+    pub(crate) fn has_other_tag(&self, number: usize, hash: u64) -> bool
+        ensures other { result ≡ true → tag_by self.now.tags number ≡ tag_by self.now.tags hash → ⊥ }
+        ensures same { result ≡ false → tag_by self.now.tags number ≡ tag_by self.now.tags hash }
+    {
+        number & self.tags != hash as usize & self.tags
+    }
+
+    /// Answers whether the place that a number names is not linked on, or the number names none.
+    pub(crate) fn is_last(&self, number: usize) -> bool
+        ensures last { result ≡ true → number ≤ low_of self.now }
+        ensures more { result ≡ false → low_of self.now < number }
+    {
+        number <= self.mask + self.tags
+    }
+
+    /// The number of a place, whose key has the hash, and which is the last one of its chain.
+    pub(crate) fn number_of(&self, place: usize, hash: u64) -> usize
+        requires { place < self.now.bound }
+        ensures { IsNumberOf self.now place hash result }
+    {
+        let tag = hash as usize & self.tags;
+        (place + 1) | tag
+    }
+
+    /// Answers whether a number names a place.
+    pub(crate) fn is_named(&self, number: usize) -> bool
+        ensures some { result ≡ true → place_named self.now.bound number ≡ nowhere → ⊥ }
+        ensures none { result ≡ false → place_named self.now.bound number ≡ nowhere }
+    {
+        number & self.mask != 0
+    }
+
+    /// The number with the note that its place is linked on, or that it is not.
+    pub(crate) fn noted(&self, number: usize, leads: bool) -> usize
+        requires fits { IsNumber self.now number }
+        ensures place { place_named self.now.bound result ≡ place_named self.now.bound number }
+        ensures tag { tag_by self.now.tags result ≡ tag_by self.now.tags number }
+        ensures leads { leads ≡ true → low_of self.now < result }
+        ensures ends { leads ≡ false → result ≤ low_of self.now }
+        ensures fits { IsNumber self.now result }
+    {
+        let low = self.mask + self.tags;
+        if leads {
+            number | (low + 1)
+        } else {
+            number & low
+        }
+    }
+
+    /// Writes the number of a head.
+    pub(crate) fn set_first(&mut self, head: usize, number: usize)
         requires head { head < length self.old.items }
-        requires named { IsNamed self.old to }
-        ensures { self.new ≡ head_list (set self.old.items head to) self.old.links self.old.bound }
+        requires fits { IsNumber self.old number }
+        ensures { self.new ≡ head_list (set self.old.items head number) self.old.links self.old.bound self.old.tags }
     {
-        self.words.set(head, number_of(to));
+        self.words.set(head, number);
     }
 
-    /// Links a place to a place, or to none.
-    pub(crate) fn set_next(&mut self, place: usize, to: usize)
+    /// Writes the number of the link of a place.
+    pub(crate) fn set_next(&mut self, place: usize, number: usize)
         requires place { HasLink self.old place }
-        requires named { IsNamed self.old to }
-        ensures { self.new ≡ head_list self.old.items (set self.old.links place to) self.old.bound }
+        requires fits { IsNumber self.old number }
+        ensures { self.new ≡ head_list self.old.items (set self.old.links place number) self.old.bound self.old.tags }
     {
-        self.words.set(self.size + place, number_of(to));
+        self.words.set(self.mask + 1 + place, number);
     }
 
     /// Has all heads lead nowhere, and no place be linked.
     pub(crate) fn clear(&mut self)
-        ensures { self.new ≡ head_list (replicate (length self.old.items) nowhere)
-            (replicate (length self.old.links) nowhere) self.old.bound }
+        ensures { self.new ≡ head_list (replicate (length self.old.items) 0) (replicate (length self.old.links) 0)
+            self.old.bound self.old.tags }
     {
         self.words.clear();
     }
@@ -169,10 +244,23 @@ fn place_numbered(number: usize) -> usize
     number.wrapping_sub(1)
 }
 
-fn number_of(place: usize) -> usize
-    ensures place { place_numbered result ≡ place }
-    ensures small { (place ≡ nowhere → ⊥) → result ≡ place + 1 }
-    ensures none { place ≡ nowhere → result ≡ 0 }
+/// Answers whether so many heads, for so many places, have 4 bytes each.
+fn fits_narrow(places: usize, size: usize, limit: usize) -> bool
+    ensures { result ≡ true → size ≤ 2 ^ 31 }
 {
-    place.wrapping_add(1)
+    places <= limit && size <= NARROW_MORE
+}
+
+/// The bits of a number above those of its place, but for the highest one.
+fn tags_above(size: usize, is_narrow: bool) -> usize
+    requires power { IsPowerOfTwo size }
+    requires narrow { is_narrow ≡ true → size ≤ 2 ^ 31 }
+    ensures narrow { is_narrow ≡ true → result + size ≡ 2 ^ 31 }
+    ensures wide { is_narrow ≡ false → result + size ≡ 2 ^ 63 }
+{
+    if is_narrow {
+        NARROW_MORE - size
+    } else {
+        WIDE_MORE - size
+    }
 }

@@ -2,11 +2,13 @@
 //!
 //! Each key has a head, which its hash picks, and the places of the keys of one head are linked to a chain. Clauses of
 //! private steps name places, heads and links; those of public calls speak of the pairs alone.
-ghost use Rattle.std.specs.Prelude.{◌≡◌, ◌<◌, ◌≤◌, ◌^◌, min, length, None, IfOk, IfErr, IsOk, OnOk, IfSome, IfNone, option_copied};
+ghost use Rattle.std.specs.Prelude.{◌≡◌, ◌<◌, ◌≤◌, ◌^◌, true, false, min, length, None, Some, IfOk, IfErr, IsOk, OnOk, IfSome, IfNone, option_copied};
 ghost use Rattle.std.specs.List.{IsDistinct};
 ghost use Rattle.std.specs.Map.{keys_of, lookup, lookup_entry};
 ghost use Rattle.clru_list.specs.PlaceList.{IsValid};
-ghost use Rattle.clru_nodes.specs.Heads.{IsAt};
+ghost use Rattle.clru_list.specs.Places.{nowhere};
+ghost use Rattle.clru_nodes.specs.HeadList.{place_named, tag_by};
+ghost use Rattle.clru_nodes.specs.Heads.{key_at, IsAt, IsLive};
 ghost use Rattle.clru_nodes.specs.Nodes.{hash_of, pairs_of, pairs_in, capacity_of, places_of, builder_of, IsIndexed, IsEmpty};
 
 use crate::heads::{Heads, NARROW, NOWHERE};
@@ -62,7 +64,7 @@ impl<K: Eq + Hash, V, S: BuildHasher, A: Allocator + Copy> Nodes<K, V, S, A> {
     }
 
     /// Creates nodes whose list and index take 8 bytes for each place where they have more than `limit` places, and 4 else. With
-    /// `new` that is so past 2^31 places, where no test comes. A limit past 2^32 - 1 changes nothing.
+    /// `new` that is so of the index past 2^30 places, where no test comes. A limit past 2^32 - 1 changes nothing.
     pub fn with_narrow_places(alloc: A, capacity: usize, hash_builder: S, limit: usize) -> Self
         ensures empty { IsEmpty capacity 0 result }
         ensures builder { builder_of result ≡ hash_builder }
@@ -157,15 +159,38 @@ impl<K: Eq + Hash, V, S: BuildHasher, A: Allocator + Copy> Nodes<K, V, S, A> {
             return None;
         }
         let head = self.heads.head_of(hash);
-        let mut next = self.heads.first(head);
-        while next != NOWHERE {
-            let item = self.list.item(next);
-            if key.equivalent(&item.key) {
-                return Some(next);
+        let mut number = self.heads.first(head);
+        while self.is_other(number, hash, &key) {
+            if self.heads.is_last(number) {
+                return None;
             }
-            next = self.heads.next(next);
+            let place = self.heads.place(number);
+            number = self.heads.next(place);
         }
-        None
+        Some(self.heads.place(number))
+    }
+
+    /// Answers whether a number names another place than that of the key, whose hash is given.
+    #[inline(always)]
+    fn is_other<Q: Equivalent<K>>(&self, number: usize, hash: u64, key: &Q) -> bool
+        requires tagged { (k : K) → (place_named self.now.heads.bound number ≡ nowhere → ⊥)
+            → key_at self.now.list.entries (place_named self.now.heads.bound number) ≡ Some k → Q.equivalent key.now k ≡ true
+            → tag_by self.now.heads.tags number ≡ tag_by self.now.heads.tags hash }
+        requires live { (place_named self.now.heads.bound number ≡ nowhere → ⊥)
+            → IsLive self.now.list.entries (place_named self.now.heads.bound number) }
+        ensures found { result ≡ false → IsAt Q.equivalent key.now (place_named self.now.heads.bound number) self.now.list.entries }
+        ensures other { result ≡ true → (place_named self.now.heads.bound number ≡ nowhere → ⊥)
+            → IsAt Q.equivalent key.now (place_named self.now.heads.bound number) self.now.list.entries → ⊥ }
+    {
+        if self.heads.has_other_tag(number, hash) {
+            return true;
+        }
+        let place = self.heads.place(number);
+        if place == NOWHERE {
+            return true;
+        }
+        let item = self.list.item(place);
+        !key.equivalent(&item.key)
     }
 
     /// Returns the value of the key, whose hash is given.

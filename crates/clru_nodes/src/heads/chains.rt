@@ -1,46 +1,85 @@
 //! The chains: for each head the places of its keys, linked from one to the next.
-ghost use Rattle.std.specs.Prelude.{◌≡◌, ℕ, ◌<◌, length};
+ghost use Rattle.std.specs.Prelude.{◌≡◌, ℕ, ◌<◌, ◌≤◌, true, false, length};
 ghost use Rattle.clru_list.specs.Places.{nowhere};
-ghost use Rattle.clru_nodes.specs.Chained.{IsCut, IsPlace, IsRelinked, IsWalk};
-ghost use Rattle.clru_nodes.specs.Heads.{place_in, steps_in, HasLink, IsNamed, IsSameSize};
+ghost use Rattle.clru_nodes.specs.Chained.{IsCut, IsCutBehind, IsPlace, IsRelinked, IsWalk};
+ghost use Rattle.clru_nodes.specs.Heads.{number_in, place_in, low_of, numbers_along, steps_in, HasLink, IsNumber, IsRewritten, IsSameSize};
 
 use crate::heads::{Heads, NOWHERE};
 use std::alloc::Allocator;
 
 impl<A: Allocator + Copy> Heads<A> {
-    /// Has a place of a chain, or its start, lead to another place.
+    /// Writes the number of a place of a chain, or of its start.
     #[inline(always)]
-    pub(crate) fn link(&mut self, head: usize, at: usize, to: usize)
+    pub(crate) fn link(&mut self, head: usize, at: usize, number: usize)
         requires head { at ≡ nowhere → head < length self.old.items }
         requires place { (at ≡ nowhere → ⊥) → HasLink self.old at }
-        requires named { IsNamed self.old to }
-        ensures linked { IsRelinked (place_in self.old.items) (place_in self.old.links) head at to
-            (place_in self.new.items) (place_in self.new.links) }
+        requires fits { IsNumber self.old number }
+        ensures written { IsRelinked (number_in self.old.items) (number_in self.old.links) head at number
+            (number_in self.new.items) (number_in self.new.links) }
         ensures same { IsSameSize self.old self.new }
     {
         if at == NOWHERE {
-            self.set_first(head, to);
+            self.set_first(head, number);
         } else {
-            self.set_next(at, to);
+            self.set_next(at, number);
         }
     }
 
-    /// The place in the chain that leads to the given one, or the last place for `NOWHERE`. At the start it is `NOWHERE`.
+    /// The number of a place of a chain, or of its start.
     #[inline(always)]
-    pub(crate) fn before(&self, head: usize, place: usize) -> usize
+    fn number_at(&self, head: usize, at: usize) -> usize
+        requires head { at ≡ nowhere → head < length self.now.items }
+        requires place { (at ≡ nowhere → ⊥) → HasLink self.now at }
+        ensures number { result ≡ numbers_along self.now head at }
+        ensures fits { IsNumber self.now result }
+    {
+        if at == NOWHERE {
+            self.first(head)
+        } else {
+            self.next(at)
+        }
+    }
+
+    /// Notes where `behind` leads to the place `at` that this is linked on, or that it is not. It does nothing at the start.
+    #[inline(always)]
+    pub(crate) fn note(&mut self, head: usize, at: usize, behind: usize, leads: bool)
+        requires head { behind ≡ nowhere → head < length self.old.items }
+        requires place { (behind ≡ nowhere → ⊥) → HasLink self.old behind }
+        ensures none { at ≡ nowhere → self.new ≡ self.old }
+        ensures written { (at ≡ nowhere → ⊥) → IsRewritten self.old self.new head behind }
+        ensures leads { (at ≡ nowhere → ⊥) → leads ≡ true → low_of self.old < numbers_along self.new head behind }
+        ensures ends { (at ≡ nowhere → ⊥) → leads ≡ false → numbers_along self.new head behind ≤ low_of self.old }
+        ensures same { IsSameSize self.old self.new }
+    {
+        if at == NOWHERE {
+            return;
+        }
+        let number = self.number_at(head, behind);
+        let noted = self.noted(number, leads);
+        self.link(head, behind, noted);
+    }
+
+    /// The places in the chain one and two before the given one, or before its end for `NOWHERE`. At the start they are `NOWHERE`.
+    #[inline(always)]
+    pub(crate) fn before(&self, head: usize, place: usize) -> (usize, usize)
         requires head { head < length self.now.items }
         requires walk { IsWalk (steps_in self.now head) (HasLink self.now) (IsPlace place)
-            (place_in self.now.items head) (length self.now.links) }
-        ensures leads { steps_in self.now head result ≡ place }
+            (place_in self.now.bound self.now.items head) (length self.now.links) }
+        ensures leads { steps_in self.now head result.0 ≡ place }
+        ensures behind { (result.0 ≡ nowhere → ⊥) → steps_in self.now head result.1 ≡ result.0 }
         ensures cut { (met : ℕ → ℕ)
-            → IsCut (steps_in self.now head) met nowhere → IsCut (steps_in self.now head) met result }
+            → IsCut (steps_in self.now head) met nowhere → IsCutBehind (steps_in self.now head) met result.1 result.0 }
     {
+        let mut behind = NOWHERE;
         let mut at = NOWHERE;
-        let mut next = self.first(head);
+        let first = self.first(head);
+        let mut next = self.place(first);
         while next != place {
+            behind = at;
             at = next;
-            next = self.next(next);
+            let link = self.next(next);
+            next = self.place(link);
         }
-        at
+        (at, behind)
     }
 }

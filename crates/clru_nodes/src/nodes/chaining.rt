@@ -1,7 +1,7 @@
 //! A place put into the chain of its key's head, and taken out of it. The list of pairs stays.
-ghost use Rattle.std.specs.Prelude.{◌≡◌, ◌≤◌, length};
+ghost use Rattle.std.specs.Prelude.{◌≡◌, ◌<◌, ◌≤◌, length};
 ghost use Rattle.clru_list.specs.PlaceList.{IsValid};
-ghost use Rattle.clru_nodes.specs.Heads.{key_at, IsChainedAs, IsChainedBut, HasHome};
+ghost use Rattle.clru_nodes.specs.Heads.{key_at, IsChainedAs, IsChainedBut, HasHash, HasHome};
 ghost use Rattle.clru_nodes.specs.Nodes.{hash_of, IsSame};
 
 use crate::heads::NOWHERE;
@@ -10,11 +10,12 @@ use std::alloc::Allocator;
 use std::hash::{BuildHasher, Hash};
 
 impl<K: Eq + Hash, V, S: BuildHasher, A: Allocator + Copy> Nodes<K, V, S, A> {
-    /// Puts a place to the end of the chain of its key's head.
+    /// Puts a place to the end of the chain of its key's head, where the hash of the key is given.
     #[inline(always)]
-    pub(crate) fn append(&mut self, head: usize, place: usize)
-        requires home { HasHome (hash_of K.Hash S.BuildHasher S.Hasher.Hasher) head place self.old }
+    pub(crate) fn append(&mut self, hash: u64, place: usize)
+        requires hash { HasHash (hash_of K.Hash S.BuildHasher S.Hasher.Hasher) hash place self.old }
         requires chained { IsChainedBut (hash_of K.Hash S.BuildHasher S.Hasher.Hasher) place self.old }
+        requires headed { 0 < length self.old.heads.items }
         requires linked { self.old.list.places ≤ length self.old.heads.links }
         requires named { self.old.list.places ≤ self.old.heads.bound }
         requires valid { IsValid self.old.list }
@@ -23,9 +24,12 @@ impl<K: Eq + Hash, V, S: BuildHasher, A: Allocator + Copy> Nodes<K, V, S, A> {
         ensures list { self.new.list ≡ self.old.list }
         ensures same { IsSame self.old self.new }
     {
-        self.heads.set_next(place, NOWHERE);
-        let last = self.heads.before(head, NOWHERE);
-        self.heads.link(head, last, place);
+        let number = self.heads.number_of(place, hash);
+        let head = self.heads.head_of(hash);
+        self.heads.set_next(place, 0);
+        let (last, behind) = self.heads.before(head, NOWHERE);
+        self.heads.note(head, last, behind, true);
+        self.heads.link(head, last, number);
     }
 
     /// Takes a place out of the chain of its key's head.
@@ -40,8 +44,10 @@ impl<K: Eq + Hash, V, S: BuildHasher, A: Allocator + Copy> Nodes<K, V, S, A> {
         ensures list { self.new.list ≡ self.old.list }
         ensures same { IsSame self.old self.new }
     {
-        let before = self.heads.before(head, place);
+        let (before, behind) = self.heads.before(head, place);
         let next = self.heads.next(place);
+        let leads = self.heads.is_named(next);
         self.heads.link(head, before, next);
+        self.heads.note(head, before, behind, leads);
     }
 }

@@ -20,10 +20,9 @@ impl<K: Eq + Hash, V, S: BuildHasher, A: Allocator + Copy> Nodes<K, V, S, A> {
     pub fn front(&self) -> Option<(&K, &V)>
         ensures { option_map deref_pair result ≡ slice_get (pairs_in self.now) 0 }
     {
-        match self.list.front() {
-            Some(item) => Some((&item.key, &item.value)),
-            None => None,
-        }
+        let place = self.list.front_idx()?;
+        let item = self.list.item(place);
+        Some((&item.key, &item.value))
     }
 
     /// Returns the last pair.

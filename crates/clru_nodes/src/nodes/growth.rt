@@ -1,8 +1,7 @@
 //! Memory for more pairs: places in the list, and heads that go with them.
 ghost use Rattle.std.specs.Prelude.{◌≡◌, ℕ, ◌<◌, ◌≤◌, length, OnOk, OnErr};
-ghost use Rattle.clru_list.specs.Places.{nowhere};
 ghost use Rattle.clru_nodes.specs.Growth.{GrowsIf, IsRefused};
-ghost use Rattle.clru_nodes.specs.Heads.{place_in, key_at, IsChainedAs, KeepsPlaces};
+ghost use Rattle.clru_nodes.specs.Heads.{number_in, key_at, IsChainedAs, KeepsPlaces};
 ghost use Rattle.clru_nodes.specs.Nodes.{hash_of, pairs_in, capacity_of, places_of, IsIndexed, IsSame, KeepsPairs};
 
 use crate::heads::NOWHERE;
@@ -71,7 +70,7 @@ impl<K: Eq + Hash, V, S: BuildHasher, A: Allocator + Copy> Nodes<K, V, S, A> {
 
     /// Chains all keys, where each head is empty.
     fn relink(&mut self)
-        requires free { (h : ℕ) → place_in self.old.heads.items h ≡ nowhere }
+        requires free { (h : ℕ) → number_in self.old.heads.items h ≡ 0 }
         requires some { 0 < length self.old.heads.items }
         requires linked { self.old.list.places ≤ length self.old.heads.links }
         requires named { self.old.list.places ≤ self.old.heads.bound }
@@ -90,8 +89,11 @@ impl<K: Eq + Hash, V, S: BuildHasher, A: Allocator + Copy> Nodes<K, V, S, A> {
             let hash = self.hash(&item.key);
             let head = self.heads.head_of(hash);
             let first = self.heads.first(head);
+            let number = self.heads.number_of(place, hash);
+            let leads = self.heads.is_named(first);
+            let noted = self.heads.noted(number, leads);
             self.heads.link(head, place, first);
-            self.heads.link(head, NOWHERE, place);
+            self.heads.link(head, NOWHERE, noted);
         }
     }
 }

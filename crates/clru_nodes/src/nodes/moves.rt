@@ -102,10 +102,7 @@ impl<K: Eq + Hash, V, S: BuildHasher, A: Allocator + Copy> Nodes<K, V, S, A> {
     {
         let item = Item { key, value };
         match self.list.push_front(item) {
-            Ok(place) => {
-                let head = self.heads.head_of(hash);
-                self.append(head, place);
-            }
+            Ok(place) => self.append(hash, place),
             Err(_) => unreachable!(),
         }
     }
@@ -130,8 +127,7 @@ impl<K: Eq + Hash, V, S: BuildHasher, A: Allocator + Copy> Nodes<K, V, S, A> {
             unreachable!()
         };
         let old = mem::replace(item, Item { key, value });
-        let head = self.heads.head_of(hash);
-        self.append(head, place);
+        self.append(hash, place);
         (old.key, old.value)
     }
 

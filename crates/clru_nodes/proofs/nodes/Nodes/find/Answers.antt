@@ -1,73 +1,98 @@
 use Rattle.std.proofs.Common.{◌≡◌, Some, true, refl, length, ◌<◌, sym, ap, ◌∙◌, subst, arith}
-use Rattle.std.proofs.lemmas.Bool.{true≢false}
 use Rattle.clru_list.specs.PlaceList.{item_at}
 use Rattle.clru_list.specs.Places.{nowhere}
-use Rattle.clru_nodes.specs.Chained.{steps_left}
-use Rattle.clru_nodes.specs.Heads.{head_by, place_in, key_at, steps_in, home_at, IsLive, IsAt}
+use Rattle.clru_nodes.specs.Chained.{of_head, steps_left}
+use Rattle.clru_nodes.specs.HeadList.{place_named, tag_by}
+use Rattle.clru_nodes.specs.Heads.{head_by, number_in, place_in, key_at, steps_in, home_at, IsLive, IsAt}
 use Rattle.clru_nodes.specs.Nodes.{hash_by}
-use Rattle.clru_nodes.specs.declared.nodes.Item.{Item}
 use Rattle.clru_nodes.proofs.Chaining.{key_met, steps_off}
-use Rattle.clru_nodes.proofs.ChainWalks.{walk_alive, walk_missed, walk_step, walk_nearer}
-use Rattle.clru_nodes.proofs.Indexed.{same_hash, walk_of_chain, live_of_key}
+use Rattle.clru_nodes.proofs.ChainWalks.{walk_alive, walk_last, walk_step, walk_nearer}
+use Rattle.clru_nodes.proofs.Cuts.{cut_here}
+use Rattle.clru_nodes.proofs.Hints.{as_hint}
+use Rattle.clru_nodes.proofs.Indexed.{same_hash, walk_along, live_met, live_of_key}
 use Rattle.clru_nodes.proofs.Placed.{live_below, none_at_start}
 use Rattle.clru_nodes.proofs.PlacedPairs.{absent_from}
 use Rattle.clru_nodes.proofs.nodes.Nodes.find.Goals as goal
 
-pub loop-next-init : goal.loop-next-init
-loop-next-init g c =
+pub loop-key-init : goal.loop-key-init
+loop-key-init g c =
     let x = c.args.self.now in let es = x.list.entries in let key = c.args.key in let eq = g.Q.Equivalent.equivalent in
     let hash = hash_by g.S.Hasher.Hasher.finish g.S.Hasher.Hasher.write g.S.BuildHasher.build_hasher g.K.Hash.hash_input in
-    let h = c.head_of-head.result in
+    let h = c.head_of-head.result in let chained = c.requires.indexed.chained in let first = c.first-number.ensures.number in
     let alike : (k : g.row.K.Denot) → eq key k ≡ true → home_at hash x k ≡ h =
     λ k same. ap (λ n. head_by (length x.heads.items) n) (sym (c.requires.hash ∙ same_hash g.S.Hasher.Hasher.finish g.S.Hasher.Hasher.write
     g.S.BuildHasher.build_hasher g.Q.Hash.hash_input g.K.Hash.hash_input x.hash_builder (g.met.Q.Equivalent.respects_hash key k same))) ∙ sym c.head_of-head.ensures.head in
-    rw (c.first-next.ensures.place) (walk_of_chain (home_at hash x) es c.requires.indexed.chained (live_of_key es) h (λ q. (q ≡ nowhere → ⊥) × IsAt eq key q es)
-    (λ q at. (
-      at.0,
-      key_met (home_at hash x) h (key_at es) q at.1.item.key (rw at.1.held refl) (alike at.1.item.key at.1.same),
-    )))
+    record {
+      walk = rw first (walk_along (home_at hash x) es chained.chains (live_of_key es) h
+          (λ q. IsLive es q × (0 < of_head (home_at hash x) h (key_at es) q)) (λ q. (q ≡ nowhere → ⊥) × IsAt eq key q es)
+          (λ q off met. (live_met (home_at hash x) es chained.chains (live_of_key es) h q met off, met))
+          (λ q at. (
+            at.0,
+            key_met (home_at hash x) h (key_at es) q at.1.item.key (rw at.1.held refl) (alike at.1.item.key at.1.same),
+          )));
+      hint = as_hint first (ap (place_named x.heads.bound) first) (chained.hints h nowhere (cut_here (chained.chains.chain h)));
+    }
 
-pub item-item-requires : goal.item-item-requires
-item-item-requires g c =
+pub is_other-requires-clause-tagged : goal.is_other-requires-clause-tagged
+is_other-requires-clause-tagged g c =
     let x = c.args.self.now in
-    let live = walk_alive c.loop-next.invariant (none_at_start x.list c.is_empty.ensures.valid) c.loop-next-test.true in rw (live.1) refl
+    λ k off held same. c.loop-key.invariant.hint.tagged k off held
+    ∙ ap (tag_by x.heads.tags) (sym (c.requires.hash ∙ same_hash g.S.Hasher.Hasher.finish g.S.Hasher.Hasher.write
+    g.S.BuildHasher.build_hasher g.Q.Hash.hash_input g.K.Hash.hash_input x.hash_builder (g.met.Q.Equivalent.respects_hash c.args.key k same)))
 
-pub returns-then-equivalent-clause-found : goal.returns-then-equivalent-clause-found
-returns-then-equivalent-clause-found g c = record { item = c.item-item.result.now; held = c.item-item.ensures.value; same = sym c.equivalent.ensures ∙ c.if-equivalent.true }
+pub is_other-requires-clause-live : goal.is_other-requires-clause-live
+is_other-requires-clause-live g c =
+    let x = c.args.self.now in
+    λ off. (walk_alive c.loop-key.invariant.walk (λ a. none_at_start x.list c.is_empty.ensures.valid a.0) off).0
 
-pub next-next-requires : goal.next-next-requires
-next-next-requires g c =
-    omega (
-      arith,
-      live_below c.args.self.now.list c.item-item.ensures.valid c.loop-next.next (c.item-item.result.now, c.item-item.ensures.value),
-      c.requires.indexed.linked,
-    )
-
-pub loop-next-smaller : goal.loop-next-smaller
-loop-next-smaller g c =
-    let x = c.args.self.now in let next = c.loop-next.next in let off = c.loop-next-test.true in
-    let f = steps_in x.heads c.head_of-head.result in
-    let step = steps_off (place_in x.heads.items) (place_in x.heads.links) c.head_of-head.result next off ∙ sym c.next-next.ensures.place in
-    subst (λ n. steps_left f n (length x.list.entries) < steps_left f next (length x.list.entries)) step
-    (walk_nearer c.loop-next.invariant (none_at_start x.list c.item-item.ensures.valid) off)
-
-pub loop-next-preserved : goal.loop-next-preserved
-loop-next-preserved g c =
-    let x = c.args.self.now in let next = c.loop-next.next in let off = c.loop-next-test.true in
-    let step = steps_off (place_in x.heads.items) (place_in x.heads.links) c.head_of-head.result next off ∙ sym c.next-next.ensures.place in
-    let eq = g.Q.Equivalent.equivalent in
-    let other : IsAt eq c.args.key next x.list.entries → ⊥ = λ at.
-    let item = c.item-item.result.now in
-    let is : at.item ≡ item = let both : Some at.item ≡ Some item = sym at.held ∙ c.item-item.ensures.value in cc in
-    let no = sym (c.equivalent.ensures ∙ ap (λ (i : Item g.row.K.Denot g.row.V.Denot). eq c.args.key i.key) (sym is) ∙ at.same) ∙ c.if-equivalent.false in true≢false no in
-    rw (← step) (walk_step c.loop-next.invariant (none_at_start x.list c.item-item.ensures.valid) off
-    (λ q. (q ≡ nowhere → ⊥) × IsAt eq c.args.key q x.list.entries) (λ q h. h) (λ h. other h.1))
-
-pub returns-clause-absent : goal.returns-clause-absent
-returns-clause-absent g c =
-    let x = c.args.self.now in let valid = c.is_empty.ensures.valid in
+pub returns-then-is_last-clause-absent : goal.returns-then-is_last-clause-absent
+returns-then-is_last-clause-absent g c =
+    let x = c.args.self.now in let valid = c.is_empty.ensures.valid in let i = c.loop-key.invariant in
     let none = none_at_start x.list valid in
-    let over : c.loop-next.next ≡ nowhere = omega arith in
-    absent_from g.Q.Equivalent.equivalent c.args.key x.list.entries valid.apart (λ p at. walk_missed c.loop-next.invariant none
-    (λ live. none (subst (IsLive x.list.entries) over live)) p
-    (λ e. none (at.item, subst (λ q. item_at q x.list.entries ≡ Some at.item) e at.held), at))
+    absent_from g.Q.Equivalent.equivalent c.args.key x.list.entries valid.apart
+    (λ p at. walk_last i.walk (λ a. none a.0) (λ off w. c.is_other.ensures.other c.loop-key-test.true off w.1)
+    (λ off.
+    let live = (walk_alive i.walk (λ a. none a.0) off).0 in
+    steps_off (place_in x.heads.bound x.heads.items) (place_in x.heads.bound x.heads.links) c.head_of-head.result _ off
+    ∙ i.hint.ends live.0.key off (rw live.1 refl) (c.is_last.ensures.last c.if-is_last.true))
+    p (λ e. none (at.item, subst (λ q. item_at q x.list.entries ≡ Some at.item) e at.held), at))
+
+pub next-number-requires : goal.next-number-requires
+next-number-requires g c =
+    let x = c.args.self.now in let valid = c.is_empty.ensures.valid in let i = c.loop-key.invariant in
+    let off = i.hint.leads (c.is_last.ensures.more c.if-is_last.false) in
+    let live = (walk_alive i.walk (λ a. none_at_start x.list valid a.0) off).0 in
+    omega (arith, live_below x.list valid (place_named x.heads.bound c.loop-key.number) live, c.place-place.ensures, c.requires.indexed.linked)
+
+pub loop-key-smaller : goal.loop-key-smaller
+loop-key-smaller g c =
+    let x = c.args.self.now in let valid = c.is_empty.ensures.valid in let i = c.loop-key.invariant in
+    let next = place_named x.heads.bound c.loop-key.number in let f = steps_in x.heads c.head_of-head.result in
+    let off = i.hint.leads (c.is_last.ensures.more c.if-is_last.false) in
+    let new = c.next-number.ensures.number ∙ ap (number_in x.heads.links) c.place-place.ensures in
+    let step = steps_off (place_in x.heads.bound x.heads.items) (place_in x.heads.bound x.heads.links) c.head_of-head.result next off
+    ∙ sym (ap (place_named x.heads.bound) new) in
+    subst (λ n. steps_left f n (length x.list.entries) < steps_left f next (length x.list.entries)) step
+    (walk_nearer i.walk (λ a. none_at_start x.list valid a.0) off)
+
+pub loop-key-preserved : goal.loop-key-preserved
+loop-key-preserved g c =
+    let x = c.args.self.now in let es = x.list.entries in let valid = c.is_empty.ensures.valid in let i = c.loop-key.invariant in
+    let next = place_named x.heads.bound c.loop-key.number in let h = c.head_of-head.result in
+    let none = none_at_start x.list valid in
+    let off = i.hint.leads (c.is_last.ensures.more c.if-is_last.false) in
+    let new = c.next-number.ensures.number ∙ ap (number_in x.heads.links) c.place-place.ensures in
+    let placed = ap (place_named x.heads.bound) new in
+    let step = steps_off (place_in x.heads.bound x.heads.items) (place_in x.heads.bound x.heads.links) h next off ∙ sym placed in
+    let alive = walk_alive i.walk (λ a. none a.0) off in
+    record {
+      walk = rw (← step) (walk_step i.walk (λ a. none a.0) off (λ q. (q ≡ nowhere → ⊥) × IsAt g.Q.Equivalent.equivalent c.args.key q es) (λ q w. w)
+          (λ w. c.is_other.ensures.other c.loop-key-test.true off w.1));
+      hint = as_hint (new ∙ sym (steps_off (number_in x.heads.items) (number_in x.heads.links) h next off)) (sym step)
+          (c.requires.indexed.chained.hints h next alive.1);
+    }
+
+pub returns-clause-found : goal.returns-clause-found
+returns-clause-found g c =
+    subst (λ p. IsAt g.Q.Equivalent.equivalent c.args.key p c.args.self.now.list.entries) (sym c.place.ensures)
+    (c.is_other.ensures.found c.loop-key-test.false)

@@ -1,13 +1,21 @@
-use Rattle.std.proofs.Common.{◌≡◌, length}
+use Rattle.std.proofs.Common.{◌≡◌, ◌<◌, length}
 use Rattle.clru_list.specs.Places.{nowhere}
-use Rattle.clru_nodes.specs.Chained.{IsWalk, steps_left}
-use Rattle.clru_nodes.specs.Heads.{steps_in, IsLive, IsAt}
+use Rattle.clru_nodes.specs.Chained.{of_head, steps_left, IsHint, IsWalk}
+use Rattle.clru_nodes.specs.HeadList.{place_named, tag_by}
+use Rattle.clru_nodes.specs.Heads.{home_at, key_at, low_of, place_in, steps_in, IsLive, IsAt}
+use Rattle.clru_nodes.specs.Nodes.{hash_by}
 use Rattle.clru_nodes.proofs.nodes.Nodes.find.Given as goal
 
-abbrev pub invariant-loop-next : goal.invariant-loop-next
-invariant-loop-next g l =
-    let es = l.self.list.entries in
-    IsWalk (steps_in l.self.heads l.head) (IsLive es) (λ q. (q ≡ nowhere → ⊥) × IsAt g.Q.Equivalent.equivalent l.key q es) l.next (length es)
+abbrev pub invariant-loop-key : goal.invariant-loop-key
+invariant-loop-key g l =
+    let x = l.self in let es = x.list.entries in
+    let hash = hash_by g.S.Hasher.Hasher.finish g.S.Hasher.Hasher.write g.S.BuildHasher.build_hasher g.K.Hash.hash_input in
+    record {
+      walk : IsWalk (steps_in x.heads l.head) (λ q. IsLive es q × (0 < of_head (home_at hash x) l.head (key_at es) q))
+          (λ q. (q ≡ nowhere → ⊥) × IsAt g.Q.Equivalent.equivalent l.key q es) (place_named x.heads.bound l.number) (length es);
+      hint : IsHint (hash x.hash_builder) (tag_by x.heads.tags) (low_of x.heads) nowhere (place_in x.heads.bound x.heads.links) (key_at es)
+          l.number (place_named x.heads.bound l.number);
+    }
 
-abbrev pub decreases-loop-next : goal.decreases-loop-next
-decreases-loop-next g l = steps_left (steps_in l.self.heads l.head) l.next (length l.self.list.entries)
+abbrev pub decreases-loop-key : goal.decreases-loop-key
+decreases-loop-key g l = steps_left (steps_in l.self.heads l.head) (place_named l.self.heads.bound l.number) (length l.self.list.entries)

@@ -1,7 +1,6 @@
 use Rattle.std.proofs.Common.{ℕ, ◌≤◌, length, arith, sym, ap, subst, inl, inr}
 use Rattle.std.proofs.lemmas.Bool.{cases_eq}
-use Rattle.clru_nodes.specs.Chained.{IsChained}
-use Rattle.clru_nodes.specs.Heads.{key_at, home_at, place_in}
+use Rattle.clru_nodes.specs.Heads.{key_at, IsChainedAs}
 use Rattle.clru_nodes.specs.Nodes.{hash_by}
 use Rattle.clru_nodes.proofs.nodes.Nodes.grow.Goals as goal
 
@@ -26,7 +25,7 @@ returns-clause-indexed g c =
       | inr free ↦ omega (arith, e.places.stays (λ needs. free needs.1), before)
     ] in
     record {
-      chained = subst (λ es. IsChained (home_at hash x) (place_in x.heads.items) (place_in x.heads.links) (key_at es)) (sym e.entries) old.chained;
+      chained = subst (λ es. IsChainedAs hash (key_at es) x) (sym e.entries) old.chained;
       held = e.valid.held;
       headed = old.headed;
       linked = reach (length x.heads.links) c.in_ok-make_heads.ensures.linked old.linked;

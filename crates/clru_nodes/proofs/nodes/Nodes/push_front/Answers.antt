@@ -1,27 +1,24 @@
-use Rattle.std.proofs.Common.{◌≡◌, Some, None, length, refl, sym, ap, ◌∙◌, subst}
+use Rattle.std.proofs.Common.{◌≡◌, Some, None, refl, sym, ap, ◌∙◌, subst}
 use Rattle.std.proofs.lemmas.Bool.{eq-eqb}
 use Rattle.clru_list.specs.PlaceList.{item_at, IsApart}
 use Rattle.clru_list.specs.Places.{put}
-use Rattle.clru_nodes.specs.Chained.{IsChained}
-use Rattle.clru_nodes.specs.Heads.{head_by, place_in, key_at, home_at}
+use Rattle.clru_nodes.specs.Heads.{key_at, IsChainedAs}
 use Rattle.clru_nodes.specs.Nodes.{hash_by}
 use Rattle.clru_nodes.specs.declared.nodes.Item.{Item}
 use Rattle.clru_nodes.proofs.IndexedMoves.{chained_push}
 use Rattle.clru_nodes.proofs.Placed.{none_at_start}
 use Rattle.clru_nodes.proofs.nodes.Nodes.push_front.Goals as goal
 
-pub append-requires-clause-home : goal.append-requires-clause-home
-append-requires-clause-home g c =
-    let x = c.args.self.now in let es = c.push_front.new.self.entries in let p = c.in-Ok.place in
+pub append-requires-clause-hash : goal.append-requires-clause-hash
+append-requires-clause-hash g c =
+    let es = c.push_front.new.self.entries in let p = c.in-Ok.place in
     let item : Item g.row.K.Denot g.row.V.Denot = record { key = c.args.key; value = c.args.value } in
     let held : item_at p es ≡ Some item = ap (λ l. item_at p l) c.in-Ok.ensures.entries ∙ rw (eq-eqb p p refl) refl in
-    let is = c.head_of-head.ensures.head in
     record {
       item = item;
       held = held;
-      home = sym (is ∙ ap (λ n. head_by (length x.heads.items) n) c.requires.hash);
+      hashed = sym c.requires.hash;
       off = λ e. none_at_start c.push_front.new.self c.in-Ok.ensures.valid (item, subst (λ q. item_at q es ≡ Some item) e held);
-      within = c.head_of-head.ensures.within;
     }
 
 pub append-requires-clause-chained : goal.append-requires-clause-chained
@@ -30,5 +27,5 @@ append-requires-clause-chained g c =
     let x = c.args.self.now in let p = c.in-Ok.place in
     let item : Item g.row.K.Denot g.row.V.Denot = record { key = c.args.key; value = c.args.value } in
     let apart = subst (λ l. IsApart l) c.in-Ok.ensures.entries c.in-Ok.ensures.valid.apart in
-    subst (λ l. IsChained (home_at hash x) (place_in x.heads.items) (place_in x.heads.links) (put (key_at l) p None)) (sym c.in-Ok.ensures.entries)
-    (chained_push (home_at hash x) p item x.list.entries apart.0 c.requires.indexed.chained)
+    subst (λ l. IsChainedAs hash (put (key_at l) p None) x) (sym c.in-Ok.ensures.entries)
+    (chained_push p item x.list.entries apart.0 c.requires.indexed.chained)

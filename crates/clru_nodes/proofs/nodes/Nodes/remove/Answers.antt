@@ -1,6 +1,5 @@
 use Rattle.std.proofs.Common.{◌≡◌, Some, None, length, arith, sym, ap, ◌∙◌, subst}
 use Rattle.clru_list.specs.PlaceList.{without, with_entries, item_at, IsApart}
-use Rattle.clru_nodes.specs.Heads.{home_at}
 use Rattle.clru_nodes.specs.Nodes.{hash_by, pair_of, IsIndexed}
 use Rattle.clru_nodes.proofs.IndexedMoves.{chained_drop, indexed_from}
 use Rattle.clru_nodes.proofs.Placed.{length-without}
@@ -26,5 +25,5 @@ returns-clause-indexed g c =
     subst (λ l. IsIndexed hash (record u { list = l })) (sym c.in-Some.ensures.entries)
     (indexed_from {x = x} {y = record u { list = with_entries u.list (without p u.list.entries) }} c.requires.indexed
     (record { capacity = same.capacity; places = same.places; builder = same.builder; heads = same.heads })
-    (chained_drop (home_at hash u) p u.list.entries (subst (λ l. IsApart l.entries) (sym list) c.requires.valid.apart) c.unchain.ensures.chained)
+    (chained_drop p u.list.entries (subst (λ l. IsApart l.entries) (sym list) c.requires.valid.apart) c.unchain.ensures.chained)
     (omega (arith, length-without p u.list.entries, ap (λ l. length l.entries) list)))

@@ -2,7 +2,6 @@ use Rattle.std.proofs.Common.{◌≡◌, ◌<◌, Some, None, ◌∷◌, length,
 use Rattle.std.proofs.lemmas.Bool.{eq-eqb}
 use Rattle.std.specs.Option.{option_copied_mut}
 use Rattle.clru_list.specs.PlaceList.{item_at, without, IsApart, IsValid}
-use Rattle.clru_nodes.specs.Heads.{head_by, home_at}
 use Rattle.clru_nodes.specs.Nodes.{hash_by, pair_of, pairs_of}
 use Rattle.clru_nodes.specs.declared.nodes.Item.{Item}
 use Rattle.clru_nodes.proofs.IndexedMoves.{chained_replace, indexed_from}
@@ -29,26 +28,23 @@ unreachable-requires-in_default-move_front g c =
     let no : None ≡ Some h.item = ap option_copied_mut (sym c.in_default-move_front.is) ∙ c.move_front.ensures.value
     ∙ ap (λ l. item_at c.in-Some.place l.entries) c.unchain.ensures.list ∙ h.held in cc
 
-pub append-requires-clause-home : goal.append-requires-clause-home
-append-requires-clause-home g c =
+pub append-requires-clause-hash : goal.append-requires-clause-hash
+append-requires-clause-hash g c =
     let u = c.unchain.new.self in let p = c.in-Some.place in
     let hash = hash_by g.S.Hasher.Hasher.finish g.S.Hasher.Hasher.write g.S.BuildHasher.build_hasher g.K.Hash.hash_input in
-    let h = c.home-old_head.ensures.home in let is = c.head_of-head.ensures.head in let same = c.unchain.ensures.same in
+    let h = c.home-old_head.ensures.home in let same = c.unchain.ensures.same in
     let key : c.replace-old.new.dest.key ≡ c.args.key = ap (λ (i : Item g.row.K.Denot g.row.V.Denot). i.key) c.replace-old.ensures.after in
     record {
       item = c.replace-old.new.dest;
       held = rw (eq-eqb p p refl) refl;
-      home = sym (is ∙ ap (λ n. head_by (length u.heads.items) n) (c.requires.hash ∙ ap (λ b. hash b c.args.key) (sym same.builder)
-          ∙ ap (λ k. hash u.hash_builder k) (sym key)));
+      hashed = sym (c.requires.hash ∙ ap (λ b. hash b c.args.key) (sym same.builder) ∙ ap (λ k. hash u.hash_builder k) (sym key));
       off = h.off;
-      within = c.head_of-head.ensures.within;
     }
 
 pub append-requires-clause-chained : goal.append-requires-clause-chained
 append-requires-clause-chained g c =
-    let hash = hash_by g.S.Hasher.Hasher.finish g.S.Hasher.Hasher.write g.S.BuildHasher.build_hasher g.K.Hash.hash_input in
     let u = c.unchain.new.self in
-    chained_replace (home_at hash u) c.in-Some.place c.replace-old.new.dest u.list.entries
+    chained_replace c.in-Some.place c.replace-old.new.dest u.list.entries
     (subst (λ l. IsApart l.entries) (sym c.unchain.ensures.list) c.back_idx.ensures.valid.apart) c.unchain.ensures.chained
 
 pub append-requires-clause-valid : goal.append-requires-clause-valid

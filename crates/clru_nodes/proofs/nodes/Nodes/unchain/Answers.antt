@@ -1,20 +1,21 @@
-use Rattle.std.proofs.Common.{None, refl, sym, ◌∙◌, subst, arith}
-use Rattle.clru_list.specs.Places.{put}
-use Rattle.clru_nodes.specs.Chained.{IsPlace, IsRelinked}
-use Rattle.clru_nodes.specs.Heads.{key_at, home_at, place_in}
+use Rattle.std.proofs.Common.{refl, sym, ◌∙◌, arith, inl, inr}
+use Rattle.std.proofs.lemmas.Bool.{cases_Bool}
+use Rattle.clru_nodes.specs.Chained.{IsPlace}
+use Rattle.clru_nodes.specs.Heads.{key_at, home_at}
 use Rattle.clru_nodes.specs.Nodes.{hash_by}
-use Rattle.clru_list.proofs.Puts.{put-here, put-other}
-use Rattle.clru_nodes.proofs.Chaining.{key_met, chained_remove}
+use Rattle.clru_nodes.proofs.Chaining.{key_met}
 use Rattle.clru_nodes.proofs.ChainWalks.{walk_weaker}
-use Rattle.clru_nodes.proofs.Indexed.{walk_of_chain, live_at_cut, live_of_key, homes_stay}
+use Rattle.clru_nodes.proofs.Cuts.{passed_met}
+use Rattle.clru_nodes.proofs.Indexed.{walk_of_chain, live_at_cut, live_met, live_of_key}
 use Rattle.clru_nodes.proofs.Placed.{live_below}
+use Rattle.clru_nodes.proofs.Steps.{chained_taken}
 use Rattle.clru_nodes.proofs.nodes.Nodes.unchain.Goals as goal
 
 pub before-before-requires-clause-walk : goal.before-before-requires-clause-walk
 before-before-requires-clause-walk g c =
     let x = c.args.self.now in let es = x.list.entries in let homed = c.requires.home in
     let hash = hash_by g.S.Hasher.Hasher.finish g.S.Hasher.Hasher.write g.S.BuildHasher.build_hasher g.K.Hash.hash_input in
-    walk_weaker (walk_of_chain (home_at hash x) es c.requires.chained (live_of_key es) c.args.head (IsPlace c.args.place)
+    walk_weaker (walk_of_chain (home_at hash x) es c.requires.chained.chains (live_of_key es) c.args.head (IsPlace c.args.place)
     (λ q w. (λ e. w.1 (sym w.0 ∙ e), key_met (home_at hash x) c.args.head (key_at es) q homed.item.key (rw (w.0, homed.held) refl) homed.home)))
     (λ q live. omega (arith, live_below x.list c.requires.valid q live, c.requires.linked))
     (omega (arith, c.requires.valid.held, c.requires.linked))
@@ -26,24 +27,37 @@ next-next-requires g c =
 
 pub link-requires-clause-place : goal.link-requires-clause-place
 link-requires-clause-place g c =
-    let x = c.args.self.now in
-    let hash = hash_by g.S.Hasher.Hasher.finish g.S.Hasher.Hasher.write g.S.BuildHasher.build_hasher g.K.Hash.hash_input in
+    let x = c.args.self.now in let es = x.list.entries in let chains = c.requires.chained.chains in
+    let cut = c.before-before.ensures.cut _ (chains.chain c.args.head) in
     λ off. omega (
       arith,
-      live_below x.list c.requires.valid c.before-before.result (live_at_cut (home_at hash x) x.list.entries c.requires.chained
-          (live_of_key x.list.entries) c.args.head c.before-before.result
-          (c.before-before.ensures.cut _ (c.requires.chained.chain c.args.head)) off),
+      live_below x.list c.requires.valid _ (live_at_cut _ es chains (live_of_key es) c.args.head _ cut.cut off),
       c.requires.linked,
+    )
+
+pub note-requires-clause-place : goal.note-requires-clause-place
+note-requires-clause-place g c =
+    let x = c.args.self.now in let es = x.list.entries in let chains = c.requires.chained.chains in
+    let cut = c.before-before.ensures.cut _ (chains.chain c.args.head) in
+    λ off. omega (
+      arith,
+      live_below x.list c.requires.valid _ (live_met _ es chains (live_of_key es) c.args.head _ (passed_met cut) off),
+      c.requires.linked,
+      c.link.ensures.same.links,
     )
 
 pub returns-clause-chained : goal.returns-clause-chained
 returns-clause-chained g c =
-    let x = c.args.self.now in let y = c.link.new.self in let h = c.args.head in let p = c.args.place in let key = key_at x.list.entries in
+    let x = c.args.self.now in let note = c.note.ensures in let before = c.before-before.ensures in
     let hash = hash_by g.S.Hasher.Hasher.finish g.S.Hasher.Hasher.write g.S.BuildHasher.build_hasher g.K.Hash.hash_input in
-    let at = c.before-before.result in
-    let linked = subst (λ to. IsRelinked (place_in x.heads.items) (place_in x.heads.links) h at to (place_in y.items) (place_in y.links))
-    c.next-next.ensures.place c.link.ensures.linked in
-    homes_stay (hash x.hash_builder) c.link.ensures.same.heads
-    (chained_remove (home_at hash x) c.requires.chained h (c.before-before.ensures.cut _ (c.requires.chained.chain h)) p
-    (place_in y.items) (place_in y.links) (put key p None) c.requires.home.off c.before-before.ensures.leads linked
-    (put-here key p None p refl) (λ q n. put-other key p None q (λ e. n (sym e))))
+    chained_taken (hash x.hash_builder) (key_at x.list.entries) c.args.place c.requires.home.off c.requires.chained
+    before.leads before.behind before.cut c.next-next.ensures.number c.link.ensures.written c.link.ensures.same note.none note.written
+    (λ off short. elim (cases_Bool c.is_named-leads.result) [
+      | inl t ↦ let more = note.leads off t in absurd (omega (arith, more, short))
+      | inr f ↦ c.is_named-leads.ensures.none f
+    ])
+    (λ off more. elim (cases_Bool c.is_named-leads.result) [
+      | inl t ↦ c.is_named-leads.ensures.some t
+      | inr f ↦ let short = note.ends off f in absurd (omega (arith, more, short))
+    ])
+    note.same
