@@ -111,9 +111,10 @@ impl Answers {
         }
         for ((line, answer), other) in lines.iter().zip(&self.list).zip(&again.list) {
             if *answer != *other && !["cost", "notes", "blocks", "bytes"].contains(&line.name()) {
-                for part in ["; ? ", line.call, " -> ", other] {
-                    out.say(part);
-                }
+                out.say("; ? ");
+                out.say(line.call);
+                out.say(" -> ");
+                out.say(other);
             }
         }
     }

@@ -1,17 +1,20 @@
 //! The calls that a cache with any scale has.
 
-use crate::cache::Made;
+use crate::cache::Any;
 use crate::closures::Keep;
 use crate::out::Out;
 use crate::pairs::{Key, Value};
 use crate::words::{Words, Wrong};
 use crate::world::World;
-use clru::{CLruCacheIter, PutError, WeightScale};
-use ration::Rationed;
-use std::alloc::Global;
+use clru::{CLruCacheIntoIter, CLruCacheIter, PutError, WeightScale};
+use std::alloc::Allocator;
+use std::hash::BuildHasher;
+
+/// A walk over pairs that a cache is given up for.
+type Owned<S, W, A> = CLruCacheIntoIter<Key, Value, S, W, A>;
 
 /// A walk over pairs.
-type Walk<'c, 'a> = CLruCacheIter<'c, Key<'a>, Value<'a>, &'a Rationed<Global>>;
+type Walk<'c, A> = CLruCacheIter<'c, Key, Value, A>;
 
 /// Says a value, or that there is none.
 pub(crate) fn say_value(value: Option<&Value>, out: &mut Out) {
@@ -19,6 +22,11 @@ pub(crate) fn say_value(value: Option<&Value>, out: &mut Out) {
         Some(value) => out.say(&value.text),
         None => out.say("none"),
     }
+}
+
+/// Says a value that was taken out, or that there is none.
+pub(crate) fn say_popped(value: Option<Value>, out: &mut Out) {
+    say_value(value.as_ref(), out);
 }
 
 /// Says a pair.
@@ -37,17 +45,28 @@ pub(crate) fn say_found(pair: Option<(&Key, &Value)>, out: &mut Out) {
 }
 
 /// Says a pair that was taken out, or that there is none.
-fn say_taken(pair: &Option<(Key, Value)>, out: &mut Out) {
-    match pair {
+fn say_taken(pair: Option<(Key, Value)>, out: &mut Out) {
+    match &pair {
         Some((key, value)) => say_pair(key, value, out),
         None => out.say("none"),
     }
 }
 
+/// Makes a call. Answers `false` where the name is none of these.
+pub(crate) fn called<S: BuildHasher, W: WeightScale<Key, Value>, A: Allocator + Copy>(
+    cache: &mut Any<S, W, A>,
+    world: &'static World,
+    name: &str,
+    words: &mut Words,
+    out: &mut Out,
+) -> bool {
+    read(cache, world, name, words, out) || change(cache, world, name, words, out)
+}
+
 /// Makes a call that changes nothing. Answers `false` where the name is none of these.
-pub(crate) fn read<'a, W: WeightScale<Key<'a>, Value<'a>>>(
-    cache: &Made<'a, W>,
-    world: &'a World,
+pub(crate) fn read<S: BuildHasher, W: WeightScale<Key, Value>, A: Allocator + Copy>(
+    cache: &Any<S, W, A>,
+    world: &'static World,
     name: &str,
     words: &mut Words,
     out: &mut Out,
@@ -70,8 +89,8 @@ pub(crate) fn read<'a, W: WeightScale<Key<'a>, Value<'a>>>(
 }
 
 /// What a call of the whole cache counts, or `None` where the name is none of these.
-fn count_of<'a, W: WeightScale<Key<'a>, Value<'a>>>(
-    cache: &Made<'a, W>,
+fn count_of<S: BuildHasher, W: WeightScale<Key, Value>, A: Allocator + Copy>(
+    cache: &Any<S, W, A>,
     name: &str,
 ) -> Option<usize> {
     match name {
@@ -83,7 +102,7 @@ fn count_of<'a, W: WeightScale<Key<'a>, Value<'a>>>(
 }
 
 /// Says the pairs, the most recently used first.
-fn say_list(walk: Walk, out: &mut Out) {
+pub(crate) fn say_list<A: Allocator + Copy>(walk: Walk<'_, A>, out: &mut Out) {
     for (key, value) in walk {
         out.part(", ");
         say_pair(key, value, out);
@@ -93,7 +112,7 @@ fn say_list(walk: Walk, out: &mut Out) {
 
 /// Steps of one iterator, in turn: `next`, `next_back`, `nth N`, `len`, `size_hint`, `count`, and `clone`, which goes on with a
 /// copy.
-fn walk(mut walk: Walk, words: &mut Words, out: &mut Out) {
+fn walk<A: Allocator + Copy>(mut walk: Walk<'_, A>, words: &mut Words, out: &mut Out) {
     for _ in 0..usize::MAX {
         let Some(step) = words.next() else {
             break;
@@ -135,32 +154,50 @@ pub(crate) fn say_hint(hint: (usize, Option<usize>), out: &mut Out) {
 
 /// Gives a cache up for its pairs, and takes steps of that iterator, in turn: `next`, `next_back`, `len`, `size_hint`. Those that
 /// are not taken go with it.
-pub(crate) fn walk_owned<'a, W: WeightScale<Key<'a>, Value<'a>> + Drop>(
-    cache: Made<'a, W>,
+pub(crate) fn walk_owned<S: BuildHasher + Drop, W: WeightScale<Key, Value> + Drop, A>(
+    cache: Any<S, W, A>,
     words: &mut Words,
     out: &mut Out,
-) {
+)
+where
+    A: Allocator + Copy,
+{
     let mut walk = cache.into_iter();
     for _ in 0..usize::MAX {
         let Some(step) = words.next() else {
             break;
         };
         out.part("; ");
-        match step {
-            "len" => out.number(walk.len()),
-            "size_hint" => say_hint(walk.size_hint(), out),
-            "next" => say_taken(&walk.next(), out),
-            "next_back" => say_taken(&walk.next_back(), out),
-            _ => words.note(Wrong::NoSuchWord),
+        if !step_owned(&mut walk, step, out) {
+            words.note(Wrong::NoSuchWord);
         }
     }
     out.or("done");
 }
 
+/// One step of such an iterator. Answers `false` where the name is none.
+fn step_owned<S: BuildHasher + Drop, W: WeightScale<Key, Value> + Drop, A>(
+    walk: &mut Owned<S, W, A>,
+    name: &str,
+    out: &mut Out,
+) -> bool
+where
+    A: Allocator + Copy,
+{
+    match name {
+        "len" => out.number(walk.len()),
+        "size_hint" => say_hint(walk.size_hint(), out),
+        "next" => say_taken(walk.next(), out),
+        "next_back" => say_taken(walk.next_back(), out),
+        _ => return false,
+    }
+    true
+}
+
 /// Makes a call that may change the cache. Answers `false` where the name is none of these.
-pub(crate) fn change<'a, W: WeightScale<Key<'a>, Value<'a>>>(
-    cache: &mut Made<'a, W>,
-    world: &'a World,
+fn change<S: BuildHasher, W: WeightScale<Key, Value>, A: Allocator + Copy>(
+    cache: &mut Any<S, W, A>,
+    world: &'static World,
     name: &str,
     words: &mut Words,
     out: &mut Out,
@@ -169,25 +206,32 @@ pub(crate) fn change<'a, W: WeightScale<Key<'a>, Value<'a>>>(
         "put_with_weight" => put(cache, world, true, words, out),
         "put_with_weight_handing_to" => put(cache, world, false, words, out),
         "get" => say_value(cache.get(&Key::next(world, words)), out),
-        "pop" => say_value(cache.pop(&Key::next(world, words)).as_ref(), out),
-        "pop_front" => say_taken(&cache.pop_front(), out),
-        "pop_back" => say_taken(&cache.pop_back(), out),
+        "pop" => say_popped(cache.pop(&Key::next(world, words)), out),
+        "pop_front" => say_taken(cache.pop_front(), out),
+        "pop_back" => say_taken(cache.pop_back(), out),
         "clear" => cache.clear(),
         "resize" => cache.resize(words.capacity()),
-        "retain" => {
-            let keep = Keep::read(words);
-            cache.retain(|key, value| keep.asked(world, key, value));
-        }
+        "retain" => retain(cache, world, words),
         _ => return false,
     }
     out.or("done");
     true
 }
 
+/// Keeps the entries of a form.
+fn retain<S: BuildHasher, W: WeightScale<Key, Value>, A: Allocator + Copy>(
+    cache: &mut Any<S, W, A>,
+    world: &World,
+    words: &mut Words,
+) {
+    let keep = Keep::read(words);
+    cache.retain(|key, value| keep.asked(world, key, value));
+}
+
 /// A put by weight, whose closure notes what it is handed.
-pub(crate) fn put<'a, W: WeightScale<Key<'a>, Value<'a>>>(
-    cache: &mut Made<'a, W>,
-    world: &'a World,
+fn put<S: BuildHasher, W: WeightScale<Key, Value>, A: Allocator + Copy>(
+    cache: &mut Any<S, W, A>,
+    world: &'static World,
     by_value: bool,
     words: &mut Words,
     out: &mut Out,
@@ -205,6 +249,12 @@ pub(crate) fn put<'a, W: WeightScale<Key<'a>, Value<'a>>>(
         cache.put_with_weight_handing_to(key, value, &mut note)
     };
     world.note("answered", "");
+    say_put(put, out);
+    out.say(&dropped.text);
+}
+
+/// Says what became of a put by weight.
+fn say_put(put: Result<Option<Value>, PutError<Key, Value>>, out: &mut Out) {
     match &put {
         Ok(replaced) => say_stored(replaced.as_ref(), out),
         Err(PutError::TooHeavy(key, value)) => {
@@ -213,7 +263,6 @@ pub(crate) fn put<'a, W: WeightScale<Key<'a>, Value<'a>>>(
         }
         Err(PutError::NoMemory(key, value)) => say_back(key, value, out),
     }
-    out.say(&dropped.text);
 }
 
 /// Says that a pair was stored, and the old value of its key.

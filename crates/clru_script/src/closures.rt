@@ -80,7 +80,7 @@ impl Form {
     }
 
     /// The value of a new key.
-    pub(crate) fn put<'a>(self, world: &World, key: &Key, data: Value<'a>) -> Value<'a> {
+    pub(crate) fn put(self, world: &World, key: &Key, data: Value) -> Value {
         world.note("put_op", &key.text);
         let mut value = data;
         if let Form::Length = self {
@@ -108,12 +108,7 @@ impl Form {
     }
 
     /// The value of a new key, where the closure does not fail.
-    pub(crate) fn try_put<'a>(
-        self,
-        world: &World,
-        key: &Key,
-        data: Value<'a>,
-    ) -> Result<Value<'a>, Failed> {
+    pub(crate) fn try_put(self, world: &World, key: &Key, data: Value) -> Result<Value, Failed> {
         if self.fails(&data) {
             world.note("put_op", &key.text);
             return Err(Failed);

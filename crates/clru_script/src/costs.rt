@@ -1,27 +1,25 @@
 //! Blocks of costs: each line is a call of a cache of its own, and what it costs is the answer.
 
 use crate::answers::Answers;
-use crate::cache::filled;
+use crate::cache::{plain_of, weighted_of};
 use crate::fault::say_fault;
 use crate::lines::Line;
 use crate::out::Out;
-use crate::pairs::Scale;
 use crate::subject::{Subject, make, say_cost};
 use crate::words::Wrong;
 use crate::world::World;
-use clru::ZeroWeightScale;
 
 /// Runs a block.
-pub(crate) fn run(world: &World, lines: &[Line], answers: &mut Answers) {
+pub(crate) fn run(world: &'static World, lines: &[Line], answers: &mut Answers) {
     answers.say("");
     for line in lines {
         if line.call.is_empty() {
             answers.say("");
         } else if world.head.weighs {
-            let on = filled(world, Scale { world }, answers);
+            let on = weighted_of(world, answers);
             cost_of(world, on, line, answers);
         } else {
-            let on = filled(world, ZeroWeightScale, answers);
+            let on = plain_of(world, answers);
             cost_of(world, on, line, answers);
         }
     }

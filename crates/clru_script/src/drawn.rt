@@ -15,7 +15,7 @@ use crate::words::Wrong;
 use crate::world::World;
 
 /// Answers the first line of a block. No other line of it is a call.
-pub(crate) fn run(world: &World, lines: &[Line], answers: &mut Answers) {
+pub(crate) fn run(world: &'static World, lines: &[Line], answers: &mut Answers) {
     let mut out = Out::new(world.alloc);
     lived(world, &mut out);
     answers.add(out);
@@ -32,7 +32,7 @@ struct Tally {
 }
 
 /// Draws caches and their calls, and says what came of them.
-fn lived(world: &World, out: &mut Out) {
+fn lived(world: &'static World, out: &mut Out) {
     let mut tally = Tally {
         draws: Draws(world.head.seed as u64),
         calls: 0,
@@ -53,7 +53,7 @@ fn lived(world: &World, out: &mut Out) {
 }
 
 /// Makes a cache with a drawn capacity and reserve, and drawn calls of it, up to one that is not as wanted.
-fn live(world: &World, tally: &mut Tally, out: &mut Out) {
+fn live(world: &'static World, tally: &mut Tally, out: &mut Out) {
     let capacity = tally.draws.capacity();
     let reserve = tally.draws.below(9);
     world.heap.refuse_none();
@@ -71,7 +71,7 @@ fn live(world: &World, tally: &mut Tally, out: &mut Out) {
 }
 
 /// Draws which requests of the next call are refused: mostly each, or the second one, or none.
-fn refuse(world: &World, draws: &mut Draws) {
+fn refuse(world: &'static World, draws: &mut Draws) {
     match draws.below(6) {
         0..=3 => world.heap.refuse_after(0),
         4 => world.heap.refuse_one_after(1),
@@ -81,7 +81,13 @@ fn refuse(world: &World, draws: &mut Draws) {
 
 /// Makes a drawn call. It is answered as by the list, or by the refusal of its put where a request is refused. After such a
 /// one, and after each eighth, the cache holds what the list does. Writes what is wrong.
-fn call(world: &World, tally: &mut Tally, cache: &mut Numbers, pairs: &mut Pairs, out: &mut Out) {
+fn call(
+    world: &'static World,
+    tally: &mut Tally,
+    cache: &mut Numbers,
+    pairs: &mut Pairs,
+    out: &mut Out,
+) {
     let (weighs, mut again) = (world.head.weighs, tally.draws);
     let call = drawn_call(&mut again, weighs);
     let given_call = drawn_call(&mut tally.draws, weighs);

@@ -5,7 +5,6 @@ use crate::fault::Fault;
 use crate::lines::Line;
 use crate::out::Out;
 use crate::requested::read_keys;
-use crate::requests::texts_of;
 use crate::subject::{Subject, begin};
 use crate::words::{Words, Wrong};
 use crate::world::World;
@@ -14,7 +13,7 @@ use ration::Rationed;
 use std::alloc::Global;
 
 /// A look ahead.
-type Ahead<'k, 's, 'a> = Foresight<'k, &'s str, &'a Rationed<Global>>;
+type Ahead<'k> = Foresight<'k, &'static str, &'static Rationed<Global>>;
 
 /// One that lines ask.
 #[derive(Drop)]
@@ -23,19 +22,18 @@ struct Look<F: Drop> {
 }
 
 /// Runs a block.
-pub(crate) fn run(world: &World, first: &Line, lines: &[Line], answers: &mut Answers) {
+pub(crate) fn run(world: &'static World, first: &Line, lines: &[Line], answers: &mut Answers) {
     let mut words = Words::new(first.call);
     let _name = words.next();
     let list = read_keys(world, &mut words);
-    let keys = texts_of(world, world.alloc, &list);
-    let Ok(ahead) = Foresight::new(&world.heap, &keys, world.hashing()) else {
+    let Ok(ahead) = Foresight::new(&world.heap, &list.keys, world.hashing()) else {
         answers.nothing(world);
         return;
     };
     begin(world, Some(Look { ahead }), lines, answers);
 }
 
-impl<'k, 's, 'a> Subject for Look<Ahead<'k, 's, 'a>> {
+impl<'k> Subject for Look<Ahead<'k>> {
     fn call(&mut self, name: &str, words: &mut Words, out: &mut Out) {
         if name != "room" {
             words.note(Wrong::NoSuchCall);

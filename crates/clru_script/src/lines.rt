@@ -5,13 +5,13 @@ use std::alloc::{AllocError, Global};
 
 /// A line of a script, without its answer.
 #[derive(Clone, Copy)]
-pub(crate) struct Line<'s> {
+pub(crate) struct Line {
     /// What is written again, up to the arrow, and
-    pub(crate) text: &'s str,
+    pub(crate) text: &'static str,
     /// how far that reaches with its blanks, where an arrow stood.
     pub(crate) width: Option<usize>,
     /// The call, without the comment. It is empty where the line has none.
-    pub(crate) call: &'s str,
+    pub(crate) call: &'static str,
 }
 
 /// What begins a block of lines.
@@ -35,9 +35,9 @@ const SUBJECTS: [&str; 17] = [
     "input",
 ];
 
-impl<'s> Line<'s> {
+impl Line {
     /// A line of the text, or `None` for one that has an answer alone: it is made again.
-    fn new(text: &'s str) -> Option<Line<'s>> {
+    fn new(text: &'static str) -> Option<Line> {
         let (before, width) = match text.split_once("->") {
             Some((before, _)) if !before.contains("#") => (before, Some(before.len())),
             _ => (text, None),
@@ -55,13 +55,13 @@ impl<'s> Line<'s> {
     }
 
     /// The first word of the call.
-    pub(crate) fn name(&self) -> &'s str {
+    pub(crate) fn name(&self) -> &'static str {
         Words::new(self.call).next().unwrap_or("")
     }
 }
 
 /// The lines of a script.
-pub(crate) fn lines_of<'s>(alloc: Global, script: &'s str) -> Result<Vec<Line<'s>>, AllocError> {
+pub(crate) fn lines_of(alloc: Global, script: &'static str) -> Result<Vec<Line>, AllocError> {
     let mut lines = Vec::new(alloc);
     for text in script.lines() {
         if let Some(line) = Line::new(text) {

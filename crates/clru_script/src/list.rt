@@ -20,19 +20,22 @@ mod lend;
 mod read;
 mod whole;
 
-/// A list over memory that is counted.
-pub(crate) type Numbers<'a> = FixedSizeList<u64, &'a Rationed<Global>>;
+/// A list over any memory: what calls it is proved with no look at how that counts.
+pub(crate) type Numbers<A> = FixedSizeList<u64, A>;
+
+/// One over memory that is counted.
+type Counted = Numbers<&'static Rationed<Global>>;
 
 /// A list, and the world that its memory is of.
 #[derive(Drop)]
-struct List<'a, L: Drop> {
-    world: &'a World,
-    list: L,
+struct List {
+    world: &'static World,
+    list: Counted,
 }
 
 /// Runs a block: makes the list of its first line, says what that cost, and makes the calls of the others. A maker that meets a
 /// refusal is called once more.
-pub(crate) fn run(world: &World, lines: &[Line], answers: &mut Answers) {
+pub(crate) fn run(world: &'static World, lines: &[Line], answers: &mut Answers) {
     let mut before = world.cost();
     let mut list = made(world);
     if list.is_none() && answers.refused.is_some() {
@@ -58,7 +61,7 @@ pub(crate) fn run(world: &World, lines: &[Line], answers: &mut Answers) {
 }
 
 /// Makes a list, or answers `None` for want of memory.
-fn made(world: &World) -> Option<Numbers<'_>> {
+fn made(world: &'static World) -> Option<Counted> {
     let (heap, head) = (&world.heap, world.head);
     if let Some(n) = head.refuse {
         heap.refuse_after(n as u64);
@@ -72,7 +75,7 @@ fn made(world: &World) -> Option<Numbers<'_>> {
     }
 }
 
-impl<'a> Subject for List<'a, Numbers<'a>> {
+impl Subject for List {
     fn call(&mut self, name: &str, words: &mut Words, out: &mut Out) {
         if !read(&self.list, name, words, out)
             && !change(&mut self.list, self.world, name, words, out)

@@ -45,7 +45,8 @@ fn main(rt: HostRuntime) -> ExitCode {
     let Ok(input) = read_input(rt.alloc(), &mut rt.stdin()) else {
         return ExitCode::from(FAILED);
     };
-    let Ok(script) = str::from_utf8(&input) else {
+    let input: &'static [u8] = input.leak();
+    let Ok(script) = str::from_utf8(input) else {
         return ExitCode::from(FAILED);
     };
     let Ok(page) = page::answered(rt.alloc(), script) else {

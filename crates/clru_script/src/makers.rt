@@ -2,6 +2,7 @@
 //! with no further request.
 
 use crate::answers::Answers;
+use crate::cache::{Any, put_number};
 use crate::lines::Line;
 use crate::out::Out;
 use crate::pairs::{Hashing, Key, Scale, Value};
@@ -9,12 +10,11 @@ use crate::subject::say_cost;
 use crate::words::{Words, Wrong};
 use crate::world::{Cost, World};
 use clru::{CLruCache, CLruCacheConfig, WeightScale};
-use ration::Rationed;
-use std::alloc::Global;
+use std::alloc::Allocator;
 use std::hash::BuildHasher;
 
 /// Runs a block, which begins with `makers of caches`.
-pub(crate) fn run(world: &World, lines: &[Line], answers: &mut Answers) {
+pub(crate) fn run(world: &'static World, lines: &[Line], answers: &mut Answers) {
     answers.say("");
     for line in lines {
         let mut out = Out::new(world.alloc);
@@ -30,35 +30,34 @@ pub(crate) fn run(world: &World, lines: &[Line], answers: &mut Answers) {
 }
 
 /// Calls the maker of that name, with a capacity and, where it takes one, a reserve.
-fn make<'a>(world: &'a World, name: &str, words: &mut Words, out: &mut Out) {
+fn make(world: &'static World, name: &str, words: &mut Words, out: &mut Out) {
     let (heap, before, capacity) = (&world.heap, world.cost(), words.capacity());
     heap.refuse_none();
     match name {
-        "new" => filled(world, CLruCache::new(heap, capacity), before, out),
+        "new" => filled(world, &mut CLruCache::new(heap, capacity), before, out),
         "with_hasher" => {
-            let cache = CLruCache::with_hasher(heap, capacity, world.hashing());
-            filled(world, cache, before, out);
+            let mut cache = CLruCache::with_hasher(heap, capacity, world.hashing());
+            filled(world, &mut cache, before, out);
         }
         "with_scale" => {
-            let cache = CLruCache::with_scale(heap, capacity, Scale { world });
-            filled(world, cache, before, out);
+            let mut cache = CLruCache::with_scale(heap, capacity, Scale { world });
+            filled(world, &mut cache, before, out);
         }
         "with_memory" => match CLruCache::with_memory(heap, capacity, words.number()) {
-            Ok(cache) => filled(world, cache, before, out),
+            Ok(mut cache) => filled(world, &mut cache, before, out),
             Err(_) => out.say("no memory"),
         },
         "with_config" | "config" => {
-            let config: CLruCacheConfig<Key<'a>, Value<'a>, Hashing<'a>, Scale<'a>> =
-                CLruCacheConfig::new(capacity)
-                    .with_hasher(world.hashing())
-                    .with_scale(Scale { world })
-                    .with_memory(words.number());
+            let config: CLruCacheConfig<Key, Value, Hashing, Scale> = CLruCacheConfig::new(capacity)
+                .with_hasher(world.hashing())
+                .with_scale(Scale { world })
+                .with_memory(words.number());
             if name == "config" {
                 say_cost(world.cost().since(before), out);
                 return;
             }
             match CLruCache::with_config(heap, config) {
-                Ok(cache) => filled(world, cache, before, out),
+                Ok(mut cache) => filled(world, &mut cache, before, out),
                 Err(_) => out.say("no memory"),
             }
         }
@@ -67,16 +66,12 @@ fn make<'a>(world: &'a World, name: &str, words: &mut Words, out: &mut Out) {
 }
 
 /// Says what a maker asked for, and fills its cache without a further request.
-fn filled<'a, S: BuildHasher, W: WeightScale<Key<'a>, Value<'a>>>(
-    world: &'a World,
-    mut cache: CLruCache<Key<'a>, Value<'a>, S, W, &'a Rationed<Global>>,
+fn filled<S: BuildHasher, W: WeightScale<Key, Value>, A: Allocator + Copy>(
+    world: &'static World,
+    cache: &mut Any<S, W, A>,
     before: Cost,
     out: &mut Out,
-)
-where
-    S: Drop,
-    W: Drop,
-{
+) {
     let cost = world.cost().since(before);
     out.number(cost.asked as usize);
     out.count(" requests, ", cost.bytes as usize);
@@ -84,17 +79,10 @@ where
     world.heap.refuse_after(0);
     let mut room = 0usize;
     for number in 0..MOST {
-        let Ok(word) = number.to_string(world.alloc) else {
-            break;
-        };
-        if cache.len() == cache.capacity() {
+        if cache.len() == cache.capacity() || !put_number(world, cache, number) {
             break;
         }
-        let (key, value) = (Key::new(world, &word), Value::new(world, "0"));
-        if cache.put_with_weight(key, value, |_, _| {}).is_err() {
-            break;
-        }
-        room = room.saturating_add(1);
+        room = number.saturating_add(1);
     }
     world.heap.refuse_none();
     if room > 0 {

@@ -2,10 +2,9 @@
 //! that is searched from its front, and a cache.
 
 use crate::out::Out;
-use crate::pairs::Hashing;
 use crate::passes::{say_misses, say_sized, say_span};
 use crate::requested::Requested;
-use crate::requests::{MOST, texts_of};
+use crate::requests::MOST;
 use crate::simulated::simulated;
 use crate::words::{Words, capacity_of, number_of};
 use crate::world::World;
@@ -13,11 +12,8 @@ use clru::{CLruCache, CLruCacheConfig, WeightScale, replay};
 use clru_curve::{
     DistancePass, MissCurve, SizedCurve, SizedPass, SizedRequestError, miss_curve, sized_curve,
 };
-use ration::Rationed;
-use std::alloc::Global;
-
-/// The memory of passes and curves.
-type Heap<'a> = &'a Rationed<Global>;
+use std::alloc::Allocator;
+use std::hash::BuildHasher;
 
 /// The capacities at which drawn requests are run by other ways.
 const CAPACITIES: [usize; 24] = [
@@ -27,18 +23,27 @@ const CAPACITIES: [usize; 24] = [
 
 /// `misses KEYS`: the distance of each request, and the misses at the capacities 1, 2 and so on. A request that is refused memory
 /// is made again.
-pub(crate) fn misses_of(world: &World, list: &Requested, out: &mut Out) {
-    let keys = texts_of(world, world.alloc, list);
-    let mut pass = DistancePass::with_hasher(&world.heap, world.hashing());
-    if !requested(&mut pass, &keys, out) {
+pub(crate) fn misses_of(world: &'static World, list: &Requested, out: &mut Out) {
+    curves_of(world, &world.heap, world.hashing(), list, out);
+}
+
+fn curves_of<S: BuildHasher + Copy, A: Allocator + Copy>(
+    world: &'static World,
+    heap: A,
+    hashing: S,
+    list: &Requested,
+    out: &mut Out,
+) {
+    let keys = &list.keys;
+    let Some(pass) = requested(DistancePass::with_hasher(heap, hashing), keys, out) else {
         return;
-    }
-    let Ok(early) = pass.curve(&world.heap) else {
+    };
+    let Ok(early) = pass.curve(heap) else {
         out.say("; no memory for a curve");
         return;
     };
     let late = pass.into_curve();
-    let Ok(whole) = miss_curve(&world.heap, &keys, world.hashing()) else {
+    let Ok(whole) = miss_curve(heap, keys, hashing) else {
         out.say("; no memory for the whole");
         return;
     };
@@ -47,16 +52,16 @@ pub(crate) fn misses_of(world: &World, list: &Requested, out: &mut Out) {
     }
     say_misses(&whole, out);
     if list.drawn {
-        beside_replays(world, &keys, &whole, out);
+        beside_replays(world, keys, &whole, out);
     }
 }
 
-/// Makes the requests one by one, and answers whether each was taken.
-fn requested<'a, 's>(
-    pass: &mut DistancePass<&'s str, Hashing<'a>, Heap<'a>>,
-    keys: &[&'s str],
+/// Makes the requests one by one, and answers the pass where each was taken.
+fn requested<S: BuildHasher + Drop, A: Allocator + Copy>(
+    mut pass: DistancePass<&'static str, S, A>,
+    keys: &[&'static str],
     out: &mut Out,
-) -> bool {
+) -> Option<DistancePass<&'static str, S, A>> {
     if keys.len() <= MOST {
         out.say("distances");
     }
@@ -71,15 +76,20 @@ fn requested<'a, 's>(
             Err(back) => {
                 out.say(" no memory, back ");
                 out.say(back);
-                return false;
+                return None;
             }
         }
     }
-    true
+    Some(pass)
 }
 
 /// Says whether a replay at each capacity misses as often.
-fn beside_replays(world: &World, keys: &[&str], curve: &MissCurve<Heap>, out: &mut Out) {
+fn beside_replays<A: Allocator>(
+    world: &'static World,
+    keys: &[&'static str],
+    curve: &MissCurve<A>,
+    out: &mut Out,
+) {
     for number in CAPACITIES {
         let capacity = capacity_of(number);
         let Ok(list) = Vec::from_slice(world.alloc, keys) else {
@@ -96,16 +106,16 @@ fn beside_replays(world: &World, keys: &[&str], curve: &MissCurve<Heap>, out: &m
 }
 
 /// A key with its weight behind a colon.
-type Heavy<'s> = (&'s str, usize);
+type Heavy = (&'static str, usize);
 
 /// A key weighs what stands behind its colon.
 #[derive(Clone, Copy)]
 struct ByColon;
 
-impl<'s> WeightScale<Heavy<'s>, ()> for ByColon {
+impl WeightScale<Heavy, ()> for ByColon {
     ghost weight = { λ _ key _. key.1 };
 
-    fn weight(&self, key: &Heavy<'s>, _value: &()) -> usize {
+    fn weight(&self, key: &Heavy, _value: &()) -> usize {
         key.1
     }
 }
@@ -119,17 +129,29 @@ pub(crate) fn weight_of(word: &str, words: &mut Words) -> usize {
 }
 
 /// A curve by size, or the key that was not taken.
-type Curved<'s, A> = Result<SizedCurve<A>, SizedRequestError<Heavy<'s>>>;
+type Curved<A> = Result<SizedCurve<A>, SizedRequestError<Heavy>>;
 
 /// `sizes KEY:WEIGHT ..`: the span of each request, and the curve by size. A request that is refused memory is made again.
-pub(crate) fn sizes_of(world: &World, list: &Requested, words: &mut Words, out: &mut Out) {
+pub(crate) fn sizes_of(world: &'static World, list: &Requested, words: &mut Words, out: &mut Out) {
     let keys = heavy_of(world, list, words);
-    let by_pass = passed(world, &keys, out);
-    let whole = sized_curve(&world.heap, &keys, ByColon, world.hashing());
+    sized_of(world, &world.heap, world.hashing(), &keys, list.drawn, out);
+}
+
+fn sized_of<S: BuildHasher + Copy, A: Allocator + Copy>(
+    world: &'static World,
+    heap: A,
+    hashing: S,
+    keys: &[Heavy],
+    drawn: bool,
+    out: &mut Out,
+) {
+    let pass = SizedPass::with_hasher(heap, hashing);
+    let by_pass = passed(pass, keys, out);
+    let whole = sized_curve(heap, keys, ByColon, hashing);
     out.part(", ");
     match &by_pass {
-        Ok(curve) if say_curved(curve, &whole, out) && list.drawn => {
-            beside_lists(world, &keys, curve, out);
+        Ok(curve) if say_curved(curve, &whole, out) && drawn => {
+            beside_lists(world, keys, curve, out);
         }
         Ok(_) => {}
         Err(refused) => say_refused(refused, &whole, out),
@@ -137,8 +159,8 @@ pub(crate) fn sizes_of(world: &World, list: &Requested, words: &mut Words, out: 
 }
 
 /// The keys of a list, with their weights.
-fn heavy_of<'s>(world: &World, list: &'s Requested, words: &mut Words) -> Vec<Heavy<'s>> {
-    let mut keys: Vec<Heavy<'s>> = Vec::new(world.alloc);
+fn heavy_of(world: &'static World, list: &Requested, words: &mut Words) -> Vec<Heavy> {
+    let mut keys: Vec<Heavy> = Vec::new(world.alloc);
     for text in &list.keys {
         if keys.push((text, weight_of(text, words))).is_err() {
             world.is_short.set(true);
@@ -148,7 +170,7 @@ fn heavy_of<'s>(world: &World, list: &'s Requested, words: &mut Words) -> Vec<He
 }
 
 /// Says the curve of a pass beside that of the whole, and answers whether the whole is one.
-fn say_curved(curve: &SizedCurve<Heap>, whole: &Curved<Heap>, out: &mut Out) -> bool {
+fn say_curved<A: Allocator>(curve: &SizedCurve<A>, whole: &Curved<A>, out: &mut Out) -> bool {
     match whole {
         Ok(whole) => {
             say_sized(curve, out);
@@ -170,7 +192,7 @@ fn say_curved(curve: &SizedCurve<Heap>, whole: &Curved<Heap>, out: &mut Out) -> 
 }
 
 /// Says why a pass was refused, which the whole is for the same key.
-fn say_refused(refused: &SizedRequestError<Heavy>, whole: &Curved<Heap>, out: &mut Out) {
+fn say_refused<A: Allocator>(refused: &SizedRequestError<Heavy>, whole: &Curved<A>, out: &mut Out) {
     match (refused, whole) {
         (_, Err(SizedRequestError::NoMemory(back))) => {
             out.say("no memory, back ");
@@ -186,8 +208,14 @@ fn say_refused(refused: &SizedRequestError<Heavy>, whole: &Curved<Heap>, out: &m
 }
 
 /// Makes the requests one by one.
-fn passed<'w, 's>(world: &'w World, keys: &[Heavy<'s>], out: &mut Out) -> Curved<'s, Heap<'w>> {
-    let mut pass = SizedPass::with_hasher(&world.heap, world.hashing());
+fn passed<S: BuildHasher, A: Allocator + Copy>(
+    mut pass: SizedPass<Heavy, S, A>,
+    keys: &[Heavy],
+    out: &mut Out,
+) -> Curved<A>
+where
+    S: Drop,
+{
     if keys.len() <= MOST {
         out.say("spans");
     }
@@ -206,7 +234,7 @@ fn passed<'w, 's>(world: &'w World, keys: &[Heavy<'s>], out: &mut Out) -> Curved
 }
 
 /// Whether two curves say the same.
-fn alike(curve: &SizedCurve<Heap>, other: &SizedCurve<Heap>) -> bool {
+fn alike<A: Allocator>(curve: &SizedCurve<A>, other: &SizedCurve<A>) -> bool {
     curve.as_slice() == other.as_slice()
         && (curve.requests(), curve.size()) == (other.requests(), other.size())
         && curve.distinct_size() == other.distinct_size()
@@ -214,7 +242,12 @@ fn alike(curve: &SizedCurve<Heap>, other: &SizedCurve<Heap>) -> bool {
 }
 
 /// Says whether a list that is searched, a cache, and the misses where nothing weighs anything, are as the curve.
-fn beside_lists(world: &World, keys: &[Heavy], curve: &SizedCurve<Heap>, out: &mut Out) {
+fn beside_lists<A: Allocator>(
+    world: &'static World,
+    keys: &[Heavy],
+    curve: &SizedCurve<A>,
+    out: &mut Out,
+) {
     let mut sizes = Vec::new(world.alloc);
     for key in keys {
         let (number, _) = key.0.split_once(":").unwrap_or((key.0, ""));
@@ -244,7 +277,12 @@ fn beside_lists(world: &World, keys: &[Heavy], curve: &SizedCurve<Heap>, out: &m
 }
 
 /// Says whether a curve of keys that weigh nothing is that by number.
-fn beside_misses(world: &World, keys: &[Heavy], curve: &SizedCurve<Heap>, out: &mut Out) {
+fn beside_misses<A: Allocator>(
+    world: &'static World,
+    keys: &[Heavy],
+    curve: &SizedCurve<A>,
+    out: &mut Out,
+) {
     let Ok(plain) = miss_curve(world.alloc, keys, world.hashing()) else {
         out.is_short = true;
         return;
@@ -262,7 +300,7 @@ fn beside_misses(world: &World, keys: &[Heavy], curve: &SizedCurve<Heap>, out: &
 }
 
 /// The misses of a cache and their size.
-fn cached(world: &World, keys: &[Heavy], capacity: usize) -> (usize, usize) {
+fn cached(world: &'static World, keys: &[Heavy], capacity: usize) -> (usize, usize) {
     let config = CLruCacheConfig::new(capacity_of(capacity))
         .with_hasher(world.hashing())
         .with_scale(ByColon);

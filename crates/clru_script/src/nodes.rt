@@ -10,23 +10,23 @@ use crate::subject::{Subject, run_lines};
 use crate::words::{Words, Wrong};
 use crate::world::World;
 use ration::Rationed;
-use std::alloc::Global;
+use std::alloc::{Allocator, Global};
 
 mod beside;
 mod kept;
 
 /// Nodes over memory that is counted.
-pub(crate) type Numbers<'a> = Kept<&'a Rationed<Global>>;
+type Numbers = Kept<&'static Rationed<Global>>;
 
 /// Nodes, and the world that their memory is of.
 #[derive(Drop)]
-struct Held<'a, N: Drop> {
-    world: &'a World,
-    kept: N,
+struct Held {
+    world: &'static World,
+    kept: Numbers,
 }
 
 /// Runs a block: makes the nodes of its first line, and the calls of the others.
-pub(crate) fn run(world: &World, lines: &[Line], answers: &mut Answers) {
+pub(crate) fn run(world: &'static World, lines: &[Line], answers: &mut Answers) {
     match made(world) {
         Some(kept) => {
             answers.say("made");
@@ -40,7 +40,7 @@ pub(crate) fn run(world: &World, lines: &[Line], answers: &mut Answers) {
 }
 
 /// Makes nodes, or answers `None` for want of memory.
-fn made(world: &World) -> Option<Numbers<'_>> {
+fn made(world: &'static World) -> Option<Numbers> {
     let (heap, head) = (&world.heap, world.head);
     match (head.reserve, head.limit) {
         (Some(reserve), _) => Kept::with_memory(heap, head.capacity, reserve),
@@ -60,16 +60,8 @@ fn say_pair(pair: Option<(u64, u64)>, out: &mut Out) {
     }
 }
 
-/// A number, where there is one.
-fn number_of(value: Option<u64>) -> Option<usize> {
-    match value {
-        Some(value) => Some(value as usize),
-        None => None,
-    }
-}
-
 /// Says the pairs, front first.
-fn say_list(kept: &Numbers, world: &World, out: &mut Out) {
+fn say_list<A: Allocator + Copy>(kept: &Kept<A>, world: &'static World, out: &mut Out) {
     for pair in &pairs_of(kept, world) {
         out.part(", ");
         say_pair(Some(*pair), out);
@@ -96,9 +88,9 @@ fn arity(name: &str) -> usize {
 }
 
 /// Makes a call. Answers `false` where the name is none of these.
-fn made_call(
-    kept: &mut Numbers,
-    world: &World,
+fn made_call<A: Allocator + Copy>(
+    kept: &mut Kept<A>,
+    world: &'static World,
     name: &str,
     words: &mut Words,
     out: &mut Out,
@@ -120,13 +112,13 @@ fn made_call(
 }
 
 /// What a call tells.
-fn told_of(kept: &mut Numbers, name: &str, first: u64, second: u64) -> Told {
+fn told_of<A: Allocator + Copy>(kept: &mut Kept<A>, name: &str, first: u64, second: u64) -> Told {
     match name {
         "put" if kept.put(first, second) => Told::Word("stored"),
         "put" => Told::Word("not stored"),
-        "get" => Told::Number(number_of(kept.get(first))),
+        "get" => Told::item(kept.get(first)),
         "touch" => Told::Truth(kept.touch(first)),
-        "set_front" => Told::Number(number_of(kept.set_front(first))),
+        "set_front" => Told::item(kept.set_front(first)),
         "clear" => {
             kept.clear();
             Told::Word("done")
@@ -143,7 +135,7 @@ fn told_of(kept: &mut Numbers, name: &str, first: u64, second: u64) -> Told {
     }
 }
 
-impl<'a> Subject for Held<'a, Numbers<'a>> {
+impl Subject for Held {
     fn call(&mut self, name: &str, words: &mut Words, out: &mut Out) {
         if !made_call(&mut self.kept, self.world, name, words, out) {
             words.note(Wrong::NoSuchCall);

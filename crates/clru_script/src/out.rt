@@ -19,6 +19,16 @@ pub(crate) enum Told {
     NoCall,
 }
 
+impl Told {
+    /// An item as a number, where there is one.
+    pub(crate) fn item(item: Option<u64>) -> Told {
+        Told::Number(match item {
+            Some(item) => Some(item as usize),
+            None => None,
+        })
+    }
+}
+
 impl Out {
     pub(crate) fn new(alloc: Global) -> Out {
         Out {

@@ -22,7 +22,7 @@ pub(crate) struct Page {
 const COLUMN: usize = 34;
 
 /// Answers a script.
-pub(crate) fn answered(alloc: Global, script: &str) -> Result<Page, AllocError> {
+pub(crate) fn answered(alloc: Global, script: &'static str) -> Result<Page, AllocError> {
     let lines = lines_of(alloc, script)?;
     let mut page = Page {
         out: Out::new(alloc),
@@ -109,22 +109,26 @@ fn answers_of(alloc: Global, block: &[Line]) -> Answers {
 
 /// The answers of a block under one hash, in a world of its own.
 fn attempt(alloc: Global, block: &[Line], head: Head, hash: Hash, refused: Option<u64>) -> Answers {
-    let world = World::new(alloc, head, hash.fixed());
+    let mut answers = Answers::new(alloc, refused);
+    let Ok(world) = World::new(alloc, head, hash.fixed()) else {
+        answers.is_short = true;
+        return answers;
+    };
     if let Some(number) = refused {
         world.heap.refuse_one_after(number.saturating_sub(1));
     }
-    let mut answers = Answers::new(alloc, refused);
-    run(&world, block, &mut answers);
+    run(world, block, &mut answers);
     if let Some(wrong) = answers.wrong {
         answers.list.clear();
         answers.refuse(block, wrong);
         answers.meet("? the block is none");
     }
     answers.is_short = answers.is_short || world.is_short.get();
+    let _ = world.notes();
     answers
 }
 
-fn run(world: &World, block: &[Line], answers: &mut Answers) {
+fn run(world: &'static World, block: &[Line], answers: &mut Answers) {
     let Some((first, lines)) = block.split_first() else {
         return;
     };

@@ -17,10 +17,10 @@ use std::hash::{BuildHasher, FoldHasher, Hash, Hasher};
 use std::marker::Model;
 
 /// A text of counted memory.
-type Owned<'a> = String<&'a Rationed<Global>>;
+type Owned = String<&'static Rationed<Global>>;
 
 /// A word that owns memory. Where it finds none, it is empty, and that is known at the end.
-fn owned<'a>(world: &'a World, word: &str) -> Owned<'a> {
+fn owned(world: &'static World, word: &str) -> Owned {
     match String::from_str(&world.owned, word) {
         Ok(text) => text,
         Err(_) => {
@@ -31,15 +31,15 @@ fn owned<'a>(world: &'a World, word: &str) -> Owned<'a> {
 }
 
 /// A word as a key. Its number is made of its letters, and two keys are equal where their numbers are.
-pub(crate) struct Key<'a> {
-    pub(crate) text: Owned<'a>,
+pub(crate) struct Key {
+    pub(crate) text: Owned,
     pub(crate) number: u64,
-    world: &'a World,
+    world: &'static World,
 }
 
-impl<'a> Key<'a> {
+impl Key {
     /// The key of a word of at most eight letters. Where a block folds, upper and lower case are equal.
-    pub(crate) fn new(world: &'a World, word: &str) -> Key<'a> {
+    pub(crate) fn new(world: &'static World, word: &str) -> Key {
         let mut number = 0u64;
         for byte in word.bytes() {
             let letter = if world.head.folded {
@@ -57,7 +57,7 @@ impl<'a> Key<'a> {
     }
 
     /// The next word as a key.
-    pub(crate) fn next(world: &'a World, words: &mut Words) -> Key<'a> {
+    pub(crate) fn next(world: &'static World, words: &mut Words) -> Key {
         let word = words.word();
         if word.len() > 8 {
             words.note(Wrong::LongKey);
@@ -66,7 +66,7 @@ impl<'a> Key<'a> {
     }
 }
 
-impl<'a> Drop for Key<'a> {
+impl Drop for Key {
     fn drop(self) {
         self.world.note("gone", &self.text);
         let Key {
@@ -78,22 +78,22 @@ impl<'a> Drop for Key<'a> {
     }
 }
 
-impl<'a> PartialEq for Key<'a> {
+impl PartialEq for Key {
     ghost eq = { on (λ key. key.number) nat_eq };
 
     ghost laws = { Prim.search (comparing, rules) };
 
-    fn eq(&self, other: &Key<'a>) -> bool {
+    fn eq(&self, other: &Key) -> bool {
         add(&self.world.compared);
         self.number == other.number
     }
 }
 
-impl<'a> Eq for Key<'a> {
+impl Eq for Key {
     ghost laws = { Prim.search (comparing, rules) };
 }
 
-impl<'a> Hash for Key<'a> {
+impl Hash for Key {
     ghost hash_input = { λ key. fed.u64 key.number };
 
     ghost respects_eq = { Prim.search (hashing, rules) };
@@ -104,15 +104,15 @@ impl<'a> Hash for Key<'a> {
 }
 
 /// A word as a value. Contracts see its weight alone.
-pub(crate) struct Value<'a> {
-    pub(crate) text: Owned<'a>,
+pub(crate) struct Value {
+    pub(crate) text: Owned,
     weight: usize,
-    world: &'a World,
+    world: &'static World,
 }
 
-impl<'a> Value<'a> {
+impl Value {
     /// The value of a word. What should be a number and is none weighs 0.
-    pub(crate) fn new(world: &'a World, word: &str) -> Value<'a> {
+    pub(crate) fn new(world: &'static World, word: &str) -> Value {
         let weight = if !world.head.weighs {
             0
         } else if world.head.by_number {
@@ -128,7 +128,7 @@ impl<'a> Value<'a> {
     }
 
     /// The next word as a value.
-    pub(crate) fn next(world: &'a World, words: &mut Words) -> Value<'a> {
+    pub(crate) fn next(world: &'static World, words: &mut Words) -> Value {
         let word = words.word();
         if world.head.by_number {
             let _weight = words.number_of(word);
@@ -137,7 +137,7 @@ impl<'a> Value<'a> {
     }
 
     /// The word twice, as a value of this weight.
-    pub(crate) fn doubled(world: &'a World, word: &str, weight: usize) -> Value<'a>
+    pub(crate) fn doubled(world: &'static World, word: &str, weight: usize) -> Value
         ensures { result ≡ weight }
     {
         let mut text = owned(world, word);
@@ -173,7 +173,7 @@ impl<'a> Value<'a> {
     }
 }
 
-impl<'a> Drop for Value<'a> {
+impl Drop for Value {
     fn drop(self) {
         self.world.note("gone", &self.text);
         let Value {
@@ -185,7 +185,7 @@ impl<'a> Drop for Value<'a> {
     }
 }
 
-impl<'a> Model for Value<'a> {
+impl Model for Value {
     ghost use Rattle.std.specs.Prelude.{ℕ};
 
     ghost Value = { ℕ };
@@ -195,14 +195,14 @@ impl<'a> Model for Value<'a> {
 
 /// A value weighs what it says.
 #[derive(Clone, Copy)]
-pub(crate) struct Scale<'a> {
-    pub(crate) world: &'a World,
+pub(crate) struct Scale {
+    pub(crate) world: &'static World,
 }
 
-impl<'a, K> WeightScale<K, Value<'a>> for Scale<'a> {
+impl<K> WeightScale<K, Value> for Scale {
     ghost weight = { λ _ _ value. value };
 
-    fn weight(&self, _key: &K, value: &Value<'a>) -> usize {
+    fn weight(&self, _key: &K, value: &Value) -> usize {
         add(&self.world.weighed);
         value.weight
     }
@@ -210,8 +210,8 @@ impl<'a, K> WeightScale<K, Value<'a>> for Scale<'a> {
 
 /// A hash builder that counts the hashes: std's, or one that gives all keys one hash.
 #[derive(Clone, Copy)]
-pub(crate) struct Hashing<'a> {
-    pub(crate) hashed: &'a Cell<u64>,
+pub(crate) struct Hashing {
+    pub(crate) hashed: &'static Cell<u64>,
     pub(crate) fixed: Option<u64>,
 }
 
@@ -236,7 +236,7 @@ impl Hasher for Folding {
     }
 }
 
-impl<'a> BuildHasher for Hashing<'a> {
+impl BuildHasher for Hashing {
     type Hasher = Folding;
 
     ghost build_hasher = { λ s. record { folder = folding.initial; fixed = s.fixed } };

@@ -13,53 +13,73 @@ use crate::words::{Words, Wrong};
 use crate::world::World;
 use clru_curve::{DistancePass, MissCurve, SizedCurve, SizedPass, SizedRequestError};
 use ration::Rationed;
-use std::alloc::Global;
+use std::alloc::{Allocator, Global};
+use std::hash::BuildHasher;
 
-/// A pass over what is counted, by keys, and
-type Distances<'a> = DistancePass<Key<'a>, Hashing<'a>, &'a Rationed<Global>>;
+/// Memory that is counted.
+type Heap = &'static Rationed<Global>;
+
+/// A pass by keys over any hash builder and memory, and
+type Distances<S, A> = DistancePass<Key, S, A>;
+
+/// one by keys with sizes: what calls them is proved with no look at how these count.
+type Spans<S, A> = SizedPass<Key, S, A>;
+
+/// The memory that a curve is made of.
+#[derive(Clone, Copy)]
+struct Heaps<A: Copy> {
+    /// That of the block, and
+    heap: A,
+    /// that of keys, which is not refused.
+    owned: A,
+}
+
+fn heaps_of(world: &'static World) -> Heaps<Heap> {
+    Heaps {
+        heap: &world.heap,
+        owned: &world.owned,
+    }
+}
+
+/// A pass by keys, until it is made a curve, and
+#[derive(Drop)]
+struct ByKeys {
+    world: &'static World,
+    pass: Option<Distances<Hashing, Heap>>,
+}
 
 /// one by keys with sizes.
-type Spans<'a> = SizedPass<Key<'a>, Hashing<'a>, &'a Rationed<Global>>;
-
-/// A pass, until it is made a curve.
 #[derive(Drop)]
-struct Pass<'a, P: Drop> {
-    world: &'a World,
-    pass: Option<P>,
+struct BySizes {
+    world: &'static World,
+    pass: Option<Spans<Hashing, Heap>>,
 }
 
 /// Runs a block of distances.
-pub(crate) fn run_distances(world: &World, lines: &[Line], answers: &mut Answers) {
+pub(crate) fn run_distances(world: &'static World, lines: &[Line], answers: &mut Answers) {
     let pass = Some(DistancePass::with_hasher(&world.heap, world.hashing()));
-    begin(world, Some(Pass { world, pass }), lines, answers);
+    begin(world, Some(ByKeys { world, pass }), lines, answers);
 }
 
 /// Runs a block of spans.
-pub(crate) fn run_spans(world: &World, lines: &[Line], answers: &mut Answers) {
+pub(crate) fn run_spans(world: &'static World, lines: &[Line], answers: &mut Answers) {
     let pass = Some(SizedPass::with_hasher(&world.heap, world.hashing()));
-    begin(world, Some(Pass { world, pass }), lines, answers);
+    begin(world, Some(BySizes { world, pass }), lines, answers);
 }
 
-impl<'a> Subject for Pass<'a, Distances<'a>> {
+impl Subject for ByKeys {
     fn call(&mut self, name: &str, words: &mut Words, out: &mut Out) {
-        let Some(mut pass) = self.pass.take() else {
-            words.note(Wrong::NothingMade);
-            return;
-        };
-        match name {
-            "request" => request_all(self.world, &mut pass, words, out),
-            "curve" => match pass.curve(&self.world.heap) {
-                Ok(curve) => say_misses(&curve, out),
-                Err(_) => out.say("no memory"),
-            },
-            "into_curve" => {
-                say_misses(&pass.into_curve(), out);
-                return;
+        let world = self.world;
+        if name == "into_curve" {
+            match self.pass.take() {
+                Some(pass) => say_misses(&pass.into_curve(), out),
+                None => words.note(Wrong::NothingMade),
             }
-            "at" => at_capacity(self.world, &pass, words, out),
-            _ => words.note(Wrong::NoSuchCall),
+        } else if let Some(pass) = &mut self.pass {
+            call_distances(world, heaps_of(world), pass, name, words, out);
+        } else {
+            words.note(Wrong::NothingMade);
         }
-        self.pass = Some(pass);
     }
 
     fn fault(&self) -> Option<Fault> {
@@ -67,8 +87,37 @@ impl<'a> Subject for Pass<'a, Distances<'a>> {
     }
 }
 
+/// Makes a call that leaves the pass.
+fn call_distances<S: BuildHasher, A: Allocator + Copy>(
+    world: &'static World,
+    heaps: Heaps<A>,
+    pass: &mut Distances<S, A>,
+    name: &str,
+    words: &mut Words,
+    out: &mut Out,
+) {
+    match name {
+        "request" => request_all(world, pass, words, out),
+        "request_again" => request_all_again(world, pass, words, out),
+        "curve" => match pass.curve(heaps.heap) {
+            Ok(curve) => say_misses(&curve, out),
+            Err(_) => out.say("no memory"),
+        },
+        "at" => match pass.curve(heaps.owned) {
+            Ok(curve) => say_all_at(&curve, words, out),
+            Err(_) => out.is_short = true,
+        },
+        _ => words.note(Wrong::NoSuchCall),
+    }
+}
+
 /// `request KEYS`: the distance of each, up to the first one that is refused. Of many the last one is written.
-fn request_all<'a>(world: &'a World, pass: &mut Distances<'a>, words: &mut Words, out: &mut Out) {
+fn request_all<S: BuildHasher, A: Allocator + Copy>(
+    world: &'static World,
+    pass: &mut Distances<S, A>,
+    words: &mut Words,
+    out: &mut Out,
+) {
     let list = read_keys(world, words);
     for key in &list.keys {
         if list.keys.len() > MOST {
@@ -84,6 +133,26 @@ fn request_all<'a>(world: &'a World, pass: &mut Distances<'a>, words: &mut Words
     }
 }
 
+/// `request_again KEYS`: the same by a lent key, which is not taken where no request had it.
+fn request_all_again<S: BuildHasher, A: Allocator + Copy>(
+    world: &'static World,
+    pass: &mut Distances<S, A>,
+    words: &mut Words,
+    out: &mut Out,
+) {
+    let list = read_keys(world, words);
+    for text in &list.keys {
+        let key = Key::new(world, text);
+        match pass.request_again(&key) {
+            Ok(distance) => say_again(distance, out),
+            Err(back) => {
+                say_back("no memory, back ", back, out);
+                return;
+            }
+        }
+    }
+}
+
 /// Says which key came back.
 fn say_back(why: &str, key: &Key, out: &mut Out) {
     out.part(" ");
@@ -92,15 +161,7 @@ fn say_back(why: &str, key: &Key, out: &mut Out) {
 }
 
 /// `at CAPACITY ..`: the misses there.
-fn at_capacity<'a>(world: &'a World, pass: &Distances<'a>, words: &mut Words, out: &mut Out) {
-    let Ok(curve) = pass.curve(&world.owned) else {
-        out.is_short = true;
-        return;
-    };
-    say_all_at(&curve, words, out);
-}
-
-fn say_all_at(curve: &MissCurve<&Rationed<Global>>, words: &mut Words, out: &mut Out) {
+fn say_all_at<A: Allocator>(curve: &MissCurve<A>, words: &mut Words, out: &mut Out) {
     for _ in 0..usize::MAX {
         if words.is_empty() {
             break;
@@ -110,26 +171,19 @@ fn say_all_at(curve: &MissCurve<&Rationed<Global>>, words: &mut Words, out: &mut
     }
 }
 
-impl<'a> Subject for Pass<'a, Spans<'a>> {
+impl Subject for BySizes {
     fn call(&mut self, name: &str, words: &mut Words, out: &mut Out) {
-        let Some(mut pass) = self.pass.take() else {
-            words.note(Wrong::NothingMade);
-            return;
-        };
-        match name {
-            "request" => request_sized(self.world, &mut pass, words, out),
-            "curve" => match pass.curve(&self.world.heap) {
-                Ok(curve) => say_sized(&curve, out),
-                Err(_) => out.say("no memory"),
-            },
-            "into_curve" => {
-                say_sized(&pass.into_curve(), out);
-                return;
+        let world = self.world;
+        if name == "into_curve" {
+            match self.pass.take() {
+                Some(pass) => say_sized(&pass.into_curve(), out),
+                None => words.note(Wrong::NothingMade),
             }
-            "at" => at_size(self.world, &pass, words, out),
-            _ => words.note(Wrong::NoSuchCall),
+        } else if let Some(pass) = &mut self.pass {
+            call_spans(world, heaps_of(world), pass, name, words, out);
+        } else {
+            words.note(Wrong::NothingMade);
         }
-        self.pass = Some(pass);
     }
 
     fn fault(&self) -> Option<Fault> {
@@ -137,15 +191,49 @@ impl<'a> Subject for Pass<'a, Spans<'a>> {
     }
 }
 
+/// Makes a call that leaves the pass.
+fn call_spans<S: BuildHasher, A: Allocator + Copy>(
+    world: &'static World,
+    heaps: Heaps<A>,
+    pass: &mut Spans<S, A>,
+    name: &str,
+    words: &mut Words,
+    out: &mut Out,
+) {
+    match name {
+        "request" => request_sized(world, pass, words, out),
+        "request_again" => request_sized_again(world, pass, words, out),
+        "curve" => match pass.curve(heaps.heap) {
+            Ok(curve) => say_sized(&curve, out),
+            Err(_) => out.say("no memory"),
+        },
+        "at" => match pass.curve(heaps.owned) {
+            Ok(curve) => say_all_sized_at(&curve, words, out),
+            Err(_) => out.is_short = true,
+        },
+        _ => words.note(Wrong::NoSuchCall),
+    }
+}
+
+/// The key of a word `KEY:WEIGHT`.
+fn key_of(world: &'static World, word: &str) -> Key {
+    let (key, _) = word.split_once(":").unwrap_or((word, ""));
+    Key::new(world, key)
+}
+
 /// `request KEY:WEIGHT ..`: the span of each, up to the first one that is refused. Of many the last one is written.
-fn request_sized<'a>(world: &'a World, pass: &mut Spans<'a>, words: &mut Words, out: &mut Out) {
+fn request_sized<S: BuildHasher, A: Allocator + Copy>(
+    world: &'static World,
+    pass: &mut Spans<S, A>,
+    words: &mut Words,
+    out: &mut Out,
+) {
     let list = read_keys(world, words);
     for text in &list.keys {
         if list.keys.len() > MOST {
             out.clear();
         }
-        let (key, _) = text.split_once(":").unwrap_or((text, ""));
-        match pass.request(Key::new(world, key), weight_of(text, words)) {
+        match pass.request(key_of(world, text), weight_of(text, words)) {
             Ok(span) => say_span(span, out),
             Err(SizedRequestError::NoMemory(back)) => {
                 say_back("no memory, back ", &back, out);
@@ -159,12 +247,32 @@ fn request_sized<'a>(world: &'a World, pass: &mut Spans<'a>, words: &mut Words, 
     }
 }
 
+/// `request_again KEY:WEIGHT ..`: the same by a lent key, which is not taken where no request had it.
+fn request_sized_again<S: BuildHasher, A: Allocator + Copy>(
+    world: &'static World,
+    pass: &mut Spans<S, A>,
+    words: &mut Words,
+    out: &mut Out,
+) {
+    let list = read_keys(world, words);
+    for text in &list.keys {
+        let key = key_of(world, text);
+        match pass.request_again(&key, weight_of(text, words)) {
+            Ok(span) => say_again(span, out),
+            Err(SizedRequestError::NoMemory(back)) => {
+                say_back("no memory, back ", back, out);
+                return;
+            }
+            Err(SizedRequestError::TooLarge(back)) => {
+                say_back("too large, back ", back, out);
+                return;
+            }
+        }
+    }
+}
+
 /// `at CAPACITY ..`: the misses there and their size, or that there is no answer.
-fn at_size<'a>(world: &'a World, pass: &Spans<'a>, words: &mut Words, out: &mut Out) {
-    let Ok(curve) = pass.curve(&world.owned) else {
-        out.is_short = true;
-        return;
-    };
+fn say_all_sized_at<A: Allocator>(curve: &SizedCurve<A>, words: &mut Words, out: &mut Out) {
     for _ in 0..usize::MAX {
         if words.is_empty() {
             break;
@@ -186,6 +294,16 @@ fn say_at(misses: Option<usize>, size: Option<usize>, out: &mut Out) {
     }
 }
 
+/// Says a distance or a span, or that no request had the key.
+fn say_again(span: Option<usize>, out: &mut Out) {
+    if span.is_none() {
+        out.part(" ");
+        out.say("unknown");
+    } else {
+        say_span(span, out);
+    }
+}
+
 /// Says a distance or a span, or that a key is requested for the first time.
 pub(crate) fn say_span(span: Option<usize>, out: &mut Out) {
     out.part(" ");
@@ -196,7 +314,7 @@ pub(crate) fn say_span(span: Option<usize>, out: &mut Out) {
 }
 
 /// Says the misses by capacity, or how many capacities have numbers of their own.
-pub(crate) fn say_misses(curve: &MissCurve<&Rationed<Global>>, out: &mut Out) {
+pub(crate) fn say_misses<A: Allocator>(curve: &MissCurve<A>, out: &mut Out) {
     out.part(", ");
     out.count("distinct ", curve.distinct());
     if curve.distinct() <= MOST {
@@ -208,7 +326,7 @@ pub(crate) fn say_misses(curve: &MissCurve<&Rationed<Global>>, out: &mut Out) {
 }
 
 /// Says a curve by size. Each of its steps is a capacity with the size that is missed from there on.
-pub(crate) fn say_sized(curve: &SizedCurve<&Rationed<Global>>, out: &mut Out) {
+pub(crate) fn say_sized<A: Allocator>(curve: &SizedCurve<A>, out: &mut Out) {
     out.count("requests ", curve.requests());
     out.count(" of size ", curve.size());
     out.count(", distinct size ", curve.distinct_size());

@@ -1,24 +1,27 @@
 //! The calls of a cache whose pairs weigh nothing.
 
-use crate::cache::Plain;
-use crate::calls::{say_back, say_pair, say_stored, say_value};
+use crate::cache::Any;
+use crate::calls::{called, say_back, say_pair, say_stored, say_value};
 use crate::closures::{Failed, Form, Keep};
 use crate::out::Out;
-use crate::pairs::{Hashing, Key, Value};
+use crate::pairs::{Key, Value};
 use crate::words::{Words, Wrong};
 use crate::world::World;
-use clru::{CLruCacheIterMut, TryPutError};
-use ration::Rationed;
-use std::alloc::Global;
+use clru::{CLruCacheIterMut, TryPutError, ZeroWeightScale};
+use std::alloc::Allocator;
+use std::hash::BuildHasher;
 use std::mem;
 
 /// A cursor over such a cache.
-type Cursor<'c, 'a> = CLruCacheIterMut<'c, Key<'a>, Value<'a>, Hashing<'a>, &'a Rationed<Global>>;
+type Cursor<'c, S, A> = CLruCacheIterMut<'c, Key, Value, S, A>;
+
+/// Such a cache over any hash builder and memory.
+type Plain<S, A> = Any<S, ZeroWeightScale, A>;
 
 /// Makes a call. Answers `false` where the name is none of these.
-pub(crate) fn plain<'a>(
-    cache: &mut Plain<'a>,
-    world: &'a World,
+pub(crate) fn plain<S: BuildHasher, A: Allocator + Copy>(
+    cache: &mut Plain<S, A>,
+    world: &'static World,
     name: &str,
     words: &mut Words,
     out: &mut Out,
@@ -42,12 +45,17 @@ pub(crate) fn plain<'a>(
         "retain_mut" => retain_mut(cache, world, words, out),
         "front_mut" | "back_mut" => lend_end(cache, world, name, words, out),
         "iter_mut" => steps(cache, world, words, out),
-        _ => return false,
+        _ => return called(cache, world, name, words, out),
     }
     true
 }
 
-fn put<'a>(cache: &mut Plain<'a>, world: &'a World, words: &mut Words, out: &mut Out) {
+fn put<S: BuildHasher, A: Allocator + Copy>(
+    cache: &mut Plain<S, A>,
+    world: &'static World,
+    words: &mut Words,
+    out: &mut Out,
+) {
     let put = cache.put(Key::next(world, words), Value::next(world, words));
     world.note("answered", "");
     match &put {
@@ -62,7 +70,12 @@ fn put<'a>(cache: &mut Plain<'a>, world: &'a World, words: &mut Words, out: &mut
     }
 }
 
-fn put_or_modify<'a>(cache: &mut Plain<'a>, world: &'a World, words: &mut Words, out: &mut Out) {
+fn put_or_modify<S: BuildHasher, A: Allocator + Copy>(
+    cache: &mut Plain<S, A>,
+    world: &'static World,
+    words: &mut Words,
+    out: &mut Out,
+) {
     let (key, data) = (Key::next(world, words), Value::next(world, words));
     let form = Form::read(words);
     let lent = cache.put_or_modify(
@@ -77,9 +90,9 @@ fn put_or_modify<'a>(cache: &mut Plain<'a>, world: &'a World, words: &mut Words,
     }
 }
 
-fn try_put_or_modify<'a>(
-    cache: &mut Plain<'a>,
-    world: &'a World,
+fn try_put_or_modify<S: BuildHasher, A: Allocator + Copy>(
+    cache: &mut Plain<S, A>,
+    world: &'static World,
     words: &mut Words,
     out: &mut Out,
 ) {
@@ -99,7 +112,7 @@ fn try_put_or_modify<'a>(
 }
 
 /// The pairs of the words that are left.
-pub(crate) fn pairs_of<'a>(world: &'a World, words: &mut Words) -> Vec<(Key<'a>, Value<'a>)> {
+pub(crate) fn pairs_of(world: &'static World, words: &mut Words) -> Vec<(Key, Value)> {
     let mut pairs = Vec::new(world.alloc);
     for _ in 0..usize::MAX {
         if words.is_empty() {
@@ -114,7 +127,12 @@ pub(crate) fn pairs_of<'a>(world: &'a World, words: &mut Words) -> Vec<(Key<'a>,
 }
 
 /// Keeps entries by a form, and adds a number to each value where one is named.
-fn retain_mut<'a>(cache: &mut Plain<'a>, world: &'a World, words: &mut Words, out: &mut Out) {
+fn retain_mut<S: BuildHasher, A: Allocator + Copy>(
+    cache: &mut Plain<S, A>,
+    world: &'static World,
+    words: &mut Words,
+    out: &mut Out,
+) {
     let keep = Keep::read(words);
     let adds = words.passes("add");
     let more = if adds { words.number() } else { 0 };
@@ -130,9 +148,9 @@ fn retain_mut<'a>(cache: &mut Plain<'a>, world: &'a World, words: &mut Words, ou
 
 /// The first or the last entry, lent with its cache: `key`, `deref`, or `deref_mut V` and `into_mut V`, which write a value and
 /// answer the old one.
-fn lend_end<'a>(
-    cache: &mut Plain<'a>,
-    world: &'a World,
+fn lend_end<S: BuildHasher, A: Allocator + Copy>(
+    cache: &mut Plain<S, A>,
+    world: &'static World,
     name: &str,
     words: &mut Words,
     out: &mut Out,
@@ -159,7 +177,12 @@ fn lend_end<'a>(
 
 /// Steps of one cursor, in turn: `len`, or `next V`, `next_back V`, `next_entry V` and `next_entry_back V`, which write a value
 /// and answer the old one.
-fn steps<'a>(cache: &mut Plain<'a>, world: &'a World, words: &mut Words, out: &mut Out) {
+fn steps<S: BuildHasher, A: Allocator + Copy>(
+    cache: &mut Plain<S, A>,
+    world: &'static World,
+    words: &mut Words,
+    out: &mut Out,
+) {
     let mut cursor = cache.iter_mut();
     for _ in 0..usize::MAX {
         let Some(name) = words.next() else {
@@ -175,7 +198,12 @@ fn steps<'a>(cache: &mut Plain<'a>, world: &'a World, words: &mut Words, out: &m
 }
 
 /// One step of a cursor. Answers `false` where the name is none.
-fn step<'a>(cursor: &mut Cursor<'_, 'a>, name: &str, value: Value<'a>, out: &mut Out) -> bool {
+fn step<S: BuildHasher, A: Allocator + Copy>(
+    cursor: &mut Cursor<'_, S, A>,
+    name: &str,
+    value: Value,
+    out: &mut Out,
+) -> bool {
     let left = cursor.len();
     match name {
         "next" => swap(cursor.next(), value, out),
@@ -199,7 +227,7 @@ fn step<'a>(cursor: &mut Cursor<'_, 'a>, name: &str, value: Value<'a>, out: &mut
 }
 
 /// Writes a value to what is lent, where something is, and the old one as the answer.
-fn swap<'a>(lent: Option<&mut Value<'a>>, value: Value<'a>, out: &mut Out) {
+fn swap(lent: Option<&mut Value>, value: Value, out: &mut Out) {
     match lent {
         Some(held) => {
             let old = mem::replace(held, value);

@@ -15,13 +15,13 @@ use std::alloc::Global;
 
 /// What reports are of.
 #[derive(Drop)]
-struct Reports<'a> {
-    world: &'a World,
+struct Reports {
+    world: &'static World,
     input: Out,
 }
 
 /// Runs a block, which begins with its input: `input a\nb\n`, or `input " a\n"` where a blank stands at an end.
-pub(crate) fn run(world: &World, first: &Line, lines: &[Line], answers: &mut Answers) {
+pub(crate) fn run(world: &'static World, first: &Line, lines: &[Line], answers: &mut Answers) {
     let text = first.call.strip_prefix("input").unwrap_or("").trim();
     let mut input = Out::new(world.alloc);
     if !unescape(unquoted(text), &mut input) {
@@ -62,7 +62,7 @@ fn unescape(text: &str, out: &mut Out) -> bool {
     true
 }
 
-impl<'a> Subject for Reports<'a> {
+impl Subject for Reports {
     fn call(&mut self, name: &str, words: &mut Words, out: &mut Out) {
         let (mut status, mut text) = (Out::new(self.world.alloc), Out::new(self.world.alloc));
         report_of(self.world, &self.input.text, words, &mut status, &mut text);
@@ -81,7 +81,13 @@ impl<'a> Subject for Reports<'a> {
 }
 
 /// How a run by the words that are left ends, and what it writes.
-fn report_of(world: &World, input: &str, words: &mut Words, status: &mut Out, text: &mut Out) {
+fn report_of(
+    world: &'static World,
+    input: &str,
+    words: &mut Words,
+    status: &mut Out,
+    text: &mut Out,
+) {
     let mut list = Vec::new(world.alloc);
     for _ in 0..usize::MAX {
         let Some(word) = words.next() else {
@@ -108,9 +114,9 @@ fn report_of(world: &World, input: &str, words: &mut Words, status: &mut Out, te
     }
 }
 
-fn reported<'h>(
-    world: &'h World,
-    options: &Options<&'h Rationed<Global>>,
+fn reported(
+    world: &'static World,
+    options: &Options<&'static Rationed<Global>>,
     input: &str,
     status: &mut Out,
     text: &mut Out,

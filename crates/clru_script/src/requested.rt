@@ -1,12 +1,13 @@
-//! The requests of a line: keys that it names, or that it counts or draws.
+//! The requests of a line: keys that it names, or that it counts or draws. Their texts stay as long as the program.
 
+use crate::out::Out;
 use crate::words::Words;
 use crate::world::World;
 
 /// Requests, and how they were asked for.
 #[derive(Drop)]
 pub(crate) struct Requested {
-    pub(crate) keys: Vec<String>,
+    pub(crate) keys: Vec<&'static str>,
     /// Whether they are drawn, so that they are run beside what is simpler.
     pub(crate) drawn: bool,
 }
@@ -14,7 +15,7 @@ pub(crate) struct Requested {
 /// Reads what is left of a line, without the word `hash` and the one behind it: `count N of M`, the numbers below M in turn;
 /// `drawn N seed S of M`, numbers below M, of which small ones come more often; or the keys themselves. Behind `weigh M` a
 /// counted or drawn key has the rest of its number by M for a weight, behind a colon.
-pub(crate) fn read_keys(world: &World, words: &mut Words) -> Requested {
+pub(crate) fn read_keys(world: &'static World, words: &mut Words) -> Requested {
     let mut list = Requested {
         keys: Vec::new(world.alloc),
         drawn: false,
@@ -36,38 +37,45 @@ pub(crate) fn read_keys(world: &World, words: &mut Words) -> Requested {
     list
 }
 
-fn push(world: &World, key: &str, keys: &mut Vec<String>) {
-    let Ok(key) = String::from_str(world.alloc, key) else {
-        world.is_short.set(true);
-        return;
-    };
+fn push(world: &'static World, key: &'static str, keys: &mut Vec<&'static str>) {
     if keys.push(key).is_err() {
         world.is_short.set(true);
     }
 }
 
 /// So many numbers as keys.
-fn number_keys(world: &World, drawn: bool, words: &mut Words, keys: &mut Vec<String>) {
+fn number_keys(
+    world: &'static World,
+    drawn: bool,
+    words: &mut Words,
+    keys: &mut Vec<&'static str>,
+) {
     let count = words.number();
     let mut state = if drawn { words.named("seed") as u64 } else { 0 };
     let distinct = words.named("of") as u64;
     let weighed = words.passes("weigh");
     let below = if weighed { words.number() as u64 } else { 1 };
+    let mut out = Out::new(world.alloc);
     for number in 0..count as u64 {
         let number = if drawn {
             next_drawn(&mut state, distinct)
         } else {
             rest(number, distinct)
         };
-        let written = if weighed {
-            format!(in world.alloc; "{number}:{}", rest(number, below))
-        } else {
-            number.to_string(world.alloc)
-        };
-        match written {
-            Ok(key) => push(world, &key, keys),
-            Err(_) => world.is_short.set(true),
+        out.part(" ");
+        out.number(number as usize);
+        if weighed {
+            out.count(":", rest(number, below) as usize);
         }
+    }
+    if out.is_short {
+        world.is_short.set(true);
+    }
+    let Out { text, is_short: _ } = out;
+    let written: &'static [u8] = text.into_bytes().leak();
+    let mut written = Words::new(str::from_utf8(written).unwrap_or(""));
+    for _ in 0..count {
+        push(world, written.word(), keys);
     }
 }
 

@@ -13,21 +13,20 @@ use crate::words::{Words, Wrong, capacity_of};
 use crate::world::World;
 use clru::replay;
 use clru_least::{Foresight, least};
-use ration::Rationed;
-use std::alloc::{Allocator, Global};
+use std::alloc::Allocator;
 
 /// Makes each call anew, of the line alone.
 #[derive(Drop)]
-struct Requests<'a> {
-    world: &'a World,
+struct Requests {
+    world: &'static World,
 }
 
 /// Runs a block, whose first line is its call.
-pub(crate) fn run(world: &World, block: &[Line], answers: &mut Answers) {
+pub(crate) fn run(world: &'static World, block: &[Line], answers: &mut Answers) {
     run_lines(world, Requests { world }, block, answers);
 }
 
-impl<'a> Subject for Requests<'a> {
+impl Subject for Requests {
     fn call(&mut self, name: &str, words: &mut Words, out: &mut Out) {
         let world = self.world;
         match name {
@@ -50,7 +49,7 @@ pub(crate) const MOST: usize = 40;
 
 /// `replay CAPACITY KEYS`: M for each miss and H for each hit, and the number of misses; or the keys that came back for want of
 /// memory, or how many.
-fn replayed(world: &World, words: &mut Words, out: &mut Out) {
+fn replayed(world: &'static World, words: &mut Words, out: &mut Out) {
     let capacity = words.capacity();
     let list = read_keys(world, words);
     let mut keys = Vec::new(&world.owned);
@@ -90,25 +89,9 @@ fn say_back(keys: &[Key], out: &mut Out) {
     }
 }
 
-/// The keys of a list.
-pub(crate) fn texts_of<'k, A: Allocator>(
-    world: &World,
-    alloc: A,
-    list: &'k Requested,
-) -> Vec<&'k str, A> {
-    let mut keys: Vec<&'k str, A> = Vec::new(alloc);
-    for key in &list.keys {
-        if keys.push(key).is_err() {
-            world.is_short.set(true);
-        }
-    }
-    keys
-}
-
 /// `least KEYS`: the least misses with room for 1, 2 and so on, up to where they stay the same.
-fn least_of(world: &World, list: &Requested, out: &mut Out) {
-    let keys = texts_of(world, &world.owned, list);
-    let Ok(foresight) = Foresight::new(&world.heap, &keys, world.hashing()) else {
+fn least_of(world: &'static World, list: &Requested, out: &mut Out) {
+    let Ok(foresight) = Foresight::new(&world.heap, &list.keys, world.hashing()) else {
         out.say("no memory");
         return;
     };
@@ -117,7 +100,7 @@ fn least_of(world: &World, list: &Requested, out: &mut Out) {
         out.say("; no memory");
         return;
     };
-    match least(&world.heap, capacity_of(3), &keys, world.hashing()) {
+    match least(&world.heap, capacity_of(3), &list.keys, world.hashing()) {
         Ok(misses) if misses == wanted => {}
         Ok(misses) => {
             out.count("; ? ", misses);
@@ -128,7 +111,7 @@ fn least_of(world: &World, list: &Requested, out: &mut Out) {
 }
 
 /// Says the least misses by room.
-fn say_rooms(foresight: &Foresight<&str, &Rationed<Global>>, out: &mut Out) {
+fn say_rooms<K: Eq, A: Allocator + Copy>(foresight: &Foresight<K, A>, out: &mut Out) {
     let Ok(last) = foresight.least(capacity_of(usize::MAX)) else {
         out.say("no memory");
         return;
@@ -148,7 +131,7 @@ fn say_rooms(foresight: &Foresight<&str, &Rationed<Global>>, out: &mut Out) {
 }
 
 /// `least searched N seed S`: N drawn lists of ten requests of four keys, with room for 1, 2 and 3 of them in turn.
-fn searches(world: &World, words: &mut Words, out: &mut Out) {
+fn searches(world: &'static World, words: &mut Words, out: &mut Out) {
     let count = words.number();
     let mut state = words.named("seed") as u64;
     if words.passes("hash") {

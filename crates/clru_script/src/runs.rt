@@ -5,7 +5,7 @@ pub(crate) mod answers;
 mod named;
 
 use crate::answers::Answers;
-use crate::drawn::numbers::{Of, is_whole, made};
+use crate::drawn::numbers::{Counted, Of, is_whole, made};
 use crate::drawn::pairs::Pairs;
 use crate::lines::Line;
 use crate::out::Out;
@@ -15,17 +15,17 @@ use crate::words::{Words, Wrong};
 use crate::world::World;
 use clru::ZeroWeightScale;
 use clru_runs::{Attempt, Perform, PlainCall, perform_all};
-use ration::Rationed;
-use std::alloc::Global;
+use std::alloc::Allocator;
+use std::hash::BuildHasher;
 
 /// The calls of a line.
-type Calls<'a> = Vec<PlainCall<usize, usize>, &'a Rationed<Global>>;
+type Calls<A> = Vec<PlainCall<usize, usize>, A>;
 
 /// A cache of numbers that weigh nothing.
-type Plain<'a> = Of<'a, ZeroWeightScale>;
+type Plain<S, A> = Of<S, ZeroWeightScale, A>;
 
 /// Answers the lines of a block: each is a run of its own.
-pub(crate) fn run(world: &World, lines: &[Line], answers: &mut Answers) {
+pub(crate) fn run(world: &'static World, lines: &[Line], answers: &mut Answers) {
     answers.say("");
     for line in lines {
         let mut out = Out::new(world.alloc);
@@ -41,7 +41,7 @@ pub(crate) fn run(world: &World, lines: &[Line], answers: &mut Answers) {
 }
 
 /// Makes the calls of a line on a new cache. The first word may say what the run meets.
-fn line_made(world: &World, words: &mut Words, out: &mut Out) {
+fn line_made(world: &'static World, words: &mut Words, out: &mut Out) {
     if words.passes("fails") {
         fails(world, words, out);
     } else if let Some(mut cache) = filled(world, words) {
@@ -49,17 +49,17 @@ fn line_made(world: &World, words: &mut Words, out: &mut Out) {
             puts(world, &mut cache, words, out);
         } else if words.passes("refused") {
             world.heap.refuse_after(0);
-            run_of(world, &mut cache, calls_of(world, words), out);
+            run_of(world, &world.owned, &mut cache, calls_of(world, words), out);
         } else if words.passes("unanswered") {
-            unanswered(world, &mut cache, calls_of(world, words), out);
+            unanswered(world, &world.owned, &mut cache, calls_of(world, words), out);
         } else {
-            run_of(world, &mut cache, calls_of(world, words), out);
+            run_of(world, &world.owned, &mut cache, calls_of(world, words), out);
         }
     }
 }
 
 /// A cache with the first entries.
-fn filled<'a>(world: &'a World, words: &mut Words) -> Option<Plain<'a>> {
+fn filled(world: &'static World, words: &mut Words) -> Option<Counted<ZeroWeightScale>> {
     let head = world.head;
     let reserve = head.reserve.unwrap_or(0);
     let mut cache = made(world, head.capacity, reserve, ZeroWeightScale)?;
@@ -72,9 +72,15 @@ fn filled<'a>(world: &'a World, words: &mut Words) -> Option<Plain<'a>> {
 }
 
 /// Makes a run, and writes its answers and what it cost. One request is made for the answers.
-fn run_of<'a>(world: &'a World, cache: &mut Plain<'a>, calls: Calls<'a>, out: &mut Out) {
+fn run_of<S: BuildHasher, A: Allocator + Copy>(
+    world: &'static World,
+    owned: A,
+    cache: &mut Plain<S, A>,
+    calls: Calls<A>,
+    out: &mut Out,
+) {
     let (before, asked) = (world.cost(), world.owned.asked());
-    let Ok(answers) = perform_all(&world.owned, cache, calls) else {
+    let Ok(answers) = perform_all(owned, cache, calls) else {
         out.is_short = true;
         return;
     };
@@ -95,21 +101,32 @@ fn run_of<'a>(world: &'a World, cache: &mut Plain<'a>, calls: Calls<'a>, out: &m
 }
 
 /// Makes a run whose answers find no memory: no call is made, and all come back. They are made again then.
-fn unanswered<'a>(world: &'a World, cache: &mut Plain<'a>, calls: Calls<'a>, out: &mut Out) {
+fn unanswered<S: BuildHasher, A: Allocator + Copy>(
+    world: &'static World,
+    owned: A,
+    cache: &mut Plain<S, A>,
+    calls: Calls<A>,
+    out: &mut Out,
+) {
     world.owned.refuse_one_after(0);
-    match perform_all(&world.owned, cache, calls) {
+    match perform_all(owned, cache, calls) {
         Ok(_) => out.say("? the memory is not refused"),
         Err(calls) => {
             out.number(calls.len());
             out.count(" calls back, ", cache.len());
             out.say(" held; again ");
-            run_of(world, cache, calls, out);
+            run_of(world, owned, cache, calls, out);
         }
     }
 }
 
 /// `puts N`: a run of puts of the keys below N.
-fn puts<'a>(world: &'a World, cache: &mut Plain<'a>, words: &mut Words, out: &mut Out) {
+fn puts(
+    world: &'static World,
+    cache: &mut Counted<ZeroWeightScale>,
+    words: &mut Words,
+    out: &mut Out,
+) {
     let count = words.number();
     let mut calls = Vec::new(&world.owned);
     for number in 0..count {
@@ -131,7 +148,7 @@ fn puts<'a>(world: &'a World, cache: &mut Plain<'a>, words: &mut Words, out: &mu
 
 /// `fails K ..`: puts of these keys by closures, of which the first one fails, or the second, and so on, with and without a
 /// value written. After each, the cache holds what the list does.
-fn fails(world: &World, words: &mut Words, out: &mut Out) {
+fn fails(world: &'static World, words: &mut Words, out: &mut Out) {
     let mut keys = Vec::new(world.alloc);
     for _ in 0..usize::MAX {
         if words.is_empty() {
@@ -157,9 +174,9 @@ fn fails(world: &World, words: &mut Words, out: &mut Out) {
 }
 
 /// Puts of keys, of which the one of a number fails.
-fn failing(
-    world: &World,
-    cache: &mut Plain,
+fn failing<S: BuildHasher, A: Allocator + Copy>(
+    world: &'static World,
+    cache: &mut Plain<S, A>,
     keys: &[usize],
     at: usize,
     left: Option<usize>,

@@ -6,7 +6,7 @@ ghost use Rattle.std.proofs.Common.{rules};
 
 use crate::answers::Answers;
 use crate::cache::made;
-use crate::calls::{read, say_found, say_value};
+use crate::calls::{read, say_found, say_list, say_popped, say_value};
 use crate::costs::cost_of;
 use crate::fault::Fault;
 use crate::lines::Line;
@@ -18,7 +18,8 @@ use crate::words::{Words, Wrong};
 use crate::world::{World, add};
 use clru_through::{Answer, Loaded, Source, Through};
 use ration::Rationed;
-use std::alloc::Global;
+use std::alloc::{Allocator, Global};
+use std::hash::BuildHasher;
 
 /// A fetch fails where the line `fail` asked for it.
 #[derive(Clone, Copy)]
@@ -26,15 +27,15 @@ struct Failed;
 
 /// Gives each key twice.
 #[derive(Drop)]
-struct Origin<'a> {
-    world: &'a World,
+struct Origin {
+    world: &'static World,
     /// What a letter of a key adds to the weight of its value.
     unit: usize,
 }
 
-impl<'a> Origin<'a> {
+impl Origin {
     /// The value of a key.
-    fn value(&self, key: &Key<'a>) -> Value<'a>
+    fn value(&self, key: &Key) -> Value
         ensures { result ≡ min (self.now.unit * (8 - count_leading_zeros 64 key.now.number / 8)) (2 ^ 64 - 1) }
     {
         let letters = 8u32.saturating_sub(key.number.leading_zeros() / 8);
@@ -46,12 +47,12 @@ impl<'a> Origin<'a> {
     }
 }
 
-impl<'a> Source<Key<'a>, Value<'a>, Failed> for Origin<'a> {
+impl Source<Key, Value, Failed> for Origin {
     ghost value = { λ s key. Some (min (s.unit * (8 - count_leading_zeros 64 key.number / 8)) (2 ^ 64 - 1)) };
 
     ghost fetches = { λ _ _ _ _. ⊤ };
 
-    fn fetch(&mut self, key: &Key<'a>) -> Result<Value<'a>, Failed> {
+    fn fetch(&mut self, key: &Key) -> Result<Value, Failed> {
         let number = self.world.fetched.get();
         add(&self.world.fetched);
         if self.world.fails_from.get() <= number && number < self.world.fails_below.get() {
@@ -64,31 +65,26 @@ impl<'a> Source<Key<'a>, Value<'a>, Failed> for Origin<'a> {
 }
 
 /// A store over what is counted.
-type Counted<'a> = Through<
-    Key<'a>,
-    Value<'a>,
-    Failed,
-    Origin<'a>,
-    Hashing<'a>,
-    Scale<'a>,
-    &'a Rationed<Global>,
->;
+type Counted = Any<Hashing, &'static Rationed<Global>>;
+
+/// One over any hash builder and memory.
+type Any<S, A> = Through<Key, Value, Failed, Origin, S, Scale, A>;
 
 /// A store with what its calls are made of, until it is taken apart.
 #[derive(Drop)]
-struct Store<'a, T: Drop> {
-    world: &'a World,
-    through: Option<T>,
+struct Store {
+    world: &'static World,
+    through: Option<Counted>,
 }
 
 /// Runs a block: makes the store of its first line, and the calls of the others.
-pub(crate) fn run(world: &World, lines: &[Line], answers: &mut Answers) {
+pub(crate) fn run(world: &'static World, lines: &[Line], answers: &mut Answers) {
     let store = filled(world, answers);
     begin(world, store, lines, answers);
 }
 
 /// Runs a block whose lines have a store each, and as their answer what its call costs.
-pub(crate) fn run_costs(world: &World, lines: &[Line], answers: &mut Answers) {
+pub(crate) fn run_costs(world: &'static World, lines: &[Line], answers: &mut Answers) {
     answers.say("");
     for line in lines {
         if line.call.is_empty() {
@@ -101,7 +97,7 @@ pub(crate) fn run_costs(world: &World, lines: &[Line], answers: &mut Answers) {
 }
 
 /// Makes a store and loads the first keys, or answers `None` for want of memory.
-fn filled<'a>(world: &'a World, answers: &mut Answers) -> Option<Store<'a, Counted<'a>>> {
+fn filled(world: &'static World, answers: &mut Answers) -> Option<Store> {
     let head = world.head;
     let reserve = head.reserve.unwrap_or(0);
     let mut cache = made(world, head.capacity, reserve, Scale { world })?;
@@ -114,7 +110,11 @@ fn filled<'a>(world: &'a World, answers: &mut Answers) -> Option<Store<'a, Count
     Some(Store { world, through })
 }
 
-fn load<'a>(world: &'a World, store: &mut Counted<'a>, answers: &mut Answers) {
+fn load<S: BuildHasher, A: Allocator + Copy>(
+    world: &'static World,
+    store: &mut Any<S, A>,
+    answers: &mut Answers,
+) {
     for number in 0..world.head.filled {
         let Ok(word) = number.to_string(world.alloc) else {
             answers.is_short = true;
@@ -127,7 +127,7 @@ fn load<'a>(world: &'a World, store: &mut Counted<'a>, answers: &mut Answers) {
     }
 }
 
-impl<'a> Subject for Store<'a, Counted<'a>> {
+impl Subject for Store {
     fn call(&mut self, name: &str, words: &mut Words, out: &mut Out) {
         let world = self.world;
         if name == "fail" {
@@ -135,23 +135,16 @@ impl<'a> Subject for Store<'a, Counted<'a>> {
             out.say("done");
             return;
         }
-        let Some(mut store) = self.through.take() else {
-            words.note(Wrong::NothingMade);
-            return;
-        };
         if name == "into_parts" {
-            let (cache, source) = store.into_parts();
-            let _listed = read(&cache, world, "list", words, out);
-            out.count("; fetches ", source.world.fetched.get() as usize);
-            return;
+            match self.through.take() {
+                Some(store) => say_parts(store, out),
+                None => words.note(Wrong::NothingMade),
+            }
+        } else if let Some(store) = &mut self.through {
+            called(store, world, name, words, out);
+        } else {
+            words.note(Wrong::NothingMade);
         }
-        if !looked_up(&mut store, world, name, words, out)
-            && !changed(&mut store, name, words, out)
-            && !read(store.cache(), world, name, words, out)
-        {
-            words.note(Wrong::NoSuchCall);
-        }
-        self.through = Some(store);
     }
 
     fn fault(&self) -> Option<Fault> {
@@ -163,7 +156,7 @@ impl<'a> Subject for Store<'a, Counted<'a>> {
 }
 
 /// `fail N`: each fetch after the next N ones; `fail one N`: the one after them alone; `fail none`.
-fn fail(world: &World, words: &mut Words) {
+fn fail(world: &'static World, words: &mut Words) {
     if words.passes("none") {
         world.fails_below.set(0);
         return;
@@ -178,33 +171,44 @@ fn fail(world: &World, words: &mut Words) {
     });
 }
 
+/// Takes a store apart, and says what it held and how often it fetched.
+fn say_parts<S: BuildHasher + Drop, A: Allocator + Copy>(store: Any<S, A>, out: &mut Out) {
+    let (cache, source) = store.into_parts();
+    say_list(cache.iter(), out);
+    out.count("; fetches ", source.world.fetched.get() as usize);
+}
+
+/// Makes a call that leaves the store.
+fn called<S: BuildHasher, A: Allocator + Copy>(
+    store: &mut Any<S, A>,
+    world: &'static World,
+    name: &str,
+    words: &mut Words,
+    out: &mut Out,
+) {
+    if !looked_up(store, world, name, words, out)
+        && !changed(store, name, words, out)
+        && !read(store.cache(), world, name, words, out)
+    {
+        words.note(Wrong::NoSuchCall);
+    }
+}
+
 /// Makes a call that looks for a key. Answers `false` where the name is none of these.
-fn looked_up<'a>(
-    store: &mut Counted<'a>,
-    world: &'a World,
+fn looked_up<S: BuildHasher, A: Allocator + Copy>(
+    store: &mut Any<S, A>,
+    world: &'static World,
     name: &str,
     words: &mut Words,
     out: &mut Out,
 ) -> bool {
     match name {
-        "load" => match store.load(Key::next(world, words)) {
-            Ok(Loaded::Held { fetched: true }) => out.say("fetched"),
-            Ok(Loaded::Held { fetched: false }) => out.say("held"),
-            Ok(Loaded::Passed(value)) => say_of("passed ", &value, out),
-            Err(Failed) => out.say("failed"),
-        },
-        "get" => match store.get(Key::next(world, words)) {
-            Ok(Answer::Held(value)) => say_of("held ", value, out),
-            Ok(Answer::Passed(value)) => say_of("passed ", &value, out),
-            Err(Failed) => out.say("failed"),
-        },
+        "load" => say_loaded(store.load(Key::next(world, words)), out),
+        "get" => say_answer(store.get(Key::next(world, words)), out),
         "put" => {
             let key = Key::next(world, words);
             let value = store.source().value(&key);
-            match store.put(key, value) {
-                Ok(()) => out.say("stored"),
-                Err(value) => say_of("back ", &value, out),
-            }
+            say_put(store.put(key, value), out);
         }
         "hit" => out.truth(store.hit(&Key::next(world, words))),
         "is_too_heavy" => {
@@ -215,11 +219,38 @@ fn looked_up<'a>(
         "peek" => say_value(store.peek(&Key::next(world, words)), out),
         "pop" => {
             let value = store.pop(&Key::next(world, words));
-            say_value(value.as_ref(), out);
+            say_popped(value, out);
         }
         _ => return false,
     }
     true
+}
+
+/// Says what a load answered,
+fn say_loaded(loaded: Result<Loaded<Value>, Failed>, out: &mut Out) {
+    match &loaded {
+        Ok(Loaded::Held { fetched: true }) => out.say("fetched"),
+        Ok(Loaded::Held { fetched: false }) => out.say("held"),
+        Ok(Loaded::Passed(value)) => say_of("passed ", value, out),
+        Err(Failed) => out.say("failed"),
+    }
+}
+
+/// what a `get` did,
+fn say_answer(answer: Result<Answer<'_, Value>, Failed>, out: &mut Out) {
+    match &answer {
+        Ok(Answer::Held(value)) => say_of("held ", value, out),
+        Ok(Answer::Passed(value)) => say_of("passed ", value, out),
+        Err(Failed) => out.say("failed"),
+    }
+}
+
+/// and what a put did.
+fn say_put(put: Result<(), Value>, out: &mut Out) {
+    match &put {
+        Ok(()) => out.say("stored"),
+        Err(value) => say_of("back ", value, out),
+    }
 }
 
 /// Says what became of a value.
@@ -229,7 +260,12 @@ fn say_of(what: &str, value: &Value, out: &mut Out) {
 }
 
 /// Makes a call of the whole store. Answers `false` where the name is none of these.
-fn changed<'a>(store: &mut Counted<'a>, name: &str, words: &mut Words, out: &mut Out) -> bool {
+fn changed<S: BuildHasher, A: Allocator + Copy>(
+    store: &mut Any<S, A>,
+    name: &str,
+    words: &mut Words,
+    out: &mut Out,
+) -> bool {
     match name {
         "clear" => store.clear(),
         "resize" => store.resize(words.capacity()),
@@ -242,7 +278,7 @@ fn changed<'a>(store: &mut Counted<'a>, name: &str, words: &mut Words, out: &mut
 }
 
 /// What a call of the whole store tells.
-fn told_of(store: &Counted, name: &str) -> Told {
+fn told_of<S: BuildHasher, A: Allocator + Copy>(store: &Any<S, A>, name: &str) -> Told {
     match name {
         "len" => Told::Number(Some(store.len())),
         "weight" => Told::Number(Some(store.weight())),

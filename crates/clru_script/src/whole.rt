@@ -1,19 +1,21 @@
 //! What has to hold of a cache after each call.
 
-use crate::cache::Made;
+use crate::cache::Any;
 use crate::fault::Fault;
 use crate::pairs::{Key, Value};
 use crate::world::World;
 use clru::WeightScale;
+use std::alloc::Allocator;
+use std::hash::BuildHasher;
 
 /// The entries up to which a cache is looked through.
 const MOST: usize = 100;
 
 /// What is wrong with a cache, if anything: its walks from both ends, the look-up of each key, its size, and the blocks that its
 /// pairs own.
-pub(crate) fn fault_of<'a, W: WeightScale<Key<'a>, Value<'a>>>(
+pub(crate) fn fault_of<S: BuildHasher, W: WeightScale<Key, Value>, A: Allocator + Copy>(
     world: &World,
-    cache: &Made<'a, W>,
+    cache: &Any<S, W, A>,
 ) -> Option<Fault> {
     let len = cache.len();
     if world.owned.blocks() != (len as u64).saturating_mul(2) {
@@ -41,9 +43,9 @@ pub(crate) fn fault_of<'a, W: WeightScale<Key<'a>, Value<'a>>>(
 }
 
 /// Whether a key has this index from the back.
-fn is_at<'a, W: WeightScale<Key<'a>, Value<'a>>>(
-    cache: &Made<'a, W>,
-    key: &Key<'a>,
+fn is_at<S: BuildHasher, W: WeightScale<Key, Value>, A: Allocator + Copy>(
+    cache: &Any<S, W, A>,
+    key: &Key,
     index: usize,
 ) -> bool {
     match cache.iter().nth_back(index) {

@@ -40,13 +40,13 @@ impl Wrong {
 /// The words of a call that are left, and what is wrong with those that were read. A word that is missing is read as an empty
 /// one, and what is no number as 0, so that a call takes them without a look at each: the answer is then what is wrong.
 #[derive(Clone, Copy)]
-pub(crate) struct Words<'s> {
-    rest: &'s str,
+pub(crate) struct Words {
+    rest: &'static str,
     pub(crate) wrong: Option<Wrong>,
 }
 
-impl<'s> Words<'s> {
-    pub(crate) fn new(text: &'s str) -> Words<'s> {
+impl Words {
+    pub(crate) fn new(text: &'static str) -> Words {
         Words {
             rest: text,
             wrong: None,
@@ -54,7 +54,7 @@ impl<'s> Words<'s> {
     }
 
     /// The next word, where there is one.
-    pub(crate) fn next(&mut self) -> Option<&'s str> {
+    pub(crate) fn next(&mut self) -> Option<&'static str> {
         let text = self.rest.trim_start();
         let (word, rest) = text.split_once(' ').unwrap_or((text, ""));
         self.rest = rest;
@@ -67,7 +67,7 @@ impl<'s> Words<'s> {
     }
 
     /// The next word, which has to be there.
-    pub(crate) fn word(&mut self) -> &'s str {
+    pub(crate) fn word(&mut self) -> &'static str {
         match self.next() {
             Some(word) => word,
             None => {

@@ -1,9 +1,10 @@
-//! What a script's caches stand on: memory that is counted and can be refused, and what was done so far.
+//! What a script's caches stand on: memory that is counted and can be refused, and what was done so far. A world stays as long
+//! as the program, as each text of the script does: code that borrows a cache whose type has a lifetime is dear to prove.
 
 use crate::head::Head;
 use crate::pairs::Hashing;
 use ration::Rationed;
-use std::alloc::Global;
+use std::alloc::{AllocError, Global};
 use std::cell::Cell;
 
 /// Counts, memory and notes of one run of a block of lines.
@@ -62,8 +63,13 @@ pub(crate) fn add(count: &Cell<u64>) {
 }
 
 impl World {
-    pub(crate) fn new(alloc: Global, head: Head, fixed: Option<u64>) -> World {
-        World {
+    /// A new one, which stays as long as the program.
+    pub(crate) fn new(
+        alloc: Global,
+        head: Head,
+        fixed: Option<u64>,
+    ) -> Result<&'static World, AllocError> {
+        let world = World {
             alloc,
             head,
             fixed,
@@ -77,11 +83,16 @@ impl World {
             owned: Rationed::new(alloc),
             is_short: Cell::new(false),
             notes: Cell::new(String::new(alloc)),
-        }
+        };
+        let Ok(world) = Box::new(alloc, world) else {
+            return Err(AllocError);
+        };
+        let world: &'static World = Box::leak(world);
+        Ok(world)
     }
 
     /// The builder of the block.
-    pub(crate) fn hashing(&self) -> Hashing<'_> {
+    pub(crate) fn hashing(&'static self) -> Hashing {
         Hashing {
             hashed: &self.hashed,
             fixed: self.fixed,

@@ -1,17 +1,21 @@
 //! Caches of numbers over an allocator that refuses.
 
+use crate::cache::empty;
 use crate::drawn::calls::KEYS;
 use crate::drawn::pairs::Pairs;
 use crate::pairs::Hashing;
-use crate::words::capacity_of;
 use crate::world::World;
-use clru::{CLruCache, CLruCacheConfig, WeightScale, ZeroWeightScale};
+use clru::{CLruCache, WeightScale, ZeroWeightScale};
 use clru_runs::{Answer, Perform, PlainCall};
 use ration::Rationed;
-use std::alloc::Global;
+use std::alloc::{Allocator, Global};
+use std::hash::BuildHasher;
 
 /// A cache of numbers.
-pub(crate) type Of<'a, W> = CLruCache<usize, usize, Hashing<'a>, W, &'a Rationed<Global>>;
+pub(crate) type Of<S, W, A> = CLruCache<usize, usize, S, W, A>;
+
+/// One over what is counted.
+pub(crate) type Counted<W> = Of<Hashing, W, &'static Rationed<Global>>;
 
 /// A value weighs the number that it is.
 #[derive(Clone, Copy)]
@@ -27,14 +31,14 @@ impl WeightScale<usize, usize> for ByNumber {
 
 /// One in which values weigh nothing, or the number that they are.
 #[derive(Drop)]
-pub(crate) enum Numbers<'a> {
-    Plain(Of<'a, ZeroWeightScale>),
-    Weighed(Of<'a, ByNumber>),
+pub(crate) enum Numbers {
+    Plain(Counted<ZeroWeightScale>),
+    Weighed(Counted<ByNumber>),
 }
 
-impl<'a> Numbers<'a> {
+impl Numbers {
     /// An empty one, or `None` for want of memory.
-    pub(crate) fn new(world: &'a World, capacity: usize, reserve: usize) -> Option<Numbers<'a>> {
+    pub(crate) fn new(world: &'static World, capacity: usize, reserve: usize) -> Option<Numbers> {
         if world.head.weighs {
             Some(Numbers::Weighed(made(world, capacity, reserve, ByNumber)?))
         } else {
@@ -63,21 +67,22 @@ impl<'a> Numbers<'a> {
 }
 
 /// An empty cache of numbers.
-pub(crate) fn made<'a, W: WeightScale<usize, usize> + Copy>(
-    world: &'a World,
+pub(crate) fn made<W: WeightScale<usize, usize> + Copy>(
+    world: &'static World,
     capacity: usize,
     reserve: usize,
     scale: W,
-) -> Option<Of<'a, W>> {
-    let config = CLruCacheConfig::new(capacity_of(capacity))
-        .with_hasher(world.hashing())
-        .with_scale(scale)
-        .with_memory(reserve);
-    CLruCache::with_config(&world.heap, config).ok()
+) -> Option<Counted<W>> {
+    empty(&world.heap, world.hashing(), capacity, reserve, scale)
 }
 
 /// Whether the cache holds the pairs of the list and no other: from the front, from the back, and by a look-up of each key.
-pub(crate) fn is_whole<'a, W: WeightScale<usize, usize>>(cache: &Of<'a, W>, pairs: &Pairs) -> bool {
+pub(crate) fn is_whole<S, W, A>(cache: &Of<S, W, A>, pairs: &Pairs) -> bool
+where
+    S: BuildHasher,
+    W: WeightScale<usize, usize>,
+    A: Allocator + Copy,
+{
     if (cache.len(), cache.weight(), cache.capacity())
         != (pairs.list.len(), pairs.weight(), pairs.capacity)
     {

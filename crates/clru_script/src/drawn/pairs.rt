@@ -16,7 +16,7 @@ pub(crate) struct Pairs {
 }
 
 impl Pairs {
-    pub(crate) fn new(world: &World, capacity: usize) -> Pairs {
+    pub(crate) fn new(world: &'static World, capacity: usize) -> Pairs {
         Pairs {
             list: Vec::new(world.alloc),
             capacity,

@@ -6,12 +6,13 @@ use crate::list::whole::is_behind;
 use crate::out::Out;
 use crate::requested::stepped;
 use crate::world::World;
+use std::alloc::Allocator;
 
 /// The places with their items, front first.
 type Entries = Vec<(usize, u64)>;
 
 /// Pushes a number to the front where it is even, and else to the back, up to a length.
-pub(crate) fn fill(list: &mut Numbers, len: usize, out: &mut Out) {
+pub(crate) fn fill<A: Allocator + Copy>(list: &mut Numbers<A>, len: usize, out: &mut Out) {
     for number in list.len()..len {
         let item = number as u64;
         let pushed = if item % 2 == 0 {
@@ -27,7 +28,12 @@ pub(crate) fn fill(list: &mut Numbers, len: usize, out: &mut Out) {
 }
 
 /// Makes so many drawn calls, and looks at each answer, and at all places by each hundredth call.
-pub(crate) fn schedule(list: &mut Numbers, world: &World, calls: usize, out: &mut Out) {
+pub(crate) fn schedule<A: Allocator + Copy>(
+    list: &mut Numbers<A>,
+    world: &'static World,
+    calls: usize,
+    out: &mut Out,
+) {
     let mut entries = Vec::new(world.alloc);
     for (place, item) in &*list {
         if entries.push((place, *item)).is_err() {
@@ -51,7 +57,12 @@ pub(crate) fn schedule(list: &mut Numbers, world: &World, calls: usize, out: &mu
 }
 
 /// Makes a drawn call, and answers whether it did to both the same.
-fn step(list: &mut Numbers, entries: &mut Entries, seed: u64, item: u64) -> bool {
+fn step<A: Allocator + Copy>(
+    list: &mut Numbers<A>,
+    entries: &mut Entries,
+    seed: u64,
+    item: u64,
+) -> bool {
     let number = (seed >> 33) as usize;
     let is_alike = match (seed >> 20) % 8 {
         0 | 1 => {
@@ -70,8 +81,8 @@ fn step(list: &mut Numbers, entries: &mut Entries, seed: u64, item: u64) -> bool
 }
 
 /// Puts an entry at an index where the list has it at a place, and else answers whether it is full.
-fn pushed_at(
-    list: &Numbers,
+fn pushed_at<A: Allocator + Copy>(
+    list: &Numbers<A>,
     entries: &mut Entries,
     at: usize,
     place: Option<usize>,
@@ -84,7 +95,12 @@ fn pushed_at(
 }
 
 /// Removes the item of a drawn entry, or moves it to the front.
-fn visit(list: &mut Numbers, entries: &mut Entries, removes: bool, number: usize) -> bool {
+fn visit<A: Allocator + Copy>(
+    list: &mut Numbers<A>,
+    entries: &mut Entries,
+    removes: bool,
+    number: usize,
+) -> bool {
     let len = entries.len();
     if len == 0 {
         return list.pop_front().is_none();
@@ -98,7 +114,7 @@ fn visit(list: &mut Numbers, entries: &mut Entries, removes: bool, number: usize
 }
 
 /// Whether the list has these places with these items, by a walk from each end and by the places.
-fn has(list: &Numbers, entries: &[(usize, u64)]) -> bool {
+fn has<A: Allocator + Copy>(list: &Numbers<A>, entries: &[(usize, u64)]) -> bool {
     let (mut forward, mut backward) = (list.iter(), list.iter());
     let (mut at, mut before, mut is_alike) = (list.front_idx(), None, true);
     for ((place, item), (last, other)) in entries.iter().zip(entries.iter().rev()) {
@@ -114,7 +130,7 @@ fn has(list: &Numbers, entries: &[(usize, u64)]) -> bool {
 }
 
 /// Whether each index leads to the place that is there, upwards and downwards.
-fn counts(list: &mut Numbers, entries: &[(usize, u64)]) -> bool {
+fn counts<A: Allocator + Copy>(list: &mut Numbers<A>, entries: &[(usize, u64)]) -> bool {
     let (mut at, mut is_alike) = (0usize, true);
     for (place, _) in entries {
         is_alike = is_alike && list.place_at(at) == Some(*place);

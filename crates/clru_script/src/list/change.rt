@@ -3,16 +3,16 @@
 use crate::list::Numbers;
 use crate::list::beside::{fill, schedule};
 use crate::list::lend::{retain, retain_mut, swap, writes};
-use crate::list::read::number_of;
 use crate::out::{Out, Told};
 use crate::words::Words;
 use crate::world::World;
 use clru_list::PushError;
+use std::alloc::Allocator;
 
 /// Makes a call that may change the list. Answers `false` where the name is none of these.
-pub(crate) fn change(
-    list: &mut Numbers,
-    world: &World,
+pub(crate) fn change<A: Allocator + Copy>(
+    list: &mut Numbers<A>,
+    world: &'static World,
     name: &str,
     words: &mut Words,
     out: &mut Out,
@@ -36,18 +36,15 @@ pub(crate) fn change(
 }
 
 /// What a call tells, of a place or an index.
-fn told_of(list: &mut Numbers, name: &str, number: usize) -> Told {
+fn told_of<A: Allocator + Copy>(list: &mut Numbers<A>, name: &str, number: usize) -> Told {
     match name {
-        "remove" => Told::Number(number_of(list.remove(number).as_ref())),
-        "pop_front" => Told::Number(number_of(list.pop_front().as_ref())),
-        "move_front" => Told::Number(number_of(list.move_front(number).copied().as_ref())),
+        "remove" => Told::item(list.remove(number)),
+        "pop_front" => Told::item(list.pop_front()),
+        "move_front" => Told::item(list.move_front(number).copied()),
         "place_at" => Told::Number(list.place_at(number)),
         "place_at_back" => Told::Number(list.place_at_back(number)),
-        "make_ready" => Told::Word(if list.make_ready().is_ok() {
-            "done"
-        } else {
-            "no memory"
-        }),
+        "make_ready" if list.make_ready().is_ok() => Told::Word("done"),
+        "make_ready" => Told::Word("no memory"),
         "clear" => {
             list.clear();
             Told::Word("done")
@@ -59,7 +56,7 @@ fn told_of(list: &mut Numbers, name: &str, number: usize) -> Told {
 }
 
 /// Writes through what a call lends.
-fn lend(list: &mut Numbers, name: &str, words: &mut Words, out: &mut Out) {
+fn lend<A: Allocator + Copy>(list: &mut Numbers<A>, name: &str, words: &mut Words, out: &mut Out) {
     match name {
         "get_mut" => swap(list.get_mut(words.number()), words, out),
         "front_mut" => swap(list.front_mut(), words, out),
@@ -77,7 +74,7 @@ pub(crate) fn say_pushed(pushed: Result<usize, PushError<u64>>, out: &mut Out) {
 }
 
 /// Brings the item at a place to the front, which asks that one is there.
-fn bring_front(list: &mut Numbers, place: usize) -> Told {
+fn bring_front<A: Allocator + Copy>(list: &mut Numbers<A>, place: usize) -> Told {
     if list.get(place).is_none() {
         return Told::Number(None);
     }
@@ -86,7 +83,7 @@ fn bring_front(list: &mut Numbers, place: usize) -> Told {
 }
 
 /// Sets the capacity, which asks that the items fit.
-fn resize(list: &mut Numbers, capacity: usize) -> Told {
+fn resize<A: Allocator + Copy>(list: &mut Numbers<A>, capacity: usize) -> Told {
     if list.len() > capacity {
         return Told::Word("they do not fit");
     }

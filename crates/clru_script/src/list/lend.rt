@@ -5,16 +5,21 @@ use crate::list::Numbers;
 use crate::out::Out;
 use crate::words::{Words, Wrong};
 use crate::world::World;
+use std::alloc::Allocator;
 use std::mem;
 
 /// Keeps the items of a form.
-pub(crate) fn retain(list: &mut Numbers, world: &World, words: &mut Words) {
+pub(crate) fn retain<A: Allocator + Copy>(list: &mut Numbers<A>, world: &World, words: &mut Words) {
     let keep = Keep::read(words);
     list.retain(|place, item| asked(world, keep, place, *item));
 }
 
 /// The same, which adds a number to each item, after it was looked at.
-pub(crate) fn retain_mut(list: &mut Numbers, world: &World, words: &mut Words) {
+pub(crate) fn retain_mut<A: Allocator + Copy>(
+    list: &mut Numbers<A>,
+    world: &World,
+    words: &mut Words,
+) {
     let (keep, more) = (Keep::read(words), words.number() as u64);
     list.retain_mut(|place, item| {
         let kept = asked(world, keep, place, *item);
@@ -42,7 +47,7 @@ pub(crate) fn swap(lent: Option<&mut u64>, words: &mut Words, out: &mut Out) {
 
 /// A step of a cursor, with what it writes to the item that it lends: `next X`, `next_back X`, `next_entry X` and
 /// `next_entry_back X`; and `len`.
-pub(crate) fn writes(list: &mut Numbers, words: &mut Words, out: &mut Out) {
+pub(crate) fn writes<A: Allocator + Copy>(list: &mut Numbers<A>, words: &mut Words, out: &mut Out) {
     let step = words.word();
     let mut cursor = list.iter_mut();
     let left = cursor.len();

@@ -4,14 +4,7 @@ use crate::calls::say_hint;
 use crate::list::Numbers;
 use crate::out::{Out, Told};
 use crate::words::{Words, Wrong};
-
-/// An item as a number, where there is one.
-pub(crate) fn number_of(item: Option<&u64>) -> Option<usize> {
-    match item {
-        Some(item) => Some(*item as usize),
-        None => None,
-    }
-}
+use std::alloc::Allocator;
 
 /// Says a place with its item, or that there is none.
 fn say_entry(entry: Option<(usize, &u64)>, out: &mut Out) {
@@ -25,7 +18,12 @@ fn say_entry(entry: Option<(usize, &u64)>, out: &mut Out) {
 }
 
 /// Makes a call that changes nothing. Answers `false` where the name is none of these.
-pub(crate) fn read(list: &Numbers, name: &str, words: &mut Words, out: &mut Out) -> bool {
+pub(crate) fn read<A: Allocator + Copy>(
+    list: &Numbers<A>,
+    name: &str,
+    words: &mut Words,
+    out: &mut Out,
+) -> bool {
     match name {
         "list" => say_list(list, out),
         "iter" => walk(list, words, out),
@@ -39,10 +37,10 @@ pub(crate) fn read(list: &Numbers, name: &str, words: &mut Words, out: &mut Out)
 }
 
 /// What a call of the whole list tells.
-fn told_of(list: &Numbers, name: &str) -> Told {
+fn told_of<A: Allocator + Copy>(list: &Numbers<A>, name: &str) -> Told {
     match name {
-        "front" => Told::Number(number_of(list.front())),
-        "back" => Told::Number(number_of(list.back())),
+        "front" => Told::item(list.front().copied()),
+        "back" => Told::item(list.back().copied()),
         "front_idx" => Told::Number(list.front_idx()),
         "back_idx" => Told::Number(list.back_idx()),
         "len" => Told::Number(Some(list.len())),
@@ -55,9 +53,9 @@ fn told_of(list: &Numbers, name: &str) -> Told {
 }
 
 /// What a call tells of a place.
-fn told_at(list: &Numbers, name: &str, place: usize) -> Told {
+fn told_at<A: Allocator + Copy>(list: &Numbers<A>, name: &str, place: usize) -> Told {
     match name {
-        "get" => Told::Number(number_of(list.get(place))),
+        "get" => Told::item(list.get(place).copied()),
         // `item` asks that one is there.
         "item" if list.get(place).is_some() => Told::Number(Some(*list.item(place) as usize)),
         "item" => Told::Number(None),
@@ -67,7 +65,7 @@ fn told_at(list: &Numbers, name: &str, place: usize) -> Told {
 }
 
 /// Says each place with its item, front first.
-fn say_list(list: &Numbers, out: &mut Out) {
+fn say_list<A: Allocator + Copy>(list: &Numbers<A>, out: &mut Out) {
     for entry in list {
         out.part(", ");
         say_entry(Some(entry), out);
@@ -76,7 +74,7 @@ fn say_list(list: &Numbers, out: &mut Out) {
 }
 
 /// Steps of one iterator, in turn: `next`, `next_back`, `len`, `count`, `size_hint`, and `clone`, which goes on with a copy.
-fn walk(list: &Numbers, words: &mut Words, out: &mut Out) {
+fn walk<A: Allocator + Copy>(list: &Numbers<A>, words: &mut Words, out: &mut Out) {
     let mut walk = list.iter();
     for _ in 0..usize::MAX {
         let Some(step) = words.next() else {

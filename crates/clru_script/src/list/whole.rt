@@ -2,9 +2,10 @@
 
 use crate::fault::Fault;
 use crate::list::Numbers;
+use std::alloc::Allocator;
 
 /// What is wrong with a list, if anything: its walks from both ends, by an iterator and by places, its ends and its size.
-pub(crate) fn fault_of(list: &Numbers) -> Option<Fault> {
+pub(crate) fn fault_of<A: Allocator + Copy>(list: &Numbers<A>) -> Option<Fault> {
     let len = list.len();
     if len > list.capacity() || list.is_full() != (len == list.capacity()) {
         return Some(Fault::Size);
@@ -23,7 +24,11 @@ pub(crate) fn fault_of(list: &Numbers) -> Option<Fault> {
 }
 
 /// Whether a walk is that by places, from the first one to the last.
-fn is_linked(list: &Numbers, first: Option<usize>, last: Option<usize>) -> bool {
+fn is_linked<A: Allocator + Copy>(
+    list: &Numbers<A>,
+    first: Option<usize>,
+    last: Option<usize>,
+) -> bool {
     let (mut at, mut before, mut is_alike) = (first, None, true);
     for (place, item) in list {
         is_alike = is_alike && at == Some(place) && is_behind(list, place, before, item);
@@ -34,12 +39,17 @@ fn is_linked(list: &Numbers, first: Option<usize>, last: Option<usize>) -> bool 
 }
 
 /// Whether a place has this item, and this one before it.
-pub(crate) fn is_behind(list: &Numbers, place: usize, before: Option<usize>, item: &u64) -> bool {
+pub(crate) fn is_behind<A: Allocator + Copy>(
+    list: &Numbers<A>,
+    place: usize,
+    before: Option<usize>,
+    item: &u64,
+) -> bool {
     list.prev_idx(place) == before && list.get(place) == Some(item)
 }
 
 /// Whether a walk from the back is that by places.
-fn is_linked_back(list: &Numbers, last: Option<usize>) -> bool {
+fn is_linked_back<A: Allocator + Copy>(list: &Numbers<A>, last: Option<usize>) -> bool {
     let (mut at, mut is_alike) = (last, true);
     for (place, _) in list.iter().rev() {
         is_alike = is_alike && at == Some(place);
@@ -49,7 +59,7 @@ fn is_linked_back(list: &Numbers, last: Option<usize>) -> bool {
 }
 
 /// The item at a place, where there is one.
-fn item_at<'l>(list: &'l Numbers, place: Option<usize>) -> Option<&'l u64> {
+fn item_at<'l, A: Allocator + Copy>(list: &'l Numbers<A>, place: Option<usize>) -> Option<&'l u64> {
     match place {
         Some(place) => list.get(place),
         None => None,

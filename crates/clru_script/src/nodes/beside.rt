@@ -1,12 +1,13 @@
 //! Many calls of nodes at once, beside a plain list of the same pairs.
 
-use crate::nodes::Numbers;
+use crate::nodes::kept::Kept;
 use crate::world::World;
+use std::alloc::Allocator;
 
 type Pairs = Vec<(u64, u64)>;
 
 /// The pairs that the nodes hold, front first.
-pub(crate) fn pairs_of(kept: &Numbers, world: &World) -> Pairs {
+pub(crate) fn pairs_of<A: Allocator + Copy>(kept: &Kept<A>, world: &'static World) -> Pairs {
     let mut pairs = Vec::new(world.alloc);
     if kept.copy_to(&mut pairs).is_err() {
         world.is_short.set(true);
@@ -20,7 +21,12 @@ fn value_of(key: u64) -> u64 {
 }
 
 /// Puts new keys in, and looks at all pairs at each sixteenth and at the end. Answers whether the list does the same.
-pub(crate) fn fill(kept: &mut Numbers, world: &World, from: usize, to: usize) -> bool {
+pub(crate) fn fill<A: Allocator + Copy>(
+    kept: &mut Kept<A>,
+    world: &'static World,
+    from: usize,
+    to: usize,
+) -> bool {
     let mut pairs = pairs_of(kept, world);
     for key in from as u64..to as u64 {
         let pair = (key, value_of(key));
@@ -38,7 +44,7 @@ pub(crate) fn fill(kept: &mut Numbers, world: &World, from: usize, to: usize) ->
 }
 
 /// Whether the key of a pair is held, where there is one.
-fn is_held(kept: &Numbers, pair: Option<(u64, u64)>) -> bool {
+fn is_held<A: Allocator + Copy>(kept: &Kept<A>, pair: Option<(u64, u64)>) -> bool {
     match pair {
         Some((key, _)) => kept.get(key).is_some(),
         None => false,
@@ -46,7 +52,12 @@ fn is_held(kept: &Numbers, pair: Option<(u64, u64)>) -> bool {
 }
 
 /// Takes out each seventh key, and a pair at each end. Answers whether the list does the same.
-pub(crate) fn thin(kept: &mut Numbers, world: &World, from: usize, to: usize) -> bool {
+pub(crate) fn thin<A: Allocator + Copy>(
+    kept: &mut Kept<A>,
+    world: &'static World,
+    from: usize,
+    to: usize,
+) -> bool {
     let mut pairs = pairs_of(kept, world);
     for key in from as u64..to as u64 {
         if key % 7 == 0 {
@@ -77,7 +88,12 @@ fn taken(pairs: &mut Pairs, key: u64) -> Option<(u64, u64)> {
 }
 
 /// Whether these keys are held and no other, the last one first.
-pub(crate) fn holds(kept: &Numbers, world: &World, from: usize, to: usize) -> bool {
+pub(crate) fn holds<A: Allocator + Copy>(
+    kept: &Kept<A>,
+    world: &'static World,
+    from: usize,
+    to: usize,
+) -> bool {
     let mut pairs = Vec::new(world.alloc);
     for key in from as u64..to as u64 {
         if pairs.insert(0, (key, value_of(key))).is_err() {

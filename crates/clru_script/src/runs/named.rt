@@ -7,10 +7,10 @@ use ration::Rationed;
 use std::alloc::Global;
 
 /// The calls of a line. Each ends with its last word, so that nothing stands between two.
-pub(crate) fn calls_of<'a>(
-    world: &'a World,
+pub(crate) fn calls_of(
+    world: &'static World,
     words: &mut Words,
-) -> Vec<PlainCall<usize, usize>, &'a Rationed<Global>> {
+) -> Vec<PlainCall<usize, usize>, &'static Rationed<Global>> {
     let mut calls = Vec::new(&world.owned);
     for _ in 0..usize::MAX {
         let Some(name) = words.next() else {
