@@ -1,12 +1,14 @@
 -- Where the lines of an input begin and end.
-use Rattle.std.proofs.Common.{◌≡◌, ℕ, ◌+◌, ◌<◌, ◌≤◌, Bool, false, List, [], ◌∷◌, ◌++◌, None, Some, length, get_or, rules, take, drop, take-append-drop, drop-cons, add-one, refl, sym, ap, ◌∙◌, arith}
+use Rattle.std.proofs.Common.{◌≡◌, ℕ, zero, suc, ◌+◌, ◌<◌, ◌≤◌, Bool, true, false, cond, not, List, [], ◌∷◌, ◌++◌, None, Some, length, get_or, rules, take, drop, take-append-drop, drop-cons, length-append, add-one, refl, sym, ap, ◌∙◌, arith}
 use Rattle.std.specs.Prelude.{◌==◌, position}
+use Rattle.std.proofs.Math.Seq.{take-append_seam, drop-append-add}
 use Rattle.std.specs.List.{slice_split, position_or_len, before_first, after_first}
 use Rattle.std.proofs.lemmas.Bool.Decides.{nat_tests}
 use Rattle.std.proofs.lemmas.List.Quantifiers.{position-Some}
 use Rattle.std.proofs.lemmas.List.Sums.{fails_before_first, position_or_len_is}
 use Rattle.std.proofs.lemmas.List.Splits.{slice_split_first, slice_split_none, length-slice_split}
 use Rattle.clru_lines.specs.Lines.{lines_of, lines_of_parts}
+use Rattle.clru_lines.specs.Told.{IsFree}
 
 -- a part with another one after it is a line
 lines_of_parts-cons : (part : List ℕ) (parts : List (List ℕ)) → 0 < length parts
@@ -51,3 +53,54 @@ lines_of-last bytes h some =
     let fails : (k d : ℕ) → k < length bytes → p (get_or bytes k d) ≡ false =
     λ k d l. fails_before_first p bytes k d (omega arith) in
     ap lines_of_parts (slice_split_none p bytes (search (rules, fails))) ∙ lines_of_parts-one bytes some
+
+-- the newline of bytes with none before others is that of the others
+abbrev first : List ℕ → ℕ
+first bytes = position_or_len (λ b. b == 10) bytes
+
+first-append : (piece rest : List ℕ) → IsFree piece → first (piece ++ rest) ≡ length piece + first rest
+first-append [] rest free = omega arith
+first-append (b ∷ piece) rest free = step (b == 10) free (first-append piece rest)
+  where
+    step : (t : Bool) → suc (length piece) ≤ cond (not t) (1 + first piece) 0
+        → (IsFree piece → first (piece ++ rest) ≡ length piece + first rest)
+        → cond (not t) (1 + first (piece ++ rest)) 0 ≡ suc (length piece) + first rest
+    step true h more = absurd (omega arith)
+    step false h more = omega (arith, more (omega arith))
+
+pub free-append : (piece rest : List ℕ) → IsFree piece → IsFree rest → IsFree (piece ++ rest)
+free-append piece rest free free' = omega (arith, first-append piece rest free, length-append piece rest, free')
+
+-- there is none before the first
+free-before : (bytes : List ℕ) (n : ℕ) → n ≤ first bytes → IsFree (take n bytes)
+free-before [] n h = search rules
+free-before (b ∷ bytes) zero h = search rules
+free-before (b ∷ bytes) (suc n) h = step (b == 10) h (free-before bytes n)
+  where
+    step : (t : Bool) → suc n ≤ cond (not t) (1 + first bytes) 0 → (n ≤ first bytes → IsFree (take n bytes))
+        → suc (length (take n bytes)) ≤ cond (not t) (1 + first (take n bytes)) 0
+    step true h more = absurd (omega arith)
+    step false h more = omega (arith, more (omega arith))
+
+pub free-to : (bytes : List ℕ) (at : ℕ) → position (λ b. b == 10) bytes ≡ Some at → IsFree (take at bytes)
+free-to bytes at h = let here : first bytes ≡ at = grind (arith, nat_tests) in free-before bytes at (omega (arith, here))
+
+pub free-whole : (bytes : List ℕ) → position (λ b. b == 10) bytes ≡ None → IsFree bytes
+free-whole bytes h = position-None (λ b. b == 10) bytes h
+
+-- a newline ends what has none
+pub lines_of-cut : (piece rest : List ℕ) → IsFree piece → lines_of (piece ++ 10 ∷ rest) ≡ piece ∷ lines_of rest
+lines_of-cut piece rest free =
+    let bytes = piece ++ 10 ∷ rest in
+    let here : first bytes ≡ length piece = omega (arith, first-append piece (10 ∷ rest) free) in
+    let inside : length piece < length bytes = omega (arith, length-append piece (10 ∷ rest)) in
+    let at : position (λ b. b == 10) bytes ≡ Some (length piece) = grind (arith, nat_tests, here, inside) in
+    lines_of-at bytes (length piece) at
+    ∙ ap (λ l. l ∷ lines_of (drop (length piece + 1) bytes)) (take-append_seam piece (10 ∷ rest))
+    ∙ ap (λ l. piece ∷ lines_of l) (drop-append-add piece (10 ∷ rest) 1)
+
+-- what has none is one line
+pub lines_of-free : (bytes : List ℕ) → IsFree bytes → 0 < length bytes → lines_of bytes ≡ bytes ∷ []
+lines_of-free bytes free some =
+    let none : position (λ b. b == 10) bytes ≡ None = grind (arith, nat_tests, free) in
+    lines_of-last bytes none some

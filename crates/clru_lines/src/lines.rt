@@ -1,15 +1,47 @@
 //! The lines of the input, each a key without a copy of its bytes.
 ghost use Rattle.std.specs.Prelude.{◌≡◌, ◌==◌, ◌<◌, ◌⊎◌, [], ◌∷◌, ◌++◌, map, length, position, IfOk, IfSome, IfNone};
+ghost use Rattle.std.specs.Cmp.{on_equiv, on_per, partial_equiv_from_equiv};
+ghost use Rattle.std.specs.Cmp.Lexicographic.{nat_list_eq_equiv};
 ghost use Rattle.std.specs.Cmp.Rules.{hashing};
+ghost use Rattle.std.specs.Str.{bytes_eq};
 ghost use Rattle.std.proofs.Common.{rules};
 ghost use Rattle.clru_lines.specs.Lines.{lines_of};
 
-use std::alloc::{AllocError, Allocator};
+use std::alloc::{AllocError, Allocator, Global};
 use std::hash::{Hash, Hasher};
 
 /// The key of a request: the bytes of its line.
 #[derive(Clone, Copy, Debug, PartialEq, Eq)]
 pub struct Key<'a>(pub &'a [u8]);
+
+/// A key that owns the bytes of its line. It hashes as a [`Key`] of the same bytes.
+#[derive(Debug, Drop)]
+pub struct OwnedKey<A: Allocator = Global>(pub Vec<u8, A>);
+
+// (derived, both would ask that the allocator is one of equal ones)
+impl<A: Allocator> PartialEq for OwnedKey<A> {
+    ghost eq = { λ x y. bytes_eq x.0.items y.0.items };
+
+    ghost laws = { on_per (λ x. x.0.items) (partial_equiv_from_equiv nat_list_eq_equiv) };
+
+    fn eq(&self, other: &Self) -> bool {
+        self.0.as_slice() == other.0.as_slice()
+    }
+}
+
+impl<A: Allocator> Eq for OwnedKey<A> {
+    ghost laws = { on_equiv (λ x. x.0.items) nat_list_eq_equiv };
+}
+
+impl<A: Allocator> Hash for OwnedKey<A> {
+    ghost hash_input = { λ key. key.0.items ∷ [] };
+
+    ghost respects_eq = { Prim.search (hashing, rules) };
+
+    fn hash<H: Hasher>(&self, state: &mut H) {
+        state.write(self.0.as_slice())
+    }
+}
 
 // The bytes go to the hasher in one call. A slice's own `Hash` gives it one byte a call.
 impl<'a> Hash for Key<'a> {
@@ -22,8 +54,8 @@ impl<'a> Hash for Key<'a> {
     }
 }
 
-// Where the first newline stands.
-fn newline_at(bytes: &[u8]) -> Option<usize>
+/// Where the first newline stands.
+pub(crate) fn newline_at(bytes: &[u8]) -> Option<usize>
     ensures { result ≡ position (λ b. b == 10) bytes.now }
 {
     bytes.iter().position(|byte| *byte == b'\n')

@@ -1,17 +1,22 @@
 //! Tells what an LRU cache of each capacity misses on a list of requests.
 #![tactic(auto)]
 
+mod watch;
+
 use clru_report::{
     Command, Fault, HELP, Options, Refusal, VERSION, command_of, exit_status, run, write_report,
 };
 use std::env;
 use std::hash::RandomState;
-use std::io::{ErrorKind, Read};
+use std::io::{ErrorKind, IsTerminal};
 use std::process::ExitCode;
+use watch::Watch;
 
 fn main(rt: HostRuntime) -> ExitCode {
-    match asked(&rt) {
-        Ok(command) => ExitCode::from(done(&rt, &command)),
+    // A terminal is told how far the input is read, and so is who asks.
+    let mut progress = rt.stderr().is_terminal();
+    match asked(&rt, &mut progress) {
+        Ok(command) => ExitCode::from(done(&rt, &command, progress)),
         Err(Refusal::Wrong(line)) => {
             say(&rt, &line);
             ExitCode::from(2)
@@ -20,15 +25,19 @@ fn main(rt: HostRuntime) -> ExitCode {
     }
 }
 
-// What the arguments ask for.
-fn asked(rt: &HostRuntime) -> Result<Command, Refusal> {
+// What the arguments ask for. `--progress` asks nothing of the report.
+fn asked(rt: &HostRuntime, progress: &mut bool) -> Result<Command, Refusal> {
     match env::args(rt) {
         Ok(words) => {
             let mut rest = Vec::new(rt.alloc());
             for word in words.skip(1) {
-                let Ok(()) = rest.push(word) else {
-                    return Err(Refusal::Memory);
-                };
+                if word.as_str() == "--progress" {
+                    *progress = true;
+                } else {
+                    let Ok(()) = rest.push(word) else {
+                        return Err(Refusal::Memory);
+                    };
+                }
             }
             command_of(rt.alloc(), &rest)
         }
@@ -48,12 +57,12 @@ fn no_text(rt: &HostRuntime) -> Refusal {
 }
 
 // Does it, and gives the exit status.
-fn done(rt: &HostRuntime, command: &Command) -> u8 {
+fn done(rt: &HostRuntime, command: &Command, progress: bool) -> u8 {
     let outcome = match command {
         Command::Help => write_report(&mut rt.stdout(), HELP.as_bytes()),
         Command::Version => write_report(&mut rt.stdout(), VERSION.as_bytes()),
         Command::Report(options) => match RandomState::new(rt) {
-            Ok(seed) => reported(rt, options, seed),
+            Ok(seed) => reported(rt, options, progress, seed),
             Err(_) => {
                 say(rt, "the system gives no random bytes, so there is no seed");
                 return 4;
@@ -63,13 +72,17 @@ fn done(rt: &HostRuntime, command: &Command) -> u8 {
     told(rt, &outcome)
 }
 
-// Writes the report, and tells where there was nothing to report on.
-fn reported(rt: &HostRuntime, options: &Options, seed: RandomState) -> Result<(), Fault> {
-    // The limit counts what is read. It ends no input, since none that long finds memory.
-    let mut input = rt.stdin().take(u64::MAX);
+// Writes the report, and tells what of its input looks wrong.
+fn reported(
+    rt: &HostRuntime,
+    options: &Options,
+    progress: bool,
+    seed: RandomState,
+) -> Result<(), Fault> {
+    let mut input = Watch::new(rt, rt.stdin(), progress);
     let outcome = run(rt.alloc(), options, &mut input, &mut rt.stdout(), seed);
-    if outcome.is_ok() && input.limit() == u64::MAX {
-        say(rt, "standard input was empty, so there are no requests");
+    if outcome.is_ok() {
+        input.warn();
     }
     outcome
 }

@@ -24,6 +24,28 @@ impl<'a> Read for Breaking<'a> {
     }
 }
 
+/// Gives one of its pieces a call, each of which fits what is offered, and notes the least that it was offered, and its calls.
+#[derive(Drop)]
+pub(crate) struct Piecewise<'a> {
+    pub(crate) pieces: &'a [&'a [u8]],
+    pub(crate) least: usize,
+    pub(crate) calls: usize,
+}
+
+impl<'a> Read for Piecewise<'a> {
+    fn read(&mut self, buf: &mut [u8]) -> io::Result<usize> {
+        let piece = self.pieces.get(self.calls);
+        self.calls = self.calls.saturating_add(1);
+        self.least = self.least.min(buf.len());
+        let Some(piece) = piece else {
+            return Ok(0);
+        };
+        let count = piece.len().min(buf.len());
+        buf[..count].copy_from_slice(&piece[..count]);
+        Ok(count)
+    }
+}
+
 /// Takes two bytes a call and so many in all, and then answers the error or, where there is none, takes nothing.
 #[derive(Drop)]
 pub(crate) struct Filling {

@@ -155,3 +155,41 @@ fn a_list_of_the_lines_is_made_for_the_least_alone(rt: HostRuntime) -> Result<()
     }
     Ok(())
 }
+
+/// How a table by keys, or by size, ends whose heap has so many bytes.
+fn within(
+    rt: &impl Abort,
+    alloc: Global,
+    sizes: bool,
+    bytes: u64,
+    input: &[u8],
+) -> Result<(), Fault> {
+    let heap = Rationed::new(alloc);
+    heap.limit_bytes(bytes);
+    let options = Options {
+        capacities: Capacities::Usual,
+        sizes,
+        least: false,
+        form: Form::Table,
+    };
+    let mut reader = input;
+    let mut written = Vec::new(alloc);
+    let outcome = run(&heap, &options, &mut reader, &mut written, DefaultState);
+    equal!(rt; heap.blocks(), 0);
+    outcome
+}
+
+// An input of four megabytes in a heap of one, since one line of it is held.
+#[test]
+fn no_input_is_held(rt: HostRuntime) -> Result<(), Fail> {
+    let mut input = Vec::new(rt.alloc());
+    for _ in 0..10_000 {
+        input.extend_from_slice(b"7 ")?;
+        input.resize(input.len() + 400, b'a')?;
+        input.push(b'\n')?;
+    }
+    equal!(rt; within(&rt, rt.alloc(), false, 100_000, &input), Ok(()));
+    equal!(rt; within(&rt, rt.alloc(), true, 1_000_000, &input), Ok(()));
+    equal!(rt; within(&rt, rt.alloc(), false, 50_000, &input), Err(Fault::Memory));
+    Ok(())
+}

@@ -5,6 +5,8 @@
 #[cfg(test)]
 mod asserts;
 #[cfg(test)]
+mod costs;
+#[cfg(test)]
 mod fakes;
 #[cfg(test)]
 mod faults;

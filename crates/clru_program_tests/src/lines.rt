@@ -1,9 +1,13 @@
 //! Each function of `clru_lines` once, and the errors that only what is called shows.
 
-use crate::fakes::{Breaking, Filling};
+use crate::fakes::{Breaking, Filling, Piecewise};
 use assertions::equal;
-use clru_lines::{Key, ReadError, capacity_of, keys_of, next_line, read_input, write_text};
+use clru_lines::{
+    Key, LineBuffer, OwnedKey, ReadError, capacity_of, keys_of, next_line, read_input, write_text,
+};
+use clru_report::DefaultState;
 use std::alloc::Global;
+use std::hash::BuildHasher;
 use std::io::ErrorKind;
 use std::test::Fail;
 
@@ -35,6 +39,84 @@ fn lines_are_what_stands_between_newlines(rt: HostRuntime) -> Result<(), Fail> {
         }
     }
     equal!(rt; next_line(b"a\n\nb"), Some((b"a".as_slice(), b"\nb".as_slice())));
+    Ok(())
+}
+
+/// Pieces of an input, its lines, and how many bytes it has.
+static PIECES: &[(&[&[u8]], &[&[u8]], usize)] = &[
+    (&[], &[], 0),
+    (&[b"a\n\nb"], &[b"a", b"", b"b"], 4),
+    (&[b"ab", b"c\nd", b"\n"], &[b"abc", b"d"], 6),
+    (&[b"a", b"b", b"\n", b"\n"], &[b"ab", b""], 4),
+    (&[b"\n"], &[b""], 1),
+];
+
+#[test]
+fn lines_are_told_one_by_one_whatever_a_read_gives(rt: HostRuntime) -> Result<(), Fail> {
+    for (pieces, lines, bytes) in PIECES {
+        let mut reader = Piecewise {
+            pieces,
+            least: usize::MAX,
+            calls: 0,
+        };
+        let mut buffer = LineBuffer::new(rt.alloc());
+        let mut line = Vec::new(rt.alloc());
+        for wanted in *lines {
+            equal!(rt; buffer.read_line(&mut reader, &mut line)?, true);
+            equal!(rt; line.as_slice(), *wanted);
+        }
+        // The end is told again with no further call.
+        equal!(rt; buffer.read_line(&mut reader, &mut line)?, false);
+        equal!(rt; buffer.read_line(&mut reader, &mut line)?, false);
+        equal!(rt; (line.len(), reader.calls, reader.least), (0, pieces.len() + 1, 65_536));
+        equal!(rt; buffer.bytes_read(), *bytes);
+    }
+    Ok(())
+}
+
+#[test]
+fn a_line_may_be_longer_than_the_buffer(rt: HostRuntime) -> Result<(), Fail> {
+    for length in [65_535, 65_536, 65_537, 200_000] {
+        let mut bytes = Vec::new(rt.alloc());
+        bytes.resize(length, b'a')?;
+        bytes.extend_from_slice(b"\nb")?;
+        let mut reader = bytes.as_slice();
+        let mut buffer = LineBuffer::new(rt.alloc());
+        let mut line = Vec::new(rt.alloc());
+        equal!(rt; buffer.read_line(&mut reader, &mut line)?, true);
+        equal!(rt; line.as_slice() == &bytes[..length], true, length);
+        equal!(rt; buffer.read_line(&mut reader, &mut line)?, true);
+        equal!(rt; line.as_slice(), b"b".as_slice(), length);
+        equal!(rt; buffer.read_line(&mut reader, &mut line)?, false);
+        equal!(rt; buffer.bytes_read(), length + 2);
+    }
+    Ok(())
+}
+
+#[test]
+fn a_failed_read_ends_the_lines(rt: HostRuntime) {
+    let mut reader = Breaking {
+        left: b"a\nb",
+        kind: ErrorKind::Interrupted,
+        calls: 0,
+    };
+    let mut buffer = LineBuffer::new(rt.alloc());
+    let mut line = Vec::new(rt.alloc());
+    equal!(rt; matches!(buffer.read_line(&mut reader, &mut line), Ok(true)), true);
+    let outcome = buffer.read_line(&mut reader, &mut line);
+    equal!(rt; matches!(outcome, Err(ReadError::Reading)), true);
+    equal!(rt; reader.calls, 4);
+}
+
+#[test]
+fn a_key_that_owns_its_bytes_is_them(rt: HostRuntime) -> Result<(), Fail> {
+    let made = |bytes: &[u8]| Vec::from_slice(rt.alloc(), bytes);
+    let (a, b) = (OwnedKey(made(b"a")?), OwnedKey(made(b"b")?));
+    equal!(rt; a == OwnedKey(made(b"a")?), true);
+    equal!(rt; a == b, false);
+    let builder = DefaultState;
+    equal!(rt; builder.hash_one(&a), builder.hash_one(&Key(b"a")));
+    equal!(rt; builder.hash_one(&a) == builder.hash_one(&b), false);
     Ok(())
 }
 

@@ -1,5 +1,7 @@
 -- Answers, and what follows from what is known of them.
-use Rattle.std.proofs.Common.{Result, Ok, Err, IfErr, IfOk}
+use Rattle.std.proofs.Common.{◌≡◌, ◌++◌, ℕ, List, append-nil, sym, ap, ◌∙◌, true, false, Option, None, Some, IfNone, IfSome, Result, Ok, Err, IfErr, IfOk}
+use Rattle.std.specs.Io.KnownBytes.{Consumes, IsAtEnd}
+use Rattle.std.specs.Option.{is_none}
 
 -- what holds of an answer holds of what follows from it
 pub ok_map : {T E : Type 0} {P Q : T → Type 0} (r : Result T E) → ((x : T) → P x → Q x) → IfOk r P → IfOk r Q
@@ -9,3 +11,30 @@ ok_map (Err e) f p = p
 pub err_map : {T E : Type 0} {P Q : E → Type 0} (r : Result T E) → ((e : E) → P e → Q e) → IfErr r P → IfErr r Q
 err_map (Ok x) f p = p
 err_map (Err e) f p = f e p
+
+pub none_map : {X P Q : Type 0} (o : Option X) → (P → Q) → IfNone o P → IfNone o Q
+none_map None f p = f p
+none_map (Some x) f p = p
+
+pub some_map : {X : Type 0} {P Q : X → Type 0} (o : Option X) → ((x : X) → P x → Q x) → IfSome o P → IfSome o Q
+some_map None f p = p
+some_map (Some x) f p = f x p
+
+-- one of both has nothing to say
+pub of_none : {X P : Type 0} (o : Option X) → is_none o ≡ true → IfNone o P → P
+of_none None is p = p
+of_none (Some x) is p = absurd (cc)
+
+pub no_some : {X : Type 0} (P : X → Type 0) (o : Option X) → is_none o ≡ true → IfSome o P
+no_some P None is = tt
+no_some P (Some x) is = absurd (cc)
+
+pub no_none : {X : Type 0} (P : Type 0) (o : Option X) → is_none o ≡ false → IfNone o P
+no_none P None is = absurd (cc)
+no_none P (Some x) is = tt
+
+-- a slice that is read to its end gave itself
+pub slice_read : (bytes read : List ℕ) (now : Option (List ℕ)) → Consumes (Some bytes) now read → IsAtEnd now → read ≡ bytes
+slice_read bytes read None consumed end = absurd consumed
+slice_read bytes read (Some left) consumed end =
+    sym (append-nil read) ∙ ap (λ l. read ++ l) (sym end) ∙ sym consumed

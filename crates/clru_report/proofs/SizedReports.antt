@@ -11,7 +11,7 @@ use Rattle.clru_model.specs.Requests.{distinct, holds}
 use Rattle.clru_model.specs.Sizes.{total, misses_by_size}
 use Rattle.clru_report.specs.Capacities.{sized_capacities_of}
 use Rattle.clru_report.specs.Faults.{is_of_writing}
-use Rattle.clru_report.specs.Passes.{IsOfCapacities, IsOfLines, IsRowOf, IsTableOf, capacities_on, distinct_in}
+use Rattle.clru_report.specs.Passes.{IsOfCapacities, IsRowOf, IsTableOf, capacities_on, distinct_in}
 use Rattle.clru_report.specs.Refusals.{IsRefusedFor, IsSaidOf, fault_beside, fault_from, fault_of, is_of_input, names_below}
 use Rattle.clru_report.specs.SizedReport.{IsSizedRow, IsSizedTable, distinct_size, summary_by_size}
 use Rattle.clru_report.specs.SizedTables.{capacity_of_sized_row, sized_summary_text, sized_table_text}
@@ -22,7 +22,7 @@ use Rattle.clru_report.specs.declared.options.Capacities.{Capacities}
 use Rattle.clru_report.specs.declared.options.Options.{Options}
 use Rattle.clru_report.specs.declared.sized.rows.SizedRow.{SizedRow}
 use Rattle.clru_report.proofs.CapacityLemmas.{none_below, sized-alike}
-use Rattle.clru_report.proofs.FaultLemmas.{none_beside, none_named, one_named, told_beside, told_of_line}
+use Rattle.clru_report.proofs.FaultLemmas.{none_beside, none_named, one_named, told_beside}
 use Rattle.clru_report.proofs.SettledCurves.{bytes_laws, same_weights}
 
 -- keys are no more than their sizes together
@@ -144,50 +144,3 @@ capacities_unwritten curve capacities Closed why = absurd why
 capacities_unwritten curve capacities (NoSize n) why = refl
 capacities_unwritten curve capacities TooLarge why = refl
 capacities_unwritten curve capacities (TooSmall n) why = refl
-
--- why lines have no curve
-lines_said : {A : Type 0} (options : Options A) (lines : List (List ℕ)) (fault : Fault) → IsOfLines fault lines
-    → is_of_input fault ≡ true → IsSaidOf fault options lines
-lines_said options lines Memory why of = cc of
-lines_said options lines Reading why of = why
-lines_said options lines Writing why of = why
-lines_said options lines Closed why of = why
-lines_said options lines (NoSize n) why of = why
-lines_said options lines TooLarge why of = why
-lines_said options lines (TooSmall n) why of = absurd why
-
-pub lines_refused : {A : Type 0} (options : Options A) (lines : List (List ℕ)) (fault : Fault) → IsOfLines fault lines
-    → (is_of_input fault ≡ true → fault_from 1 0 lines ≡ Some fault) → is_of_input fault ≡ true → IsRefusedFor fault options lines
-lines_refused options lines fault why told of = (
-  told_of_line options lines fault (told of),
-  lines_said options lines fault why of,
-)
-
-pub lines_unwritten : (lines : List (List ℕ)) (fault : Fault) → IsOfLines fault lines → is_of_writing fault ≡ false
-lines_unwritten lines Memory why = refl
-lines_unwritten lines Reading why = refl
-lines_unwritten lines Writing why = absurd why
-lines_unwritten lines Closed why = absurd why
-lines_unwritten lines (NoSize n) why = refl
-lines_unwritten lines TooLarge why = refl
-lines_unwritten lines (TooSmall n) why = refl
-
--- what is no fault of the input is want of memory
-pub capacities_else : (curve : CurveBySize) (capacities : List ℕ) (fault : Fault) → IsOfCapacities curve fault capacities
-    → is_of_input fault ≡ false → fault ≡ Memory
-capacities_else curve capacities Memory why none = refl
-capacities_else curve capacities Reading why none = absurd why
-capacities_else curve capacities Writing why none = absurd why
-capacities_else curve capacities Closed why none = absurd why
-capacities_else curve capacities (NoSize n) why none = cc none
-capacities_else curve capacities TooLarge why none = cc none
-capacities_else curve capacities (TooSmall n) why none = cc none
-
-pub lines_else : (lines : List (List ℕ)) (fault : Fault) → IsOfLines fault lines → is_of_input fault ≡ false → fault ≡ Memory
-lines_else lines Memory why none = refl
-lines_else lines Reading why none = absurd why
-lines_else lines Writing why none = absurd why
-lines_else lines Closed why none = absurd why
-lines_else lines (NoSize n) why none = cc none
-lines_else lines TooLarge why none = cc none
-lines_else lines (TooSmall n) why none = cc none

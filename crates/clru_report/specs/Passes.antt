@@ -1,27 +1,77 @@
--- What a pass over lines with sizes has taken, and what it answers. No public clause cites it.
-use Rattle.std.specs.Prelude.{◌≡◌, ℕ, ◌+◌, ◌<◌, ◌≤◌, ◌^◌, List, map, reverse, bytes_eq, ◌==◌, if◌then◌else◌, ⊤}
+-- What a pass over lines has taken, and what it answers. No public clause cites it.
+use Rattle.std.specs.Prelude.{◌≡◌, Bool, true, false, ◌&&◌, None, ℕ, ◌+◌, ◌<◌, ◌≤◌, ◌^◌, List, length, map, reverse, bytes_eq, ◌==◌, if◌then◌else◌, ⊤}
 use Rattle.std.specs.List.{All, Contains}
-use Rattle.clru_curve.specs.SizedCurves.{CurveBySize, misses_within, missed_size_within}
+use Rattle.clru_curve.specs.SizedCurves.{CurveBySize, IsSizedCurveOf, misses_within, missed_size_within}
 use Rattle.clru_curve.specs.SizedPasses.{PassBySize, IsSizedPass}
-use Rattle.clru_lines.specs.declared.lines.Key.{Key}
-use Rattle.clru_report.specs.Capacities.{sized_capacities_of}
-use Rattle.clru_report.specs.Refusals.{IsFirstWithout}
+use Rattle.clru_curve.specs.Curves.{HasMissesOf}
+use Rattle.clru_curve.specs.Passes.{IsPass, Pass}
+use Rattle.clru_lines.specs.Lines.{lines_of}
+use Rattle.clru_lines.specs.declared.lines.OwnedKey.{OwnedKey}
+use Rattle.clru_model.specs.Requests.{distinct, misses}
+use Rattle.clru_report.specs.Capacities.{capacities_of, sized_capacities_of}
+use Rattle.clru_report.specs.Refusals.{IsFirstWithout, fault_from}
 use Rattle.clru_report.specs.Sizes.{HaveSizes, size_of_lines, weight_of_line}
 use Rattle.clru_report.specs.SizedTables.{capacity_of_sized_row, sized_table_text}
 use Rattle.clru_report.specs.declared.fault.Fault.{Fault}
 use Rattle.clru_report.specs.declared.fault.Fault.TheVariants.{Memory, Reading, Writing, Closed, NoSize, TooLarge, TooSmall}
 use Rattle.clru_report.specs.declared.options.Capacities.{Capacities}
+use Rattle.clru_report.specs.declared.options.Form.{Form}
+use Rattle.clru_report.specs.declared.options.Form.TheVariants.{Table, Picture, Summary}
+use Rattle.clru_report.specs.declared.options.Options.{Options}
 use Rattle.clru_report.specs.declared.sized.rows.SizedRow.{SizedRow}
 
-abbrev pub line_of : Key → List ℕ
-line_of key = key.0.now
+-- the bytes of the line that a key is
+abbrev pub line_of : {A : Type 0} → OwnedKey A → List ℕ
+line_of key = key.0.items
+
+-- keys are compared by their lines, and weigh what these do
+abbrev pub same_line : {A : Type 0} → OwnedKey A → OwnedKey A → Bool
+same_line x y = bytes_eq (line_of x) (line_of y)
+
+abbrev pub weight_of_key : {A : Type 0} → OwnedKey A → ℕ
+weight_of_key x = weight_of_line (line_of x)
+
+-- the curve of the lines of an input, with their number and that of its bytes
+pub record IsCurveOfInput (input : List ℕ) (curve : List ℕ) (requests bytes : ℕ) : Type 0 where
+  pub misses : HasMissesOf bytes_eq (lines_of input) curve
+  pub distinct_keys : length curve ≡ distinct bytes_eq (reverse (lines_of input))
+  pub counted : requests ≡ length (lines_of input)
+  pub in_bytes : bytes ≡ length input
+
+-- the capacities that are asked for, where the requests are these lines
+abbrev pub capacities_for : {A : Type 0} → Options A → List (List ℕ) → List ℕ
+capacities_for options lines =
+    capacities_of options.capacities (λ c. misses bytes_eq c lines) (distinct bytes_eq (reverse lines))
+
+-- a text in the form has rows
+abbrev pub has_rows : Form → Bool
+has_rows Table = true
+has_rows Picture = true
+has_rows Summary = false
+
+-- rows with the least possible misses are asked for
+abbrev pub wants_least : {A : Type 0} → Options A → Bool
+wants_least options = has_rows options.form && options.least
+
+-- the curve by size of the lines of an input, each of which has a size, with the number of its bytes
+pub record IsSizedCurveOfInput (input : List ℕ) (curve : CurveBySize) (bytes : ℕ) : Type 0 where
+  pub sizes : HaveSizes (lines_of input)
+  pub of_lines : IsSizedCurveOf bytes_eq weight_of_line (lines_of input) curve
+  pub no_fault : fault_from 1 0 (lines_of input) ≡ None
+  pub in_bytes : bytes ≡ length input
+
+-- the pass took these lines
+pub record HasTakenLines {A : Type 0} (lines : List (List ℕ)) (pass : Pass (OwnedKey A)) : Type 0 where
+  pub past : List (OwnedKey A)
+  pub shown : map line_of (reverse past) ≡ lines
+  pub taken : IsPass same_line past pass
 
 -- the pass took these lines, each of which has a size
-pub record HasTaken (lines : List (List ℕ)) (pass : PassBySize Key) : Type 0 where
-  pub past : List Key
+pub record HasTaken {A : Type 0} (lines : List (List ℕ)) (pass : PassBySize (OwnedKey A)) : Type 0 where
+  pub past : List (OwnedKey A)
   pub shown : map line_of (reverse past) ≡ lines
   pub sizes : HaveSizes lines
-  pub taken : IsSizedPass (λ x y. bytes_eq (line_of x) (line_of y)) (λ x. weight_of_line (line_of x)) past pass
+  pub taken : IsSizedPass same_line weight_of_key past pass
 
 -- why lines have no curve
 abbrev pub IsOfLines : Fault → List (List ℕ) → Type 0

@@ -94,7 +94,7 @@ fn name_capacities<A: Allocator + Copy>(
     word: &str,
 ) -> Result<(), Refusal<A>> {
     for part in word.split(',') {
-        match capacity_of(part.as_bytes()) {
+        match capacity_named(part) {
             Some(capacity) => {
                 let Ok(()) = named.push(capacity) else {
                     return Err(Refusal::Memory);
@@ -104,6 +104,26 @@ fn name_capacities<A: Allocator + Copy>(
         }
     }
     Ok(())
+}
+
+// What may stand behind a number.
+static UNITS: &[(&str, usize)] = &[
+    ("KiB", 1 << 10),
+    ("MiB", 1 << 20),
+    ("GiB", 1 << 30),
+    ("K", 1_000),
+    ("M", 1_000_000),
+    ("G", 1_000_000_000),
+];
+
+fn capacity_named(word: &str) -> Option<NonZeroUsize> {
+    for (unit, size) in UNITS {
+        if let Some(digits) = word.strip_suffix(*unit) {
+            let number = capacity_of(digits.as_bytes())?;
+            return NonZeroUsize::new(number.get().checked_mul(*size)?);
+        }
+    }
+    capacity_of(word.as_bytes())
 }
 
 // Once all words are read, since the order of words is free.
@@ -201,7 +221,7 @@ fn no_capacity<A: Allocator + Copy>(alloc: A, part: &str) -> Refusal<A> {
         return wrong(alloc, NO_VALUE);
     }
     let line = format!(in alloc;
-        "{part:?} is no capacity: name numbers from 1 to 18446744073709551615, as in --at 100,1000"
+        "{part:?} is no capacity: name numbers from 1 to 18446744073709551615, as in --at 100,1000 or 64MiB"
     );
     match line {
         Ok(line) => Refusal::Wrong(line),

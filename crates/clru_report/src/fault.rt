@@ -1,7 +1,9 @@
 //! What can go wrong in a run, and the exit status of each.
-ghost use Rattle.std.specs.Prelude.{◌≡◌, IfErr, IsOk, Some};
-ghost use Rattle.clru_report.specs.Faults.{fault_text, status_of};
+ghost use Rattle.std.specs.Prelude.{◌≡◌, false, IfErr, IsOk, Some};
+ghost use Rattle.clru_report.specs.Faults.{fault_text, is_of_writing, status_of};
+ghost use Rattle.clru_report.specs.Refusals.{is_of_input};
 
+use clru_lines::ReadError;
 use std::error::Error;
 use std::fmt;
 
@@ -49,6 +51,17 @@ impl fmt::Display for Fault {
 }
 
 impl Error for Fault {}
+
+/// Why an input was not read.
+pub(crate) fn fault_of(error: ReadError) -> Fault
+    ensures not_of_input { is_of_input result ≡ false }
+    ensures not_of_writing { is_of_writing result ≡ false }
+{
+    match error {
+        ReadError::Memory => Fault::Memory,
+        ReadError::Reading => Fault::Reading,
+    }
+}
 
 /// The exit status of a run.
 pub fn exit_status(outcome: &Result<(), Fault>) -> u8

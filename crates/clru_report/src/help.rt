@@ -12,7 +12,8 @@ It writes a table as CSV: capacity, misses, and misses as a part of all requests
     awk '$9 == 200 && $10 != \"-\" { print $10, $7 }' access.log | clru_mrc --sizes
 
     --at N,N,..  these capacities, in keys; else 1, 2, 5, 10, 20, 50 ..
-                 up to the number of distinct keys
+                 up to the number of distinct keys; K, M, G may stand behind a
+                 number, or KiB, MiB, GiB
     --all        each capacity at which the misses fall
     --sizes      each line begins with the object's size and a blank, and is the
                  key as a whole; capacities are in bytes, from the greatest
@@ -24,13 +25,16 @@ It writes a table as CSV: capacity, misses, and misses as a part of all requests
                  for the bytes as well
     --summary    how many requests and distinct keys there are, and no table;
                  with --sizes their bytes and the greatest size as well
+    --progress   tells on standard error how far the input is read, once a
+                 second, as it does where that is a terminal
     -h, --help; -V, --version
 
 Lines are hashed with a seed from the system, which changes no answer.
 
 Status: 0 done, 2 wrong arguments or a capacity below the greatest size, 3 no
 memory, 4 input or seed not read, 5 output not written, 6 a line without a size
-or sizes that are too large together. A fault is one line on standard error.
+or sizes that are too large together. A fault is one line on standard error; so
+is what looks wrong with an input that has a report.
 ";
 
 /// The name of the program and its version, with a newline.

@@ -10,7 +10,6 @@ use crate::fault::Fault;
 use crate::options::Options;
 use crate::output::write_report;
 use crate::report::report_on;
-use clru_lines::{ReadError, read_input};
 use std::alloc::Allocator;
 use std::hash::BuildHasher;
 use std::io::{Read, Write};
@@ -40,12 +39,7 @@ pub fn run<R: Read, W: Write, S: BuildHasher + Copy, A: Allocator + Copy>(
     ensures silent { IfErr result (λ fault. is_of_writing fault ≡ false
         → Keeps (W.contents writer.old) (W.contents writer.new)) }
 {
-    let input = match read_input(alloc, reader) {
-        Ok(input) => input,
-        Err(ReadError::Memory) => return Err(Fault::Memory),
-        Err(ReadError::Reading) => return Err(Fault::Reading),
-    };
-    let text = match report_on(alloc, options, &input, hash_builder) {
+    let text = match report_on(alloc, options, reader, hash_builder) {
         Ok(text) => text,
         Err(fault) => return Err(fault),
     };

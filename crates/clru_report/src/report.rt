@@ -1,67 +1,136 @@
 //! The text of the report, taken whole before any of it is written.
-ghost use Rattle.std.specs.Prelude.{◌≡◌, true, false, IfErr, IfOk, string_bytes};
+ghost use Rattle.std.specs.Prelude.{◌≡◌, ℕ, List, true, false, IfErr, IfOk, string_bytes};
+ghost use Rattle.std.specs.Str.{bytes_eq};
+ghost use Rattle.clru_lines.specs.Lines.{lines_of};
+ghost use Rattle.clru_lines.specs.Whole.{ReadWhole};
 ghost use Rattle.clru_report.specs.Faults.{is_of_writing};
+ghost use Rattle.clru_report.specs.Passes.{capacities_for, has_rows, IsCurveOfInput, wants_least};
 ghost use Rattle.clru_report.specs.Refusals.{is_of_input, IsRefused};
-ghost use Rattle.clru_report.specs.Report.{IsInForm, IsReport};
+ghost use Rattle.clru_report.specs.Report.{AreRows, IsInForm, IsReport};
 
-use crate::fault::Fault;
+use crate::fault::{Fault, fault_of};
 use crate::options::{Form, Options};
 use crate::pass::curve_by_keys;
 use crate::picture::picture_by_keys;
-use crate::rows::rows_for;
+use crate::rows::{Row, rows_for, rows_with_least};
 use crate::sized::sized_report_on;
 use crate::table::{summary_of, table_of};
+use clru_curve::MissCurve;
+use clru_lines::{ReadError, read_input};
 use std::alloc::{AllocError, Allocator};
 use std::hash::BuildHasher;
+use std::io::Read;
 
-/// The report of an input.
-pub(crate) fn report_on<S: BuildHasher + Copy, A: Allocator + Copy>(
+/// The report of all that a reader gives.
+pub(crate) fn report_on<R: Read, S: BuildHasher + Copy, A: Allocator + Copy>(
     alloc: A,
     options: &Options<A>,
-    input: &[u8],
+    reader: &mut R,
     hash_builder: S,
 ) -> Result<String<A>, Fault>
-    ensures report { IfOk result (λ text. IsReport options.now input.now (string_bytes text)) }
-    ensures refused { IfErr result (λ fault. is_of_input fault ≡ true → IsRefused fault options.now input.now) }
+    ensures report { IfOk result (λ text. ReadWhole (R.remaining reader.old) (R.remaining reader.new)
+        (λ input. IsReport options.now input (string_bytes text))) }
+    ensures refused { IfErr result (λ fault. is_of_input fault ≡ true
+        → ReadWhole (R.remaining reader.old) (R.remaining reader.new) (λ input. IsRefused fault options.now input)) }
     ensures fault { IfErr result (λ fault. is_of_writing fault ≡ false) }
-    ensures memory { IfErr result (λ fault. is_of_input fault ≡ false → fault ≡ Fault.Memory) }
 {
     if options.sizes {
-        return sized_report_on(alloc, options, input, hash_builder);
+        return sized_report_on(alloc, options, reader, hash_builder);
     }
-    match report_by_keys(alloc, options, input, hash_builder) {
+    if asks_for_least(options) {
+        return match report_with_least(alloc, options, reader, hash_builder) {
+            Ok(text) => Ok(text),
+            Err(error) => Err(fault_of(error)),
+        };
+    }
+    match report_by_keys(alloc, options, reader, hash_builder) {
         Ok(text) => Ok(text),
-        Err(_) => Err(Fault::Memory),
+        Err(error) => Err(fault_of(error)),
     }
 }
 
-// Where each key takes a place.
-fn report_by_keys<S: BuildHasher + Copy, A: Allocator + Copy>(
+fn asks_for_least<A: Allocator>(options: &Options<A>) -> bool
+    ensures { result ≡ wants_least options.now }
+{
+    match options.form {
+        Form::Table | Form::Picture => options.least,
+        Form::Summary => false,
+    }
+}
+
+// Where each key takes a place, and of the input the distinct lines are held.
+fn report_by_keys<R: Read, S: BuildHasher + Drop, A: Allocator + Copy>(
     alloc: A,
     options: &Options<A>,
-    input: &[u8],
+    reader: &mut R,
     hash_builder: S,
-) -> Result<String<A>, AllocError>
-    ensures { IfOk result (λ text. IsInForm options.now.form options.now input.now (string_bytes text)) }
+) -> Result<String<A>, ReadError>
+    requires { wants_least options.now ≡ false }
+    ensures { IfOk result (λ text. ReadWhole (R.remaining reader.old) (R.remaining reader.new)
+        (λ input. IsInForm options.now.form options.now input (string_bytes text))) }
 {
-    let (curve, requests) = curve_by_keys(alloc, input, hash_builder)?;
+    let (curve, requests, bytes) = curve_by_keys(alloc, reader, hash_builder)?;
+    let Ok(rows) = rows_for(alloc, options, &curve) else {
+        return Err(ReadError::Memory);
+    };
+    match text_by_keys(alloc, options, &curve, requests, bytes, &rows) {
+        Ok(text) => Ok(text),
+        Err(_) => Err(ReadError::Memory),
+    }
+}
+
+// The same with the least possible misses, for which the whole input is held.
+fn report_with_least<R: Read, S: BuildHasher + Copy, A: Allocator + Copy>(
+    alloc: A,
+    options: &Options<A>,
+    reader: &mut R,
+    hash_builder: S,
+) -> Result<String<A>, ReadError>
+    requires { wants_least options.now ≡ true }
+    ensures { IfOk result (λ text. ReadWhole (R.remaining reader.old) (R.remaining reader.new)
+        (λ input. IsInForm options.now.form options.now input (string_bytes text))) }
+{
+    let input = read_input(alloc, reader)?;
+    let mut left = input.as_slice();
+    let (curve, requests, bytes) = curve_by_keys(alloc, &mut left, hash_builder)?;
+    let Ok(rows) = rows_for(alloc, options, &curve) else {
+        return Err(ReadError::Memory);
+    };
+    let Ok(rows) = rows_with_least(alloc, &input, &rows, hash_builder) else {
+        return Err(ReadError::Memory);
+    };
+    match text_by_keys(alloc, options, &curve, requests, bytes, &rows) {
+        Ok(text) => Ok(text),
+        Err(_) => Err(ReadError::Memory),
+    }
+}
+
+// The text in the form that is asked for.
+fn text_by_keys<A: Allocator + Copy>(
+    alloc: A,
+    options: &Options<A>,
+    curve: &MissCurve<A>,
+    requests: usize,
+    bytes: usize,
+    rows: &[Row],
+) -> Result<String<A>, AllocError>
+    ensures { (input : List ℕ) → IsCurveOfInput input curve.now requests bytes
+        → AreRows bytes_eq (lines_of input) (wants_least options.now) (capacities_for options.now (lines_of input)) rows.now
+        → IfOk result (λ text. IsInForm options.now.form options.now input (string_bytes text)) }
+{
     match options.form {
-        Form::Table => {
-            let rows = rows_for(alloc, options, input, &curve, hash_builder)?;
-            table_of(alloc, &rows, requests, options.least)
-        }
+        Form::Table => table_of(alloc, rows, requests, options.least),
         Form::Picture => {
-            let rows = rows_for(alloc, options, input, &curve, hash_builder)?;
-            let table = table_of(alloc, &rows, requests, options.least)?;
+            let table = table_of(alloc, rows, requests, options.least)?;
             picture_by_keys(
                 alloc,
                 curve.as_slice(),
                 requests,
                 options.least,
-                &rows,
+                rows,
                 &table,
             )
         }
-        Form::Summary => summary_of(alloc, requests, curve.distinct(), input.len()),
+        Form::Summary => summary_of(alloc, requests, curve.distinct(), bytes),
     }
 }

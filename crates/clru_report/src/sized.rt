@@ -2,7 +2,8 @@
 ghost use Rattle.std.specs.Prelude.{◌≡◌, ℕ, List, true, false, IfOk, IfErr, string_bytes};
 ghost use Rattle.clru_lines.specs.Lines.{lines_of};
 ghost use Rattle.clru_report.specs.Faults.{is_of_writing};
-ghost use Rattle.clru_report.specs.Passes.{capacities_on, IsOfCapacities, IsSettled, IsTableOf};
+ghost use Rattle.clru_lines.specs.Whole.{ReadWhole};
+ghost use Rattle.clru_report.specs.Passes.{capacities_on, IsOfCapacities, IsSettled, IsSizedCurveOfInput, IsTableOf};
 ghost use Rattle.clru_report.specs.Refusals.{is_of_input, IsRefusedFor};
 ghost use Rattle.clru_report.specs.SizedReport.{IsReportBySize};
 ghost use Rattle.clru_report.specs.Tables.{HasTable};
@@ -22,27 +23,44 @@ use picture::picture_by_size;
 use rows::sized_rows_for;
 use std::alloc::Allocator;
 use std::hash::BuildHasher;
+use std::io::Read;
 use table::{sized_summary_of, sized_table_of};
 
-/// The report of an input, by the sizes that its lines begin with.
-pub(crate) fn sized_report_on<S: BuildHasher + Drop, A: Allocator + Copy>(
+/// The report of all that a reader gives, by the sizes that its lines begin with.
+pub(crate) fn sized_report_on<R: Read, S: BuildHasher + Drop, A: Allocator + Copy>(
     alloc: A,
     options: &Options<A>,
-    input: &[u8],
+    reader: &mut R,
     hash_builder: S,
 ) -> Result<String<A>, Fault>
-    ensures report { IfOk result (λ text.
-        IsReportBySize options.now input.now (lines_of input.now) (string_bytes text)) }
-    ensures refused { IfErr result (λ fault. is_of_input fault ≡ true
-        → IsRefusedFor fault options.now (lines_of input.now)) }
+    ensures report { IfOk result (λ text. ReadWhole (R.remaining reader.old) (R.remaining reader.new)
+        (λ input. IsReportBySize options.now input (lines_of input) (string_bytes text))) }
+    ensures refused { IfErr result (λ fault. is_of_input fault ≡ true → ReadWhole (R.remaining reader.old) (R.remaining reader.new)
+        (λ input. IsRefusedFor fault options.now (lines_of input))) }
     ensures fault { IfErr result (λ fault. is_of_writing fault ≡ false) }
-    ensures memory { IfErr result (λ fault. is_of_input fault ≡ false → fault ≡ Fault.Memory) }
 {
-    let curve = curve_of(alloc, input, hash_builder)?;
+    let (curve, bytes) = curve_of(alloc, reader, hash_builder)?;
+    text_by_size(alloc, options, &curve, bytes)
+}
+
+// The text in the form that is asked for.
+fn text_by_size<A: Allocator + Copy>(
+    alloc: A,
+    options: &Options<A>,
+    curve: &SizedCurve<A>,
+    bytes: usize,
+) -> Result<String<A>, Fault>
+    requires { IsSettled curve.now }
+    ensures report { (input : List ℕ) → IsSizedCurveOfInput input curve.now bytes
+        → IfOk result (λ text. IsReportBySize options.now input (lines_of input) (string_bytes text)) }
+    ensures refused { (input : List ℕ) → IsSizedCurveOfInput input curve.now bytes
+        → IfErr result (λ fault. is_of_input fault ≡ true → IsRefusedFor fault options.now (lines_of input)) }
+    ensures fault { IfErr result (λ fault. is_of_writing fault ≡ false) }
+{
     match options.form {
-        Form::Table => sized_table_for(alloc, &options.capacities, &curve),
-        Form::Picture => sized_picture_for(alloc, &options.capacities, &curve),
-        Form::Summary => match sized_summary_of(alloc, &curve, input.len()) {
+        Form::Table => sized_table_for(alloc, &options.capacities, curve),
+        Form::Picture => sized_picture_for(alloc, &options.capacities, curve),
+        Form::Summary => match sized_summary_of(alloc, curve, bytes) {
             Ok(text) => Ok(text),
             Err(_) => Err(Fault::Memory),
         },

@@ -1,64 +1,94 @@
-//! One pass over the lines of an input, each an object with its size.
-ghost use Rattle.std.specs.Prelude.{◌≡◌, ℕ, ◌+◌, true, List, [], ◌∷◌, ◌++◌, length, None, Some, IfErr, IfOk, OnOk};
-ghost use Rattle.clru_curve.specs.SizedCurves.{IsSizedCurveOf};
+//! One pass over the lines of a reader, each an object with its size.
+ghost use Rattle.std.specs.Prelude.{◌≡◌, ℕ, ◌+◌, true, false, List, [], ◌∷◌, ◌++◌, length, Some, IfErr, IfOk, OnOk};
 ghost use Rattle.clru_lines.specs.Lines.{lines_of};
-ghost use Rattle.clru_report.specs.Passes.{HasTaken, IsOfLines, IsSettled};
+ghost use Rattle.clru_lines.specs.Whole.{ReadWhole};
+ghost use Rattle.clru_report.specs.Faults.{is_of_writing};
+ghost use Rattle.clru_report.specs.Passes.{HasTaken, IsOfLines, IsSettled, IsSizedCurveOfInput, line_of};
 ghost use Rattle.clru_report.specs.Refusals.{fault_from, is_of_input};
-ghost use Rattle.clru_report.specs.Sizes.{HaveSizes, weight_of_line};
-ghost use Rattle.std.specs.Str.{bytes_eq};
 
 use super::line::size_of;
-use crate::fault::Fault;
+use crate::fault::{Fault, fault_of};
 use clru_curve::{SizedCurve, SizedPass, SizedRequestError};
-use clru_lines::{Key, next_line};
+use clru_lines::{LineBuffer, OwnedKey};
 use std::alloc::Allocator;
 use std::hash::BuildHasher;
+use std::io::Read;
 
-/// The curve of the lines of an input.
-pub(crate) fn curve_of<S: BuildHasher + Drop, A: Allocator + Copy>(
+/// The curve of the lines of a reader, and how many bytes it gave.
+///
+/// No more than the distinct lines is held of them. The fault of a line is told once all is read, since it is one of the whole
+/// input; want of memory is told at once.
+pub(crate) fn curve_of<R: Read, S: BuildHasher + Drop, A: Allocator + Copy>(
     alloc: A,
-    input: &[u8],
+    reader: &mut R,
     hash_builder: S,
-) -> Result<SizedCurve<A>, Fault>
-    ensures sizes { OnOk result (HaveSizes (lines_of input.now)) }
-    ensures curve { IfOk result (λ curve. IsSizedCurveOf bytes_eq weight_of_line (lines_of input.now) curve) }
-    ensures settled { IfOk result (λ curve. IsSettled curve) }
-    ensures refused { IfErr result (λ fault. IsOfLines fault (lines_of input.now)) }
-    ensures no_fault { OnOk result (fault_from 1 0 (lines_of input.now) ≡ None) }
-    ensures fault { IfErr result (λ fault. is_of_input fault ≡ true → fault_from 1 0 (lines_of input.now) ≡ Some fault) }
+) -> Result<(SizedCurve<A>, usize), Fault>
+    ensures curve { IfOk result (λ found. ReadWhole (R.remaining reader.old) (R.remaining reader.new)
+        (λ input. IsSizedCurveOfInput input found.0 found.1)) }
+    ensures settled { IfOk result (λ found. IsSettled found.0) }
+    ensures refused { IfErr result (λ fault. is_of_input fault ≡ true → ReadWhole (R.remaining reader.old) (R.remaining reader.new)
+        (λ input. IsOfLines fault (lines_of input) × (fault_from 1 0 (lines_of input) ≡ Some fault))) }
+    ensures fault { IfErr result (λ fault. is_of_writing fault ≡ false) }
 {
     let mut pass = SizedPass::with_hasher(alloc, hash_builder);
-    let mut left = input;
+    let mut buffer = LineBuffer::new(alloc);
+    let mut key = OwnedKey(Vec::new(alloc));
     let mut number = 0;
-    'lines: while let Some((line, rest)) = next_line(left) {
+    let mut refused = None;
+    'lines: loop {
+        match buffer.read_line(reader, &mut key.0) {
+            Ok(true) => {}
+            Ok(false) => break,
+            Err(error) => return Err(fault_of(error)),
+        }
         number += 1;
-        take_line(&mut pass, Key(line), number)?;
-        left = rest;
+        if refused.is_none() {
+            match take_line(alloc, &mut pass, &key, number) {
+                Ok(()) => {}
+                Err(Fault::Memory) => return Err(Fault::Memory),
+                Err(fault) => refused = Some(fault),
+            }
+        }
     }
-    Ok(pass.into_curve())
+    match refused {
+        None => Ok((pass.into_curve(), buffer.bytes_read())),
+        Some(fault) => Err(fault),
+    }
 }
 
-// Takes one more line, of this number.
-fn take_line<'a, S: BuildHasher, A: Allocator + Copy>(
-    pass: &mut SizedPass<Key<'a>, S, A>,
-    key: Key<'a>,
+// Takes one more line, of this number. It is copied where it is new.
+fn take_line<S: BuildHasher, A: Allocator + Copy>(
+    alloc: A,
+    pass: &mut SizedPass<OwnedKey<A>, S, A>,
+    key: &OwnedKey<A>,
     number: usize,
 ) -> Result<(), Fault>
     ensures taken { (lines : List (List ℕ)) → HasTaken lines pass.old
-        → OnOk result (HasTaken (lines ++ key.entry.0.now ∷ []) pass.new) }
+        → OnOk result (HasTaken (lines ++ line_of key.now ∷ []) pass.new) }
     ensures refused { (lines rest : List (List ℕ)) → HasTaken lines pass.old → number ≡ length lines + 1
-        → IfErr result (λ fault. IsOfLines fault (lines ++ key.entry.0.now ∷ rest)) }
+        → IfErr result (λ fault. IsOfLines fault (lines ++ line_of key.now ∷ rest)) }
     ensures next { (rest : List (List ℕ)) → OnOk result
-        (fault_from number pass.old.size (key.entry.0.now ∷ rest) ≡ fault_from (number + 1) pass.new.size rest) }
+        (fault_from number pass.old.size (line_of key.now ∷ rest) ≡ fault_from (number + 1) pass.new.size rest) }
     ensures fault { (rest : List (List ℕ)) → IfErr result (λ fault. is_of_input fault ≡ true
-        → fault_from number pass.old.size (key.entry.0.now ∷ rest) ≡ Some fault) }
+        → fault_from number pass.old.size (line_of key.now ∷ rest) ≡ Some fault) }
 {
-    let size = match size_of(key.0) {
+    let size = match size_of(&key.0) {
         Some(size) => size,
         None => return Err(Fault::NoSize(number)),
     };
-    match pass.request(key, size.get() - 1) {
-        Ok(_) => Ok(()),
+    let weight = size.get() - 1;
+    match pass.request_again(key, weight) {
+        Ok(Some(_)) => Ok(()),
+        Ok(None) => {
+            let Ok(bytes) = Vec::from_slice(alloc, &key.0) else {
+                return Err(Fault::Memory);
+            };
+            match pass.request(OwnedKey(bytes), weight) {
+                Ok(_) => Ok(()),
+                Err(SizedRequestError::NoMemory(_)) => Err(Fault::Memory),
+                Err(SizedRequestError::TooLarge(_)) => Err(Fault::TooLarge),
+            }
+        }
         Err(SizedRequestError::NoMemory(_)) => Err(Fault::Memory),
         Err(SizedRequestError::TooLarge(_)) => Err(Fault::TooLarge),
     }

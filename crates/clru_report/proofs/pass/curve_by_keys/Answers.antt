@@ -1,40 +1,52 @@
-use Rattle.std.proofs.Common.{◌≡◌, ◌++◌, ◌∷◌, [], append_assoc, append-nil, map, reverse, sym, ap, ◌∙◌, subst, arith, rules}
-use Rattle.std.specs.Prelude.{bytes_eq}
-use Rattle.std.proofs.lemmas.List.{reverse-reverse}
+use Rattle.std.proofs.Common.{◌≡◌, [], refl, sym, ap, ◌∙◌, subst, arith, length, ◌++◌, ◌∷◌}
+use Rattle.std.proofs.lemmas.List.{length-append}
+use Rattle.std.specs.Prelude.{bytes_eq, reverse}
 use Rattle.clru_curve.specs.Curves.{HasMissesOf}
-use Rattle.clru_lines.specs.Lines.{lines_of}
-use Rattle.clru_model.proofs.Views.{distinct-map, map-reverse, misses-map}
 use Rattle.clru_model.specs.Requests.{distinct}
-use Rattle.clru_report.specs.Passes.{line_of}
-use Rattle.clru_report.proofs.TakenLines.{shown_more}
+use Rattle.clru_report.proofs.TakenLines.{distinct_taken, misses_taken}
 use Rattle.clru_report.proofs.pass.curve_by_keys.Goals as goal
+
+pub lines-init : goal.lines-init
+lines-init g c = (
+  [],
+  record { past = []; shown = refl; taken = c.with_hasher-pass.ensures },
+  c.new-buffer.ensures (g.R.Read.remaining c.args.reader.now),
+  refl,
+  omega arith,
+)
+
+pub overflow_add-requests : goal.overflow_add-requests
+overflow_add-requests g c =
+    let before = c.lines.invariant in
+    let fits = c.in_ok-read_line.ensures.fits (g.R.Read.remaining c.args.reader.now) before.0 before.2 c.if-branch.true in
+    omega (arith, before.3, fits)
 
 pub lines-preserved : goal.lines-preserved
 lines-preserved g c =
-    let before = c.lines.invariant in let line = c.in-Some.line.now in (
-      _ ∷ before.0,
-      c.in-Ok.ensures.taken before.0 before.1,
-      ap (λ ls. ls ++ lines_of c.in-Some.rest.now) (shown_more _ before.0)
-          ∙ append_assoc (map line_of (reverse before.0)) (line ∷ []) (lines_of c.in-Some.rest.now)
-          ∙ ap (λ ls. map line_of (reverse before.0) ++ ls) (sym c.in-Some.ensures.line) ∙ before.2,
-      omega (arith, before.3),
-      omega (arith, before.4, c.in-Some.ensures.shorter),
+    let before = c.lines.invariant in let start = g.R.Read.remaining c.args.reader.now in
+    let line = c.read_line.new.line.items in
+    let fits = c.in_ok-read_line.ensures.fits start before.0 before.2 c.if-branch.true in (
+      before.0 ++ line ∷ [],
+      c.in-Ok.ensures before.0 before.1,
+      c.in_ok-read_line.ensures.line start before.0 before.2 c.if-branch.true,
+      omega (arith, before.3, length-append before.0 (line ∷ [])),
+      omega (arith, before.3, fits),
     )
 
-pub returns-clause-misses : goal.returns-clause-misses
-returns-clause-misses g c =
-    let before = c.lines.invariant in
-    let left : lines_of c.lines.left.now ≡ [] = search rules in
-    let whole = sym (append-nil (map line_of (reverse before.0)))
-    ∙ ap (λ ls. map line_of (reverse before.0) ++ ls) (sym left) ∙ before.2 in
-    subst (λ ls. HasMissesOf bytes_eq ls c.into_curve.result) whole
-    (λ k some. c.into_curve.ensures.misses before.0 before.1 k some ∙ sym (misses-map bytes_eq line_of k (reverse before.0)))
-
-pub returns-clause-distinct : goal.returns-clause-distinct
-returns-clause-distinct g c =
-    let before = c.lines.invariant in
-    let left : lines_of c.lines.left.now ≡ [] = search rules in
-    let whole = sym (append-nil (map line_of (reverse before.0)))
-    ∙ ap (λ ls. map line_of (reverse before.0) ++ ls) (sym left) ∙ before.2 in
-    c.into_curve.ensures.distinct before.0 before.1 ∙ sym (distinct-map bytes_eq line_of before.0)
-    ∙ ap (distinct bytes_eq) (sym (reverse-reverse (map line_of before.0)) ∙ ap reverse (sym (map-reverse line_of before.0) ∙ whole))
+pub returns : goal.returns
+returns g c =
+    let before = c.lines.invariant in let start = g.R.Read.remaining c.args.reader.now in
+    let read = c.in_ok-read_line.ensures.end start before.0 before.2 c.if-branch.false in
+    let lines = sym read.3.0 in
+    let curve = c.into_curve.result in (
+      read.0,
+      read.1,
+      read.2,
+      record {
+        misses = subst (λ ls. HasMissesOf bytes_eq ls curve) lines (misses_taken before.0 c.lines.pass before.1 curve (λ past is. c.into_curve.ensures.misses past is));
+        distinct_keys = subst (λ ls. length curve ≡ distinct bytes_eq (reverse ls)) lines
+            (distinct_taken before.0 c.lines.pass before.1 curve (λ past is. c.into_curve.ensures.distinct past is));
+        counted = before.3 ∙ ap length lines;
+        in_bytes = c.bytes_read.ensures ∙ read.3.1;
+      },
+    )

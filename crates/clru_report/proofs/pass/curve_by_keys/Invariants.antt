@@ -1,15 +1,12 @@
-use Rattle.std.proofs.Common.{◌≡◌, ◌+◌, ◌≤◌, List, ◌++◌, length, map, reverse}
-use Rattle.clru_curve.specs.Passes.{IsPass}
-use Rattle.clru_lines.specs.Lines.{lines_of}
-use Rattle.clru_lines.specs.declared.lines.Key.{Key}
-use Rattle.clru_report.specs.Passes.{line_of}
-use Rattle.clru_report.proofs.TakenLines.{same_line}
+use Rattle.std.proofs.Common.{◌≡◌, ◌-◌, ◌^◌, ◌<◌, ℕ, List, length}
+use Rattle.clru_lines.specs.Told.{HasTold}
+use Rattle.clru_report.specs.Passes.{HasTakenLines}
 use Rattle.clru_report.proofs.pass.curve_by_keys.Given as goal
 
 abbrev pub invariant-lines : goal.invariant-lines
-invariant-lines g l = (past : List Key) × IsPass same_line past l.pass
-    × (map line_of (reverse past) ++ lines_of l.left ≡ lines_of l.input)
-    × (l.requests ≡ length past) × (l.requests + length l.left ≤ length l.input)
+invariant-lines g l = (lines : List (List ℕ)) × HasTakenLines lines l.pass
+    × HasTold (g.R.Read.remaining l.initial.reader) (g.R.Read.remaining l.reader) l.buffer lines
+    × (l.requests ≡ length lines) × (l.requests < 2 ^ 64)
 
 abbrev pub decreases-lines : goal.decreases-lines
-decreases-lines g l = length l.left
+decreases-lines g l = 2 ^ 64 - l.requests

@@ -1,10 +1,11 @@
-use Rattle.std.proofs.Common.{true, map, take}
-use Rattle.std.specs.Int.NonZero.{non_zero_usize_get}
+use Rattle.std.proofs.Common.{true, false, map, take}
+use Rattle.std.specs.List.{All}
 use Rattle.std.specs.Prelude.{bytes_eq}
 use Rattle.clru_lines.specs.Lines.{lines_of}
-use Rattle.clru_report.specs.Report.{AreRows}
+use Rattle.clru_report.specs.Report.{AreRows, IsRow}
+use Rattle.clru_report.specs.Tables.{capacity_of_row}
 use Rattle.clru_report.proofs.rows.rows_with_least.Given as goal
 
-abbrev pub invariant-loop-capacity : goal.invariant-loop-capacity
-invariant-loop-capacity g l = AreRows bytes_eq (lines_of l.input) true
-    (map non_zero_usize_get (take l.capacity-index l.capacities)) l.rows.items
+abbrev pub invariant-loop-row : goal.invariant-loop-row
+invariant-loop-row g l = All (IsRow bytes_eq (lines_of l.input) false) l.rows
+    → AreRows bytes_eq (lines_of l.input) true (map capacity_of_row (take l.row-index l.rows)) l.found.items

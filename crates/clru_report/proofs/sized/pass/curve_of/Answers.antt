@@ -1,59 +1,111 @@
-use Rattle.std.proofs.Common.{◌≡◌, true, ◌+◌, ◌++◌, ◌∷◌, [], append_assoc, append-nil, IsSome, refl, sym, ap, ◌∙◌, subst, arith, rules}
+use Rattle.std.specs.Option.{is_none}
+use Rattle.std.proofs.Common.{◌≡◌, true, not, ◌++◌, ◌∷◌, [], ℕ, List, Some, IfSome, append_assoc, append-nil, IsSome, refl, sym, ap, ◌∙◌, subst, arith}
 use Rattle.std.specs.Prelude.{bytes_eq}
 use Rattle.std.proofs.lemmas.List.{length-append}
 use Rattle.std.proofs.lemmas.List.Elements.{All-nil}
 use Rattle.clru_curve.specs.SizedCurves.{IsSizedCurveOf}
 use Rattle.clru_lines.specs.Lines.{lines_of}
+use Rattle.clru_report.specs.Passes.{IsOfLines, weight_of_key}
 use Rattle.clru_report.specs.Refusals.{fault_from, is_of_input}
-use Rattle.clru_report.specs.Sizes.{size_of_line, weight_of_line}
+use Rattle.clru_report.specs.Sizes.{HaveSizes, size_of_line, weight_of_line}
+use Rattle.clru_report.proofs.ReportLemmas.{no_none, no_some, none_map, of_none, some_map}
 use Rattle.clru_report.proofs.SettledCurves.{settled_curve}
-use Rattle.clru_report.proofs.TakenLines.{curve_taken, weight_of_key}
+use Rattle.clru_report.proofs.TakenLines.{curve_taken}
 use Rattle.clru_report.proofs.sized.pass.curve_of.Goals as goal
 
 pub lines-init : goal.lines-init
-lines-init g c = (
-  [],
-  record { past = []; shown = refl; sizes = All-nil (λ line. IsSome (size_of_line line)); taken = c.with_hasher-pass.ensures weight_of_key },
-  refl,
-  refl,
-  omega arith,
-  ap (λ s. fault_from 1 s (lines_of c.args.input.now)) (c.with_hasher-pass.ensures weight_of_key).size,
-)
+lines-init g c =
+    let made = c.with_hasher-pass.ensures weight_of_key in (
+      [],
+      c.new-buffer.ensures (g.R.Read.remaining c.args.reader.now),
+      refl,
+      omega arith,
+      (
+        record { past = []; shown = refl; sizes = All-nil (λ line. IsSome (size_of_line line)); taken = made },
+        λ rest. ap (λ s. fault_from 1 s rest) (sym made.size),
+      ),
+      tt,
+    )
+
+pub lines-preserved-in-Ok : goal.lines-preserved-in-Ok
+lines-preserved-in-Ok g c =
+    let before = c.lines.invariant in let start = g.R.Read.remaining c.args.reader.now in
+    let line = c.read_line.new.line.items in let e = c.in-Ok.ensures in
+    let fits = c.in-Ok-true.ensures.fits start before.0 before.1 c.in-Ok-true.field-0-test in (
+      before.0 ++ line ∷ [],
+      c.in-Ok-true.ensures.line start before.0 before.1 c.in-Ok-true.field-0-test,
+      omega (arith, before.2, length-append before.0 (line ∷ [])),
+      omega (arith, before.2, fits),
+      none_map c.lines.refused (λ so. (
+        e.taken before.0 so.0,
+        λ rest. ap (fault_from 1 0) (append_assoc before.0 (line ∷ []) rest) ∙ so.1 (line ∷ rest) ∙ e.next rest,
+      )) before.4,
+      no_some _ c.lines.refused (ap not c.if-is_none.ensures),
+    )
+
+pub lines-preserved-in-Err-take_line : goal.lines-preserved-in-Err-take_line
+lines-preserved-in-Err-take_line g c =
+    let before = c.lines.invariant in let start = g.R.Read.remaining c.args.reader.now in
+    let line = c.read_line.new.line.items in let e = c.in-Err-take_line.ensures in let fault = c.in-Err-take_line.fault in
+    let fits = c.in-Ok-true.ensures.fits start before.0 before.1 c.in-Ok-true.field-0-test in
+    let so = of_none c.lines.refused (ap not c.if-is_none.ensures) before.4 in (
+      before.0 ++ line ∷ [],
+      c.in-Ok-true.ensures.line start before.0 before.1 c.in-Ok-true.field-0-test,
+      omega (arith, before.2, length-append before.0 (line ∷ [])),
+      omega (arith, before.2, fits),
+      tt,
+      λ rest. let same = append_assoc before.0 (line ∷ []) rest in (
+        subst (IsOfLines fault) (sym same) (e.refused before.0 rest so.0 (omega (arith, before.2))),
+        λ of. ap (fault_from 1 0) same ∙ so.1 (line ∷ rest) ∙ e.fault rest of,
+      ),
+    )
 
 pub lines-preserved : goal.lines-preserved
 lines-preserved g c =
-    let before = c.lines.invariant in
-    let line = c.in-Some.line.now in (
+    let before = c.lines.invariant in let start = g.R.Read.remaining c.args.reader.now in
+    let line = c.read_line.new.line.items in
+    let fits = c.in-Ok-true.ensures.fits start before.0 before.1 c.in-Ok-true.field-0-test in (
       before.0 ++ line ∷ [],
-      c.in_ok-take_line.ensures.taken before.0 before.1,
-      append_assoc before.0 (line ∷ []) (lines_of c.in-Some.rest.now) ∙ ap (λ ls. before.0 ++ ls) (sym c.in-Some.ensures.line) ∙ before.2,
-      omega (arith, before.3, length-append before.0 (line ∷ [])),
-      omega (arith, before.4, c.in-Some.ensures.shorter),
-      sym (c.in_ok-take_line.ensures.next (lines_of c.in-Some.rest.now))
-          ∙ ap (λ ls. fault_from (c.lines.number + 1) c.lines.pass.size ls) (sym c.in-Some.ensures.line) ∙ before.5,
+      c.in-Ok-true.ensures.line start before.0 before.1 c.in-Ok-true.field-0-test,
+      omega (arith, before.2, length-append before.0 (line ∷ [])),
+      omega (arith, before.2, fits),
+      no_none _ c.lines.refused (ap not c.if-is_none.ensures),
+      some_map c.lines.refused (λ fault so rest. let same = append_assoc before.0 (line ∷ []) rest in (
+        subst (IsOfLines fault) (sym same) (so (line ∷ rest)).0,
+        λ of. ap (fault_from 1 0) same ∙ (so (line ∷ rest)).1 of,
+      )) before.5,
     )
 
-pub returns-in_err-take_line-clause-fault : goal.returns-in_err-take_line-clause-fault
-returns-in_err-take_line-clause-fault g c =
-    let before = c.lines.invariant in
-    let left = ap (λ ls. fault_from (c.lines.number + 1) c.lines.pass.size ls) c.in-Some.ensures.line in
-    let told = λ (of : is_of_input c.in_err-take_line.field-0.0 ≡ true).
-    sym before.5 ∙ left ∙ c.in_err-take_line.ensures.fault (lines_of c.in-Some.rest.now) of in
-    search (rules, told)
+pub returns-in-None-clause-curve : goal.returns-in-None-clause-curve
+returns-in-None-clause-curve g c =
+    let before = c.lines.invariant in let start = g.R.Read.remaining c.args.reader.now in
+    let read = c.in-Ok-false.ensures.end start before.0 before.1 c.in-Ok-false.field-0-test in
+    let lines = sym read.3.0 in let so = of_none c.lines.refused (ap is_none c.in-None.is) before.4 in (
+      read.0,
+      read.1,
+      read.2,
+      record {
+        sizes = subst HaveSizes lines so.0.sizes;
+        of_lines = subst (λ ls. IsSizedCurveOf bytes_eq weight_of_line ls c.into_curve.result) lines
+            (curve_taken before.0 c.lines.pass so.0 c.into_curve.result (c.into_curve.ensures weight_of_key));
+        no_fault = ap (fault_from 1 0) (sym lines ∙ sym (append-nil before.0)) ∙ so.1 [];
+        in_bytes = c.bytes_read.ensures ∙ read.3.1;
+      },
+    )
 
-pub returns-clause-no_fault : goal.returns-clause-no_fault
-returns-clause-no_fault g c =
-    let before = c.lines.invariant in
-    let left : lines_of c.lines.left.now ≡ [] = search rules in
-    sym before.5 ∙ ap (λ ls. fault_from (c.lines.number + 1) c.lines.pass.size ls) left
+pub returns-in-None-clause-settled : goal.returns-in-None-clause-settled
+returns-in-None-clause-settled g c =
+    let made = returns-in-None-clause-curve g c in settled_curve (lines_of made.0) c.into_curve.result made.3.of_lines
 
-pub returns-clause-curve : goal.returns-clause-curve
-returns-clause-curve g c =
-    let before = c.lines.invariant in
-    let left : lines_of c.lines.left.now ≡ [] = search rules in
-    let whole = sym (append-nil before.0) ∙ ap (λ ls. before.0 ++ ls) (sym left) ∙ before.2 in
-    subst (λ ls. IsSizedCurveOf bytes_eq weight_of_line ls c.into_curve.result) whole
-    (curve_taken before.0 c.lines.pass before.1 c.into_curve.result (c.into_curve.ensures weight_of_key))
-
-pub returns-clause-settled : goal.returns-clause-settled
-returns-clause-settled g c = settled_curve (lines_of c.args.input.now) c.into_curve.result (returns-clause-curve g c)
+pub returns-in-Some-clause-refused : goal.returns-in-Some-clause-refused
+returns-in-Some-clause-refused g c of =
+    let before = c.lines.invariant in let start = g.R.Read.remaining c.args.reader.now in let fault = c.in-Some.fault in
+    let read = c.in-Ok-false.ensures.end start before.0 before.1 c.in-Ok-false.field-0-test in
+    let so = subst (λ o. IfSome o (λ f. (rest : List (List ℕ)) → IsOfLines f (before.0 ++ rest)
+    × (is_of_input f ≡ true → fault_from 1 0 (before.0 ++ rest) ≡ Some f))) c.in-Some.is before.5 in
+    let whole = append-nil before.0 ∙ sym read.3.0 in (
+      read.0,
+      read.1,
+      read.2,
+      (subst (IsOfLines fault) whole (so []).0, ap (fault_from 1 0) (sym whole) ∙ (so []).1 of),
+    )

@@ -6,7 +6,7 @@ use Rattle.clru_curve.specs.Curves.{misses_at}
 use Rattle.clru_report.specs.Report.{AreRows}
 use Rattle.clru_report.specs.Tables.{capacity_of_row}
 use Rattle.clru_report.proofs.RowLemmas.{rows_more}
-use Rattle.clru_report.proofs.rows.rows_without_least.Goals as goal
+use Rattle.clru_report.proofs.rows.rows_at.Goals as goal
 
 pub loop-capacity-preserved : goal.loop-capacity-preserved
 loop-capacity-preserved g c lines has =

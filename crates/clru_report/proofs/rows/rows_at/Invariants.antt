@@ -3,7 +3,7 @@ use Rattle.std.specs.Int.NonZero.{non_zero_usize_get}
 use Rattle.std.specs.Prelude.{bytes_eq}
 use Rattle.clru_curve.specs.Curves.{HasMissesOf}
 use Rattle.clru_report.specs.Report.{AreRows}
-use Rattle.clru_report.proofs.rows.rows_without_least.Given as goal
+use Rattle.clru_report.proofs.rows.rows_at.Given as goal
 
 abbrev pub invariant-loop-capacity : goal.invariant-loop-capacity
 invariant-loop-capacity g l = (lines : List (List ℕ)) → HasMissesOf bytes_eq lines l.curve

@@ -1,0 +1,61 @@
+-- What is known of a reader whose lines are told one by one.
+use Rattle.std.proofs.Common.{◌≡◌, ℕ, ◌+◌, ◌<◌, List, [], ◌∷◌, ◌++◌, Option, append_assoc, append-nil, length, length-append, sym, ap, ◌∙◌, subst, arith}
+use Rattle.std.proofs.KnownBytes.{Consumes-trans}
+use Rattle.std.specs.Io.KnownBytes.{Consumes, IsAtEnd}
+use Rattle.clru_lines.specs.Lines.{lines_of}
+use Rattle.clru_lines.specs.Told.{HasBegun, HasRead, IsFree}
+use Rattle.clru_lines.proofs.LineLemmas.{lines_of-cut, lines_of-free}
+
+module _ (start now : Option (List ℕ)) (read : ℕ) (lines : List (List ℕ)) where
+  -- more was read, of which no line is made yet
+  pub begun_more : (next : Option (List ℕ)) (n : ℕ) (rest piece : List ℕ) → HasBegun start now read rest lines
+      → Consumes now next piece → n ≡ read + length piece → HasBegun start next n (rest ++ piece) lines
+  begun_more next n rest piece b given counted =
+      let same = append_assoc b.told rest piece in
+      record {
+        told = b.told;
+        bytes = subst (Consumes start next) same (Consumes-trans _ _ _ _ _ b.bytes given);
+        count = omega (arith, counted, b.count, length-append (b.told ++ rest) piece, ap length same);
+        cut = b.cut;
+        few = b.few;
+      }
+
+  -- what has no newline is a line where one follows
+  pub begun_line : (line rest : List ℕ) → IsFree line → HasBegun start now read (line ++ 10 ∷ rest) lines
+      → HasBegun start now read rest (lines ++ line ∷ [])
+  begun_line line rest free b =
+      let whole = λ (more : List ℕ). append_assoc b.told (line ++ 10 ∷ []) more
+      ∙ ap (λ l. b.told ++ l) (append_assoc line (10 ∷ []) more) in
+      record {
+        told = b.told ++ (line ++ 10 ∷ []);
+        bytes = subst (Consumes start now) (sym (whole rest)) b.bytes;
+        count = b.count ∙ ap length (sym (whole rest));
+        cut = λ more. ap lines_of (whole more) ∙ b.cut (line ++ 10 ∷ more)
+            ∙ ap (λ l. lines ++ l) (lines_of-cut line more free) ∙ sym (append_assoc lines (line ∷ []) (lines_of more));
+        few = omega (
+          arith,
+          b.few,
+          length-append lines (line ∷ []),
+          length-append b.told (line ++ 10 ∷ []),
+          length-append line (10 ∷ []),
+        );
+      }
+
+  -- there are fewer lines than bytes where one more byte is read
+  pub begun_fewer : (rest : List ℕ) → HasBegun start now read rest lines → 0 < length rest → length lines < read
+  begun_fewer rest b some = omega (arith, b.few, b.count, length-append b.told rest, some)
+
+  -- nothing follows
+  pub read_all : HasBegun start now read [] lines → IsAtEnd now → HasRead start now read lines
+  read_all b end = (
+    b.told,
+    subst (Consumes start now) (append-nil b.told) b.bytes,
+    end,
+    (ap lines_of (sym (append-nil b.told)) ∙ b.cut [] ∙ append-nil lines, b.count ∙ ap length (append-nil b.told)),
+  )
+
+  -- no newline follows
+  pub read_last : (line : List ℕ) → IsFree line → 0 < length line → HasBegun start now read line lines → IsAtEnd now
+      → HasRead start now read (lines ++ line ∷ [])
+  read_last line free some b end =
+      (b.told ++ line, b.bytes, end, (b.cut line ∙ ap (λ l. lines ++ l) (lines_of-free line free some), b.count))
