@@ -85,9 +85,6 @@ free-before (b ∷ bytes) (suc n) h = step (b == 10) h (free-before bytes n)
 pub free-to : (bytes : List ℕ) (at : ℕ) → position (λ b. b == 10) bytes ≡ Some at → IsFree (take at bytes)
 free-to bytes at h = let here : first bytes ≡ at = grind (arith, nat_tests) in free-before bytes at (omega (arith, here))
 
-pub free-whole : (bytes : List ℕ) → position (λ b. b == 10) bytes ≡ None → IsFree bytes
-free-whole bytes h = position-None (λ b. b == 10) bytes h
-
 -- a newline ends what has none
 pub lines_of-cut : (piece rest : List ℕ) → IsFree piece → lines_of (piece ++ 10 ∷ rest) ≡ piece ∷ lines_of rest
 lines_of-cut piece rest free =

@@ -1,5 +1,5 @@
 -- What is known of a reader whose lines are told one by one.
-use Rattle.std.proofs.Common.{◌≡◌, ℕ, ◌+◌, ◌<◌, List, [], ◌∷◌, ◌++◌, Option, append_assoc, append-nil, length, length-append, sym, ap, ◌∙◌, subst, arith}
+use Rattle.std.proofs.Common.{◌≡◌, ℕ, ◌+◌, ◌<◌, List, [], ◌∷◌, ◌++◌, Option, append_assoc, length, length-append, sym, ap, ◌∙◌, subst, arith}
 use Rattle.std.proofs.KnownBytes.{Consumes-trans}
 use Rattle.std.specs.Io.KnownBytes.{Consumes, IsAtEnd}
 use Rattle.clru_lines.specs.Lines.{lines_of}
@@ -40,19 +40,6 @@ module _ (start now : Option (List ℕ)) (read : ℕ) (lines : List (List ℕ)) 
           length-append line (10 ∷ []),
         );
       }
-
-  -- there are fewer lines than bytes where one more byte is read
-  pub begun_fewer : (rest : List ℕ) → HasBegun start now read rest lines → 0 < length rest → length lines < read
-  begun_fewer rest b some = omega (arith, b.few, b.count, length-append b.told rest, some)
-
-  -- nothing follows
-  pub read_all : HasBegun start now read [] lines → IsAtEnd now → HasRead start now read lines
-  read_all b end = (
-    b.told,
-    subst (Consumes start now) (append-nil b.told) b.bytes,
-    end,
-    (ap lines_of (sym (append-nil b.told)) ∙ b.cut [] ∙ append-nil lines, b.count ∙ ap length (append-nil b.told)),
-  )
 
   -- no newline follows
   pub read_last : (line : List ℕ) → IsFree line → 0 < length line → HasBegun start now read line lines → IsAtEnd now

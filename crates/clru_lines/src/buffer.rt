@@ -58,8 +58,11 @@ impl<A: Allocator> LineBuffer<A> {
     /// Reads the next line into `line`, without its newline, and answers whether there was one. What stood there before is gone.
     ///
     /// A read that answers an error ends it, whatever the kind; no read is tried again, none follows one that gave no byte, and
-    /// each is offered the whole buffer. What follows the last newline is a line where it is not empty. More bytes than the
-    /// greatest `usize` count as want of memory.
+    /// each is offered the whole buffer. What follows the last newline is a line where it is not empty.
+    ///
+    /// It answers `Reading` where a read failed, and `Memory` where the buffer or the line found none, or more bytes were read
+    /// than the greatest `usize`. No clause says what is left after an error: the rest of that line may be told as one.
+    /// Cost: each byte is looked at once and copied once; a request for memory where the line is longer than all before it.
     pub fn read_line<R: Read>(
         &mut self,
         reader: &mut R,

@@ -2,7 +2,7 @@
 
 use crate::fakes::{Breaking, Filling};
 use assertions::equal;
-use clru_report::{Capacities, DefaultState, Fault, Form, Options, exit_status, run};
+use clru_report::{Capacities, DefaultState, Fault, Form, Options, exit_status, run, write_report};
 use ration::Rationed;
 use std::alloc::{Allocator, Global};
 use std::io::ErrorKind;
@@ -77,6 +77,24 @@ fn a_failed_write_is_a_fault_and_a_closed_pipe_another(rt: HostRuntime) {
         equal!(rt; exit_status(&outcome), 5, most);
         equal!(rt; outcome, Err(fault), most);
         equal!(rt; count, most);
+    }
+}
+
+#[test]
+fn a_report_is_written_whole_or_its_fault_is_told(rt: HostRuntime) {
+    let rows = [
+        (3, ErrorKind::StorageFull, Ok(())),
+        (2, ErrorKind::StorageFull, Err(Fault::Writing)),
+        (2, ErrorKind::BrokenPipe, Err(Fault::Closed)),
+    ];
+    for (most, kind, wanted) in rows {
+        let mut writer = Filling {
+            got: Vec::new(rt.alloc()),
+            most,
+            error: Some(kind),
+        };
+        equal!(rt; write_report(&mut writer, b"abc"), wanted, most);
+        equal!(rt; writer.got.len(), most);
     }
 }
 

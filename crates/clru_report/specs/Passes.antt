@@ -39,8 +39,8 @@ pub record IsCurveOfInput (input : List ℕ) (curve : List ℕ) (requests bytes 
   pub in_bytes : bytes ≡ length input
 
 -- the capacities that are asked for, where the requests are these lines
-abbrev pub capacities_for : {A : Type 0} → Options A → List (List ℕ) → List ℕ
-capacities_for options lines =
+abbrev pub capacities_asked : {A : Type 0} → Options A → List (List ℕ) → List ℕ
+capacities_asked options lines =
     capacities_of options.capacities (λ c. misses bytes_eq c lines) (distinct bytes_eq (reverse lines))
 
 -- a text in the form has rows

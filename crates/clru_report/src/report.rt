@@ -4,7 +4,7 @@ ghost use Rattle.std.specs.Str.{bytes_eq};
 ghost use Rattle.clru_lines.specs.Lines.{lines_of};
 ghost use Rattle.clru_lines.specs.Whole.{ReadWhole};
 ghost use Rattle.clru_report.specs.Faults.{is_of_writing};
-ghost use Rattle.clru_report.specs.Passes.{capacities_for, has_rows, IsCurveOfInput, wants_least};
+ghost use Rattle.clru_report.specs.Passes.{capacities_asked, has_rows, IsCurveOfInput, wants_least};
 ghost use Rattle.clru_report.specs.Refusals.{is_of_input, IsRefused};
 ghost use Rattle.clru_report.specs.Report.{AreRows, IsInForm, IsReport};
 
@@ -115,7 +115,7 @@ fn text_by_keys<A: Allocator + Copy>(
     rows: &[Row],
 ) -> Result<String<A>, AllocError>
     ensures { (input : List ℕ) → IsCurveOfInput input curve.now requests bytes
-        → AreRows bytes_eq (lines_of input) (wants_least options.now) (capacities_for options.now (lines_of input)) rows.now
+        → AreRows bytes_eq (lines_of input) (wants_least options.now) (capacities_asked options.now (lines_of input)) rows.now
         → IfOk result (λ text. IsInForm options.now.form options.now input (string_bytes text)) }
 {
     match options.form {

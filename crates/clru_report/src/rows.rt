@@ -5,11 +5,11 @@ ghost use Rattle.std.specs.Str.{bytes_eq};
 ghost use Rattle.clru_curve.specs.Curves.{HasMissesOf, misses_at};
 ghost use Rattle.clru_lines.specs.Lines.{lines_of};
 ghost use Rattle.clru_model.specs.Requests.{distinct};
-ghost use Rattle.clru_report.specs.Passes.{capacities_for};
+ghost use Rattle.clru_report.specs.Passes.{capacities_asked};
 ghost use Rattle.clru_report.specs.Report.{AreRows};
 ghost use Rattle.clru_report.specs.Tables.{capacity_of_row};
 
-use crate::capacities::capacities_for as chosen_for;
+use crate::capacities::capacities_for;
 use crate::options::Options;
 use clru_curve::MissCurve;
 use clru_least::Foresight;
@@ -36,9 +36,9 @@ pub(crate) fn rows_for<A: Allocator + Copy>(
 ) -> Result<Vec<Row, A>, AllocError>
     ensures { (lines : List (List ℕ)) → HasMissesOf bytes_eq lines curve.now
         → length curve.now ≡ distinct bytes_eq (reverse lines)
-        → IfOk result (λ rows. AreRows bytes_eq lines false (capacities_for options.now lines) rows.items) }
+        → IfOk result (λ rows. AreRows bytes_eq lines false (capacities_asked options.now lines) rows.items) }
 {
-    let capacities = chosen_for(alloc, &options.capacities, curve.as_slice())?;
+    let capacities = capacities_for(alloc, &options.capacities, curve.as_slice())?;
     rows_at(alloc, curve, &capacities)
 }
 
