@@ -146,7 +146,7 @@ static uint32_t call(int which) {
 static const struct {
     const char *name;
     size_t requests, bytes;
-} needs[4] = {{"hits", 3, 644}, {"misses", 21, 24848}, {"misses by size", 31, 57296}, {"least", 30, 30976}};
+} needs[4] = {{"hits", 3, 644}, {"misses", 21, 24848}, {"misses by size", 31, 57296}, {"least", 30, 28976}};
 
 /* Refuses each request for memory in turn, until the call meets no refusal. */
 static void code_of_refused_memory(void) {

@@ -187,7 +187,7 @@ static void see_many(void) {
     curve_by_size(MANY);
     see_asked("misses by size", 58, 16977424);
     held_by(clru_least_by_room(keys, MANY, &room, 1, 0, 0, &least, 1));
-    see_asked("least", 60, 5777568);
+    see_asked("least", 60, 5497568);
 }
 
 int main(void) {

@@ -1,42 +1,57 @@
 #!/usr/bin/env python3
-"""Sees that the functions of curve.py say each code in words, and refuse keys that would be cut:
+"""Sees that clru.py says each code in words, refuses numbers that would be cut, and answers each call as small as can be:
 
     refused.py LIBCLRU.SO
 """
 import ctypes
+import pathlib
 import sys
 
-import curve
+sys.path.insert(0, str(pathlib.Path(__file__).resolve().parent.parent / "python"))
+import clru
 
 
 def seen(words, call, *arguments):
     """Fails unless the call is refused with these words."""
     try:
         call(*arguments)
-    except (TypeError, ValueError, OverflowError) as error:
+    except (TypeError, ValueError, MemoryError) as error:
         if words in str(error):
             return
         sys.exit(f"refused: {error}, and not {words}")
-    sys.exit(f"refused: {call.__name__}{arguments[1:]} was not")
+    sys.exit(f"refused: {call.__name__}{arguments} was not")
 
 
-def too_short(library):
+def too_short():
     """Hits of two keys, with a place for one."""
-    keys, hits, misses = curve.numbers([1, 2]), (ctypes.c_bool * 1)(), ctypes.c_size_t()
-    return curve.checked(library.clru_hits_at(*curve.passed(keys), ctypes.c_size_t(1), *curve.SEED, hits, ctypes.c_size_t(1),
-                                              ctypes.byref(misses)))
+    clru._call("clru_hits_at", clru._numbers([1, 2]), 1, 0, 0, (ctypes.c_bool * 1)(), ctypes.c_size_t())
+
+
+def answered():
+    """What each call answers, as plain lists."""
+    hits, misses = clru.hits_at([1, 2, 1], 2)
+    curve, distinct = clru.misses_by_capacity(clru.numbered(["a", "b", "a"]), 3)
+    missed = clru.misses_by_size([1, 2, 1], [5, 6, 5], [6, 11])
+    return list(hits), misses, list(curve), distinct, list(clru.least_by_room([1, 2, 1], [1])), list(missed[0]), list(missed[1]), missed[2]
 
 
 def main():
-    library = ctypes.CDLL(sys.argv[1])
+    clru.load(sys.argv[1])
     half = 2**63
-    seen("is 0", curve.least, library, [1, 2], [0])
-    seen("length", too_short, library)
-    seen("memory", curve.checked, 3)
-    seen("pass 2^64 - 1", curve.curve_by_size, library, [1, 2], [half, half], [half])
-    seen("less than the greatest", curve.curve_by_size, library, [1, 2], [3, 4], [3])
-    seen("below 2^64", curve.curve, library, [1, 2**64 + 1], 2)
-    seen("", curve.curve, library, [1.5, 2], 2)
+    seen("is 0", clru.least_by_room, [1, 2], [0])
+    seen("lengths", too_short)
+    seen("memory", clru._check, 3)
+    seen("pass 2^64 - 1", clru.misses_by_size, [1, 2], [half, half], [half])
+    seen("less than the greatest", clru.misses_by_size, [1, 2], [3, 4], [3])
+    seen("from 0 to 2^64 - 1", clru.misses_by_capacity, [1, 2**64 + 1], 2)
+    seen("from 0 to 2^64 - 1", clru.misses_by_capacity, [1, -1], 2)
+    seen("from 0 to 2^64 - 1", clru.hits_at, [1, 2], 2**64 + 1)
+    seen("", clru.misses_by_capacity, [1.5, 2], 2)
+    wanted = [False, False, True], 2, [3, 2, 2], 2, [3], [3, 2], [16, 11], 11
+    if answered() != wanted:
+        sys.exit(f"refused: {answered()}, and not {wanted}")
+    if list(clru.hits_at([], 1)[0]) or clru.misses_by_capacity([], 0)[1]:
+        sys.exit("refused: an answer for no keys")
 
 
 if __name__ == "__main__":

@@ -6,10 +6,11 @@
 Each line has a key and a size. It fails where a number differs, with and without a seed.
 """
 import collections
-import ctypes
+import pathlib
 import sys
 
-import curve
+sys.path.insert(0, str(pathlib.Path(__file__).resolve().parent.parent / "python"))
+import clru
 
 
 def simulated(requests, capacity):
@@ -28,15 +29,14 @@ def simulated(requests, capacity):
 
 
 def main():
-    library = ctypes.CDLL(sys.argv[1])
+    clru.load(sys.argv[1])
     requests = [tuple(map(int, line.split())) for line in sys.stdin]
     keys, sizes = [list(column) for column in zip(*requests)]
     greatest, whole = max([1, *sizes]), sum(max(size, 1) for _, size in set(requests))
     capacities = [greatest << power for power in range(64) if power == 0 or greatest << power - 1 < whole]
     wanted = [simulated(requests, capacity) for capacity in capacities]
     for seed in (0, 0), (1, 2**63):
-        curve.SEED = tuple(map(ctypes.c_uint64, seed))
-        misses, missed, distinct_size = curve.curve_by_size(library, keys, sizes, capacities)
+        misses, missed, distinct_size = clru.misses_by_size(keys, sizes, capacities, seed)
         found = [(int(a), int(b)) for a, b in zip(misses, missed)]
         if found != wanted or distinct_size != whole:
             sys.exit(f"simulated: {found} and {distinct_size} with seed {seed}, and not {wanted} and {whole}")

@@ -1,2 +1,3 @@
+mod Below
 mod Marked
 mod Objects

@@ -20,18 +20,18 @@ pub extern "C" fn clru_hits_at(
     alloc: Global,
     keys: &[u64],
     capacity: usize,
-    low: u64,
-    high: u64,
+    seed_low: u64,
+    seed_high: u64,
     hits: &mut [bool],
-    missed: &mut usize,
+    misses: &mut usize,
 ) -> u32
-    ensures hits { result ≡ OK → AreHits nat_eq capacity keys.now hits.new missed.new }
-    ensures left { result ≢ OK → (hits.new ≡ hits.old) × (missed.new ≡ missed.old) }
+    ensures hits { result ≡ OK → AreHits nat_eq capacity keys.now hits.new misses.new }
+    ensures left { result ≢ OK → (hits.new ≡ hits.old) × (misses.new ≡ misses.old) }
     ensures codes { IsCode (capacity ≡ 0) (length hits.old ≡ length keys.now) result }
 {
-    match seeded(low, high) {
-        None => hits_at(alloc, keys, capacity, hits, missed, DefaultState),
-        Some(state) => hits_at(&alloc, keys, capacity, hits, missed, state),
+    match seeded(seed_low, seed_high) {
+        None => hits_at(alloc, keys, capacity, hits, misses, DefaultState),
+        Some(state) => hits_at(&alloc, keys, capacity, hits, misses, state),
     }
 }
 
@@ -40,20 +40,20 @@ pub extern "C" fn clru_hits_at(
 pub extern "C" fn clru_misses_by_capacity(
     alloc: Global,
     keys: &[u64],
-    low: u64,
-    high: u64,
-    missed: &mut [usize],
-    kinds: &mut usize,
+    seed_low: u64,
+    seed_high: u64,
+    misses: &mut [usize],
+    distinct: &mut usize,
 ) -> u32
-    ensures misses { result ≡ OK → IsCurve nat_eq keys.now missed.new kinds.new }
-    ensures left { result ≢ OK → (missed.new ≡ missed.old) × (kinds.new ≡ kinds.old) }
+    ensures misses { result ≡ OK → IsCurve nat_eq keys.now misses.new distinct.new }
+    ensures left { result ≢ OK → (misses.new ≡ misses.old) × (distinct.new ≡ distinct.old) }
     ensures codes { IsCode ⊥ Unit result }
     ensures never_refused { keys.now ≡ [] → result ≡ OK }
-    ensures length { length missed.new ≡ length missed.old }
+    ensures length { length misses.new ≡ length misses.old }
 {
-    match seeded(low, high) {
-        None => misses_by_capacity(alloc, keys, missed, kinds, DefaultState),
-        Some(state) => misses_by_capacity(&alloc, keys, missed, kinds, state),
+    match seeded(seed_low, seed_high) {
+        None => misses_by_capacity(alloc, keys, misses, distinct, DefaultState),
+        Some(state) => misses_by_capacity(&alloc, keys, misses, distinct, state),
     }
 }
 
@@ -63,8 +63,8 @@ pub extern "C" fn clru_least_by_room(
     alloc: Global,
     keys: &[u64],
     rooms: &[usize],
-    low: u64,
-    high: u64,
+    seed_low: u64,
+    seed_high: u64,
     least: &mut [usize],
 ) -> u32
     ensures least { result ≡ OK → AreLeast nat_eq keys.now rooms.now least.new }
@@ -72,7 +72,7 @@ pub extern "C" fn clru_least_by_room(
     ensures codes { IsCode (Contains rooms.now 0) (length least.old ≡ length rooms.now) result }
     ensures length { length least.new ≡ length least.old }
 {
-    match seeded(low, high) {
+    match seeded(seed_low, seed_high) {
         None => least_by_room(alloc, keys, rooms, least, DefaultState),
         Some(state) => least_by_room(&alloc, keys, rooms, least, state),
     }
@@ -86,21 +86,24 @@ pub extern "C" fn clru_misses_by_size(
     keys: &[u64],
     sizes: &[usize],
     capacities: &[usize],
-    low: u64,
-    high: u64,
-    missed: &mut [usize],
-    lost: &mut [usize],
-    size: &mut usize,
+    seed_low: u64,
+    seed_high: u64,
+    misses: &mut [usize],
+    missed_sizes: &mut [usize],
+    distinct_size: &mut usize,
 ) -> u32
-    ensures misses { result ≡ OK → AreSizedMisses (zip keys.now sizes.now) capacities.now missed.new lost.new size.new }
-    ensures left { result ≢ OK → (missed.new ≡ missed.old) × (lost.new ≡ lost.old) × (size.new ≡ size.old) }
-    ensures codes { IsSizedCode keys.now sizes.now capacities.now missed.old lost.old result }
+    ensures misses { result ≡ OK
+        → AreSizedMisses (zip keys.now sizes.now) capacities.now misses.new missed_sizes.new distinct_size.new }
+    ensures left { result ≢ OK → (misses.new ≡ misses.old) × (missed_sizes.new ≡ missed_sizes.old)
+        × (distinct_size.new ≡ distinct_size.old) }
+    ensures codes { IsSizedCode keys.now sizes.now capacities.now misses.old missed_sizes.old result }
 {
-    match seeded(low, high) {
+    let (sums, size) = (missed_sizes, distinct_size);
+    match seeded(seed_low, seed_high) {
         None => {
             let state = DefaultState;
-            misses_by_size(alloc, keys, sizes, capacities, missed, lost, size, state)
+            misses_by_size(alloc, keys, sizes, capacities, misses, sums, size, state)
         }
-        Some(state) => misses_by_size(&alloc, keys, sizes, capacities, missed, lost, size, state),
+        Some(state) => misses_by_size(&alloc, keys, sizes, capacities, misses, sums, size, state),
     }
 }

@@ -1,5 +1,5 @@
 -- A form of a key in a pass: it finds a position just where a key that it is equal to was requested.
-use Rattle.std.proofs.Common.{◌≡◌, ℕ, Bool, true, false, List, [], ◌∷◌, Option, Some, None, is_some, refl, sym, ap, ◌∙◌, subst}
+use Rattle.std.proofs.Common.{◌≡◌, ℕ, Bool, true, false, List, [], ◌∷◌, Option, Some, None, is_some, IfSome, refl, sym, ap, ◌∙◌, subst}
 use Rattle.std.specs.Cmp.{IsEquivalence}
 use Rattle.std.specs.List.{list_any}
 use Rattle.std.specs.Map.{lookup}
@@ -52,3 +52,8 @@ module _ {K : Type 0} (eq : K → K → Bool) (laws : IsEquivalence eq) (test : 
       | Some p ↦ λ there. let at = key_at p there in
           subst (λ t. true ≡ list_any t past) (sym at.same) (sym (ap is_some at.found) ∙ known at.key)
     ]) refl
+
+-- what holds of each value that is found
+pub some_by : {X : Type 0} {P : X → Type 0} (o : Option X) → ((x : X) → o ≡ Some x → P x) → IfSome o P
+some_by None f = tt
+some_by (Some x) f = f x refl

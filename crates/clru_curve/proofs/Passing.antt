@@ -5,7 +5,9 @@ use Rattle.std.specs.Prelude.{sum}
 use Rattle.std.specs.Map.{lookup, set_value}
 use Rattle.std.proofs.lemmas.Map.{lookup-set_value, length-set_value}
 use Rattle.clru_model.specs.Entries.{plain_put}
-use Rattle.clru_model.specs.Requests.{holds, distinct}
+use Rattle.clru_model.specs.Requests.{holds, distinct, since}
+use Rattle.clru_model.proofs.Cases.{split}
+use Rattle.clru_model.proofs.Distinct.{since-cons}
 use Rattle.clru_model.proofs.Finding.{missed, plain_put-missed}
 use Rattle.clru_curve.specs.Curves.{HasMissesOf}
 use Rattle.clru_model.specs.Distances.{distance}
@@ -14,7 +16,7 @@ use Rattle.clru_curve.specs.Tree.{up_to}
 use Rattle.clru_curve.specs.Passes.{Pass, pass, IsPass}
 use Rattle.clru_curve.proofs.Bits.{ones-zero, ones_upper}
 use Rattle.clru_curve.proofs.Histograms.{IsHistogram-none, IsHistogram-new, IsHistogram-again, distance_inside, distance_few, HasMissesOf-by}
-use Rattle.clru_curve.proofs.Ranks.{distinct_measures, IsRanked-new, IsRanked-again}
+use Rattle.clru_curve.proofs.Ranks.{same_some, distinct_measures, IsRanked-new, IsRanked-again}
 
 module _ {K : Type 0} (eq : K → K → Bool) where
   -- before the first request
@@ -31,6 +33,7 @@ module _ {K : Type 0} (eq : K → K → Bool) where
     };
     counted = IsHistogram-none eq;
     requests = refl;
+    latest = λ x q at. elim (absurd_none at) [ ];
   }
     where
       absurd_none : {p : ℕ} → None ≡ Some p → ⊥
@@ -54,6 +57,7 @@ module _ {K : Type 0} (eq : K → K → Bool) where
     };
     counted = is.counted;
     requests = is.requests;
+    latest = is.latest;
   }
 
 module _ {K : Type 0} (eq : K → K → Bool) (laws : IsEquivalence eq) (past : List K) (positions : List (K × ℕ)) (ws : List ℕ) (n : ℕ) (h : List ℕ)
@@ -73,6 +77,19 @@ module _ {K : Type 0} (eq : K → K → Bool) (laws : IsEquivalence eq) (past : 
   pub distance_none : lookup (eq x) positions ≡ None → None ≡ distance eq x past
   distance_none absent = rw (not_held absent) refl
 
+  -- after one more request of x, each key has a position that is that of its latest one
+  latest_more : (moved : List (K × ℕ)) → ((y : K) → lookup (eq y) moved ≡ cond (eq x y) (Some n) (lookup (eq y) positions))
+      → (y : K) (q : ℕ) → lookup (eq y) moved ≡ Some q → q + 1 + length (since eq y (x ∷ past)) ≡ length (x ∷ past)
+  latest_more moved are y q at = split (eq x y)
+      (λ t. let back : eq y x ≡ true = laws.symm y x ∙ t in
+      let here : Some n ≡ Some q = rw (are y, t) at at in
+      let none : length (since eq y (x ∷ past)) ≡ 0 = rw (since-cons eq y x past, back) refl in
+      omega (arith, same_some here, none, is.requests))
+      (λ f. let back : eq y x ≡ false = laws.symm y x ∙ f in
+      let there : lookup (eq y) positions ≡ Some q = rw (are y, f) at at in
+      let more : length (since eq y (x ∷ past)) ≡ suc (length (since eq y past)) = rw (since-cons eq y x past, back) refl in
+      omega (arith, more, is.latest y q there))
+
   pub IsPass-new : (c : ℕ) (vs : List ℕ) → lookup (eq x) positions ≡ None → length positions < c → ((p : ℕ) → ones_from vs p ≡ ones_from ws p + up_to p n)
       → IsPass eq (x ∷ past) (pass (plain_put eq c x n positions) vs (n + 1) (h ++ 0 ∷ []))
   IsPass-new c vs absent room counts =
@@ -87,6 +104,7 @@ module _ {K : Type 0} (eq : K → K → Bool) (laws : IsEquivalence eq) (past : 
             (omega (arith, is.ranked.few));
         counted = IsHistogram-new eq laws past h x is.counted (not_held absent);
         requests = ap suc is.requests;
+        latest = latest_more ((x, n) ∷ positions) moved;
       })
 
   -- a key with a position was requested there
@@ -118,6 +136,7 @@ module _ {K : Type 0} (eq : K → K → Bool) (laws : IsEquivalence eq) (past : 
               (omega (arith, length-set_value (eq x) positions n, is.ranked.few));
           counted = IsHistogram-again eq laws past h x is.counted was_held;
           requests = ap suc is.requests;
+          latest = latest_more (set_value (eq x) positions n) moved;
         })
 
 module _ {K : Type 0} (eq : K → K → Bool) (past : List K) (p : Pass K) (old curve result : List ℕ) (is : IsPass eq past p) (from : old ≡ p.histogram) where

@@ -12,7 +12,7 @@ use Rattle.clru_curve.proofs.Nodes.{falls_far}
 use Rattle.clru_curve.proofs.UpTo.{up_by-le, up_by-gt}
 
 -- a key that is found is the value that is found
-same_some : {X : Type 0} {x y : X} → Some x ≡ Some y → x ≡ y
+pub same_some : {X : Type 0} {x y : X} → Some x ≡ Some y → x ≡ y
 same_some e = cc
 
 up_by-falls : (a j n : ℕ) → up_by a (suc j) n ≤ up_by a j n

@@ -1,7 +1,8 @@
 -- What a pass has taken note of, request by request. Public clauses cite it.
-use Rattle.std.specs.Prelude.{◌≡◌, ℕ, ◌+◌, Bool, List, length, take, sum, reverse, refl}
+use Rattle.std.specs.Prelude.{◌≡◌, ℕ, ◌+◌, Bool, List, length, take, sum, reverse, Some, refl}
 use Rattle.std.specs.Coded.{Coded, code_by, coded×, coded_list, coded_ℕ}
-use Rattle.clru_model.specs.Requests.{distinct, misses}
+use Rattle.std.specs.Map.{lookup}
+use Rattle.clru_model.specs.Requests.{distinct, misses, since}
 use Rattle.clru_curve.specs.Latest.{ones_from, IsLatest}
 use Rattle.clru_curve.specs.Ranked.{IsRanked}
 
@@ -34,6 +35,7 @@ module _ {K : Type 0} (eq : K → K → Bool) where
     pub ranked : IsRanked eq (λ x. 1) (distinct eq) past p.positions p.requests (ones_from p.words)
     pub counted : IsHistogram past p.histogram
     pub requests : p.requests ≡ length past
+    pub latest : (x : K) (q : ℕ) → lookup (eq x) p.positions ≡ Some q → q + 1 + length (since eq x past) ≡ length past
 
   -- what holds of every pass: it has taken some requests
   pub record IsSound (nodes : List ℕ) (p : Pass K) : Type 0 where

@@ -1,8 +1,8 @@
 //! `DistancePass`, which takes requests one by one.
-ghost use Rattle.std.specs.Prelude.{◌≡◌, ℕ, suc, ◌+◌, ◌%◌, ◌^◌, ◌<◌, ◌≤◌, List, [], ◌∷◌, length, take, sum, reverse, slice_index, IfOk, IfErr, OnOk, OnErr, IsOk, IsNone, IsSome, IsTrue, is_some, true, false};
+ghost use Rattle.std.specs.Prelude.{◌≡◌, ℕ, suc, ◌+◌, ◌%◌, ◌^◌, ◌<◌, ◌≤◌, List, [], ◌∷◌, length, take, sum, reverse, slice_index, IfOk, IfErr, IfSome, OnOk, OnErr, IsOk, IsNone, IsSome, IsTrue, is_some, true, false};
 ghost use Rattle.std.specs.List.{list_any};
 ghost use Rattle.std.specs.Map.{lookup, set_value};
-ghost use Rattle.clru_model.specs.Requests.{holds, distinct};
+ghost use Rattle.clru_model.specs.Requests.{holds, distinct, since};
 ghost use Rattle.clru.specs.Cache.{with_entries};
 ghost use Rattle.clru_curve.specs.Curves.{HasMissesOf};
 ghost use Rattle.clru_model.specs.Distances.{distance};
@@ -147,6 +147,18 @@ impl<K: Eq + Hash, S: BuildHasher, A: Allocator + Copy> DistancePass<K, S, A> {
         Ok(Some(distance))
     }
 
+    /// Returns the position of the latest request of a key, by a form of it: how many requests came before that one. `None` where no
+    /// such key was requested.
+    /// Cost: one hash and a walk along one chain.
+    pub fn latest_request<Q: Equivalent<K>>(&self, key: Q) -> Option<usize>
+        ensures known { (past : List K) → IsPass K.eq past self.now
+            → is_some result ≡ list_any (Q.equivalent key) past }
+        ensures position { (past : List K) (x : K) → IsPass K.eq past self.now → IsTrue (Q.equivalent key x)
+            → IfSome result (λ p. p + 1 + length (since K.eq x past) ≡ length past) }
+    {
+        self.positions.peek(key).copied()
+    }
+
     /// Takes one more request, of a key that was not requested before.
     fn request_new(&mut self, key: K) -> Result<(), K>
     where
@@ -237,7 +249,7 @@ pub(crate) fn double_if_full<K: Eq + Hash + Drop, S: BuildHasher, A: Allocator +
     }
 }
 
-/// Gives a key that is held another number, and returns the one that it had.
+/// Gives a key that is held another position, and returns the one that it had.
 pub(crate) fn move_position<K, S, A, Q>(
     positions: &mut CLruCache<K, usize, S, ZeroWeightScale, A>,
     key: Q,

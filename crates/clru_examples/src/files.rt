@@ -41,7 +41,7 @@ impl<K> WeightScale<K, Contents> for ByBytes {
 #[derive(Drop)]
 pub struct Disk<'a, R: Files + AllocGlobal> {
     rt: &'a R,
-    reads: u64,
+    pub reads: u64,
 }
 
 impl<'a, R: Files + AllocGlobal> Fetch<String, Contents, io::Error, ByPromise> for Disk<'a, R> {
@@ -103,34 +103,5 @@ pub fn size_of<R: Files + AllocGlobal>(
     match files.front() {
         Some((_, contents)) => Ok((contents.bytes.len(), held)),
         None => unreachable!(),
-    }
-}
-
-#[cfg(test)]
-mod tests {
-    use super::*;
-    use std::test::Fail;
-
-    const FILE: &str = "clru_examples_files_test";
-
-    #[test]
-    fn a_file_is_read_once_and_where_it_is_not_held(rt: HostRuntime) -> Result<(), Fail> {
-        let mut files = files_of(&rt, NonZeroUsize::new(10).ok_or("a capacity is no 0")?);
-        fs::write(&rt, FILE, b"four".as_slice())?;
-        assert_eq!(rt; size_of(&mut files, FILE)?, (4, false));
-        fs::write(&rt, FILE, b"seven..".as_slice())?;
-        assert_eq!(rt; size_of(&mut files, FILE)?, (4, true));
-
-        files.clear();
-        assert_eq!(rt; size_of(&mut files, FILE)?, (7, false));
-        assert_eq!(rt; (files.len(), files.weight()), (1, 7));
-
-        fs::write(&rt, FILE, b"eleven bytes".as_slice())?;
-        files.clear();
-        assert_eq!(rt; size_of(&mut files, FILE)?, (12, false));
-        fs::remove_file(&rt, FILE)?;
-        assert!(rt; size_of(&mut files, FILE).is_err());
-        assert_eq!(rt; (files.len(), files.source().reads), (0, 4));
-        Ok(())
     }
 }

@@ -1,7 +1,8 @@
 pub mod Due
 pub mod Furthest
 pub mod Held
+pub mod Joined
+pub mod Laters
 pub mod Queue
-pub mod Seen
 pub mod Until
 pub mod Walking

@@ -243,11 +243,6 @@ module _ {K : Type 0} (eq : K → K → Bool) where
       IsWritten_from eq i x rs requests kept marks queue more (get_or nexts i 0)
       (next_at eq i x rs requests nexts (get_or nexts i 0) s.are here refl) many s.wrote s.moved
 
-  pub IsStep_length : (i : ℕ) (requests : List K) (nexts : List ℕ) (kept marks : List Bool) (queue more : List ℕ)
-      → IsStep i requests nexts kept marks queue more → length kept ≡ length requests → length marks ≡ length requests
-  IsStep_length i requests nexts kept marks queue more s many =
-      ap (λ l. length l) s.wrote ∙ length-set kept (get_or nexts i 0) true ∙ many
-
 module _ {K : Type 0} (eq : K → K → Bool) (laws : IsEquivalence eq) (h i : ℕ) (requests : List K) (nexts : List ℕ)
     (kept at_join marks : List Bool) (queue queue_at_join more : List ℕ) (held counted misses missed : ℕ)
     (w : IsOnTheWay eq h i requests kept queue held misses) (many : length kept ≡ length requests)

@@ -1,2 +1,4 @@
 pub mod Next
+pub mod Numbers
+pub mod Passes
 pub mod Queue

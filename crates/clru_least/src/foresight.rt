@@ -1,16 +1,12 @@
-//! The least number of misses, for any room.
-ghost use Rattle.std.specs.Prelude.{◌≡◌, ◌+◌, ◌-◌, ◌^◌, ◌<◌, ◌≤◌, [], ◌∷◌, false, true, length, slice_set, All, IfOk, OnOk, IsOk};
-ghost use Rattle.std.specs.BinaryHeap.{IsHeap, IsUpperBound, heap_items, heap_len};
-ghost use Rattle.std.specs.List.Sorted.{IsPermutation};
-ghost use Rattle.std.specs.Ordering.{nat_cmp};
+//! The least number of misses of a list of requests, for any room.
+ghost use Rattle.std.specs.Prelude.{◌≡◌, ◌≤◌, [], IfOk, IsOk};
 ghost use Rattle.std.specs.Int.NonZero.{non_zero_usize_get};
 ghost use Rattle.clru_model.specs.Least.{IsLeast, IsNearFromAnyStart};
 ghost use Rattle.clru_model.specs.Requests.{misses};
-ghost use Rattle.clru_least.specs.Queue.{queue_of};
 
-use crate::nexts::next_positions;
+use crate::pass::ForesightPass;
 use std::alloc::{AllocError, Allocator};
-use std::collections::BinaryHeap;
+use std::collections::HashMap;
 use std::hash::{BuildHasher, Hash};
 use std::marker::Model;
 use std::num::NonZeroUsize;
@@ -20,14 +16,13 @@ use std::num::NonZeroUsize;
 #[derive(Drop)]
 pub struct Foresight<'a, K: Eq, A: Allocator + Copy> {
     pub(crate) keys: &'a [K],
-    nexts: Vec<usize, A>,
-    alloc: A,
+    pass: ForesightPass<K, A>,
 }
 
 impl<'a, K: Eq, A: Allocator + Copy> Model for Foresight<'a, K, A> {
-    ghost use Rattle.std.specs.Prelude.{List};
+    ghost use Rattle.std.specs.Prelude.{List, reverse};
     ghost use Rattle.std.specs.Coded.{coded_list};
-    ghost use Rattle.clru_least.specs.Next.{AreNext};
+    ghost use Rattle.clru_least.specs.Passes.{IsForesight};
 
     ghost Value = { List K };
 
@@ -35,7 +30,7 @@ impl<'a, K: Eq, A: Allocator + Copy> Model for Foresight<'a, K, A> {
 
     ghost view = { λ f. f.keys.now };
 
-    ghost invariant = { λ f. AreNext K.eq f.keys.now f.nexts.items };
+    ghost invariant = { λ f. IsForesight K.eq (reverse f.keys.now) f.pass };
 }
 
 impl<'a, K: Eq, A: Allocator + Copy> Foresight<'a, K, A> {
@@ -43,7 +38,7 @@ impl<'a, K: Eq, A: Allocator + Copy> Foresight<'a, K, A> {
     ///
     /// Memory may be refused; without requests none is asked for.
     /// Cost: one look-up for each request in a table of the keys, which hashes them with `hash_builder`; memory for a number
-    /// for each request, and meanwhile for the table.
+    /// for each request, as a `ForesightPass` keeps it, and meanwhile for the table.
     pub fn new<S: BuildHasher + Drop>(
         alloc: A,
         keys: &'a [K],
@@ -54,8 +49,21 @@ impl<'a, K: Eq, A: Allocator + Copy> Foresight<'a, K, A> {
         ensures requests { IfOk result (λ f. f ≡ keys.now) }
         ensures never_refused { keys.now ≡ [] → IsOk result }
     {
-        let nexts = next_positions(alloc, keys, hash_builder)?;
-        Ok(Foresight { keys, nexts, alloc })
+        if keys.is_empty() {
+            return Ok(Foresight {
+                keys,
+                pass: ForesightPass::new(alloc),
+            });
+        }
+        let mut pass = ForesightPass::with_memory(alloc, keys.len())?;
+        let mut latest = HashMap::with_hasher(alloc, hash_builder);
+        for position in 0..keys.len() {
+            let Ok(before) = latest.insert(&keys[position], position) else {
+                return Err(AllocError);
+            };
+            pass.request(before)?;
+        }
+        Ok(Foresight { keys, pass })
     }
 
     /// Answers the least number of misses that any way to choose what to drop has on the requests, with room for so many keys,
@@ -72,98 +80,7 @@ impl<'a, K: Eq, A: Allocator + Copy> Foresight<'a, K, A> {
         ensures beside_lru { IfOk result (λ n. n ≤ misses K.eq (non_zero_usize_get room) self.now) }
         ensures never_refused { self.now ≡ [] → IsOk result }
     {
-        let count = self.nexts.len();
-        if count == 0 {
-            return Ok(0);
-        }
-        let mut kept = Vec::new(self.alloc);
-        kept.resize(count, false)?;
-        let mut ahead = BinaryHeap::with_capacity(self.alloc, count)?;
-        let mut done = 0;
-        let mut held = 0;
-        let mut misses = 0;
-        for (position, next) in self.nexts.iter().enumerate() {
-            if !kept[position] {
-                misses += 1;
-                if held < room.get() {
-                    held += 1;
-                } else {
-                    drop_latest(&mut ahead, &mut done, &mut kept, count);
-                }
-            }
-            keep(&mut ahead, &mut done, &mut kept, count, *next)?;
-        }
-        Ok(misses)
-    }
-}
-
-/// Takes the greatest position from the queue, and its mark away. Returns it.
-///
-/// A key that is not requested again has its next position at the end. Those are the greatest, and only counted, as `done`.
-fn drop_latest<A: Allocator>(
-    ahead: &mut BinaryHeap<usize, A>,
-    done: &mut usize,
-    kept: &mut Vec<bool, A>,
-    end: usize,
-) -> usize
-    requires some { 0 < length (queue_of end done.old (heap_items ahead.old)) }
-    requires ordered { IsHeap nat_cmp (heap_items ahead.old) }
-    requires inside { All (λ p. p ≤ end) (heap_items ahead.old) }
-    requires marks { length kept.old.items ≡ end }
-    ensures taken { IsPermutation (queue_of end done.old (heap_items ahead.old))
-        (result ∷ queue_of end done.new (heap_items ahead.new)) }
-    ensures latest { IsUpperBound nat_cmp result (queue_of end done.old (heap_items ahead.old)) }
-    ensures ordered { IsHeap nat_cmp (heap_items ahead.new) }
-    ensures inside { All (λ p. p ≤ end) (heap_items ahead.new) }
-    ensures fewer { done.new ≤ done.old }
-    ensures marks { kept.new.items ≡ slice_set kept.old.items result false }
-{
-    if *done > 0 {
-        *done -= 1;
-        return end;
-    }
-    let Some(latest) = ahead.pop() else {
-        unreachable!();
-    };
-    mark(kept, latest, false);
-    latest
-}
-
-/// Puts the position into the queue, and its mark there if it has one.
-fn keep<A: Allocator>(
-    ahead: &mut BinaryHeap<usize, A>,
-    done: &mut usize,
-    kept: &mut Vec<bool, A>,
-    end: usize,
-    position: usize,
-) -> Result<(), AllocError>
-    requires within { position ≤ end }
-    requires few { done.old < 2 ^ 64 - 1 }
-    requires ordered { IsHeap nat_cmp (heap_items ahead.old) }
-    requires inside { All (λ p. p ≤ end) (heap_items ahead.old) }
-    requires marks { length kept.old.items ≡ end }
-    ensures queued { OnOk result (IsPermutation (position ∷ queue_of end done.old (heap_items ahead.old))
-        (queue_of end done.new (heap_items ahead.new))) }
-    ensures ordered { OnOk result (IsHeap nat_cmp (heap_items ahead.new)) }
-    ensures inside { OnOk result (All (λ p. p ≤ end) (heap_items ahead.new)) }
-    ensures few { done.new ≤ done.old + 1 }
-    ensures marks { OnOk result (kept.new.items ≡ slice_set kept.old.items position true) }
-{
-    if position >= end {
-        *done += 1;
-        return Ok(());
-    }
-    kept[position] = true;
-    ahead.push(position)?;
-    Ok(())
-}
-
-/// Writes the mark of the position, if there is one.
-fn mark<A: Allocator>(kept: &mut Vec<bool, A>, position: usize, value: bool)
-    ensures { kept.new.items ≡ slice_set kept.old.items position value }
-{
-    if position < kept.len() {
-        kept[position] = value;
+        self.pass.least(room)
     }
 }
 

@@ -8,10 +8,13 @@
 //! misses no fewer than the least with room for one key more (`law_least`).
 #![tactic(auto)]
 
+mod ahead;
 mod debug;
 mod foresight;
-mod nexts;
+mod numbers;
+mod pass;
 
 pub use clru_model::{DefaultState, law_least};
 pub use foresight::{Foresight, least};
+pub use pass::ForesightPass;
 pub use std::num::NonZeroUsize;

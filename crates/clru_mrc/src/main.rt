@@ -1,7 +1,9 @@
 //! Tells what an LRU cache of each capacity misses on a list of requests.
 #![tactic(auto)]
 
+mod lines;
 mod watch;
+mod written;
 
 use clru_report::{
     Command, Fault, HELP, Options, Refusal, VERSION, command_of, exit_status, run, write_report,
@@ -11,6 +13,7 @@ use std::hash::RandomState;
 use std::io::{ErrorKind, IsTerminal};
 use std::process::ExitCode;
 use watch::Watch;
+use written::Written;
 
 fn main(rt: HostRuntime) -> ExitCode {
     // A terminal is told how far the input is read, and so is who asks.
@@ -21,7 +24,7 @@ fn main(rt: HostRuntime) -> ExitCode {
             say(&rt, &line);
             ExitCode::from(2)
         }
-        Err(Refusal::Memory) => ExitCode::from(told(&rt, &Err(Fault::Memory))),
+        Err(Refusal::Memory) => ExitCode::from(told(&rt, &Err(Fault::Memory), "")),
     }
 }
 
@@ -62,37 +65,41 @@ fn done(rt: &HostRuntime, command: &Command, progress: bool) -> u8 {
         Command::Help => write_report(&mut rt.stdout(), HELP.as_bytes()),
         Command::Version => write_report(&mut rt.stdout(), VERSION.as_bytes()),
         Command::Report(options) => match RandomState::new(rt) {
-            Ok(seed) => reported(rt, options, progress, seed),
+            Ok(seed) => return reported(rt, options, progress, seed),
             Err(_) => {
                 say(rt, "the system gives no random bytes, so there is no seed");
                 return 4;
             }
         },
     };
-    told(rt, &outcome)
+    told(rt, &outcome, "")
 }
 
-// Writes the report, and tells what of its input looks wrong.
-fn reported(
-    rt: &HostRuntime,
-    options: &Options,
-    progress: bool,
-    seed: RandomState,
-) -> Result<(), Fault> {
-    let mut input = Watch::new(rt, rt.stdin(), progress);
-    let outcome = run(rt.alloc(), options, &mut input, &mut rt.stdout(), seed);
-    if outcome.is_ok() {
-        input.warn();
+// Writes the report, tells what of its input looks wrong, and gives the exit status.
+fn reported(rt: &HostRuntime, options: &Options, progress: bool, seed: RandomState) -> u8 {
+    let mut input = Watch::new(rt, rt.stdin(), progress, options.sizes);
+    let mut output = Written::new(rt, rt.stdout());
+    let outcome = run(rt.alloc(), options, &mut input, &mut output, seed);
+    let line = match outcome {
+        Ok(()) => {
+            input.warn(output.last_misses());
+            None
+        }
+        Err(Fault::NoSize(number)) => input.say_line(number),
+        Err(_) => None,
+    };
+    match line {
+        Some(line) => told(rt, &outcome, &line),
+        None => told(rt, &outcome, ""),
     }
-    outcome
 }
 
 // Tells of a fault, but for a pipe that was closed, and gives the exit status.
-fn told(rt: &HostRuntime, outcome: &Result<(), Fault>) -> u8 {
+fn told(rt: &HostRuntime, outcome: &Result<(), Fault>, more: &str) -> u8 {
     match outcome {
         Err(fault) if *fault != Fault::Closed => {
             let fault = *fault;
-            let _ = eprintln!(rt; "clru_mrc: {fault}");
+            let _ = eprintln!(rt; "clru_mrc: {fault}{more}");
         }
         _ => {}
     }

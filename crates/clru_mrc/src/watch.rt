@@ -1,5 +1,6 @@
-//! What is told of an input beside its report: how far it is read, and whether it looks like something else than lines of text.
+//! What is told of an input beside its report: how far it is read, and whether it looks like something else than a log.
 
+use crate::lines::{Lines, instead_of_size, quoted};
 use std::io::{self, Read};
 use std::time::{Duration, Instant};
 
@@ -11,17 +12,15 @@ pub(crate) struct Watch<'h, R> {
     // When it told of progress last, where it is to tell.
     told: Option<Instant>,
     bytes: u64,
-    lines: u64,
-    empty: u64,
-    returns: u64,
-    last: u8,
+    lines: Lines,
     has_zero: bool,
     is_packed: bool,
 }
 
 impl<'h, R: Read> Watch<'h, R> {
-    /// It tells of progress where it is asked to and the clock can be read.
-    pub(crate) fn new(rt: &'h HostRuntime, inner: R, progress: bool) -> Self {
+    /// It tells of progress where it is asked to and the clock can be read, and of a line without a size where each is to have
+    /// one.
+    pub(crate) fn new(rt: &'h HostRuntime, inner: R, progress: bool, sizes: bool) -> Self {
         let told = if progress {
             Instant::now(rt).ok()
         } else {
@@ -32,18 +31,15 @@ impl<'h, R: Read> Watch<'h, R> {
             inner,
             told,
             bytes: 0,
-            lines: 0,
-            empty: 0,
-            returns: 0,
-            last: b'\n',
+            lines: Lines::new(rt, sizes),
             has_zero: false,
             is_packed: false,
         }
     }
 
-    /// Tells what of the whole input looks wrong.
-    pub(crate) fn warn(&self) {
-        let (lines, empty, returns) = (self.lines, self.empty, self.returns);
+    /// Tells what of the whole input looks wrong, where its report has so many misses at the greatest capacity.
+    pub(crate) fn warn(&self, misses: Option<u64>) {
+        let (lines, empty, returns) = (self.lines.count, self.lines.empty, self.lines.returns);
         if self.bytes == 0 {
             self.say("standard input was empty, so there are no requests");
         }
@@ -64,42 +60,44 @@ impl<'h, R: Read> Watch<'h, R> {
                 "clru_mrc: {returns} of {lines} lines end with a carriage return, which is a part of their keys"
             );
         }
+        if misses == Some(lines) && self.lines.are_many() {
+            let _ = eprintln!(self.rt;
+                "clru_mrc: none of {lines} requests hits at any of these capacities: is each line the whole line of a log?"
+            );
+        }
+        if let Some((count, line)) = self.lines.most_of_all() {
+            if let Ok(key) = quoted(self.rt, line) {
+                let _ = eprintln!(self.rt;
+                    "clru_mrc: {count} of {lines} requests or more are for one key, {key}"
+                );
+            }
+        }
     }
 
     fn say(&self, line: &str) {
         let _ = eprintln!(self.rt; "clru_mrc: {line}");
     }
 
+    /// What follows a fault that says that the line of this number has no size.
+    pub(crate) fn say_line(&self, number: usize) -> Option<String> {
+        let line = self.lines.without_size(number)?;
+        let words = instead_of_size(line);
+        let shown = quoted(self.rt, line).ok()?;
+        format!(in self.rt.alloc(); ": it begins {shown}{words}").ok()
+    }
+
     // Looks at more bytes.
     fn note(&mut self, bytes: &[u8]) {
+        if bytes.is_empty() {
+            self.lines.end();
+            return;
+        }
         if self.bytes == 0 {
             self.is_packed = bytes.starts_with(&[0x1f, 0x8b]);
         }
         self.bytes = self.bytes.saturating_add(bytes.len() as u64);
-        let mut last = self.last;
-        for byte in bytes {
-            // (all that is looked for is below the blank)
-            if *byte < b' ' {
-                self.note_sign(last, *byte);
-            }
-            last = *byte;
-        }
-        self.last = last;
-    }
-
-    fn note_sign(&mut self, last: u8, byte: u8) {
-        match byte {
-            b'\n' => {
-                self.lines = self.lines.saturating_add(1);
-                match last {
-                    b'\n' => self.empty = self.empty.saturating_add(1),
-                    b'\r' => self.returns = self.returns.saturating_add(1),
-                    _ => {}
-                }
-            }
-            0 => self.has_zero = true,
-            _ => {}
-        }
+        self.has_zero = self.has_zero || bytes.contains(&0);
+        self.lines.note(bytes);
     }
 
     // Tells how far it is, where a second has gone by since it told last.
@@ -114,7 +112,7 @@ impl<'h, R: Read> Watch<'h, R> {
             return;
         }
         self.told = Some(now);
-        let (lines, megabytes) = (self.lines, self.bytes / 1_000_000);
+        let (lines, megabytes) = (self.lines.count, self.bytes / 1_000_000);
         let _ = eprintln!(self.rt; "clru_mrc: {lines} requests in {megabytes} MB so far");
     }
 }

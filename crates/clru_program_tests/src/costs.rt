@@ -1,8 +1,10 @@
-//! How often a report hashes a line, in each form.
+//! How often a report hashes a line and asks for memory, in each form.
 ghost use Rattle.std.specs.Hash.FoldHasher as folding;
 
+use crate::fakes::plain;
 use assertions::equal;
 use clru_report::{Capacities, Form, Options, run};
+use ration::Rationed;
 use std::cell::Cell;
 use std::hash::{BuildHasher, FoldHasher};
 use std::test::Fail;
@@ -25,6 +27,19 @@ impl<'c> BuildHasher for Counting<'c> {
 /// How many lines of a thousand are new.
 const KEYS: usize = 10;
 
+// Of a form, whether by size, and whether with the least: its requests for memory.
+static REQUESTS: &[(Form, bool, bool, u64)] = &[
+    (Form::Table, false, false, 51),
+    (Form::Table, true, false, 70),
+    (Form::Table, false, true, 69),
+    (Form::Picture, false, false, 62),
+    (Form::Picture, true, false, 90),
+    (Form::Picture, false, true, 81),
+    (Form::Summary, false, false, 30),
+    (Form::Summary, true, false, 45),
+    (Form::Summary, false, true, 30),
+];
+
 #[test]
 fn each_form_hashes_a_line_as_often(rt: HostRuntime) -> Result<(), Fail> {
     let mut input = Vec::new(rt.alloc());
@@ -35,32 +50,27 @@ fn each_form_hashes_a_line_as_often(rt: HostRuntime) -> Result<(), Fail> {
     }
     // A line that came before is hashed once, a new one three times, and four of ten where the places grow from 4 to 16.
     let once = 1_000 + 2 * KEYS as u64 + 4;
-    for form in [Form::Table, Form::Picture, Form::Summary] {
+    for (form, sizes, least, requests) in REQUESTS {
         // The least looks each line up once more; a summary has none.
-        let again = if form == Form::Summary { 0 } else { 1_000 };
-        for (sizes, least, hashes) in [
-            (false, false, once),
-            (true, false, once),
-            (false, true, once + again),
-        ] {
-            let count = Cell::new(0);
-            let options = Options {
-                capacities: Capacities::Usual,
-                sizes,
-                least,
-                form,
-            };
-            let mut reader = input.as_slice();
-            let mut written = Vec::new(rt.alloc());
-            run(
-                rt.alloc(),
-                &options,
-                &mut reader,
-                &mut written,
-                Counting(&count),
-            )?;
-            equal!(rt; count.get(), hashes, (form, sizes, least));
-        }
+        let again = if *least && *form != Form::Summary {
+            1_000
+        } else {
+            0
+        };
+        let count = Cell::new(0);
+        let heap = Rationed::new(rt.alloc());
+        let options = Options {
+            capacities: Capacities::Usual,
+            sizes: *sizes,
+            least: *least,
+            form: *form,
+            look: plain(),
+        };
+        let mut reader = input.as_slice();
+        let mut written = Vec::new(rt.alloc());
+        run(&heap, &options, &mut reader, &mut written, Counting(&count))?;
+        let costs = (count.get(), heap.asked());
+        equal!(rt; costs, (once + again, *requests), (*form, *sizes, *least));
     }
     Ok(())
 }

@@ -1,6 +1,18 @@
-//! Readers and writers that fail.
+//! Readers and writers that fail, and a plain look.
 
+use clru_report::Look;
+use std::alloc::Allocator;
 use std::io::{self, ErrorKind, Read, Write};
+
+/// The look of a picture of which nothing is asked.
+pub(crate) fn plain<A: Allocator>() -> Look<A> {
+    Look {
+        title: None,
+        unit: None,
+        from: None,
+        to: None,
+    }
+}
 
 /// Gives its bytes one by one, and then an error of the kind.
 #[derive(Drop)]

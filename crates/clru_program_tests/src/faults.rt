@@ -1,6 +1,6 @@
 //! Reports whose reader, writer or memory fails, each with its status.
 
-use crate::fakes::{Breaking, Filling};
+use crate::fakes::{Breaking, Filling, plain};
 use assertions::equal;
 use clru_report::{Capacities, DefaultState, Fault, Form, Options, exit_status, run, write_report};
 use ration::Rationed;
@@ -19,6 +19,7 @@ fn by_keys<A: Allocator>(least: bool, form: Form) -> Options<A> {
         sizes: false,
         least,
         form,
+        look: plain(),
     }
 }
 
@@ -28,6 +29,7 @@ fn by_size<A: Allocator>(form: Form) -> Options<A> {
         sizes: true,
         least: false,
         form,
+        look: plain(),
     }
 }
 
@@ -127,18 +129,20 @@ const MOST: u64 = 1000;
 #[test]
 fn each_refused_request_is_want_of_memory(rt: HostRuntime) {
     let rows = [
-        (false, Form::Picture, TEN),
-        (true, Form::Table, SIZED),
-        (true, Form::Picture, SIZED),
+        (false, false, Form::Table, TEN),
+        (false, false, Form::Summary, TEN),
+        (false, true, Form::Picture, TEN),
+        (true, false, Form::Table, SIZED),
+        (true, false, Form::Picture, SIZED),
     ];
-    for (sizes, form, input) in rows {
+    for (sizes, least, form, input) in rows {
         let mut met = 0;
         for n in 0..MOST {
             let heap = Rationed::new(rt.alloc());
             let options = if sizes {
                 by_size(form)
             } else {
-                by_keys(true, form)
+                by_keys(least, form)
             };
             if !refused_after(&rt, &heap, n, &options, input, Vec::new(rt.alloc())) {
                 break;
@@ -149,36 +153,12 @@ fn each_refused_request_is_want_of_memory(rt: HostRuntime) {
     }
 }
 
-/// The bytes that a table asks for.
-fn asked_for(rt: &impl Abort, alloc: Global, least: bool, input: &[u8]) -> u64 {
-    let heap = Rationed::new(alloc);
-    let options = by_keys(least, Form::Table);
-    let mut reader = input;
-    let mut written = Vec::new(alloc);
-    let outcome = run(&heap, &options, &mut reader, &mut written, DefaultState);
-    equal!(rt; outcome, Ok(()));
-    heap.asked_bytes()
-}
-
-#[test]
-fn a_list_of_the_lines_is_made_for_the_least_alone(rt: HostRuntime) -> Result<(), Fail> {
-    let mut input = Vec::new(rt.alloc());
-    for _ in 0..5_000 {
-        input.extend_from_slice(b"a\n")?;
-    }
-    for least in [false, true] {
-        // The room for the input, and 16 bytes for each line of a list.
-        let listed = asked_for(&rt, rt.alloc(), least, &input) > 65_536 + 5_000 * 16;
-        equal!(rt; listed, least);
-    }
-    Ok(())
-}
-
-/// How a table by keys, or by size, ends whose heap has so many bytes.
+/// How a table ends, by keys, also with the least, or by size, whose heap has so many bytes.
 fn within(
     rt: &impl Abort,
     alloc: Global,
     sizes: bool,
+    least: bool,
     bytes: u64,
     input: &[u8],
 ) -> Result<(), Fault> {
@@ -187,8 +167,9 @@ fn within(
     let options = Options {
         capacities: Capacities::Usual,
         sizes,
-        least: false,
+        least,
         form: Form::Table,
+        look: plain(),
     };
     let mut reader = input;
     let mut written = Vec::new(alloc);
@@ -206,8 +187,9 @@ fn no_input_is_held(rt: HostRuntime) -> Result<(), Fail> {
         input.resize(input.len() + 400, b'a')?;
         input.push(b'\n')?;
     }
-    equal!(rt; within(&rt, rt.alloc(), false, 100_000, &input), Ok(()));
-    equal!(rt; within(&rt, rt.alloc(), true, 1_000_000, &input), Ok(()));
-    equal!(rt; within(&rt, rt.alloc(), false, 50_000, &input), Err(Fault::Memory));
+    equal!(rt; within(&rt, rt.alloc(), false, false, 100_000, &input), Ok(()));
+    equal!(rt; within(&rt, rt.alloc(), false, true, 300_000, &input), Ok(()));
+    equal!(rt; within(&rt, rt.alloc(), true, false, 1_000_000, &input), Ok(()));
+    equal!(rt; within(&rt, rt.alloc(), false, false, 50_000, &input), Err(Fault::Memory));
     Ok(())
 }

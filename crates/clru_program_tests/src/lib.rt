@@ -11,6 +11,8 @@ mod fakes;
 #[cfg(test)]
 mod faults;
 #[cfg(test)]
+mod lent;
+#[cfg(test)]
 mod lines;
 #[cfg(test)]
 mod shown;

@@ -6,6 +6,7 @@ use clru_lines::{
     Key, LineBuffer, OwnedKey, ReadError, capacity_of, keys_of, next_line, read_input, write_text,
 };
 use clru_report::DefaultState;
+use ration::Rationed;
 use std::alloc::Global;
 use std::hash::BuildHasher;
 use std::io::ErrorKind;
@@ -95,17 +96,34 @@ fn a_line_may_be_longer_than_the_buffer(rt: HostRuntime) -> Result<(), Fail> {
 
 #[test]
 fn a_failed_read_ends_the_lines(rt: HostRuntime) {
-    let mut reader = Breaking {
-        left: b"a\nb",
-        kind: ErrorKind::Interrupted,
-        calls: 0,
-    };
-    let mut buffer = LineBuffer::new(rt.alloc());
-    let mut line = Vec::new(rt.alloc());
-    equal!(rt; matches!(buffer.read_line(&mut reader, &mut line), Ok(true)), true);
-    let outcome = buffer.read_line(&mut reader, &mut line);
-    equal!(rt; matches!(outcome, Err(ReadError::Reading)), true);
-    equal!(rt; reader.calls, 4);
+    for kind in [ErrorKind::Interrupted, ErrorKind::WouldBlock] {
+        let mut reader = Breaking {
+            left: b"a\nb",
+            kind,
+            calls: 0,
+        };
+        let mut buffer = LineBuffer::new(rt.alloc());
+        let mut line = Vec::new(rt.alloc());
+        equal!(rt; matches!(buffer.read_line(&mut reader, &mut line), Ok(true)), true);
+        let outcome = buffer.read_line(&mut reader, &mut line);
+        equal!(rt; matches!(outcome, Err(ReadError::Reading)), true);
+        equal!(rt; reader.calls, 4);
+    }
+}
+
+// One request for the buffer, one for the line: a line that fits asks for nothing.
+#[test]
+fn memory_is_asked_for_once(rt: HostRuntime) -> Result<(), Fail> {
+    let heap = Rationed::new(rt.alloc());
+    let mut reader = b"abcdefgh\nab\nabc\n".as_slice();
+    let mut buffer = LineBuffer::new(&heap);
+    let mut line = Vec::new(&heap);
+    for wanted in [b"abcdefgh".as_slice(), b"ab", b"abc"] {
+        equal!(rt; buffer.read_line(&mut reader, &mut line)?, true);
+        equal!(rt; line.as_slice(), wanted);
+        equal!(rt; heap.asked(), 2);
+    }
+    Ok(())
 }
 
 #[test]

@@ -1,13 +1,16 @@
 -- How the lists of capacities grow by one.
-use Rattle.std.proofs.Common.{◌≡◌, ℕ, get_or, length, zero, suc, ◌+◌, ◌-◌, ◌^◌, ◌<◌, ◌≤◌, Bool, true, false, cond, ◌||◌, nat_le, nat_lt, leb-true, List, [], ◌∷◌, ◌++◌, map, refl, sym, ap, subst, ◌∙◌, zero-add, arith}
+use Rattle.std.proofs.Common.{◌≡◌, ℕ, get_or, length, zero, suc, ◌+◌, ◌-◌, ◌/◌, ◌%◌, ◌^◌, ◌<◌, ◌≤◌, Bool, true, false, cond, ◌||◌, nat_le, nat_lt, leb-true, List, [], ◌∷◌, ◌++◌, map, refl, sym, ap, subst, ◌∙◌, zero-add, arith}
 use Rattle.std.proofs.Math.Nat.{mul-pos, pow-suc}
 use Rattle.std.proofs.lemmas.List.{length-map}
 use Rattle.std.proofs.lemmas.List.FromFn.{filter_of_map_range_with_len_more}
-use Rattle.std.proofs.lemmas.List.Elements.{Contains-get_or, All-contains, All-filter, All-from_get_or, All-map, filter_agree, filter_passes}
-use Rattle.std.specs.List.{Contains, filter, range_with_len}
+use Rattle.std.proofs.lemmas.List.Elements.{Contains-get_or, All-append, All-contains, All-filter, All-from_get_or, All-from_recursion, All-map, All-weaker, filter_agree, filter_passes, recursion_from_All}
+use Rattle.std.proofs.lemmas.Bool.{eqb-false}
+use Rattle.std.specs.List.{All, Contains, filter, range_with_len}
 use Rattle.std.specs.Prelude.{◌==◌}
 use Rattle.clru_model.proofs.Cases.{split}
-use Rattle.clru_report.specs.Capacities.{capacities_of, is_fall, sized_capacities_of, usual}
+use Rattle.clru_report.specs.Capacities.{capacities_of, first_digit, is_fall, round_number, sized_capacities_of, usual}
+use Rattle.clru_report.specs.Knees.{with_knees}
+use Rattle.clru_report.proofs.KneeLemmas.{knees_from, same_knees}
 use Rattle.clru_report.specs.Refusals.{NamesBelow}
 use Rattle.clru_report.specs.declared.options.Capacities.{Capacities}
 use Rattle.clru_report.specs.declared.options.Capacities.TheVariants.{Usual, Each, Named}
@@ -32,6 +35,24 @@ module _ (p : ℕ → Bool) (f : ℕ → ℕ) where
   passing_none i h =
       filter_of_map_range_with_len_more p f 0 i i (zero-add i) ∙ ap (λ b. passing i ++ cond b (f i ∷ []) []) h
 
+-- 1, 2 and 5 are no 0, and so no round number is
+digit_positive : (k : ℕ) → 0 < first_digit k
+digit_positive k =
+    split (k == 0)
+    (λ t. rw t (omega arith))
+    (λ f. split (k == 1) (λ u. rw (f, u) (omega arith)) (λ v. rw (f, v) (omega arith)))
+
+pub usual_positive : (d : ℕ) → All (λ c. 0 < c) (usual d)
+usual_positive d =
+    let rounds = All-map (λ c. 0 < c) round_number (range_with_len 0 60)
+    (All-from_get_or (λ k. 0 < round_number k) (range_with_len 0 60) 0 (λ i inside.
+    let k = get_or (range_with_len 0 60) i 0 in mul-pos (digit_positive (k % 3)) (power_positive (k / 3)))) in
+    All-append (λ c. 0 < c) (filter (λ c. nat_lt c d) (map round_number (range_with_len 0 60))) _
+    (All-filter (λ c. nat_lt c d) (λ c. 0 < c) (map round_number (range_with_len 0 60)) rounds)
+    (split (d == 0)
+    (λ t. rw t (All-from_recursion (λ c. 0 < c) [] tt))
+    (λ f. rw f (All-from_recursion (λ c. 0 < c) (d ∷ []) (omega (arith, eqb-false d 0 f), tt))))
+
 -- where two curves are the same from capacity 1 on, they fall at the same capacities
 module _ (m n : ℕ → ℕ) (alike : (k : ℕ) → 0 < k → m k ≡ n k) where
   is_fall-alike : (x : ℕ) → is_fall m (x + 1) ≡ is_fall n (x + 1)
@@ -48,7 +69,7 @@ module _ (m n : ℕ → ℕ) (alike : (k : ℕ) → 0 < k → m k ≡ n k) where
       ∙ ap (λ ys. cond (is_fall n (x + 1)) ((x + 1) ∷ ys) ys) (filter-alike xs)
 
   pub capacities-alike : {A : Type 0} (asked : Capacities A) (d : ℕ) → capacities_of asked m d ≡ capacities_of asked n d
-  capacities-alike Usual d = refl
+  capacities-alike Usual d = same_knees m n alike (usual d) (recursion_from_All (λ c. 0 < c) (usual d) (usual_positive d))
   capacities-alike Each d = filter-alike (range_with_len 0 d)
   capacities-alike (Named named) d = refl
 
@@ -63,7 +84,10 @@ map-filter p f (x ∷ xs) =
 -- curves that are the same everywhere fall at the same capacities
 pub sized-alike : {A : Type 0} (asked : Capacities A) (m n : ℕ → ℕ) (g d : ℕ) → ((c : ℕ) → m c ≡ n c)
     → sized_capacities_of asked m g d ≡ sized_capacities_of asked n g d
-sized-alike Usual m n g d same = refl
+sized-alike Usual m n g d same =
+    let passes = λ (c : ℕ). nat_le g c in
+    same_knees m n (λ c some. same c) (filter passes (usual d))
+    (recursion_from_All (λ c. 0 < c) (filter passes (usual d)) (All-filter passes (λ c. 0 < c) (usual d) (usual_positive d)))
 sized-alike Each m n g d same =
     filter_agree _ _ (λ c. ap (λ k. (c == g) || nat_lt k (m (c - 1))) (same c) ∙ ap (λ k. (c == g) || nat_lt (n c) k) (same (c - 1))) _
 sized-alike (Named named) m n g d same = refl
@@ -72,8 +96,10 @@ sized-alike (Named named) m n g d same = refl
 pub none_below : {A : Type 0} (asked : Capacities A) (m : ℕ → ℕ) (g d n : ℕ) → n < g
     → Contains (sized_capacities_of asked m g d) n → NamesBelow asked g
 none_below Usual m g d n low is =
-    let passes = All-contains (λ c. nat_le g c ≡ true) _ n (filter_passes (λ c. nat_le g c) (usual d)) is in
-    omega (arith, low, leb-true g n passes)
+    let cs = filter (λ c. nat_le g c) (usual d) in
+    let high = All-weaker (λ c. nat_le g c ≡ true) (λ c. g ≤ c) (λ c t. leb-true g c t) cs (filter_passes (λ c. nat_le g c) (usual d)) in
+    let all = All-from_recursion (λ c. g ≤ c) (with_knees m cs) (knees_from m g cs (recursion_from_All (λ c. g ≤ c) cs high)) in
+    omega (arith, low, All-contains (λ c. g ≤ c) (with_knees m cs) n all is)
 none_below Each m g d n low is =
     let high : g ≤ n = All-contains (λ c. g ≤ c) _ n (All-filter (λ c. (c == g) || nat_lt (m c) (m (c - 1))) (λ c. g ≤ c) _
     (All-map (λ c. g ≤ c) (λ (k : ℕ). g + k) (range_with_len 0 (d + 1 - g)) (All-from_get_or (λ k. g ≤ g + k) _ 0 (λ i inside. omega arith)))) is in

@@ -36,7 +36,7 @@ module _ (c : ℕ) where
   hits_grow (s ∷ ss) = omega (arith, hits_grow ss, within_grows s.capacity, hits-cons c s ss, hits-cons (suc c) s ss)
 
   -- where no step is, as many hit as at the capacity before
-  hits_same : (ss : List Step) → ((i : ℕ) → i < length ss → (get_or ss i (step 0 0)).capacity ≢ suc c) → hits_within (suc c) ss ≡ hits_within c ss
+  pub hits_same : (ss : List Step) → ((i : ℕ) → i < length ss → (get_or ss i (step 0 0)).capacity ≢ suc c) → hits_within (suc c) ss ≡ hits_within c ss
   hits_same [] none = refl
   hits_same (s ∷ ss) none =
       let ih = hits_same ss (λ i low. none (suc i) (omega (arith, low))) in

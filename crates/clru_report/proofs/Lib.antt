@@ -1,10 +1,12 @@
 mod CapacityLemmas
 mod Falls
 mod FaultLemmas
+mod KneeLemmas
 mod LeastLemmas
 mod ReportLemmas
 mod RowLemmas
 mod SettledCurves
 mod SizeViews
+mod SizedKnees
 mod SizedReports
 mod TakenLines

@@ -1,6 +1,5 @@
 -- Answers, and what follows from what is known of them.
-use Rattle.std.proofs.Common.{◌≡◌, ◌++◌, ℕ, List, append-nil, sym, ap, ◌∙◌, true, false, Option, None, Some, IfNone, IfSome, Result, Ok, Err, IfErr, IfOk}
-use Rattle.std.specs.Io.KnownBytes.{Consumes, IsAtEnd}
+use Rattle.std.proofs.Common.{◌≡◌, true, false, Option, None, Some, IfNone, IfSome, Result, Ok, Err, IfErr, IfOk}
 use Rattle.std.specs.Option.{is_none}
 
 -- what holds of an answer holds of what follows from it
@@ -32,9 +31,3 @@ no_some P (Some x) is = absurd (cc)
 pub no_none : {X : Type 0} (P : Type 0) (o : Option X) → is_none o ≡ false → IfNone o P
 no_none P None is = absurd (cc)
 no_none P (Some x) is = tt
-
--- a slice that is read to its end gave itself
-pub slice_read : (bytes read : List ℕ) (now : Option (List ℕ)) → Consumes (Some bytes) now read → IsAtEnd now → read ≡ bytes
-slice_read bytes read None consumed end = absurd consumed
-slice_read bytes read (Some left) consumed end =
-    sym (append-nil read) ∙ ap (λ l. read ++ l) (sym end) ∙ sym consumed

@@ -1,7 +1,7 @@
 -- What a pass knows that has taken lines: one more line, and the curve.
-use Rattle.std.proofs.Common.{◌≡◌, ℕ, ◌+◌, ◌≤◌, ◌^◌, List, [], ◌∷◌, ◌++◌, IsNone, IsSome, map, length, reverse, take, Some, refl, sym, ap, ◌∙◌, subst, arith}
+use Rattle.std.proofs.Common.{◌≡◌, ℕ, ◌+◌, ◌≤◌, ◌^◌, List, [], ◌∷◌, ◌++◌, IsNone, IsSome, IfSome, Option, not, map, length, reverse, take, Some, refl, sym, ap, ◌∙◌, subst, arith}
 use Rattle.std.specs.Prelude.{bytes_eq, IsSomeAnd}
-use Rattle.std.specs.List.{slice_get}
+use Rattle.std.specs.List.{list_any, slice_get, take_while}
 use Rattle.std.proofs.lemmas.Grind.{reverse_onto}
 use Rattle.std.proofs.lemmas.List.{map-append}
 use Rattle.std.proofs.lemmas.List.Elements.{All-push}
@@ -13,10 +13,11 @@ use Rattle.clru_lines.specs.declared.lines.OwnedKey.{OwnedKey}
 use Rattle.clru_report.proofs.SizeViews.{curve-view, size-view}
 use Rattle.clru_curve.specs.Curves.{HasMissesOf}
 use Rattle.clru_curve.specs.Passes.{IsPass, Pass}
+use Rattle.clru_least.specs.Passes.{IsForesight, IsLatestOf}
 use Rattle.clru_model.proofs.Views.{distinct-map, map-reverse, misses-map}
 use Rattle.clru_model.specs.Requests.{distinct}
 use Rattle.std.proofs.lemmas.List.{reverse-reverse}
-use Rattle.clru_report.specs.Passes.{HasTaken, HasTakenLines, line_of, same_line, weight_of_key}
+use Rattle.clru_report.specs.Passes.{HasTaken, HasTakenKey, HasTakenLines, HaveTakenLines, line_of, same_line, weight_of_key}
 use Rattle.clru_report.specs.Refusals.{IsFirstWithout}
 use Rattle.clru_report.specs.Sizes.{HaveSizes, size_of_line, size_of_lines, weight_of_line}
 
@@ -25,14 +26,42 @@ shown_more : {A : Type 0} (key : OwnedKey A) (past : List (OwnedKey A))
     → map line_of (reverse (key ∷ past)) ≡ map line_of (reverse past) ++ line_of key ∷ []
 shown_more key past = ap (map line_of) (reverse_onto past key []) ∙ map-append line_of (reverse past) (key ∷ [])
 
+-- and it shows the line that it is of
+one_more : {A : Type 0} (lines : List (List ℕ)) (past : List (OwnedKey A)) (key : OwnedKey A) (line : List ℕ)
+    → map line_of (reverse past) ≡ lines → line_of key ≡ line → map line_of (reverse (key ∷ past)) ≡ lines ++ line ∷ []
+one_more lines past key line shown is =
+    shown_more key past ∙ ap (λ ls. ls ++ line_of key ∷ []) shown ∙ ap (λ l. lines ++ l ∷ []) is
+
+pub key_taken : {A : Type 0} (past : List (OwnedKey A)) (key : OwnedKey A) (line : List ℕ) (next : Pass (OwnedKey A))
+    → line_of key ≡ line → IsPass same_line (key ∷ past) next → HasTakenKey past line next
+key_taken past key line next is taken = record { key = key; is = is; taken = taken }
+
+-- the latest request of a key is that of each other key of its line
+latest_alike : {A : Type 0} (past : List (OwnedKey A)) (x y : OwnedKey A) (latest : Option ℕ) → line_of x ≡ line_of y
+    → IsLatestOf same_line past x latest → IsLatestOf same_line past y latest
+latest_alike past x y latest is of = record {
+  known = of.known ∙ ap (λ l. list_any (λ z. bytes_eq l (line_of z)) past) is;
+  position = subst (λ l. IfSome latest (λ p. p + 1 + length (take_while (λ z. not (bytes_eq l (line_of z))) past) ≡ length past)) is of.position;
+}
+
+-- where the pass and the foresight took one more key, they took its line
+pub lines_taken : {A : Type 0} (lines : List (List ℕ)) (pass : Pass (OwnedKey A)) (later : List ℕ) (all : HaveTakenLines lines pass later)
+    (x : OwnedKey A) (latest : Option ℕ) (next : Pass (OwnedKey A)) (after : List ℕ) → IsLatestOf same_line all.past x latest
+    → ((past : List (OwnedKey A)) (y : OwnedKey A) → IsForesight same_line past later → IsLatestOf same_line past y latest
+    → IsForesight same_line (y ∷ past) after) → HasTakenKey all.past (line_of x) next → HaveTakenLines (lines ++ line_of x ∷ []) next after
+lines_taken lines pass later all x latest next after of step one = record {
+  past = one.key ∷ all.past;
+  shown = one_more lines all.past one.key (line_of x) all.shown one.is;
+  taken = one.taken;
+  foreseen = step all.past one.key all.foreseen (latest_alike all.past x one.key latest (sym one.is) of);
+}
+
 module _ {A : Type 0} (lines : List (List ℕ)) (pass : Pass (OwnedKey A)) (taken : HasTakenLines lines pass) where
-  pub line_taken : (key : OwnedKey A) (line : List ℕ) (next : Pass (OwnedKey A)) → line_of key ≡ line
-      → ((past : List (OwnedKey A)) → IsPass same_line past pass → IsPass same_line (key ∷ past) next)
-      → HasTakenLines (lines ++ line ∷ []) next
-  line_taken key line next is step = record {
-    past = key ∷ taken.past;
-    shown = shown_more key taken.past ∙ ap (λ ls. ls ++ line_of key ∷ []) taken.shown ∙ ap (λ l. lines ++ l ∷ []) is;
-    taken = step taken.past taken.taken;
+  pub line_taken : (line : List ℕ) (next : Pass (OwnedKey A)) → HasTakenKey taken.past line next → HasTakenLines (lines ++ line ∷ []) next
+  line_taken line next one = record {
+    past = one.key ∷ taken.past;
+    shown = one_more lines taken.past one.key line taken.shown one.is;
+    taken = one.taken;
   }
 
   module _ (curve : List ℕ) where
@@ -56,7 +85,7 @@ module _ {A : Type 0} (lines : List (List ℕ)) (pass : PassBySize (OwnedKey A))
       → HasTaken (lines ++ line ∷ []) next
   taken_more key line next is size step = record {
     past = key ∷ taken.past;
-    shown = shown_more key taken.past ∙ ap (λ ls. ls ++ line_of key ∷ []) taken.shown ∙ ap (λ l. lines ++ l ∷ []) is;
+    shown = one_more lines taken.past key line taken.shown is;
     sizes = All-push (λ l. IsSome (size_of_line l)) lines line taken.sizes size;
     taken = step taken.past taken.taken;
   }

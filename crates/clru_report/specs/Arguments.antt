@@ -9,6 +9,8 @@ use Rattle.clru_report.specs.declared.options.Capacities.{Capacities}
 use Rattle.clru_report.specs.declared.options.Capacities.TheVariants.{Usual, Each, Named}
 use Rattle.clru_report.specs.declared.options.Form.{Form}
 use Rattle.clru_report.specs.declared.options.Form.TheVariants.{Table, Picture, Summary}
+use Rattle.std.specs.Option.{is_some}
+use Rattle.clru_report.specs.declared.options.Look.{Look}
 use Rattle.clru_report.specs.declared.options.Options.{Options}
 
 abbrev pub is_each : {A : Type 0} → Capacities A → Bool
@@ -37,16 +39,21 @@ module _ {A : Type 0} where
   abbrev pub wants_rows : Draft A → Bool
   wants_rows draft = draft.all || names_some draft || draft.least || draft.svg
 
+  -- something is asked for that pictures alone have
+  abbrev pub wants_look : Look A → Bool
+  wants_look look = is_some look.title || is_some look.unit || is_some look.from || is_some look.to
+
   -- no two of the flags exclude one another
   abbrev pub go_together : Draft A → Bool
   go_together draft = not (draft.all && names_some draft)
-      && (not (draft.summary && wants_rows draft) && not (draft.sizes && draft.least))
+      && (not (draft.summary && wants_rows draft) && (not (draft.sizes && draft.least) && not (wants_look draft.look && not draft.svg)))
 
   -- the options are those of the flags
   pub record AreOf (draft : Draft A) (options : Options A) : Type 0 where
     pub form : options.form ≡ form_of draft
     pub sizes : options.sizes ≡ draft.sizes
     pub least : options.least ≡ draft.least
+    pub look : options.look ≡ draft.look
     pub each : is_each options.capacities ≡ draft.all
     pub named : is_named options.capacities ≡ names_some draft
 

@@ -2,6 +2,7 @@
 use Rattle.std.specs.Prelude.{ℕ, ◌+◌, ◌-◌, ◌*◌, ◌/◌, ◌%◌, ◌^◌, Bool, ◌||◌, ◌==◌, nat_lt, nat_le, List, [], ◌∷◌, ◌++◌, map, if◌then◌else◌}
 use Rattle.std.specs.List.{filter, range_with_len}
 use Rattle.std.specs.Int.NonZero.{non_zero_usize_get}
+use Rattle.clru_report.specs.Knees.{with_knees}
 use Rattle.clru_report.specs.declared.options.Capacities.{Capacities}
 use Rattle.clru_report.specs.declared.options.Capacities.TheVariants.{Usual, Each, Named}
 
@@ -27,7 +28,7 @@ falls misses n = filter (is_fall misses) (map (λ k. k + 1) (range_with_len 0 n)
 
 -- the capacities for requests of n distinct keys with so many misses at each
 abbrev pub capacities_of : {A : Type 0} → Capacities A → (ℕ → ℕ) → ℕ → List ℕ
-capacities_of Usual misses n = usual n
+capacities_of Usual misses n = with_knees misses (usual n)
 capacities_of Each misses n = falls misses n
 capacities_of (Named named) misses n = map non_zero_usize_get named.items
 
@@ -38,6 +39,6 @@ falls_from misses g n = filter (λ c. (c == g) || nat_lt (misses c) (misses (c -
 
 -- the capacities for requests of the greatest size g, whose distinct keys have the size n together, with so many misses at each
 abbrev pub sized_capacities_of : {A : Type 0} → Capacities A → (ℕ → ℕ) → ℕ → ℕ → List ℕ
-sized_capacities_of Usual misses g n = filter (λ c. nat_le g c) (usual n)
+sized_capacities_of Usual misses g n = with_knees misses (filter (λ c. nat_le g c) (usual n))
 sized_capacities_of Each misses g n = falls_from misses g n
 sized_capacities_of (Named named) misses g n = map non_zero_usize_get named.items

@@ -1,10 +1,12 @@
 pub mod Arguments
 pub mod Capacities
 pub mod Faults
+pub mod Knees
 pub mod Passes
 pub mod Refusals
 pub mod Report
 pub mod SizedReport
 pub mod SizedTables
 pub mod Sizes
+pub mod Steps
 pub mod Tables

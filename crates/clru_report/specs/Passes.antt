@@ -1,10 +1,11 @@
 -- What a pass over lines has taken, and what it answers. No public clause cites it.
-use Rattle.std.specs.Prelude.{◌≡◌, Bool, true, false, ◌&&◌, None, ℕ, ◌+◌, ◌<◌, ◌≤◌, ◌^◌, List, length, map, reverse, bytes_eq, ◌==◌, if◌then◌else◌, ⊤}
+use Rattle.std.specs.Prelude.{◌≡◌, Bool, true, false, ◌&&◌, None, ℕ, ◌+◌, ◌<◌, ◌≤◌, ◌^◌, List, ◌∷◌, length, map, reverse, bytes_eq, ◌==◌, if◌then◌else◌, ⊤}
 use Rattle.std.specs.List.{All, Contains}
 use Rattle.clru_curve.specs.SizedCurves.{CurveBySize, IsSizedCurveOf, misses_within, missed_size_within}
 use Rattle.clru_curve.specs.SizedPasses.{PassBySize, IsSizedPass}
 use Rattle.clru_curve.specs.Curves.{HasMissesOf}
 use Rattle.clru_curve.specs.Passes.{IsPass, Pass}
+use Rattle.clru_least.specs.Passes.{IsForesight}
 use Rattle.clru_lines.specs.Lines.{lines_of}
 use Rattle.clru_lines.specs.declared.lines.OwnedKey.{OwnedKey}
 use Rattle.clru_model.specs.Requests.{distinct, misses}
@@ -65,6 +66,25 @@ pub record HasTakenLines {A : Type 0} (lines : List (List ℕ)) (pass : Pass (Ow
   pub past : List (OwnedKey A)
   pub shown : map line_of (reverse past) ≡ lines
   pub taken : IsPass same_line past pass
+
+-- after these keys the pass took one more, of this line
+pub record HasTakenKey {A : Type 0} (past : List (OwnedKey A)) (line : List ℕ) (pass : Pass (OwnedKey A)) : Type 0 where
+  pub key : OwnedKey A
+  pub is : line_of key ≡ line
+  pub taken : IsPass same_line (key ∷ past) pass
+
+-- the foresight took these lines
+pub record HasForeseen (A : Type 0) (lines : List (List ℕ)) (later : List ℕ) : Type 0 where
+  pub past : List (OwnedKey A)
+  pub shown : map line_of (reverse past) ≡ lines
+  pub taken : IsForesight same_line past later
+
+-- the pass and the foresight took these lines
+pub record HaveTakenLines {A : Type 0} (lines : List (List ℕ)) (pass : Pass (OwnedKey A)) (later : List ℕ) : Type 0 where
+  pub past : List (OwnedKey A)
+  pub shown : map line_of (reverse past) ≡ lines
+  pub taken : IsPass same_line past pass
+  pub foreseen : IsForesight same_line past later
 
 -- the pass took these lines, each of which has a size
 pub record HasTaken {A : Type 0} (lines : List (List ℕ)) (pass : PassBySize (OwnedKey A)) : Type 0 where

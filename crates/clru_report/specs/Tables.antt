@@ -1,6 +1,8 @@
 -- The text of a table. Public clauses cite it.
-use Rattle.std.specs.Prelude.{ℕ, ◌≡◌, ◌+◌, ◌*◌, ◌/◌, ◌%◌, Bool, List, ◌++◌, Option, None, Some, flat_map, codes, decimal, max, if◌then◌else◌}
+use Rattle.std.specs.Prelude.{ℕ, ◌≡◌, ◌+◌, ◌-◌, ◌*◌, ◌/◌, ◌%◌, Bool, List, [], ◌∷◌, ◌++◌, Option, None, Some, codes, decimal, max, if◌then◌else◌}
 use Rattle.std.specs.Int.NonZero.{non_zero_usize_get}
+use Rattle.clru_report.specs.Knees.{is_knee_before, point}
+use Rattle.clru_report.specs.declared.knees.Point.{Point}
 use Rattle.clru_report.specs.declared.rows.Row.{Row}
 
 abbrev pub capacity_of_row : Row → ℕ
@@ -15,23 +17,50 @@ abbrev pub fraction_text : ℕ → List ℕ
 fraction_text m = decimal (m / 1000000) ++ (codes "." ++ (decimal (m / 100000 % 10) ++ (decimal (m / 10000 % 10)
     ++ (decimal (m / 1000 % 10) ++ (decimal (m / 100 % 10) ++ (decimal (m / 10 % 10) ++ decimal (m % 10)))))))
 
--- the end of a line: the least possible misses, where they are there
-abbrev pub line_end : Option ℕ → List ℕ
-line_end None = codes "\n"
-line_end (Some n) = codes "," ++ (decimal n ++ codes "\n")
+abbrev pub point_of_row : Row → Point
+point_of_row row = point (capacity_of_row row) row.misses
 
--- capacity, misses and miss ratio
-abbrev pub row_line : ℕ → Row → List ℕ
-row_line requests row = (decimal (capacity_of_row row) ++ (codes "," ++ (decimal row.misses ++ (codes ","
-    ++ fraction_text (millionths row.misses requests))))) ++ line_end row.least
+-- that of the first of these rows, if there is one
+abbrev pub first_point : List Row → Option Point
+first_point [] = None
+first_point (row ∷ rows) = Some (point_of_row row)
+
+-- what misses at a point, if there is one
+abbrev pub misses_of_point : Option Point → ℕ
+misses_of_point None = 0
+misses_of_point (Some here) = here.misses
+
+-- how many fewer a row misses than the one before, for each unit of capacity between both, and 1 where it is a knee
+abbrev pub row_end : ℕ → ℕ → Bool → List ℕ
+row_end saved added knee = codes "," ++ (fraction_text (millionths saved added) ++ (codes ","
+    ++ (decimal (if knee then 1 else 0) ++ codes "\n")))
+
+-- the least possible misses, where they are there, and the end of a line
+abbrev pub with_least : Option ℕ → List ℕ → List ℕ
+with_least None end = end
+with_least (Some n) end = codes "," ++ (decimal n ++ end)
+
+-- capacity, misses and miss ratio, and what follows of a row behind the point of the one before
+abbrev pub row_line : ℕ → Point → Bool → Row → List ℕ
+row_line requests before knee row = decimal (capacity_of_row row) ++ (codes "," ++ (decimal row.misses ++ (codes ","
+    ++ (fraction_text (millionths row.misses requests)
+    ++ with_least row.least (row_end (before.misses - row.misses) (capacity_of_row row - before.capacity) knee)))))
+
+-- the lines of these rows; a knee is one by the row before it and the one behind it
+abbrev pub rows_text : ℕ → ℕ → Point → List Row → List ℕ
+rows_text requests whole before [] = []
+rows_text requests whole before (row ∷ rows) =
+    row_line requests before (is_knee_before whole before (point_of_row row) (first_point rows)) row
+    ++ rows_text requests whole (point_of_row row) rows
 
 abbrev pub header_line : Bool → List ℕ
-header_line least =
-    if least then codes "capacity,misses,miss_ratio,least_misses\n" else codes "capacity,misses,miss_ratio\n"
+header_line least = if least then codes "capacity,misses,miss_ratio,least_misses,saved_per_key,knee\n"
+    else codes "capacity,misses,miss_ratio,saved_per_key,knee\n"
 
--- the table with these rows
+-- the table with these rows; with room for nothing all requests miss
 abbrev pub table_text : Bool → ℕ → List Row → List ℕ
-table_text least requests rows = header_line least ++ flat_map (row_line requests) rows
+table_text least requests rows =
+    header_line least ++ rows_text requests (misses_of_point (first_point rows)) (point 0 requests) rows
 
 -- the summary of so many requests for so many keys
 abbrev pub summary_text : ℕ → ℕ → ℕ → List ℕ

@@ -1,8 +1,8 @@
 //! What the arguments ask for.
 ghost use Rattle.std.specs.Prelude.{◌≡◌, true, false, IfErr, IfOk, OnOk};
-ghost use Rattle.clru_report.specs.Arguments.{AsksFor, go_together, is_wrong, wants_rows};
+ghost use Rattle.clru_report.specs.Arguments.{AsksFor, go_together, is_wrong, wants_look, wants_rows};
 
-use crate::options::{Capacities, Form, Options};
+use crate::options::{Capacities, Form, Look, Options};
 use clru_lines::capacity_of;
 use std::alloc::{Allocator, Global};
 use std::convert::AsStr;
@@ -37,6 +37,18 @@ struct Draft<A: Allocator> {
     least: bool,
     svg: bool,
     summary: bool,
+    look: Look<A>,
+}
+
+// What the word after an argument is.
+#[derive(Clone, Copy, PartialEq, Eq)]
+enum Follows {
+    Nothing,
+    Capacities,
+    Title,
+    Unit,
+    From,
+    To,
 }
 
 /// Reads the words after the program's name, which are in any order. What follows `--help` or `--version` is not read.
@@ -54,20 +66,29 @@ pub fn command_of<S: AsStr, A: Allocator + Copy>(
         least: false,
         svg: false,
         summary: false,
+        look: Look {
+            title: None,
+            unit: None,
+            from: None,
+            to: None,
+        },
     };
-    // The word after `--at`.
-    let mut capacities_follow = false;
+    let mut follows = Follows::Nothing;
     for word in words {
         let word = word.as_str();
-        if capacities_follow {
-            name_capacities(alloc, &mut draft.named, word)?;
-            capacities_follow = false;
+        if follows != Follows::Nothing {
+            take_value(alloc, &mut draft, follows, word)?;
+            follows = Follows::Nothing;
             continue;
         }
         match word {
             "--help" | "-h" => return Ok(Command::Help),
             "--version" | "-V" => return Ok(Command::Version),
-            "--at" => capacities_follow = true,
+            "--at" => follows = Follows::Capacities,
+            "--title" => follows = Follows::Title,
+            "--unit" => follows = Follows::Unit,
+            "--from" => follows = Follows::From,
+            "--to" => follows = Follows::To,
             "--all" => draft.all = true,
             "--sizes" => draft.sizes = true,
             "--least" => draft.least = true,
@@ -79,11 +100,48 @@ pub fn command_of<S: AsStr, A: Allocator + Copy>(
             },
         }
     }
-    if capacities_follow {
-        return Err(wrong(alloc, NO_VALUE));
+    match follows {
+        Follows::Nothing => finish(alloc, draft),
+        Follows::Capacities => Err(wrong(alloc, NO_VALUE)),
+        Follows::Title | Follows::Unit => Err(wrong(alloc, NO_TEXT)),
+        Follows::From | Follows::To => Err(wrong(alloc, NO_END)),
     }
-    finish(alloc, draft)
 }
+
+fn take_value<A: Allocator + Copy>(
+    alloc: A,
+    draft: &mut Draft<A>,
+    follows: Follows,
+    word: &str,
+) -> Result<(), Refusal<A>> {
+    match follows {
+        Follows::Nothing => {}
+        Follows::Capacities => name_capacities(alloc, &mut draft.named, word)?,
+        Follows::Title => draft.look.title = Some(text_of(alloc, word)?),
+        Follows::Unit => draft.look.unit = Some(text_of(alloc, word)?),
+        Follows::From => draft.look.from = Some(end_named(alloc, word)?),
+        Follows::To => draft.look.to = Some(end_named(alloc, word)?),
+    }
+    Ok(())
+}
+
+fn text_of<A: Allocator + Copy>(alloc: A, word: &str) -> Result<String<A>, Refusal<A>> {
+    match String::from_str(alloc, word) {
+        Ok(text) => Ok(text),
+        Err(_) => Err(Refusal::Memory),
+    }
+}
+
+fn end_named<A: Allocator + Copy>(alloc: A, word: &str) -> Result<NonZeroUsize, Refusal<A>> {
+    match capacity_named(word) {
+        Some(capacity) => Ok(capacity),
+        None => Err(wrong(alloc, NO_END)),
+    }
+}
+
+const NO_TEXT: &str = "--title and --unit want a text: write --title 'May, all servers'";
+
+const NO_END: &str = "--from and --to want a capacity: write --from 1000 --to 1M";
 
 const NO_VALUE: &str = "--at wants capacities: write --at 100,1000";
 
@@ -133,6 +191,7 @@ fn finish<A: Allocator + Copy>(alloc: A, draft: Draft<A>) -> Result<Command<A>, 
     ensures refused { IfErr result (λ refusal. is_wrong refusal ≡ true → go_together draft ≡ false) }
 {
     let wants_rows = asks_for_rows(&draft);
+    let wants_look = asks_for_look(&draft.look);
     let Draft {
         mut named,
         all,
@@ -140,6 +199,7 @@ fn finish<A: Allocator + Copy>(alloc: A, draft: Draft<A>) -> Result<Command<A>, 
         least,
         svg,
         summary,
+        look,
     } = draft;
     let some_named = !named.is_empty();
     if all && some_named {
@@ -155,6 +215,12 @@ fn finish<A: Allocator + Copy>(alloc: A, draft: Draft<A>) -> Result<Command<A>, 
         return Err(wrong(
             alloc,
             "--least and --sizes do not go together: the least in bytes is too hard to compute, so leave one out",
+        ));
+    }
+    if wants_look && !svg {
+        return Err(wrong(
+            alloc,
+            "--title, --unit, --from and --to are of a picture: write --svg as well",
         ));
     }
     named.sort_unstable();
@@ -178,7 +244,14 @@ fn finish<A: Allocator + Copy>(alloc: A, draft: Draft<A>) -> Result<Command<A>, 
         sizes,
         least,
         form,
+        look,
     }))
+}
+
+fn asks_for_look<A: Allocator>(look: &Look<A>) -> bool
+    ensures { result ≡ wants_look look.now }
+{
+    look.title.is_some() || look.unit.is_some() || look.from.is_some() || look.to.is_some()
 }
 
 // Whether something is asked for that no summary has.

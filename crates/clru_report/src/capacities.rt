@@ -4,6 +4,7 @@ ghost use Rattle.std.specs.Int.NonZero.{non_zero_usize_get};
 ghost use Rattle.clru_curve.specs.Curves.{misses_at};
 ghost use Rattle.clru_report.specs.Capacities.{capacities_of, falls, is_fall, round_number, usual};
 
+use crate::knees::{ByKeys, with_knees};
 use crate::options::Capacities;
 use std::alloc::{AllocError, Allocator};
 use std::num::NonZeroUsize;
@@ -18,7 +19,10 @@ pub(crate) fn capacities_for<A: Allocator + Copy>(
         ≡ capacities_of capacities.now (misses_at curve.now) (length curve.now)) }
 {
     match capacities {
-        Capacities::Usual => usual_capacities(alloc, curve.len()),
+        Capacities::Usual => {
+            let usual = usual_capacities(alloc, curve.len())?;
+            with_knees(alloc, &ByKeys(curve), &usual)
+        }
         Capacities::Each => each_fall(alloc, curve),
         Capacities::Named(named) => Vec::from_slice(alloc, named),
     }

@@ -5,14 +5,16 @@ pub const HELP: &str = "\
 clru_mrc tells what an LRU cache of each capacity would miss.
 
 Give it requests on standard input, one a line: the key is the line's bytes.
-It writes a table as CSV: capacity, misses, and misses as a part of all requests.
+It writes a table as CSV: capacity, misses, misses as a part of all requests,
+misses saved for each key since the row before, and 1 where the row is a knee,
+just right of a steep fall.
 
     awk '{ print $7 }' access.log | clru_mrc
     awk '{ print $7 }' access.log | clru_mrc --least --svg > curve.svg
     awk '$9 == 200 && $10 != \"-\" { print $10, $7 }' access.log | clru_mrc --sizes
 
     --at N,N,..  these capacities, in keys; else 1, 2, 5, 10, 20, 50 ..
-                 up to the number of distinct keys; K, M, G may stand behind a
+                 up to the number of distinct keys, and the knees; K, M, G may stand behind a
                  number, or KiB, MiB, GiB
     --all        each capacity at which the misses fall
     --sizes      each line begins with the object's size and a blank, and is the
@@ -23,6 +25,9 @@ It writes a table as CSV: capacity, misses, and misses as a part of all requests
                  one that knows all requests beforehand; in keys alone
     --svg        a picture in place of the table; with --sizes it has a line
                  for the bytes as well
+    --title TEXT, --unit TEXT, --from N, --to N
+                 of the picture: what stands above it, what capacities count,
+                 and where its axis begins and ends
     --summary    how many requests and distinct keys there are, and no table;
                  with --sizes their bytes and the greatest size as well
     --progress   tells on standard error how far the input is read, once a

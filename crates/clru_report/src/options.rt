@@ -6,8 +6,8 @@ use std::num::NonZeroUsize;
 /// The capacities of a table.
 #[derive(Debug, Drop)]
 pub enum Capacities<A: Allocator = Global> {
-    /// 1, 2, 5, 10, 20, 50 and so on up to the number of distinct keys, and that number. By size: those from the greatest
-    /// size up to the size of the distinct keys together, and that size.
+    /// 1, 2, 5, 10, 20, 50 and so on up to the number of distinct keys, that number, and the knee between each two, if there is
+    /// one. By size: those from the greatest size up to the size of the distinct keys together, that size, and the knees.
     Usual,
     /// 1, or the greatest size, and each from there on at which there are fewer misses than at the one before.
     Each,
@@ -26,6 +26,22 @@ pub enum Form {
     Summary,
 }
 
+/// How a picture looks, beside what it shows.
+#[derive(Debug, Drop)]
+pub struct Look<A: Allocator = Global> {
+    /// What stands above it, where it is not how many requests and keys there are.
+    pub title: Option<String<A>>,
+
+    /// What capacities count, where it is not keys, or units of size.
+    pub unit: Option<String<A>>,
+
+    /// Where the axis begins, where it is not at the least capacity.
+    pub from: Option<NonZeroUsize>,
+
+    /// Where it ends, where it is not at room for all keys, or at the greatest capacity that is named.
+    pub to: Option<NonZeroUsize>,
+}
+
 /// What a report is asked to have.
 #[derive(Debug, Drop)]
 pub struct Options<A: Allocator = Global> {
@@ -38,4 +54,6 @@ pub struct Options<A: Allocator = Global> {
     pub least: bool,
 
     pub form: Form,
+
+    pub look: Look<A>,
 }

@@ -1,9 +1,13 @@
 //! One pass over the lines of a reader, each a key.
 ghost use Rattle.std.specs.Prelude.{ℕ, List, [], ◌∷◌, ◌++◌, IfOk, OnOk};
+ghost use Rattle.clru_curve.specs.Passes.{IsPass};
+ghost use Rattle.clru_lines.specs.Lines.{lines_of};
 ghost use Rattle.clru_lines.specs.Whole.{ReadWhole};
-ghost use Rattle.clru_report.specs.Passes.{HasTakenLines, IsCurveOfInput, line_of};
+ghost use Rattle.clru_lines.specs.declared.lines.OwnedKey.{OwnedKey};
+ghost use Rattle.clru_report.specs.Passes.{HasForeseen, HasTakenKey, HaveTakenLines, IsCurveOfInput, line_of, same_line};
 
 use clru_curve::{DistancePass, MissCurve};
+use clru_least::ForesightPass;
 use clru_lines::{LineBuffer, OwnedKey, ReadError};
 use std::alloc::{AllocError, Allocator};
 use std::hash::BuildHasher;
@@ -33,14 +37,37 @@ pub(crate) fn curve_by_keys<R: Read, S: BuildHasher + Drop, A: Allocator + Copy>
     Ok((pass.into_curve(), requests, buffer.bytes_read()))
 }
 
+/// The same with a foresight of the lines, which is a number for each of them.
+pub(crate) fn curve_and_foresight<R: Read, S: BuildHasher + Drop, A: Allocator + Copy>(
+    alloc: A,
+    reader: &mut R,
+    hash_builder: S,
+) -> Result<(MissCurve<A>, ForesightPass<OwnedKey<A>, A>, usize, usize), ReadError>
+    ensures { IfOk result (λ found. ReadWhole (R.remaining reader.old) (R.remaining reader.new)
+        (λ input. IsCurveOfInput input found.0 found.2 found.3 × HasForeseen A (lines_of input) found.1)) }
+{
+    let mut pass = DistancePass::with_hasher(alloc, hash_builder);
+    let mut foresight = ForesightPass::new(alloc);
+    let mut buffer = LineBuffer::new(alloc);
+    let mut key = OwnedKey(Vec::new(alloc));
+    let mut requests = 0;
+    'lines: while buffer.read_line(reader, &mut key.0)? {
+        let Ok(()) = take_by_both(alloc, &mut pass, &mut foresight, &key) else {
+            return Err(ReadError::Memory);
+        };
+        requests += 1;
+    }
+    Ok((pass.into_curve(), foresight, requests, buffer.bytes_read()))
+}
+
 // Takes one more line. It is copied where it is new.
 fn take_key<S: BuildHasher, A: Allocator + Copy>(
     alloc: A,
     pass: &mut DistancePass<OwnedKey<A>, S, A>,
     key: &OwnedKey<A>,
 ) -> Result<(), AllocError>
-    ensures { (lines : List (List ℕ)) → HasTakenLines lines pass.old
-        → OnOk result (HasTakenLines (lines ++ line_of key.now ∷ []) pass.new) }
+    ensures { (past : List (OwnedKey A)) → IsPass same_line past pass.old
+        → OnOk result (HasTakenKey past (line_of key.now) pass.new) }
 {
     match pass.request_again(key) {
         Ok(Some(_)) => Ok(()),
@@ -53,4 +80,19 @@ fn take_key<S: BuildHasher, A: Allocator + Copy>(
         }
         Err(_) => Err(AllocError),
     }
+}
+
+// The same, and the foresight learns where its key was requested last.
+fn take_by_both<S: BuildHasher, A: Allocator + Copy>(
+    alloc: A,
+    pass: &mut DistancePass<OwnedKey<A>, S, A>,
+    foresight: &mut ForesightPass<OwnedKey<A>, A>,
+    key: &OwnedKey<A>,
+) -> Result<(), AllocError>
+    requires { (lines : List (List ℕ)) × HaveTakenLines lines pass.old foresight.old }
+    ensures { (lines : List (List ℕ)) → HaveTakenLines lines pass.old foresight.old
+        → OnOk result (HaveTakenLines (lines ++ line_of key.now ∷ []) pass.new foresight.new) }
+{
+    foresight.request(pass.latest_request(key))?;
+    take_key(alloc, pass, key)
 }

@@ -6,15 +6,19 @@ mod axes;
 mod by_keys;
 mod curve;
 mod legend;
+mod marks;
 mod numbers;
 mod plot;
 mod scale;
 pub(crate) mod style;
+mod words;
 
+use crate::options::Look;
 use axes::draw_axes;
 pub(crate) use by_keys::picture_by_keys;
-use curve::{draw_least, draw_line};
+use curve::{draw_floor, draw_least, draw_line};
 use legend::draw_legend;
+use marks::draw_marks;
 pub(crate) use plot::{Line, Plot};
 use scale::Scale;
 use std::alloc::{AllocError, Allocator};
@@ -25,11 +29,12 @@ use style::STYLE;
 pub(crate) fn picture_of<A: Allocator + Copy>(
     alloc: A,
     plot: &Plot<A>,
+    look: &Look<A>,
     table: &str,
 ) -> Result<String<A>, AllocError>
     ensures { IfOk result (λ text. HasTable table.now (string_bytes text)) }
 {
-    let drawn = drawn_of(alloc, plot)?;
+    let drawn = drawn_of(alloc, plot, look)?;
     let mut text = head(alloc)?;
     text.push_str(table)?;
     text.push_str("</desc>\n")?;
@@ -48,23 +53,35 @@ fn head<A: Allocator>(alloc: A) -> Result<String<A>, AllocError>
     Ok(text)
 }
 
-fn drawn_of<A: Allocator>(alloc: A, plot: &Plot<A>) -> Result<String<A>, AllocError> {
+fn drawn_of<A: Allocator>(
+    alloc: A,
+    plot: &Plot<A>,
+    look: &Look<A>,
+) -> Result<String<A>, AllocError> {
     let mut text = String::new(alloc);
-    match draw(&mut text, plot) {
+    match draw(&mut text, plot, look) {
         Ok(()) => Ok(text),
         Err(_) => Err(AllocError),
     }
 }
 
-fn draw<W: Write, A: Allocator>(text: &mut W, plot: &Plot<A>) -> fmt::Result {
+fn draw<W: Write, A: Allocator>(text: &mut W, plot: &Plot<A>, look: &Look<A>) -> fmt::Result {
     text.write_str(STYLE)?;
     text.write_str("<rect class=\"page\" width=\"8000\" height=\"4600\"/>\n")?;
-    draw_legend(text, plot)?;
+    draw_legend(text, plot, look)?;
     let (first, last) = plot.ends;
     let scale = Scale::new(first, last);
-    draw_axes(text, &scale, plot.axis)?;
+    draw_axes(text, &scale, plot.unit, look)?;
+    for line in plot.lines.iter() {
+        draw_floor(text, line)?;
+    }
     for line in plot.lines.iter() {
         draw_line(text, &scale, line)?;
     }
-    draw_least(text, &scale, plot)
+    draw_least(text, &scale, plot)?;
+    let lines = plot.lines.len() as u128;
+    for (index, line) in plot.lines.iter().enumerate() {
+        draw_marks(text, &scale, line, index == 0, lines)?;
+    }
+    Ok(())
 }

@@ -10,13 +10,13 @@ ghost use Rattle.clru_report.specs.Report.{AreRows, IsInForm, IsReport};
 
 use crate::fault::{Fault, fault_of};
 use crate::options::{Form, Options};
-use crate::pass::curve_by_keys;
+use crate::pass::{curve_and_foresight, curve_by_keys};
 use crate::picture::picture_by_keys;
 use crate::rows::{Row, rows_for, rows_with_least};
 use crate::sized::sized_report_on;
 use crate::table::{summary_of, table_of};
 use clru_curve::MissCurve;
-use clru_lines::{ReadError, read_input};
+use clru_lines::ReadError;
 use std::alloc::{AllocError, Allocator};
 use std::hash::BuildHasher;
 use std::io::Read;
@@ -79,8 +79,8 @@ fn report_by_keys<R: Read, S: BuildHasher + Drop, A: Allocator + Copy>(
     }
 }
 
-// The same with the least possible misses, for which the whole input is held.
-fn report_with_least<R: Read, S: BuildHasher + Copy, A: Allocator + Copy>(
+// The same with the least possible misses, for which a number is held for each line.
+fn report_with_least<R: Read, S: BuildHasher + Drop, A: Allocator + Copy>(
     alloc: A,
     options: &Options<A>,
     reader: &mut R,
@@ -90,13 +90,11 @@ fn report_with_least<R: Read, S: BuildHasher + Copy, A: Allocator + Copy>(
     ensures { IfOk result (λ text. ReadWhole (R.remaining reader.old) (R.remaining reader.new)
         (λ input. IsInForm options.now.form options.now input (string_bytes text))) }
 {
-    let input = read_input(alloc, reader)?;
-    let mut left = input.as_slice();
-    let (curve, requests, bytes) = curve_by_keys(alloc, &mut left, hash_builder)?;
+    let (curve, foresight, requests, bytes) = curve_and_foresight(alloc, reader, hash_builder)?;
     let Ok(rows) = rows_for(alloc, options, &curve) else {
         return Err(ReadError::Memory);
     };
-    let Ok(rows) = rows_with_least(alloc, &input, &rows, hash_builder) else {
+    let Ok(rows) = rows_with_least(alloc, &foresight, &rows) else {
         return Err(ReadError::Memory);
     };
     match text_by_keys(alloc, options, &curve, requests, bytes, &rows) {
@@ -122,14 +120,7 @@ fn text_by_keys<A: Allocator + Copy>(
         Form::Table => table_of(alloc, rows, requests, options.least),
         Form::Picture => {
             let table = table_of(alloc, rows, requests, options.least)?;
-            picture_by_keys(
-                alloc,
-                curve.as_slice(),
-                requests,
-                options.least,
-                rows,
-                &table,
-            )
+            picture_by_keys(alloc, curve.as_slice(), requests, options, rows, &table)
         }
         Form::Summary => summary_of(alloc, requests, curve.distinct(), bytes),
     }

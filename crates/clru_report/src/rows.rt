@@ -3,19 +3,17 @@ ghost use Rattle.std.specs.Prelude.{◌≡◌, ◌<◌, ℕ, List, None, true, f
 ghost use Rattle.std.specs.Int.NonZero.{non_zero_usize_get};
 ghost use Rattle.std.specs.Str.{bytes_eq};
 ghost use Rattle.clru_curve.specs.Curves.{HasMissesOf, misses_at};
-ghost use Rattle.clru_lines.specs.Lines.{lines_of};
 ghost use Rattle.clru_model.specs.Requests.{distinct};
-ghost use Rattle.clru_report.specs.Passes.{capacities_asked};
+ghost use Rattle.clru_report.specs.Passes.{capacities_asked, HasForeseen};
 ghost use Rattle.clru_report.specs.Report.{AreRows};
 ghost use Rattle.clru_report.specs.Tables.{capacity_of_row};
 
 use crate::capacities::capacities_for;
 use crate::options::Options;
 use clru_curve::MissCurve;
-use clru_least::Foresight;
-use clru_lines::keys_of;
+use clru_least::ForesightPass;
+use clru_lines::OwnedKey;
 use std::alloc::{AllocError, Allocator};
-use std::hash::BuildHasher;
 use std::num::NonZeroUsize;
 
 /// What is known of one capacity.
@@ -73,18 +71,16 @@ fn row_at<A: Allocator>(curve: &MissCurve<A>, capacity: NonZeroUsize) -> Row
     }
 }
 
-/// The rows with the least possible misses. These look ahead, so that they alone want a list of the lines.
-pub(crate) fn rows_with_least<S: BuildHasher + Drop, A: Allocator + Copy>(
+/// The rows with the least possible misses.
+pub(crate) fn rows_with_least<A: Allocator + Copy>(
     alloc: A,
-    input: &[u8],
+    foresight: &ForesightPass<OwnedKey<A>, A>,
     rows: &[Row],
-    hash_builder: S,
 ) -> Result<Vec<Row, A>, AllocError>
-    ensures { (capacities : List ℕ) → AreRows bytes_eq (lines_of input.now) false capacities rows.now
-        → IfOk result (λ found. AreRows bytes_eq (lines_of input.now) true capacities found.items) }
+    ensures { (lines : List (List ℕ)) (capacities : List ℕ) → HasForeseen A lines foresight.now
+        → AreRows bytes_eq lines false capacities rows.now
+        → IfOk result (λ found. AreRows bytes_eq lines true capacities found.items) }
 {
-    let keys = keys_of(alloc, input)?;
-    let foresight = Foresight::new(alloc, &keys, hash_builder)?;
     let mut found = Vec::new(alloc);
     for row in rows {
         let least = foresight.least(row.capacity)?;

@@ -9,6 +9,7 @@ ghost use Rattle.clru_report.specs.SizedReport.{IsReportBySize};
 ghost use Rattle.clru_report.specs.Tables.{HasTable};
 
 mod capacities;
+mod knees;
 mod line;
 mod pass;
 mod picture;
@@ -16,8 +17,9 @@ mod rows;
 mod table;
 
 use crate::fault::Fault;
-use crate::options::{Capacities, Form, Options};
+use crate::options::{Capacities, Form, Look, Options};
 use clru_curve::SizedCurve;
+pub use line::size_of;
 use pass::curve_of;
 use picture::picture_by_size;
 use rows::sized_rows_for;
@@ -59,7 +61,7 @@ fn text_by_size<A: Allocator + Copy>(
 {
     match options.form {
         Form::Table => sized_table_for(alloc, &options.capacities, curve),
-        Form::Picture => sized_picture_for(alloc, &options.capacities, curve),
+        Form::Picture => sized_picture_for(alloc, &options.capacities, &options.look, curve),
         Form::Summary => match sized_summary_of(alloc, curve, bytes) {
             Ok(text) => Ok(text),
             Err(_) => Err(Fault::Memory),
@@ -89,6 +91,7 @@ fn sized_table_for<A: Allocator + Copy>(
 fn sized_picture_for<A: Allocator + Copy>(
     alloc: A,
     capacities: &Capacities<A>,
+    look: &Look<A>,
     curve: &SizedCurve<A>,
 ) -> Result<String<A>, Fault>
     requires { IsSettled curve.now }
@@ -97,7 +100,7 @@ fn sized_picture_for<A: Allocator + Copy>(
     ensures refused { IfErr result (λ fault. IsOfCapacities curve.now fault (capacities_on curve.now capacities.now)) }
 {
     let table = sized_table_for(alloc, capacities, curve)?;
-    match picture_by_size(alloc, curve, capacities, &table) {
+    match picture_by_size(alloc, curve, capacities, look, &table) {
         Ok(text) => Ok(text),
         Err(_) => Err(Fault::Memory),
     }

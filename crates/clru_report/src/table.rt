@@ -1,8 +1,10 @@
 //! The text of a table, and that of the summary.
-ghost use Rattle.std.specs.Prelude.{◌≡◌, ◌++◌, IfOk, OnOk, string_bytes};
-ghost use Rattle.clru_report.specs.Tables.{line_end, row_line, summary_text, table_text};
+ghost use Rattle.std.specs.Prelude.{◌≡◌, ◌-◌, drop, if◌then◌else◌, IfOk, string_bytes};
+ghost use Rattle.clru_report.specs.Knees.{is_knee_before};
+ghost use Rattle.clru_report.specs.Tables.{capacity_of_row, first_point, misses_of_point, point_of_row, row_end, row_line, summary_text, table_text};
 
 use crate::fraction::ratio_of;
+use crate::knees::{Point, is_knee, is_sharp};
 use crate::rows::Row;
 use std::alloc::{AllocError, Allocator};
 
@@ -17,15 +19,64 @@ pub(crate) fn table_of<A: Allocator + Copy>(
 {
     let mut text = String::new(alloc);
     text.push_str(if least {
-        "capacity,misses,miss_ratio,least_misses\n"
+        "capacity,misses,miss_ratio,least_misses,saved_per_key,knee\n"
     } else {
-        "capacity,misses,miss_ratio\n"
+        "capacity,misses,miss_ratio,saved_per_key,knee\n"
     })?;
-    for row in rows {
-        let line = line_of(alloc, row, requests)?;
+    let whole = misses_at_first(point_in(rows, 0));
+    let mut before = Point {
+        capacity: 0,
+        misses: requests,
+    };
+    for index in 0..rows.len() {
+        let row = rows[index];
+        let here = point_of(&row);
+        let knee = is_knee_here(whole, before, here, point_in(rows, index + 1));
+        let line = line_of(alloc, &row, requests, before, knee)?;
         text.push_str(&line)?;
+        before = here;
     }
     Ok(text)
+}
+
+// The point of the row of an index, where it is there.
+fn point_in(rows: &[Row], index: usize) -> Option<Point>
+    ensures { result ≡ first_point (drop index rows.now) }
+{
+    if index < rows.len() {
+        Some(point_of(&rows[index]))
+    } else {
+        None
+    }
+}
+
+fn point_of(row: &Row) -> Point
+    ensures { result ≡ point_of_row row.now }
+{
+    Point {
+        capacity: row.capacity.get(),
+        misses: row.misses,
+    }
+}
+
+/// What misses at a point, where there is one.
+pub(crate) fn misses_at_first(first: Option<Point>) -> usize
+    ensures { result ≡ misses_of_point first }
+{
+    match first {
+        Some(point) => point.misses,
+        None => 0,
+    }
+}
+
+/// Whether a row is a sharp knee between the one before it and the next one, where there is a next one.
+pub(crate) fn is_knee_here(whole: usize, before: Point, here: Point, next: Option<Point>) -> bool
+    ensures { result ≡ is_knee_before whole before here next }
+{
+    match next {
+        Some(next) => is_knee(whole, before, next, here) && is_sharp(before, next, here),
+        None => false,
+    }
 }
 
 // One line, with its newline.
@@ -33,25 +84,41 @@ fn line_of<A: Allocator + Copy>(
     alloc: A,
     row: &Row,
     requests: usize,
+    before: Point,
+    knee: bool,
 ) -> Result<String<A>, AllocError>
-    ensures { IfOk result (λ line. string_bytes line ≡ row_line requests row.now) }
+    ensures { IfOk result (λ line. string_bytes line ≡ row_line requests before knee row.now) }
 {
     let capacity = row.capacity.get();
     let misses = row.misses;
     let ratio = ratio_of(misses, requests);
-    let mut line = format!(in alloc; "{capacity},{misses},{ratio}")?;
-    let end = end_of(alloc, row.least)?;
-    line.push_str(&end)?;
-    Ok(line)
+    let saved = before.misses.saturating_sub(misses);
+    let added = capacity.saturating_sub(before.capacity);
+    let end = end_of(alloc, saved, added, knee)?;
+    match row.least {
+        Some(least) => format!(in alloc; "{capacity},{misses},{ratio},{least}{end}"),
+        None => format!(in alloc; "{capacity},{misses},{ratio}{end}"),
+    }
 }
 
-fn end_of<A: Allocator + Copy>(alloc: A, least: Option<usize>) -> Result<String<A>, AllocError>
-    ensures { IfOk result (λ end. string_bytes end ≡ line_end least) }
+/// The end of a line: how much is saved for each unit that is added, and whether the row is a knee.
+pub(crate) fn end_of<A: Allocator + Copy>(
+    alloc: A,
+    saved: usize,
+    added: usize,
+    knee: bool,
+) -> Result<String<A>, AllocError>
+    ensures { IfOk result (λ end. string_bytes end ≡ row_end saved added knee) }
 {
-    match least {
-        Some(least) => format!(in alloc; ",{least}\n"),
-        None => format!(in alloc; "\n"),
-    }
+    let for_each = ratio_of(saved, added);
+    let mark = mark_of(knee);
+    format!(in alloc; ",{for_each},{mark}\n")
+}
+
+fn mark_of(knee: bool) -> u8
+    ensures { result ≡ if knee then 1 else 0 }
+{
+    if knee { 1 } else { 0 }
 }
 
 /// The summary of so many requests for so many keys.

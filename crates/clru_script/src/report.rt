@@ -68,7 +68,9 @@ impl Subject for Reports {
         report_of(self.world, &self.input.text, words, &mut status, &mut text);
         match name {
             "report" => say_whole(&status.text, &text.text, out),
-            "axis" => say_part(&text.text, "y=\"4270\"", out),
+            "axis" => say_part(&text.text, "y=\"4290\"", out),
+            "heading" => say_part(&text.text, "y=\"190\"", out),
+            "caption" => say_part(&text.text, "y=\"4550\"", out),
             "legend" => say_part(&text.text, "y=\"430\"", out),
             _ => words.note(Wrong::NoSuchCall),
         }

@@ -2,4 +2,5 @@
 
 mod caches;
 mod curves;
+mod files;
 mod owners;

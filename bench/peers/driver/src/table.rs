@@ -1,4 +1,5 @@
-//! The program that makes our `clru_mrc`'s table, in plain Rust: a line for each of the capacities, from the curve.
+//! The program that makes our `clru_mrc`'s table, in plain Rust: a line for each of the capacities, from the curve, and for the knee
+//! between each two of the usual ones.
 
 use crate::curve::curve;
 use crate::least::{least, next_positions};
@@ -17,7 +18,7 @@ pub fn run(rooms: &[usize]) {
     let keys: Vec<Key> = text.split(|byte| *byte == b'\n').map(Key).collect();
     let misses = curve(&keys);
     let report = if rooms.is_empty() {
-        table_of(&usual(misses.len()), &misses, keys.len())
+        table_of(&with_knees(&usual(misses.len()), &misses), &misses, keys.len())
     } else {
         table_with_least(rooms, &misses, &keys)
     };
@@ -28,30 +29,89 @@ pub fn run(rooms: &[usize]) {
 }
 
 fn table_of(capacities: &[usize], misses: &[usize], requests: usize) -> String {
-    let mut text = String::from("capacity,misses,miss_ratio\n");
-    for capacity in capacities {
-        text.push_str(&cells(*capacity, misses, requests));
-        text.push('\n');
+    let mut text = String::from("capacity,misses,miss_ratio,saved_per_key,knee\n");
+    for (index, capacity) in capacities.iter().enumerate() {
+        let end = end_of(capacities, index, misses, requests);
+        text.push_str(&format!("{},{}\n", cells(*capacity, misses, requests), end));
     }
     text
 }
 
 fn table_with_least(capacities: &[usize], misses: &[usize], keys: &[Key]) -> String {
     let nexts = next_positions(keys);
-    let mut text = String::from("capacity,misses,miss_ratio,least_misses\n");
-    for capacity in capacities {
+    let mut text = String::from("capacity,misses,miss_ratio,least_misses,saved_per_key,knee\n");
+    for (index, capacity) in capacities.iter().enumerate() {
         let cells = cells(*capacity, misses, keys.len());
-        text.push_str(&format!("{},{}\n", cells, least(&nexts, *capacity)));
+        let end = end_of(capacities, index, misses, keys.len());
+        text.push_str(&format!("{},{},{}\n", cells, least(&nexts, *capacity), end));
     }
     text
 }
 
-// The ratio has six digits, a half rounded up.
 fn cells(capacity: usize, misses: &[usize], requests: usize) -> String {
-    let missed = misses[capacity.min(misses.len()) - 1];
-    let millionths = (2_000_000 * missed + requests) / (2 * requests);
-    let (ones, rest) = (millionths / 1_000_000, millionths % 1_000_000);
-    format!("{},{},{}.{:06}", capacity, missed, ones, rest)
+    let missed = missed_at(capacity, misses);
+    format!("{},{},{}", capacity, missed, millionths(missed, requests))
+}
+
+fn missed_at(capacity: usize, misses: &[usize]) -> usize {
+    misses[capacity.min(misses.len()) - 1]
+}
+
+// Six digits, a half rounded up.
+fn millionths(part: usize, whole: usize) -> String {
+    let millionths = (2_000_000 * part + whole) / (2 * whole);
+    format!("{}.{:06}", millionths / 1_000_000, millionths % 1_000_000)
+}
+
+// A capacity and its misses.
+type Point = (usize, usize);
+
+// What is saved for each key since the row before, and whether the row is a knee.
+fn end_of(capacities: &[usize], index: usize, misses: &[usize], requests: usize) -> String {
+    let point = |index: usize| (capacities[index], missed_at(capacities[index], misses));
+    let here = point(index);
+    let before = if index > 0 { point(index - 1) } else { (0, requests) };
+    let saved = millionths(before.1 - here.1, here.0 - before.0);
+    let is_marked = |next: Point| is_knee(point(0).1, before, next, here) && is_sharp(before, next, here);
+    let knee = index + 1 < capacities.len() && is_marked(point(index + 1));
+    format!("{},{}", saved, u8::from(knee))
+}
+
+fn beyond(a: Point, b: Point, c: Point) -> u128 {
+    let saved = (a.1 - c.1) as u128 * (b.0 - a.0) as u128;
+    saved.saturating_sub((a.1 - b.1) as u128 * (c.0 - a.0) as u128)
+}
+
+fn is_knee(whole: usize, a: Point, b: Point, c: Point) -> bool {
+    let saved = beyond(a, b, c);
+    saved > 0 && whole as u128 * (b.0 - a.0) as u128 / 50 <= saved
+}
+
+fn is_sharp(a: Point, b: Point, c: Point) -> bool {
+    let behind = (c.1 - b.1) as u128 * (c.0 - a.0) as u128;
+    let before = (a.1 - c.1) as u128 * (b.0 - c.0) as u128;
+    behind / a.0.max(1) as u128 <= before / b.0 as u128
+}
+
+fn with_knees(usual: &[usize], misses: &[usize]) -> Vec<usize> {
+    let point = |capacity: usize| (capacity, missed_at(capacity, misses));
+    let mut capacities = Vec::new();
+    for (index, b) in usual.iter().enumerate() {
+        if index > 0 {
+            let (start, end) = (point(usual[index - 1]), point(*b));
+            let mut best = start;
+            for capacity in start.0..end.0 {
+                if beyond(start, end, point(capacity)) > beyond(start, end, best) {
+                    best = point(capacity);
+                }
+            }
+            if is_knee(misses[0], start, end, best) {
+                capacities.push(best.0);
+            }
+        }
+        capacities.push(*b);
+    }
+    capacities
 }
 
 fn usual(distinct: usize) -> Vec<usize> {

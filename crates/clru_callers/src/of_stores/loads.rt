@@ -4,7 +4,7 @@ ghost use Rattle.clru.specs.Requests.{misses};
 ghost use Rattle.clru_through.specs.LoadRuns.{IsFetched};
 
 use clru::{DefaultState, WeightScale};
-use clru_through::{Loaded, Source, Through};
+use clru_through::{Loaded, Source, Through, law_loads};
 
 /// Loads each page in turn through an empty store, and answers how many were fetched: as many as a replay misses at the store's
 /// capacity. It answers `None` where a fetch fails or a value is passed on.
@@ -18,6 +18,7 @@ pub fn fetches_of_all<E: Drop, R: Source<u64, u64, E>, W: WeightScale<u64, u64>>
     ensures fetched { IfSome result (λ fetches.
         IsFetched R.fetches fetches store.old.source store.new.source) }
 {
+    law_loads::<u64, u64, E, R, W>();
     let mut fetches = 0;
     for page in pages {
         match store.load(*page) {

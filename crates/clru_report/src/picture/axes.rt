@@ -3,21 +3,31 @@
 use super::numbers::{Room, are_short, first_place, last_place, write_number, write_short};
 use super::scale::{BOTTOM, HEIGHT, LEFT, RIGHT, Scale, TOP};
 use super::style::{LARGE_LETTERS, LETTERS};
+use super::words::write_words;
 use crate::capacities::{ROUND_NUMBERS, round_at};
+use crate::options::Look;
+use std::alloc::Allocator;
 use std::fmt::{self, Write};
 
 /// The axes and the lines between them.
-pub(super) fn draw_axes<W: Write>(text: &mut W, scale: &Scale, axis: &str) -> fmt::Result {
+pub(super) fn draw_axes<W: Write, A: Allocator>(
+    text: &mut W,
+    scale: &Scale,
+    unit: &str,
+    look: &Look<A>,
+) -> fmt::Result {
     draw_ratios(text)?;
     draw_capacities(text, scale)?;
     write!(
         text,
         "<path class=\"axis\" d=\"M{LEFT} {TOP}V{BOTTOM}H{RIGHT}\"/>\n"
     )?;
-    write!(
-        text,
-        "<text x=\"4210\" y=\"4510\" text-anchor=\"middle\">{axis}</text>\n"
-    )?;
+    text.write_str("<text x=\"4210\" y=\"4550\" text-anchor=\"middle\">capacity in ")?;
+    match &look.unit {
+        Some(unit) => write_words(text, unit)?,
+        None => text.write_str(unit)?,
+    }
+    text.write_str("</text>\n")?;
     text.write_str(
         "<text transform=\"translate(200 2310) rotate(-90)\" text-anchor=\"middle\">miss ratio</text>\n",
     )
@@ -86,7 +96,7 @@ fn draw_capacity<W: Write>(
     let class = if small_too { "" } else { " class=\"wide\"" };
     write!(
         text,
-        "<text{class} x=\"{across}\" y=\"4270\" text-anchor=\"middle\">"
+        "<text{class} x=\"{across}\" y=\"4290\" text-anchor=\"middle\">"
     )?;
     write_capacity(text, capacity, short)?;
     text.write_str("</text>\n")
@@ -104,7 +114,7 @@ fn draw_end<W: Write>(
     draw_line(text, "grid", end)?;
     write!(
         text,
-        "<text x=\"{across}\" y=\"4270\" text-anchor=\"{anchor}\">"
+        "<text x=\"{across}\" y=\"4290\" text-anchor=\"{anchor}\">"
     )?;
     write_capacity(text, capacity as u128, short)?;
     text.write_str("</text>\n")

@@ -4,42 +4,56 @@ ghost use Rattle.clru_report.specs.Tables.{HasTable};
 
 use super::picture_of;
 use super::plot::{Line, Plot};
+use crate::options::{Capacities, Options};
 use crate::rows::Row;
 use std::alloc::{AllocError, Allocator};
+use std::num::NonZeroUsize;
 
-/// The picture of the misses at 1, 2 and so on, with a dot for each row that has the least possible ones.
+/// The picture of the misses at 1, 2 and so on, with a dot for each row that has the least possible ones, and a ring for each
+/// capacity that was named.
 pub(crate) fn picture_by_keys<A: Allocator + Copy>(
     alloc: A,
     curve: &[usize],
     requests: usize,
-    least: bool,
+    options: &Options<A>,
     rows: &[Row],
     table: &str,
 ) -> Result<String<A>, AllocError>
     ensures { IfOk result (λ text. HasTable table.now (string_bytes text)) }
 {
     let greatest = rows.iter().map(|row| row.capacity.get()).max();
+    let look = &options.look;
+    let first = look.from.unwrap_or(NonZeroUsize::MIN).get();
+    let last = match look.to {
+        Some(last) => last.get(),
+        None => curve.len().max(greatest.unwrap_or(1)),
+    };
     let mut lines = Vec::new(alloc);
     lines.push(Line {
         class: "lru",
         name: "LRU",
         whole: requests,
-        start: *curve.first().unwrap_or(&0),
+        start: *curve.get(first.saturating_sub(1)).unwrap_or(&curve.len()),
         steps: steps_of(alloc, curve)?,
+        floor: curve.len(),
+        marks: match options.capacities {
+            Capacities::Named(_) => misses_of(alloc, rows)?,
+            _ => Vec::new(alloc),
+        },
     })?;
     let plot = Plot {
         requests,
         distinct: curve.len(),
-        axis: "capacity in keys",
-        ends: (1, curve.len().max(greatest.unwrap_or(1))),
+        unit: "keys",
+        ends: (first, last),
         lines,
-        least: if least {
+        least: if options.least {
             Some(dots_of(alloc, rows)?)
         } else {
             None
         },
     };
-    picture_of(alloc, &plot, table)
+    picture_of(alloc, &plot, look, table)
 }
 
 // The capacities at which the misses fall.
@@ -53,6 +67,14 @@ fn steps_of<A: Allocator>(alloc: A, curve: &[usize]) -> Result<Vec<(usize, usize
         }
     }
     Ok(steps)
+}
+
+fn misses_of<A: Allocator>(alloc: A, rows: &[Row]) -> Result<Vec<(usize, usize), A>, AllocError> {
+    let mut points = Vec::new(alloc);
+    for row in rows {
+        points.push((row.capacity.get(), row.misses))?;
+    }
+    Ok(points)
 }
 
 fn dots_of<A: Allocator>(alloc: A, rows: &[Row]) -> Result<Vec<(usize, usize), A>, AllocError> {

@@ -3,18 +3,25 @@
 use super::numbers::write_number;
 use super::plot::Plot;
 use super::scale::LEFT;
+use super::words::write_words;
+use crate::options::Look;
 use std::alloc::Allocator;
 use std::fmt::{self, Write};
 
 // From one line of the legend to the next.
 const STRIDE: u128 = 2200;
 
-pub(super) fn draw_legend<W: Write, A: Allocator>(text: &mut W, plot: &Plot<A>) -> fmt::Result {
+pub(super) fn draw_legend<W: Write, A: Allocator>(
+    text: &mut W,
+    plot: &Plot<A>,
+    look: &Look<A>,
+) -> fmt::Result {
     write!(text, "<text x=\"{LEFT}\" y=\"190\">")?;
-    write_number(text, plot.requests as u128)?;
-    text.write_str(" requests, ")?;
-    write_number(text, plot.distinct as u128)?;
-    text.write_str(" distinct keys</text>\n")?;
+    match &look.title {
+        Some(title) => write_words(text, title)?,
+        None => write_numbers(text, plot.requests, plot.distinct)?,
+    }
+    text.write_str("</text>\n")?;
     let mut left = LEFT;
     for line in plot.lines.iter() {
         let class = line.class;
@@ -28,5 +35,42 @@ pub(super) fn draw_legend<W: Write, A: Allocator>(text: &mut W, plot: &Plot<A>) 
         text.write_str("<circle class=\"least\" cx=\"2050\" cy=\"375\" r=\"45\"/>\n")?;
         text.write_str("<text x=\"2170\" y=\"430\">least possible</text>\n")?;
     }
-    Ok(())
+    draw_floor(text, floor_of(plot))
+}
+
+fn write_numbers<W: Write>(text: &mut W, requests: usize, distinct: usize) -> fmt::Result {
+    write_counted(text, requests, " request")?;
+    text.write_str(", ")?;
+    write_counted(text, distinct, " distinct key")
+}
+
+// A number of things, of which one has the name.
+fn write_counted<W: Write>(text: &mut W, number: usize, name: &str) -> fmt::Result {
+    write_number(text, number as u128)?;
+    text.write_str(name)?;
+    if number == 1 {
+        Ok(())
+    } else {
+        text.write_str("s")
+    }
+}
+
+// Where the line of first requests is named, behind the others.
+fn floor_of<A: Allocator>(plot: &Plot<A>) -> u128 {
+    if plot.lines.len() > 1 {
+        5400
+    } else if plot.least.is_some() {
+        4000
+    } else {
+        2000
+    }
+}
+
+fn draw_floor<W: Write>(text: &mut W, left: u128) -> fmt::Result {
+    let beside = left.saturating_add(500);
+    write!(text, "<path class=\"floor\" d=\"M{left} 375h400\"/>\n")?;
+    write!(
+        text,
+        "<text x=\"{beside}\" y=\"430\">first requests</text>\n"
+    )
 }

@@ -86,8 +86,8 @@ pub(super) fn are_short(scale: &Scale) -> bool {
 pub(super) struct Room {
     letters: u128,
     short: bool,
-    /// From one round number that is written to the next: 1, or 3 where only powers of ten are, or 9 where only those
-    /// of a thousand are.
+    decade: u128,
+    /// From one power of ten that is written to the next: 1, or 3 where only those of a thousand are.
     every: usize,
     begin: u128,
     end: u128,
@@ -98,14 +98,11 @@ impl Room {
         let short = are_short(scale);
         let first = breadth(scale.first as u128, short, letters);
         let last = breadth(scale.last as u128, short, letters);
-        let wanted = last.saturating_add(GAP);
         let decade = scale.decade();
-        let every = if wanted <= decade / 10 * 3 {
+        let every = if last.saturating_add(GAP) <= decade {
             1
-        } else if wanted <= decade {
-            3
         } else {
-            9
+            3
         };
         let begin = match first_place(scale.first) {
             (across, "middle") => across.saturating_add(first / 2),
@@ -118,18 +115,29 @@ impl Room {
         Room {
             letters,
             short,
+            decade,
             every,
             begin: begin.saturating_add(GAP),
             end: end.saturating_sub(GAP),
         }
     }
 
-    /// Whether a round number is written, the middle of it so far from the left edge.
+    /// Whether a round number of that index is written, the middle of it so far from the left edge.
     pub(super) fn has(&self, index: usize, number: u128, across: u128) -> bool {
         let half = breadth(number, self.short, self.letters) / 2;
-        index % self.every.max(1) == 0
+        self.has_between(index, number)
             && across >= self.begin.saturating_add(half)
             && across.saturating_add(half) <= self.end
+    }
+
+    // A 2 or a 5 is written where both it and the power of ten behind it have room.
+    fn has_between(&self, index: usize, number: u128) -> bool {
+        if index % 3 == 0 {
+            return index / 3 % self.every.max(1) == 0;
+        }
+        let power = number.saturating_mul(5);
+        let wanted = breadth(power, self.short, self.letters).saturating_add(GAP);
+        self.every == 1 && wanted <= self.decade / 10 * 3
     }
 }
 

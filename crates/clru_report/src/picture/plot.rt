@@ -19,6 +19,12 @@ pub(crate) struct Line<A: Allocator> {
 
     /// From which capacity on it is which part, the least capacity first.
     pub(crate) steps: Vec<(usize, usize), A>,
+
+    /// The part that first requests alone have: it misses at each capacity.
+    pub(crate) floor: usize,
+
+    /// The capacities that were named, each with its part.
+    pub(crate) marks: Vec<(usize, usize), A>,
 }
 
 /// What stands in the picture beside the table.
@@ -27,8 +33,8 @@ pub(crate) struct Plot<A: Allocator> {
     pub(crate) requests: usize,
     pub(crate) distinct: usize,
 
-    /// What stands below the axis of capacities.
-    pub(crate) axis: &'static str,
+    /// What capacities count.
+    pub(crate) unit: &'static str,
 
     /// The first and the last capacity.
     pub(crate) ends: (usize, usize),

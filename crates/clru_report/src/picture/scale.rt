@@ -37,6 +37,11 @@ impl Scale {
         Scale { first, last }
     }
 
+    /// Whether it shows a capacity.
+    pub(super) fn has(&self, capacity: usize) -> bool {
+        self.first <= capacity && capacity <= self.last
+    }
+
     /// From the left edge of the picture.
     pub(super) fn across(&self, capacity: usize) -> u128 {
         if capacity >= self.last {

@@ -6,7 +6,9 @@ ghost use Rattle.clru_curve.specs.SizedCurves.{misses_within};
 ghost use Rattle.clru_report.specs.Capacities.{falls_from, usual};
 ghost use Rattle.clru_report.specs.Passes.{capacities_on, IsSettled};
 
+use super::knees::BySize;
 use crate::capacities::{push_capacity, usual_capacities};
+use crate::knees::with_knees;
 use crate::options::Capacities;
 use clru_curve::SizedCurve;
 use std::alloc::{AllocError, Allocator};
@@ -32,7 +34,10 @@ pub(crate) fn sized_capacities_for<A: Allocator + Copy>(
     ensures { IfOk result (λ chosen. map non_zero_usize_get chosen.items ≡ capacities_on curve.now capacities.now) }
 {
     match capacities {
-        Capacities::Usual => usual_from(alloc, first_capacity(curve), curve.distinct_size()),
+        Capacities::Usual => {
+            let usual = usual_from(alloc, first_capacity(curve), curve.distinct_size())?;
+            with_knees(alloc, &BySize(curve), &usual)
+        }
         Capacities::Each => each_fall_by_size(alloc, curve),
         Capacities::Named(named) => Vec::from_slice(alloc, named),
     }

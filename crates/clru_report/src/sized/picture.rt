@@ -5,7 +5,7 @@ ghost use Rattle.clru_report.specs.Tables.{HasTable};
 
 use super::capacities::first_capacity;
 use super::table::distinct_of;
-use crate::options::Capacities;
+use crate::options::{Capacities, Look};
 use crate::picture::{Line, Plot, picture_of};
 use clru_curve::{SizedCurve, Step};
 use std::alloc::{AllocError, Allocator};
@@ -16,22 +16,30 @@ pub(crate) fn picture_by_size<A: Allocator + Copy>(
     alloc: A,
     curve: &SizedCurve<A>,
     capacities: &Capacities<A>,
+    look: &Look<A>,
     table: &str,
 ) -> Result<String<A>, AllocError>
     requires { IsSettled curve.now }
     ensures { IfOk result (λ text. HasTable table.now (string_bytes text)) }
 {
-    let first = first_capacity(curve);
-    let last = curve.distinct_size().max(greatest_named(capacities));
+    let least = first_capacity(curve);
+    let first = match look.from {
+        Some(from) => from.get().max(least),
+        None => least,
+    };
+    let last = match look.to {
+        Some(last) => last.get(),
+        None => curve.distinct_size().max(greatest_named(capacities)),
+    };
     let plot = Plot {
         requests: curve.requests(),
         distinct: distinct_of(curve),
-        axis: "capacity in units of size",
+        unit: "units of size",
         ends: (first, last),
-        lines: lines_of(alloc, curve, first)?,
+        lines: lines_of(alloc, curve, first, capacities)?,
         least: None,
     };
-    picture_of(alloc, &plot, table)
+    picture_of(alloc, &plot, look, table)
 }
 
 // 0 where none is named.
@@ -51,10 +59,14 @@ fn lines_of<A: Allocator + Copy>(
     alloc: A,
     curve: &SizedCurve<A>,
     first: usize,
-) -> Result<Vec<Line<A>, A>, AllocError> {
+    capacities: &Capacities<A>,
+) -> Result<Vec<Line<A>, A>, AllocError>
+    requires { IsSettled curve.now }
+{
     let (misses, missed_size) = missed_at(curve, first);
     let hits = curve.requests().saturating_sub(misses);
     let steps = curve.as_slice().get(hits..).unwrap_or(&[]);
+    let (marks, marks_of_sizes) = marks_of(alloc, curve, capacities)?;
     let mut lines = Vec::new(alloc);
     lines.push(Line {
         class: "lru",
@@ -62,6 +74,8 @@ fn lines_of<A: Allocator + Copy>(
         whole: curve.requests(),
         start: misses,
         steps: steps_of_requests(alloc, steps, misses)?,
+        floor: distinct_of(curve),
+        marks,
     })?;
     lines.push(Line {
         class: "bytes",
@@ -69,16 +83,36 @@ fn lines_of<A: Allocator + Copy>(
         whole: curve.size(),
         start: missed_size,
         steps: steps_of_sizes(alloc, steps)?,
+        floor: curve.distinct_size(),
+        marks: marks_of_sizes,
     })?;
     Ok(lines)
 }
 
-// The misses and their size at the first capacity.
-fn missed_at<A: Allocator>(curve: &SizedCurve<A>, first: usize) -> (usize, usize) {
-    match NonZeroUsize::new(first) {
-        Some(first) => (
-            curve.misses(first).unwrap_or(0),
-            curve.missed_size(first).unwrap_or(0),
+// The capacities that are named, with the misses at each, and with their size.
+fn marks_of<A: Allocator + Copy>(
+    alloc: A,
+    curve: &SizedCurve<A>,
+    capacities: &Capacities<A>,
+) -> Result<(Vec<(usize, usize), A>, Vec<(usize, usize), A>), AllocError> {
+    let mut marks = Vec::new(alloc);
+    let mut marks_of_sizes = Vec::new(alloc);
+    if let Capacities::Named(named) = capacities {
+        for capacity in named.iter() {
+            let (misses, missed_size) = missed_at(curve, capacity.get());
+            marks.push((capacity.get(), misses))?;
+            marks_of_sizes.push((capacity.get(), missed_size))?;
+        }
+    }
+    Ok((marks, marks_of_sizes))
+}
+
+// The misses and their size at a capacity.
+fn missed_at<A: Allocator>(curve: &SizedCurve<A>, capacity: usize) -> (usize, usize) {
+    match NonZeroUsize::new(capacity) {
+        Some(capacity) => (
+            curve.misses(capacity).unwrap_or(0),
+            curve.missed_size(capacity).unwrap_or(0),
         ),
         None => (0, 0),
     }

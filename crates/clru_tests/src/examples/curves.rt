@@ -22,6 +22,15 @@ fn a_loop_hits_where_all_of_it_fits(rt: HostRuntime) -> Result<(), Fail> {
 }
 
 #[test]
+fn no_requests_miss_nothing(rt: HostRuntime) -> Result<(), Fail> {
+    equal!(rt; misses_at(rt.alloc(), capacity_of(1)?, &[])?, 0);
+    equal!(rt; misses_of(rt.alloc(), &[], capacity_of(1)?)?, 0);
+    equal!(rt; misses_and_least(rt.alloc(), capacity_of(1)?, &[])?, (0, 0));
+    equal!(rt; missed_bytes(rt.alloc(), &[], &[], capacity_of(1)?).ok(), Some(Some(0)));
+    Ok(())
+}
+
+#[test]
 fn more_room_misses_fewer_bytes(rt: HostRuntime) -> Result<(), Fail> {
     let bytes = [300, 100, 50];
     let requests = [0, 1, 2, 1, 0];

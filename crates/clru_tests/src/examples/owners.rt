@@ -156,6 +156,22 @@ fn counts(alloc: Global, looks: &mut Looks) -> Result<bool, AllocError> {
 }
 
 #[test]
+fn a_page_that_was_looked_at_stays(rt: HostRuntime) -> Result<(), Fail> {
+    let mut looks = CLruCache::new(rt.alloc(), capacity_of(2)?);
+    equal!(rt; stay(rt.alloc(), &mut looks), Ok((Some(1), None)));
+    Ok(())
+}
+
+/// What is held of two pages after a third, where the older one was looked at last.
+fn stay(alloc: Global, looks: &mut Looks) -> Result<(Option<u64>, Option<u64>), AllocError> {
+    look(looks, alloc, "/")?;
+    look(looks, alloc, "/about")?;
+    looks_at(looks, "/");
+    look(looks, alloc, "/help")?;
+    Ok((looks_at(looks, "/"), looks_at(looks, "/about")))
+}
+
+#[test]
 fn looks_are_found_by_the_same_text(rt: HostRuntime) -> Result<(), Fail> {
     let page = "/about".to_string(rt.alloc())?;
     let mut looks = CLruCache::new(rt.alloc(), NonZeroUsize::MIN);

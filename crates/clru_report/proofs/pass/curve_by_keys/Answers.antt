@@ -3,7 +3,7 @@ use Rattle.std.proofs.lemmas.List.{length-append}
 use Rattle.std.specs.Prelude.{bytes_eq, reverse}
 use Rattle.clru_curve.specs.Curves.{HasMissesOf}
 use Rattle.clru_model.specs.Requests.{distinct}
-use Rattle.clru_report.proofs.TakenLines.{distinct_taken, misses_taken}
+use Rattle.clru_report.proofs.TakenLines.{distinct_taken, line_taken, misses_taken}
 use Rattle.clru_report.proofs.pass.curve_by_keys.Goals as goal
 
 pub lines-init : goal.lines-init
@@ -27,7 +27,7 @@ lines-preserved g c =
     let line = c.read_line.new.line.items in
     let fits = c.in_ok-read_line.ensures.fits start before.0 before.2 c.if-branch.true in (
       before.0 ++ line ∷ [],
-      c.in-Ok.ensures before.0 before.1,
+      line_taken before.0 c.lines.pass before.1 line c.take_key.new.pass (c.in-Ok.ensures before.1.past before.1.taken),
       c.in_ok-read_line.ensures.line start before.0 before.2 c.if-branch.true,
       omega (arith, before.3, length-append before.0 (line ∷ [])),
       omega (arith, before.3, fits),

@@ -1,22 +1,22 @@
 use Rattle.std.proofs.Common.{is_some, refl, ap, ◌∙◌}
 use Rattle.clru_report.specs.Passes.{line_of}
 use Rattle.clru_report.proofs.SettledCurves.{bytes_laws}
-use Rattle.clru_report.proofs.TakenLines.{line_taken}
+use Rattle.clru_report.proofs.TakenLines.{key_taken}
 use Rattle.clru_report.proofs.pass.take_key.Goals as goal
 use Rattle.clru_report.proofs.pass.take_key.Goals.{in-Ok, in-Err-request}
 
 pub returns-in-Ok-Some : goal.returns-in-Ok-Some
-returns-in-Ok-Some g c lines taken =
+returns-in-Ok-Some g c past is =
     let key = c.args.key.now in
-    line_taken lines c.args.pass.now taken key (line_of key) c.request_again.new.self refl
-    (λ past is. c.in-Ok-Some.ensures.taken past key is (bytes_laws.refl (line_of key)) (ap is_some c.in-Ok-Some.field-0-is))
+    key_taken past key (line_of key) c.request_again.new.self refl
+    (c.in-Ok-Some.ensures.taken past key is (bytes_laws.refl (line_of key)) (ap is_some c.in-Ok-Some.field-0-is))
 
 pub returns-after-request : goal.returns-after-request
-returns-after-request g c lines taken =
+returns-after-request g c past is =
     elim c.match-request.branch [
       | in-Ok w ↦ rw w.result-is
-          (line_taken lines c.args.pass.now taken _ (line_of c.args.key.now) c.request.new.self
+          (key_taken past _ (line_of c.args.key.now) c.request.new.self
           (c.in_ok-bytes-in-Ok-None.ensures.items ∙ c.deref.ensures.value)
-          (λ past is. w.in-Ok.ensures.taken past (c.in-Ok-None.ensures.not_taken past is (ap is_some c.in-Ok-None.field-0-is))))
+          (w.in-Ok.ensures.taken past (c.in-Ok-None.ensures.not_taken past is (ap is_some c.in-Ok-None.field-0-is))))
       | in-Err-request w ↦ rw w.result-is tt
     ]

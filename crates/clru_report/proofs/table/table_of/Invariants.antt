@@ -1,7 +1,8 @@
-use Rattle.std.proofs.Common.{◌≡◌, ◌++◌, take, string_bytes}
-use Rattle.std.specs.Prelude.{flat_map}
-use Rattle.clru_report.specs.Tables.{header_line, row_line}
+use Rattle.std.proofs.Common.{◌≡◌, ◌++◌, drop, string_bytes}
+use Rattle.clru_report.specs.Tables.{rows_text, table_text}
 use Rattle.clru_report.proofs.table.table_of.Given as goal
 
-abbrev pub invariant-loop-row : goal.invariant-loop-row
-invariant-loop-row g l = string_bytes l.text ≡ header_line l.least ++ flat_map (row_line l.requests) (take l.row-index l.rows)
+-- the text so far, and the lines of the rows that are left
+abbrev pub invariant-loop-index : goal.invariant-loop-index
+invariant-loop-index g l =
+    string_bytes l.text ++ rows_text l.requests l.whole l.before (drop l.index l.rows) ≡ table_text l.least l.requests l.rows

@@ -3,7 +3,7 @@ use Rattle.std.proofs.lemmas.Cmp.{nat_eq_equiv}
 use Rattle.std.proofs.lemmas.List.{take_more}
 use Rattle.std.proofs.lemmas.List.Sums.{sum_by_push}
 use Rattle.clru_through.specs.LoadRuns.{IsFetched}
-use Rattle.clru_through.proofs.LoadRuns.{IsLoadRun-push, fetch_count, fetched_where_missed, fetches_are_misses}
+use Rattle.clru_through.proofs.LoadRuns.{IsLoadRun-push, fetch_count}
 use Rattle.clru_callers.proofs.of_stores.loads.fetches_of_all.Goals as goal
 use mir.Val.{bool_byte}
 
@@ -33,8 +33,8 @@ returns-clause-count g c =
     let whole : take c.loop-page.page-index pages ≡ pages = take_all c.loop-page.page-index pages c.loop-page-test.false in
     let run = rw whole at end.3 in
     sym end.2 ∙ fetch_count nat_eq old.cache.capacity pages end.1
-    (fetched_where_missed nat_eq nat_eq_equiv g.W.WeightScale.weight g.R.Source.fetches old c.loop-page.store
-    (c.requires.weightless old.cache.scale) c.requires.empty pages end.1 run)
+    (c.law_loads.ensures.fetched old c.loop-page.store pages end.1
+    (c.requires.weightless old.cache.scale) c.requires.empty run)
 
 pub returns-clause-fetched : goal.returns-clause-fetched
 returns-clause-fetched g c =
@@ -42,5 +42,5 @@ returns-clause-fetched g c =
     let whole : take c.loop-page.page-index pages ≡ pages = take_all c.loop-page.page-index pages c.loop-page-test.false in
     let run = rw whole at end.3 in
     subst (λ n. IsFetched g.R.Source.fetches n old.source c.loop-page.store.source) (sym (returns-clause-count g c))
-    (fetches_are_misses nat_eq nat_eq_equiv g.W.WeightScale.weight g.R.Source.fetches old c.loop-page.store
-    (c.requires.weightless old.cache.scale) c.requires.empty pages end.1 run)
+    (c.law_loads.ensures.fetches old c.loop-page.store pages end.1
+    (c.requires.weightless old.cache.scale) c.requires.empty run)

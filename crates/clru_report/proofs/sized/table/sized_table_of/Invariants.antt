@@ -1,9 +1,9 @@
-use Rattle.std.proofs.Common.{◌≡◌, ◌++◌, codes, take, string_bytes}
-use Rattle.std.specs.Prelude.{flat_map}
-use Rattle.clru_report.specs.SizedTables.{sized_row_line}
+use Rattle.std.proofs.Common.{◌≡◌, ◌++◌, drop, string_bytes}
+use Rattle.clru_report.specs.SizedTables.{sized_rows_text, sized_table_text}
 use Rattle.clru_report.proofs.sized.table.sized_table_of.Given as goal
 
-abbrev pub invariant-loop-row : goal.invariant-loop-row
-invariant-loop-row g l =
-    string_bytes l.text ≡ codes "capacity,misses,miss_ratio,missed_bytes,byte_miss_ratio\n"
-    ++ flat_map (sized_row_line l.requests l.size) (take l.row-index l.rows)
+-- the text so far, and the lines of the rows that are left
+abbrev pub invariant-loop-index : goal.invariant-loop-index
+invariant-loop-index g l =
+    string_bytes l.text ++ sized_rows_text l.requests l.size l.whole l.before l.missed (drop l.index l.rows)
+    ≡ sized_table_text l.requests l.size l.rows

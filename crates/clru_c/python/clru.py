@@ -1,0 +1,125 @@
+"""The proved numbers of an LRU cache, from the requests in order, each the key that is asked for.
+
+    import clru
+    misses, distinct = clru.misses_by_capacity(clru.numbered(open("keys")), 1000)
+
+Keys, sizes and capacities are integers from 0 to 2^64 - 1, in a list or an array; keys that are none get numbers by `numbered`. What is
+answered is an array of numpy, where that is installed, and else of ctypes. Its numbers are unsigned: before you subtract take
+`misses.astype(numpy.int64)`. clru.h says at length what each call answers. A seed (0, 0) is the fastest; where strangers pick the keys
+take (secrets.randbits(64), secrets.randbits(64)), or they can make a call slow. The answers are the same.
+
+The library is `lib/libclru.so` of the package, or of the folder below which it was installed, or what `load` is given.
+"""
+import ctypes
+import operator
+import pathlib
+
+try:
+    import numpy
+except ImportError:
+    numpy = None
+
+CODES = {
+    1: "a capacity or a room is 0",
+    2: "arrays that belong together have unequal lengths",
+    3: "memory was refused",
+    4: "the sizes together pass 2^64 - 1",
+    5: "a capacity is less than the greatest size",
+}
+SEED = (0, 0)
+_library = None
+
+
+def load(path=None):
+    """Takes the library at a path; with none that of the package, or else one that the system finds."""
+    global _library
+    beside = (folder / "lib/libclru.so" for folder in pathlib.Path(__file__).resolve().parents)
+    _library = ctypes.CDLL(str(path or next((it for it in beside if it.exists()), "libclru.so")))
+
+
+def hits_at(keys, capacity, seed=SEED):
+    """Whether each request hits at one capacity, in keys, and how many don't."""
+    keys, misses = _numbers(keys), ctypes.c_size_t()
+    hits = _zeros(len(keys), ctypes.c_bool)
+    _call("clru_hits_at", keys, capacity, *seed, hits, misses)
+    return hits, misses.value
+
+
+def misses_by_capacity(keys, capacities, seed=SEED):
+    """The misses at the capacities 1, 2 and so on up to `capacities`, in keys, and the number of distinct keys."""
+    keys, misses, distinct = _numbers(keys), _zeros(capacities), ctypes.c_size_t()
+    _call("clru_misses_by_capacity", keys, *seed, misses, distinct)
+    return misses, distinct.value
+
+
+def least_by_room(keys, rooms, seed=SEED):
+    """The least possible misses for each of the rooms, in keys."""
+    keys, rooms = _numbers(keys), _numbers(rooms)
+    least = _zeros(len(rooms))
+    _call("clru_least_by_room", keys, rooms, *seed, least)
+    return least
+
+
+def misses_by_size(keys, sizes, capacities, seed=SEED):
+    """The misses and the missed size at each of the capacities, which are sums of sizes, and the size of the distinct objects."""
+    keys, sizes, capacities = _numbers(keys), _numbers(sizes), _numbers(capacities)
+    misses, missed_sizes, distinct_size = _zeros(len(capacities)), _zeros(len(capacities)), ctypes.c_size_t()
+    _call("clru_misses_by_size", keys, sizes, capacities, *seed, misses, missed_sizes, distinct_size)
+    return misses, missed_sizes, distinct_size.value
+
+
+def numbered(names):
+    """An array that has a number for each of the names, the same one for equal names."""
+    numbers = {}
+    return _numbers([numbers.setdefault(name, len(numbers)) for name in names])
+
+
+# Arguments as the calls take them: an array as a pointer and a length, a place for a count as a pointer, a number as a whole word, which
+# ctypes would else cut to 32 bits.
+def _call(name, *arguments):
+    if _library is None:
+        load()
+    passed = []
+    for it in arguments:
+        if isinstance(it, ctypes.c_size_t):
+            passed.append(ctypes.byref(it))
+        elif isinstance(it, ctypes.Array):
+            passed += [it, ctypes.c_size_t(len(it))]
+        elif numpy is not None and isinstance(it, numpy.ndarray):
+            passed += [ctypes.c_void_p(it.ctypes.data), ctypes.c_size_t(it.size)]
+        else:
+            passed.append(ctypes.c_uint64(_whole(it)))
+    _check(getattr(_library, name)(*passed))
+
+
+def _check(code):
+    if code == 3:
+        raise MemoryError(CODES[code])
+    if code:
+        raise ValueError(CODES[code])
+
+
+# A number that would be cut is refused, since keys would become one.
+def _whole(number):
+    number = operator.index(number)
+    if not 0 <= number < 2**64:
+        raise ValueError(f"{number} is no number from 0 to 2^64 - 1")
+    return number
+
+
+def _numbers(values):
+    """An array of 64-bit numbers in one aligned block."""
+    if numpy is not None and isinstance(values, numpy.ndarray):
+        if values.size and values.dtype.kind not in "iu":
+            raise TypeError(f"an array must be of integers, not of {values.dtype}")
+        if values.dtype.kind == "i" and values.size:
+            _whole(values.min())
+        return numpy.require(values, dtype=numpy.uint64, requirements="CA")
+    values = list(values)
+    if numpy is not None:
+        return numpy.fromiter(map(_whole, values), dtype=numpy.uint64, count=len(values))
+    return (ctypes.c_uint64 * len(values))(*map(_whole, values))
+
+
+def _zeros(count, kind=ctypes.c_uint64):
+    return numpy.zeros(count, dtype=kind) if numpy is not None else (kind * count)()

@@ -1,0 +1,12 @@
+use Rattle.std.proofs.Common.{take, reverse}
+use Rattle.std.specs.Borrow.{Bor}
+use Rattle.std.specs.HashMap.{get}
+use Rattle.clru_least.specs.Passes.{IsForesight, IsLatestOf}
+use Rattle.clru_least.proofs.foresight.Foresight.new.Given as goal
+
+abbrev pub invariant-loop-position : goal.invariant-loop-position
+invariant-loop-position g l = record {
+  taken : IsForesight g.K.PartialEq.eq (reverse (take l.position l.keys)) l.pass;
+  known : (z : Bor g.row.K.Denot) → IsLatestOf g.K.PartialEq.eq (reverse (take l.position l.keys)) z.now
+      (get (λ (x : Bor g.row.K.Denot) (y : Bor g.row.K.Denot). g.K.PartialEq.eq x.now y.now) l.latest z);
+}

@@ -1,0 +1,32 @@
+-- What a pass has taken, request by request, and the latest request of a key. Public clauses cite them.
+use Rattle.std.specs.Prelude.{◌≡◌, ℕ, ◌+◌, Bool, ◌==◌, if◌then◌else◌, List, [], ◌∷◌, length, reverse, Option, is_some, IfSome}
+use Rattle.clru_model.specs.Requests.{holds, since}
+use Rattle.clru_least.specs.Next.{until}
+
+-- the position of the next request, or the end where there is none
+abbrev pub next_or : ℕ → ℕ → ℕ
+next_or end later = if later == 0 then end else later
+
+module _ {K : Type 0} (eq : K → K → Bool) where
+  -- the position of the next request of x, which is requested at the position i and then by the requests rs, and 0 where it is not
+  abbrev pub later_at : ℕ → K → List K → ℕ
+  later_at i x rs = if holds eq x rs then i + 1 + until eq x rs else 0
+
+  -- the same for each of the requests, which begin at the position i
+  abbrev pub later_from : ℕ → List K → List ℕ
+  later_from i [] = []
+  later_from i (x ∷ rs) = later_at i x rs ∷ later_from (i + 1) rs
+
+  -- a pass that has taken these requests, the latest first
+  abbrev pub IsForesight : List K → List ℕ → Type 0
+  IsForesight past later = later ≡ later_from 0 (reverse past)
+
+  -- what holds of every pass: it has taken some requests
+  pub record IsSound (later : List ℕ) : Type 0 where
+    pub past : List K
+    pub taken : IsForesight past later
+
+  -- the position of the latest request of the key among those of the past, the latest first, or none
+  pub record IsLatestOf (past : List K) (key : K) (latest : Option ℕ) : Type 0 where
+    pub known : is_some latest ≡ holds eq key past
+    pub position : IfSome latest (λ p. p + 1 + length (since eq key past) ≡ length past)

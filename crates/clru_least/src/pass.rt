@@ -1,0 +1,147 @@
+//! `ForesightPass`, which takes requests one by one and holds no key.
+ghost use Rattle.std.specs.Prelude.{◌≡◌, ℕ, List, ◌+◌, ◌-◌, ◌^◌, ◌<◌, ◌≤◌, [], ◌∷◌, length, reverse, All, IfOk, OnOk, OnErr, IsOk};
+ghost use Rattle.std.specs.Int.NonZero.{non_zero_usize_get};
+ghost use Rattle.clru_model.specs.Least.{IsLeast, IsNearFromAnyStart};
+ghost use Rattle.clru_model.specs.Requests.{misses};
+ghost use Rattle.clru_least.specs.Passes.{IsForesight, IsLatestOf, next_or};
+
+use crate::ahead::{drop_latest, keep};
+use crate::numbers::Numbers;
+use std::alloc::{AllocError, Allocator, Global};
+use std::collections::BinaryHeap;
+use std::marker::{Model, PhantomData};
+use std::num::NonZeroUsize;
+
+/// A pass over requests, which takes them one by one, each with the position of the latest request of its key; no key is handed
+/// over. It answers for any room the least number of misses, as `Foresight` does. A `DistancePass` of `clru_curve` over the same
+/// requests knows the positions.
+///
+/// Clauses speak of the requests that it has taken by `IsForesight`, the latest first: there are none at first, and each request
+/// that is taken comes in front.
+///
+/// Memory is 4 bytes for each request, and 8 where there are more than 4,294,967,295.
+pub struct ForesightPass<K: Eq, A: Allocator + Copy = Global> {
+    // For each request the position of the next one of its key, and 0 where there is none.
+    pub(crate) later: Numbers<A>,
+    alloc: A,
+    keys: PhantomData<K>,
+}
+
+impl<K: Eq, A: Allocator + Copy> Drop for ForesightPass<K, A> {
+    fn drop(self) {
+        let ForesightPass {
+            later,
+            alloc: _,
+            keys: _,
+        } = self;
+        drop(later);
+    }
+}
+
+impl<K: Eq, A: Allocator + Copy> Model for ForesightPass<K, A> {
+    ghost use Rattle.std.specs.Prelude.{ℕ, List};
+    ghost use Rattle.clru_least.specs.Passes.{IsSound};
+
+    ghost Value = { List ℕ };
+
+    ghost view = { λ p. p.later };
+
+    ghost invariant = { λ p. IsSound K.eq p.later };
+}
+
+impl<K: Eq, A: Allocator + Copy> ForesightPass<K, A> {
+    /// Creates a pass that has taken no request.
+    /// Cost: no request for memory.
+    pub fn new(alloc: A) -> Self
+        ensures { IsForesight K.eq [] result }
+    {
+        ForesightPass {
+            later: Numbers::new(alloc),
+            alloc,
+            keys: PhantomData,
+        }
+    }
+
+    /// Creates a pass that has taken no request, with memory for so many.
+    pub(crate) fn with_memory(alloc: A, requests: usize) -> Result<Self, AllocError>
+        ensures { IfOk result (IsForesight K.eq []) }
+    {
+        Ok(ForesightPass {
+            later: Numbers::with_memory(alloc, requests)?,
+            alloc,
+            keys: PhantomData,
+        })
+    }
+
+    /// Takes one more request: `latest` is the position of the latest request of its key, which is how many came before that one,
+    /// or `None` where its key was not requested before.
+    ///
+    /// Where memory is refused the pass has taken what it had.
+    /// Cost: two writes; one request for memory where there is no room for a number.
+    pub fn request(&mut self, latest: Option<usize>) -> Result<(), AllocError>
+        requires { (past : List K) × (key : K) × IsForesight K.eq past self.old × IsLatestOf K.eq past key latest }
+        ensures taken { (past : List K) (key : K) → IsForesight K.eq past self.old → IsLatestOf K.eq past key latest
+            → OnOk result (IsForesight K.eq (key ∷ past) self.new) }
+        ensures refused { OnErr result (self.new ≡ self.old) }
+    {
+        let position = self.later.len();
+        self.later.push()?;
+        match latest {
+            Some(latest) => {
+                self.later.set(latest, position);
+                Ok(())
+            }
+            None => Ok(()),
+        }
+    }
+
+    /// Answers the least number of misses that any way to choose what to drop has on the requests so far, with room for so many
+    /// keys, also one that knows all requests beforehand. It starts with nothing held, and takes in each requested key, and no
+    /// other.
+    ///
+    /// One that starts with keys has at most `room` fewer; a replay of that capacity has no fewer.
+    ///
+    /// Memory is asked for at the start, and may be refused; without requests none is.
+    /// Cost: time that grows as the requests times the logarithm of their number; memory for a mark and a number for each
+    /// request, until it returns.
+    pub fn least(&self, room: NonZeroUsize) -> Result<usize, AllocError>
+        ensures least { (past : List K) → IsForesight K.eq past self.now
+            → IfOk result (IsLeast K.eq (non_zero_usize_get room) (reverse past)) }
+        ensures any_start { (past : List K) → IsForesight K.eq past self.now
+            → IfOk result (IsNearFromAnyStart K.eq (non_zero_usize_get room) (reverse past)) }
+        ensures beside_lru { (past : List K) → IsForesight K.eq past self.now
+            → IfOk result (λ n. n ≤ misses K.eq (non_zero_usize_get room) (reverse past)) }
+        ensures never_refused { IsForesight K.eq [] self.now → IsOk result }
+    {
+        let count = self.later.len();
+        if count == 0 {
+            return Ok(0);
+        }
+        let mut kept = Vec::new(self.alloc);
+        kept.resize(count, false)?;
+        let mut ahead = BinaryHeap::with_capacity(self.alloc, count)?;
+        let mut done = 0;
+        let mut held = 0;
+        let mut misses = 0;
+        for position in 0..count {
+            if !kept[position] {
+                misses += 1;
+                if held < room.get() {
+                    held += 1;
+                } else {
+                    drop_latest(&mut ahead, &mut done, &mut kept, count);
+                }
+            }
+            let next = next_or(self.later.get(position), count);
+            keep(&mut ahead, &mut done, &mut kept, count, next)?;
+        }
+        Ok(misses)
+    }
+}
+
+/// The position of the next request, or the end where there is none.
+fn next_or(later: usize, end: usize) -> usize
+    ensures { result ≡ next_or end later }
+{
+    if later == 0 { end } else { later }
+}

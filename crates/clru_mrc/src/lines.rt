@@ -1,0 +1,185 @@
+//! What is noted of the lines of an input: how many there are, which one leads, and which is the first without a size.
+
+use clru_report::size_of;
+use std::alloc::AllocError;
+
+/// So many bytes of a line are kept. One that is longer counts as one that is like no other.
+const MOST: usize = 4096;
+
+/// Fewer lines than this are no log, and what looks odd with them is not told.
+const FEW: u64 = 1000;
+
+/// What is noted of the lines.
+#[derive(Drop)]
+pub(crate) struct Lines {
+    pub(crate) count: u64,
+    pub(crate) empty: u64,
+    pub(crate) returns: u64,
+    // Whether each is to begin with a size.
+    sizes: bool,
+    // What is read of a line whose end is not read yet, and its last byte.
+    begun: Vec<u8>,
+    last: Option<u8>,
+    is_long: bool,
+    // Each line votes: for the leader where it is the same, and else against it. One without votes is succeeded by the next line.
+    leader: Vec<u8>,
+    votes: u64,
+    // How often the leader came since it leads.
+    seen: u64,
+    // The number of the first line without a size.
+    odd_number: u64,
+    odd: Vec<u8>,
+}
+
+impl Lines {
+    pub(crate) fn new(rt: &HostRuntime, sizes: bool) -> Lines {
+        Lines {
+            count: 0,
+            empty: 0,
+            returns: 0,
+            sizes,
+            begun: Vec::new(rt.alloc()),
+            last: None,
+            is_long: false,
+            leader: Vec::new(rt.alloc()),
+            votes: 0,
+            seen: 0,
+            odd_number: 0,
+            odd: Vec::new(rt.alloc()),
+        }
+    }
+
+    /// Looks at more bytes.
+    pub(crate) fn note(&mut self, bytes: &[u8]) {
+        let mut is_first = true;
+        for part in bytes.split(|byte| *byte == b'\n') {
+            if !is_first {
+                self.end_line();
+            }
+            is_first = false;
+            self.go_on(part);
+        }
+    }
+
+    /// The input ended. Its last line needs no newline.
+    pub(crate) fn end(&mut self) {
+        if self.last.is_some() {
+            self.end_line();
+        }
+    }
+
+    fn go_on(&mut self, part: &[u8]) {
+        if let Some(last) = part.last() {
+            self.last = Some(*last);
+            let kept = self.begun.len().saturating_add(part.len()) <= MOST;
+            if self.is_long || !kept || self.begun.extend_from_slice(part).is_err() {
+                self.keep_beginning(part);
+            }
+        }
+    }
+
+    // Of a line that is too long its beginning is kept.
+    fn keep_beginning(&mut self, part: &[u8]) {
+        self.is_long = true;
+        let room = MOST.saturating_sub(self.begun.len());
+        if let Some(beginning) = part.get(..room) {
+            let _ = self.begun.extend_from_slice(beginning);
+        }
+    }
+
+    fn end_line(&mut self) {
+        self.count = self.count.saturating_add(1);
+        match self.last {
+            None => self.empty = self.empty.saturating_add(1),
+            Some(b'\r') => self.returns = self.returns.saturating_add(1),
+            Some(_) => {}
+        }
+        // (the size stands among the bytes that are kept, or the line has none)
+        if self.sizes && self.odd_number == 0 && size_of(&self.begun).is_none() {
+            self.odd_number = self.count;
+            let beginning = self.begun.get(..SHOWN).unwrap_or(&self.begun);
+            let _ = self.odd.extend_from_slice(beginning);
+        }
+        self.vote();
+        self.begun.clear();
+        self.last = None;
+        self.is_long = false;
+    }
+
+    fn vote(&mut self) {
+        if self.votes == 0 && !self.is_long {
+            std::mem::swap(&mut self.leader, &mut self.begun);
+            self.votes = 1;
+            self.seen = 1;
+        } else if !self.is_long && self.leader.as_slice() == self.begun.as_slice() {
+            self.votes = self.votes.saturating_add(1);
+            self.seen = self.seen.saturating_add(1);
+        } else {
+            self.votes = self.votes.saturating_sub(1);
+        }
+    }
+
+    /// Whether there are so many that what looks odd with them is told.
+    pub(crate) fn are_many(&self) -> bool {
+        self.count >= FEW
+    }
+
+    /// The line that more than nine tenths of all are, and how many are at least. One that is more than 19 in 20 is found in any
+    /// order.
+    pub(crate) fn most_of_all(&self) -> Option<(u64, &[u8])> {
+        let is_most = self.seen.saturating_mul(10) > self.count.saturating_mul(9);
+        if is_most && self.are_many() {
+            Some((self.seen, self.leader.as_slice()))
+        } else {
+            None
+        }
+    }
+
+    /// What stands in the line of this number, if it is the first without a size.
+    pub(crate) fn without_size(&self, number: usize) -> Option<&[u8]> {
+        if self.odd_number == number as u64 {
+            Some(self.odd.as_slice())
+        } else {
+            None
+        }
+    }
+}
+
+/// So many bytes of a line are shown.
+pub(crate) const SHOWN: usize = 60;
+
+/// The beginning of a line in quotes, with whatever is no plain letter escaped.
+pub(crate) fn quoted(rt: &HostRuntime, line: &[u8]) -> Result<String, AllocError> {
+    let mut text = String::new(rt.alloc());
+    text.push('"')?;
+    for byte in line.iter().take(SHOWN) {
+        match *byte {
+            b'\t' => text.push_str("\\t")?,
+            b'\r' => text.push_str("\\r")?,
+            b'"' => text.push_str("\\\"")?,
+            b'\\' => text.push_str("\\\\")?,
+            b' '..=b'~' => text.push(*byte as char)?,
+            other => {
+                let code = format!(in rt.alloc(); "\\x{other:02x}")?;
+                text.push_str(&code)?;
+            }
+        }
+    }
+    text.push('"')?;
+    Ok(text)
+}
+
+/// What stands where a size should, in words that follow the line.
+pub(crate) fn instead_of_size(line: &[u8]) -> &'static str {
+    let digits = line.iter().take_while(|byte| byte.is_ascii_digit()).count();
+    let next = line.get(digits);
+    match (digits, next) {
+        (0, None) => ", which is empty",
+        (0, Some(b'-')) => ", where a - stands in place of the size",
+        (0, _) => ", where no digit stands first",
+        (_, Some(b'\t')) => ", where a tab stands in place of the blank",
+        (_, Some(b' ')) => ", where the number is too great or has too many digits",
+        (_, None) => ", where nothing follows the number",
+        _ => ", where no blank follows the number",
+    }
+}

@@ -1,0 +1,48 @@
+//! What a page calls.
+ghost use Rattle.std.specs.Prelude.{◌≡◌, ◌⊎◌, ◌≤◌, length, take};
+ghost use Rattle.std.specs.Borrow.{Bor};
+ghost use Rattle.clru_page.specs.Answers.{HasNoReport, IsNote, IsReportOf};
+
+use crate::answer::answer;
+use crate::seed::seeded;
+use crate::text::tell;
+use clru_report::Fault;
+use lent_block::{LentBlock, Loan};
+
+/// What `clru_mrc` answers: `arguments` are its words, each a line of UTF-8, and `log` is its standard input.
+///
+/// It answers the program's exit status, and writes into `text`, from its beginning, what the program writes to standard output, or
+/// where it fails the line that it writes to standard error, but for what a line without a size begins with, as much of it as there
+/// is room for. `written` is how many bytes that are. All memory that it takes is of the block `loan`, and none of it is used after
+/// the call.
+///
+/// - 0: the text is the report, or what `--help` or `--version` prints.
+/// - 2: the words are refused, or a capacity is below the greatest size.
+/// - 3: the block was too small. It says nothing of the log: with a larger block the same call may have another answer.
+/// - 5: `text` is too short for the report. With a longer one the same call may have another answer.
+/// - 6: a line has no size, or the sizes are too large together.
+///
+/// Lines are hashed under a seed, the words `low` and `high`; the answer is the same under each.
+#[unsafe(no_mangle)]
+#[allow(too_many_arguments)]
+pub extern "C" fn report(
+    loan: Loan,
+    arguments: &[u8],
+    log: &[u8],
+    low: u64,
+    high: u64,
+    text: &mut [u8],
+    written: &mut usize,
+) -> u32
+    ensures answer { result ≡ 0
+        → IsNote (take written.new text.new) ⊎ IsReportOf (Bor LentBlock) log.now (take written.new text.new) }
+    ensures refused { result ≡ 6 → HasNoReport (Bor LentBlock) log.now }
+    ensures within { written.new ≤ length text.new }
+    ensures length { length text.new ≡ length text.old }
+{
+    let heap = LentBlock::new(loan);
+    match seeded(low, high) {
+        Ok(state) => answer(&heap, arguments, log, state, text, written),
+        Err(_) => tell(Fault::Reading, text, written),
+    }
+}

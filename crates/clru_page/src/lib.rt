@@ -1,0 +1,9 @@
+//! The program for every capacity as one call, for a page that holds it as a module of WebAssembly: words and a log in, a text out.
+#![tactic(auto)]
+
+mod answer;
+mod exports;
+mod seed;
+#[cfg(test)]
+mod tests;
+mod text;

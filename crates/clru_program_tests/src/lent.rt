@@ -1,0 +1,122 @@
+//! Memory that was lent: what is left of it, what it refuses, and what it hands back.
+
+use assertions::equal;
+use lent_block::{LentBlock, Loan};
+use std::alloc::Global;
+use std::test::Fail;
+
+fn lent(alloc: Global, size: usize) -> Result<LentBlock, Fail> {
+    let loan = Loan::taken(&alloc, size).ok_or("no block")?;
+    Ok(LentBlock::new(loan))
+}
+
+// What is handed back, lent again.
+fn lent_again(heap: LentBlock) -> Result<LentBlock, Fail> {
+    let loan = heap.into_loan().ok_or("nothing is handed back")?;
+    Ok(LentBlock::new(loan))
+}
+
+fn count<T: PartialEq>(items: &[T], item: T) -> usize
+where
+    T: Drop,
+{
+    let mut found = 0usize;
+    for each in items {
+        if *each == item {
+            found = found.saturating_add(1);
+        }
+    }
+    found
+}
+
+#[test]
+fn a_block_is_filled_and_freed_from_the_top(rt: HostRuntime) -> Result<(), Fail> {
+    let heap = lent(rt.alloc(), 100)?;
+    let mut left = Vec::new(rt.alloc());
+    left.push(heap.left())?;
+    // One byte takes 16, and five words take 48.
+    let byte = Box::new(&heap, 7u8)?;
+    left.push(heap.left())?;
+    let words: Vec<u64, &LentBlock> = Vec::with_capacity(&heap, 5)?;
+    left.push(heap.left())?;
+    let refused = Vec::<u8, &LentBlock>::with_capacity(&heap, 33).is_err();
+    equal!(rt; refused, true);
+    left.push(heap.left())?;
+    let bytes: Vec<u8, &LentBlock> = Vec::with_capacity(&heap, 32)?;
+    left.push(heap.left())?;
+    equal!(rt; Box::new(&heap, 1u8).is_err(), true);
+    // The last one is free again; one below another is lost.
+    drop(bytes);
+    left.push(heap.left())?;
+    drop(byte);
+    left.push(heap.left())?;
+    drop(words);
+    left.push(heap.left())?;
+    equal!(rt; left.as_slice(), &[96, 80, 32, 32, 0, 32, 32, 80]);
+    let again = lent_again(heap)?;
+    equal!(rt; again.left(), 80);
+    Ok(())
+}
+
+#[test]
+fn a_block_may_be_aligned_to_sixteen(rt: HostRuntime) -> Result<(), Fail> {
+    let heap = lent(rt.alloc(), 64)?;
+    let byte = Box::new(&heap, 7u8)?;
+    let wide = Box::new(&heap, 8u128)?;
+    equal!(rt; (*byte, *wide, heap.left()), (7, 8, 32));
+    Ok(())
+}
+
+#[test]
+fn a_block_freed_in_reverse_is_handed_back_whole(rt: HostRuntime) -> Result<(), Fail> {
+    let mut heap = lent(rt.alloc(), 4096)?;
+    for _ in 0..3 {
+        let low = Vec::from_elem(&heap, 1u8, 1000)?;
+        let middle = Vec::from_elem(&heap, 2u32, 101)?;
+        let high = Vec::from_elem(&heap, 3u64, 7)?;
+        // Nothing lies on another.
+        let counts = (count(&low, 1), count(&middle, 2), count(&high, 3));
+        equal!(rt; counts, (1000, 101, 7));
+        drop(high);
+        drop(middle);
+        drop(low);
+        equal!(rt; heap.left(), 4096);
+        heap = lent_again(heap)?;
+    }
+    Ok(())
+}
+
+#[test]
+fn the_last_list_grows_in_place(rt: HostRuntime) -> Result<(), Fail> {
+    let heap = lent(rt.alloc(), 4096)?;
+    let mut numbers = Vec::new(&heap);
+    for number in 0..1000usize {
+        if numbers.push(number).is_err() {
+            break;
+        }
+    }
+    let mut right = 0usize;
+    for index in 0..numbers.len() {
+        if numbers.get(index) == Some(&index) {
+            right = right.saturating_add(1);
+        }
+    }
+    // All 4096 bytes hold numbers, which a list that moves as it grows could not have.
+    equal!(rt; (right, numbers.len(), heap.left()), (512, 512, 0));
+    drop(numbers);
+    equal!(rt; heap.left(), 4096);
+    Ok(())
+}
+
+#[test]
+fn a_list_below_another_moves_as_it_grows(rt: HostRuntime) -> Result<(), Fail> {
+    let heap = lent(rt.alloc(), 4096)?;
+    let mut low = Vec::from_elem(&heap, 1u64, 4)?;
+    let high = Vec::from_elem(&heap, 2u64, 4)?;
+    low.push(1)?;
+    // The old block is lost, and the new one has room for eight.
+    equal!(rt; (count(&low, 1), count(&high, 2), heap.left()), (5, 4, 4096 - 32 - 32 - 64));
+    low.shrink_to_fit();
+    equal!(rt; (count(&low, 1), heap.left()), (5, 4096 - 32 - 32 - 64));
+    Ok(())
+}

@@ -1,0 +1,116 @@
+// The module beside the native program: node page/check.mjs MODULE PROGRAM
+//
+// Both get the same words and the same log; status and text have to be the same, byte for byte. The last lines ask whether the
+// comparison sees a difference, and whether a small block, a small text and a second call answer as they should.
+import { spawnSync } from "node:child_process";
+import { readFileSync } from "node:fs";
+
+const [modulePath, program] = process.argv.slice(2);
+const compiled = new WebAssembly.Module(readFileSync(modulePath));
+
+// Numbers from a fixed seed, so that each run has the same logs.
+function drawn(seed) {
+    let state = BigInt(seed);
+    return (below) => {
+        state = (state * 6364136223846793005n + 1442695040888963407n) & 0xffffffffffffffffn;
+        return Number((state >> 33n) % BigInt(below));
+    };
+}
+
+// Lines of which few come often; with sizes each key has its own.
+function log(lines, keys, sized) {
+    const draw = drawn(lines + keys);
+    let text = "";
+    for (let line = 0; line < lines; line++) {
+        const key = Math.floor(keys / (1 + draw(keys)) + draw(7));
+        text += sized ? `${1 + (key % 911)} /p/${key}\n` : `/p/${key}\n`;
+    }
+    return Buffer.from(text);
+}
+
+class Instance {
+    constructor() {
+        this.exports = new WebAssembly.Instance(compiled, {}).exports;
+        this.memory = this.exports.memory;
+        const base = this.exports.__heap_base.value;
+        this.base = Math.ceil(Number(base) / 16) * 16;
+    }
+
+    // The memory reaches up to this address.
+    reach(end) {
+        const pages = Math.ceil((end - this.memory.buffer.byteLength) / 65536);
+        if (pages <= 0) return;
+        try {
+            this.memory.grow(BigInt(pages));
+        } catch (error) {
+            if (!(error instanceof TypeError)) throw error;
+            this.memory.grow(pages);
+        }
+    }
+
+    report(words, input, blockSize, textSize) {
+        const bytes = Buffer.from(words.map((word) => `${word}\n`).join(""));
+        let end = this.base;
+        const place = (size) => {
+            const at = end;
+            end += Math.ceil(Math.max(size, 16) / 16) * 16;
+            return at;
+        };
+        const pair = place(16), written = place(8), argumentsAt = place(bytes.length), logAt = place(input.length);
+        const text = place(textSize), block = place(blockSize);
+        this.reach(end);
+        const view = new DataView(this.memory.buffer);
+        view.setBigUint64(pair, BigInt(block), true);
+        view.setBigUint64(pair + 8, BigInt(blockSize), true);
+        new Uint8Array(this.memory.buffer, argumentsAt, bytes.length).set(bytes);
+        new Uint8Array(this.memory.buffer, logAt, input.length).set(input);
+        const numbers = [pair, argumentsAt, bytes.length, logAt, input.length, 5, 7, text, textSize, written].map(BigInt);
+        const status = this.exports.report(...numbers);
+        const length = Number(new DataView(this.memory.buffer).getBigUint64(written, true));
+        return [status, Buffer.from(new Uint8Array(this.memory.buffer, text, length)).toString("latin1")];
+    }
+}
+
+function native(words, input) {
+    const run = spawnSync(program, words, { input, maxBuffer: 1 << 28 });
+    // (the program does not read all where words are refused)
+    if (run.error && run.error.code !== "EPIPE") throw run.error;
+    // (the program also shows the beginning of a line without a size)
+    return [run.status, run.status === 0 ? run.stdout.toString("latin1") : run.stderr.toString("latin1").replace(/: it begins ".*/, "")];
+}
+
+let failed = 0, passed = 0;
+function same(name, got, wanted) {
+    if (got[0] === wanted[0] && got[1] === wanted[1]) {
+        passed++;
+    } else {
+        failed++;
+        console.log(`page: ${name}: status ${got[0]} and not ${wanted[0]}, or another text:`);
+        console.log(got[1].slice(0, 300), "\n--- and not\n", wanted[1].slice(0, 300));
+    }
+}
+
+const MIB = 1 << 20;
+const plain = log(20000, 3000, false), sized = log(5000, 700, true), short = Buffer.from("a\nb\na\nc\nb\na\nd\na\nb\ne");
+const cases = [
+    ["a table", [], plain], ["a picture", ["--svg"], plain], ["the least", ["--least"], plain], ["all", ["--all"], plain],
+    ["at", ["--at", "3,100", "--at=64"], plain], ["a summary", ["--summary"], plain], ["a short log", ["--least", "--svg"], short],
+    ["sizes", ["--sizes"], sized], ["all sizes", ["--sizes", "--all", "--svg"], sized], ["sizes at", ["--sizes", "--at=2KiB"], sized],
+    ["an empty log", [], Buffer.alloc(0)], ["bytes of any kind", [], Buffer.from([0, 255, 10, 195, 10, 0, 255, 10, 13])],
+    ["help", ["--help"], short], ["the version", ["-V"], short],
+    ["no such word", ["--no"], short], ["no capacity", ["--at", "0"], short], ["words that do not go together", ["--all", "--at=1"], short],
+    ["no size", ["--sizes"], Buffer.from("5 a\nb\n")], ["too large", ["--sizes"], Buffer.from("18446744073709551615 a\n1 b\n")],
+    ["below the greatest size", ["--sizes", "--at=2"], Buffer.from("5 a\n")],
+];
+const instance = new Instance();
+for (const [name, words, input] of cases) {
+    same(name, instance.report(words, input, 16 * MIB, 4 * MIB), native(words, input));
+}
+same("a block that is too small", instance.report([], plain, 4096, MIB), [3, "clru_mrc: memory ran out\n"]);
+same("a text that is too short", instance.report([], plain, 16 * MIB, 20), [5, "clru_mrc: standard o"]);
+same("a block of no bytes", instance.report(["--svg"], plain, 0, MIB), [3, "clru_mrc: memory ran out\n"]);
+const other = Buffer.concat([short, Buffer.from("\nf\n")]);
+const [, one] = instance.report([], short, MIB, MIB), [, two] = instance.report([], other, MIB, MIB);
+same("another log", [Number(one !== two), ""], [1, ""]);
+console.log(`${passed} passed, ${failed} failed`);
+process.exit(failed ? 1 : 0);

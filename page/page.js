@@ -1,0 +1,559 @@
+"use strict";
+// What stands on the page: the settings, what the program wrote, and the mark. Reading and the program are in worker.js.
+
+const $ = (id) => document.getElementById(id);
+const number = (value) => value.toLocaleString("en");
+const show = (id, shown) => $(id).toggleAttribute("hidden", !shown);
+
+// Columns are counted from 1. Where `method` and `status` stand, requests can be chosen by their answer.
+const FORMS = {
+    combined: { name: "nginx, Apache, Varnish", split: "blanks", keys: "7", size: "10", method: 6, status: 9 },
+    vhost: { name: "Apache, the host in front", split: "blanks", keys: "1,8", size: "11", method: 7, status: 10 },
+    squid: { name: "Squid", split: "blanks", keys: "7", size: "5", method: 6, status: 4 },
+    cloudfront: { name: "CloudFront", split: "tabs", keys: "16,8", size: "4", method: 6, status: 9, comments: true },
+    commas: { name: "Columns, commas between (CSV)", split: "commas" },
+    tabs: { name: "Columns, tabs between (TSV)", split: "tabs" },
+    blanks: { name: "Columns, blanks between", split: "blanks" },
+    lines: { name: "Each line as it is", split: null },
+};
+
+let worker = null;
+let file = null;
+let looked = null;
+let form = FORMS.lines;
+let asked = null;
+let report = null;
+let marks = null;
+// Runs are counted, so that what an earlier one still answers is let go.
+let turn = 0;
+let stopped = false;
+
+// --- The worker ----------------------------------------------------------------------------------------------------------------
+
+function startWorker() {
+    const module = Uint8Array.from(atob($("module").textContent.replace(/\s/g, "")), (letter) => letter.charCodeAt(0));
+    const source = URL.createObjectURL(new Blob([$("worker").textContent], { type: "text/javascript" }));
+    worker = new Worker(source);
+    worker.onmessage = ({ data: { turn: answered = turn, ...answers } }) => {
+        if (answered !== turn) return;
+        for (const [name, value] of Object.entries(answers)) ANSWERS[name](value);
+    };
+    worker.onerror = (event) => ANSWERS.fault({ words: event.message || "the page's worker could not start" });
+    worker.postMessage({ module }, [module.buffer]);
+}
+
+const ANSWERS = {
+    looked: showHead,
+    sampled(lines) { $("sample").textContent = lines.join("\n").trimEnd() || "(nothing: no line has these columns)"; },
+    progress: showProgress,
+    cut(cut) { asked.cut = cut; },
+    report: showReport,
+    marks: showMarks,
+    fault({ kind, words }) {
+        stopped = false;
+        if (kind === "memory") showFault("clru_mrc: memory ran out", adviceFor("memory ran out"));
+        else showFault(words, UNREAD[kind] || UNREAD.other);
+    },
+};
+
+// Where the page stands: empty, ready, running, drawn (the mark is to come), done or fault.
+function enter(state) {
+    document.body.dataset.state = state;
+    const running = state === "running";
+    $("run").disabled = running;
+    show("stop", running || state === "drawn");
+    show("progress", running);
+    if (state !== "fault") show("fault", false);
+}
+
+// --- The log and the form of its lines -------------------------------------------------------------------------------------------
+
+function takeFile(taken) {
+    if (isBusy()) stop();
+    file = taken;
+    clear();
+    show("settings", false);
+    enter("empty");
+    worker.postMessage({ look: file });
+}
+
+const isBusy = () => ["running", "drawn"].includes(document.body.dataset.state);
+
+// Lets go what an earlier run has left.
+function clear() {
+    turn++;
+    report = marks = null;
+    show("result", false);
+    $("state").textContent = "";
+}
+
+function showHead(head) {
+    looked = head;
+    if (stopped) {
+        stopped = false;
+        return;
+    }
+    const guessed = guess();
+    $("form").value = guessed;
+    $("seen").textContent = `${file.name}, ${bytesOf(file.size)}${head.packed ? ", packed by gzip" : ""}.` +
+        (head.lines.length ? " It begins:" : " It is empty.");
+    show("settings", true);
+    takeForm(guessed);
+    enter("ready");
+}
+
+const isNumber = (word) => /^"?\d+"?$/.test(word);
+
+// Which form the first lines have.
+function guess() {
+    const lines = looked.lines.filter((line) => line.text !== "" && !line.text.startsWith("#"));
+    const most = (split, holds) => lines.length > 0 && lines.filter(({ columns }) => holds(columns[split])).length * 2 > lines.length;
+    if (most("blanks", (it) => /^\[/.test(it[3]) && /^"/.test(it[5]))) return "combined";
+    if (most("blanks", (it) => /^\[/.test(it[4]) && /^"/.test(it[6]))) return "vhost";
+    if (most("blanks", (it) => /^\d+\.\d+$/.test(it[0]) && /^\w+\/\d{3}$/.test(it[3]))) return "squid";
+    if (most("tabs", (it) => it.length > 15 && /^\d{4}-\d\d-\d\d$/.test(it[0]))) return "cloudfront";
+    const even = (split) => {
+        const counts = new Set(lines.map(({ columns }) => columns[split].length));
+        return counts.size === 1 && !counts.has(0) && !counts.has(1);
+    };
+    if (even("tabs")) return "tabs";
+    if (even("commas")) return "commas";
+    if (even("blanks") && !lines.every(isSized)) return "blanks";
+    return "lines";
+}
+
+const isSized = ({ columns: { blanks } }) => blanks.length === 2 && isNumber(blanks[0]);
+
+// Sets the fields as a form has them, or where it says nothing, as headings and first lines suggest.
+function takeForm(name) {
+    form = FORMS[name];
+    const columns = form.split ? looked.lines.map((line) => line.columns[form.split]) : [];
+    const isColumns = form.split !== null && !form.keys;
+    const [first = [], second = []] = columns;
+    $("heading").checked = isColumns && !first.some(isNumber) && second.some(isNumber);
+    const suggested = isColumns ? suggestedColumns($("heading").checked ? first : [], $("heading").checked ? second : first) : form;
+    $("keys").value = suggested.keys || "";
+    $("size").value = suggested.size || "";
+    $("sizes").checked = name === "lines" && looked.lines.length > 0 && looked.lines.every(isSized);
+    $("answered").checked = form.method > 0;
+    $("queries").checked = false;
+    for (const id of ["keys-label", "keys-hint", "queries-label"]) show(id, form.split !== null);
+    show("answered-label", form.method > 0);
+    show("heading-label", isColumns);
+    showColumns();
+    const key = $("head").querySelector("th.key");
+    if (key) $("head-frame").scrollLeft = key.offsetLeft + key.offsetWidth / 2 - $("head-frame").clientWidth / 2;
+}
+
+// The key and the size by the words of a heading, or else by the values: a key is mostly no number, and its size stands behind it.
+function suggestedColumns(names, values) {
+    const column = (words, holds) => words.findIndex((word, i) => holds(word, i + 1)) + 1;
+    let size = column(names, (name) => /size|bytes|length/i.test(name));
+    const key = column(names, (name, i) => i !== size && /key|ur[il]|path|page|obj|item|\bid\b|_id/i.test(name)) ||
+        column(values, (value, i) => i !== size && !/^"?[\d.]*"?$/.test(value)) || Math.min(2, values.length);
+    size ||= column(values, (value, i) => i > key && isNumber(value));
+    return { keys: String(key), size: String(size || "") };
+}
+
+const chosenKeys = () => $("keys").value.split(",").map((part) => Number(part.trim()));
+const chosenSize = () => ($("sizes").checked ? Number($("size").value.trim()) : 0);
+
+// Which columns are wanted and where they stand; null where a field is no number of a column.
+function cutOf() {
+    if (!form.split) return { split: null };
+    const [keys, size] = [chosenKeys(), chosenSize()];
+    const isColumn = (column) => Number.isInteger(column) && column > 0 && column <= 200;
+    if (!keys.every(isColumn) || ($("sizes").checked && !isColumn(size))) return null;
+    const answers = $("answered").checked && form.method ? (size ? ["200"] : ["200", "304"]) : [];
+    return {
+        split: form.split, keys, size, answers, method: form.method || 0, status: form.status || 0,
+        heading: $("heading").checked && !form.keys, comments: Boolean(form.comments), queries: $("queries").checked,
+    };
+}
+
+// The first lines by columns, and what the program reads of them.
+function showColumns() {
+    const cut = cutOf();
+    show("size-label", form.split !== null && $("sizes").checked);
+    const canLeast = !$("sizes").checked;
+    $("least").disabled = !canLeast;
+    $("least-words").classList.toggle("off", !canLeast);
+    $("least-words").textContent = canLeast ? "The least possible misses as well" : "The least possible misses: not by bytes";
+    $("answered-words").textContent = canLeast ? "Only GET answered with 200 or 304" : "Only GET answered with 200";
+    $("head").replaceChildren(...(form.split ? headByColumns(cut) : headByLines()));
+    if (cut) worker.postMessage({ sample: cut });
+    else $("sample").textContent = "(name columns by their numbers)";
+}
+
+function element(name, text, ...classes) {
+    const made = document.createElement(name);
+    made.textContent = text;
+    made.classList.add(...classes.filter(Boolean));
+    return made;
+}
+
+function headByLines() {
+    const body = document.createElement("tbody");
+    for (const { text } of looked.lines) body.insertRow().append(element("td", text));
+    return [body];
+}
+
+function headByColumns(cut) {
+    const lines = looked.lines.map((line) => line.columns[form.split]);
+    const count = Math.max(0, ...lines.map((line) => line.length));
+    const classOf = (column) => (cut?.keys.includes(column) ? "key" : cut?.size === column ? "size" : "");
+    const [top, body] = [document.createElement("thead"), document.createElement("tbody")];
+    const row = top.insertRow();
+    for (let column = 1; column <= count; column++) {
+        const cell = element("th", "", classOf(column));
+        const button = element("button", { key: `${column} key`, size: `${column} size` }[classOf(column)] || String(column));
+        button.type = "button";
+        button.ariaLabel = `Take column ${column} as the key`;
+        button.onclick = () => {
+            $("keys").value = column;
+            showColumns();
+            $("head").querySelectorAll("button")[column - 1].focus();
+        };
+        cell.append(button);
+        row.append(cell);
+    }
+    lines.forEach((line, index) => {
+        const made = body.insertRow();
+        const skipped = (index === 0 && cut?.heading) || (cut?.comments && looked.lines[index].text.startsWith("#"));
+        line.forEach((text, i) => made.append(element("td", text, classOf(i + 1), skipped && "skipped")));
+    });
+    return [top, body];
+}
+
+// --- The run -----------------------------------------------------------------------------------------------------------------------
+
+function wordsOf() {
+    const words = [];
+    const at = $("at").value.trim();
+    if (at) words.push("--at", at);
+    if ($("all").checked) words.push("--all");
+    if ($("sizes").checked) words.push("--sizes");
+    if ($("least").checked && !$("sizes").checked) words.push("--least");
+    return words;
+}
+
+function run(event) {
+    event.preventDefault();
+    const cut = cutOf();
+    clear();
+    if (!cut) {
+        showFault("A column is a number from 1 on.", "Look at the fields of columns.");
+        return;
+    }
+    asked = { cut: null, words: wordsOf(), command: commandOf(cut, wordsOf()), clock: asked?.clock };
+    showProgress({ read: 0, size: file.size });
+    // (the worker ends what it does for the last mark first)
+    if (isBusy()) $("state").textContent = "Waiting for the last run to end";
+    enter("running");
+    worker.postMessage({ run: { turn, file, cut, words: asked.words } });
+}
+
+// Ends the worker. The next one looks at the file again, and the settings stay.
+function stop() {
+    worker.terminate();
+    turn++;
+    clearInterval(asked.clock);
+    startWorker();
+    stopped = true;
+    worker.postMessage({ look: file });
+    $("state").textContent = "Stopped.";
+    enter(report ? "done" : "ready");
+}
+
+// While the log is read its parts are counted; then a call is under way that tells nothing before its end.
+function showProgress(progress) {
+    const bar = $("bar");
+    clearInterval(asked.clock);
+    if (progress) {
+        [bar.max, bar.value] = [Math.max(1, progress.size), progress.read];
+        $("state").textContent = `Reading: ${bytesOf(progress.read)} of ${bytesOf(progress.size)}`;
+        return;
+    }
+    bar.removeAttribute("value");
+    const begun = performance.now();
+    const tell = () => { $("state").textContent = `Counting, for ${Math.round((performance.now() - begun) / 1000)} s`; };
+    tell();
+    asked.clock = setInterval(tell, 1000);
+}
+
+const UNITS = ["bytes", "KiB", "MiB", "GiB", "TiB", "PiB"];
+
+function bytesOf(count) {
+    let unit = 0;
+    while (count >= 1024 && unit < UNITS.length - 1) [count, unit] = [count / 1024, unit + 1];
+    return `${unit && count < 100 ? count.toFixed(1) : number(Math.round(count))} ${UNITS[unit]}`;
+}
+
+// --- What the program wrote ----------------------------------------------------------------------------------------------------
+
+function showReport(answered) {
+    clearInterval(asked.clock);
+    if (answered.status !== 0) {
+        showFault(answered.text.trimEnd(), adviceFor(answered.text, answered.memory));
+        return;
+    }
+    report = { svg: answered.text, csv: answered.text.slice(answered.text.indexOf("<desc>\n") + 7, answered.text.indexOf("</desc>\n")) };
+    $("picture").replaceChildren(document.importNode(new DOMParser().parseFromString(report.svg, "image/svg+xml").documentElement, true));
+    $("svg").textContent = report.svg;
+    $("csv").textContent = report.csv;
+    $("command").textContent = asked.command;
+    $("notes").textContent = notes(asked.cut).join("\n");
+    $("state").textContent = `Done: read in ${answered.seconds[0]} s, counted in ${answered.seconds[1]} s.`;
+    showRows();
+    for (const id of ["mark", "slide", "mark-hint"]) show(id, false);
+    $("says").textContent = "";
+    show("result", true);
+    enter("drawn");
+}
+
+const MOST_ROWS = 1000;
+const HEADINGS = {
+    capacity: "Capacity", misses: "Misses", miss_ratio: "Miss ratio", least_misses: "Least possible", missed_bytes: "Missed bytes",
+    byte_miss_ratio: "Byte miss ratio", saved_per_key: "Saved per key", saved_per_byte: "Saved per byte", knee: "Knee",
+};
+
+// A number as the table shows it: whole ones by thousands, a knee by a mark.
+function shown(name, word) {
+    if (name === "knee") return word === "1" ? "\u2022" : "";
+    return word.includes(".") ? word : word.replace(/\B(?=(\d{3})+$)/g, ",");
+}
+
+function showRows() {
+    const [names, ...rows] = report.csv.trimEnd().split("\n").map((row) => row.split(","));
+    const [top, body] = [document.createElement("thead"), document.createElement("tbody")];
+    const head = top.insertRow();
+    for (const name of names) head.append(element("th", HEADINGS[name]));
+    for (const row of rows.slice(0, MOST_ROWS)) {
+        const made = body.insertRow();
+        row.forEach((word, i) => made.append(element("td", shown(names[i], word))));
+    }
+    $("rows").replaceChildren(top, body);
+    const cutShort = `The first ${number(MOST_ROWS)} of ${number(rows.length)} rows; the CSV has all.`;
+    $("cut-short").textContent = rows.length > MOST_ROWS ? cutShort : "";
+}
+
+// What was left out, and what looks wrong with a log whose lines are taken as they are.
+function notes(cut) {
+    const said = [];
+    const many = (count, one, more) => `${number(count)} of ${number(cut.lines)} lines ${count === 1 ? one : more}`;
+    const { short = 0, sizeless = 0, answered = 0 } = cut.left || {};
+    if (short) said.push(`${many(short, "has", "have")} fewer columns, and ${short === 1 ? "is" : "are"} left out.`);
+    if (answered) said.push(`${many(answered, "is", "are")} no GET with such an answer, and left out.`);
+    if (sizeless) said.push(`${many(sizeless, "has", "have")} no size but -, and ${sizeless === 1 ? "is" : "are"} left out.`);
+    const { lines = 0, empty = 0, returns = 0, zeros = 0 } = cut.odd || {};
+    if (!cut.bytes) said.push("There are no requests.");
+    if (zeros) said.push("The log has bytes of the value 0, as no text has.");
+    if (empty && empty < lines) said.push(`${many(empty, "is", "are")} empty, each a request of one key.`);
+    const keys = returns === 1 ? "its key" : "their keys";
+    if (returns && returns < lines) said.push(`${many(returns, "ends", "end")} with a carriage return, which is a part of ${keys}.`);
+    return said;
+}
+
+function showFault(words, advice) {
+    clearInterval(asked?.clock);
+    $("state").textContent = "";
+    $("fault-words").textContent = words;
+    $("fault-advice").textContent = advice;
+    enter("fault");
+    show("fault", true);
+    $("fault").scrollIntoView({ block: "nearest" });
+}
+
+// What to do about a fault, by its words.
+function adviceFor(text, memory = 0) {
+    const least = /name numbers from (\d+) on/.exec(text);
+    if (least && text.includes("greatest size")) return `Name capacities from ${least[1]} on, or leave the field empty.`;
+    if (/is no capacity|empty number|wants capacities/.test(text)) return "Change the field of capacities, or leave it empty.";
+    if (text.includes("go together")) return "Leave one of them out.";
+    const column = "Look at the column of the size";
+    if (text.includes("has no size")) return `Lines are counted as the program reads them. ${column}, or count no bytes.`;
+    if (text.includes("add up to more")) return `${column}.`;
+    if (!text.includes("memory ran out")) return "";
+    const got = memory ? `The page got ${bytesOf(memory)} of memory and no more. ` : "";
+    return `${got}In a terminal the program can have all of the machine's: ${asked?.command || "clru_mrc < FILE"}`;
+}
+
+// What to do where the log could not be read.
+const UNREAD = {
+    packed: "The file begins as gzip does, and cannot be unpacked here: unpack it first, as in zcat FILE > log.",
+    other: "If the file has changed since it was chosen, choose it anew; else load the page anew.",
+};
+
+// --- The same in a terminal ----------------------------------------------------------------------------------------------------
+
+const quoted = (word) => (/^[\w./,:+-]+$/.test(word) && !word.startsWith("-") ? word : `'${word.replace(/'/g, "'\\''")}'`);
+
+function commandOf(cut, words) {
+    const name = quoted(file.name);
+    const asks = ["clru_mrc", ...words.map((word) => (word.startsWith("--") ? word : quoted(word)))].join(" ");
+    if (!cut.split) return looked.packed ? `zcat < ${name} | ${asks}` : `${asks} < ${name}`;
+    const hasQuotes = cut.split === "commas" && looked.lines.some(({ text }) => text.includes('"'));
+    const unknown = hasQuotes ? "\n# (awk takes a comma in quotes for the end of a column)" : "";
+    const awk = `awk ${{ blanks: "", tabs: "-F'\\t' ", commas: "-F, " }[cut.split]}'${awkOf(cut)}'`;
+    const path = name.startsWith("-") || name.includes("=") ? `./${name}` : name;
+    return (looked.packed ? `zcat < ${name} | ${awk} | ${asks}` : `${awk} ${path} | ${asks}`) + unknown;
+}
+
+function awkOf({ split, keys, size, method, status, answers, heading, comments, queries }) {
+    const most = Math.max(...keys, size, ...(answers.length ? [method, status] : []));
+    const tests = [heading && "NR > 1", comments && "!/^#/", `NF >= ${most}`];
+    if (answers.length) {
+        tests.push(`$${method} ~ /^"?GET$/`);
+        tests.push(answers.length > 1 ? `$${status} ~ /^(.*\\/)?(${answers.join("|")})$/` : `$${status} ~ /^(.*\\/)?${answers[0]}$/`);
+    }
+    if (size) tests.push(`$${size} != "-"`);
+    const cuts = queries ? keys.map((key) => `sub(/\\?.*/, "", $${key}); `).join("") : "";
+    const key = keys.map((column) => `$${column}`).join(" ");
+    const returns = looked.lines.some((line) => line.returns) && split ? '{ sub(/\\r$/, "") } ' : "";
+    return `${returns}${tests.filter(Boolean).join(" && ")} { ${cuts}print ${size ? `$${size}, ` : ""}${key} }`;
+}
+
+// --- The mark --------------------------------------------------------------------------------------------------------------------
+
+// Where the program draws, in tenths of a pixel, and its logarithm.
+const [LEFT, WIDTH, BOTTOM, HEIGHT] = [760, 6900, 4060, 3500];
+
+function logarithm(value) {
+    const octaves = Math.floor(Math.log2(value));
+    const part = value / 2 ** octaves - 1;
+    return octaves + part + 0.344 * part * (1 - part);
+}
+
+function showMarks(found) {
+    enter("done");
+    marks = found;
+    for (const id of ["mark", "slide", "mark-hint"]) show(id, found !== null);
+    if (!found) return;
+    const last = found.last > found.first ? found.last : found.first * 2;
+    const [begin, length] = [logarithm(found.first), logarithm(last) - logarithm(found.first)];
+    marks.across = found.rows.map(([capacity]) => LEFT + WIDTH * (logarithm(Math.min(capacity, last)) - begin) / length);
+    const most = found.requests - found.rows.at(-1)[1];
+    // (it begins where nine tenths of what can hit do)
+    moveTo(Math.max(0, found.rows.findIndex(([, misses]) => found.requests - misses >= 0.9 * most)));
+}
+
+function moveTo(index) {
+    marks.index = Math.min(Math.max(index, 0), marks.rows.length - 1);
+    // (by keys what follows the ratio is no size)
+    const [capacity, misses, , fourth] = marks.rows[marks.index];
+    const missedBytes = marks.bytes === undefined ? undefined : fourth;
+    const x = marks.across[marks.index];
+    const down = (part, whole) => BOTTOM - HEIGHT * part / Math.max(1, whole);
+    $("mark-line").setAttribute("d", `M${x} ${BOTTOM - HEIGHT}V${BOTTOM}`);
+    place("mark-dot", x, down(misses, marks.requests));
+    $("mark-bytes").style.display = missedBytes === undefined ? "none" : "";
+    if (missedBytes !== undefined) place("mark-bytes", x, down(missedBytes, marks.bytes));
+    $("slider").value = x;
+    say(capacity, misses, missedBytes);
+}
+
+function place(id, x, y) {
+    $(id).setAttribute("cx", x);
+    $(id).setAttribute("cy", y);
+}
+
+const percent = (part, whole) => `${(whole ? 100 * part / whole : 0).toFixed(2)} %`;
+
+function say(capacity, misses, missedBytes) {
+    const bold = (text) => element("b", text);
+    const { requests, bytes } = marks;
+    const hits = requests - misses;
+    const byBytes = missedBytes !== undefined;
+    const unit = byBytes ? "bytes" : capacity === 1 ? "key" : "keys";
+    const rounded = byBytes && capacity >= 1024 ? ` (${bytesOf(capacity)})` : "";
+    const parts = [bold(`${number(capacity)} ${unit}${rounded}`), ": hit ratio ", bold(percent(hits, requests)), ", "];
+    parts.push(bold(number(hits)), ` ${hits === 1 ? "miss" : "misses"} saved of ${number(requests)}`);
+    if (byBytes) {
+        const saved = bytes - missedBytes;
+        parts.push("; byte hit ratio ", bold(percent(saved, bytes)), ", ", bold(number(saved)), ` bytes saved of ${number(bytes)}`);
+    }
+    $("says").replaceChildren(...parts);
+    $("slider").setAttribute("aria-valuetext", $("says").textContent);
+}
+
+// The mark nearest to a place of the picture.
+function nearest(x) {
+    let [low, high] = [0, marks.across.length - 1];
+    while (low < high) {
+        const middle = (low + high) >> 1;
+        if (marks.across[middle] < x) low = middle + 1;
+        else high = middle;
+    }
+    return low > 0 && x - marks.across[low - 1] < marks.across[low] - x ? low - 1 : low;
+}
+
+function follow(event) {
+    if (!marks) return;
+    const { left, width } = $("plot").getBoundingClientRect();
+    moveTo(nearest((event.clientX - left) / width * 8000));
+}
+
+const STEPS = { ArrowLeft: -1, ArrowDown: -1, ArrowRight: 1, ArrowUp: 1, PageDown: -20, PageUp: 20, Home: -Infinity, End: Infinity };
+
+function step(event) {
+    if (!marks || !(event.key in STEPS)) return;
+    event.preventDefault();
+    moveTo(marks.index + STEPS[event.key]);
+}
+
+// --- Saving, and how the page begins -----------------------------------------------------------------------------------------------
+
+function save(text, kind, ending) {
+    const link = document.createElement("a");
+    link.href = URL.createObjectURL(new Blob([text], { type: kind }));
+    link.download = file.name.replace(/\.gz$/, "") + ending;
+    link.click();
+    setTimeout(() => URL.revokeObjectURL(link.href), 60000);
+}
+
+// Whether there can be a memory of 64 bits: a module that has one and nothing else.
+const isFit = () => typeof WebAssembly === "object" && WebAssembly.validate(new Uint8Array([0, 97, 115, 109, 1, 0, 0, 0, 5, 3, 1, 4, 1]));
+
+function begin() {
+    if (!isFit()) {
+        show("unfit", true);
+        document.body.dataset.state = "unfit";
+        return;
+    }
+    show("tool", true);
+    for (const [name, { name: words }] of Object.entries(FORMS)) $("form").append(new Option(words, name));
+    startWorker();
+    // (or a file that is chosen once more would be no change)
+    $("file").onclick = () => { $("file").value = ""; };
+    $("file").onchange = () => $("file").files.length && takeFile($("file").files[0]);
+    document.ondragover = (event) => {
+        event.preventDefault();
+        $("drop").classList.add("over");
+    };
+    document.ondragleave = () => $("drop").classList.remove("over");
+    document.ondrop = (event) => {
+        event.preventDefault();
+        $("drop").classList.remove("over");
+        if (event.dataTransfer.files.length) {
+            $("file").files = event.dataTransfer.files;
+            takeFile(event.dataTransfer.files[0]);
+        }
+    };
+    $("form").onchange = () => takeForm($("form").value);
+    for (const id of ["keys", "size", "sizes", "heading", "answered", "queries"]) $(id).oninput = showColumns;
+    $("settings").onsubmit = run;
+    $("stop").onclick = stop;
+    $("plot").onpointermove = follow;
+    $("plot").onpointerdown = (event) => {
+        follow(event);
+        $("slider").focus({ preventScroll: true });
+        event.preventDefault();
+    };
+    $("slider").oninput = () => marks && moveTo(nearest(Number($("slider").value)));
+    $("slider").onkeydown = step;
+    $("save-svg").onclick = () => save(report.svg, "image/svg+xml", ".svg");
+    $("save-csv").onclick = () => save(report.csv, "text/csv", ".csv");
+    enter("empty");
+}
+
+begin();

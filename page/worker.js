@@ -1,0 +1,482 @@
+"use strict";
+// Reads a log, cuts its lines, and runs the program over what it cut, beside the page, which so stays alive.
+//
+// Messages to it: {module}, first of all; {look: file}, {sample: cut} and {run: {turn, file, cut, words}}. It answers with
+// {looked}, {sampled}, {progress}, {cut}, {report}, {marks} and {fault}, each of which the page knows by its name; those of a run have
+// its turn beside them.
+// A cut is {split, keys, size, heading, comments, method, status, answers, queries}: columns are counted from 1, 0 stands for none.
+
+const CHUNK = 8 << 20;
+const HEAD = 256 << 10;
+const NEWLINE = 10, RETURN = 13, TAB = 9, BLANK = 32, QUOTE = 34, COMMA = 44, DASH = 45, SLASH = 47, QUESTION = 63, SHARP = 35;
+
+// --- Reading -----------------------------------------------------------------------------------------------------------------
+
+async function isPacked(file) {
+    const [first, second] = new Uint8Array(await file.slice(0, 2).arrayBuffer());
+    return first === 0x1f && second === 0x8b;
+}
+
+// What DecompressionStream says of a file that it can't unpack.
+class Packed extends Error {}
+
+// The bytes of a file piece by piece, unpacked where it is packed by gzip. `tell` is told how many of the file are read.
+async function* piecesOf(file, tell) {
+    if (!await isPacked(file)) {
+        // (the next piece is read while this one is cut)
+        let next = file.slice(0, CHUNK).arrayBuffer();
+        for (let at = 0; at < file.size; at += CHUNK) {
+            const piece = new Uint8Array(await next);
+            next = file.slice(at + CHUNK, at + 2 * CHUNK).arrayBuffer();
+            next.catch(() => {});
+            yield piece;
+            tell(Math.min(at + CHUNK, file.size));
+        }
+        return;
+    }
+    let read = 0;
+    const counted = new TransformStream({
+        transform(piece, stream) {
+            read += piece.length;
+            tell(read);
+            stream.enqueue(piece);
+        },
+    });
+    const reader = file.stream().pipeThrough(counted).pipeThrough(new DecompressionStream("gzip")).getReader();
+    try {
+        for (;;) {
+            const { done, value } = await reader.read().catch((error) => { throw new Packed(error.message); });
+            if (done) return;
+            yield value;
+        }
+    } finally {
+        reader.cancel().catch(() => {});
+    }
+}
+
+// The first lines of a file, as bytes that end with a line's end or with the file.
+async function headOf(file) {
+    let head = new Uint8Array(0);
+    for await (const piece of piecesOf(file, () => {})) {
+        head = joined(head, piece);
+        if (head.length >= HEAD) break;
+    }
+    const end = head.length >= HEAD ? head.lastIndexOf(NEWLINE, HEAD - 1) + 1 || HEAD : head.length;
+    return head.slice(0, end);
+}
+
+function joined(first, second) {
+    const both = new Uint8Array(first.length + second.length);
+    both.set(first);
+    both.set(second, first.length);
+    return both;
+}
+
+// --- Columns -----------------------------------------------------------------------------------------------------------------
+
+// Each notes where the columns of a line begin and end, in `begins` and `ends`, `most` of them at most, and answers how many it noted.
+const SPLITTERS = {
+    // Runs of blanks and tabs part columns, as they do in awk.
+    blanks(bytes, from, to, begins, ends, most) {
+        let count = 0;
+        let at = from;
+        while (count < most) {
+            while (at < to && (bytes[at] === BLANK || bytes[at] === TAB)) at++;
+            if (at >= to) break;
+            begins[count] = at;
+            while (at < to && bytes[at] !== BLANK && bytes[at] !== TAB) at++;
+            ends[count++] = at;
+        }
+        return count;
+    },
+    tabs(bytes, from, to, begins, ends, most) {
+        return parted(bytes, from, to, begins, ends, most, TAB, false);
+    },
+    // A column may stand in quotes, and then have commas. The quotes stay a part of it.
+    commas(bytes, from, to, begins, ends, most) {
+        return parted(bytes, from, to, begins, ends, most, COMMA, true);
+    },
+};
+
+function parted(bytes, from, to, begins, ends, most, mark, quoted) {
+    let count = 0;
+    let at = from;
+    while (count < most && from < to) {
+        begins[count] = at;
+        if (quoted && at < to && bytes[at] === QUOTE) {
+            at++;
+            while (at < to && !(bytes[at] === QUOTE && bytes[at + 1] !== QUOTE)) at += bytes[at] === QUOTE ? 2 : 1;
+        }
+        while (at < to && bytes[at] !== mark) at++;
+        ends[count++] = Math.min(at, to);
+        if (at >= to) break;
+        at++;
+    }
+    return count;
+}
+
+function endsWith(bytes, from, to, word) {
+    if (to - from < word.length) return false;
+    for (let i = 0; i < word.length; i++) {
+        if (bytes[to - word.length + i] !== word.charCodeAt(i)) return false;
+    }
+    return true;
+}
+
+// Cuts keys, and sizes where there are some, out of lines, and hands on bytes in which each line is a request.
+class Cutter {
+    constructor(cut, emit) {
+        this.cut = cut;
+        this.emit = emit;
+        this.split = SPLITTERS[cut.split];
+        this.most = Math.max(...cut.keys, cut.size, ...(cut.answers.length ? [cut.method, cut.status] : []));
+        this.begins = new Uint32Array(this.most);
+        this.ends = new Uint32Array(this.most);
+        this.rest = new Uint8Array(0);
+        this.out = new Uint8Array(1 << 20);
+        this.used = 0;
+        this.lines = 0;
+        this.left = { short: 0, sizeless: 0, answered: 0 };
+    }
+
+    // The lines that end in these bytes. What is left of them waits for the next ones.
+    take(piece) {
+        const bytes = this.rest.length ? joined(this.rest, piece) : piece;
+        let from = 0;
+        for (;;) {
+            const to = bytes.indexOf(NEWLINE, from);
+            if (to < 0) break;
+            this.line(bytes, from, to);
+            from = to + 1;
+        }
+        this.rest = bytes.slice(from);
+    }
+
+    end() {
+        if (this.rest.length) this.line(this.rest, 0, this.rest.length);
+        this.rest = new Uint8Array(0);
+        this.flush();
+    }
+
+    flush() {
+        if (this.used) this.emit(this.out.subarray(0, this.used));
+        this.used = 0;
+    }
+
+    line(bytes, from, to) {
+        const { cut, begins, ends } = this;
+        this.lines++;
+        if (cut.heading && this.lines === 1) return;
+        if (cut.comments && bytes[from] === SHARP) return;
+        if (to > from && bytes[to - 1] === RETURN) to--;
+        if (this.split(bytes, from, to, begins, ends, this.most) < this.most) {
+            this.left.short++;
+            return;
+        }
+        if (cut.answers.length && !this.isAnswered(bytes)) {
+            this.left.answered++;
+            return;
+        }
+        this.room((to - from + 1) * (cut.keys.length + 1) + 1);
+        const before = this.used;
+        if (cut.size) {
+            if (!this.writeSize(bytes, begins[cut.size - 1], ends[cut.size - 1])) {
+                this.used = before;
+                this.left.sizeless++;
+                return;
+            }
+            this.out[this.used++] = BLANK;
+        }
+        for (const key of cut.keys) this.writeKey(bytes, begins[key - 1], ends[key - 1]);
+        this.out[this.used++] = NEWLINE;
+    }
+
+    // A GET whose status is one of those that are wanted: `"GET` and `200`, or `GET` and `TCP_HIT/200`.
+    isAnswered(bytes) {
+        const { method, status, answers } = this.cut;
+        let from = this.begins[method - 1];
+        const to = this.ends[method - 1];
+        if (bytes[from] === QUOTE) from++;
+        if (to - from !== 3 || !endsWith(bytes, from, to, "GET")) return false;
+        const [begin, end] = [this.begins[status - 1], this.ends[status - 1]];
+        if (end - begin !== 3 && bytes[end - 4] !== SLASH) return false;
+        return answers.some((answer) => endsWith(bytes, begin, end, answer));
+    }
+
+    room(wanted) {
+        if (this.out.length - this.used >= wanted) return;
+        this.flush();
+        if (this.out.length < wanted) this.out = new Uint8Array(wanted);
+    }
+
+    writeKey(bytes, from, to) {
+        const { out } = this;
+        const { queries } = this.cut;
+        let used = this.used;
+        for (let at = from; at < to; at++) {
+            const byte = bytes[at];
+            if (queries && byte === QUESTION) break;
+            out[used++] = byte;
+        }
+        this.used = used;
+    }
+
+    // Whether there is a size: a log has `-` where it knows none. What is no number is for the program to refuse.
+    writeSize(bytes, from, to) {
+        if (bytes[from] === QUOTE && bytes[to - 1] === QUOTE && to - from > 1) {
+            from++;
+            to--;
+        }
+        if (to - from === 1 && bytes[from] === DASH) return false;
+        for (let at = from; at < to; at++) this.out[this.used++] = bytes[at];
+        return true;
+    }
+}
+
+// Hands lines on as they are, and counts what may be wrong with them.
+class Passer {
+    constructor(emit) {
+        this.emit = emit;
+        this.odd = { lines: 0, empty: 0, returns: 0, zeros: 0 };
+        this.last = NEWLINE;
+    }
+
+    take(piece) {
+        const { odd } = this;
+        let last = this.last;
+        for (let at = 0; at < piece.length; at++) {
+            const byte = piece[at];
+            if (byte < BLANK) {
+                if (byte === NEWLINE) {
+                    odd.lines++;
+                    if (last === NEWLINE) odd.empty++;
+                    if (last === RETURN) odd.returns++;
+                } else if (byte === 0) odd.zeros++;
+            }
+            last = byte;
+        }
+        this.last = last;
+        this.emit(piece);
+    }
+
+    end() {}
+}
+
+// --- The program -------------------------------------------------------------------------------------------------------------
+
+class NoMemory extends Error {}
+
+const PAGE = 65536;
+const STRIDE = 16 << 20;
+const aligned = (at) => Math.ceil(at / 16) * 16;
+
+// The module with a log in its memory: first the log, behind it words and text, and then the block that the program gets.
+class Program {
+    constructor(instance) {
+        const { memory, report, __heap_base: base } = instance.exports;
+        this.memory = memory;
+        this.report = report;
+        this.words = aligned(Number(base.value));
+        this.log = this.words + 32;
+        this.end = this.log;
+        this.text = 1 << 20;
+        this.block = 0;
+    }
+
+    // Memory up to an address. It is asked for in long strides, since each growth may move it.
+    reach(address) {
+        const missing = address - this.memory.buffer.byteLength;
+        if (missing <= 0) return true;
+        for (const more of [Math.max(missing, STRIDE, (address - this.log) / 4), missing]) {
+            try {
+                this.memory.grow(BigInt(Math.ceil(more / PAGE)));
+                return true;
+            } catch {
+                // (then only what is needed)
+            }
+        }
+        return false;
+    }
+
+    append(bytes) {
+        if (!this.reach(this.end + bytes.length)) throw new NoMemory();
+        new Uint8Array(this.memory.buffer, this.end, bytes.length).set(bytes);
+        this.end += bytes.length;
+    }
+
+    // What the program writes for these words, and its status. A block or a text that was too small is doubled while there is memory.
+    ask(words) {
+        const given = new TextEncoder().encode(words.map((word) => word + "\n").join(""));
+        // (memory that is not written to costs nothing, and a block that is too small a whole pass)
+        this.block = Math.max(this.block, 4 * STRIDE + 2 * (this.end - this.log));
+        for (;;) {
+            const asked = this.call(given);
+            if (asked.status === 3 && this.fits(given.length, this.text, this.block * 2)) this.block *= 2;
+            else if (asked.status === 5 && this.fits(given.length, this.text * 2, this.block)) this.text *= 2;
+            else return asked;
+        }
+    }
+
+    fits(given, text, block) {
+        return this.reach(aligned(this.end) + aligned(given) + aligned(text) + block + 32);
+    }
+
+    call(given) {
+        const argumentsAt = aligned(this.end) + 16;
+        const textAt = aligned(argumentsAt + given.length);
+        const blockAt = aligned(textAt + this.text);
+        while (!this.fits(given.length, this.text, this.block)) {
+            if (this.block < PAGE) throw new NoMemory();
+            this.block = Math.floor(this.block / 32) * 16;
+        }
+        const words = new BigUint64Array(this.memory.buffer, this.words, 3);
+        words[0] = BigInt(blockAt);
+        words[1] = BigInt(this.block);
+        words[2] = 0n;
+        new Uint8Array(this.memory.buffer, argumentsAt, given.length).set(given);
+        const seed = crypto.getRandomValues(new BigUint64Array(2));
+        const numbers = [this.words, argumentsAt, given.length, this.log, this.end - this.log].map(BigInt);
+        const status = this.report(...numbers, ...seed, BigInt(textAt), BigInt(this.text), BigInt(this.words + 16));
+        const written = Number(new BigUint64Array(this.memory.buffer, this.words + 16, 1)[0]);
+        return { status, text: new TextDecoder().decode(new Uint8Array(this.memory.buffer, textAt, written)) };
+    }
+}
+
+// --- The mark ----------------------------------------------------------------------------------------------------------------
+
+const MARKS = 700;
+
+// Capacities for the mark: all where they are few, and else some that lie evenly on the picture's axis.
+function markedBetween(first, last) {
+    const marked = new Set([first, last]);
+    for (let i = 1; i < MARKS; i++) marked.add(Math.round(first * Math.pow(last / first, i / MARKS)));
+    if (last - first < MARKS) for (let capacity = first; capacity < last; capacity++) marked.add(capacity);
+    return [...marked].filter((capacity) => capacity >= first && capacity <= last).sort((a, b) => a - b);
+}
+
+const rowsOf = (table) => table.trimEnd().split("\n").slice(1).map((row) => row.split(",").map(Number));
+
+const tableOf = (picture) => picture.slice(picture.indexOf("<desc>\n") + 7, picture.indexOf("</desc>\n"));
+
+// What the misses are parts of, and the ends of the picture's axis without what was named. By keys the picture tells, and by bytes
+// the summary, which is a pass more.
+function wholeOf(program, picture, sizes) {
+    if (!sizes.length) {
+        const words = />([\d,]+) requests?, ([\d,]+) distinct keys?</.exec(picture);
+        const [, requests, distinct] = words.map((word) => Number(word.replaceAll(",", "")));
+        return { requests, first: 1, last: distinct };
+    }
+    const [requests, , , bytes, last, greatest] = rowsOf(program.ask(["--summary", ...sizes]).text)[0];
+    return { requests, bytes, first: Math.max(1, greatest), last };
+}
+
+// The numbers that the mark says, which are a table of the program's own. Null where there is nothing to mark.
+function marksFor(program, picture, words) {
+    const rows = rowsOf(tableOf(picture));
+    if (!rows.length) return null;
+    const sizes = words.filter((word) => word === "--sizes");
+    const whole = wholeOf(program, picture, sizes);
+    whole.last = Math.max(whole.last, rows.at(-1)[0]);
+    if (whole.last > Number.MAX_SAFE_INTEGER || whole.bytes > Number.MAX_SAFE_INTEGER) return null;
+    const marks = program.ask(["--at", markedBetween(whole.first, whole.last).join(","), ...sizes]);
+    return marks.status === 0 ? { ...whole, rows: rowsOf(marks.text) } : null;
+}
+
+// --- Messages ----------------------------------------------------------------------------------------------------------------
+
+let module = null;
+let head = null;
+let program = null;
+let held = "";
+let counts = null;
+
+const MOST_COLUMNS = 200;
+
+// (the arrays are of the kind that a Cutter has, or the splitters would be slow ever after)
+function columnsOf(line, split) {
+    const [begins, ends] = [new Uint32Array(MOST_COLUMNS), new Uint32Array(MOST_COLUMNS)];
+    const count = SPLITTERS[split](line, 0, line.length, begins, ends, MOST_COLUMNS);
+    return Array.from(begins.subarray(0, count), (begin, i) => worded(line.slice(begin, ends[i])));
+}
+
+const worded = (bytes) => new TextDecoder().decode(bytes.length > 2000 ? bytes.slice(0, 2000) : bytes);
+
+// The first ten lines, each as a text and by columns.
+async function look(file) {
+    head = await headOf(file);
+    const lines = [];
+    let from = 0;
+    while (from < head.length && lines.length < 10) {
+        const next = head.indexOf(NEWLINE, from);
+        let to = next < 0 ? head.length : next;
+        const returns = to > from && head[to - 1] === RETURN;
+        if (returns) to--;
+        const line = head.subarray(from, to);
+        const columns = Object.fromEntries(Object.keys(SPLITTERS).map((split) => [split, columnsOf(line, split)]));
+        lines.push({ text: worded(line), returns, columns });
+        from = (next < 0 ? head.length : next) + 1;
+    }
+    return { lines, packed: await isPacked(file) };
+}
+
+// What is read of the first lines, cut as it is to be.
+function sampleOf(cut) {
+    let text = "";
+    const reader = readerOf(cut, (bytes) => {
+        if (text.length < 20000) text += worded(bytes);
+    });
+    reader.take(head.length > 20000 ? head.subarray(0, 20000) : head);
+    reader.end();
+    return text.split("\n").slice(0, 5);
+}
+
+const readerOf = (cut, emit) => (cut.split ? new Cutter(cut, emit) : new Passer(emit));
+
+// Takes the log into the memory of a fresh module, unless it is the one that is there already.
+async function readLog(file, cut, say) {
+    const wanted = JSON.stringify([file.name, file.size, file.lastModified, cut]);
+    if (program && held === wanted) return;
+    program = null;
+    const fresh = new Program(await WebAssembly.instantiate(module, {}));
+    const reader = readerOf(cut, (bytes) => fresh.append(bytes));
+    let told = 0;
+    const tell = (read) => {
+        if (Date.now() - told < 100) return;
+        told = Date.now();
+        say({ progress: { read, size: file.size } });
+    };
+    for await (const piece of piecesOf(file, tell)) reader.take(piece);
+    reader.end();
+    counts = { lines: reader.lines ?? reader.odd.lines, left: reader.left, odd: reader.odd, bytes: fresh.end - fresh.log };
+    [program, held] = [fresh, wanted];
+}
+
+async function run({ file, cut, words }, say) {
+    const begun = performance.now();
+    await readLog(file, cut, say);
+    const read = performance.now();
+    say({ cut: counts, progress: null });
+    const report = program.ask([...words, "--svg"]);
+    const seconds = [read - begun, performance.now() - read].map((time) => (time / 1000).toFixed(1));
+    say({ report: { ...report, seconds, memory: program.memory.buffer.byteLength } });
+    if (report.status !== 0) return;
+    say({ marks: marksFor(program, report.text, words) });
+}
+
+async function answer(data, say) {
+    if (data.module) module = await WebAssembly.compile(data.module);
+    else if (data.look) say({ looked: await look(data.look) });
+    else if (data.sample) say({ sampled: sampleOf(data.sample) });
+    else if (data.run) await run(data.run, say);
+}
+
+// One message after the other.
+let before = Promise.resolve();
+onmessage = ({ data }) => {
+    const say = (answers) => postMessage(data.run ? { turn: data.run.turn, ...answers } : answers);
+    before = before.then(() => answer(data, say)).catch((error) => {
+        program = null;
+        const kind = error instanceof Packed ? "packed" : error instanceof NoMemory || error instanceof RangeError ? "memory" : "";
+        say({ fault: { kind, words: String(error.message || error) } });
+    });
+};
