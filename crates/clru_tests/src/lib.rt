@@ -20,6 +20,8 @@ mod makers;
 #[cfg(test)]
 mod of_lists;
 #[cfg(test)]
+mod passes;
+#[cfg(test)]
 mod performed;
 #[cfg(test)]
 mod printed;

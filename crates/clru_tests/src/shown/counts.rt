@@ -7,7 +7,7 @@ use crate::shown::{Name, room};
 use assertions::{equal, shows};
 use clru::{CLruCache, DefaultState};
 use clru_curve::{DistancePass, SizedPass};
-use clru_least::Foresight;
+use clru_least::{Foresight, ForesightPass};
 use clru_list::FixedSizeList;
 use clru_through::{Source, Through};
 use std::alloc::{AllocError, Global};
@@ -61,6 +61,8 @@ static NAMES: &[Name] = &[Name(1), Name(2), Name(1)];
 fn a_foresight_prints_its_count(rt: HostRuntime) -> Result<(), Fail> {
     let foresight = Foresight::new(rt.alloc(), NAMES, DefaultState)?;
     equal!(rt; shows(rt.alloc(), &foresight, "Foresight { requests: 3 }")?, true);
+    let pass: ForesightPass<Name> = ForesightPass::new(rt.alloc());
+    equal!(rt; shows(rt.alloc(), &pass, "ForesightPass { requests: 0 }")?, true);
     Ok(())
 }
 
