@@ -13,7 +13,7 @@ use Rattle.clru_model.proofs.Fitting.{sublist_fit, size_of-fit}
 use Rattle.clru_model.proofs.Finding.{IsHeld, weight_of-held, touch-held, touch-missed, held_at, missed_at}
 use Rattle.clru_model.proofs.Sublists.{IsSublist, goes, sublist_itself, sublist_remove_entry, sublist_keys, length-sublist, sum_by-sublist, IsDistinct-sublist}
 use Rattle.clru_model.proofs.Sublists.{sublist_take, sublist_trans, lookup-sublist}
-use Rattle.clru_nodes.specs.Nodes.{pairs_in, IsIndexed, IsSame, capacity_of}
+use Rattle.clru_nodes.specs.Nodes.{pairs_in, IsIndexed, KeepsAllButPairs, capacity_of}
 use Rattle.clru_nodes.specs.declared.nodes.Nodes.{Nodes}
 use Rattle.clru.specs.Fields.{IsKept, IsCache}
 use Rattle.clru.specs.Weighed.{IsWeighed}
@@ -118,7 +118,7 @@ module _ {K V S W A H : Type 0} {eq : K → K → Bool} (weight : W → K → V 
 
   -- after a touch by a form of a key
   pub IsCache-touch : {X : Type 0} {n : Nodes K V S A H} (by : X → K → Bool) (k : X) → IsForm eq (by k) → IsEquivalence eq → IsCache eq weight hash x c
-      → pairs_in n ≡ touch by k (pairs_in x.nodes) → IsIndexed hash n → IsSame x.nodes n → IsCache eq weight hash (record x { nodes = n }) c
+      → pairs_in n ≡ touch by k (pairs_in x.nodes) → IsIndexed hash n → KeepsAllButPairs x.nodes n → IsCache eq weight hash (record x { nodes = n }) c
   IsCache-touch by k form laws old same indexed rest =
       let w = weight x.scale in
       IsCache-from old same (IsKept-touch_form w by k form laws old.pairs) (record {

@@ -6,7 +6,7 @@ use Rattle.std.specs.Fn.{Mut, Called}
 use Rattle.clru_model.specs.Entries.{touch, plain_put, with_front}
 use Rattle.clru_model.proofs.Finding.{IsHeld, IsMissed, touch-missed, with_front-touch, plain_put-held, plain_put-missed}
 use Rattle.clru_nodes.specs.Growth.{GrowsIf}
-use Rattle.clru_nodes.specs.Nodes.{item_with, IsIndexed, IsSame, KeepsPairs, pairs_in, capacity_of, places_of, first_item, with_first_item}
+use Rattle.clru_nodes.specs.Nodes.{item_with, IsIndexed, KeepsAllButPairs, KeepsPairs, pairs_in, capacity_of, places_of, first_item, with_first_item}
 use Rattle.clru_nodes.specs.declared.nodes.Item.{Item}
 use Rattle.clru_nodes.specs.declared.nodes.Nodes.{Nodes}
 use Rattle.clru_nodes.proofs.WrittenItems.{first_written, held_places}
@@ -56,7 +56,7 @@ module _ {K V S A H W : Type 0} {eq : K → K → Bool} {hash : S → K → ℕ}
 
   -- the entry of a held key, after a touch
   pub lent_held : IsEquivalence eq → IsHeld (eq key) (pairs_in x.nodes) → {z : Nodes K V S A H}
-      → pairs_in z ≡ touch eq key (pairs_in x.nodes) → IsIndexed hash z → IsSame x.nodes z
+      → pairs_in z ≡ touch eq key (pairs_in x.nodes) → IsIndexed hash z → KeepsAllButPairs x.nodes z
       → {i : Item K V} → first_item z ≡ Some i → (w : V) → IsLentPut z i w
   lent_held laws h {z} touched indexed same {i} first w =
       let lent = first_written z first w in let after = lent.indexed indexed in
@@ -74,7 +74,7 @@ module _ {K V S A H W : Type 0} {eq : K → K → Bool} {hash : S → K → ℕ}
     pub keeps : IsCache eq (λ s k v. 0) hash (record x { nodes = z }) c
     pub grows : (y : Nodes K V S A H) → IsIndexed hash y → places_of y ≡ places_of z → Grows y
 
-  pub ready_new : {y z : Nodes K V S A H} → (m : IsMissed (eq key) (pairs_in x.nodes)) → pairs_in y ≡ touch eq key (pairs_in x.nodes) → IsSame x.nodes y
+  pub ready_new : {y z : Nodes K V S A H} → (m : IsMissed (eq key) (pairs_in x.nodes)) → pairs_in y ≡ touch eq key (pairs_in x.nodes) → KeepsAllButPairs x.nodes y
       → GrowsIf (length (pairs_in y) < capacity_of y) (length (pairs_in y)) (capacity_of y) (places_of y) (places_of z)
       → KeepsPairs y z → IsIndexed hash z → IsReady z
   ready_new {y} {z} m touched same growth keeps indexed =
@@ -90,7 +90,7 @@ module _ {K V S A H W : Type 0} {eq : K → K → Bool} {hash : S → K → ℕ}
 
   -- the entry of a new key, which was put in front then
   pub lent_new : IsEquivalence eq → IsMissed (eq key) (pairs_in x.nodes) → {y z : Nodes K V S A H} {v : V} → IsReady y → 0 < c
-      → pairs_in z ≡ (key, v) ∷ take (capacity_of y - 1) (pairs_in y) → IsIndexed hash z → IsSame y z
+      → pairs_in z ≡ (key, v) ∷ take (capacity_of y - 1) (pairs_in y) → IsIndexed hash z → KeepsAllButPairs y z
       → {i : Item K V} → first_item z ≡ Some i → (w : V) → IsLentPut z i w
   lent_new laws m {y} {z} {v} ready some pushed indexed same {i} first w =
       let lent = first_written z first w in let after = lent.indexed indexed in

@@ -9,7 +9,7 @@ use Rattle.std.specs.Option.{option_map_or}
 use Rattle.std.proofs.lemmas.Map.Made.{is_some-lookup}
 use Rattle.clru_model.specs.Entries.{plain_put}
 use Rattle.clru_model.specs.Requests.{hit, marks, misses}
-use Rattle.clru_model.proofs.Hits.{Keeps, Keeps_held, Keeps_put}
+use Rattle.clru_model.proofs.Hits.{HoldsHits, HoldsHits_held, HoldsHits_put}
 use Rattle.clru_model.proofs.Marks.{marks_push, misses_push}
 use Rattle.clru_model.proofs.PutSteps.{IsPut-plain}
 use Rattle.clru_model.proofs.Sublists.{length-sublist, sublist_take, sublist_remove_entry}
@@ -41,7 +41,7 @@ module _ {K W : Type 0} (eq : K → K → Bool) where
   pub record Replays (k n : ℕ) (xs : List K) (ms : List Bool) (m : ℕ) (c : Cache K Bool W) : Type 0 where
     pub marks : ms ≡ marks eq k xs
     pub misses : m ≡ misses eq k xs
-    pub keeps : Keeps eq k (reverse xs) (keys_of c.entries)
+    pub keeps : HoldsHits eq k (reverse xs) (keys_of c.entries)
     pub capacity : c.capacity ≡ k
     pub places : c.places ≡ min n k
     pub covered : length c.entries ≤ c.places
@@ -56,11 +56,11 @@ module _ {K W : Type 0} (eq : K → K → Bool) where
       let short : length c.entries ≤ k = omega (arith, r.covered, r.places) in
       let entries : new.entries ≡ plain_put eq k x held c.entries =
       ap (λ d. d.entries) put ∙ ap (λ i. plain_put eq i x held c.entries) r.capacity in
-      let hits : held ≡ hit eq k x (reverse xs) = is ∙ is_some-lookup (eq x) c.entries ∙ Keeps_held eq x c.entries short r.keeps in
+      let hits : held ≡ hit eq k x (reverse xs) = is ∙ is_some-lookup (eq x) c.entries ∙ HoldsHits_held eq x c.entries short r.keeps in
       record {
         marks = marked ∙ ap (λ l. l ++ held ∷ []) r.marks ∙ ap (λ b. marks eq k xs ++ b ∷ []) hits ∙ sym (marks_push eq k xs x);
         misses = missed ∙ ap (λ i. i + cond held 0 1) r.misses ∙ ap (λ b. misses eq k xs + cond b 0 1) hits ∙ sym (misses_push eq k xs x);
-        keeps = rw (reverse-append xs (x ∷ [])) (Keeps_put eq laws x c.entries new.entries r.keeps (IsPut-plain eq laws k x held c.entries new.entries entries));
+        keeps = rw (reverse-append xs (x ∷ [])) (HoldsHits_put eq laws x c.entries new.entries r.keeps (IsPut-plain eq laws k x held c.entries new.entries entries));
         capacity = ap (λ d. d.capacity) put ∙ r.capacity;
         places = ap (λ d. d.places) put ∙ r.places;
         covered = covers;

@@ -1,7 +1,7 @@
 -- Private: what the nodes of a cache keep with their scale and their total weight. No public clause cites it.
 use Rattle.std.specs.Prelude.{◌≡◌, ℕ}
 use Rattle.clru_model.specs.Entries.{weight_of, size_of}
-use Rattle.clru_nodes.specs.Nodes.{pairs_in, capacity_of, builder_of, IsIndexed, IsSame}
+use Rattle.clru_nodes.specs.Nodes.{pairs_in, capacity_of, builder_of, IsIndexed, KeepsAllButPairs}
 use Rattle.clru.specs.declared.weighed.Weighed.{Weighed}
 
 module _ {K V S W A H : Type 0} where
@@ -17,7 +17,7 @@ module _ {K V S W A H : Type 0} where
   -- all but the pairs and the total is as it was
   pub record KeepsRest (old new : Weighed K V S W A H) : Type 0 where
     pub scale : new.scale ≡ old.scale
-    pub nodes : IsSame old.nodes new.nodes
+    pub nodes : KeepsAllButPairs old.nodes new.nodes
 
   -- the same where places may have come
   pub record KeepsScale (old new : Weighed K V S W A H) : Type 0 where

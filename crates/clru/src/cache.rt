@@ -94,6 +94,7 @@ where
         ensures len { result ≡ length self.now.entries }
         ensures valid { IsValid K.eq (W.weight self.now.scale) self.now }
     {
+        // Read for the proof alone, which takes from it that a capacity is at most `usize::MAX`.
         let _capacity = self.capacity.get();
         self.pairs.nodes.len()
     }
@@ -113,7 +114,8 @@ where
         ensures weight { result ≡ weight_of (W.weight self.now.scale) self.now.entries }
         ensures valid { IsValid K.eq (W.weight self.now.scale) self.now }
     {
-        let _room = self.capacity.get();
+        // As in `len`.
+        let _capacity = self.capacity.get();
         self.pairs.total
     }
 

@@ -25,8 +25,9 @@ mod weighed;
 pub use cache::{CLruCache, Put};
 pub use clru_list::NoMemory;
 pub use clru_model::{
-    DefaultState, PutError, TryPutError, WeightScale, ZeroWeightScale, law_by_position, law_growth,
-    law_inclusion, law_longest_fit, law_requests, law_schedules_by_position, law_sizes,
+    DefaultState, PutError, TryPutError, WeightScale, ZeroWeightScale, law_by_position,
+    law_greater_capacity, law_inclusion, law_longest_fit, law_requests, law_schedules_by_position,
+    law_sizes,
 };
 pub use config::CLruCacheConfig;
 pub use cursor::CLruCacheIterMut;

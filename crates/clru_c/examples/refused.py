@@ -47,6 +47,12 @@ def main():
     seen("from 0 to 2^64 - 1", clru.misses_by_capacity, [1, -1], 2)
     seen("from 0 to 2^64 - 1", clru.hits_at, [1, 2], 2**64 + 1)
     seen("", clru.misses_by_capacity, [1.5, 2], 2)
+    for seed in ((), (5,), (5, 6, 7)):
+        seen("values to unpack", clru.hits_at, [1, 2], 2, seed)
+        seen("values to unpack", clru.misses_by_capacity, [1, 2], 2, seed)
+        seen("values to unpack", clru.least_by_room, [1, 2], [1], seed)
+        seen("values to unpack", clru.misses_by_size, [1, 2], [3, 4], [8], seed)
+    seen("", clru.hits_at, [1, 2, 3, 1], ctypes.c_size_t(2))
     wanted = [False, False, True], 2, [3, 2, 2], 2, [3], [3, 2], [16, 11], 11
     if answered() != wanted:
         sys.exit(f"refused: {answered()}, and not {wanted}")

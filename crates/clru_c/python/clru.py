@@ -41,14 +41,14 @@ def hits_at(keys, capacity, seed=SEED):
     """Whether each request hits at one capacity, in keys, and how many don't."""
     keys, misses = _numbers(keys), ctypes.c_size_t()
     hits = _zeros(len(keys), ctypes.c_bool)
-    _call("clru_hits_at", keys, capacity, *seed, hits, misses)
+    _call("clru_hits_at", keys, _whole(capacity), *_words(seed), hits, misses)
     return hits, misses.value
 
 
-def misses_by_capacity(keys, capacities, seed=SEED):
-    """The misses at the capacities 1, 2 and so on up to `capacities`, in keys, and the number of distinct keys."""
-    keys, misses, distinct = _numbers(keys), _zeros(capacities), ctypes.c_size_t()
-    _call("clru_misses_by_capacity", keys, *seed, misses, distinct)
+def misses_by_capacity(keys, count, seed=SEED):
+    """The misses at the capacities 1, 2 and so on up to `count`, in keys, and the number of distinct keys."""
+    keys, misses, distinct = _numbers(keys), _zeros(_whole(count)), ctypes.c_size_t()
+    _call("clru_misses_by_capacity", keys, *_words(seed), misses, distinct)
     return misses, distinct.value
 
 
@@ -56,7 +56,7 @@ def least_by_room(keys, rooms, seed=SEED):
     """The least possible misses for each of the rooms, in keys."""
     keys, rooms = _numbers(keys), _numbers(rooms)
     least = _zeros(len(rooms))
-    _call("clru_least_by_room", keys, rooms, *seed, least)
+    _call("clru_least_by_room", keys, rooms, *_words(seed), least)
     return least
 
 
@@ -64,7 +64,7 @@ def misses_by_size(keys, sizes, capacities, seed=SEED):
     """The misses and the missed size at each of the capacities, which are sums of sizes, and the size of the distinct objects."""
     keys, sizes, capacities = _numbers(keys), _numbers(sizes), _numbers(capacities)
     misses, missed_sizes, distinct_size = _zeros(len(capacities)), _zeros(len(capacities)), ctypes.c_size_t()
-    _call("clru_misses_by_size", keys, sizes, capacities, *seed, misses, missed_sizes, distinct_size)
+    _call("clru_misses_by_size", keys, sizes, capacities, *_words(seed), misses, missed_sizes, distinct_size)
     return misses, missed_sizes, distinct_size.value
 
 
@@ -105,6 +105,12 @@ def _whole(number):
     if not 0 <= number < 2**64:
         raise ValueError(f"{number} is no number from 0 to 2^64 - 1")
     return number
+
+
+# A seed of one word, or of three, would move all that is passed behind it.
+def _words(seed):
+    low, high = seed
+    return _whole(low), _whole(high)
 
 
 def _numbers(values):

@@ -1,6 +1,6 @@
 //! Does a contract tell its callers enough? Callers with clauses of their own, each proved by the public contracts alone: of the
 //! cache and its runs, and in `of_lists`, `of_stores`, `of_curves` and `of_least` of the list, the store, curves and the least.
-//! `clru_tests` runs them.
+//! `clru_callers_tests` runs them.
 #![tactic(auto)]
 
 ghost use Rattle.std.specs.Prelude.{◌≡◌, ◌+◌, Some, nat_eq, OnOk, OnErr, IfSome};

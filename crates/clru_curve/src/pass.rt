@@ -136,8 +136,8 @@ impl<K: Eq + Hash, S: BuildHasher, A: Allocator + Copy> DistancePass<K, S, A> {
         let Ok(()) = self.latest.make_ready() else {
             return Err(key);
         };
-        let number = self.latest.requests;
-        let Some(position) = move_position(&mut self.positions, key, number) else {
+        let here = self.latest.requests;
+        let Some(position) = move_position(&mut self.positions, key, here) else {
             return Ok(None);
         };
         let distance = self.latest.count_after(position);
@@ -253,7 +253,7 @@ pub(crate) fn double_if_full<K: Eq + Hash + Drop, S: BuildHasher, A: Allocator +
 pub(crate) fn move_position<K, S, A, Q>(
     positions: &mut CLruCache<K, usize, S, ZeroWeightScale, A>,
     key: Q,
-    number: usize,
+    here: usize,
 ) -> Option<usize>
 where
     K: Eq + Hash,
@@ -263,10 +263,10 @@ where
     ensures found { result ≡ lookup (Q.equivalent key) positions.old.entries }
     ensures same { IsNone result → positions.new ≡ positions.old }
     ensures moved { IsSome result → positions.new
-        ≡ with_entries positions.old (set_value (Q.equivalent key) positions.old.entries number) }
+        ≡ with_entries positions.old (set_value (Q.equivalent key) positions.old.entries here) }
 {
     match positions.peek_mut(key) {
-        Some(position) => Some(mem::replace(position, number)),
+        Some(position) => Some(mem::replace(position, here)),
         None => None,
     }
 }
@@ -293,8 +293,8 @@ fn misses_of(histogram: &mut [usize], requests: usize)
         → slice_index histogram.new i + sum (take (suc i) histogram.old) ≡ requests }
 {
     let mut misses = requests;
-    for number in histogram.iter_mut() {
-        misses -= *number;
-        *number = misses;
+    for count in histogram.iter_mut() {
+        misses -= *count;
+        *count = misses;
     }
 }

@@ -1,4 +1,4 @@
-//! The examples of the docs. `clru_tests` runs each, and `tools/quotes` compares what the docs quote with the text here.
+//! The examples of the docs. `clru_callers_tests` runs each, and `tools/quotes` compares what the docs quote with the text here.
 #![tactic(auto)]
 
 pub mod budget;

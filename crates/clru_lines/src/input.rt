@@ -66,7 +66,7 @@ fn read_chunk<R: Read, A: Allocator>(
         Consumes (R.remaining reader.old) (R.remaining reader.new) (take count (drop filled bytes.new.items))) }
     ensures end { result ≡ Ok 0 → IsAtEnd (R.remaining reader.new) }
 {
-    let Ok(()) = make_room(bytes, filled) else {
+    let Ok(()) = lengthen(bytes, filled) else {
         return Err(ReadError::Memory);
     };
     match read_at(reader, bytes.as_mut_slice(), filled) {
@@ -76,7 +76,7 @@ fn read_chunk<R: Read, A: Allocator>(
 }
 
 // Makes the vector longer than `filled`, by zeros: at first by the room of one read, and then to twice its length.
-fn make_room<A: Allocator>(bytes: &mut Vec<u8, A>, filled: usize) -> Result<(), AllocError>
+fn lengthen<A: Allocator>(bytes: &mut Vec<u8, A>, filled: usize) -> Result<(), AllocError>
     requires { filled ≤ vec_len bytes.old }
     ensures room { OnOk result (filled < vec_len bytes.new) }
     ensures kept { take filled bytes.new.items ≡ take filled bytes.old.items }

@@ -13,12 +13,12 @@ use Rattle.clru_model.proofs.Distinct.{since-cons, same_right, hit-cons}
 
 module _ {K : Type 0} (eq : K → K → Bool) where
   -- up to the capacity k, the first j of the keys held, latest first, are the hits at capacity j
-  pub record Keeps (k : ℕ) (past ks : List K) : Type 0 where
+  pub record HoldsHits (k : ℕ) (past ks : List K) : Type 0 where
     pub kept : (j : ℕ) (y : K) → j ≤ k → holds eq y (take j ks) ≡ hit eq j y past
 
   -- before the first request nothing is held
-  pub Keeps_none : (k : ℕ) → Keeps k [] []
-  Keeps_none k = record { kept = none }
+  pub HoldsHits_none : (k : ℕ) → HoldsHits k [] []
+  HoldsHits_none k = record { kept = none }
     where
       none : (j : ℕ) (y : K) → j ≤ k → holds eq y (take j []) ≡ hit eq j y []
       none zero y within = refl
@@ -42,9 +42,9 @@ module _ {K : Type 0} (eq : K → K → Bool) where
 
 module _ {K V : Type 0} (eq : K → K → Bool) where
   -- under the invariant the keys held are the hits at the capacity
-  pub Keeps_held : {k : ℕ} {past : List K} (x : K) (es : List (K × V)) → length es ≤ k → Keeps eq k past (keys_of es)
+  pub HoldsHits_held : {k : ℕ} {past : List K} (x : K) (es : List (K × V)) → length es ≤ k → HoldsHits eq k past (keys_of es)
       → holds eq x (keys_of es) ≡ hit eq k x past
-  Keeps_held {k} x es short keeps =
+  HoldsHits_held {k} x es short keeps =
       let all : take k (keys_of es) ≡ keys_of es = take_all k (keys_of es) (rw length-map short) in
       rw all at (keeps.kept k x (omega arith))
 
@@ -61,9 +61,9 @@ module _ {K V : Type 0} (eq : K → K → Bool) (laws : IsEquivalence eq) where
       rw (f, ih) (split (holds eq x (take j (keys_of es))) (λ t. rw t refl) (λ g. rw g refl)))
 
   -- the invariant after a put of x
-  pub Keeps_put : {k : ℕ} {past : List K} (x : K) (es next : List (K × V)) → Keeps eq k past (keys_of es) → IsPut eq k x es next
-      → Keeps eq k (x ∷ past) (keys_of next)
-  Keeps_put {k} {past} x es next keeps put = record { kept = λ j y within. rw put.entries (at put.key put.same j y within) }
+  pub HoldsHits_put : {k : ℕ} {past : List K} (x : K) (es next : List (K × V)) → HoldsHits eq k past (keys_of es) → IsPut eq k x es next
+      → HoldsHits eq k (x ∷ past) (keys_of next)
+  HoldsHits_put {k} {past} x es next keeps put = record { kept = λ j y within. rw put.entries (at put.key put.same j y within) }
     where
       at : (q : K) → eq x q ≡ true → (j : ℕ) (y : K) → j ≤ k
           → holds eq y (take j (q ∷ keys_of (cond (holds eq x (keys_of es)) (remove_entry (eq x) es) (take (k - 1) es)))) ≡ hit eq j y (x ∷ past)

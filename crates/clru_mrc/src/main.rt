@@ -82,7 +82,7 @@ fn reported(rt: &HostRuntime, options: &Options, progress: bool, seed: RandomSta
     let outcome = run(rt.alloc(), options, &mut input, &mut output, seed);
     let line = match outcome {
         Ok(()) => {
-            input.warn(output.last_misses());
+            input.warn(output.last_misses(), options);
             None
         }
         Err(Fault::NoSize(number)) => input.say_line(number),

@@ -1,6 +1,7 @@
 //! What is told of an input beside its report: how far it is read, and whether it looks like something else than a log.
 
 use crate::lines::{Lines, instead_of_size, quoted};
+use clru_report::{Capacities, Options, Sample};
 use std::io::{self, Read};
 use std::time::{Duration, Instant};
 
@@ -38,7 +39,7 @@ impl<'h, R: Read> Watch<'h, R> {
     }
 
     /// Tells what of the whole input looks wrong, where its report has so many misses at the greatest capacity.
-    pub(crate) fn warn(&self, misses: Option<u64>) {
+    pub(crate) fn warn(&self, misses: Option<u64>, options: &Options) {
         let (lines, empty, returns) = (self.lines.count, self.lines.empty, self.lines.returns);
         if self.bytes == 0 {
             self.say("standard input was empty, so there are no requests");
@@ -60,17 +61,36 @@ impl<'h, R: Read> Watch<'h, R> {
                 "clru_mrc: {returns} of {lines} lines end with a carriage return, which is a part of their keys"
             );
         }
-        if misses == Some(lines) && self.lines.are_many() {
-            let _ = eprintln!(self.rt;
-                "clru_mrc: none of {lines} requests hits at any of these capacities: is each line the whole line of a log?"
-            );
-        }
+        self.warn_of_misses(misses, options);
         if let Some((count, line)) = self.lines.most_of_all() {
             if let Ok(key) = quoted(self.rt, line) {
                 let _ = eprintln!(self.rt;
                     "clru_mrc: {count} of {lines} requests or more are for one key, {key}"
                 );
             }
+        }
+    }
+
+    // What a sample misses is reckoned, so it does not tell that none hits.
+    fn warn_of_misses(&self, misses: Option<u64>, options: &Options) {
+        let lines = self.lines.count;
+        match (options.sample, &options.capacities) {
+            (Sample::Whole, _) => {
+                if misses == Some(lines) && self.lines.are_many() {
+                    let _ = eprintln!(self.rt;
+                        "clru_mrc: none of {lines} requests hits at any of these capacities: is each line the whole line of a log?"
+                    );
+                }
+            }
+            (_, Capacities::Named(_)) if misses.is_none() => self.say(
+                "all capacities of --at are below the first one that this sample tells of: name greater ones",
+            ),
+            (Sample::OneIn(one_in), _) if lines > 0 && misses.unwrap_or(0) == 0 => {
+                let _ = eprintln!(self.rt;
+                    "clru_mrc: the sample of one key in {one_in} is empty: write a smaller number behind --sample"
+                );
+            }
+            _ => {}
         }
     }
 

@@ -112,10 +112,10 @@ free-replicate n h heads same =
 
 module _ {K V S A H : Type 0} (hash : S → K → ℕ) (x : Nodes K V S A H) where
   -- with no pair all chains are empty
-  pub indexed_none : x.list.entries ≡ [] → ((h : ℕ) → number_in x.heads.items h ≡ 0)
-      → length x.heads.links ≤ length x.heads.items → x.list.places ≤ length x.heads.links → x.list.places ≤ x.heads.bound → IsIndexed hash x
+  pub indexed_none : x.list.entries ≡ [] → ((h : ℕ) → number_in x.heads.firsts h ≡ 0)
+      → length x.heads.links ≤ length x.heads.firsts → x.list.places ≤ length x.heads.links → x.list.places ≤ x.heads.bound → IsIndexed hash x
   indexed_none none free headed linked named = record {
-    chained = linked_none (number_in x.heads.items) (number_in x.heads.links) (key_at x.list.entries) free refl (λ q off. rw none refl);
+    chained = linked_none (number_in x.heads.firsts) (number_in x.heads.links) (key_at x.list.entries) free refl (λ q off. rw none refl);
     held = rw none (omega arith);
     headed = headed;
     linked = linked;

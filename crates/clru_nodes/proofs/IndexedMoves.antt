@@ -7,7 +7,7 @@ use Rattle.clru_list.specs.PlaceList.{item_at, without, with_at, with_entries, I
 use Rattle.clru_list.specs.Places.{put}
 use Rattle.clru_nodes.specs.Chained.{IsLinked}
 use Rattle.clru_nodes.specs.Heads.{key_at, IsChainedAs}
-use Rattle.clru_nodes.specs.Nodes.{IsIndexed, IsSame}
+use Rattle.clru_nodes.specs.Nodes.{IsIndexed, KeepsAllButPairs}
 use Rattle.clru_nodes.specs.declared.nodes.Item.{Item}
 use Rattle.clru_nodes.specs.declared.nodes.Nodes.{Nodes}
 use Rattle.clru_list.proofs.Puts.{put-here, put-other}
@@ -68,7 +68,7 @@ items_to_front p i es apart held q = elim (cases_eq p q) [
 
 module _ {K V S A H : Type 0} {hash : S → K → ℕ} {x y : Nodes K V S A H} where
   -- with no more pairs than before the rest of the invariant stays
-  pub indexed_from : IsIndexed hash x → IsSame x y → IsChainedAs hash (key_at y.list.entries) y → length y.list.entries ≤ length x.list.entries
+  pub indexed_from : IsIndexed hash x → KeepsAllButPairs x y → IsChainedAs hash (key_at y.list.entries) y → length y.list.entries ≤ length x.list.entries
       → IsIndexed hash y
   indexed_from old same chained fewer = record {
     chained = chained;
@@ -79,7 +79,7 @@ module _ {K V S A H : Type 0} {hash : S → K → ℕ} {x y : Nodes K V S A H} w
   }
 
 -- other entries, and all else as it was
-pub same_nodes : {K V S A H : Type 0} {x : Nodes K V S A H} {es : List (ℕ × Item K V)} → IsSame x (record x { list = with_entries x.list es })
+pub same_nodes : {K V S A H : Type 0} {x : Nodes K V S A H} {es : List (ℕ × Item K V)} → KeepsAllButPairs x (record x { list = with_entries x.list es })
 same_nodes = record {
   capacity = refl;
   places = refl;

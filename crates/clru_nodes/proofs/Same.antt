@@ -1,22 +1,22 @@
 -- What stays of nodes, from step to step.
 use Rattle.std.proofs.Common.{◌≡◌, refl, ap, ◌∙◌}
 use Rattle.clru_list.specs.PlaceList.{PlaceList}
-use Rattle.clru_nodes.specs.Heads.{KeepsPlaces, IsSameSize}
+use Rattle.clru_nodes.specs.Heads.{KeepsPlaces, KeepsSizes}
 use Rattle.clru_nodes.specs.HeadList.{HeadList}
-use Rattle.clru_nodes.specs.Nodes.{pairs_of, IsSame, KeepsPairs}
+use Rattle.clru_nodes.specs.Nodes.{pairs_of, KeepsAllButPairs, KeepsPairs}
 use Rattle.clru_nodes.specs.declared.nodes.Item.{Item}
 use Rattle.clru_nodes.specs.declared.nodes.Nodes.{Nodes}
 
-size_refl : {h : HeadList} → IsSameSize h h
+size_refl : {h : HeadList} → KeepsSizes h h
 size_refl = record { heads = refl; links = refl; bound = refl; tags = refl }
 
-pub size_trans : {h i j : HeadList} → IsSameSize h i → IsSameSize i j → IsSameSize h j
+pub size_trans : {h i j : HeadList} → KeepsSizes h i → KeepsSizes i j → KeepsSizes h j
 size_trans a b = record { heads = b.heads ∙ a.heads; links = b.links ∙ a.links; bound = b.bound ∙ a.bound; tags = b.tags ∙ a.tags }
 
-pub same_refl : {K V S A H : Type 0} {x : Nodes K V S A H} → IsSame x x
+pub same_refl : {K V S A H : Type 0} {x : Nodes K V S A H} → KeepsAllButPairs x x
 same_refl = record { capacity = refl; places = refl; builder = refl; heads = size_refl }
 
-pub same_trans : {K V S A H : Type 0} {x y z : Nodes K V S A H} → IsSame x y → IsSame y z → IsSame x z
+pub same_trans : {K V S A H : Type 0} {x y z : Nodes K V S A H} → KeepsAllButPairs x y → KeepsAllButPairs y z → KeepsAllButPairs x z
 same_trans a b = record {
   capacity = b.capacity ∙ a.capacity;
   places = b.places ∙ a.places;

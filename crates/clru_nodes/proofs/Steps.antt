@@ -6,7 +6,7 @@ use Rattle.clru_list.specs.Places.{nowhere, put}
 use Rattle.clru_list.proofs.Puts.{put-here, put-other}
 use Rattle.clru_nodes.specs.Chained.{steps_of, of_head, IsCut, IsCutBehind, IsLinked, IsRelinked}
 use Rattle.clru_nodes.specs.HeadList.{HeadList, head_list, place_named, tag_by}
-use Rattle.clru_nodes.specs.Heads.{head_by, number_in, place_in, steps_in, numbers_along, low_of, IsChainedIn, IsRewritten, IsSameSize}
+use Rattle.clru_nodes.specs.Heads.{head_by, number_in, place_in, steps_in, numbers_along, low_of, IsChainedIn, IsRewritten, KeepsSizes}
 use Rattle.clru_nodes.proofs.Chaining.{single, steps_off, met_key}
 use Rattle.clru_nodes.proofs.Cuts.{passed_met, cut_passed, next_not_passed}
 use Rattle.clru_nodes.proofs.Hints.{relinked_places, link_stays, met_before, one_before}
@@ -17,36 +17,36 @@ use Rattle.clru_nodes.proofs.Same.{size_trans}
 module _ {K : Type 0} (hash : K → ℕ) (key : ℕ → Option K) (p : ℕ) where
   -- the link of a place in no chain is cleared
   pub chained_cleared : (a b : HeadList) → p < length a.links → IsChainedIn hash a (put key p None)
-      → b ≡ head_list a.items (set a.links p 0) a.bound a.tags → IsChainedIn hash b (put key p None)
+      → b ≡ head_list a.firsts (set a.links p 0) a.bound a.tags → IsChainedIn hash b (put key p None)
   chained_cleared a b within chained cleared =
       subst (λ h. IsChainedIn hash h (put key p None)) (sym cleared) (linked_apart a.links p 0 key within chained)
 
   -- the number that leads to the last place of a chain says that it is linked on
   module _ (b c : HeadList) (head last behind : ℕ) (chained : IsChainedIn hash b (put key p None))
       (leads : (last ≡ nowhere → ⊥) → steps_in b head behind ≡ last)
-      (cut : IsCutBehind (steps_in b head) (of_head (λ k. head_by (length b.items) (hash k)) head (put key p None)) behind last)
+      (cut : IsCutBehind (steps_in b head) (of_head (λ k. head_by (length b.firsts) (hash k)) head (put key p None)) behind last)
       (none : last ≡ nowhere → c ≡ b) (written : (last ≡ nowhere → ⊥) → IsRewritten b c head behind)
       (noted : (last ≡ nowhere → ⊥) → low_of b < numbers_along c head behind) where
-    chained_noted : IsLinked hash (tag_by b.tags) (low_of b) last (λ k. head_by (length b.items) (hash k)) (place_named b.bound)
-        (number_in c.items) (number_in c.links) (put key p None)
+    chained_noted : IsLinked hash (tag_by b.tags) (low_of b) last (λ k. head_by (length b.firsts) (hash k)) (place_named b.bound)
+        (number_in c.firsts) (number_in c.links) (put key p None)
     chained_noted = elim (cases_eq last nowhere) [
       | inl e ↦
-          subst (λ (z : ℕ). IsLinked hash (tag_by b.tags) (low_of b) z (λ k. head_by (length b.items) (hash k)) (place_named b.bound)
-          (number_in c.items) (number_in c.links) (put key p None)) (sym e)
-          (subst (λ (h : HeadList). IsLinked hash (tag_by b.tags) (low_of b) nowhere (λ k. head_by (length b.items) (hash k)) (place_named b.bound)
-          (number_in h.items) (number_in h.links) (put key p None)) (sym (none e)) chained)
+          subst (λ (z : ℕ). IsLinked hash (tag_by b.tags) (low_of b) z (λ k. head_by (length b.firsts) (hash k)) (place_named b.bound)
+          (number_in c.firsts) (number_in c.links) (put key p None)) (sym e)
+          (subst (λ (h : HeadList). IsLinked hash (tag_by b.tags) (low_of b) nowhere (λ k. head_by (length b.firsts) (hash k)) (place_named b.bound)
+          (number_in h.firsts) (number_in h.links) (put key p None)) (sym (none e)) chained)
       | inr o ↦
           let r = written o in
           let is : numbers_along c head behind ≡ r.number =
           r.written.here behind ∙ put-here (numbers_along b head) behind r.number behind refl in
-          linked_again chained head behind r.number (number_in c.items) (number_in c.links) (passed_met cut) r.written r.place r.tag
+          linked_again chained head behind r.number (number_in c.firsts) (number_in c.links) (passed_met cut) r.written r.place r.tag
           (λ more z. o (sym (leads o) ∙ z)) (λ short. let more = noted o in absurd (omega (arith, more, is, short)))
           last (λ more end. leads o) (λ g q met more now end z. absurd ((chained.hints g q met).leads more z))
     ]
 
-    steps_noted : (q : ℕ) → steps_of (place_in b.bound c.items) (place_in b.bound c.links) head q ≡ steps_in b head q
+    steps_noted : (q : ℕ) → steps_of (place_in b.bound c.firsts) (place_in b.bound c.links) head q ≡ steps_in b head q
     steps_noted q = elim (cases_eq last nowhere) [
-      | inl e ↦ ap (λ (h : HeadList). steps_of (place_in b.bound h.items) (place_in b.bound h.links) head q) (none e)
+      | inl e ↦ ap (λ (h : HeadList). steps_of (place_in b.bound h.firsts) (place_in b.bound h.links) head q) (none e)
       | inr o ↦ steps_again (place_named b.bound) (written o).written (written o).place q
     ]
 
@@ -54,26 +54,26 @@ module _ {K : Type 0} (hash : K → ℕ) (key : ℕ → Option K) (p : ℕ) wher
     number_noted off = elim (cases_eq last nowhere) [
       | inl e ↦ ap (λ (h : HeadList). number_in h.links p) (none e)
       | inr o ↦ link_stays (written o).written p off (λ e.
-          let home : K → ℕ = λ k. head_by (length b.items) (hash k) in
+          let home : K → ℕ = λ k. head_by (length b.firsts) (hash k) in
           let (k, is, _) = met_key home head (put key p None) p off (subst (λ x. 0 < of_head home head (put key p None) x) e (passed_met cut)) in
           let wrong : None ≡ Some k = sym (put-here key p None p refl) ∙ is in cc)
     ]
 
     -- and the place is put behind it
-    pub chained_behind : {d : HeadList} {n : ℕ} {k : K} → (p ≡ nowhere → ⊥) → key p ≡ Some k → head_by (length b.items) (hash k) ≡ head
+    pub chained_behind : {d : HeadList} {n : ℕ} {k : K} → (p ≡ nowhere → ⊥) → key p ≡ Some k → head_by (length b.firsts) (hash k) ≡ head
         → place_named b.bound n ≡ p → tag_by b.tags n ≡ tag_by b.tags (hash k) → (low_of b < n → ⊥) → number_in b.links p ≡ 0
-        → steps_in b head last ≡ nowhere → IsSameSize b c
-        → IsRelinked (number_in c.items) (number_in c.links) head last n (number_in d.items) (number_in d.links) → IsSameSize c d
+        → steps_in b head last ≡ nowhere → KeepsSizes b c
+        → IsRelinked (number_in c.firsts) (number_in c.links) head last n (number_in d.firsts) (number_in d.links) → KeepsSizes c d
         → IsChainedIn hash d key
     chained_behind {d} {n} {k} off held is named tagged last_named cleared ends size linked size' =
-        let home : K → ℕ = λ k. head_by (length b.items) (hash k) in
+        let home : K → ℕ = λ k. head_by (length b.firsts) (hash k) in
         let zero = number_noted off ∙ cleared in
         let at_p : place_in b.bound c.links p ≡ nowhere = ap (λ x. place_named b.bound x) zero in
         let sizes = size_trans size size' in
         sized_stay hash sizes.heads sizes.bound sizes.tags
         (linked_insert chained_noted head refl
         (subst (λ f. IsCut f (of_head home head (put key p None)) last) (sym (fun_ext steps_noted)) cut.cut)
-        p n (number_in d.items) (number_in d.links) key k off (put-here key p None p refl) linked named tagged
+        p n (number_in d.firsts) (number_in d.links) key k off (put-here key p None p refl) linked named tagged
         (λ short. at_p) (λ more end. last_named more) (at_p ∙ sym (steps_noted last ∙ ends)) (λ e. sym e ∙ at_p)
         (record {
           leads = λ more z. omega (arith, more, zero);
@@ -90,39 +90,39 @@ module _ {K : Type 0} (hash : K → ℕ) (key : ℕ → Option K) (p : ℕ) wher
   pub chained_taken : {a b c : HeadList} {head at behind n : ℕ} → (p ≡ nowhere → ⊥) → IsChainedIn hash a key
       → steps_in a head at ≡ p → ((at ≡ nowhere → ⊥) → steps_in a head behind ≡ at)
       → ((met : ℕ → ℕ) → IsCut (steps_in a head) met nowhere → IsCutBehind (steps_in a head) met behind at)
-      → n ≡ number_in a.links p → IsRelinked (number_in a.items) (number_in a.links) head at n (number_in b.items) (number_in b.links)
-      → IsSameSize a b → (at ≡ nowhere → c ≡ b) → ((at ≡ nowhere → ⊥) → IsRewritten b c head behind)
+      → n ≡ number_in a.links p → IsRelinked (number_in a.firsts) (number_in a.links) head at n (number_in b.firsts) (number_in b.links)
+      → KeepsSizes a b → (at ≡ nowhere → c ≡ b) → ((at ≡ nowhere → ⊥) → IsRewritten b c head behind)
       → ((at ≡ nowhere → ⊥) → numbers_along c head behind ≤ low_of b → place_named a.bound n ≡ nowhere)
-      → ((at ≡ nowhere → ⊥) → low_of b < numbers_along c head behind → place_named a.bound n ≡ nowhere → ⊥) → IsSameSize b c
+      → ((at ≡ nowhere → ⊥) → low_of b < numbers_along c head behind → place_named a.bound n ≡ nowhere → ⊥) → KeepsSizes b c
       → IsChainedIn hash c (put key p None)
   chained_taken {a} {b} {c} {head} {at} {behind} {n} off chained leads there cut next linked size none written ends led size' =
-      let home : K → ℕ = λ k. head_by (length a.items) (hash k) in
+      let home : K → ℕ = λ k. head_by (length a.firsts) (hash k) in
       let place = place_named a.bound in
       let key' : ℕ → Option K = put key p None in
       let here = cut _ (chained.chains.chain head) in
       let apart = next_not_passed here.cut p (single home head key p) leads off in
-      let linked' = subst (λ x. IsRelinked (number_in a.items) (number_in a.links) head at x (number_in b.items) (number_in b.links)) next linked in
-      let without = linked_remove chained head refl here.cut p (number_in b.items) (number_in b.links) key' off leads linked'
+      let linked' = subst (λ x. IsRelinked (number_in a.firsts) (number_in a.links) head at x (number_in b.firsts) (number_in b.links)) next linked in
+      let without = linked_remove chained head refl here.cut p (number_in b.firsts) (number_in b.links) key' off leads linked'
       (put-here key p None p refl) (λ q d. put-other key p None q (λ e. d (sym e))) in
       let rel = relinked_places place linked in
       let sizes = size_trans size size' in
       sized_stay hash sizes.heads sizes.bound sizes.tags (elim (cases_eq at nowhere) [
         | inl e ↦
-            subst (λ (z : ℕ). IsLinked hash (tag_by a.tags) (low_of a) z home place (number_in c.items) (number_in c.links) key') e
-            (subst (λ (h : HeadList). IsLinked hash (tag_by a.tags) (low_of a) at home place (number_in h.items) (number_in h.links) key') (sym (none e)) without)
+            subst (λ (z : ℕ). IsLinked hash (tag_by a.tags) (low_of a) z home place (number_in c.firsts) (number_in c.links) key') e
+            (subst (λ (h : HeadList). IsLinked hash (tag_by a.tags) (low_of a) at home place (number_in h.firsts) (number_in h.links) key') (sym (none e)) without)
         | inr o ↦
             let r = written o in
             let low : low_of b ≡ low_of a = omega (arith, size.bound, size.tags) in
             let is : numbers_along c head behind ≡ r.number =
             r.written.here behind ∙ put-here (numbers_along b head) behind r.number behind refl in
             let other : at ≡ behind → ⊥ = λ e. apart at (cut_passed here.cut) (sym (there o) ∙ ap (steps_in a head) (sym e) ∙ leads) in
-            let leads' : steps_of (place_in a.bound b.items) (place_in a.bound b.links) head behind ≡ at =
+            let leads' : steps_of (place_in a.bound b.firsts) (place_in a.bound b.links) head behind ≡ at =
             rel.here behind ∙ put-other (steps_in a head) at (place n) behind other ∙ there o in
             let link' : place_in a.bound b.links at ≡ place n =
-            sym (steps_off (place_in a.bound b.items) (place_in a.bound b.links) head at o) ∙ rel.here at ∙ put-here (steps_in a head) at (place n) at refl in
+            sym (steps_off (place_in a.bound b.firsts) (place_in a.bound b.links) head at o) ∙ rel.here at ∙ put-here (steps_in a head) at (place n) at refl in
             let met = met_before home head behind key' key (sym (put-other key p None behind (λ e. apart behind here.passed (sym e)))) (passed_met here) in
-            linked_again without head behind r.number (number_in c.items) (number_in c.links) met r.written
-            (subst (λ m. place_named m r.number ≡ steps_of (place_in m b.items) (place_in m b.links) head behind) size.bound r.place)
+            linked_again without head behind r.number (number_in c.firsts) (number_in c.links) met r.written
+            (subst (λ m. place_named m r.number ≡ steps_of (place_in m b.firsts) (place_in m b.links) head behind) size.bound r.place)
             (subst (λ t. tag_by t r.number ≡ tag_by t (numbers_along b head behind)) size.tags r.tag)
             (λ more z. o (sym leads' ∙ z))
             (λ short. ap (place_in a.bound b.links) leads' ∙ link' ∙ ends o (omega (arith, short, is, low)))

@@ -5,7 +5,7 @@ use Rattle.std.specs.Option.{option_map}
 use Rattle.clru_model.specs.Entries.{with_value_at, with_front}
 use Rattle.clru_list.specs.PlaceList.{first_entry}
 use Rattle.clru_nodes.specs.Nodes.{pair_of, pairs_of, pairs_in, places_of, item_with, first_item, last_item, item_at_index}
-use Rattle.clru_nodes.specs.Nodes.{with_items, with_first_item, with_last_item, with_item_at_index, with_value_found, IsIndexed, IsSame}
+use Rattle.clru_nodes.specs.Nodes.{with_items, with_first_item, with_last_item, with_item_at_index, with_value_found, IsIndexed, KeepsAllButPairs}
 use Rattle.clru_nodes.specs.declared.nodes.Item.{Item}
 use Rattle.clru_nodes.specs.declared.nodes.Nodes.{Nodes}
 use Rattle.clru_nodes.proofs.IndexedMoves.{same_nodes}
@@ -27,7 +27,7 @@ module _ {K V S A H : Type 0} where
     pub pairs : pairs_in y ≡ ps
     pub keys : keys_of (pairs_in y) ≡ keys_of (pairs_in x)
     pub indexed : {hash : S → K → ℕ} → IsIndexed hash x → IsIndexed hash y
-    pub same : IsSame x y
+    pub same : KeepsAllButPairs x y
 
   module _ (x : Nodes K V S A H) where
     -- each pair has memory

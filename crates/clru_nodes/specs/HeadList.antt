@@ -8,17 +8,17 @@ use Rattle.clru_nodes.specs.declared.heads.words.Words.TheVariants.{Narrow, Wide
 -- the number of each head, the number of the link of each place, the bound of the places that can be named, and the bits of a
 -- number that are those of a hash
 pub record HeadList : Type 0 where
-  pub items : List ℕ
+  pub firsts : List ℕ
   pub links : List ℕ
   pub bound : ℕ
   pub tags : ℕ
 
 abbrev pub head_list : List ℕ → List ℕ → ℕ → ℕ → HeadList
-head_list items links bound tags = record { items = items; links = links; bound = bound; tags = tags }
+head_list firsts links bound tags = record { firsts = firsts; links = links; bound = bound; tags = tags }
 
 abbrev pub head_list_code : Coded HeadList
 head_list_code = code_by (List ℕ × (List ℕ × (ℕ × ℕ))) (coded× (coded_list coded_ℕ) (coded× (coded_list coded_ℕ) (coded× coded_ℕ coded_ℕ)))
-    (λ h. (h.items, (h.links, (h.bound, h.tags)))) (λ p. head_list p.0 p.1.0 p.1.1.0 p.1.1.1) (λ _. refl)
+    (λ h. (h.firsts, (h.links, (h.bound, h.tags)))) (λ p. head_list p.0 p.1.0 p.1.1.0 p.1.1.1) (λ _. refl)
 
 -- the place that is one less, and 0 leads nowhere
 abbrev pub place_numbered : ℕ → ℕ

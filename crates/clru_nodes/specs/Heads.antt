@@ -57,11 +57,11 @@ place_in bound numbers k = place_named bound (number_in numbers k)
 
 -- the steps along the chain of a head
 abbrev pub steps_in : HeadList → ℕ → ℕ → ℕ
-steps_in x h = steps_of (place_in x.bound x.items) (place_in x.bound x.links) h
+steps_in x h = steps_of (place_in x.bound x.firsts) (place_in x.bound x.links) h
 
 -- the numbers along it
 abbrev pub numbers_along : HeadList → ℕ → ℕ → ℕ
-numbers_along x h = steps_of (number_in x.items) (number_in x.links) h
+numbers_along x h = steps_of (number_in x.firsts) (number_in x.links) h
 
 -- a greater number says that the place that it names is linked on
 abbrev pub low_of : HeadList → ℕ
@@ -84,26 +84,26 @@ pub record IsNumberOf (x : HeadList) (p hash n : ℕ) : Type 0 where
 -- one number of a chain is written anew: it names the same place, and has the same tag
 pub record IsRewritten (old new : HeadList) (h at : ℕ) : Type 0 where
   pub number : ℕ
-  pub written : IsRelinked (number_in old.items) (number_in old.links) h at number (number_in new.items) (number_in new.links)
+  pub written : IsRelinked (number_in old.firsts) (number_in old.links) h at number (number_in new.firsts) (number_in new.links)
   pub place : place_named old.bound number ≡ steps_in old h at
   pub tag : tag_by old.tags number ≡ tag_by old.tags (numbers_along old h at)
 
 -- as many heads and links, which can name as many places
-pub record IsSameSize (old new : HeadList) : Type 0 where
-  pub heads : length new.items ≡ length old.items
+pub record KeepsSizes (old new : HeadList) : Type 0 where
+  pub heads : length new.firsts ≡ length old.firsts
   pub links : length new.links ≡ length old.links
   pub bound : new.bound ≡ old.bound
   pub tags : new.tags ≡ old.tags
 
 -- the keys by their places stand in the chains of their heads, and nothing else does
 abbrev pub IsChainedIn : {K : Type 0} → (K → ℕ) → HeadList → (ℕ → Option K) → Type 0
-IsChainedIn hash x key = IsLinked hash (tag_by x.tags) (low_of x) nowhere (λ k. head_by (length x.items) (hash k)) (place_named x.bound)
-    (number_in x.items) (number_in x.links) key
+IsChainedIn hash x key = IsLinked hash (tag_by x.tags) (low_of x) nowhere (λ k. head_by (length x.firsts) (hash k)) (place_named x.bound)
+    (number_in x.firsts) (number_in x.links) key
 
 module _ {K V S A H : Type 0} where
   -- the head of a key
   abbrev pub home_at : (S → K → ℕ) → Nodes K V S A H → K → ℕ
-  home_at hash x k = head_by (length x.heads.items) (hash x.hash_builder k)
+  home_at hash x k = head_by (length x.heads.firsts) (hash x.hash_builder k)
 
   -- the same of nodes
   abbrev pub IsChainedAs : (S → K → ℕ) → (ℕ → Option K) → Nodes K V S A H → Type 0
@@ -119,7 +119,7 @@ module _ {K V S A H : Type 0} where
     pub held : item_at p x.list.entries ≡ Some item
     pub home : home_at hash x item.key ≡ h
     pub off : p ≡ nowhere → ⊥
-    pub within : h < length x.heads.items
+    pub within : h < length x.heads.firsts
 
   -- what a place holds, whose key has the hash n
   pub record HasHash (hash : S → K → ℕ) (n p : ℕ) (x : Nodes K V S A H) : Type 0 where

@@ -7,7 +7,7 @@ use Rattle.std.specs.HashMap.Lent.{HashMembers}
 use Rattle.std.specs.declared.hash.BuildHasher as builder
 use Rattle.std.specs.declared.hash.Hasher as hasher
 use Rattle.clru_list.specs.PlaceList.{first_entry, last_entry, with_entries, with_first, with_last}
-use Rattle.clru_nodes.specs.Heads.{key_at, with_item_at, with_value, IsChainedAs, IsSameSize}
+use Rattle.clru_nodes.specs.Heads.{key_at, with_item_at, with_value, IsChainedAs, KeepsSizes}
 use Rattle.clru_nodes.specs.declared.nodes.Item.{Item}
 use Rattle.clru_nodes.specs.declared.nodes.Nodes.{Nodes}
 
@@ -81,16 +81,16 @@ module _ {K V S A H : Type 0} where
   pub record IsIndexed (hash : S → K → ℕ) (x : Nodes K V S A H) : Type 0 where
     pub chained : IsChainedAs hash (key_at x.list.entries) x
     pub held : length x.list.entries ≤ x.list.places
-    pub headed : length x.heads.links ≤ length x.heads.items
+    pub headed : length x.heads.links ≤ length x.heads.firsts
     pub linked : x.list.places ≤ length x.heads.links
     pub named : x.list.places ≤ x.heads.bound
 
   -- all but the chains, the pairs and their order is as it was
-  pub record IsSame (old new : Nodes K V S A H) : Type 0 where
+  pub record KeepsAllButPairs (old new : Nodes K V S A H) : Type 0 where
     pub capacity : capacity_of new ≡ capacity_of old
     pub places : places_of new ≡ places_of old
     pub builder : builder_of new ≡ builder_of old
-    pub heads : IsSameSize old.heads new.heads
+    pub heads : KeepsSizes old.heads new.heads
 
   -- no pair is held, the capacity is c, and memory was found for p pairs
   pub record IsEmpty (c p : ℕ) (x : Nodes K V S A H) : Type 0 where

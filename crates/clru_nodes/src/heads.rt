@@ -58,9 +58,9 @@ impl<A: Allocator + Copy> Model for Heads<A> {
 impl<A: Allocator + Copy> Heads<A> {
     /// No heads. They take no memory.
     pub(crate) fn new(alloc: A, limit: usize) -> Self
-        ensures none { length result.items ≡ 0 }
+        ensures none { length result.firsts ≡ 0 }
         ensures unlinked { length result.links ≡ 0 }
-        ensures free { (h : ℕ) → number_in result.items h ≡ 0 }
+        ensures free { (h : ℕ) → number_in result.firsts h ≡ 0 }
     {
         Heads {
             words: Words::Narrow(Vec::new(alloc)),
@@ -72,9 +72,9 @@ impl<A: Allocator + Copy> Heads<A> {
 
     /// Heads of empty chains, with links for so many places, and which can name these. Without places they take no memory.
     pub(crate) fn empty(alloc: A, places: usize, limit: usize) -> Result<Self, NoMemory>
-        ensures free { IfOk result (λ x. (h : ℕ) → number_in x.items h ≡ 0) }
+        ensures free { IfOk result (λ x. (h : ℕ) → number_in x.firsts h ≡ 0) }
         ensures linked { IfOk result (λ x. places ≤ length x.links) }
-        ensures headed { IfOk result (λ x. length x.links ≤ length x.items) }
+        ensures headed { IfOk result (λ x. length x.links ≤ length x.firsts) }
         ensures named { IfOk result (λ x. length x.links ≤ x.bound) }
         ensures never_refused { places ≡ 0 → IsOk result }
     {
@@ -99,9 +99,9 @@ impl<A: Allocator + Copy> Heads<A> {
 
     /// Empty heads for so many places, from the allocator of these and with their limit.
     pub(crate) fn another(&self, places: usize) -> Result<Self, NoMemory>
-        ensures free { IfOk result (λ x. (h : ℕ) → number_in x.items h ≡ 0) }
+        ensures free { IfOk result (λ x. (h : ℕ) → number_in x.firsts h ≡ 0) }
         ensures linked { IfOk result (λ x. places ≤ length x.links) }
-        ensures headed { IfOk result (λ x. length x.links ≤ length x.items) }
+        ensures headed { IfOk result (λ x. length x.links ≤ length x.firsts) }
         ensures named { IfOk result (λ x. length x.links ≤ x.bound) }
     {
         Heads::empty(*self.words.allocator(), places, self.limit)
@@ -117,17 +117,17 @@ impl<A: Allocator + Copy> Heads<A> {
 
     /// The head of the keys with the hash.
     pub(crate) fn head_of(&self, hash: u64) -> usize
-        requires { 0 < length self.now.items }
-        ensures head { result ≡ head_by (length self.now.items) hash }
-        ensures within { result < length self.now.items }
+        requires { 0 < length self.now.firsts }
+        ensures head { result ≡ head_by (length self.now.firsts) hash }
+        ensures within { result < length self.now.firsts }
     {
         hash as usize & self.mask
     }
 
     /// The number of a head.
     pub(crate) fn first(&self, head: usize) -> usize
-        requires { head < length self.now.items }
-        ensures number { result ≡ number_in self.now.items head }
+        requires { head < length self.now.firsts }
+        ensures number { result ≡ number_in self.now.firsts head }
         ensures fits { IsNumber self.now result }
         ensures countable { length self.now.links < nowhere }
     {
@@ -202,9 +202,9 @@ impl<A: Allocator + Copy> Heads<A> {
 
     /// Writes the number of a head.
     pub(crate) fn set_first(&mut self, head: usize, number: usize)
-        requires head { head < length self.old.items }
+        requires head { head < length self.old.firsts }
         requires fits { IsNumber self.old number }
-        ensures { self.new ≡ head_list (set self.old.items head number) self.old.links self.old.bound self.old.tags }
+        ensures { self.new ≡ head_list (set self.old.firsts head number) self.old.links self.old.bound self.old.tags }
     {
         self.words.set(head, number);
     }
@@ -213,14 +213,14 @@ impl<A: Allocator + Copy> Heads<A> {
     pub(crate) fn set_next(&mut self, place: usize, number: usize)
         requires place { HasLink self.old place }
         requires fits { IsNumber self.old number }
-        ensures { self.new ≡ head_list self.old.items (set self.old.links place number) self.old.bound self.old.tags }
+        ensures { self.new ≡ head_list self.old.firsts (set self.old.links place number) self.old.bound self.old.tags }
     {
         self.words.set(self.mask + 1 + place, number);
     }
 
     /// Has all heads lead nowhere, and no place be linked.
     pub(crate) fn clear(&mut self)
-        ensures { self.new ≡ head_list (replicate (length self.old.items) 0) (replicate (length self.old.links) 0)
+        ensures { self.new ≡ head_list (replicate (length self.old.firsts) 0) (replicate (length self.old.links) 0)
             self.old.bound self.old.tags }
     {
         self.words.clear();

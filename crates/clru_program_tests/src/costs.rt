@@ -3,8 +3,9 @@ ghost use Rattle.std.specs.Hash.FoldHasher as folding;
 
 use crate::fakes::plain;
 use assertions::equal;
-use clru_report::{Capacities, Form, Options, run};
+use clru_report::{Capacities, Form, NonZeroUsize, Options, Sample, run};
 use ration::Rationed;
+use std::alloc::{AllocError, Global};
 use std::cell::Cell;
 use std::hash::{BuildHasher, FoldHasher};
 use std::test::Fail;
@@ -27,50 +28,95 @@ impl<'c> BuildHasher for Counting<'c> {
 /// How many lines of a thousand are new.
 const KEYS: usize = 10;
 
-// Of a form, whether by size, and whether with the least: its requests for memory.
-static REQUESTS: &[(Form, bool, bool, u64)] = &[
-    (Form::Table, false, false, 51),
-    (Form::Table, true, false, 70),
-    (Form::Table, false, true, 69),
-    (Form::Picture, false, false, 62),
-    (Form::Picture, true, false, 90),
-    (Form::Picture, false, true, 81),
-    (Form::Summary, false, false, 30),
-    (Form::Summary, true, false, 45),
-    (Form::Summary, false, true, 30),
+// Of a form, whether by size, and whether with the least: its requests for memory, and their bytes.
+static REQUESTS: &[(Form, bool, bool, u64, u64)] = &[
+    (Form::Table, false, false, 51, 68440),
+    (Form::Table, true, false, 70, 118314),
+    (Form::Table, false, true, 69, 112835),
+    (Form::Picture, false, false, 62, 86257),
+    (Form::Picture, true, false, 90, 185742),
+    (Form::Picture, false, true, 81, 131691),
+    (Form::Summary, false, false, 30, 67903),
+    (Form::Summary, true, false, 45, 117270),
+    (Form::Summary, false, true, 30, 67903),
 ];
 
-#[test]
-fn each_form_hashes_a_line_as_often(rt: HostRuntime) -> Result<(), Fail> {
-    let mut input = Vec::new(rt.alloc());
+// The same of a sample, which keeps half of the keys: whether by size, its hashes too.
+static OF_SAMPLES: &[(Form, bool, u64, u64, u64)] = &[
+    (Form::Table, false, 514, 39, 68089),
+    (Form::Table, true, 514, 57, 93163),
+    (Form::Picture, false, 514, 50, 85624),
+    (Form::Picture, true, 514, 76, 135966),
+    (Form::Summary, false, 514, 19, 67312),
+    (Form::Summary, true, 514, 37, 92167),
+];
+
+/// A thousand lines of ten keys, each with the size 7.
+fn thousand(alloc: Global) -> Result<Vec<u8>, AllocError> {
+    let mut input = Vec::new(alloc);
     for line in 0..1_000 {
         input.extend_from_slice(b"7 ")?;
         input.push(b'a' + (line % KEYS) as u8)?;
         input.push(b'\n')?;
     }
+    Ok(input)
+}
+
+/// The hashes, the requests for memory and their bytes of a report.
+fn costs_of(
+    alloc: Global,
+    input: &[u8],
+    form: Form,
+    flags: (bool, bool),
+    sample: Sample,
+) -> Result<(u64, u64, u64), Fail> {
+    let count = Cell::new(0);
+    let heap = Rationed::new(alloc);
+    let options = Options {
+        capacities: Capacities::Usual,
+        sizes: flags.0,
+        least: flags.1,
+        sample,
+        form,
+        look: plain(),
+    };
+    let mut reader = input;
+    let mut written = Vec::new(alloc);
+    run(&heap, &options, &mut reader, &mut written, Counting(&count))?;
+    Ok((count.get(), heap.asked(), heap.asked_bytes()))
+}
+
+#[test]
+fn each_form_hashes_a_line_as_often(rt: HostRuntime) -> Result<(), Fail> {
+    let input = thousand(rt.alloc())?;
     // A line that came before is hashed once, a new one three times, and four of ten where the places grow from 4 to 16.
     let once = 1_000 + 2 * KEYS as u64 + 4;
-    for (form, sizes, least, requests) in REQUESTS {
+    for (form, sizes, least, requests, bytes) in REQUESTS {
         // The least looks each line up once more; a summary has none.
         let again = if *least && *form != Form::Summary {
             1_000
         } else {
             0
         };
-        let count = Cell::new(0);
-        let heap = Rationed::new(rt.alloc());
-        let options = Options {
-            capacities: Capacities::Usual,
-            sizes: *sizes,
-            least: *least,
-            form: *form,
-            look: plain(),
-        };
-        let mut reader = input.as_slice();
-        let mut written = Vec::new(rt.alloc());
-        run(&heap, &options, &mut reader, &mut written, Counting(&count))?;
-        let costs = (count.get(), heap.asked());
-        equal!(rt; costs, (once + again, *requests), (*form, *sizes, *least));
+        let costs = costs_of(rt.alloc(), &input, *form, (*sizes, *least), Sample::Whole)?;
+        equal!(rt; costs, (once + again, *requests, *bytes), (*form, *sizes, *least));
+    }
+    Ok(())
+}
+
+#[test]
+fn each_form_of_a_sample_hashes_kept_lines_alone(rt: HostRuntime) -> Result<(), Fail> {
+    let input = thousand(rt.alloc())?;
+    let two = NonZeroUsize::new(2).ok_or("two")?;
+    for (form, sizes, hashes, requests, bytes) in OF_SAMPLES {
+        let costs = costs_of(
+            rt.alloc(),
+            &input,
+            *form,
+            (*sizes, false),
+            Sample::OneIn(two),
+        )?;
+        equal!(rt; costs, (*hashes, *requests, *bytes), (*form, *sizes));
     }
     Ok(())
 }

@@ -2,7 +2,9 @@
 
 use crate::fakes::{Breaking, Filling, plain};
 use assertions::equal;
-use clru_report::{Capacities, DefaultState, Fault, Form, Options, exit_status, run, write_report};
+use clru_report::{
+    Capacities, DefaultState, Fault, Form, Options, Sample, exit_status, run, write_report,
+};
 use ration::Rationed;
 use std::alloc::{Allocator, Global};
 use std::io::ErrorKind;
@@ -18,6 +20,7 @@ fn by_keys<A: Allocator>(least: bool, form: Form) -> Options<A> {
         capacities: Capacities::Usual,
         sizes: false,
         least,
+        sample: Sample::Whole,
         form,
         look: plain(),
     }
@@ -28,6 +31,7 @@ fn by_size<A: Allocator>(form: Form) -> Options<A> {
         capacities: Capacities::Each,
         sizes: true,
         least: false,
+        sample: Sample::Whole,
         form,
         look: plain(),
     }
@@ -168,6 +172,7 @@ fn within(
         capacities: Capacities::Usual,
         sizes,
         least,
+        sample: Sample::Whole,
         form: Form::Table,
         look: plain(),
     };

@@ -1,6 +1,6 @@
 //! Memory that was lent: what is left of it, what it refuses, and what it hands back.
 
-use assertions::equal;
+use assertions::{equal, shows};
 use lent_block::{LentBlock, Loan};
 use std::alloc::Global;
 use std::test::Fail;
@@ -118,5 +118,12 @@ fn a_list_below_another_moves_as_it_grows(rt: HostRuntime) -> Result<(), Fail> {
     equal!(rt; (count(&low, 1), count(&high, 2), heap.left()), (5, 4, 4096 - 32 - 32 - 64));
     low.shrink_to_fit();
     equal!(rt; (count(&low, 1), heap.left()), (5, 4096 - 32 - 32 - 64));
+    Ok(())
+}
+
+#[test]
+fn a_block_prints_what_is_left(rt: HostRuntime) -> Result<(), Fail> {
+    let heap = lent(rt.alloc(), 100)?;
+    equal!(rt; shows(rt.alloc(), &heap, "LentBlock { left: 96 }")?, true);
     Ok(())
 }

@@ -9,4 +9,5 @@ mod SettledCurves
 mod SizeViews
 mod SizedKnees
 mod SizedReports
+mod SizedSamples
 mod TakenLines

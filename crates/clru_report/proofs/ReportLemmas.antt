@@ -1,5 +1,5 @@
 -- Answers, and what follows from what is known of them.
-use Rattle.std.proofs.Common.{◌≡◌, true, false, Option, None, Some, IfNone, IfSome, Result, Ok, Err, IfErr, IfOk}
+use Rattle.std.proofs.Common.{◌≡◌, true, false, Option, None, Some, IfNone, IfSome, Result, Ok, Err, IfErr, IfOk, OnOk}
 use Rattle.std.specs.Option.{is_none}
 
 -- what holds of an answer holds of what follows from it
@@ -10,6 +10,10 @@ ok_map (Err e) f p = p
 pub err_map : {T E : Type 0} {P Q : E → Type 0} (r : Result T E) → ((e : E) → P e → Q e) → IfErr r P → IfErr r Q
 err_map (Ok x) f p = p
 err_map (Err e) f p = f e p
+
+pub on_ok_map : {T E P Q : Type 0} (r : Result T E) → (P → Q) → OnOk r P → OnOk r Q
+on_ok_map (Ok x) f p = f p
+on_ok_map (Err e) f p = p
 
 pub none_map : {X P Q : Type 0} (o : Option X) → (P → Q) → IfNone o P → IfNone o Q
 none_map None f p = f p

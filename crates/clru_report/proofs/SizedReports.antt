@@ -36,17 +36,17 @@ module _ (lines : List (List ℕ)) (curve : CurveBySize) (is : IsSizedCurveOf by
   abbrev missing : ℕ → ℕ
   missing c = misses_by_size bytes_eq weight_of_line c lines
 
-  greatest_is : 1 + curve.greatest_weight ≡ greatest_size lines
+  pub greatest_is : 1 + curve.greatest_weight ≡ greatest_size lines
   greatest_is = ap (λ n. 1 + n) is.greatest_weight
 
-  capacities_are : {A : Type 0} (asked : Capacities A)
+  pub capacities_are : {A : Type 0} (asked : Capacities A)
       → capacities_on curve asked ≡ sized_capacities_of asked missing (greatest_size lines) (distinct_size lines)
   capacities_are asked =
       sized-alike asked (misses_within curve) missing (1 + curve.greatest_weight) curve.distinct_size is.misses
       ∙ ap (λ g. sized_capacities_of asked missing g curve.distinct_size) greatest_is
       ∙ ap (sized_capacities_of asked missing (greatest_size lines)) is.distinct_size
 
-  row_is : (row : SizedRow) → IsRowOf curve row → IsSizedRow lines row
+  pub row_is : (row : SizedRow) → IsRowOf curve row → IsSizedRow lines row
   row_is row r = record {
     misses = r.misses ∙ is.misses (capacity_of_sized_row row);
     missed_size = r.missed_size ∙ is.missed_size (capacity_of_sized_row row);
@@ -62,7 +62,7 @@ module _ (lines : List (List ℕ)) (curve : CurveBySize) (is : IsSizedCurveOf by
   )
 
   -- with room for all keys each misses once
-  distinct_are : distinct_in curve ≡ distinct bytes_eq (reverse lines)
+  pub distinct_are : distinct_in curve ≡ distinct bytes_eq (reverse lines)
   distinct_are =
       split (curve.distinct_size == 0)
       (λ t. let none : distinct bytes_eq (reverse lines) ≡ 0 =

@@ -5,6 +5,7 @@ pub mod Knees
 pub mod Passes
 pub mod Refusals
 pub mod Report
+pub mod Samples
 pub mod SizedReport
 pub mod SizedTables
 pub mod Sizes

@@ -11,6 +11,7 @@ use Rattle.clru_lines.specs.declared.lines.OwnedKey.{OwnedKey}
 use Rattle.clru_model.specs.Requests.{distinct, misses}
 use Rattle.clru_report.specs.Capacities.{capacities_of, sized_capacities_of}
 use Rattle.clru_report.specs.Refusals.{IsFirstWithout, fault_from}
+use Rattle.clru_report.specs.Samples.{kept_of}
 use Rattle.clru_report.specs.Sizes.{HaveSizes, size_of_lines, weight_of_line}
 use Rattle.clru_report.specs.SizedTables.{capacity_of_sized_row, sized_table_text}
 use Rattle.clru_report.specs.declared.fault.Fault.{Fault}
@@ -39,6 +40,13 @@ pub record IsCurveOfInput (input : List ℕ) (curve : List ℕ) (requests bytes 
   pub counted : requests ≡ length (lines_of input)
   pub in_bytes : bytes ≡ length input
 
+-- the curve of the lines of an input that a sample keeps, with the number of all lines and that of the bytes
+pub record IsCurveOfKept (n : ℕ) (input : List ℕ) (curve : List ℕ) (requests bytes : ℕ) : Type 0 where
+  pub misses : HasMissesOf bytes_eq (kept_of n (lines_of input)) curve
+  pub distinct_keys : length curve ≡ distinct bytes_eq (reverse (kept_of n (lines_of input)))
+  pub counted : requests ≡ length (lines_of input)
+  pub in_bytes : bytes ≡ length input
+
 -- the capacities that are asked for, where the requests are these lines
 abbrev pub capacities_asked : {A : Type 0} → Options A → List (List ℕ) → List ℕ
 capacities_asked options lines =
@@ -59,6 +67,15 @@ pub record IsSizedCurveOfInput (input : List ℕ) (curve : CurveBySize) (bytes :
   pub sizes : HaveSizes (lines_of input)
   pub of_lines : IsSizedCurveOf bytes_eq weight_of_line (lines_of input) curve
   pub no_fault : fault_from 1 0 (lines_of input) ≡ None
+  pub in_bytes : bytes ≡ length input
+
+-- the same of those lines that a sample keeps, with the number and the size of all lines, each of which has a size
+pub record IsSizedCurveOfKept (n : ℕ) (input : List ℕ) (curve : CurveBySize) (requests size bytes : ℕ) : Type 0 where
+  pub sizes : HaveSizes (lines_of input)
+  pub of_kept : IsSizedCurveOf bytes_eq weight_of_line (kept_of n (lines_of input)) curve
+  pub no_fault : fault_from 1 0 (lines_of input) ≡ None
+  pub counted : requests ≡ length (lines_of input)
+  pub summed : size ≡ size_of_lines (lines_of input)
   pub in_bytes : bytes ≡ length input
 
 -- the pass took these lines
@@ -92,6 +109,12 @@ pub record HasTaken {A : Type 0} (lines : List (List ℕ)) (pass : PassBySize (O
   pub shown : map line_of (reverse past) ≡ lines
   pub sizes : HaveSizes lines
   pub taken : IsSizedPass same_line weight_of_key past pass
+
+-- of these lines, each of which has a size, and which have that size together, the pass took those that a sample keeps
+pub record HasTakenOf {A : Type 0} (n : ℕ) (lines : List (List ℕ)) (size : ℕ) (pass : PassBySize (OwnedKey A)) : Type 0 where
+  pub sizes : HaveSizes lines
+  pub summed : size ≡ size_of_lines lines
+  pub taken : HasTaken (kept_of n lines) pass
 
 -- why lines have no curve
 abbrev pub IsOfLines : Fault → List (List ℕ) → Type 0

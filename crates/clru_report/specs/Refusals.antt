@@ -12,6 +12,8 @@ use Rattle.clru_report.specs.declared.options.Capacities.TheVariants.{Usual, Eac
 use Rattle.clru_report.specs.declared.options.Form.{Form}
 use Rattle.clru_report.specs.declared.options.Form.TheVariants.{Table, Picture, Summary}
 use Rattle.clru_report.specs.declared.options.Options.{Options}
+use Rattle.clru_report.specs.declared.options.Sample.{Sample}
+use Rattle.clru_report.specs.declared.options.Sample.TheVariants.{Whole, OneIn, Taken}
 
 -- the fault is one of the input, or of a capacity beside it
 abbrev pub is_of_input : Fault → Bool
@@ -60,6 +62,12 @@ abbrev pub fault_of : {A : Type 0} → Options A → List (List ℕ) → Option 
 fault_of options lines =
     option_or (fault_from 1 0 lines) (fault_beside options.form options.capacities (greatest_size lines))
 
+-- the same for a sample: it is that of the first line with a fault, kept or not, since no capacity is one
+abbrev pub fault_by : {A : Type 0} → Sample → Options A → List (List ℕ) → Option Fault
+fault_by Whole options lines = fault_of options lines
+fault_by (OneIn n) options lines = fault_from 1 0 lines
+fault_by (Taken n all) options lines = fault_from 1 0 lines
+
 -- what a fault says of the lines
 abbrev pub IsSaidOf : {A : Type 0} → Fault → Options A → List (List ℕ) → Type 0
 IsSaidOf Memory options lines = ⊥
@@ -74,6 +82,10 @@ IsSaidOf (TooSmall n) options lines = HaveSizes lines × (n ≡ greatest_size li
 abbrev pub IsRefusedFor : {A : Type 0} → Fault → Options A → List (List ℕ) → Type 0
 IsRefusedFor fault options lines = (fault_of options lines ≡ Some fault) × IsSaidOf fault options lines
 
+-- the same of all lines, or of those that a sample is taken of
+abbrev pub IsRefusedBy : {A : Type 0} → Sample → Fault → Options A → List (List ℕ) → Type 0
+IsRefusedBy sample fault options lines = (fault_by sample options lines ≡ Some fault) × IsSaidOf fault options lines
+
 -- the input has no report, for the reason that the fault says
 abbrev pub IsRefused : {A : Type 0} → Fault → Options A → List ℕ → Type 0
-IsRefused fault options input = (options.sizes ≡ true) × IsRefusedFor fault options (lines_of input)
+IsRefused fault options input = (options.sizes ≡ true) × IsRefusedBy options.sample fault options (lines_of input)

@@ -1,15 +1,19 @@
 -- What is written for an input. The numbers are those of the definitions of requests and schedules: no cache is in sight.
-use Rattle.std.specs.Prelude.{◌≡◌, ℕ, Bool, true, false, List, length, map, reverse, None, IsSomeAnd, bytes_eq}
+use Rattle.std.specs.Prelude.{◌≡◌, ℕ, ◌-◌, ◌^◌, Bool, true, false, List, length, map, reverse, None, IsSomeAnd, bytes_eq}
+use Rattle.std.specs.Int.NonZero.{non_zero_usize_get}
 use Rattle.std.specs.List.{All}
 use Rattle.clru_model.specs.Requests.{distinct, misses}
 use Rattle.clru_model.specs.Least.{IsLeast}
 use Rattle.clru_lines.specs.Lines.{lines_of}
 use Rattle.clru_report.specs.Capacities.{capacities_of}
-use Rattle.clru_report.specs.SizedReport.{IsReportBySize}
+use Rattle.clru_report.specs.Samples.{kept_of, numbers_of, numbers_times, times}
+use Rattle.clru_report.specs.SizedReport.{IsReportBySizeOf}
 use Rattle.clru_report.specs.Tables.{HasTable, capacity_of_row, table_text, summary_text}
 use Rattle.clru_report.specs.declared.options.Form.{Form}
 use Rattle.clru_report.specs.declared.options.Form.TheVariants.{Table, Picture, Summary}
 use Rattle.clru_report.specs.declared.options.Options.{Options}
+use Rattle.clru_report.specs.declared.options.Sample.{Sample}
+use Rattle.clru_report.specs.declared.options.Sample.TheVariants.{Whole, OneIn, Taken}
 use Rattle.clru_report.specs.declared.rows.Row.{Row}
 
 module _ {K : Type 0} (eq : K → K → Bool) (requests : List K) where
@@ -43,10 +47,40 @@ IsInForm Picture options input text = IsPicture options (lines_of input) text
 IsInForm Summary options input text =
     text ≡ summary_text (length (lines_of input)) (distinct bytes_eq (reverse (lines_of input))) (length input)
 
+-- the rows that kept requests tell of all, of which there are so many; the capacities that are asked for are those for the kept ones
+abbrev pub AreRowsOfSample : {A : Type 0} → Options A → ℕ → ℕ → List (List ℕ) → List Row → Type 0
+AreRowsOfSample options n all kept shown = (rows : List Row)
+    × AreRows bytes_eq kept false
+    (capacities_of options.capacities (λ c. misses bytes_eq c kept) (distinct bytes_eq (reverse kept))) rows
+    × (map numbers_of shown ≡ map (numbers_times n all) rows)
+
+-- the table of such rows
+abbrev pub IsTableOfSample : {A : Type 0} → Options A → ℕ → ℕ → List (List ℕ) → List ℕ → Type 0
+IsTableOfSample options n all kept text =
+    (shown : List Row) × AreRowsOfSample options n all kept shown × (text ≡ table_text false all shown)
+
+abbrev pub IsPictureOfSample : {A : Type 0} → Options A → ℕ → ℕ → List (List ℕ) → List ℕ → Type 0
+IsPictureOfSample options n all kept text =
+    (table : List ℕ) × IsTableOfSample options n all kept table × HasTable table text
+
+abbrev pub IsInFormOfSample : {A : Type 0} → Form → Options A → ℕ → ℕ → List (List ℕ) → List ℕ → List ℕ → Type 0
+IsInFormOfSample Table options n all kept input text = IsTableOfSample options n all kept text
+IsInFormOfSample Picture options n all kept input text = IsPictureOfSample options n all kept text
+IsInFormOfSample Summary options n all kept input text =
+    text ≡ summary_text all (times n (2 ^ 64 - 1) (distinct bytes_eq (reverse kept))) (length input)
+
+-- the report of the whole input, of the lines of it that are kept, or of an input whose lines were kept before
+abbrev pub IsReportByKeys : {A : Type 0} → Sample → Options A → List ℕ → List ℕ → Type 0
+IsReportByKeys Whole options input text = IsInForm options.form options input text
+IsReportByKeys (OneIn n) options input text = IsInFormOfSample options.form options (non_zero_usize_get n)
+    (length (lines_of input)) (kept_of (non_zero_usize_get n) (lines_of input)) input text
+IsReportByKeys (Taken n all) options input text =
+    IsInFormOfSample options.form options (non_zero_usize_get n) all (lines_of input) input text
+
 -- the same by size, where lines begin with sizes
 abbrev pub IsReportBy : {A : Type 0} → Bool → Options A → List ℕ → List ℕ → Type 0
-IsReportBy false options input text = IsInForm options.form options input text
-IsReportBy true options input text = IsReportBySize options input (lines_of input) text
+IsReportBy false options input text = IsReportByKeys options.sample options input text
+IsReportBy true options input text = IsReportBySizeOf options.sample options input (lines_of input) text
 
 -- the text that the options ask for, of an input whose lines are the requests
 abbrev pub IsReport : {A : Type 0} → Options A → List ℕ → List ℕ → Type 0

@@ -1,17 +1,21 @@
 -- What is written for lines that begin with sizes, where capacities are sums of sizes. The numbers are those of the definitions
 -- of requests by size: no cache is in sight.
-use Rattle.std.specs.Prelude.{◌≡◌, ℕ, ◌≤◌, List, length, map, min, reverse, None, bytes_eq}
-use Rattle.std.specs.List.{All}
+use Rattle.std.specs.Prelude.{◌≡◌, ℕ, ◌-◌, ◌^◌, ◌≤◌, nat_le, List, length, map, min, reverse, None, bytes_eq}
+use Rattle.std.specs.Int.NonZero.{non_zero_usize_get}
+use Rattle.std.specs.List.{All, filter}
 use Rattle.clru_model.specs.Requests.{distinct}
 use Rattle.clru_model.specs.Sizes.{total, misses_by_size, missed_size as missed_size_of}
 use Rattle.clru_report.specs.Capacities.{sized_capacities_of}
-use Rattle.clru_report.specs.Refusals.{fault_of}
+use Rattle.clru_report.specs.Refusals.{fault_from, fault_of}
+use Rattle.clru_report.specs.Samples.{kept_of, sized_numbers_of, sized_numbers_times, times}
 use Rattle.clru_report.specs.Sizes.{HaveSizes, greatest_size, size_of_lines, weight_of_line}
 use Rattle.clru_report.specs.SizedTables.{capacity_of_sized_row, sized_summary_text, sized_table_text}
 use Rattle.clru_report.specs.Tables.{HasTable}
 use Rattle.clru_report.specs.declared.options.Form.{Form}
 use Rattle.clru_report.specs.declared.options.Form.TheVariants.{Table, Picture, Summary}
 use Rattle.clru_report.specs.declared.options.Options.{Options}
+use Rattle.clru_report.specs.declared.options.Sample.{Sample}
+use Rattle.clru_report.specs.declared.options.Sample.TheVariants.{Whole, OneIn, Taken}
 use Rattle.clru_report.specs.declared.sized.rows.SizedRow.{SizedRow}
 
 -- the size of the distinct lines together
@@ -54,3 +58,45 @@ IsInFormBySize Summary options input lines text = text ≡ summary_by_size input
 abbrev pub IsReportBySize : {A : Type 0} → Options A → List ℕ → List (List ℕ) → List ℕ → Type 0
 IsReportBySize options input lines text =
     HaveSizes lines × (fault_of options lines ≡ None) × IsInFormBySize options.form options input lines text
+
+-- the capacities for the lines that were kept: at one below the greatest of their sizes they have no row
+abbrev pub sized_capacities_of_sample : {A : Type 0} → Options A → List (List ℕ) → List ℕ
+sized_capacities_of_sample options kept = filter (λ c. nat_le (greatest_size kept) c)
+    (sized_capacities_of options.capacities (λ c. misses_by_size bytes_eq weight_of_line c kept)
+    (greatest_size kept) (distinct_size kept))
+
+-- the summary of lines of which one key in n was kept; the greatest size is that of the kept ones
+abbrev pub summary_by_size_of_sample : List ℕ → ℕ → ℕ → ℕ → List (List ℕ) → List ℕ
+summary_by_size_of_sample input n all size kept = sized_summary_text all
+    (times n (2 ^ 64 - 1) (distinct bytes_eq (reverse kept))) (length input) size (times n (2 ^ 64 - 1) (distinct_size kept))
+    (min (greatest_size kept) (distinct_size kept))
+
+-- what such lines tell of all, of which there are so many of this size together
+module _ {A : Type 0} (options : Options A) (n all size : ℕ) (kept : List (List ℕ)) where
+  -- the rows of the kept lines, as told of all
+  abbrev pub AreSizedRowsOfSample : List SizedRow → Type 0
+  AreSizedRowsOfSample shown = (rows : List SizedRow) × AreSizedRows kept (sized_capacities_of_sample options kept) rows
+      × (map sized_numbers_of shown ≡ map (sized_numbers_times n all size) rows)
+
+  -- the table of such rows
+  abbrev pub IsSizedTableOfSample : List ℕ → Type 0
+  IsSizedTableOfSample text = (shown : List SizedRow) × AreSizedRowsOfSample shown × (text ≡ sized_table_text all size shown)
+
+  abbrev pub IsSizedPictureOfSample : List ℕ → Type 0
+  IsSizedPictureOfSample text = (table : List ℕ) × IsSizedTableOfSample table × HasTable table text
+
+  abbrev pub IsInFormBySizeOfSample : Form → List ℕ → List ℕ → Type 0
+  IsInFormBySizeOfSample Table input text = IsSizedTableOfSample text
+  IsInFormBySizeOfSample Picture input text = IsSizedPictureOfSample text
+  IsInFormBySizeOfSample Summary input text = text ≡ summary_by_size_of_sample input n all size kept
+
+-- the report of the whole input, of the lines of it that are kept, or of an input whose lines were kept before; each line has
+-- a size and none a fault, also of those that are not kept
+abbrev pub IsReportBySizeOf : {A : Type 0} → Sample → Options A → List ℕ → List (List ℕ) → List ℕ → Type 0
+IsReportBySizeOf Whole options input lines text = IsReportBySize options input lines text
+IsReportBySizeOf (OneIn n) options input lines text = HaveSizes lines × (fault_from 1 0 lines ≡ None)
+    × IsInFormBySizeOfSample options (non_zero_usize_get n) (length lines) (size_of_lines lines)
+    (kept_of (non_zero_usize_get n) lines) options.form input text
+IsReportBySizeOf (Taken n all) options input lines text = HaveSizes lines × (fault_from 1 0 lines ≡ None)
+    × IsInFormBySizeOfSample options (non_zero_usize_get n) all (times (non_zero_usize_get n) (2 ^ 64 - 1) (size_of_lines lines))
+    lines options.form input text

@@ -1,8 +1,9 @@
 //! What the arguments ask for.
 ghost use Rattle.std.specs.Prelude.{◌≡◌, true, false, IfErr, IfOk, OnOk};
-ghost use Rattle.clru_report.specs.Arguments.{AsksFor, go_together, is_wrong, wants_look, wants_rows};
+ghost use Rattle.std.specs.Option.{is_none};
+ghost use Rattle.clru_report.specs.Arguments.{AsksFor, form_of as form_by, forms_go_together, go_together, is_each, is_named, is_some_of, is_half_told, is_wrong, IsSampleOf, samples_go_together, wants_look, wants_more, wants_rows, wants_two};
 
-use crate::options::{Capacities, Form, Look, Options};
+use crate::options::{Capacities, Form, Look, Options, Sample};
 use clru_lines::capacity_of;
 use std::alloc::{Allocator, Global};
 use std::convert::AsStr;
@@ -37,6 +38,9 @@ struct Draft<A: Allocator> {
     least: bool,
     svg: bool,
     summary: bool,
+    sample: Option<NonZeroUsize>,
+    sampled: Option<NonZeroUsize>,
+    requests: Option<NonZeroUsize>,
     look: Look<A>,
 }
 
@@ -45,6 +49,9 @@ struct Draft<A: Allocator> {
 enum Follows {
     Nothing,
     Capacities,
+    Sample,
+    Sampled,
+    Requests,
     Title,
     Unit,
     From,
@@ -59,20 +66,7 @@ pub fn command_of<S: AsStr, A: Allocator + Copy>(
     alloc: A,
     words: &[S],
 ) -> Result<Command<A>, Refusal<A>> {
-    let mut draft = Draft {
-        named: Vec::new(alloc),
-        all: false,
-        sizes: false,
-        least: false,
-        svg: false,
-        summary: false,
-        look: Look {
-            title: None,
-            unit: None,
-            from: None,
-            to: None,
-        },
-    };
+    let mut draft = draft_of(alloc);
     let mut follows = Follows::Nothing;
     for word in words {
         let word = word.as_str();
@@ -84,28 +78,67 @@ pub fn command_of<S: AsStr, A: Allocator + Copy>(
         match word {
             "--help" | "-h" => return Ok(Command::Help),
             "--version" | "-V" => return Ok(Command::Version),
-            "--at" => follows = Follows::Capacities,
-            "--title" => follows = Follows::Title,
-            "--unit" => follows = Follows::Unit,
-            "--from" => follows = Follows::From,
-            "--to" => follows = Follows::To,
-            "--all" => draft.all = true,
-            "--sizes" => draft.sizes = true,
-            "--least" => draft.least = true,
-            "--svg" => draft.svg = true,
-            "--summary" => draft.summary = true,
-            _ => match word.strip_prefix("--at=") {
+            _ => follows = follows_of(word),
+        }
+        if follows == Follows::Nothing && !take_flag(&mut draft, word) {
+            match word.strip_prefix("--at=") {
                 Some(capacities) => name_capacities(alloc, &mut draft.named, capacities)?,
                 None => return Err(unknown(alloc, word)),
-            },
+            }
         }
     }
     match follows {
         Follows::Nothing => finish(alloc, draft),
-        Follows::Capacities => Err(wrong(alloc, NO_VALUE)),
-        Follows::Title | Follows::Unit => Err(wrong(alloc, NO_TEXT)),
-        Follows::From | Follows::To => Err(wrong(alloc, NO_END)),
+        _ => Err(wrong(alloc, no_value(follows))),
     }
+}
+
+// Nothing is asked for.
+fn draft_of<A: Allocator + Copy>(alloc: A) -> Draft<A> {
+    Draft {
+        named: Vec::new(alloc),
+        all: false,
+        sizes: false,
+        least: false,
+        svg: false,
+        summary: false,
+        sample: None,
+        sampled: None,
+        requests: None,
+        look: Look {
+            title: None,
+            unit: None,
+            from: None,
+            to: None,
+        },
+    }
+}
+
+fn follows_of(word: &str) -> Follows {
+    match word {
+        "--at" => Follows::Capacities,
+        "--sample" => Follows::Sample,
+        "--sampled" => Follows::Sampled,
+        "--requests" => Follows::Requests,
+        "--title" => Follows::Title,
+        "--unit" => Follows::Unit,
+        "--from" => Follows::From,
+        "--to" => Follows::To,
+        _ => Follows::Nothing,
+    }
+}
+
+// Answers whether the word is an argument that stands alone.
+fn take_flag<A: Allocator>(draft: &mut Draft<A>, word: &str) -> bool {
+    match word {
+        "--all" => draft.all = true,
+        "--sizes" => draft.sizes = true,
+        "--least" => draft.least = true,
+        "--svg" => draft.svg = true,
+        "--summary" => draft.summary = true,
+        _ => return false,
+    }
+    true
 }
 
 fn take_value<A: Allocator + Copy>(
@@ -117,10 +150,13 @@ fn take_value<A: Allocator + Copy>(
     match follows {
         Follows::Nothing => {}
         Follows::Capacities => name_capacities(alloc, &mut draft.named, word)?,
+        Follows::Sample => draft.sample = Some(number_named(alloc, follows, word)?),
+        Follows::Sampled => draft.sampled = Some(number_named(alloc, follows, word)?),
+        Follows::Requests => draft.requests = Some(number_named(alloc, follows, word)?),
         Follows::Title => draft.look.title = Some(text_of(alloc, word)?),
         Follows::Unit => draft.look.unit = Some(text_of(alloc, word)?),
-        Follows::From => draft.look.from = Some(end_named(alloc, word)?),
-        Follows::To => draft.look.to = Some(end_named(alloc, word)?),
+        Follows::From => draft.look.from = Some(number_named(alloc, follows, word)?),
+        Follows::To => draft.look.to = Some(number_named(alloc, follows, word)?),
     }
     Ok(())
 }
@@ -132,18 +168,35 @@ fn text_of<A: Allocator + Copy>(alloc: A, word: &str) -> Result<String<A>, Refus
     }
 }
 
-fn end_named<A: Allocator + Copy>(alloc: A, word: &str) -> Result<NonZeroUsize, Refusal<A>> {
+fn number_named<A: Allocator + Copy>(
+    alloc: A,
+    follows: Follows,
+    word: &str,
+) -> Result<NonZeroUsize, Refusal<A>> {
     match capacity_named(word) {
-        Some(capacity) => Ok(capacity),
-        None => Err(wrong(alloc, NO_END)),
+        Some(number) => Ok(number),
+        None => Err(wrong(alloc, no_value(follows))),
     }
 }
 
-const NO_TEXT: &str = "--title and --unit want a text: write --title 'May, all servers'";
+// What is wrong where the word is not there, or is none of those.
+fn no_value(follows: Follows) -> &'static str {
+    match follows {
+        Follows::Nothing => "",
+        Follows::Capacities => NO_CAPACITIES,
+        Follows::Sample | Follows::Sampled | Follows::Requests => {
+            "--sample, --sampled and --requests want a number: write --sample 100, or --sampled 100 --requests 500M"
+        }
+        Follows::Title | Follows::Unit => {
+            "--title and --unit want a text: write --title 'May, all servers'"
+        }
+        Follows::From | Follows::To => {
+            "--from and --to want a capacity: write --from 1000 --to 1M"
+        }
+    }
+}
 
-const NO_END: &str = "--from and --to want a capacity: write --from 1000 --to 1M";
-
-const NO_VALUE: &str = "--at wants capacities: write --at 100,1000";
+const NO_CAPACITIES: &str = "--at wants capacities: write --at 100,1000";
 
 // Each `--at` adds to those before it.
 fn name_capacities<A: Allocator + Copy>(
@@ -190,62 +243,153 @@ fn finish<A: Allocator + Copy>(alloc: A, draft: Draft<A>) -> Result<Command<A>, 
     ensures together { OnOk result (go_together draft ≡ true) }
     ensures refused { IfErr result (λ refusal. is_wrong refusal ≡ true → go_together draft ≡ false) }
 {
-    let wants_rows = asks_for_rows(&draft);
-    let wants_look = asks_for_look(&draft.look);
+    if let Some(line) = conflict_of(&draft) {
+        return Err(wrong(alloc, line));
+    }
+    if let Some(line) = conflict_of_sample(&draft) {
+        return Err(wrong(alloc, line));
+    }
+    let sample = sample_of(&draft);
+    let form = form_of(&draft);
     let Draft {
-        mut named,
+        named,
         all,
         sizes,
         least,
-        svg,
-        summary,
+        svg: _,
+        summary: _,
+        sample: _,
+        sampled: _,
+        requests: _,
         look,
     } = draft;
-    let some_named = !named.is_empty();
-    if all && some_named {
-        return Err(wrong(alloc, "--all and --at do not go together: leave one out"));
-    }
-    if summary && wants_rows {
-        return Err(wrong(
-            alloc,
-            "--summary goes alone, or with --sizes: leave the other arguments out",
-        ));
-    }
-    if sizes && least {
-        return Err(wrong(
-            alloc,
-            "--least and --sizes do not go together: the least in bytes is too hard to compute, so leave one out",
-        ));
-    }
-    if wants_look && !svg {
-        return Err(wrong(
-            alloc,
-            "--title, --unit, --from and --to are of a picture: write --svg as well",
-        ));
-    }
-    named.sort_unstable();
-    named.dedup();
-    let capacities = if all {
-        Capacities::Each
-    } else if some_named {
-        Capacities::Named(named)
-    } else {
-        Capacities::Usual
-    };
-    let form = if summary {
-        Form::Summary
-    } else if svg {
-        Form::Picture
-    } else {
-        Form::Table
-    };
     Ok(Command::Report(Options {
-        capacities,
+        capacities: capacities_of(named, all, sample),
         sizes,
         least,
+        sample,
         form,
         look,
     }))
+}
+
+// Those that are named, once each and in order. Of a sample they are so many times less, at least 1.
+fn capacities_of<A: Allocator>(
+    mut named: Vec<NonZeroUsize, A>,
+    all: bool,
+    sample: Sample,
+) -> Capacities<A>
+    ensures each { all ≡ true → is_each result ≡ true × is_named result ≡ false }
+    ensures named { all ≡ false → is_each result ≡ false × is_named result ≡ is_some_of named.items }
+{
+    if all {
+        return Capacities::Each;
+    }
+    if named.is_empty() {
+        return Capacities::Usual;
+    }
+    let one_in = match sample {
+        Sample::Whole => NonZeroUsize::MIN,
+        Sample::OneIn(one_in) => one_in,
+        Sample::Taken(one_in, _) => one_in,
+    };
+    for capacity in named.iter_mut() {
+        *capacity = parts_of(*capacity, one_in);
+    }
+    named.sort_unstable();
+    named.dedup();
+    Capacities::Named(named)
+}
+
+fn parts_of(capacity: NonZeroUsize, one_in: NonZeroUsize) -> NonZeroUsize {
+    NonZeroUsize::new(capacity.get() / one_in.get()).unwrap_or(NonZeroUsize::MIN)
+}
+
+fn form_of<A: Allocator>(draft: &Draft<A>) -> Form
+    ensures { result ≡ form_by draft.now }
+{
+    if draft.summary {
+        Form::Summary
+    } else if draft.svg {
+        Form::Picture
+    } else {
+        Form::Table
+    }
+}
+
+fn sample_of<A: Allocator>(draft: &Draft<A>) -> Sample
+    ensures { IsSampleOf draft.now result }
+{
+    if let Some(one_in) = draft.sample {
+        return Sample::OneIn(one_in);
+    }
+    if let Some(one_in) = draft.sampled {
+        if let Some(requests) = draft.requests {
+            return Sample::Taken(one_in, requests.get());
+        }
+    }
+    Sample::Whole
+}
+
+// Which arguments do not go together, those of a sample aside.
+fn conflict_of<A: Allocator>(draft: &Draft<A>) -> Option<&'static str>
+    ensures { is_none result ≡ forms_go_together draft.now }
+{
+    if draft.all && !draft.named.is_empty() {
+        return Some("--all and --at do not go together: leave one out");
+    }
+    if draft.summary && asks_for_rows(draft) {
+        return Some(
+            "--summary goes alone, or with --sizes or a sample: leave the other arguments out",
+        );
+    }
+    if draft.sizes && draft.least {
+        return Some(
+            "--least and --sizes do not go together: the least in bytes is too hard to compute, so leave one out",
+        );
+    }
+    if asks_for_look(&draft.look) && !draft.svg {
+        return Some("--title, --unit, --from and --to are of a picture: write --svg as well");
+    }
+    None
+}
+
+fn conflict_of_sample<A: Allocator>(draft: &Draft<A>) -> Option<&'static str>
+    ensures { is_none result ≡ samples_go_together draft.now }
+{
+    if asks_for_two(draft) {
+        return Some("--sample and --sampled do not go together: leave one out");
+    }
+    if tells_half(draft) {
+        return Some(
+            "--sampled and --requests go together: write how many requests there were in all",
+        );
+    }
+    if asks_for_more(draft) {
+        return Some("a sample does not go with --least: take the whole log for it");
+    }
+    None
+}
+
+fn asks_for_two<A: Allocator>(draft: &Draft<A>) -> bool
+    ensures { result ≡ wants_two draft.now }
+{
+    draft.sample.is_some() && draft.sampled.is_some()
+}
+
+// Of a sample that was taken before it has to be said of how many requests, and of no other one.
+fn tells_half<A: Allocator>(draft: &Draft<A>) -> bool
+    ensures { result ≡ is_half_told draft.now }
+{
+    (draft.sampled.is_some() && draft.requests.is_none())
+        || (draft.requests.is_some() && draft.sampled.is_none())
+}
+
+// Whether something is asked for that no sample has.
+fn asks_for_more<A: Allocator>(draft: &Draft<A>) -> bool
+    ensures { result ≡ wants_more draft.now }
+{
+    (draft.sample.is_some() || draft.sampled.is_some()) && draft.least
 }
 
 fn asks_for_look<A: Allocator>(look: &Look<A>) -> bool
@@ -291,7 +435,7 @@ fn no_capacity<A: Allocator + Copy>(alloc: A, part: &str) -> Refusal<A> {
         );
     }
     if part.starts_with("--") {
-        return wrong(alloc, NO_VALUE);
+        return wrong(alloc, NO_CAPACITIES);
     }
     let line = format!(in alloc;
         "{part:?} is no capacity: name numbers from 1 to 18446744073709551615, as in --at 100,1000 or 64MiB"

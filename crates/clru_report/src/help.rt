@@ -6,8 +6,9 @@ clru_mrc tells what an LRU cache of each capacity would miss.
 
 Give it requests on standard input, one a line: the key is the line's bytes.
 It writes a table as CSV: capacity, misses, misses as a part of all requests,
-misses saved for each key since the row before, and 1 where the row is a knee,
-just right of a steep fall.
+misses saved for each key since the row before (with --sizes missed bytes for
+each byte), and 1 where the row lies just right of a steep fall, between its
+neighbours in this table: other rows may give another mark.
 
     awk '{ print $7 }' access.log | clru_mrc
     awk '{ print $7 }' access.log | clru_mrc --least --svg > curve.svg
@@ -30,6 +31,13 @@ just right of a steep fall.
                  and where its axis begins and ends
     --summary    how many requests and distinct keys there are, and no table;
                  with --sizes their bytes and the greatest size as well
+    --sample N   holds one key in N, by a hash, and says what that tells of all
+                 requests, in the memory of the sample; near a steep fall it may
+                 be a tenth of the capacity off, and some hundred keys tell
+                 little; capacities are multiples of N, with --sizes from N times
+                 the greatest size in the sample on
+    --sampled N --requests M
+                 the input is such a sample already, of M requests
     --progress   tells on standard error how far the input is read, once a
                  second, as it does where that is a terminal
     -h, --help; -V, --version

@@ -20,6 +20,7 @@ mod picture;
 mod program;
 mod report;
 mod rows;
+mod sample;
 mod sized;
 mod table;
 
@@ -27,7 +28,7 @@ pub use arguments::{Command, Refusal, command_of};
 pub use clru_model::DefaultState;
 pub use fault::{Fault, exit_status};
 pub use help::{HELP, VERSION};
-pub use options::{Capacities, Form, Look, Options};
+pub use options::{Capacities, Form, Look, Options, Sample};
 pub use output::write_report;
 pub use program::run;
 pub use sized::size_of;

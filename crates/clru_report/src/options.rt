@@ -11,7 +11,8 @@ pub enum Capacities<A: Allocator = Global> {
     Usual,
     /// 1, or the greatest size, and each from there on at which there are fewer misses than at the one before.
     Each,
-    /// These, in this order. By size none is to be below the greatest size.
+    /// These, in this order. By size none is to be below the greatest size; of a sample those below the greatest size that is
+    /// kept have no row.
     Named(Vec<NonZeroUsize, A>),
 }
 
@@ -24,6 +25,17 @@ pub enum Form {
     Picture,
     /// How many requests and distinct keys there are, and the bytes of the input.
     Summary,
+}
+
+/// Which requests are read.
+#[derive(Clone, Copy, Debug, PartialEq, Eq)]
+pub enum Sample {
+    /// All of them.
+    Whole,
+    /// All requests of one key in so many, by a hash of its bytes; the others are counted.
+    OneIn(NonZeroUsize),
+    /// All of an input that holds all requests of one key in so many, of so many requests in all.
+    Taken(NonZeroUsize, usize),
 }
 
 /// How a picture looks, beside what it shows.
@@ -50,8 +62,12 @@ pub struct Options<A: Allocator = Global> {
     /// Whether each line of the input begins with a size, and capacities are sums of sizes.
     pub sizes: bool,
 
-    /// Whether each line of the table has the least possible misses. By size none has them.
+    /// Whether each line of the table has the least possible misses. By size none has them, and of a sample.
     pub least: bool,
+
+    /// Capacities are those of the sample; what is written is of all requests: capacities, misses and keys so many times as
+    /// many, of misses no more than requests, and of their size no more than that of all.
+    pub sample: Sample,
 
     pub form: Form,
 

@@ -4,32 +4,64 @@ ghost use Rattle.clru_lines.specs.Lines.{lines_of};
 ghost use Rattle.clru_report.specs.Faults.{is_of_writing};
 ghost use Rattle.clru_lines.specs.Whole.{ReadWhole};
 ghost use Rattle.clru_report.specs.Passes.{capacities_on, IsOfCapacities, IsSettled, IsSizedCurveOfInput, IsTableOf};
-ghost use Rattle.clru_report.specs.Refusals.{is_of_input, IsRefusedFor};
-ghost use Rattle.clru_report.specs.SizedReport.{IsReportBySize};
+ghost use Rattle.clru_report.specs.Refusals.{is_of_input, IsRefusedBy, IsRefusedFor};
+ghost use Rattle.clru_report.specs.SizedReport.{IsReportBySize, IsReportBySizeOf};
 ghost use Rattle.clru_report.specs.Tables.{HasTable};
 
 mod capacities;
+mod kept;
 mod knees;
 mod line;
 mod pass;
-mod picture;
 mod rows;
+mod sample;
 mod table;
 
 use crate::fault::Fault;
-use crate::options::{Capacities, Form, Look, Options};
+use crate::options::{Capacities, Form, Look, Options, Sample};
+use crate::picture::picture_by_size;
+use crate::sample::times;
+pub(crate) use capacities::first_capacity;
 use clru_curve::SizedCurve;
+use kept::curve_of_kept;
 pub use line::size_of;
 use pass::curve_of;
-use picture::picture_by_size;
 use rows::sized_rows_for;
+pub(crate) use sample::Totals;
+use sample::text_of_sized_sample;
 use std::alloc::Allocator;
 use std::hash::BuildHasher;
 use std::io::Read;
+use std::num::NonZeroUsize;
+pub(crate) use table::distinct_of;
 use table::{sized_summary_of, sized_table_of};
 
 /// The report of all that a reader gives, by the sizes that its lines begin with.
 pub(crate) fn sized_report_on<R: Read, S: BuildHasher + Drop, A: Allocator + Copy>(
+    alloc: A,
+    options: &Options<A>,
+    reader: &mut R,
+    hash_builder: S,
+) -> Result<String<A>, Fault>
+    ensures report { IfOk result (λ text. ReadWhole (R.remaining reader.old) (R.remaining reader.new)
+        (λ input. IsReportBySizeOf options.now.sample options.now input (lines_of input) (string_bytes text))) }
+    ensures refused { IfErr result (λ fault. is_of_input fault ≡ true → ReadWhole (R.remaining reader.old) (R.remaining reader.new)
+        (λ input. IsRefusedBy options.now.sample fault options.now (lines_of input))) }
+    ensures fault { IfErr result (λ fault. is_of_writing fault ≡ false) }
+{
+    match options.sample {
+        Sample::Whole => sized_report_of_all(alloc, options, reader, hash_builder),
+        Sample::OneIn(one_in) => {
+            sized_report_of_kept(alloc, options, one_in, reader, hash_builder)
+        }
+        Sample::Taken(one_in, requests) => {
+            sized_report_of_taken(alloc, options, one_in, requests, reader, hash_builder)
+        }
+    }
+}
+
+// Where all lines are taken.
+fn sized_report_of_all<R: Read, S: BuildHasher + Drop, A: Allocator + Copy>(
     alloc: A,
     options: &Options<A>,
     reader: &mut R,
@@ -43,6 +75,59 @@ pub(crate) fn sized_report_on<R: Read, S: BuildHasher + Drop, A: Allocator + Cop
 {
     let (curve, bytes) = curve_of(alloc, reader, hash_builder)?;
     text_by_size(alloc, options, &curve, bytes)
+}
+
+// Where the lines of one key in so many are taken, and all are counted.
+fn sized_report_of_kept<R: Read, S: BuildHasher + Drop, A: Allocator + Copy>(
+    alloc: A,
+    options: &Options<A>,
+    one_in: NonZeroUsize,
+    reader: &mut R,
+    hash_builder: S,
+) -> Result<String<A>, Fault>
+    ensures report { IfOk result (λ text. ReadWhole (R.remaining reader.old) (R.remaining reader.new)
+        (λ input. IsReportBySizeOf (Sample.OneIn one_in) options.now input (lines_of input) (string_bytes text))) }
+    ensures refused { IfErr result (λ fault. is_of_input fault ≡ true → ReadWhole (R.remaining reader.old) (R.remaining reader.new)
+        (λ input. IsRefusedBy (Sample.OneIn one_in) fault options.now (lines_of input))) }
+    ensures fault { IfErr result (λ fault. is_of_writing fault ≡ false) }
+{
+    let (curve, requests, size, bytes) = curve_of_kept(alloc, one_in, reader, hash_builder)?;
+    let totals = Totals {
+        one_in,
+        requests,
+        size,
+    };
+    match text_of_sized_sample(alloc, options, &curve, totals, bytes) {
+        Ok(text) => Ok(text),
+        Err(_) => Err(Fault::Memory),
+    }
+}
+
+// Where all lines are of one key in so many, and there were so many requests; their size is as many times that of the lines.
+fn sized_report_of_taken<R: Read, S: BuildHasher + Drop, A: Allocator + Copy>(
+    alloc: A,
+    options: &Options<A>,
+    one_in: NonZeroUsize,
+    requests: usize,
+    reader: &mut R,
+    hash_builder: S,
+) -> Result<String<A>, Fault>
+    ensures report { IfOk result (λ text. ReadWhole (R.remaining reader.old) (R.remaining reader.new)
+        (λ input. IsReportBySizeOf (Sample.Taken one_in requests) options.now input (lines_of input) (string_bytes text))) }
+    ensures refused { IfErr result (λ fault. is_of_input fault ≡ true → ReadWhole (R.remaining reader.old) (R.remaining reader.new)
+        (λ input. IsRefusedBy (Sample.Taken one_in requests) fault options.now (lines_of input))) }
+    ensures fault { IfErr result (λ fault. is_of_writing fault ≡ false) }
+{
+    let (curve, bytes) = curve_of(alloc, reader, hash_builder)?;
+    let totals = Totals {
+        one_in,
+        requests,
+        size: times(one_in, usize::MAX, curve.size()),
+    };
+    match text_of_sized_sample(alloc, options, &curve, totals, bytes) {
+        Ok(text) => Ok(text),
+        Err(_) => Err(Fault::Memory),
+    }
 }
 
 // The text in the form that is asked for.
@@ -100,7 +185,12 @@ fn sized_picture_for<A: Allocator + Copy>(
     ensures refused { IfErr result (λ fault. IsOfCapacities curve.now fault (capacities_on curve.now capacities.now)) }
 {
     let table = sized_table_for(alloc, capacities, curve)?;
-    match picture_by_size(alloc, curve, capacities, look, &table) {
+    let totals = Totals {
+        one_in: NonZeroUsize::MIN,
+        requests: curve.requests(),
+        size: curve.size(),
+    };
+    match picture_by_size(alloc, curve, totals, capacities, look, &table) {
         Ok(text) => Ok(text),
         Err(_) => Err(Fault::Memory),
     }

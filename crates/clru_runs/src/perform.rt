@@ -95,8 +95,8 @@ fn make<K: Eq + Hash + Drop, V: Copy, S: BuildHasher, W: WeightScale<K, V>, A: A
         Call::Pop(key) => Answer::Value(cache.pop(&key)),
         Call::Front => Answer::Value(front(cache)),
         Call::Back => Answer::Value(back(cache)),
-        Call::Nth(number) => Answer::Value(nth(cache, number)),
-        Call::NthBack(number) => Answer::Value(nth_back(cache, number)),
+        Call::Nth(index) => Answer::Value(nth(cache, index)),
+        Call::NthBack(index) => Answer::Value(nth_back(cache, index)),
         Call::PopFront => Answer::Pair(cache.pop_front()),
         Call::PopBack => Answer::Pair(cache.pop_back()),
         Call::Clear => {

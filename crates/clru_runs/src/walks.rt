@@ -8,11 +8,11 @@ use std::hash::{BuildHasher, Hash};
 
 pub(crate) fn nth<K: Eq + Hash, V: Copy, S: BuildHasher, W: WeightScale<K, V>, A: Allocator + Copy>(
     cache: &CLruCache<K, V, S, W, A>,
-    number: usize,
+    index: usize,
 ) -> Option<V>
-    ensures { result ≡ value_at number cache.now.entries }
+    ensures { result ≡ value_at index cache.now.entries }
 {
-    match cache.iter().nth(number) {
+    match cache.iter().nth(index) {
         Some((_, value)) => Some(*value),
         None => None,
     }
@@ -24,10 +24,10 @@ pub(crate) fn nth_back<
     S: BuildHasher,
     W: WeightScale<K, V>,
     A: Allocator + Copy,
->(cache: &CLruCache<K, V, S, W, A>, number: usize) -> Option<V>
-    ensures { result ≡ value_at number (reverse cache.now.entries) }
+>(cache: &CLruCache<K, V, S, W, A>, index: usize) -> Option<V>
+    ensures { result ≡ value_at index (reverse cache.now.entries) }
 {
-    match cache.iter().nth_back(number) {
+    match cache.iter().nth_back(index) {
         Some((_, value)) => Some(*value),
         None => None,
     }

@@ -9,7 +9,7 @@ use Rattle.clru.specs.Requests.{hit, holds, marks, marks_after, misses}
 use Rattle.clru.specs.Runs.{IsPut}
 use Rattle.clru_model.proofs.Cases.{split}
 use Rattle.clru_model.proofs.Finding.{held, touch-held}
-use Rattle.clru_model.proofs.Hits.{Keeps, Keeps_held, Keeps_none, Keeps_put}
+use Rattle.clru_model.proofs.Hits.{HoldsHits, HoldsHits_held, HoldsHits_none, HoldsHits_put}
 use Rattle.clru_model.proofs.Marks.{count_by-not-cons}
 use Rattle.clru_model.proofs.PutSteps.{IsPut-weightless, length-put}
 use Rattle.clru_through.specs.LoadRuns.{IsFetched, IsLoadRun}
@@ -78,7 +78,7 @@ module _ {K V W R E : Type 0} (eq : K → K → Bool) (laws : IsEquivalence eq) 
   -- loads after requests of the past, at the capacity k and the scale s
   run_from : (k : ℕ) (s : W) (past : List K) (old last : Store K V W R) (keys : List K) (fs : List Bool) → 1 ≤ k
       → ((y : K) (v : V) → weight s y v ≡ 0) → old.cache.capacity ≡ k → old.cache.scale ≡ s → length old.cache.entries ≤ k
-      → Keeps eq k past (keys_of old.cache.entries) → IsLoadRun eq weight fetches old keys fs last
+      → HoldsHits eq k past (keys_of old.cache.entries) → IsLoadRun eq weight fetches old keys fs last
       → (map not fs ≡ marks_after eq k past keys) × IsFetched fetches (count_by not (map not fs)) old.source last.source
   run_from k s past old last [] [] some none capacity scale short keeps run = (refl, ap (λ t. t.source) run)
   run_from k s past old last [] (f ∷ fs) some none capacity scale short keeps run = absurd run
@@ -88,8 +88,8 @@ module _ {K V W R E : Type 0} (eq : K → K → Bool) (laws : IsEquivalence eq) 
       let load = held_load old next x f (rw scale none) (rw capacity short) step in
       let put : IsPut eq k x es next.cache.entries = rw capacity at load.put in
       let rest = run_from k s (x ∷ past) next last keys fs some none (load.capacity ∙ capacity) (load.scale ∙ scale)
-      (length-put eq k x es next.cache.entries some short put) (Keeps_put eq laws x es next.cache.entries keeps put) later in
-      let mark : not f ≡ hit eq k x past = load.found ∙ Keeps_held eq x es short keeps in (
+      (length-put eq k x es next.cache.entries some short put) (HoldsHits_put eq laws x es next.cache.entries keeps put) later in
+      let mark : not f ≡ hit eq k x past = load.found ∙ HoldsHits_held eq x es short keeps in (
         rw (mark, rest.0) refl,
         subst (λ n. IsFetched fetches n old.source last.source) (sym (count_by-not-cons (not f) (map not fs)))
             (IsFetched-add fetches (cond (not f) 0 1) (count_by not (map not fs)) old.source next.source last.source load.fetched rest.1),
@@ -114,7 +114,7 @@ module _ {K V W R E : Type 0} (eq : K → K → Bool) (laws : IsEquivalence eq) 
         let absent : lookup (eq x) old.cache.entries ≡ None = rw empty refl in
         let some = room_by old run.0 x f (lookup (eq x) old.cache.entries) absent run.1 in
         run_from old.cache.capacity old.cache.scale [] old last (x ∷ keys) (f ∷ fs) some none refl refl (rw empty (omega arith))
-        (rw empty (Keeps_none eq old.cache.capacity)) run
+        (rw empty (HoldsHits_none eq old.cache.capacity)) run
 
     -- a load fetches exactly where the request misses
     pub fetched_where_missed : (keys : List K) (fs : List Bool) → IsLoadRun eq weight fetches old keys fs last

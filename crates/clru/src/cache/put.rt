@@ -23,9 +23,8 @@ where
     /// used one first. The old entry of the key is not among them: its value is the answer. A pair that weighs as much as
     /// the capacity or more is refused as too heavy, whether its key is held or not. A refused pair comes back, and
     /// `on_drop` is not called. No memory is taken for handing them out.
-    /// Cost: one weighing, one hash and a walk along one chain, for a new key two walks; for each pair that it drops a
-    /// weighing, a hash and a walk more, and a weighing for the old value of its key. A growth asks for memory twice and hashes
-    /// each held key once.
+    /// Cost: one weighing, one hash and two walks along one chain; for the old value of its key a walk and a weighing more, and
+    /// for each pair that it drops a hash, a walk and a weighing. A growth asks for memory twice and hashes each held key once.
     ///
     /// ```rust
     /// match pages.put_with_weight(page, bytes, |_, _| {}) {

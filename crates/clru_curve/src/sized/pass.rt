@@ -178,8 +178,8 @@ impl<K: Eq + Hash, S: BuildHasher, A: Allocator + Copy> SizedPass<K, S, A> {
         let Ok(()) = self.hits.reserve(1) else {
             return Err(SizedRequestError::NoMemory(key));
         };
-        let number = self.latest.sizes.len();
-        let Some(position) = move_position(&mut self.positions, key, number) else {
+        let here = self.latest.sizes.len();
+        let Some(position) = move_position(&mut self.positions, key, here) else {
             return Ok(None);
         };
         let span = self.latest.total_from(position);
@@ -210,9 +210,9 @@ impl<K: Eq + Hash, S: BuildHasher, A: Allocator + Copy> SizedPass<K, S, A> {
         let Ok(()) = self.latest.make_ready() else {
             return Err(key);
         };
-        let number = self.latest.sizes.len();
+        let here = self.latest.sizes.len();
         double_if_full(&mut self.positions);
-        if let Err((key, _)) = self.positions.put(key, number) {
+        if let Err((key, _)) = self.positions.put(key, here) {
             return Err(key);
         }
         self.latest.push(weight + 1);

@@ -2,7 +2,7 @@
 ghost use Rattle.std.specs.Prelude.{◌≡◌, ℕ, ◌<◌, ◌≤◌, true, false, length};
 ghost use Rattle.clru_list.specs.Places.{nowhere};
 ghost use Rattle.clru_nodes.specs.Chained.{IsCut, IsCutBehind, IsPlace, IsRelinked, IsWalk};
-ghost use Rattle.clru_nodes.specs.Heads.{number_in, place_in, low_of, numbers_along, steps_in, HasLink, IsNumber, IsRewritten, IsSameSize};
+ghost use Rattle.clru_nodes.specs.Heads.{number_in, place_in, low_of, numbers_along, steps_in, HasLink, IsNumber, IsRewritten, KeepsSizes};
 
 use crate::heads::{Heads, NOWHERE};
 use std::alloc::Allocator;
@@ -11,12 +11,12 @@ impl<A: Allocator + Copy> Heads<A> {
     /// Writes the number of a place of a chain, or of its start.
     #[inline(always)]
     pub(crate) fn link(&mut self, head: usize, at: usize, number: usize)
-        requires head { at ≡ nowhere → head < length self.old.items }
+        requires head { at ≡ nowhere → head < length self.old.firsts }
         requires place { (at ≡ nowhere → ⊥) → HasLink self.old at }
         requires fits { IsNumber self.old number }
-        ensures written { IsRelinked (number_in self.old.items) (number_in self.old.links) head at number
-            (number_in self.new.items) (number_in self.new.links) }
-        ensures same { IsSameSize self.old self.new }
+        ensures written { IsRelinked (number_in self.old.firsts) (number_in self.old.links) head at number
+            (number_in self.new.firsts) (number_in self.new.links) }
+        ensures same { KeepsSizes self.old self.new }
     {
         if at == NOWHERE {
             self.set_first(head, number);
@@ -28,7 +28,7 @@ impl<A: Allocator + Copy> Heads<A> {
     /// The number of a place of a chain, or of its start.
     #[inline(always)]
     fn number_at(&self, head: usize, at: usize) -> usize
-        requires head { at ≡ nowhere → head < length self.now.items }
+        requires head { at ≡ nowhere → head < length self.now.firsts }
         requires place { (at ≡ nowhere → ⊥) → HasLink self.now at }
         ensures number { result ≡ numbers_along self.now head at }
         ensures fits { IsNumber self.now result }
@@ -43,13 +43,13 @@ impl<A: Allocator + Copy> Heads<A> {
     /// Notes where `behind` leads to the place `at` that this is linked on, or that it is not. It does nothing at the start.
     #[inline(always)]
     pub(crate) fn note(&mut self, head: usize, at: usize, behind: usize, leads: bool)
-        requires head { behind ≡ nowhere → head < length self.old.items }
+        requires head { behind ≡ nowhere → head < length self.old.firsts }
         requires place { (behind ≡ nowhere → ⊥) → HasLink self.old behind }
         ensures none { at ≡ nowhere → self.new ≡ self.old }
         ensures written { (at ≡ nowhere → ⊥) → IsRewritten self.old self.new head behind }
         ensures leads { (at ≡ nowhere → ⊥) → leads ≡ true → low_of self.old < numbers_along self.new head behind }
         ensures ends { (at ≡ nowhere → ⊥) → leads ≡ false → numbers_along self.new head behind ≤ low_of self.old }
-        ensures same { IsSameSize self.old self.new }
+        ensures same { KeepsSizes self.old self.new }
     {
         if at == NOWHERE {
             return;
@@ -62,9 +62,9 @@ impl<A: Allocator + Copy> Heads<A> {
     /// The places in the chain one and two before the given one, or before its end for `NOWHERE`. At the start they are `NOWHERE`.
     #[inline(always)]
     pub(crate) fn before(&self, head: usize, place: usize) -> (usize, usize)
-        requires head { head < length self.now.items }
+        requires head { head < length self.now.firsts }
         requires walk { IsWalk (steps_in self.now head) (HasLink self.now) (IsPlace place)
-            (place_in self.now.bound self.now.items head) (length self.now.links) }
+            (place_in self.now.bound self.now.firsts head) (length self.now.links) }
         ensures leads { steps_in self.now head result.0 ≡ place }
         ensures behind { (result.0 ≡ nowhere → ⊥) → steps_in self.now head result.1 ≡ result.0 }
         ensures cut { (met : ℕ → ℕ)

@@ -2,7 +2,7 @@
 ghost use Rattle.std.specs.Prelude.{◌≡◌, ◌<◌, ◌≤◌, length};
 ghost use Rattle.clru_list.specs.PlaceList.{IsValid};
 ghost use Rattle.clru_nodes.specs.Heads.{key_at, IsChainedAs, IsChainedBut, HasHash, HasHome};
-ghost use Rattle.clru_nodes.specs.Nodes.{hash_of, IsSame};
+ghost use Rattle.clru_nodes.specs.Nodes.{hash_of, KeepsAllButPairs};
 
 use crate::heads::NOWHERE;
 use crate::nodes::Nodes;
@@ -15,14 +15,14 @@ impl<K: Eq + Hash, V, S: BuildHasher, A: Allocator + Copy> Nodes<K, V, S, A> {
     pub(crate) fn append(&mut self, hash: u64, place: usize)
         requires hash { HasHash (hash_of K.Hash S.BuildHasher S.Hasher.Hasher) hash place self.old }
         requires chained { IsChainedBut (hash_of K.Hash S.BuildHasher S.Hasher.Hasher) place self.old }
-        requires headed { 0 < length self.old.heads.items }
+        requires headed { 0 < length self.old.heads.firsts }
         requires linked { self.old.list.places ≤ length self.old.heads.links }
         requires named { self.old.list.places ≤ self.old.heads.bound }
         requires valid { IsValid self.old.list }
         ensures chained { IsChainedAs (hash_of K.Hash S.BuildHasher S.Hasher.Hasher)
             (key_at self.new.list.entries) self.new }
         ensures list { self.new.list ≡ self.old.list }
-        ensures same { IsSame self.old self.new }
+        ensures same { KeepsAllButPairs self.old self.new }
     {
         let number = self.heads.number_of(place, hash);
         let head = self.heads.head_of(hash);
@@ -42,7 +42,7 @@ impl<K: Eq + Hash, V, S: BuildHasher, A: Allocator + Copy> Nodes<K, V, S, A> {
         requires valid { IsValid self.old.list }
         ensures chained { IsChainedBut (hash_of K.Hash S.BuildHasher S.Hasher.Hasher) place self.new }
         ensures list { self.new.list ≡ self.old.list }
-        ensures same { IsSame self.old self.new }
+        ensures same { KeepsAllButPairs self.old self.new }
     {
         let (before, behind) = self.heads.before(head, place);
         let next = self.heads.next(place);

@@ -6,7 +6,7 @@ ghost use Rattle.std.specs.Map.{keys_of, lookup};
 ghost use Rattle.std.specs.Map.Iter.{deref_pair};
 ghost use Rattle.std.specs.Option.{option_copied_mut, option_map};
 ghost use Rattle.clru_model.specs.Entries.{with_front};
-ghost use Rattle.clru_nodes.specs.Nodes.{hash_of, pairs_in, builder_of, first_item, last_item, IsIndexed, IsSame};
+ghost use Rattle.clru_nodes.specs.Nodes.{hash_of, pairs_in, builder_of, first_item, last_item, IsIndexed, KeepsAllButPairs};
 ghost use Rattle.clru_nodes.specs.NodesLends.{lends_front, lends_back, lends_value};
 
 use crate::nodes::{Item, Nodes};
@@ -83,7 +83,7 @@ impl<K: Eq + Hash, V, S: BuildHasher, A: Allocator + Copy> Nodes<K, V, S, A> {
         ensures value { Some result ≡ option_map (λ e. e.1) (slice_get (pairs_in self.old) 0) }
         ensures pairs { pairs_in self.new ≡ with_front value (pairs_in self.old) }
         ensures indexed { IsIndexed (hash_of K.Hash S.BuildHasher S.Hasher.Hasher) self.new }
-        ensures same { IsSame self.old self.new }
+        ensures same { KeepsAllButPairs self.old self.new }
     {
         match self.list.front_mut() {
             Some(item) => mem::replace(&mut item.value, value),

@@ -2,7 +2,7 @@
 ghost use Rattle.std.specs.Prelude.{◌≡◌, ℕ, ◌<◌, ◌≤◌, length, OnOk, OnErr};
 ghost use Rattle.clru_nodes.specs.Growth.{GrowsIf, IsRefused};
 ghost use Rattle.clru_nodes.specs.Heads.{number_in, key_at, IsChainedAs, KeepsPlaces};
-ghost use Rattle.clru_nodes.specs.Nodes.{hash_of, pairs_in, capacity_of, places_of, IsIndexed, IsSame, KeepsPairs};
+ghost use Rattle.clru_nodes.specs.Nodes.{hash_of, pairs_in, capacity_of, places_of, IsIndexed, KeepsAllButPairs, KeepsPairs};
 
 use crate::heads::NOWHERE;
 use crate::nodes::Nodes;
@@ -70,14 +70,14 @@ impl<K: Eq + Hash, V, S: BuildHasher, A: Allocator + Copy> Nodes<K, V, S, A> {
 
     /// Chains all keys, where each head is empty.
     fn relink(&mut self)
-        requires free { (h : ℕ) → number_in self.old.heads.items h ≡ 0 }
-        requires some { 0 < length self.old.heads.items }
+        requires free { (h : ℕ) → number_in self.old.heads.firsts h ≡ 0 }
+        requires some { 0 < length self.old.heads.firsts }
         requires linked { self.old.list.places ≤ length self.old.heads.links }
         requires named { self.old.list.places ≤ self.old.heads.bound }
         ensures chained { IsChainedAs (hash_of K.Hash S.BuildHasher S.Hasher.Hasher)
             (key_at self.new.list.entries) self.new }
         ensures list { self.new.list ≡ self.old.list }
-        ensures same { IsSame self.old self.new }
+        ensures same { KeepsAllButPairs self.old self.new }
     {
         // From the last place, so that what came in first stands first in its chain.
         let mut place = self.list.places();

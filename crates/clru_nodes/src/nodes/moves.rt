@@ -6,7 +6,7 @@ ghost use Rattle.clru_model.specs.Entries.{touch};
 ghost use Rattle.clru_model.specs.Entries as entries;
 ghost use Rattle.clru_list.specs.PlaceList.{without, IsValid};
 ghost use Rattle.clru_nodes.specs.Heads.{placed_of, HasHome, IsLive, IsTaken};
-ghost use Rattle.clru_nodes.specs.Nodes.{hash_of, pairs_of, pairs_in, capacity_of, places_of, builder_of, IsIndexed, IsSame};
+ghost use Rattle.clru_nodes.specs.Nodes.{hash_of, pairs_of, pairs_in, capacity_of, places_of, builder_of, IsIndexed, KeepsAllButPairs};
 
 use crate::nodes::{Item, Nodes};
 use std::alloc::Allocator;
@@ -24,7 +24,7 @@ impl<K: Eq + Hash, V, S: BuildHasher, A: Allocator + Copy> Nodes<K, V, S, A> {
         ensures held { result ≡ is_some (lookup (Q.equivalent key) (pairs_in self.old)) }
         ensures pairs { pairs_in self.new ≡ touch Q.equivalent key (pairs_in self.old) }
         ensures indexed { IsIndexed (hash_of K.Hash S.BuildHasher S.Hasher.Hasher) self.new }
-        ensures same { IsSame self.old self.new }
+        ensures same { KeepsAllButPairs self.old self.new }
     {
         let Some(place) = self.find(hash, key) else {
             return false;
@@ -42,7 +42,7 @@ impl<K: Eq + Hash, V, S: BuildHasher, A: Allocator + Copy> Nodes<K, V, S, A> {
         ensures pair { result ≡ lookup_entry (Q.equivalent key) (pairs_in self.old) }
         ensures pairs { pairs_in self.new ≡ entries.without Q.equivalent key (pairs_in self.old) }
         ensures indexed { IsIndexed (hash_of K.Hash S.BuildHasher S.Hasher.Hasher) self.new }
-        ensures same { IsSame self.old self.new }
+        ensures same { KeepsAllButPairs self.old self.new }
     {
         let place = self.find(hash, key)?;
         let head = self.heads.head_of(hash);
@@ -55,7 +55,7 @@ impl<K: Eq + Hash, V, S: BuildHasher, A: Allocator + Copy> Nodes<K, V, S, A> {
         ensures pair { result ≡ slice_get (pairs_in self.old) 0 }
         ensures pairs { pairs_in self.new ≡ drop 1 (pairs_in self.old) }
         ensures indexed { IsIndexed (hash_of K.Hash S.BuildHasher S.Hasher.Hasher) self.new }
-        ensures same { IsSame self.old self.new }
+        ensures same { KeepsAllButPairs self.old self.new }
     {
         let place = self.list.front_idx()?;
         let head = self.home(place);
@@ -68,7 +68,7 @@ impl<K: Eq + Hash, V, S: BuildHasher, A: Allocator + Copy> Nodes<K, V, S, A> {
         ensures pair { result ≡ slice_get (pairs_in self.old) (length (pairs_in self.old) - 1) }
         ensures pairs { let old = pairs_in self.old in pairs_in self.new ≡ take (length old - 1) old }
         ensures indexed { IsIndexed (hash_of K.Hash S.BuildHasher S.Hasher.Hasher) self.new }
-        ensures same { IsSame self.old self.new }
+        ensures same { KeepsAllButPairs self.old self.new }
     {
         let place = self.list.back_idx()?;
         let head = self.home(place);
@@ -83,7 +83,7 @@ impl<K: Eq + Hash, V, S: BuildHasher, A: Allocator + Copy> Nodes<K, V, S, A> {
         requires { IsIndexed (hash_of K.Hash S.BuildHasher S.Hasher.Hasher) self.old }
         ensures none { pairs_in self.new ≡ [] }
         ensures indexed { IsIndexed (hash_of K.Hash S.BuildHasher S.Hasher.Hasher) self.new }
-        ensures same { IsSame self.old self.new }
+        ensures same { KeepsAllButPairs self.old self.new }
     {
         self.list.clear();
         self.heads.clear();
@@ -98,7 +98,7 @@ impl<K: Eq + Hash, V, S: BuildHasher, A: Allocator + Copy> Nodes<K, V, S, A> {
         requires room { length (pairs_in self.old) < capacity_of self.old }
         ensures pairs { pairs_in self.new ≡ (key, value) ∷ pairs_in self.old }
         ensures indexed { IsIndexed (hash_of K.Hash S.BuildHasher S.Hasher.Hasher) self.new }
-        ensures same { IsSame self.old self.new }
+        ensures same { KeepsAllButPairs self.old self.new }
     {
         let item = Item { key, value };
         match self.list.push_front(item) {
@@ -116,7 +116,7 @@ impl<K: Eq + Hash, V, S: BuildHasher, A: Allocator + Copy> Nodes<K, V, S, A> {
         ensures pair { Some result ≡ slice_get (pairs_in self.old) (length (pairs_in self.old) - 1) }
         ensures pairs { let old = pairs_in self.old in pairs_in self.new ≡ (key, value) ∷ take (length old - 1) old }
         ensures indexed { IsIndexed (hash_of K.Hash S.BuildHasher S.Hasher.Hasher) self.new }
-        ensures same { IsSame self.old self.new }
+        ensures same { KeepsAllButPairs self.old self.new }
     {
         let Some(place) = self.list.back_idx() else {
             unreachable!()
@@ -143,7 +143,7 @@ impl<K: Eq + Hash, V, S: BuildHasher, A: Allocator + Copy> Nodes<K, V, S, A> {
         ensures pair { result ≡ slice_get (pairs_in self.old) (capacity_of self.old - 1) }
         ensures pairs { pairs_in self.new ≡ (key, value) ∷ take (capacity_of self.old - 1) (pairs_in self.old) }
         ensures indexed { IsIndexed (hash_of K.Hash S.BuildHasher S.Hasher.Hasher) self.new }
-        ensures same { IsSame self.old self.new }
+        ensures same { KeepsAllButPairs self.old self.new }
     {
         if self.list.is_full() {
             return Some(self.replace_back(hash, key, value));
@@ -155,7 +155,7 @@ impl<K: Eq + Hash, V, S: BuildHasher, A: Allocator + Copy> Nodes<K, V, S, A> {
     /// The head of the key at a place.
     pub(crate) fn home(&self, place: usize) -> usize
         requires place { IsLive self.now.list.entries place }
-        requires headed { 0 < length self.now.heads.items }
+        requires headed { 0 < length self.now.heads.firsts }
         ensures home { HasHome (hash_of K.Hash S.BuildHasher S.Hasher.Hasher) result place self.now }
         ensures valid { IsValid self.now.list }
     {
@@ -172,7 +172,7 @@ impl<K: Eq + Hash, V, S: BuildHasher, A: Allocator + Copy> Nodes<K, V, S, A> {
         ensures pair { IsTaken result place self.old.list.entries }
         ensures entries { self.new.list.entries ≡ without place self.old.list.entries }
         ensures indexed { IsIndexed (hash_of K.Hash S.BuildHasher S.Hasher.Hasher) self.new }
-        ensures same { IsSame self.old self.new }
+        ensures same { KeepsAllButPairs self.old self.new }
     {
         self.unchain(head, place);
         match self.list.remove(place) {

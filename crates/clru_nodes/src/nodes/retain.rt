@@ -4,7 +4,7 @@ ghost use Rattle.std.specs.Map.Calls.{CalledAtPair, CallableOnEachPair, RetainsP
 ghost use Rattle.clru_model.specs.Entries.{weight_of};
 ghost use Rattle.clru_list.specs.PlaceList.{without};
 ghost use Rattle.clru_nodes.specs.Heads.{IsLive, IsTaken};
-ghost use Rattle.clru_nodes.specs.Nodes.{hash_of, pairs_in, IsIndexed, IsSame};
+ghost use Rattle.clru_nodes.specs.Nodes.{hash_of, pairs_in, IsIndexed, KeepsAllButPairs};
 ghost use Rattle.clru_nodes.specs.Retains.{CalledAtShownPair, TakesShownPair};
 
 use crate::nodes::Nodes;
@@ -23,7 +23,7 @@ impl<K: Eq + Hash, V, S: BuildHasher, A: Allocator + Copy> Nodes<K, V, S, A> {
         requires indexed { IsIndexed (hash_of K.Hash S.BuildHasher S.Hasher.Hasher) self.old }
         ensures kept { RetainsPairs (CalledAtPair F.FnMut) keep (pairs_in self.old) (pairs_in self.new) }
         ensures indexed { IsIndexed (hash_of K.Hash S.BuildHasher S.Hasher.Hasher) self.new }
-        ensures same { IsSame self.old self.new }
+        ensures same { KeepsAllButPairs self.old self.new }
     {
         self.sift(&mut 0, &ZeroWeightScale, keep);
     }
@@ -46,7 +46,7 @@ impl<K: Eq + Hash, V, S: BuildHasher, A: Allocator + Copy> Nodes<K, V, S, A> {
         ensures kept { RetainsPairs (CalledAtShownPair F.FnMut) keep (pairs_in self.old) (pairs_in self.new) }
         ensures weighs { total_weight.new ≡ weight_of (W.weight scale.now) (pairs_in self.new) }
         ensures indexed { IsIndexed (hash_of K.Hash S.BuildHasher S.Hasher.Hasher) self.new }
-        ensures same { IsSame self.old self.new }
+        ensures same { KeepsAllButPairs self.old self.new }
     {
         self.sift(
             total_weight,
@@ -76,7 +76,7 @@ impl<K: Eq + Hash, V, S: BuildHasher, A: Allocator + Copy> Nodes<K, V, S, A> {
         ensures kept { RetainsPairs (CalledAtPair F.FnMut) keep (pairs_in self.old) (pairs_in self.new) }
         ensures weighs { total_weight.new ≡ weight_of (W.weight scale.now) (pairs_in self.new) }
         ensures indexed { IsIndexed (hash_of K.Hash S.BuildHasher S.Hasher.Hasher) self.new }
-        ensures same { IsSame self.old self.new }
+        ensures same { KeepsAllButPairs self.old self.new }
     {
         let mut next = self.list.front_idx();
         while let Some(place) = next {
@@ -100,7 +100,7 @@ impl<K: Eq + Hash, V, S: BuildHasher, A: Allocator + Copy> Nodes<K, V, S, A> {
         ensures pair { IsTaken result place self.old.list.entries }
         ensures entries { self.new.list.entries ≡ without place self.old.list.entries }
         ensures indexed { IsIndexed (hash_of K.Hash S.BuildHasher S.Hasher.Hasher) self.new }
-        ensures same { IsSame self.old self.new }
+        ensures same { KeepsAllButPairs self.old self.new }
     {
         let head = self.home(place);
         self.remove(head, place)

@@ -1,6 +1,6 @@
 //! The axes of the picture, with their numbers and words.
 
-use super::numbers::{Room, are_short, first_place, last_place, write_number, write_short};
+use super::numbers::{Space, are_short, first_place, last_place, write_number, write_short};
 use super::scale::{BOTTOM, HEIGHT, LEFT, RIGHT, Scale, TOP};
 use super::style::{LARGE_LETTERS, LETTERS};
 use super::words::write_words;
@@ -49,14 +49,14 @@ fn draw_ratios<W: Write>(text: &mut W) -> fmt::Result {
     Ok(())
 }
 
-// Where powers of ten stand so far apart, there is room for lines at 2 and 5 between them.
+// Where powers of ten stand so far apart, there is space for lines at 2 and 5 between them.
 const ROOMY: u128 = 500;
 
 fn draw_capacities<W: Write>(text: &mut W, scale: &Scale) -> fmt::Result {
     let short = are_short(scale);
     draw_end(text, LEFT, first_place(scale.first), scale.first, short)?;
-    let room = Room::new(scale, LETTERS);
-    let little_room = Room::new(scale, LARGE_LETTERS);
+    let space = Space::new(scale, LETTERS);
+    let little_space = Space::new(scale, LARGE_LETTERS);
     for index in 0..ROUND_NUMBERS {
         let capacity = round_at(index);
         if capacity >= scale.last as u128 {
@@ -71,8 +71,8 @@ fn draw_capacities<W: Write>(text: &mut W, scale: &Scale) -> fmt::Result {
         } else if scale.decade() >= ROOMY {
             draw_line(text, "between", across)?;
         }
-        if room.has(index, capacity, across) {
-            let small_too = little_room.has(index, capacity, across);
+        if space.has(index, capacity, across) {
+            let small_too = little_space.has(index, capacity, across);
             draw_capacity(text, across, capacity, short, small_too)?;
         }
     }

@@ -6,14 +6,16 @@ use super::picture_of;
 use super::plot::{Line, Plot};
 use crate::options::{Capacities, Options};
 use crate::rows::Row;
+use crate::sample::times;
 use std::alloc::{AllocError, Allocator};
 use std::num::NonZeroUsize;
 
 /// The picture of the misses at 1, 2 and so on, with a dot for each row that has the least possible ones, and a ring for each
-/// capacity that was named.
+/// capacity that was named. Where the curve is of one key in some number, it shows what that says of all requests, as rows do.
 pub(crate) fn picture_by_keys<A: Allocator + Copy>(
     alloc: A,
     curve: &[usize],
+    one_in: NonZeroUsize,
     requests: usize,
     options: &Options<A>,
     rows: &[Row],
@@ -22,20 +24,23 @@ pub(crate) fn picture_by_keys<A: Allocator + Copy>(
     ensures { IfOk result (λ text. HasTable table.now (string_bytes text)) }
 {
     let greatest = rows.iter().map(|row| row.capacity.get()).max();
+    let distinct = times(one_in, usize::MAX, curve.len());
     let look = &options.look;
-    let first = look.from.unwrap_or(NonZeroUsize::MIN).get();
+    let first = look.from.unwrap_or(one_in);
     let last = match look.to {
         Some(last) => last.get(),
-        None => curve.len().max(greatest.unwrap_or(1)),
+        None => distinct.max(greatest.unwrap_or(1)),
     };
+    let start = curve.get((first.get() / one_in.get()).saturating_sub(1));
+    let start = *start.unwrap_or(&curve.len());
     let mut lines = Vec::new(alloc);
     lines.push(Line {
         class: "lru",
         name: "LRU",
         whole: requests,
-        start: *curve.get(first.saturating_sub(1)).unwrap_or(&curve.len()),
-        steps: steps_of(alloc, curve)?,
-        floor: curve.len(),
+        start: times(one_in, requests, start),
+        steps: steps_of(alloc, curve, one_in, requests)?,
+        floor: distinct.min(requests),
         marks: match options.capacities {
             Capacities::Named(_) => misses_of(alloc, rows)?,
             _ => Vec::new(alloc),
@@ -43,9 +48,10 @@ pub(crate) fn picture_by_keys<A: Allocator + Copy>(
     })?;
     let plot = Plot {
         requests,
-        distinct: curve.len(),
+        distinct,
+        one_in,
         unit: "keys",
-        ends: (first, last),
+        ends: (first.get(), last),
         lines,
         least: if options.least {
             Some(dots_of(alloc, rows)?)
@@ -56,13 +62,19 @@ pub(crate) fn picture_by_keys<A: Allocator + Copy>(
     picture_of(alloc, &plot, look, table)
 }
 
-// The capacities at which the misses fall.
-fn steps_of<A: Allocator>(alloc: A, curve: &[usize]) -> Result<Vec<(usize, usize), A>, AllocError> {
+// The capacities at which the misses fall, and the misses there.
+fn steps_of<A: Allocator>(
+    alloc: A,
+    curve: &[usize],
+    one_in: NonZeroUsize,
+    requests: usize,
+) -> Result<Vec<(usize, usize), A>, AllocError> {
     let mut steps = Vec::new(alloc);
     let mut last = *curve.first().unwrap_or(&0);
     for (index, misses) in curve.iter().enumerate() {
         if *misses != last {
-            steps.push((index.saturating_add(1), *misses))?;
+            let capacity = times(one_in, usize::MAX, index.saturating_add(1));
+            steps.push((capacity, times(one_in, requests, *misses)))?;
             last = *misses;
         }
     }

@@ -19,7 +19,7 @@ pub(super) fn draw_legend<W: Write, A: Allocator>(
     write!(text, "<text x=\"{LEFT}\" y=\"190\">")?;
     match &look.title {
         Some(title) => write_words(text, title)?,
-        None => write_numbers(text, plot.requests, plot.distinct)?,
+        None => write_numbers(text, plot)?,
     }
     text.write_str("</text>\n")?;
     let mut left = LEFT;
@@ -38,10 +38,17 @@ pub(super) fn draw_legend<W: Write, A: Allocator>(
     draw_floor(text, floor_of(plot))
 }
 
-fn write_numbers<W: Write>(text: &mut W, requests: usize, distinct: usize) -> fmt::Result {
-    write_counted(text, requests, " request")?;
-    text.write_str(", ")?;
-    write_counted(text, distinct, " distinct key")
+// What a sample tells is no count.
+fn write_numbers<W: Write, A: Allocator>(text: &mut W, plot: &Plot<A>) -> fmt::Result {
+    write_counted(text, plot.requests, " request")?;
+    if plot.one_in.get() == 1 {
+        text.write_str(", ")?;
+        return write_counted(text, plot.distinct, " distinct key");
+    }
+    text.write_str(", about ")?;
+    write_counted(text, plot.distinct, " distinct key")?;
+    text.write_str(", told from one key in ")?;
+    write_number(text, plot.one_in.get() as u128)
 }
 
 // A number of things, of which one has the name.

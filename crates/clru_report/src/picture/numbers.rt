@@ -83,7 +83,7 @@ pub(super) fn are_short(scale: &Scale) -> bool {
 
 /// The numbers that there is room for, in letters of a size.
 #[derive(Clone, Copy, Debug)]
-pub(super) struct Room {
+pub(super) struct Space {
     letters: u128,
     short: bool,
     decade: u128,
@@ -93,8 +93,8 @@ pub(super) struct Room {
     end: u128,
 }
 
-impl Room {
-    pub(super) fn new(scale: &Scale, letters: u128) -> Room {
+impl Space {
+    pub(super) fn new(scale: &Scale, letters: u128) -> Space {
         let short = are_short(scale);
         let first = breadth(scale.first as u128, short, letters);
         let last = breadth(scale.last as u128, short, letters);
@@ -112,7 +112,7 @@ impl Room {
             (across, "middle") => across.saturating_sub(last / 2),
             (across, _) => across.saturating_sub(last),
         };
-        Room {
+        Space {
             letters,
             short,
             decade,

@@ -1,6 +1,7 @@
 //! What a picture shows, whatever its capacities count.
 
 use std::alloc::Allocator;
+use std::num::NonZeroUsize;
 
 /// A miss ratio over the capacities, as parts of a whole.
 #[derive(Drop)]
@@ -32,6 +33,9 @@ pub(crate) struct Line<A: Allocator> {
 pub(crate) struct Plot<A: Allocator> {
     pub(crate) requests: usize,
     pub(crate) distinct: usize,
+
+    /// Of how many keys one was read.
+    pub(crate) one_in: NonZeroUsize,
 
     /// What capacities count.
     pub(crate) unit: &'static str,

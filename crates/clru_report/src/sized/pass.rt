@@ -56,8 +56,8 @@ pub(crate) fn curve_of<R: Read, S: BuildHasher + Drop, A: Allocator + Copy>(
     }
 }
 
-// Takes one more line, of this number. It is copied where it is new.
-fn take_line<S: BuildHasher, A: Allocator + Copy>(
+/// Takes one more line, of this number. It is copied where it is new.
+pub(super) fn take_line<S: BuildHasher, A: Allocator + Copy>(
     alloc: A,
     pass: &mut SizedPass<OwnedKey<A>, S, A>,
     key: &OwnedKey<A>,

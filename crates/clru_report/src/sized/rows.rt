@@ -37,8 +37,8 @@ pub(crate) fn sized_rows_for<A: Allocator + Copy>(
     sized_rows_at(alloc, curve, &capacities)
 }
 
-// A row for each capacity.
-fn sized_rows_at<A: Allocator>(
+/// A row for each capacity.
+pub(super) fn sized_rows_at<A: Allocator>(
     alloc: A,
     curve: &SizedCurve<A>,
     capacities: &[NonZeroUsize],

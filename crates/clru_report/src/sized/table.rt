@@ -96,13 +96,32 @@ pub(crate) fn sized_summary_of<A: Allocator + Copy>(
     ensures { IfOk result (λ text. string_bytes text ≡ sized_summary_text curve.now.requests (distinct_in curve.now)
         bytes curve.now.size curve.now.distinct_size (min (1 + curve.now.greatest_weight) curve.now.distinct_size)) }
 {
-    let keys = three_numbers(alloc, curve.requests(), distinct_of(curve), bytes)?;
-    let sizes = three_numbers(
+    sized_summary(
         alloc,
+        curve.requests(),
+        distinct_of(curve),
+        bytes,
         curve.size(),
         curve.distinct_size(),
         greatest_of(curve),
-    )?;
+    )
+}
+
+/// The summary with these numbers.
+pub(super) fn sized_summary<A: Allocator + Copy>(
+    alloc: A,
+    requests: usize,
+    distinct: usize,
+    bytes: usize,
+    size: usize,
+    distinct_size: usize,
+    greatest: usize,
+) -> Result<String<A>, AllocError>
+    ensures { IfOk result (λ text. string_bytes text
+        ≡ sized_summary_text requests distinct bytes size distinct_size greatest) }
+{
+    let keys = three_numbers(alloc, requests, distinct, bytes)?;
+    let sizes = three_numbers(alloc, size, distinct_size, greatest)?;
     let mut text = String::new(alloc);
     text.push_str(
         "requests,distinct_keys,input_bytes,requested_bytes,distinct_bytes,greatest_size\n",
@@ -125,8 +144,8 @@ fn three_numbers<A: Allocator + Copy>(
     format!(in alloc; "{a},{b},{c}")
 }
 
-// Where there is no line, the first capacity is no size.
-fn greatest_of<A: Allocator>(curve: &SizedCurve<A>) -> usize
+/// The greatest size. Where there is no line, the first capacity is no size.
+pub(super) fn greatest_of<A: Allocator>(curve: &SizedCurve<A>) -> usize
     requires { IsSettled curve.now }
     ensures { result ≡ min (1 + curve.now.greatest_weight) curve.now.distinct_size }
 {

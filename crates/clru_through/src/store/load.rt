@@ -59,7 +59,7 @@ impl<
 
     /// Returns the value of the key, and makes it the most recently used one. It is fetched first if it is not held.
     ///
-    /// It is a load, which says what the store is afterwards, and a look at its front.
+    /// It is a load and a look at its front. No clause says what store it leaves, or that it fetches once; rows show both.
     /// Cost: one hash and a walk along one chain; where the key is not held, also a fetch and what a `put_with_weight` costs.
     pub fn get(&mut self, key: K) -> Result<Answer<'_, V>, E>
     where

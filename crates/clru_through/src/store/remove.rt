@@ -26,7 +26,7 @@ impl<
     /// Takes the value of the key out, and returns it. The next load of the key fetches it again.
     ///
     /// Its place stays ready.
-    /// Cost: one hash and a walk along one chain, and a weighing of what goes.
+    /// Cost: one hash and a walk along one chain; where the key is held a walk more, and a weighing of what goes.
     pub fn pop<Q: Equivalent<K>>(&mut self, key: Q) -> Option<V>
     where
         K: Drop,

@@ -5,7 +5,7 @@ use Rattle.std.proofs.lemmas.Iterator.Consumers.{YieldsList-end}
 use Rattle.std.specs.Int.NonZero.{non_zero_usize_get}
 use Rattle.clru_model.specs.Requests.{misses}
 use Rattle.clru_model.proofs.Bound.{competitive, competitive_from_any_start}
-use Rattle.clru_model.proofs.Hits.{Keeps_none}
+use Rattle.clru_model.proofs.Hits.{HoldsHits_none}
 use Rattle.clru.proofs.Replaying.{Replays, Replays-push}
 use Rattle.clru.proofs.replays.replay.Goals as goal
 use Rattle.clru.proofs.replays.replay.Goals.{then-not-hit, else-not-hit}
@@ -57,7 +57,7 @@ loop-key-init g c =
           (record {
             marks = search rules;
             misses = search rules;
-            keeps = Keeps_none eq k;
+            keeps = HoldsHits_none eq k;
             capacity = capacity;
             places = rw (reserve, capacity, len) refl;
             covered = omega arith;

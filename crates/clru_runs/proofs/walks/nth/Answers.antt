@@ -6,10 +6,10 @@ use Rattle.clru_runs.proofs.walks.nth.Goals as goal
 
 pub returns-in-Some : goal.returns-in-Some
 returns-in-Some g c =
-    let there = nth-first deref_pair c.iter.result c.args.number c.nth.result c.nth.new.self c.nth.ensures.ran in
-    ap (option_map (λ e. e.1)) (ap (option_map deref_pair) (sym c.in-Some.is) ∙ there ∙ ap (λ l. slice_get l c.args.number) c.iter.ensures)
+    let there = nth-first deref_pair c.iter.result c.args.index c.nth.result c.nth.new.self c.nth.ensures.ran in
+    ap (option_map (λ e. e.1)) (ap (option_map deref_pair) (sym c.in-Some.is) ∙ there ∙ ap (λ l. slice_get l c.args.index) c.iter.ensures)
 
 pub returns-in-None : goal.returns-in-None
 returns-in-None g c =
-    let there = nth-first deref_pair c.iter.result c.args.number c.nth.result c.nth.new.self c.nth.ensures.ran in
-    ap (option_map (λ e. e.1)) (ap (option_map deref_pair) (sym c.in-None.is) ∙ there ∙ ap (λ l. slice_get l c.args.number) c.iter.ensures)
+    let there = nth-first deref_pair c.iter.result c.args.index c.nth.result c.nth.new.self c.nth.ensures.ran in
+    ap (option_map (λ e. e.1)) (ap (option_map deref_pair) (sym c.in-None.is) ∙ there ∙ ap (λ l. slice_get l c.args.index) c.iter.ensures)

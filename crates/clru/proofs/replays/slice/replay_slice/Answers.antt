@@ -3,7 +3,7 @@ use Rattle.std.proofs.lemmas.List.{take_more}
 use Rattle.std.specs.Int.NonZero.{non_zero_usize_get}
 use Rattle.clru_model.specs.Requests.{marks, misses}
 use Rattle.clru_model.proofs.Bound.{competitive, competitive_from_any_start}
-use Rattle.clru_model.proofs.Hits.{Keeps_none}
+use Rattle.clru_model.proofs.Hits.{HoldsHits_none}
 use Rattle.clru.proofs.Replaying.{Replays, Replays-push}
 use Rattle.clru.proofs.replays.slice.replay_slice.Goals as goal
 use Rattle.clru.proofs.replays.slice.replay_slice.Goals.{then-not-hit, else-not-hit}
@@ -19,7 +19,7 @@ loop-key-init g c =
           (record {
             marks = search rules;
             misses = search rules;
-            keeps = Keeps_none eq k;
+            keeps = HoldsHits_none eq k;
             capacity = capacity;
             places = rw (reserve, capacity) refl;
             covered = omega arith;

@@ -30,7 +30,7 @@ loop-next-smaller g c =
     let x = c.args.self.now in let w = c.loop-next.invariant.walk in let next = c.loop-next.next in
     let none : HasLink x nowhere → ⊥ = λ h. omega (arith, h, c.first-first.ensures.countable) in
     let off = walk_goes_on w none c.args.place (λ q h. h) c.loop-next-test.true in
-    let step = steps_off (place_in x.bound x.items) (place_in x.bound x.links) c.args.head next off
+    let step = steps_off (place_in x.bound x.firsts) (place_in x.bound x.links) c.args.head next off
     ∙ sym (c.place-next-in-loop-next.ensures ∙ ap (place_named x.bound) c.next-link.ensures.number) in
     subst (λ n. steps_left (steps_in x c.args.head) n (length x.links) < steps_left (steps_in x c.args.head) next (length x.links)) step
     (walk_nearer w none off)
@@ -40,7 +40,7 @@ loop-next-preserved g c =
     let x = c.args.self.now in let i = c.loop-next.invariant in let w = i.walk in let next = c.loop-next.next in
     let none : HasLink x nowhere → ⊥ = λ h. omega (arith, h, c.first-first.ensures.countable) in
     let off = walk_goes_on w none c.args.place (λ q h. h) c.loop-next-test.true in
-    let step = steps_off (place_in x.bound x.items) (place_in x.bound x.links) c.args.head next off
+    let step = steps_off (place_in x.bound x.firsts) (place_in x.bound x.links) c.args.head next off
     ∙ sym (c.place-next-in-loop-next.ensures ∙ ap (place_named x.bound) c.next-link.ensures.number) in
     record {
       leads = step;

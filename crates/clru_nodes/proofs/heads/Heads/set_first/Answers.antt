@@ -8,8 +8,8 @@ pub returns : goal.returns
 returns g c =
     let s = c.self.inside in let xs = numbers_in s.words in let k = c.args.head in let n = c.args.number in
     let within : k < s.mask + 1 =
-    omega (arith, c.requires.head, ap (λ l. length l.items) c.self.view_is, length-take (s.mask + 1) xs) in
+    omega (arith, c.requires.head, ap (λ l. length l.firsts) c.self.view_is, length-take (s.mask + 1) xs) in
     let new = c.set.ensures.numbers in
-    let items = ap (λ ws. take (s.mask + 1) ws) new ∙ head_written (s.mask + 1) xs k n within in
+    let firsts = ap (λ ws. take (s.mask + 1) ws) new ∙ head_written (s.mask + 1) xs k n within in
     let links = ap (λ ws. drop (s.mask + 1) ws) new ∙ links_stay (s.mask + 1) xs k n within in
-    rw (← c.self.view_is) (λ i. record { items = items i; links = links i; bound = s.mask; tags = s.tags })
+    rw (← c.self.view_is) (λ i. record { firsts = firsts i; links = links i; bound = s.mask; tags = s.tags })

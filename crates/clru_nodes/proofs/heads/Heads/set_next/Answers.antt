@@ -7,6 +7,6 @@ pub returns : goal.returns
 returns g c =
     let s = c.self.inside in let xs = numbers_in s.words in let k = c.args.place in let n = c.args.number in
     let new = c.set.ensures.numbers in
-    let items = ap (λ ws. take (s.mask + 1) ws) new ∙ heads_stay (s.mask + 1) xs k n in
+    let firsts = ap (λ ws. take (s.mask + 1) ws) new ∙ heads_stay (s.mask + 1) xs k n in
     let links = ap (λ ws. drop (s.mask + 1) ws) new ∙ link_written (s.mask + 1) xs k n in
-    rw (← c.self.view_is) (λ i. record { items = items i; links = links i; bound = s.mask; tags = s.tags })
+    rw (← c.self.view_is) (λ i. record { firsts = firsts i; links = links i; bound = s.mask; tags = s.tags })

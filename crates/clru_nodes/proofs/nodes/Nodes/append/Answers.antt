@@ -79,7 +79,7 @@ returns-clause-chained g c =
     chained_behind (hash x.hash_builder) (key_at es) p b c.note.new.self c.head_of-head.result _ _ chained before.behind
     (before.cut _ (chained.chains.chain c.head_of-head.result)) note.none note.written (λ off. note.leads off refl)
     h.off (rw h.held refl)
-    (ap (λ l. head_by (length l.items) k) same ∙ ap (λ m. head_by (length x.heads.items) m) h.hashed ∙ sym c.head_of-head.ensures.head)
+    (ap (λ l. head_by (length l.firsts) k) same ∙ ap (λ m. head_by (length x.heads.firsts) m) h.hashed ∙ sym c.head_of-head.ensures.head)
     (ap (λ m. place_named m n) bound ∙ number.place) (ap (λ t. tag_by t n) tags ∙ number.tag ∙ sym (ap (λ t. tag_by t k) tags))
     (λ more. omega (arith, more, bound, tags, number.ends))
     (ap (λ l. number_in l.links p) same ∙ get_or-set_same x.heads.links p 0 0 within)

@@ -8,8 +8,8 @@ pub returns-clause-indexed : goal.returns-clause-indexed
 returns-clause-indexed g c =
     let hash = hash_by g.S.Hasher.Hasher.finish g.S.Hasher.Hasher.write g.S.BuildHasher.build_hasher g.K.Hash.hash_input in
     let x = c.args.self.now in let list = c.clear.ensures.entries in let heads = c.clear-2.ensures in let old = c.requires in
-    let items = ap (λ l. length l.items) heads in let links = ap (λ l. length l.links) heads in
-    let n = length-replicate {A = ℕ} (length x.heads.items) 0 in let m = length-replicate {A = ℕ} (length x.heads.links) 0 in
-    indexed_none hash _ (ap (λ l. l.entries) list) (λ h. free-replicate (length x.heads.items) h _ (ap (λ l. l.items) heads))
-    (omega (arith, items, links, n, m, old.headed))
+    let firsts = ap (λ l. length l.firsts) heads in let links = ap (λ l. length l.links) heads in
+    let n = length-replicate {A = ℕ} (length x.heads.firsts) 0 in let m = length-replicate {A = ℕ} (length x.heads.links) 0 in
+    indexed_none hash _ (ap (λ l. l.entries) list) (λ h. free-replicate (length x.heads.firsts) h _ (ap (λ l. l.firsts) heads))
+    (omega (arith, firsts, links, n, m, old.headed))
     (omega (arith, ap (λ l. l.places) list, links, m, old.linked)) (omega (arith, ap (λ l. l.places) list, ap (λ l. l.bound) heads, old.named))

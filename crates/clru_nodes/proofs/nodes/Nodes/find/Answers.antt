@@ -20,7 +20,7 @@ loop-key-init g c =
     let hash = hash_by g.S.Hasher.Hasher.finish g.S.Hasher.Hasher.write g.S.BuildHasher.build_hasher g.K.Hash.hash_input in
     let h = c.head_of-head.result in let chained = c.requires.indexed.chained in let first = c.first-number.ensures.number in
     let alike : (k : g.row.K.Denot) → eq key k ≡ true → home_at hash x k ≡ h =
-    λ k same. ap (λ n. head_by (length x.heads.items) n) (sym (c.requires.hash ∙ same_hash g.S.Hasher.Hasher.finish g.S.Hasher.Hasher.write
+    λ k same. ap (λ n. head_by (length x.heads.firsts) n) (sym (c.requires.hash ∙ same_hash g.S.Hasher.Hasher.finish g.S.Hasher.Hasher.write
     g.S.BuildHasher.build_hasher g.Q.Hash.hash_input g.K.Hash.hash_input x.hash_builder (g.met.Q.Equivalent.respects_hash key k same))) ∙ sym c.head_of-head.ensures.head in
     record {
       walk = rw first (walk_along (home_at hash x) es chained.chains (live_of_key es) h
@@ -53,7 +53,7 @@ returns-then-is_last-clause-absent g c =
     (λ p at. walk_last i.walk (λ a. none a.0) (λ off w. c.is_other.ensures.other c.loop-key-test.true off w.1)
     (λ off.
     let live = (walk_alive i.walk (λ a. none a.0) off).0 in
-    steps_off (place_in x.heads.bound x.heads.items) (place_in x.heads.bound x.heads.links) c.head_of-head.result _ off
+    steps_off (place_in x.heads.bound x.heads.firsts) (place_in x.heads.bound x.heads.links) c.head_of-head.result _ off
     ∙ i.hint.ends live.0.key off (rw live.1 refl) (c.is_last.ensures.last c.if-is_last.true))
     p (λ e. none (at.item, subst (λ q. item_at q x.list.entries ≡ Some at.item) e at.held), at))
 
@@ -70,7 +70,7 @@ loop-key-smaller g c =
     let next = place_named x.heads.bound c.loop-key.number in let f = steps_in x.heads c.head_of-head.result in
     let off = i.hint.leads (c.is_last.ensures.more c.if-is_last.false) in
     let new = c.next-number.ensures.number ∙ ap (number_in x.heads.links) c.place-place.ensures in
-    let step = steps_off (place_in x.heads.bound x.heads.items) (place_in x.heads.bound x.heads.links) c.head_of-head.result next off
+    let step = steps_off (place_in x.heads.bound x.heads.firsts) (place_in x.heads.bound x.heads.links) c.head_of-head.result next off
     ∙ sym (ap (place_named x.heads.bound) new) in
     subst (λ n. steps_left f n (length x.list.entries) < steps_left f next (length x.list.entries)) step
     (walk_nearer i.walk (λ a. none_at_start x.list valid a.0) off)
@@ -83,12 +83,12 @@ loop-key-preserved g c =
     let off = i.hint.leads (c.is_last.ensures.more c.if-is_last.false) in
     let new = c.next-number.ensures.number ∙ ap (number_in x.heads.links) c.place-place.ensures in
     let placed = ap (place_named x.heads.bound) new in
-    let step = steps_off (place_in x.heads.bound x.heads.items) (place_in x.heads.bound x.heads.links) h next off ∙ sym placed in
+    let step = steps_off (place_in x.heads.bound x.heads.firsts) (place_in x.heads.bound x.heads.links) h next off ∙ sym placed in
     let alive = walk_alive i.walk (λ a. none a.0) off in
     record {
       walk = rw (← step) (walk_step i.walk (λ a. none a.0) off (λ q. (q ≡ nowhere → ⊥) × IsAt g.Q.Equivalent.equivalent c.args.key q es) (λ q w. w)
           (λ w. c.is_other.ensures.other c.loop-key-test.true off w.1));
-      hint = as_hint (new ∙ sym (steps_off (number_in x.heads.items) (number_in x.heads.links) h next off)) (sym step)
+      hint = as_hint (new ∙ sym (steps_off (number_in x.heads.firsts) (number_in x.heads.links) h next off)) (sym step)
           (c.requires.indexed.chained.hints h next alive.1);
     }
 

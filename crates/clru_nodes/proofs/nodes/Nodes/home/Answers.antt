@@ -12,7 +12,7 @@ returns-clause-home g c =
     record {
       item = c.item-item.result.now;
       held = held;
-      home = sym (is ∙ ap (λ n. head_by (length x.heads.items) n) c.hash.ensures);
+      home = sym (is ∙ ap (λ n. head_by (length x.heads.firsts) n) c.hash.ensures);
       off = λ e. none_at_start x.list c.item-item.ensures.valid (c.item-item.result.now, subst (λ q. item_at q es ≡ Some c.item-item.result.now) e held);
       within = c.head_of.ensures.within;
     }

@@ -18,7 +18,7 @@ pub loop-place-init : goal.loop-place-init
 loop-place-init g c =
     let x = c.args.self.now in let es = x.list.entries in
     record {
-      chained = linked_none (number_in x.heads.items) (number_in x.heads.links) (key_from c.places-place.result es) c.requires.free refl
+      chained = linked_none (number_in x.heads.firsts) (number_in x.heads.links) (key_from c.places-place.result es) c.requires.free refl
           (λ q off. rw c.places-place.ensures.places (none_past x.list c.places-place.ensures.valid q));
       list = refl;
       same = same_refl;
@@ -70,12 +70,12 @@ loop-place-preserved g c =
     let off : p ≡ nowhere → ⊥ =
     λ e. none_at_start x.list c.get.ensures.valid (item, subst (λ q. item_at q es ≡ Some item) e held) in
     let size = size_trans c.link.ensures.same c.link-in-loop-place.ensures.same in
-    let one = subst (λ t. IsRelinked (number_in x.heads.items) (number_in x.heads.links) h p t (number_in h₁.items) (number_in h₁.links))
+    let one = subst (λ t. IsRelinked (number_in x.heads.firsts) (number_in x.heads.links) h p t (number_in h₁.firsts) (number_in h₁.links))
     c.first-first.ensures.number c.link.ensures.written in
     record {
       chained = sized_stay (hash x.hash_builder) size.heads size.bound size.tags
           (linked_more p es (subst (λ m. IsChainedAs hash (key_from m es) x) next i.chained) h c.noted-noted.result item off held
-          (sym (c.head_of-head.ensures.head ∙ ap (λ m. head_by (length x.heads.items) m) c.hash-hash.ensures))
+          (sym (c.head_of-head.ensures.head ∙ ap (λ m. head_by (length x.heads.firsts) m) c.hash-hash.ensures))
           (noted.place ∙ n.place) (noted.tag ∙ n.tag ∙ ap (λ m. tag_by x.heads.tags m) c.hash-hash.ensures)
           (λ short. elim (cases_Bool c.is_named-leads.result) [
             | inl t ↦ let more = noted.leads t in absurd (omega (arith, more, short))

@@ -1,6 +1,6 @@
 use Rattle.std.proofs.Common.{◌≡◌}
 use Rattle.clru_nodes.specs.Heads.{IsChainedAs}
-use Rattle.clru_nodes.specs.Nodes.{hash_by, IsSame}
+use Rattle.clru_nodes.specs.Nodes.{hash_by, KeepsAllButPairs}
 use Rattle.clru_nodes.proofs.Relinking.{key_from}
 use Rattle.clru_nodes.proofs.nodes.Nodes.relink.Given as goal
 
@@ -10,7 +10,7 @@ invariant-loop-place g l =
     record {
       chained : IsChainedAs hash (key_from l.place l.self.list.entries) l.self;
       list : l.self.list ≡ l.fn.self.list;
-      same : IsSame l.fn.self l.self;
+      same : KeepsAllButPairs l.fn.self l.self;
     }
 
 abbrev pub decreases-loop-place : goal.decreases-loop-place

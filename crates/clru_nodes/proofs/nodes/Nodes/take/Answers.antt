@@ -26,7 +26,7 @@ remove-requires-clause-home g c =
     record {
       item = at.item;
       held = at.held;
-      home = sym (is ∙ ap (λ n. head_by (length x.heads.items) n) (c.requires.hash ∙ same_hash g.S.Hasher.Hasher.finish g.S.Hasher.Hasher.write
+      home = sym (is ∙ ap (λ n. head_by (length x.heads.firsts) n) (c.requires.hash ∙ same_hash g.S.Hasher.Hasher.finish g.S.Hasher.Hasher.write
           g.S.BuildHasher.build_hasher g.Q.Hash.hash_input g.K.Hash.hash_input x.hash_builder (g.met.Q.Equivalent.respects_hash c.args.key at.item.key at.same)));
       off = λ e. none_at_start x.list c.find.ensures.valid (at.item, subst (λ q. item_at q es ≡ Some at.item) e at.held);
       within = c.head_of-head.ensures.within;

@@ -39,11 +39,11 @@ invariant_of-self-2 g c =
     let at = key_at eq laws (g.Q.Equivalent.equivalent c.args.key) (g.met.Q.Equivalent.respects_eq c.args.key)
     s.positions.entries p (sym c.in-Some.ensures.found) in
     let moved = c.in-Some.ensures.moved refl
-    ∙ ap (λ t. with_entries s.positions (set_value t s.positions.entries c.len-number.result)) at.same in
-    let number : c.len-number.result ≡ length ss = omega (arith, c.len-number.ensures, c.make_ready.new.self.sizes.ok.0, ap (λ l. length l) e.sizes) in
+    ∙ ap (λ t. with_entries s.positions (set_value t s.positions.entries c.len-here.result)) at.same in
+    let here : c.len-here.result ≡ length ss = omega (arith, c.len-here.ensures, c.make_ready.new.self.sizes.ok.0, ap (λ l. length l) e.sizes) in
     let grown = c.push.ensures.sizes ∙ ap (λ l. l ++ (c.args.weight + 1) ∷ []) e.sizes in
     let cleared = c.clear.ensures.sizes ∙ ap (λ l. set l p 0) grown in
-    rw (moved, cleared, c.push_reserved.ensures.items, c.reserve.ensures.items, number)
+    rw (moved, cleared, c.push_reserved.ensures.items, c.reserve.ensures.items, here)
     (IsSoundBySize-again eq laws s.positions.entries ss s.hits.items s.size s.greatest at.key s.latest.nodes.items inv
     c.args.weight c.greater-greatest.result (omega (arith, c.if-weight-self.false, inv.fits)) c.clear.new.self.nodes.items
     p c.total_from-span.result at.found
@@ -66,11 +66,11 @@ returns-clause-taken g c w past x same before weighs passes some =
     let ss = s.latest.sizes.items in let p = c.in-Some.position in let e = c.make_ready.ensures in
     let is = subst (λ v. IsSizedPass eq w past v) (sym c.self.view_is) before in
     let moved = c.in-Some.ensures.moved refl
-    ∙ ap (λ t. with_entries s.positions (set_value t s.positions.entries c.len-number.result)) (form_is eq test form x passes) in
-    let number : c.len-number.result ≡ length ss = omega (arith, c.len-number.ensures, c.make_ready.new.self.sizes.ok.0, ap (λ l. length l) e.sizes) in
+    ∙ ap (λ t. with_entries s.positions (set_value t s.positions.entries c.len-here.result)) (form_is eq test form x passes) in
+    let here : c.len-here.result ≡ length ss = omega (arith, c.len-here.ensures, c.make_ready.new.self.sizes.ok.0, ap (λ l. length l) e.sizes) in
     let grown = c.push.ensures.sizes ∙ ap (λ l. l ++ (c.args.weight + 1) ∷ []) e.sizes in
     let cleared = c.clear.ensures.sizes ∙ ap (λ l. set l p 0) grown in
     let span = c.total_from-span.ensures ∙ ap (λ l. sizes_from l p) e.sizes in
-    rw (moved, cleared, c.push_reserved.ensures.items, c.reserve.ensures.items, number, span)
+    rw (moved, cleared, c.push_reserved.ensures.items, c.reserve.ensures.items, here, span)
     (IsSizedPass-again eq laws s.positions.entries ss s.hits.items s.size s.greatest x w past is same c.args.weight weighs
     c.greater-greatest.result c.greater-greatest.ensures p (found_as eq laws test form s.positions.entries x (Some p) passes (sym c.in-Some.ensures.found)))

@@ -3,15 +3,19 @@ ghost use Rattle.std.specs.Prelude.{◌*◌, Some, ⊤};
 ghost use Rattle.std.specs.Cmp.Rules.{comparing};
 ghost use Rattle.std.proofs.Common.{rules};
 
+use crate::lists::capacity_of;
 use assertions::equal;
 use clru::{CLruCache, NonZeroUsize, ZeroWeightScale};
 use clru_callers::of_stores::changing::{Tickets, ticket_of};
+use clru_callers::of_stores::loads::fetches_of_all;
+use clru_callers::of_stores::parts::{made_again, store_before};
 use clru_callers::of_stores::tiers::{Tier, value_through_two};
 use clru_callers::of_stores::{
     fetches_of, got_both, got_twice, load_beside, room_of, twice, value_of,
 };
 use clru_through::{Source, Through};
 use std::alloc::Global;
+use std::test::Fail;
 
 #[derive(Drop)]
 struct Doubles;
@@ -84,6 +88,15 @@ fn failures(
         load_beside(store, 100, 10),
         load_beside(store, 10, 9),
     )
+}
+
+#[test]
+fn a_store_fetches_what_a_replay_misses(rt: HostRuntime) -> Result<(), Fail> {
+    let mut store = made_again(store_before(rt.alloc(), capacity_of(2)?, Doubles));
+    equal!(rt; fetches_of_all(&mut store, &[1, 2, 1, 3, 2]), Some(4));
+    store.clear();
+    equal!(rt; fetches_of_all(&mut store, &[1, 100]), None);
+    Ok(())
 }
 
 #[test]

@@ -4,7 +4,8 @@ use crate::lists::capacity_of;
 use assertions::equal;
 use clru::{
     CLruCache, DefaultState, NonZeroUsize, ZeroWeightScale, law_by_position, law_dropped,
-    law_growth, law_inclusion, law_longest_fit, law_requests, law_schedules_by_position, law_sizes,
+    law_greater_capacity, law_inclusion, law_longest_fit, law_requests, law_schedules_by_position,
+    law_sizes,
 };
 use clru_callers::of_least::least_by_position;
 use clru_callers::{calls, of_curves, of_least, puts, runs, sizes};
@@ -18,7 +19,7 @@ use std::test::Fail;
 fn laws_do_nothing() {
     law_by_position::<&'static str>();
     law_schedules_by_position::<&'static str>();
-    law_growth::<&'static str>();
+    law_greater_capacity::<&'static str>();
     law_inclusion::<u64, &'static str>();
     law_longest_fit::<u64, &'static str>();
     law_requests::<&'static str, u64>();

@@ -1,20 +1,23 @@
-//! The picture by size.
+//! The picture where each key takes the size of its requests.
 ghost use Rattle.std.specs.Prelude.{IfOk, string_bytes};
 ghost use Rattle.clru_report.specs.Passes.{IsSettled};
 ghost use Rattle.clru_report.specs.Tables.{HasTable};
 
-use super::capacities::first_capacity;
-use super::table::distinct_of;
+use super::picture_of;
+use super::plot::{Line, Plot};
 use crate::options::{Capacities, Look};
-use crate::picture::{Line, Plot, picture_of};
+use crate::sample::times;
+use crate::sized::{Totals, distinct_of, first_capacity};
 use clru_curve::{SizedCurve, Step};
 use std::alloc::{AllocError, Allocator};
 use std::num::NonZeroUsize;
 
-/// The picture of a curve: which part of the requests misses, and which of their size.
+/// The picture of a curve: which part of the requests misses, and which of their size. Where the curve is of one key in some
+/// number, it shows what that says of all requests, as rows do.
 pub(crate) fn picture_by_size<A: Allocator + Copy>(
     alloc: A,
     curve: &SizedCurve<A>,
+    totals: Totals,
     capacities: &Capacities<A>,
     look: &Look<A>,
     table: &str,
@@ -22,21 +25,24 @@ pub(crate) fn picture_by_size<A: Allocator + Copy>(
     requires { IsSettled curve.now }
     ensures { IfOk result (λ text. HasTable table.now (string_bytes text)) }
 {
-    let least = first_capacity(curve);
+    let one_in = totals.one_in;
+    let least = times(one_in, usize::MAX, first_capacity(curve));
     let first = match look.from {
         Some(from) => from.get().max(least),
         None => least,
     };
+    let greatest = curve.distinct_size().max(greatest_named(capacities));
     let last = match look.to {
         Some(last) => last.get(),
-        None => curve.distinct_size().max(greatest_named(capacities)),
+        None => times(one_in, usize::MAX, greatest),
     };
     let plot = Plot {
-        requests: curve.requests(),
-        distinct: distinct_of(curve),
+        requests: totals.requests,
+        distinct: times(one_in, usize::MAX, distinct_of(curve)),
+        one_in,
         unit: "units of size",
         ends: (first, last),
-        lines: lines_of(alloc, curve, first, capacities)?,
+        lines: lines_of(alloc, curve, totals, first, capacities)?,
         least: None,
     };
     picture_of(alloc, &plot, look, table)
@@ -58,50 +64,58 @@ fn greatest_named<A: Allocator>(capacities: &Capacities<A>) -> usize {
 fn lines_of<A: Allocator + Copy>(
     alloc: A,
     curve: &SizedCurve<A>,
+    totals: Totals,
     first: usize,
     capacities: &Capacities<A>,
 ) -> Result<Vec<Line<A>, A>, AllocError>
     requires { IsSettled curve.now }
 {
-    let (misses, missed_size) = missed_at(curve, first);
+    let one_in = totals.one_in;
+    let least = first_capacity(curve);
+    let (misses, missed_size) = missed_at(curve, (first / one_in.get()).max(least));
     let hits = curve.requests().saturating_sub(misses);
     let steps = curve.as_slice().get(hits..).unwrap_or(&[]);
-    let (marks, marks_of_sizes) = marks_of(alloc, curve, capacities)?;
+    let (marks, marks_of_sizes) = marks_of(alloc, curve, totals, capacities)?;
     let mut lines = Vec::new(alloc);
     lines.push(Line {
         class: "lru",
         name: "miss ratio",
-        whole: curve.requests(),
-        start: misses,
-        steps: steps_of_requests(alloc, steps, misses)?,
-        floor: distinct_of(curve),
+        whole: totals.requests,
+        start: times(one_in, totals.requests, misses),
+        steps: steps_of_requests(alloc, steps, totals, misses)?,
+        floor: times(one_in, totals.requests, distinct_of(curve)),
         marks,
     })?;
     lines.push(Line {
         class: "bytes",
         name: "byte miss ratio",
-        whole: curve.size(),
-        start: missed_size,
-        steps: steps_of_sizes(alloc, steps)?,
-        floor: curve.distinct_size(),
+        whole: totals.size,
+        start: times(one_in, totals.size, missed_size),
+        steps: steps_of_sizes(alloc, steps, totals)?,
+        floor: times(one_in, totals.size, curve.distinct_size()),
         marks: marks_of_sizes,
     })?;
     Ok(lines)
 }
 
-// The capacities that are named, with the misses at each, and with their size.
+// The capacities that are named, with the misses at each, and with their size. Below the greatest size kept requests have none.
 fn marks_of<A: Allocator + Copy>(
     alloc: A,
     curve: &SizedCurve<A>,
+    totals: Totals,
     capacities: &Capacities<A>,
 ) -> Result<(Vec<(usize, usize), A>, Vec<(usize, usize), A>), AllocError> {
     let mut marks = Vec::new(alloc);
     let mut marks_of_sizes = Vec::new(alloc);
     if let Capacities::Named(named) = capacities {
+        let one_in = totals.one_in;
         for capacity in named.iter() {
-            let (misses, missed_size) = missed_at(curve, capacity.get());
-            marks.push((capacity.get(), misses))?;
-            marks_of_sizes.push((capacity.get(), missed_size))?;
+            if capacity.get() > curve.greatest_weight() {
+                let (misses, missed_size) = missed_at(curve, capacity.get());
+                let at = capacity.saturating_mul(one_in).get();
+                marks.push((at, times(one_in, totals.requests, misses)))?;
+                marks_of_sizes.push((at, times(one_in, totals.size, missed_size)))?;
+            }
         }
     }
     Ok((marks, marks_of_sizes))
@@ -122,13 +136,15 @@ fn missed_at<A: Allocator>(curve: &SizedCurve<A>, capacity: usize) -> (usize, us
 fn steps_of_requests<A: Allocator>(
     alloc: A,
     steps: &[Step],
+    totals: Totals,
     misses: usize,
 ) -> Result<Vec<(usize, usize), A>, AllocError> {
     let mut left = misses;
     let mut fallen = Vec::new(alloc);
     for step in steps {
         left = left.saturating_sub(1);
-        fallen.push((step.capacity, left))?;
+        let at = times(totals.one_in, usize::MAX, step.capacity);
+        fallen.push((at, times(totals.one_in, totals.requests, left)))?;
     }
     Ok(fallen)
 }
@@ -136,10 +152,13 @@ fn steps_of_requests<A: Allocator>(
 fn steps_of_sizes<A: Allocator>(
     alloc: A,
     steps: &[Step],
+    totals: Totals,
 ) -> Result<Vec<(usize, usize), A>, AllocError> {
     let mut fallen = Vec::with_capacity(alloc, steps.len())?;
     for step in steps {
-        fallen.push((step.capacity, step.missed_size))?;
+        let at = times(totals.one_in, usize::MAX, step.capacity);
+        let missed_size = times(totals.one_in, totals.size, step.missed_size);
+        fallen.push((at, missed_size))?;
     }
     Ok(fallen)
 }

@@ -1,0 +1,72 @@
+-- Of lines of which some are kept, and of the curve of the kept ones: one more line, and the report.
+use Rattle.std.proofs.Common.{◌≡◌, ℕ, ◌+◌, ◌-◌, ◌^◌, true, false, cond, nat_le, List, [], ◌∷◌, ◌++◌, IsSome, append-nil, min, length, reverse, ap, ◌∙◌, arith}
+use Rattle.std.specs.Prelude.{bytes_eq}
+use Rattle.std.specs.List.{filter}
+use Rattle.std.proofs.lemmas.List.Elements.{All-push, All-weaker, filter-append}
+use Rattle.std.proofs.lemmas.List.Sums.{sum_by-append, sum_by-cons}
+use Rattle.clru_curve.specs.SizedCurves.{CurveBySize, IsSizedCurveOf}
+use Rattle.clru_curve.specs.SizedPasses.{PassBySize}
+use Rattle.clru_lines.specs.declared.lines.OwnedKey.{OwnedKey}
+use Rattle.clru_model.specs.Requests.{distinct}
+use Rattle.clru_report.specs.Passes.{AreRowsOf, HasTaken, HasTakenOf, IsRowOf, capacities_on, distinct_in}
+use Rattle.clru_report.specs.Samples.{is_kept, kept_of, times}
+use Rattle.clru_report.specs.SizedReport.{AreSizedRows, IsSizedRow, distinct_size, sized_capacities_of_sample, summary_by_size_of_sample}
+use Rattle.clru_report.specs.SizedTables.{sized_summary_text}
+use Rattle.clru_report.specs.Sizes.{greatest_size, size_of_line, size_of_lines, weight_of_line}
+use Rattle.clru_report.specs.declared.options.Options.{Options}
+use Rattle.clru_report.specs.declared.sized.rows.SizedRow.{SizedRow}
+use Rattle.clru_report.proofs.SizedReports.{capacities_are, distinct_are, greatest_is, row_is}
+
+-- one more line is kept, or is not
+module _ (n : ℕ) (lines : List (List ℕ)) (line : List ℕ) where
+  pub kept_one : is_kept n line ≡ true → kept_of n (lines ++ line ∷ []) ≡ kept_of n lines ++ line ∷ []
+  kept_one is = filter-append (is_kept n) lines (line ∷ []) ∙ ap (λ b. kept_of n lines ++ cond b (line ∷ []) []) is
+
+  pub kept_none : is_kept n line ≡ false → kept_of n (lines ++ line ∷ []) ≡ kept_of n lines
+  kept_none is =
+      filter-append (is_kept n) lines (line ∷ []) ∙ ap (λ b. kept_of n lines ++ cond b (line ∷ []) []) is
+      ∙ append-nil (kept_of n lines)
+
+-- its size is added to that of those before it
+pub size_more : (lines rest : List (List ℕ)) (line : List ℕ)
+    → size_of_lines (lines ++ line ∷ rest) ≡ size_of_lines lines + (1 + weight_of_line line) + size_of_lines rest
+size_more lines rest line = omega (
+  arith,
+  sum_by-append (λ x. 1 + weight_of_line x) lines (line ∷ rest),
+  sum_by-cons (λ x. 1 + weight_of_line x) line rest,
+)
+
+pub counted_more : {A : Type 0} (n : ℕ) (lines : List (List ℕ)) (line : List ℕ) (size more : ℕ) (pass next : PassBySize (OwnedKey A))
+    → HasTakenOf n lines size pass → IsSome (size_of_line line) → more ≡ size + (1 + weight_of_line line)
+    → HasTaken (kept_of n (lines ++ line ∷ [])) next → HasTakenOf n (lines ++ line ∷ []) more next
+counted_more n lines line size more pass next of sized sum taken = record {
+  sizes = All-push (λ l. IsSome (size_of_line l)) lines line of.sizes sized;
+  summed = omega (arith, sum, of.summed, size_more lines [] line);
+  taken = taken;
+}
+
+module _ (kept : List (List ℕ)) (curve : CurveBySize) (is : IsSizedCurveOf bytes_eq weight_of_line kept curve) where
+  -- the capacities that the curve answers are those at which kept lines have rows
+  pub rows_kept : {A : Type 0} (options : Options A) (rows : List SizedRow)
+      → AreRowsOf curve (filter (λ c. nat_le (1 + curve.greatest_weight) c) (capacities_on curve options.capacities)) rows
+      → AreSizedRows kept (sized_capacities_of_sample options kept) rows
+  rows_kept options rows t = (
+    t.0 ∙ ap (λ g. filter (λ c. nat_le g c) (capacities_on curve options.capacities)) (greatest_is kept curve is)
+        ∙ ap (filter (λ c. nat_le (greatest_size kept) c)) (capacities_are kept curve is options.capacities),
+    All-weaker (IsRowOf curve) (IsSizedRow kept) (row_is kept curve is) rows t.1,
+  )
+
+  pub summary_kept : (input text : List ℕ) (n all size bytes : ℕ) → text ≡ sized_summary_text all
+      (times n (2 ^ 64 - 1) (distinct_in curve)) bytes size (times n (2 ^ 64 - 1) curve.distinct_size)
+      (min (1 + curve.greatest_weight) curve.distinct_size)
+      → bytes ≡ length input → text ≡ summary_by_size_of_sample input n all size kept
+  summary_kept input text n all size bytes t in_bytes =
+      let most = 2 ^ 64 - 1 in
+      t ∙ ap (λ k. sized_summary_text all (times n most k) bytes size (times n most curve.distinct_size)
+      (min (1 + curve.greatest_weight) curve.distinct_size)) (distinct_are kept curve is)
+      ∙ ap (λ k. sized_summary_text all (times n most (distinct bytes_eq (reverse kept))) k size (times n most curve.distinct_size)
+      (min (1 + curve.greatest_weight) curve.distinct_size)) in_bytes
+      ∙ ap (λ k. sized_summary_text all (times n most (distinct bytes_eq (reverse kept))) (length input) size (times n most k)
+      (min (1 + curve.greatest_weight) k)) is.distinct_size
+      ∙ ap (λ k. sized_summary_text all (times n most (distinct bytes_eq (reverse kept))) (length input) size
+      (times n most (distinct_size kept)) (min k (distinct_size kept))) (greatest_is kept curve is)

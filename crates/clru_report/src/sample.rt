@@ -1,0 +1,114 @@
+//! The text of a report of which one key in some number was kept.
+ghost use Rattle.std.specs.Prelude.{◌≡◌, ℕ, List, length, map, reverse, IfOk, string_bytes};
+ghost use Rattle.std.specs.Int.NonZero.{non_zero_usize_get};
+ghost use Rattle.std.specs.Str.{bytes_eq};
+ghost use Rattle.clru_curve.specs.Curves.{HasMissesOf};
+ghost use Rattle.clru_model.specs.Requests.{distinct};
+ghost use Rattle.clru_report.specs.Report.{AreRowsOfSample, IsInFormOfSample};
+ghost use Rattle.clru_report.specs.Samples.{fnv, is_kept as is_kept_by, numbers_of, numbers_times, times as times_of};
+
+use crate::options::{Form, Options};
+use crate::picture::picture_by_keys;
+use crate::rows::{Row, rows_for};
+use crate::table::{summary_of, table_of};
+use clru_curve::MissCurve;
+use std::alloc::{AllocError, Allocator};
+use std::num::NonZeroUsize;
+
+// Both numbers of FNV-1a for 64 bits.
+const BASIS: u64 = 14695981039346656037;
+
+const PRIME: u64 = 1099511628211;
+
+/// Whether all requests of a key are kept, where one key in so many is.
+pub(crate) fn is_kept(line: &[u8], one_in: NonZeroUsize) -> bool
+    ensures { result ≡ is_kept_by (non_zero_usize_get one_in) line.now }
+{
+    fnv_of(line) % one_in.get() as u64 == 0
+}
+
+// The hash FNV-1a: no seed, so that a log has the same sample each time.
+fn fnv_of(line: &[u8]) -> u64
+    ensures { result ≡ fnv line.now }
+{
+    let mut hash = BASIS;
+    for byte in line {
+        hash = (hash ^ u64::from(*byte)).wrapping_mul(PRIME);
+    }
+    hash
+}
+
+/// The text in the form that is asked for, of a curve of kept requests and of how many there are in all.
+pub(crate) fn text_of_sample<A: Allocator + Copy>(
+    alloc: A,
+    options: &Options<A>,
+    curve: &MissCurve<A>,
+    one_in: NonZeroUsize,
+    requests: usize,
+    bytes: usize,
+) -> Result<String<A>, AllocError>
+    ensures { (input : List ℕ) (kept : List (List ℕ)) → HasMissesOf bytes_eq kept curve.now
+        → length curve.now ≡ distinct bytes_eq (reverse kept) → bytes ≡ length input
+        → IfOk result (λ text. IsInFormOfSample options.now.form options.now (non_zero_usize_get one_in) requests kept
+        input (string_bytes text)) }
+{
+    match options.form {
+        Form::Table => {
+            let rows = rows_of_sample(alloc, options, curve, one_in, requests)?;
+            table_of(alloc, &rows, requests, false)
+        }
+        Form::Picture => {
+            let rows = rows_of_sample(alloc, options, curve, one_in, requests)?;
+            let table = table_of(alloc, &rows, requests, false)?;
+            let curve = curve.as_slice();
+            picture_by_keys(alloc, curve, one_in, requests, options, &rows, &table)
+        }
+        Form::Summary => {
+            let distinct = times(one_in, usize::MAX, curve.distinct());
+            summary_of(alloc, requests, distinct, bytes)
+        }
+    }
+}
+
+// The rows that the options ask for, each as one of all requests.
+fn rows_of_sample<A: Allocator + Copy>(
+    alloc: A,
+    options: &Options<A>,
+    curve: &MissCurve<A>,
+    one_in: NonZeroUsize,
+    requests: usize,
+) -> Result<Vec<Row, A>, AllocError>
+    ensures { (kept : List (List ℕ)) → HasMissesOf bytes_eq kept curve.now
+        → length curve.now ≡ distinct bytes_eq (reverse kept)
+        → IfOk result (λ shown. AreRowsOfSample options.now (non_zero_usize_get one_in) requests kept shown.items) }
+{
+    let rows = rows_for(alloc, options, curve)?;
+    rows_times(alloc, &rows, one_in, requests)
+}
+
+fn rows_times<A: Allocator>(
+    alloc: A,
+    rows: &[Row],
+    one_in: NonZeroUsize,
+    requests: usize,
+) -> Result<Vec<Row, A>, AllocError>
+    ensures { IfOk result (λ shown. map numbers_of shown.items
+        ≡ map (numbers_times (non_zero_usize_get one_in) requests) rows.now) }
+{
+    let mut shown = Vec::new(alloc);
+    for row in rows {
+        shown.push(Row {
+            capacity: row.capacity.saturating_mul(one_in),
+            misses: times(one_in, requests, row.misses),
+            least: None,
+        })?;
+    }
+    Ok(shown)
+}
+
+/// So many times a number, and at most the bound.
+pub(crate) fn times(one_in: NonZeroUsize, bound: usize, number: usize) -> usize
+    ensures { result ≡ times_of (non_zero_usize_get one_in) bound number }
+{
+    number.saturating_mul(one_in.get()).min(bound)
+}

@@ -1,0 +1,152 @@
+//! The text of a report by size of which one key in some number was kept.
+ghost use Rattle.std.specs.Prelude.{◌≡◌, ℕ, ◌+◌, ◌-◌, ◌^◌, List, length, map, min, nat_le, IfOk, string_bytes};
+ghost use Rattle.std.specs.Int.NonZero.{non_zero_usize_get};
+ghost use Rattle.std.specs.List.{filter};
+ghost use Rattle.std.specs.Str.{bytes_eq};
+ghost use Rattle.clru_curve.specs.SizedCurves.{IsSizedCurveOf};
+ghost use Rattle.clru_report.specs.Passes.{capacities_on, distinct_in, IsSettled};
+ghost use Rattle.clru_report.specs.Samples.{sized_numbers_of, sized_numbers_times, times as times_of};
+ghost use Rattle.clru_report.specs.SizedReport.{AreSizedRowsOfSample, IsInFormBySizeOfSample, IsSizedTableOfSample};
+ghost use Rattle.clru_report.specs.SizedTables.{sized_summary_text};
+ghost use Rattle.clru_report.specs.Sizes.{weight_of_line};
+
+use super::capacities::{first_capacity, sized_capacities_for};
+use super::rows::{SizedRow, sized_rows_at};
+use super::table::{distinct_of, greatest_of, sized_summary, sized_table_of};
+use crate::options::{Capacities, Form, Options};
+use crate::picture::picture_by_size;
+use crate::sample::times;
+use clru_curve::SizedCurve;
+use std::alloc::{AllocError, Allocator};
+use std::num::NonZeroUsize;
+
+/// All requests, of which those for one key in so many were kept: how many there are, and their size together.
+#[derive(Clone, Copy)]
+pub(crate) struct Totals {
+    pub(crate) one_in: NonZeroUsize,
+    pub(crate) requests: usize,
+    pub(crate) size: usize,
+}
+
+/// The text in the form that is asked for, of a curve of kept requests.
+pub(super) fn text_of_sized_sample<A: Allocator + Copy>(
+    alloc: A,
+    options: &Options<A>,
+    curve: &SizedCurve<A>,
+    totals: Totals,
+    bytes: usize,
+) -> Result<String<A>, AllocError>
+    requires { IsSettled curve.now }
+    ensures { (input : List ℕ) (kept : List (List ℕ)) → IsSizedCurveOf bytes_eq weight_of_line kept curve.now
+        → bytes ≡ length input → IfOk result (λ text. IsInFormBySizeOfSample options.now (non_zero_usize_get totals.one_in)
+        totals.requests totals.size kept options.now.form input (string_bytes text)) }
+{
+    match options.form {
+        Form::Table => table_of_sized_sample(alloc, options, curve, totals),
+        Form::Picture => {
+            let table = table_of_sized_sample(alloc, options, curve, totals)?;
+            picture_by_size(
+                alloc,
+                curve,
+                totals,
+                &options.capacities,
+                &options.look,
+                &table,
+            )
+        }
+        Form::Summary => summary_of_sized_sample(alloc, curve, totals, bytes),
+    }
+}
+
+fn table_of_sized_sample<A: Allocator + Copy>(
+    alloc: A,
+    options: &Options<A>,
+    curve: &SizedCurve<A>,
+    totals: Totals,
+) -> Result<String<A>, AllocError>
+    requires { IsSettled curve.now }
+    ensures { (kept : List (List ℕ)) → IsSizedCurveOf bytes_eq weight_of_line kept curve.now → IfOk result (λ text.
+        IsSizedTableOfSample options.now (non_zero_usize_get totals.one_in) totals.requests totals.size kept (string_bytes text)) }
+{
+    let rows = rows_of_sized_sample(alloc, options, curve, totals)?;
+    sized_table_of(alloc, &rows, totals.requests, totals.size)
+}
+
+// The rows at the capacities that are asked for, each as one of all requests.
+fn rows_of_sized_sample<A: Allocator + Copy>(
+    alloc: A,
+    options: &Options<A>,
+    curve: &SizedCurve<A>,
+    totals: Totals,
+) -> Result<Vec<SizedRow, A>, AllocError>
+    requires { IsSettled curve.now }
+    ensures { (kept : List (List ℕ)) → IsSizedCurveOf bytes_eq weight_of_line kept curve.now → IfOk result (λ shown.
+        AreSizedRowsOfSample options.now (non_zero_usize_get totals.one_in) totals.requests totals.size kept shown.items) }
+{
+    let capacities = capacities_from_first(alloc, &options.capacities, curve)?;
+    let Ok(rows) = sized_rows_at(alloc, curve, &capacities) else {
+        return Err(AllocError);
+    };
+    sized_rows_times(alloc, &rows, totals)
+}
+
+// Those that are asked for and that the curve answers.
+fn capacities_from_first<A: Allocator + Copy>(
+    alloc: A,
+    capacities: &Capacities<A>,
+    curve: &SizedCurve<A>,
+) -> Result<Vec<NonZeroUsize, A>, AllocError>
+    requires { IsSettled curve.now }
+    ensures { IfOk result (λ chosen. map non_zero_usize_get chosen.items
+        ≡ filter (λ c. nat_le (1 + curve.now.greatest_weight) c) (capacities_on curve.now capacities.now)) }
+{
+    let first = first_capacity(curve);
+    let mut chosen = sized_capacities_for(alloc, capacities, curve)?;
+    chosen.retain(|capacity| capacity.get() >= first);
+    Ok(chosen)
+}
+
+fn sized_rows_times<A: Allocator>(
+    alloc: A,
+    rows: &[SizedRow],
+    totals: Totals,
+) -> Result<Vec<SizedRow, A>, AllocError>
+    ensures { IfOk result (λ shown. map sized_numbers_of shown.items
+        ≡ map (sized_numbers_times (non_zero_usize_get totals.one_in) totals.requests totals.size) rows.now) }
+{
+    let mut shown = Vec::new(alloc);
+    for row in rows {
+        shown.push(SizedRow {
+            capacity: row.capacity.saturating_mul(totals.one_in),
+            misses: times(totals.one_in, totals.requests, row.misses),
+            missed_size: times(totals.one_in, totals.size, row.missed_size),
+        })?;
+    }
+    Ok(shown)
+}
+
+// The greatest size is that of the kept requests.
+fn summary_of_sized_sample<A: Allocator + Copy>(
+    alloc: A,
+    curve: &SizedCurve<A>,
+    totals: Totals,
+    bytes: usize,
+) -> Result<String<A>, AllocError>
+    requires { IsSettled curve.now }
+    ensures { IfOk result (λ text. string_bytes text ≡ sized_summary_text totals.requests
+        (times_of (non_zero_usize_get totals.one_in) (2 ^ 64 - 1) (distinct_in curve.now)) bytes totals.size
+        (times_of (non_zero_usize_get totals.one_in) (2 ^ 64 - 1) curve.now.distinct_size)
+        (min (1 + curve.now.greatest_weight) curve.now.distinct_size)) }
+{
+    let distinct = times(totals.one_in, usize::MAX, distinct_of(curve));
+    let distinct_size = times(totals.one_in, usize::MAX, curve.distinct_size());
+    sized_summary(
+        alloc,
+        totals.requests,
+        distinct,
+        bytes,
+        totals.size,
+        distinct_size,
+        greatest_of(curve),
+    )
+}
