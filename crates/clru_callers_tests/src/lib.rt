@@ -1,4 +1,4 @@
-//! Callers of `clru_callers` and the examples of the docs, run; the laws at types of a caller's, and schedules beside the competitive bound.
+//! Callers of `clru_callers` and the examples of the docs, run; the laws at types of a caller's.
 #![tactic(auto)]
 
 #[cfg(test)]
@@ -25,8 +25,6 @@ mod passes;
 mod performed;
 #[cfg(test)]
 mod printed;
-#[cfg(test)]
-mod schedules;
 #[cfg(test)]
 mod shown;
 #[cfg(test)]

@@ -118,26 +118,45 @@ fn walk<A: Allocator + Copy>(mut walk: Walk<'_, A>, words: &mut Words, out: &mut
             break;
         };
         out.part("; ");
-        match step {
-            "next" => say_found(walk.next(), out),
-            "next_back" => say_found(walk.next_back(), out),
-            "nth" => say_found(walk.nth(words.number()), out),
-            "nth_back" => say_found(walk.nth_back(words.number()), out),
-            "len" => out.number(walk.len()),
-            "size_hint" => say_hint(walk.size_hint(), out),
-            "count" | "clone" => {
-                if let Ok(copy) = walk.clone() {
-                    if step == "count" {
-                        out.number(copy.count());
-                    } else {
-                        walk = copy;
-                        out.say("done");
-                    }
-                }
-            }
-            _ => words.note(Wrong::NoSuchWord),
+        if !step_of(&mut walk, step, words, out) {
+            words.note(Wrong::NoSuchWord);
         }
     }
+}
+
+/// One step of such an iterator. Answers `false` where the name is none.
+fn step_of<A: Allocator + Copy>(
+    walk: &mut Walk<'_, A>,
+    name: &str,
+    words: &mut Words,
+    out: &mut Out,
+) -> bool {
+    match name {
+        "next" => say_found(walk.next(), out),
+        "next_back" => say_found(walk.next_back(), out),
+        "nth" => say_found(walk.nth(words.number()), out),
+        "nth_back" => say_found(walk.nth_back(words.number()), out),
+        "len" => out.number(walk.len()),
+        "size_hint" => say_hint(walk.size_hint(), out),
+        _ => return copy_of(walk, name, out),
+    }
+    true
+}
+
+/// What a copy counts, or going on with it. Answers `false` where the name is neither.
+fn copy_of<A: Allocator + Copy>(walk: &mut Walk<'_, A>, name: &str, out: &mut Out) -> bool {
+    let Ok(copy) = walk.clone() else {
+        return false;
+    };
+    match name {
+        "count" => out.number(copy.count()),
+        "clone" => {
+            *walk = copy;
+            out.say("done");
+        }
+        _ => return false,
+    }
+    true
 }
 
 /// Says how many steps are left at least and at most.
@@ -203,10 +222,8 @@ fn change<S: BuildHasher, W: WeightScale<Key, Value>, A: Allocator + Copy>(
     out: &mut Out,
 ) -> bool {
     match name {
-        "put_with_weight" => put(cache, world, true, words, out),
-        "put_with_weight_handing_to" => put(cache, world, false, words, out),
-        "get" => say_value(cache.get(&Key::next(world, words)), out),
-        "pop" => say_popped(cache.pop(&Key::next(world, words)), out),
+        "put_with_weight" | "put_with_weight_handing_to" => put(cache, world, name, words, out),
+        "get" | "pop" => by_key(cache, name, &Key::next(world, words), out),
         "pop_front" => say_taken(cache.pop_front(), out),
         "pop_back" => say_taken(cache.pop_back(), out),
         "clear" => cache.clear(),
@@ -216,6 +233,20 @@ fn change<S: BuildHasher, W: WeightScale<Key, Value>, A: Allocator + Copy>(
     }
     out.or("done");
     true
+}
+
+/// A call by a key, `get` or `pop`.
+fn by_key<S: BuildHasher, W: WeightScale<Key, Value>, A: Allocator + Copy>(
+    cache: &mut Any<S, W, A>,
+    name: &str,
+    key: &Key,
+    out: &mut Out,
+) {
+    if name == "get" {
+        say_value(cache.get(key), out);
+    } else {
+        say_popped(cache.pop(key), out);
+    }
 }
 
 /// Keeps the entries of a form.
@@ -232,7 +263,7 @@ fn retain<S: BuildHasher, W: WeightScale<Key, Value>, A: Allocator + Copy>(
 fn put<S: BuildHasher, W: WeightScale<Key, Value>, A: Allocator + Copy>(
     cache: &mut Any<S, W, A>,
     world: &'static World,
-    by_value: bool,
+    name: &str,
     words: &mut Words,
     out: &mut Out,
 ) {
@@ -243,7 +274,7 @@ fn put<S: BuildHasher, W: WeightScale<Key, Value>, A: Allocator + Copy>(
         dropped.say(", dropped ");
         say_pair(&key, &value, &mut dropped);
     };
-    let put = if by_value {
+    let put = if name == "put_with_weight" {
         cache.put_with_weight(key, value, note)
     } else {
         cache.put_with_weight_handing_to(key, value, &mut note)

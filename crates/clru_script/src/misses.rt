@@ -43,16 +43,27 @@ fn curves_of<S: BuildHasher + Copy, A: Allocator + Copy>(
         return;
     };
     let late = pass.into_curve();
-    let Ok(whole) = miss_curve(heap, keys, hashing) else {
-        out.say("; no memory for the whole");
-        return;
-    };
-    if early.as_slice() != late.as_slice() || early.as_slice() != whole.as_slice() {
+    match miss_curve(heap, keys, hashing) {
+        Ok(whole) => say_curve(world, list, early.as_slice(), late.as_slice(), &whole, out),
+        Err(_) => out.say("; no memory for the whole"),
+    }
+}
+
+/// Says a curve, beside those of a pass early and late.
+fn say_curve<A: Allocator>(
+    world: &'static World,
+    list: &Requested,
+    early: &[usize],
+    late: &[usize],
+    whole: &MissCurve<A>,
+    out: &mut Out,
+) {
+    if early != late || early != whole.as_slice() {
         out.say("; ? the curves differ");
     }
-    say_misses(&whole, out);
+    say_misses(whole, out);
     if list.drawn {
-        beside_replays(world, keys, &whole, out);
+        beside_replays(world, &list.keys, whole, out);
     }
 }
 

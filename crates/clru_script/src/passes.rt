@@ -235,15 +235,19 @@ fn request_sized<S: BuildHasher, A: Allocator + Copy>(
         }
         match pass.request(key_of(world, text), weight_of(text, words)) {
             Ok(span) => say_span(span, out),
-            Err(SizedRequestError::NoMemory(back)) => {
-                say_back("no memory, back ", &back, out);
-                return;
-            }
-            Err(SizedRequestError::TooLarge(back)) => {
-                say_back("too large, back ", &back, out);
+            Err(error) => {
+                say_refused(&error, out);
                 return;
             }
         }
+    }
+}
+
+/// Says why a request is refused, and which key came back.
+fn say_refused(error: &SizedRequestError<Key>, out: &mut Out) {
+    match error {
+        SizedRequestError::NoMemory(back) => say_back("no memory, back ", back, out),
+        SizedRequestError::TooLarge(back) => say_back("too large, back ", back, out),
     }
 }
 
@@ -259,15 +263,19 @@ fn request_sized_again<S: BuildHasher, A: Allocator + Copy>(
         let key = key_of(world, text);
         match pass.request_again(&key, weight_of(text, words)) {
             Ok(span) => say_again(span, out),
-            Err(SizedRequestError::NoMemory(back)) => {
-                say_back("no memory, back ", back, out);
-                return;
-            }
-            Err(SizedRequestError::TooLarge(back)) => {
-                say_back("too large, back ", back, out);
+            Err(error) => {
+                say_refused_again(error, out);
                 return;
             }
         }
+    }
+}
+
+/// The same of a lent key.
+fn say_refused_again(error: SizedRequestError<&Key>, out: &mut Out) {
+    match error {
+        SizedRequestError::NoMemory(back) => say_back("no memory, back ", back, out),
+        SizedRequestError::TooLarge(back) => say_back("too large, back ", back, out),
     }
 }
 

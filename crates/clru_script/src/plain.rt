@@ -7,7 +7,7 @@ use crate::out::Out;
 use crate::pairs::{Key, Value};
 use crate::words::{Words, Wrong};
 use crate::world::World;
-use clru::{CLruCacheIterMut, TryPutError, ZeroWeightScale};
+use clru::{CLruCacheIterMut, Put, TryPutError, ZeroWeightScale};
 use std::alloc::Allocator;
 use std::hash::BuildHasher;
 use std::mem;
@@ -59,14 +59,17 @@ fn put<S: BuildHasher, A: Allocator + Copy>(
     let put = cache.put(Key::next(world, words), Value::next(world, words));
     world.note("answered", "");
     match &put {
-        Ok(put) => {
-            say_stored(put.replaced.as_ref(), out);
-            if let Some((key, value)) = &put.dropped {
-                out.say(", dropped ");
-                say_pair(key, value, out);
-            }
-        }
+        Ok(put) => say_put(put, out),
         Err((key, value)) => say_back(key, value, out),
+    }
+}
+
+/// Says what became of a put.
+fn say_put(put: &Put<Key, Value>, out: &mut Out) {
+    say_stored(put.replaced.as_ref(), out);
+    if let Some((key, value)) = &put.dropped {
+        out.say(", dropped ");
+        say_pair(key, value, out);
     }
 }
 
@@ -209,21 +212,18 @@ fn step<S: BuildHasher, A: Allocator + Copy>(
         "next" => swap(cursor.next(), value, out),
         "next_back" => swap(cursor.next_back(), value, out),
         "next_entry" | "next_entry_back" if left == 0 => out.say("none"),
-        "next_entry" => {
-            let (key, held) = cursor.next_entry();
-            out.say(&key.text);
-            out.say(" ");
-            swap(Some(held), value, out);
-        }
-        "next_entry_back" => {
-            let (key, held) = cursor.next_entry_back();
-            out.say(&key.text);
-            out.say(" ");
-            swap(Some(held), value, out);
-        }
+        "next_entry" => swap_entry(cursor.next_entry(), value, out),
+        "next_entry_back" => swap_entry(cursor.next_entry_back(), value, out),
         _ => return false,
     }
     true
+}
+
+/// Writes a value to an entry that is lent, and its key and its old one as the answer.
+fn swap_entry(lent: (&Key, &mut Value), value: Value, out: &mut Out) {
+    out.say(&lent.0.text);
+    out.say(" ");
+    swap(Some(lent.1), value, out);
 }
 
 /// Writes a value to what is lent, where something is, and the old one as the answer.

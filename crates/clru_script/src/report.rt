@@ -133,7 +133,12 @@ fn reported(
         DefaultState,
     );
     text.say(str::from_utf8(&written).unwrap_or("? it is no text"));
-    status.count("status ", exit_status(&outcome) as usize);
+    say_outcome(&outcome, status);
+}
+
+/// Says the status of a run, and its fault.
+fn say_outcome(outcome: &Result<(), clru_report::Fault>, status: &mut Out) {
+    status.count("status ", exit_status(outcome) as usize);
     if let Err(fault) = outcome {
         if write!(&mut status.text, ": {fault}").is_err() {
             status.is_short = true;

@@ -51,6 +51,19 @@ fn number_keys(
     keys: &mut Vec<&'static str>,
 ) {
     let count = words.number();
+    let Out { text, is_short } = numbers_of(world, drawn, count, words);
+    if is_short {
+        world.is_short.set(true);
+    }
+    let written: &'static [u8] = text.into_bytes().leak();
+    let mut written = Words::new(str::from_utf8(written).unwrap_or(""));
+    for _ in 0..count {
+        push(world, written.word(), keys);
+    }
+}
+
+/// So many numbers, in words.
+fn numbers_of(world: &World, drawn: bool, count: usize, words: &mut Words) -> Out {
     let mut state = if drawn { words.named("seed") as u64 } else { 0 };
     let distinct = words.named("of") as u64;
     let weighed = words.passes("weigh");
@@ -68,15 +81,7 @@ fn number_keys(
             out.count(":", rest(number, below) as usize);
         }
     }
-    if out.is_short {
-        world.is_short.set(true);
-    }
-    let Out { text, is_short: _ } = out;
-    let written: &'static [u8] = text.into_bytes().leak();
-    let mut written = Words::new(str::from_utf8(written).unwrap_or(""));
-    for _ in 0..count {
-        push(world, written.word(), keys);
-    }
+    out
 }
 
 /// The rest of a number by another, and 0 by 0.

@@ -96,10 +96,14 @@ fn least_of(world: &'static World, list: &Requested, out: &mut Out) {
         return;
     };
     say_rooms(&foresight, out);
-    let Ok(wanted) = foresight.least(capacity_of(3)) else {
-        out.say("; no memory");
-        return;
-    };
+    match foresight.least(capacity_of(3)) {
+        Ok(wanted) => say_beside(world, list, wanted, out),
+        Err(_) => out.say("; no memory"),
+    }
+}
+
+/// Says the least misses of the whole list with room for 3, where they are not those.
+fn say_beside(world: &'static World, list: &Requested, wanted: usize, out: &mut Out) {
     match least(&world.heap, capacity_of(3), &list.keys, world.hashing()) {
         Ok(misses) if misses == wanted => {}
         Ok(misses) => {
@@ -130,6 +134,18 @@ fn say_rooms<K: Eq, A: Allocator + Copy>(foresight: &Foresight<K, A>, out: &mut 
     out.count(" .. ", last);
 }
 
+/// Ten drawn requests of four keys.
+fn ten_keys(world: &World, state: &mut u64) -> Vec<u8> {
+    let mut keys = Vec::new(world.alloc);
+    for _ in 0..10usize {
+        *state = stepped(*state);
+        if keys.push(((*state >> 60) % 4) as u8).is_err() {
+            world.is_short.set(true);
+        }
+    }
+    keys
+}
+
 /// `least searched N seed S`: N drawn lists of ten requests of four keys, with room for 1, 2 and 3 of them in turn.
 fn searches(world: &'static World, words: &mut Words, out: &mut Out) {
     let count = words.number();
@@ -138,13 +154,7 @@ fn searches(world: &'static World, words: &mut Words, out: &mut Out) {
         let _name = words.word();
     }
     for row in 0..count {
-        let mut keys = Vec::new(world.alloc);
-        for _ in 0..10usize {
-            state = stepped(state);
-            if keys.push(((state >> 60) % 4) as u8).is_err() {
-                out.is_short = true;
-            }
-        }
+        let keys = ten_keys(world, &mut state);
         let room = row % 3 + 1;
         let wanted = searched(&keys, room);
         match least(world.alloc, capacity_of(room), &keys, world.hashing()) {

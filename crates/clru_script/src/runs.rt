@@ -15,7 +15,8 @@ use crate::words::{Words, Wrong};
 use crate::world::World;
 use clru::ZeroWeightScale;
 use clru_runs::{Attempt, Perform, PlainCall, perform_all};
-use std::alloc::Allocator;
+use ration::Rationed;
+use std::alloc::{Allocator, Global};
 use std::hash::BuildHasher;
 
 /// The calls of a line.
@@ -127,13 +128,7 @@ fn puts(
     words: &mut Words,
     out: &mut Out,
 ) {
-    let count = words.number();
-    let mut calls = Vec::new(&world.owned);
-    for number in 0..count {
-        if calls.push(PlainCall::Put(number, number)).is_err() {
-            out.is_short = true;
-        }
-    }
+    let calls = puts_below(world, words.number());
     let asked = world.owned.asked();
     let Ok(answers) = perform_all(&world.owned, cache, calls) else {
         out.is_short = true;
@@ -144,6 +139,17 @@ fn puts(
     out.count(" answers by ", asked as usize);
     out.count(" request, ", cache.len());
     out.say(" held");
+}
+
+/// Puts of the keys below a number.
+fn puts_below(world: &'static World, end: usize) -> Calls<&'static Rationed<Global>> {
+    let mut calls = Vec::new(&world.owned);
+    for number in 0..end {
+        if calls.push(PlainCall::Put(number, number)).is_err() {
+            world.is_short.set(true);
+        }
+    }
+    calls
 }
 
 /// `fails K ..`: puts of these keys by closures, of which the first one fails, or the second, and so on, with and without a

@@ -269,12 +269,17 @@ fn changed<S: BuildHasher, A: Allocator + Copy>(
     match name {
         "clear" => store.clear(),
         "resize" => store.resize(words.capacity()),
-        "source" => out.count("fetches ", store.source().world.fetched.get() as usize),
+        "source" => out.count("fetches ", fetches_of(store)),
         "front" => say_found(store.front(), out),
         _ => return out.told(told_of(store, name)),
     }
     out.or("done");
     true
+}
+
+/// The fetches so far, as the source counts them.
+fn fetches_of<S: BuildHasher, A: Allocator + Copy>(store: &Any<S, A>) -> usize {
+    store.source().world.fetched.get() as usize
 }
 
 /// What a call of the whole store tells.

@@ -1,7 +1,7 @@
 //! Whole lists of keys that a script can't write.
 
 use assertions::equal;
-use clru::{DefaultState, NonZeroUsize, Replay, replay};
+use clru::{DefaultState, NonZeroUsize, Replay, replay, replay_slice};
 use clru_fixtures::letters::Letter;
 use clru_fixtures::sizes::capacity_of;
 use std::alloc::Global;
@@ -21,6 +21,7 @@ static ROWS: &[Row] = &[
 #[test]
 fn replay_marks_each_text(rt: HostRuntime) -> Result<(), Fail> {
     for (capacity, keys, hits, misses) in ROWS {
+        equal!(rt; marks_lent(rt.alloc(), *capacity, keys, hits), Some(*misses), *capacity);
         let keys = Vec::from_slice(rt.alloc(), keys)?;
         equal!(rt; marks_texts(rt.alloc(), *capacity, keys, hits), Some(*misses), *capacity);
     }
@@ -46,6 +47,22 @@ fn marks_texts(
         return None;
     };
     match replay(alloc, capacity, keys, DefaultState) {
+        Ok(answer) => misses_of(&answer, hits),
+        Err(_) => None,
+    }
+}
+
+/// The same of keys that are lent.
+fn marks_lent(
+    alloc: Global,
+    capacity: usize,
+    keys: &[&'static str],
+    hits: &[bool],
+) -> Option<usize> {
+    let Ok(capacity) = capacity_of(capacity) else {
+        return None;
+    };
+    match replay_slice(alloc, capacity, keys, DefaultState) {
         Ok(answer) => misses_of(&answer, hits),
         Err(_) => None,
     }

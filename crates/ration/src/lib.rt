@@ -4,7 +4,7 @@
 //! An owner lends it, as in `Vec::new(&heap)`. A growth, a `reserve_exact` and a shrink of a `Vec` make one request each: the
 //! trait's own `grow` and `shrink` ask for the new block by `allocate`, and give the old one back by `deallocate`.
 //! It is proved that what it answers is a block of the inner allocator, of the size that was asked for. The counters are
-//! only tested (`clru_owned_tests`), since no contract can say what a cell holds.
+//! only tested (`clru_effects_tests`), since no contract can say what a cell holds.
 #![tactic(auto)]
 
 use std::alloc::{AllocError, Allocator};

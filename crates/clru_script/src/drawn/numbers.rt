@@ -83,11 +83,19 @@ where
     W: WeightScale<usize, usize>,
     A: Allocator + Copy,
 {
-    if (cache.len(), cache.weight(), cache.capacity())
-        != (pairs.list.len(), pairs.weight(), pairs.capacity)
-    {
-        return false;
-    }
+    (cache.len(), cache.weight(), cache.capacity())
+        == (pairs.list.len(), pairs.weight(), pairs.capacity)
+        && is_listed(cache, pairs)
+        && is_found(cache, pairs)
+}
+
+/// Whether a walk from each end gives the pairs of the list.
+fn is_listed<S, W, A>(cache: &Of<S, W, A>, pairs: &Pairs) -> bool
+where
+    S: BuildHasher,
+    W: WeightScale<usize, usize>,
+    A: Allocator + Copy,
+{
     let (mut forward, mut backward) = (cache.iter(), cache.iter());
     for (first, last) in pairs.list.iter().zip(pairs.list.iter().rev()) {
         if forward.next() != Some((&first.0, &first.1))
@@ -96,10 +104,20 @@ where
             return false;
         }
     }
+    forward.next().is_none() && backward.next_back().is_none()
+}
+
+/// Whether a look-up of each key finds what the list has.
+fn is_found<S, W, A>(cache: &Of<S, W, A>, pairs: &Pairs) -> bool
+where
+    S: BuildHasher,
+    W: WeightScale<usize, usize>,
+    A: Allocator + Copy,
+{
     for key in 0..KEYS {
         if cache.peek(&key).copied() != pairs.value(key) {
             return false;
         }
     }
-    forward.next().is_none() && backward.next_back().is_none()
+    true
 }

@@ -115,18 +115,24 @@ fn visit<A: Allocator + Copy>(
 
 /// Whether the list has these places with these items, by a walk from each end and by the places.
 fn has<A: Allocator + Copy>(list: &Numbers<A>, entries: &[(usize, u64)]) -> bool {
-    let (mut forward, mut backward) = (list.iter(), list.iter());
-    let (mut at, mut before, mut is_alike) = (list.front_idx(), None, true);
-    for ((place, item), (last, other)) in entries.iter().zip(entries.iter().rev()) {
-        is_alike = is_alike
-            && forward.next() == Some((*place, item))
-            && backward.next_back() == Some((*last, other))
-            && at == Some(*place)
-            && is_behind(list, *place, before, item);
+    let (mut at, mut before, mut is_alike) = (list.front_idx(), None, is_walked(list, entries));
+    for (place, item) in entries {
+        is_alike = is_alike && at == Some(*place) && is_behind(list, *place, before, item);
         before = at;
         at = list.next_idx(*place);
     }
     is_alike && at.is_none() && before == list.back_idx() && list.len() == entries.len()
+}
+
+/// Whether a walk from each end gives these.
+fn is_walked<A: Allocator + Copy>(list: &Numbers<A>, entries: &[(usize, u64)]) -> bool {
+    let (mut forward, mut backward, mut is_alike) = (list.iter(), list.iter(), true);
+    for ((place, item), (last, other)) in entries.iter().zip(entries.iter().rev()) {
+        is_alike = is_alike
+            && forward.next() == Some((*place, item))
+            && backward.next_back() == Some((*last, other));
+    }
+    is_alike
 }
 
 /// Whether each index leads to the place that is there, upwards and downwards.

@@ -56,18 +56,15 @@ pub(crate) fn writes<A: Allocator + Copy>(list: &mut Numbers<A>, words: &mut Wor
         "next" => swap(cursor.next(), words, out),
         "next_back" => swap(cursor.next_back(), words, out),
         "next_entry" | "next_entry_back" if left == 0 => swap(None, words, out),
-        "next_entry" => {
-            let (place, lent) = cursor.next_entry();
-            out.number(place);
-            out.say(" ");
-            swap(Some(lent), words, out);
-        }
-        "next_entry_back" => {
-            let (place, lent) = cursor.next_entry_back();
-            out.number(place);
-            out.say(" ");
-            swap(Some(lent), words, out);
-        }
+        "next_entry" => swap_entry(cursor.next_entry(), words, out),
+        "next_entry_back" => swap_entry(cursor.next_entry_back(), words, out),
         _ => words.note(Wrong::NoSuchWord),
     }
+}
+
+/// The same with the place of what is lent before it.
+fn swap_entry(lent: (usize, &mut u64), words: &mut Words, out: &mut Out) {
+    out.number(lent.0);
+    out.say(" ");
+    swap(Some(lent.1), words, out);
 }

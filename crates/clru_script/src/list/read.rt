@@ -4,7 +4,11 @@ use crate::calls::say_hint;
 use crate::list::Numbers;
 use crate::out::{Out, Told};
 use crate::words::{Words, Wrong};
+use clru_list::FixedSizeListIter;
 use std::alloc::Allocator;
+
+/// A walk over places and items.
+type Walk<'l, A> = FixedSizeListIter<'l, u64, A>;
 
 /// Says a place with its item, or that there is none.
 fn say_entry(entry: Option<(usize, &u64)>, out: &mut Out) {
@@ -81,22 +85,36 @@ fn walk<A: Allocator + Copy>(list: &Numbers<A>, words: &mut Words, out: &mut Out
             break;
         };
         out.part("; ");
-        match step {
-            "next" => say_entry(walk.next(), out),
-            "next_back" => say_entry(walk.next_back(), out),
-            "len" => out.number(walk.len()),
-            "size_hint" => say_hint(walk.size_hint(), out),
-            "count" | "clone" => {
-                if let Ok(copy) = walk.clone() {
-                    if step == "count" {
-                        out.number(copy.count());
-                    } else {
-                        walk = copy;
-                        out.say("done");
-                    }
-                }
-            }
-            _ => words.note(Wrong::NoSuchWord),
+        if !step_of(&mut walk, step, out) {
+            words.note(Wrong::NoSuchWord);
         }
     }
+}
+
+/// One step of such an iterator. Answers `false` where the name is none.
+fn step_of<A: Allocator + Copy>(walk: &mut Walk<'_, A>, name: &str, out: &mut Out) -> bool {
+    match name {
+        "next" => say_entry(walk.next(), out),
+        "next_back" => say_entry(walk.next_back(), out),
+        "len" => out.number(walk.len()),
+        "size_hint" => say_hint(walk.size_hint(), out),
+        _ => return copy_of(walk, name, out),
+    }
+    true
+}
+
+/// What a copy counts, or going on with it. Answers `false` where the name is neither.
+fn copy_of<A: Allocator + Copy>(walk: &mut Walk<'_, A>, name: &str, out: &mut Out) -> bool {
+    let Ok(copy) = walk.clone() else {
+        return false;
+    };
+    match name {
+        "count" => out.number(copy.count()),
+        "clone" => {
+            *walk = copy;
+            out.say("done");
+        }
+        _ => return false,
+    }
+    true
 }

@@ -1,4 +1,4 @@
-use Rattle.std.proofs.Common.{Some, is_some, sym, ap, ◌∙◌, subst}
+use Rattle.std.proofs.Common.{Some, sym, ◌∙◌, subst}
 use Rattle.clru_curve.specs.Passes.{IsPass}
 use Rattle.clru_curve.proofs.Forms.{found_as, form_known, some_by}
 use Rattle.clru_curve.proofs.pass.DistancePass.latest_request.Goals as goal
@@ -7,9 +7,11 @@ pub returns-clause-known : goal.returns-clause-known
 returns-clause-known g c past before =
     let eq = g.K.PartialEq.eq in let s = c.self.inside in
     let is = subst (λ v. IsPass eq past v) (sym c.self.view_is) before in
-    ap is_some (c.copied.ensures ∙ c.peek.ensures)
-    ∙ form_known eq g.met.K.Eq.laws (g.Q.Equivalent.equivalent c.args.key) (g.met.Q.Equivalent.respects_eq c.args.key) s.positions.entries past
-    is.ranked.known
+    cc (
+      c.copied.ensures,
+      c.peek.ensures,
+      form_known eq g.met.K.Eq.laws (g.Q.Equivalent.equivalent c.args.key) (g.met.Q.Equivalent.respects_eq c.args.key) s.positions.entries past is.ranked.known,
+    )
 
 pub returns-clause-position : goal.returns-clause-position
 returns-clause-position g c past x before passes =

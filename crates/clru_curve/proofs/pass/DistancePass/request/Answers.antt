@@ -1,9 +1,9 @@
-use Rattle.std.proofs.Common.{is_some, sym, ap, ◌∙◌}
+use Rattle.std.proofs.Common.{is_some, ap}
 use Rattle.clru_curve.proofs.pass.DistancePass.request.Goals as goal
 
 pub returns-in-Ok-Some-clause-distance : goal.returns-in-Ok-Some-clause-distance
 returns-in-Ok-Some-clause-distance g c past before =
-    sym c.in-Ok-Some.field-0-is ∙ c.in-Ok-Some.ensures.distance past c.args.key before (g.met.K.Eq.laws.refl c.args.key)
+    cc (c.in-Ok-Some.field-0-is, c.in-Ok-Some.ensures.distance past c.args.key before (g.met.K.Eq.laws.refl c.args.key))
 
 pub returns-in-Ok-Some-clause-taken : goal.returns-in-Ok-Some-clause-taken
 returns-in-Ok-Some-clause-taken g c past before =

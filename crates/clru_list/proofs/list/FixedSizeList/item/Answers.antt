@@ -1,4 +1,4 @@
-use Rattle.std.proofs.Common.{refl, sym, ◌∙◌}
+use Rattle.std.proofs.Common.{refl, sym, ◌∙◌, arith}
 use Rattle.clru_list.proofs.NodeLemmas.{node_item}
 use Rattle.clru_list.proofs.Steps.{place_below}
 use Rattle.clru_list.proofs.Views.{held_item, seen_item, seen_valid}
@@ -6,7 +6,8 @@ use Rattle.clru_list.proofs.list.FixedSizeList.item.Goals as goal
 
 pub index-requires : goal.index-requires
 index-requires g c =
-    let it = held_item _ _ _ _ _ c.self.invariant.0 _ c.self.view_is c.args.place c.requires in place_below _ _ _ _ _ c.self.invariant.0 c.args.place it.0 it.1
+    let it = held_item _ _ _ _ _ c.self.invariant.0 _ c.self.view_is c.args.place c.requires in
+    omega (arith, place_below _ _ _ _ _ c.self.invariant.0 c.args.place it.0 it.1)
 
 pub item-requires : goal.item-requires
 item-requires g c =

@@ -23,4 +23,4 @@ returns-in_default-clause-answer g c above =
     let some : 0 < n = omega (arith, c.in_default) in
     let inside : n - 1 < length steps = omega (arith, some, hits, count_by-le-length (λ t. nat_le t.capacity k) steps) in
     subst (λ v. Some c.index.result.now.missed_size ≡ Some (missed_size_within v k)) c.self.view_is
-    (ap (λ m. Some m) (ap (λ t. t.missed_size) c.index.ensures ∙ after s.size steps n c.index.result.now some inside ∙ ap (size_after s.size steps) hits))
+    (cc (c.index.ensures, after s.size steps n c.index.result.now some inside, hits))

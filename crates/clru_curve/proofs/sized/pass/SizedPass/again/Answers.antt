@@ -53,11 +53,14 @@ pub returns-clause-span : goal.returns-clause-span
 returns-clause-span g c w past x same before weighs passes =
     let eq = g.K.PartialEq.eq in let laws = g.met.K.Eq.laws in let s = c.self.inside in let p = c.in-Some.position in
     let is = subst (λ v. IsSizedPass eq w past v) (sym c.self.view_is) before in
-    ap (λ d. Some d) (c.total_from-span.ensures ∙ ap (λ l. sizes_from l p) c.make_ready.ensures.sizes)
-    ∙ span_some eq laws s.positions.entries s.latest.sizes.items s.hits.items s.size s.greatest x w past is same c.args.weight weighs
-    c.greater-greatest.result c.greater-greatest.ensures p
-    (found_as eq laws (g.Q.Equivalent.equivalent c.args.key) (g.met.Q.Equivalent.respects_eq c.args.key) s.positions.entries x (Some p) passes
-    (sym c.in-Some.ensures.found))
+    let found = found_as eq laws (g.Q.Equivalent.equivalent c.args.key) (g.met.Q.Equivalent.respects_eq c.args.key) s.positions.entries x (Some p) passes
+    (sym c.in-Some.ensures.found) in
+    cc (
+      c.total_from-span.ensures,
+      c.make_ready.ensures.sizes,
+      span_some eq laws s.positions.entries s.latest.sizes.items s.hits.items s.size s.greatest x w past is same c.args.weight weighs
+          c.greater-greatest.result c.greater-greatest.ensures p found,
+    )
 
 pub returns-clause-taken : goal.returns-clause-taken
 returns-clause-taken g c w past x same before weighs passes some =

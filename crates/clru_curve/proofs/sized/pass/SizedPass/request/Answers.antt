@@ -1,10 +1,10 @@
-use Rattle.std.proofs.Common.{is_some, sym, ap, ◌∙◌, subst}
+use Rattle.std.proofs.Common.{is_some, sym, ap, subst}
 use Rattle.clru_curve.specs.SizedPasses.{IsSizedPass}
 use Rattle.clru_curve.proofs.sized.pass.SizedPass.request.Goals as goal
 
 pub returns-in-Ok-Some-clause-span : goal.returns-in-Ok-Some-clause-span
 returns-in-Ok-Some-clause-span g c w past same before weighs =
-    sym c.in-Ok-Some.field-0-is ∙ c.in-Ok-Some.ensures.span w past c.args.key same before weighs (g.met.K.Eq.laws.refl c.args.key)
+    cc (c.in-Ok-Some.field-0-is, c.in-Ok-Some.ensures.span w past c.args.key same before weighs (g.met.K.Eq.laws.refl c.args.key))
 
 pub returns-in-Ok-Some-clause-taken : goal.returns-in-Ok-Some-clause-taken
 returns-in-Ok-Some-clause-taken g c w past same before weighs =

@@ -42,13 +42,17 @@ fn requests_of<'a>(heap: &'a Rationed<Global>, cache: &mut Texts<'a>, key: Key<'
 }
 
 fn looks(cache: &mut Texts, text: &str) -> bool {
-    cache.contains(text)
-        && cache.peek(text) == Some(&3)
-        && cache.get(text) == Some(&3)
+    finds(cache, text) && writes(cache, text) && cache.pop(text) == Some(3) && !cache.contains(text)
+}
+
+fn finds(cache: &Texts, text: &str) -> bool {
+    cache.contains(text) && cache.peek(text) == Some(&3)
+}
+
+fn writes(cache: &mut Texts, text: &str) -> bool {
+    cache.get(text) == Some(&3)
         && cache.peek_mut(text).copied() == Some(3)
         && cache.get_mut(text).copied() == Some(3)
-        && cache.pop(text) == Some(3)
-        && !cache.contains(text)
 }
 
 #[test]
@@ -63,13 +67,8 @@ fn a_pass_is_asked_again_by_a_lent_text_and_asks_for_no_memory(
 /// The distance of a key that comes again, asked for by its text, and the requests for memory of that.
 fn distances(heap: &Rationed<Global>) -> Option<(usize, u64)> {
     let mut pass = DistancePass::new(heap);
-    for text in ["apple", "banana"] {
-        let Ok(None) = pass.request_again(text) else {
-            return None;
-        };
-        let Ok(None) = pass.request(String::from_str(heap, text).ok()?) else {
-            return None;
-        };
+    if !(is_first(heap, &mut pass, "apple") && is_first(heap, &mut pass, "banana")) {
+        return None;
     }
     let before = heap.asked();
     match pass.request_again("apple") {
@@ -78,20 +77,42 @@ fn distances(heap: &Rationed<Global>) -> Option<(usize, u64)> {
     }
 }
 
+type Distances<'a> = DistancePass<Key<'a>, DefaultState, &'a Rationed<Global>>;
+
+/// Whether a text was not requested before. It is then.
+fn is_first<'a>(heap: &'a Rationed<Global>, pass: &mut Distances<'a>, text: &str) -> bool {
+    let Ok(key) = String::from_str(heap, text) else {
+        return false;
+    };
+    pass.request_again(text).ok() == Some(None) && pass.request(key).ok() == Some(None)
+}
+
 /// The same of spans, where the weights are 1 and 2.
 fn spans(heap: &Rationed<Global>) -> Option<(usize, u64)> {
     let mut pass = SizedPass::new(heap);
-    for (text, weight) in [("apple", 1), ("banana", 2)] {
-        let Ok(None) = pass.request_again(text, weight) else {
-            return None;
-        };
-        let Ok(None) = pass.request(String::from_str(heap, text).ok()?, weight) else {
-            return None;
-        };
+    if !(is_first_sized(heap, &mut pass, "apple", 1)
+        && is_first_sized(heap, &mut pass, "banana", 2))
+    {
+        return None;
     }
     let before = heap.asked();
     match pass.request_again("apple", 1) {
         Ok(Some(span)) => Some((span, heap.asked().wrapping_sub(before))),
         _ => None,
     }
+}
+
+type Spans<'a> = SizedPass<Key<'a>, DefaultState, &'a Rationed<Global>>;
+
+fn is_first_sized<'a>(
+    heap: &'a Rationed<Global>,
+    pass: &mut Spans<'a>,
+    text: &str,
+    weight: usize,
+) -> bool {
+    let Ok(key) = String::from_str(heap, text) else {
+        return false;
+    };
+    pass.request_again(text, weight).ok() == Some(None)
+        && pass.request(key, weight).ok() == Some(None)
 }
