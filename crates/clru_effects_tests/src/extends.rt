@@ -178,28 +178,6 @@ fn pushes_text<'a>(heap: &'a Rationed<Global>, pairs: &mut Texts<'a>, letter: &s
 }
 
 #[test]
-fn a_refused_extend_forgets_no_item(rt: HostRuntime) -> Result<(), Fail> {
-    let nine = capacity_of(9)?;
-    for n in 0..=2 * REQUESTS {
-        let heap = Rationed::new(rt.alloc());
-        let (extended, blocks, owned) = extends_by_texts(&heap, nine, n);
-        equal!(rt; (extended, blocks, heap.blocks()), (n == 2 * REQUESTS, owned, 0), n);
-    }
-    Ok(())
-}
-
-/// Whether an extend by texts succeeds where memory is refused, the blocks then, and those of what is held, two texts each,
-/// with the cache's own: a list may have grown where its heads did not.
-fn extends_by_texts(heap: &Rationed<Global>, capacity: NonZeroUsize, n: u64) -> (bool, u64, u64) {
-    let pairs = texts(heap);
-    let mut cache = CLruCache::new(heap, capacity);
-    heap.refuse_after(n);
-    let extended = cache.extend(pairs).is_ok();
-    let held = (cache.len() as u64).wrapping_mul(2);
-    (extended, heap.blocks(), held.wrapping_add(n.min(REQUESTS)))
-}
-
-#[test]
 fn a_refused_from_iter_forgets_no_item(rt: HostRuntime) {
     for n in 0..=2 * REQUESTS {
         let heap = Rationed::new(rt.alloc());
