@@ -2,7 +2,7 @@
 
 use assertions::{equal, shows};
 use lent_block::{LentBlock, Loan};
-use std::alloc::Global;
+use std::alloc::{AllocError, Global};
 use std::test::Fail;
 
 fn lent(alloc: Global, size: usize) -> Result<LentBlock, Fail> {
@@ -32,30 +32,29 @@ where
 #[test]
 fn a_block_is_filled_and_freed_from_the_top(rt: HostRuntime) -> Result<(), Fail> {
     let heap = lent(rt.alloc(), 100)?;
-    let mut left = Vec::new(rt.alloc());
-    left.push(heap.left())?;
+    equal!(rt; heap.left(), 96);
     // One byte takes 16, and five words take 48.
     let byte = Box::new(&heap, 7u8)?;
-    left.push(heap.left())?;
+    let one = heap.left();
     let words: Vec<u64, &LentBlock> = Vec::with_capacity(&heap, 5)?;
-    left.push(heap.left())?;
-    let refused = Vec::<u8, &LentBlock>::with_capacity(&heap, 33).is_err();
-    equal!(rt; refused, true);
-    left.push(heap.left())?;
-    let bytes: Vec<u8, &LentBlock> = Vec::with_capacity(&heap, 32)?;
-    left.push(heap.left())?;
-    equal!(rt; Box::new(&heap, 1u8).is_err(), true);
+    equal!(rt; (one, heap.left(), fills(&heap)), (80, 32, Ok((true, 32, 0, true))));
     // The last one is free again; one below another is lost.
-    drop(bytes);
-    left.push(heap.left())?;
+    let last = heap.left();
     drop(byte);
-    left.push(heap.left())?;
+    let below = heap.left();
     drop(words);
-    left.push(heap.left())?;
-    equal!(rt; left.as_slice(), &[96, 80, 32, 32, 0, 32, 32, 80]);
+    equal!(rt; (last, below, heap.left()), (32, 32, 80));
     let again = lent_again(heap)?;
     equal!(rt; again.left(), 80);
     Ok(())
+}
+
+/// Of 32 bytes that are left: whether 33 are refused, what is left then and once 32 are taken, and whether one more is refused.
+fn fills(heap: &LentBlock) -> Result<(bool, usize, usize, bool), AllocError> {
+    let refused = Vec::<u8, &LentBlock>::with_capacity(heap, 33).is_err();
+    let left = heap.left();
+    let _bytes: Vec<u8, &LentBlock> = Vec::with_capacity(heap, 32)?;
+    Ok((refused, left, heap.left(), Box::new(heap, 1u8).is_err()))
 }
 
 #[test]

@@ -48,20 +48,29 @@ fn make(world: &'static World, name: &str, words: &mut Words, out: &mut Out) {
             Err(_) => out.say("no memory"),
         },
         "with_config" | "config" => {
-            let config: CLruCacheConfig<Key, Value, Hashing, Scale> = CLruCacheConfig::new(capacity)
+            let config = CLruCacheConfig::new(capacity)
                 .with_hasher(world.hashing())
                 .with_scale(Scale { world })
                 .with_memory(words.number());
             if name == "config" {
                 say_cost(world.cost().since(before), out);
-                return;
-            }
-            match CLruCache::with_config(heap, config) {
-                Ok(mut cache) => filled(world, &mut cache, before, out),
-                Err(_) => out.say("no memory"),
+            } else {
+                with_config(world, config, before, out);
             }
         }
         _ => words.note(Wrong::NoSuchCall),
+    }
+}
+
+fn with_config(
+    world: &'static World,
+    config: CLruCacheConfig<Key, Value, Hashing, Scale>,
+    before: Cost,
+    out: &mut Out,
+) {
+    match CLruCache::with_config(&world.heap, config) {
+        Ok(mut cache) => filled(world, &mut cache, before, out),
+        Err(_) => out.say("no memory"),
     }
 }
 

@@ -30,24 +30,42 @@ pub(crate) fn plain<S: BuildHasher, A: Allocator + Copy>(
         "put" => put(cache, world, words, out),
         "put_or_modify" => put_or_modify(cache, world, words, out),
         "try_put_or_modify" => try_put_or_modify(cache, world, words, out),
-        "extend" => match cache.extend(pairs_of(world, words)) {
-            Ok(()) => out.say("done"),
-            Err((key, value)) => say_back(&key, &value, out),
-        },
-        "get_mut" => {
-            let key = Key::next(world, words);
-            swap(cache.get_mut(&key), Value::next(world, words), out);
-        }
-        "peek_mut" => {
-            let key = Key::next(world, words);
-            swap(cache.peek_mut(&key), Value::next(world, words), out);
-        }
+        "extend" => extend(cache, pairs_of(world, words), out),
+        "get_mut" | "peek_mut" => lend(cache, world, name, words, out),
         "retain_mut" => retain_mut(cache, world, words, out),
         "front_mut" | "back_mut" => lend_end(cache, world, name, words, out),
         "iter_mut" => steps(cache, world, words, out),
         _ => return called(cache, world, name, words, out),
     }
     true
+}
+
+fn extend<S: BuildHasher, A: Allocator + Copy>(
+    cache: &mut Plain<S, A>,
+    pairs: Vec<(Key, Value)>,
+    out: &mut Out,
+) {
+    match cache.extend(pairs) {
+        Ok(()) => out.say("done"),
+        Err((key, value)) => say_back(&key, &value, out),
+    }
+}
+
+/// A call that lends the value of a key, to which the next word is written.
+fn lend<S: BuildHasher, A: Allocator + Copy>(
+    cache: &mut Plain<S, A>,
+    world: &'static World,
+    name: &str,
+    words: &mut Words,
+    out: &mut Out,
+) {
+    let key = Key::next(world, words);
+    let lent = if name == "get_mut" {
+        cache.get_mut(&key)
+    } else {
+        cache.peek_mut(&key)
+    };
+    swap(lent, Value::next(world, words), out);
 }
 
 fn put<S: BuildHasher, A: Allocator + Copy>(

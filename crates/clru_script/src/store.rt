@@ -205,17 +205,8 @@ fn looked_up<S: BuildHasher, A: Allocator + Copy>(
     match name {
         "load" => say_loaded(store.load(Key::next(world, words)), out),
         "get" => say_answer(store.get(Key::next(world, words)), out),
-        "put" => {
-            let key = Key::next(world, words);
-            let value = store.source().value(&key);
-            say_put(store.put(key, value), out);
-        }
+        "put" | "is_too_heavy" => fit(store, name, Key::next(world, words), out),
         "hit" => out.truth(store.hit(&Key::next(world, words))),
-        "is_too_heavy" => {
-            let key = Key::next(world, words);
-            let value = store.source().value(&key);
-            out.truth(store.is_too_heavy(&key, &value));
-        }
         "peek" => say_value(store.peek(&Key::next(world, words)), out),
         "pop" => {
             let value = store.pop(&Key::next(world, words));
@@ -224,6 +215,21 @@ fn looked_up<S: BuildHasher, A: Allocator + Copy>(
         _ => return false,
     }
     true
+}
+
+/// A call by a key and its value, `put` or `is_too_heavy`.
+fn fit<S: BuildHasher, A: Allocator + Copy>(
+    store: &mut Any<S, A>,
+    name: &str,
+    key: Key,
+    out: &mut Out,
+) {
+    let value = store.source().value(&key);
+    if name == "put" {
+        say_put(store.put(key, value), out);
+    } else {
+        out.truth(store.is_too_heavy(&key, &value));
+    }
 }
 
 /// Says what a load answered,
