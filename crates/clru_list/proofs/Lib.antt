@@ -2,6 +2,7 @@ pub mod CallerLemmas
 pub mod CursorSteps
 pub mod EntryLists
 pub mod Holding
+pub mod NarrowLinks
 pub mod NodeLemmas
 pub mod Indices
 pub mod PassedOn

@@ -1,5 +1,5 @@
 -- What a write to one node and its upper halves, or a new node, does to the links.
-use Rattle.std.proofs.Common.{◌≡◌, ℕ, zero, suc, ◌-◌, ◌+◌, ◌<◌, List, length, replicate, take, get_or, set, map, ◌++◌, ◌∷◌, [], Option, None, vec_len, sym, ap, ◌∙◌, arith, subst, inl, inr, ◌≤◌, ◌⊎◌, refl}
+use Rattle.std.proofs.Common.{◌≡◌, ℕ, zero, suc, ◌-◌, ◌+◌, ◌*◌, ◌<◌, List, length, replicate, take, get_or, set, map, ◌++◌, ◌∷◌, [], Option, None, vec_len, sym, ap, ◌∙◌, arith, subst, inl, inr, ◌≤◌, ◌⊎◌, refl}
 use Rattle.std.proofs.lemmas.List.{map-set, map-append, get_or-set_same, get_or-set_other, get_or_append_left, get_or-map, length-map, get_or-append_right, take_all}
 use Rattle.std.specs.Prelude.{Vec}
 use Rattle.std.specs.Vec.{with_item}
@@ -51,6 +51,13 @@ pub place_by-none : place_by 0 0 ≡ nowhere
 unfolding place_by
 place_by-none = refl
 
+pub place_by-some : (n : ℕ) → (n ≡ 0 → ⊥) → place_by n 0 + 1 ≡ n
+unfolding place_by
+place_by-some n some = decide (n + 0 * 4294967296) 0 (λ e _. absurd (some (omega arith))) (λ _ f. rw f (omega arith))
+
+pub place_by-below : (n : ℕ) → place_by n 0 < narrow → n ≤ narrow
+place_by-below n below = decide n 0 (λ e _. omega arith) (λ ne _. omega (arith, place_by-some n ne))
+
 -- what links lead to, by their halves
 abbrev pub joined : (ℕ → ℕ) → (ℕ → ℕ) → ℕ → ℕ
 joined lower upper k = place_by (lower k) (upper k)
@@ -93,12 +100,12 @@ module _ {T A : Type 0} where
       let long : at < length c.nodes.items = omega (arith, c.nodes.ok.0) in
       let lower = column-set (λ m. m.next) 0 c.nodes.items at n long in
       let next : next_of (record c { nodes = with_item c.nodes at n; upper = v }) ≡ put (next_of c) at (place_by n.next a) =
-      (λ i. put (joined (lower i) (nexts i)) nowhere c.front) ∙ ap (λ f. put f nowhere c.front) (joined-put (lower_next c) (upper_next c.upper) at n.next a)
-      ∙ put-swap (joined (lower_next c) (upper_next c.upper)) at nowhere (place_by n.next a) c.front ne in
+      (λ i. put (joined (lower i) (nexts i)) nowhere (place_by c.front 0)) ∙ ap (λ f. put f nowhere (place_by c.front 0)) (joined-put (lower_next c) (upper_next c.upper) at n.next a)
+      ∙ put-swap (joined (lower_next c) (upper_next c.upper)) at nowhere (place_by n.next a) (place_by c.front 0) ne in
       let lower_of_prev = column-set (λ m. m.prev) 0 c.nodes.items at n long in
       let prev : prev_of (record c { nodes = with_item c.nodes at n; upper = v }) ≡ put (prev_of c) at (place_by n.prev b) =
-      (λ i. put (joined (lower_of_prev i) (prevs i)) nowhere c.back) ∙ ap (λ f. put f nowhere c.back) (joined-put (lower_prev c) (upper_prev c.upper) at n.prev b)
-      ∙ put-swap (joined (lower_prev c) (upper_prev c.upper)) at nowhere (place_by n.prev b) c.back ne in
+      (λ i. put (joined (lower_of_prev i) (prevs i)) nowhere (place_by c.back 0)) ∙ ap (λ f. put f nowhere (place_by c.back 0)) (joined-put (lower_prev c) (upper_prev c.upper) at n.prev b)
+      ∙ put-swap (joined (lower_prev c) (upper_prev c.upper)) at nowhere (place_by n.prev b) (place_by c.back 0) ne in
       let item : item_of (record c { nodes = with_item c.nodes at n }) ≡ put (item_of c) at n.item = column-set (λ m. m.item) None c.nodes.items at n long in
       λ i. record { next = next i; prev = prev i; item = item i; free = c.free; size = vec_len c.nodes }
 
@@ -118,12 +125,12 @@ module _ {T A : Type 0} where
       let len : length c.nodes.items ≡ vec_len c.nodes = sym c.nodes.ok.0 in
       let lower = column-longer (λ m. m.next) 0 c.nodes.items v.items n (vec_len c.nodes) same len in
       let next : next_of (record c { nodes = v; upper = w }) ≡ put (next_of c) (vec_len c.nodes) (place_by n.next a) =
-      (λ i. put (joined (lower i) (nexts i)) nowhere c.front) ∙ ap (λ f. put f nowhere c.front) (joined-put (lower_next c) (upper_next c.upper) (vec_len c.nodes) n.next a)
-      ∙ put-swap (joined (lower_next c) (upper_next c.upper)) (vec_len c.nodes) nowhere (place_by n.next a) c.front ne in
+      (λ i. put (joined (lower i) (nexts i)) nowhere (place_by c.front 0)) ∙ ap (λ f. put f nowhere (place_by c.front 0)) (joined-put (lower_next c) (upper_next c.upper) (vec_len c.nodes) n.next a)
+      ∙ put-swap (joined (lower_next c) (upper_next c.upper)) (vec_len c.nodes) nowhere (place_by n.next a) (place_by c.front 0) ne in
       let lower_of_prev = column-longer (λ m. m.prev) 0 c.nodes.items v.items n (vec_len c.nodes) same len in
       let prev : prev_of (record c { nodes = v; upper = w }) ≡ put (prev_of c) (vec_len c.nodes) (place_by n.prev b) =
-      (λ i. put (joined (lower_of_prev i) (prevs i)) nowhere c.back) ∙ ap (λ f. put f nowhere c.back) (joined-put (lower_prev c) (upper_prev c.upper) (vec_len c.nodes) n.prev b)
-      ∙ put-swap (joined (lower_prev c) (upper_prev c.upper)) (vec_len c.nodes) nowhere (place_by n.prev b) c.back ne in
+      (λ i. put (joined (lower_of_prev i) (prevs i)) nowhere (place_by c.back 0)) ∙ ap (λ f. put f nowhere (place_by c.back 0)) (joined-put (lower_prev c) (upper_prev c.upper) (vec_len c.nodes) n.prev b)
+      ∙ put-swap (joined (lower_prev c) (upper_prev c.upper)) (vec_len c.nodes) nowhere (place_by n.prev b) (place_by c.back 0) ne in
       let item : item_of (record c { nodes = v }) ≡ put (item_of c) (vec_len c.nodes) n.item =
       column-longer (λ m. m.item) None c.nodes.items v.items n (vec_len c.nodes) same len in
       λ i. record { next = next i; prev = prev i; item = item i; free = c.free; size = longer i }
@@ -132,13 +139,13 @@ module _ {T A : Type 0} where
   pub node_next : (c : Links T A) (at : ℕ) (n : Node T) → at < vec_len c.nodes → (at ≡ nowhere → ⊥) → n ≡ get_or c.nodes.items at n
       → next_of c at ≡ place_by n.next (upper_next c.upper at)
   node_next c at n within ne h =
-      put-other (joined (lower_next c) (upper_next c.upper)) nowhere c.front at (λ e. ne (sym e))
+      put-other (joined (lower_next c) (upper_next c.upper)) nowhere (place_by c.front 0) at (λ e. ne (sym e))
       ∙ ap (λ m. place_by m (upper_next c.upper at)) (column-read (λ m. m.next) 0 c.nodes.items at n (omega (arith, c.nodes.ok.0)) h)
 
   pub node_prev : (c : Links T A) (at : ℕ) (n : Node T) → at < vec_len c.nodes → (at ≡ nowhere → ⊥) → n ≡ get_or c.nodes.items at n
       → prev_of c at ≡ place_by n.prev (upper_prev c.upper at)
   node_prev c at n within ne h =
-      put-other (joined (lower_prev c) (upper_prev c.upper)) nowhere c.back at (λ e. ne (sym e))
+      put-other (joined (lower_prev c) (upper_prev c.upper)) nowhere (place_by c.back 0) at (λ e. ne (sym e))
       ∙ ap (λ m. place_by m (upper_prev c.upper at)) (column-read (λ m. m.prev) 0 c.nodes.items at n (omega (arith, c.nodes.ok.0)) h)
 
   pub node_item : (c : Links T A) (at : ℕ) (n : Node T) → at < vec_len c.nodes → n ≡ get_or c.nodes.items at n → item_of c at ≡ n.item
@@ -218,8 +225,8 @@ module _ {T A : Type 0} where
       → upper_next w ≡ upper_next c.upper → upper_prev w ≡ upper_prev c.upper → links_of (record c { nodes = v; upper = w }) ≡ links_of c
   links_of-moved c v w same len nexts prevs =
       λ i. record {
-        next = put (joined (column (λ m. m.next) 0 (same i)) (nexts i)) nowhere c.front;
-        prev = put (joined (column (λ m. m.prev) 0 (same i)) (prevs i)) nowhere c.back;
+        next = put (joined (column (λ m. m.next) 0 (same i)) (nexts i)) nowhere (place_by c.front 0);
+        prev = put (joined (column (λ m. m.prev) 0 (same i)) (prevs i)) nowhere (place_by c.back 0);
         item = column (λ m. m.item) None (same i);
         free = c.free;
         size = len i;

@@ -6,6 +6,7 @@ use Rattle.clru_list.specs.PlaceList.{item_at}
 use Rattle.clru_list.specs.Halves.{upper_next, upper_prev}
 use Rattle.clru_list.specs.Places.{nowhere, narrow, place_by, put, count, IsRest}
 use Rattle.clru_list.specs.declared.links.Links.{Links}
+use Rattle.clru_list.specs.declared.links.Node.{Node}
 
 -- the links and the item at each place. At `nowhere` the next place is the front and the one before is the back
 pub record LinkMap (T : Type 0) : Type 0 where
@@ -17,10 +18,10 @@ pub record LinkMap (T : Type 0) : Type 0 where
 
 module _ {T A : Type 0} where
   abbrev pub next_of : Links T A → ℕ → ℕ
-  next_of c = put (λ k. place_by (slice_index_or (map (λ n. n.next) c.nodes.items) k 0) (upper_next c.upper k)) nowhere c.front
+  next_of c = put (λ k. place_by (slice_index_or (map (λ n. n.next) c.nodes.items) k 0) (upper_next c.upper k)) nowhere (place_by c.front 0)
 
   abbrev pub prev_of : Links T A → ℕ → ℕ
-  prev_of c = put (λ k. place_by (slice_index_or (map (λ n. n.prev) c.nodes.items) k 0) (upper_prev c.upper k)) nowhere c.back
+  prev_of c = put (λ k. place_by (slice_index_or (map (λ n. n.prev) c.nodes.items) k 0) (upper_prev c.upper k)) nowhere (place_by c.back 0)
 
   abbrev pub item_of : Links T A → ℕ → Option T
   item_of c k = slice_index_or (map (λ n. n.item) c.nodes.items) k None
@@ -33,6 +34,16 @@ module _ {T A : Type 0} where
   allotted_of c = min (vec_capacity c.nodes) (max narrow (vec_len c.upper))
 
 module _ {T : Type 0} where
+  -- the same of nodes alone, where lower halves serve; the ends are numbers
+  abbrev pub narrow_links : List (Node T) → ℕ → ℕ → ℕ → LinkMap T
+  narrow_links ns front back free = record {
+    next = put (λ k. place_by (slice_index_or (map (λ n. n.next) ns) k 0) 0) nowhere (place_by front 0);
+    prev = put (λ k. place_by (slice_index_or (map (λ n. n.prev) ns) k 0) 0) nowhere (place_by back 0);
+    item = λ k. slice_index_or (map (λ n. n.item) ns) k None;
+    free = free;
+    size = length ns;
+  }
+
   abbrev pub set_next : LinkMap T → ℕ → ℕ → LinkMap T
   set_next l at to = record l { next = put l.next at to }
 
@@ -53,6 +64,10 @@ module _ {T : Type 0} where
   -- the place stands between a and b
   abbrev pub linked : LinkMap T → ℕ → ℕ → ℕ → LinkMap T
   linked l a p b = set_prev (set_next (set_prev (set_next l p b) p a) a p) b p
+
+  -- the place comes to the front
+  abbrev pub brought_front : LinkMap T → ℕ → LinkMap T
+  brought_front l p = linked (unlinked l p) nowhere p (l.next nowhere)
 
   -- the place is the first free one
   abbrev pub released : LinkMap T → ℕ → LinkMap T

@@ -24,6 +24,20 @@ pub(crate) fn place_by(lower: u32, upper: u32) -> usize
     (lower as usize + upper as usize * 4294967296).wrapping_sub(1)
 }
 
+/// The number of a place, one more than it, and 0 where there is none.
+pub(crate) fn number_of(place: usize) -> usize
+    ensures { place_by result 0 ≡ place }
+{
+    place.wrapping_add(1)
+}
+
+/// The place of a number.
+pub(crate) fn place_numbered(number: usize) -> usize
+    ensures { result ≡ place_by number 0 }
+{
+    number.wrapping_sub(1)
+}
+
 /// The halves of a link to a place.
 pub(crate) fn halves(to: usize) -> (u32, u32)
     ensures { place_by result.0 result.1 ≡ to }

@@ -17,6 +17,7 @@ mod halves;
 mod iter;
 mod links;
 mod list;
+mod narrow;
 
 pub use cursor::FixedSizeListIterMut;
 pub use error::{NoMemory, PushError};

@@ -3,25 +3,28 @@
 ghost use Rattle.std.specs.Prelude.{◌≡◌, ◌<◌, ◌≤◌, Some, None, cond, vec_len, option_copied, IsSome, OnOk};
 ghost use Rattle.std.specs.Borrow.{Lends, sem};
 ghost use Rattle.clru_list.specs.Places.{nowhere};
-ghost use Rattle.clru_list.specs.Links.{links_of, allotted_of, set_next, set_prev, set_item, unlinked, linked, released, spot, occupied, appended, filled, IsEnd};
+ghost use Rattle.clru_list.specs.Links.{links_of, allotted_of, set_next, set_prev, set_item, unlinked, linked, brought_front, released, spot, occupied, appended, filled, IsEnd};
 
 use crate::error::NoMemory;
-use crate::halves::{NARROW, Upper, clear_upper, halves, lower_half, place_by, widen};
+use crate::halves::{
+    NARROW, Upper, clear_upper, halves, lower_half, number_of, place_by, place_numbered, widen,
+};
+use crate::narrow;
 use std::alloc::Allocator;
 
 /// The place that no node has: what stands before the front and behind the back.
 pub(crate) const NOWHERE: usize = usize::MAX;
 
-/// A place. A free one has no item, and its `next` is the next free one. A link is kept as one more than the place that it
-/// leads to, and as 0 where it leads nowhere; here are the lower 4 bytes of that.
+/// A place. A free one has no item, and its `next` is the next free one. A link is kept as the number of the place that it
+/// leads to; here are the lower 4 bytes of that.
 #[derive(Drop)]
 pub struct Node<T> {
-    prev: u32,
-    next: u32,
+    pub(crate) prev: u32,
+    pub(crate) next: u32,
     item: Option<T>,
 }
 
-/// The places, with the ends of the list and the first free place.
+/// The places, with the numbers of the ends of the list and the first free place.
 #[derive(Drop)]
 pub struct Links<T, A: Allocator> {
     pub(crate) nodes: Vec<Node<T>, A>,
@@ -62,15 +65,27 @@ impl<T, A: Allocator> Links<T, A> {
     pub(crate) fn new(nodes: Vec<Node<T>, A>, upper: Vec<Upper, A>) -> Self
         ensures nodes { result.nodes ≡ nodes }
         ensures upper { result.upper ≡ upper }
-        ensures ends { (result.front ≡ nowhere) × (result.back ≡ nowhere) × (result.free ≡ nowhere) }
+        ensures ends { (result.front ≡ 0) × (result.back ≡ 0) × (result.free ≡ nowhere) }
     {
         Links {
             nodes,
             upper,
-            front: NOWHERE,
-            back: NOWHERE,
+            front: 0,
+            back: 0,
             free: NOWHERE,
         }
+    }
+
+    pub(crate) fn front(&self) -> usize
+        ensures { result ≡ (links_of self.now).next nowhere }
+    {
+        place_numbered(self.front)
+    }
+
+    pub(crate) fn back(&self) -> usize
+        ensures { result ≡ (links_of self.now).prev nowhere }
+    {
+        place_numbered(self.back)
     }
 
     pub(crate) fn next(&self, place: usize) -> usize
@@ -80,16 +95,8 @@ impl<T, A: Allocator> Links<T, A> {
         if place < self.upper.len() {
             place_by(self.nodes[place].next, self.upper[place].next)
         } else {
-            self.next_narrow(place)
+            place_by(self.nodes[place].next, 0)
         }
-    }
-
-    fn next_narrow(&self, place: usize) -> usize
-        requires place { place < vec_len self.now.nodes }
-        requires narrow { vec_len self.now.upper ≤ place }
-        ensures { result ≡ (links_of self.now).next place }
-    {
-        place_by(self.nodes[place].next, 0)
     }
 
     pub(crate) fn prev(&self, place: usize) -> usize
@@ -99,16 +106,8 @@ impl<T, A: Allocator> Links<T, A> {
         if place < self.upper.len() {
             place_by(self.nodes[place].prev, self.upper[place].prev)
         } else {
-            self.prev_narrow(place)
+            place_by(self.nodes[place].prev, 0)
         }
-    }
-
-    fn prev_narrow(&self, place: usize) -> usize
-        requires place { place < vec_len self.now.nodes }
-        requires narrow { vec_len self.now.upper ≤ place }
-        ensures { result ≡ (links_of self.now).prev place }
-    {
-        place_by(self.nodes[place].prev, 0)
     }
 
     pub(crate) fn item(&self, place: usize) -> Option<&T>
@@ -125,7 +124,7 @@ impl<T, A: Allocator> Links<T, A> {
         ensures same_allotted { allotted_of self.new ≡ allotted_of self.old }
     {
         if at == NOWHERE {
-            self.front = to;
+            self.front = number_of(to);
         } else {
             self.write_next(at, to);
         }
@@ -179,7 +178,7 @@ impl<T, A: Allocator> Links<T, A> {
         ensures same_allotted { allotted_of self.new ≡ allotted_of self.old }
     {
         if at == NOWHERE {
-            self.back = to;
+            self.back = number_of(to);
         } else {
             self.write_prev(at, to);
         }
@@ -263,9 +262,9 @@ impl<T, A: Allocator> Links<T, A> {
         requires place { place < vec_len self.old.nodes }
         requires prev { (links_of self.old).prev place < vec_len self.old.nodes }
         requires next { IsEnd (links_of self.old) ((links_of self.old).next place) }
-        requires front { self.old.front < vec_len self.old.nodes }
+        requires front { (links_of self.old).next nowhere < vec_len self.old.nodes }
         requires allotted { vec_len self.old.nodes ≤ allotted_of self.old }
-        ensures links { links_of self.new ≡ linked (unlinked (links_of self.old) place) nowhere place self.old.front }
+        ensures links { links_of self.new ≡ brought_front (links_of self.old) place }
         ensures same_allotted { allotted_of self.new ≡ allotted_of self.old }
     {
         if self.upper.is_empty() {
@@ -281,12 +280,12 @@ impl<T, A: Allocator> Links<T, A> {
         requires place { place < vec_len self.old.nodes }
         requires prev { (links_of self.old).prev place < vec_len self.old.nodes }
         requires next { IsEnd (links_of self.old) ((links_of self.old).next place) }
-        requires front { self.old.front < vec_len self.old.nodes }
+        requires front { (links_of self.old).next nowhere < vec_len self.old.nodes }
         requires allotted { vec_len self.old.nodes ≤ allotted_of self.old }
-        ensures links { links_of self.new ≡ linked (unlinked (links_of self.old) place) nowhere place self.old.front }
+        ensures links { links_of self.new ≡ brought_front (links_of self.old) place }
         ensures same_allotted { allotted_of self.new ≡ allotted_of self.old }
     {
-        let front = self.front;
+        let front = self.front();
         self.unlink(place);
         self.link(NOWHERE, place, front);
     }
@@ -295,53 +294,14 @@ impl<T, A: Allocator> Links<T, A> {
         requires place { place < vec_len self.old.nodes }
         requires prev { (links_of self.old).prev place < vec_len self.old.nodes }
         requires next { IsEnd (links_of self.old) ((links_of self.old).next place) }
-        requires front { self.old.front < vec_len self.old.nodes }
+        requires front { (links_of self.old).next nowhere < vec_len self.old.nodes }
         requires allotted { vec_len self.old.nodes ≤ allotted_of self.old }
         requires narrow { vec_len self.old.upper ≡ 0 }
-        ensures links { links_of self.new ≡ linked (unlinked (links_of self.old) place) nowhere place self.old.front }
+        ensures links { links_of self.new ≡ brought_front (links_of self.old) place }
         ensures same_allotted { allotted_of self.new ≡ allotted_of self.old }
     {
-        let before = self.prev_narrow(place);
-        let behind = self.next_narrow(place);
-        let front = self.front;
-        self.write_next_narrow(before, behind);
-        self.set_prev_narrow(behind, before);
-        self.stand_narrow(place, NOWHERE, front);
-        self.write_prev_narrow(front, place);
-        // Last, so that no other write may have changed it for a caller that reads it next.
-        self.set_next(NOWHERE, place);
-    }
-
-    /// Has a place name both neighbours.
-    fn stand_narrow(&mut self, place: usize, prev: usize, next: usize)
-        requires place { place < vec_len self.old.nodes }
-        requires prev { IsEnd (links_of self.old) prev }
-        requires next { IsEnd (links_of self.old) next }
-        requires allotted { vec_len self.old.nodes ≤ allotted_of self.old }
-        requires narrow { vec_len self.old.upper ≤ place }
-        ensures links { links_of self.new ≡ set_prev (set_next (links_of self.old) place next) place prev }
-        ensures upper { self.new.upper ≡ self.old.upper }
-        ensures same_allotted { allotted_of self.new ≡ allotted_of self.old }
-    {
-        let node = &mut self.nodes[place];
-        node.next = lower_half(next);
-        node.prev = lower_half(prev);
-    }
-
-    fn set_prev_narrow(&mut self, at: usize, to: usize)
-        requires at { IsEnd (links_of self.old) at }
-        requires to { IsEnd (links_of self.old) to }
-        requires allotted { vec_len self.old.nodes ≤ allotted_of self.old }
-        requires narrow { vec_len self.old.upper ≡ 0 }
-        ensures links { links_of self.new ≡ set_prev (links_of self.old) at to }
-        ensures upper { self.new.upper ≡ self.old.upper }
-        ensures same_allotted { allotted_of self.new ≡ allotted_of self.old }
-    {
-        if at == NOWHERE {
-            self.back = to;
-        } else {
-            self.write_prev_narrow(at, to);
-        }
+        let nodes = self.nodes.as_mut_slice();
+        narrow::bring_front(nodes, &mut self.front, &mut self.back, place);
     }
 
     /// Takes the item out of a place, if one is there.

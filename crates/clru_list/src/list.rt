@@ -54,16 +54,17 @@ impl<T, A: Allocator + Copy> Model for FixedSizeList<T, A> {
     ghost use Rattle.clru_list.specs.PlaceList.{PlaceList, place_list, place_list_code};
     ghost use Rattle.clru_list.specs.Fingers.{IsPointed};
     ghost use Rattle.clru_list.specs.Links.{links_of, allotted_of, walk, IsSound};
+    ghost use Rattle.clru_list.specs.Places.{nowhere};
 
     ghost Value = { PlaceList T };
 
     ghost coded = { place_list_code T.code };
 
-    ghost view = { λ l. place_list (walk (links_of l.links) l.links.front l.len) l.capacity l.places };
+    ghost view = { λ l. place_list (walk (links_of l.links) ((links_of l.links).next nowhere) l.len) l.capacity l.places };
 
     ghost invariant = { λ l. ((es : List (ℕ × T))
         × IsSound (links_of l.links) l.len l.capacity l.places (allotted_of l.links) es)
-        × IsPointed (keys_of (walk (links_of l.links) l.links.front l.len)) l.fingers };
+        × IsPointed (keys_of (walk (links_of l.links) ((links_of l.links).next nowhere) l.len)) l.fingers };
 }
 
 impl<T, A: Allocator + Copy> FixedSizeList<T, A> {
@@ -186,7 +187,7 @@ impl<T, A: Allocator + Copy> FixedSizeList<T, A> {
         ensures value { option_copied result ≡ option_map (λ e. e.1) (first_entry self.now.entries) }
         ensures valid { IsValid self.now }
     {
-        self.links.item(self.links.front)
+        self.links.item(self.links.front())
     }
 
     /// Returns the last item.
@@ -194,7 +195,7 @@ impl<T, A: Allocator + Copy> FixedSizeList<T, A> {
         ensures value { option_copied result ≡ option_map (λ e. e.1) (last_entry self.now.entries) }
         ensures valid { IsValid self.now }
     {
-        self.links.item(self.links.back)
+        self.links.item(self.links.back())
     }
 
     /// Returns the place of the first item.
@@ -202,7 +203,7 @@ impl<T, A: Allocator + Copy> FixedSizeList<T, A> {
         ensures place { result ≡ first_place self.now.entries }
         ensures valid { IsValid self.now }
     {
-        some_place(self.links.front)
+        some_place(self.links.front())
     }
 
     /// Returns the place of the last item.
@@ -210,7 +211,7 @@ impl<T, A: Allocator + Copy> FixedSizeList<T, A> {
         ensures place { result ≡ last_place self.now.entries }
         ensures valid { IsValid self.now }
     {
-        some_place(self.links.back)
+        some_place(self.links.back())
     }
 
     /// Returns the place behind that of an item. There is none behind the last, nor where no item is.

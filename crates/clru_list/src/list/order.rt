@@ -64,7 +64,7 @@ impl<T, A: Allocator + Copy> FixedSizeList<T, A> {
         ensures moved { self.new ≡ with_entries self.old (to_front place self.old.entries) }
         ensures valid { IsValid self.new }
     {
-        if self.links.front == place {
+        if self.links.front() == place {
             return;
         }
         self.links.bring_front(place);

@@ -58,7 +58,7 @@ impl<T, A: Allocator + Copy> FixedSizeList<T, A> {
     {
         let item = self.admit(item)?;
         let place = self.links.occupy(item);
-        let front = self.links.front;
+        let front = self.links.front();
         self.links.link(NOWHERE, place, front);
         self.len += 1;
         self.fingers.clear();
@@ -77,7 +77,7 @@ impl<T, A: Allocator + Copy> FixedSizeList<T, A> {
     {
         let item = self.admit(item)?;
         let place = self.links.occupy(item);
-        let back = self.links.back;
+        let back = self.links.back();
         self.links.link(back, place, NOWHERE);
         self.len += 1;
         self.fingers.clear();

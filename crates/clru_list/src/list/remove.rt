@@ -29,7 +29,7 @@ impl<T, A: Allocator + Copy> FixedSizeList<T, A> {
         ensures entries { self.new ≡ with_entries self.old (drop 1 self.old.entries) }
         ensures valid { IsValid self.new }
     {
-        let front = self.links.front;
+        let front = self.links.front();
         self.remove(front)
     }
 
@@ -41,8 +41,8 @@ impl<T, A: Allocator + Copy> FixedSizeList<T, A> {
         ensures valid { IsValid self.new }
     {
         self.links.nodes.clear();
-        self.links.front = NOWHERE;
-        self.links.back = NOWHERE;
+        self.links.front = 0;
+        self.links.back = 0;
         self.links.free = NOWHERE;
         self.len = 0;
         self.fingers.clear();

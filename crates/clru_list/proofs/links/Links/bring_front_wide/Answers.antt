@@ -1,7 +1,7 @@
-use Rattle.std.proofs.Common.{ap, ◌∙◌}
+use Rattle.std.proofs.Common.{◌∙◌}
 use Rattle.clru_list.specs.Places.{nowhere}
 use Rattle.clru_list.specs.Links.{linked}
 use Rattle.clru_list.proofs.links.Links.bring_front_wide.Goals as goal
 
 pub returns-clause-links : goal.returns-clause-links
-returns-clause-links g c = c.link.ensures.links ∙ ap (λ l. linked l nowhere c.args.place c.args.self.now.front) c.unlink.ensures.links
+returns-clause-links g c = c.link.ensures.links ∙ (λ i. linked (c.unlink.ensures.links i) nowhere c.args.place (c.front-front.ensures i))

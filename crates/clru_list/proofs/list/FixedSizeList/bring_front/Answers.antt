@@ -5,11 +5,11 @@ use Rattle.clru_list.proofs.Views.{held_item, seen_front_stays, seen_to_front, s
 use Rattle.clru_list.proofs.Pointing.{pointed-none}
 use Rattle.clru_list.proofs.list.FixedSizeList.bring_front.Goals as goal
 
-pub returns-then-self-place-clause-moved : goal.returns-then-self-place-clause-moved
-returns-then-self-place-clause-moved g c = sym (seen_front_stays _ _ _ _ _ c.self.invariant.0 _ c.self.view_is c.args.place c.if-self-place.true)
+pub returns-then-front-place-clause-moved : goal.returns-then-front-place-clause-moved
+returns-then-front-place-clause-moved g c = sym (seen_front_stays _ _ _ _ _ c.self.invariant.0 _ c.self.view_is c.args.place (sym c.front.ensures ∙ c.if-front-place.true))
 
-pub returns-then-self-place-clause-valid : goal.returns-then-self-place-clause-valid
-returns-then-self-place-clause-valid g c = seen_valid _ _ _ _ _ c.self.invariant.0 _ c.self.view_is
+pub returns-then-front-place-clause-valid : goal.returns-then-front-place-clause-valid
+returns-then-front-place-clause-valid g c = seen_valid _ _ _ _ _ c.self.invariant.0 _ c.self.view_is
 
 pub bring_front-requires-clause-place : goal.bring_front-requires-clause-place
 bring_front-requires-clause-place g c =
@@ -18,7 +18,7 @@ bring_front-requires-clause-place g c =
 pub bring_front-requires-clause-prev : goal.bring_front-requires-clause-prev
 bring_front-requires-clause-prev g c =
     let it = held_item _ _ _ _ _ c.self.invariant.0 _ c.self.view_is c.args.place c.requires in
-    prev_below _ _ _ _ _ c.self.invariant.0 c.args.place it.0 it.1 c.if-self-place.false
+    prev_below _ _ _ _ _ c.self.invariant.0 c.args.place it.0 it.1 (λ e. c.if-front-place.false (c.front.ensures ∙ e))
 
 pub bring_front-requires-clause-next : goal.bring_front-requires-clause-next
 bring_front-requires-clause-next g c =
@@ -34,7 +34,7 @@ invariant_of-self g c =
       (
         _,
         sound-at _ _ _ _ _ _ _ _ c.bring_front.ensures.links c.bring_front.ensures.same_allotted
-            (sound-moved _ _ _ _ _ c.self.invariant.0 c.args.place it.0 it.1 c.if-self-place.false),
+            (sound-moved _ _ _ _ _ c.self.invariant.0 c.args.place it.0 it.1 (λ e. c.if-front-place.false (c.front.ensures ∙ e))),
       ),
       pointed-none _ _ c.clear.ensures,
     )

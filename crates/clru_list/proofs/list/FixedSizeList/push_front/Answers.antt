@@ -1,6 +1,6 @@
-use Rattle.std.proofs.Common.{arith, ◌∷◌, sym, ◌∙◌}
+use Rattle.std.proofs.Common.{arith, ◌∷◌, sym, ap, ◌∙◌, subst}
 use Rattle.clru_list.specs.Places.{nowhere}
-use Rattle.clru_list.specs.Links.{linked}
+use Rattle.clru_list.specs.Links.{links_of, linked, IsEnd}
 use Rattle.clru_list.proofs.Soundness.{walk-is, valid_view}
 use Rattle.clru_list.proofs.Steps.{free_end, free_none, free_room, spot_below, occupied_room, occupied_front, sound-push_front}
 use Rattle.clru_list.proofs.Views.{seen_entries, has_room, sound-at}
@@ -26,7 +26,8 @@ link-requires-clause-place g c =
 pub link-requires-clause-next : goal.link-requires-clause-next
 link-requires-clause-next g c =
     let room = has_room _ _ _ _ _ c.self.invariant.0 _ c.self.view_is (c.in_ok-item.ensures.room, c.in_ok-item.ensures.below) in
-    occupied_front _ _ _ _ _ c.self.invariant.0 c.in_ok-item.item room.0 c.occupy-place.ensures.links
+    subst (λ k. IsEnd (links_of c.occupy-place.new.self) k) (sym c.front-front.ensures)
+    (occupied_front _ _ _ _ _ c.self.invariant.0 c.in_ok-item.item room.0 c.occupy-place.ensures.links)
 
 pub link-requires-clause-allotted : goal.link-requires-clause-allotted
 link-requires-clause-allotted g c =
@@ -39,7 +40,7 @@ invariant_of-self g c =
     let e = c.occupy-place.ensures in (
       (
         _,
-        sound-at _ _ _ _ _ _ _ _ (c.link.ensures.links ∙ (λ i. linked (e.links i) nowhere (e.place i) ((e.links i).next nowhere))) (c.link.ensures.same_allotted ∙ e.same_allotted)
+        sound-at _ _ _ _ _ _ _ _ (c.link.ensures.links ∙ (λ i. linked (e.links i) nowhere (e.place i) ((c.front-front.ensures ∙ ap (λ l. l.next nowhere) e.links) i))) (c.link.ensures.same_allotted ∙ e.same_allotted)
             (sound-push_front _ _ _ _ _ c.self.invariant.0 c.in_ok-item.item room.0 room.1),
       ),
       pointed-none _ _ c.clear.ensures,
