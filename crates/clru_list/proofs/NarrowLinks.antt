@@ -8,7 +8,7 @@ use Rattle.clru_list.specs.Links.{LinkMap, links_of, narrow_links, set_next, set
 use Rattle.clru_list.specs.declared.links.Links.{Links}
 use Rattle.clru_list.specs.declared.links.Node.{Node}
 use Rattle.clru_list.proofs.NodeLemmas.{column, column-set, upper_next-past, upper_prev-past}
-use Rattle.clru_list.proofs.Puts.{decide, put-same, put-swap, put-other}
+use Rattle.clru_list.proofs.Puts.{decide, put-same, put-swap, put-twice, put-other}
 
 -- what numbers lead to
 abbrev led : (ℕ → ℕ) → ℕ → ℕ
@@ -39,36 +39,27 @@ module _ {T : Type 0} (ns : List (Node T)) (front back free at : ℕ) (long : at
     abbrev n : Node T
     n = get_or ns at r
 
-    next-is : old.next at ≡ place_by n.next 0
-    next-is = put-other (led (column (λ m. m.next) 0 ns)) nowhere (place_by front 0) at (λ e. ne (sym e)) ∙ ap (λ m. place_by m 0) (get_or-map (λ m. m.next) ns at r 0 long)
+    pub narrow-next : old.next at ≡ place_by n.next 0
+    narrow-next = put-other (led (column (λ m. m.next) 0 ns)) nowhere (place_by front 0) at (λ e. ne (sym e)) ∙ ap (λ m. place_by m 0) (get_or-map (λ m. m.next) ns at r 0 long)
 
-    prev-is : old.prev at ≡ place_by n.prev 0
-    prev-is = put-other (led (column (λ m. m.prev) 0 ns)) nowhere (place_by back 0) at (λ e. ne (sym e)) ∙ ap (λ m. place_by m 0) (get_or-map (λ m. m.prev) ns at r 0 long)
+    pub narrow-prev : old.prev at ≡ place_by n.prev 0
+    narrow-prev = put-other (led (column (λ m. m.prev) 0 ns)) nowhere (place_by back 0) at (λ e. ne (sym e)) ∙ ap (λ m. place_by m 0) (get_or-map (λ m. m.prev) ns at r 0 long)
 
-    item-is : old.item at ≡ n.item
-    item-is = get_or-map (λ m. m.item) ns at r None long
+    narrow-item : old.item at ≡ n.item
+    narrow-item = get_or-map (λ m. m.item) ns at r None long
 
     pub narrow-set_next : (to : ℕ) → narrow_links (set ns at (record n { next = to })) front back free ≡ set_next old at (place_by to 0)
     narrow-set_next to =
-        let prev = put-same old.prev at (place_by n.prev 0) prev-is in let item = put-same old.item at n.item item-is in
+        let prev = put-same old.prev at (place_by n.prev 0) narrow-prev in let item = put-same old.item at n.item narrow-item in
         narrow-write (record n { next = to }) ∙ (λ i. record { next = put old.next at (place_by to 0); prev = prev i; item = item i; free = free; size = length ns })
 
     pub narrow-set_prev : (to : ℕ) → narrow_links (set ns at (record n { prev = to })) front back free ≡ set_prev old at (place_by to 0)
     narrow-set_prev to =
-        let next = put-same old.next at (place_by n.next 0) next-is in let item = put-same old.item at n.item item-is in
+        let next = put-same old.next at (place_by n.next 0) narrow-next in let item = put-same old.item at n.item narrow-item in
         narrow-write (record n { prev = to }) ∙ (λ i. record { next = next i; prev = put old.prev at (place_by to 0); item = item i; free = free; size = length ns })
-
-    pub narrow-next : old.next at ≡ place_by n.next 0
-    narrow-next = next-is
-
-    pub narrow-prev : old.prev at ≡ place_by n.prev 0
-    narrow-prev = prev-is
 
 -- the ends are put there by their numbers
 module _ {T : Type 0} (ns : List (Node T)) (front back free : ℕ) where
-  put-twice : {X : Type 0} (f : ℕ → X) (a : ℕ) (v w : X) → put (put f a v) a w ≡ put f a w
-  put-twice f a v w = fun_ext (λ k. decide a k (λ _ t. rw t refl) (λ _ n. rw n refl))
-
   pub narrow-front : (to : ℕ) → narrow_links ns to back free ≡ set_next (narrow_links ns front back free) nowhere (place_by to 0)
   narrow-front to = λ i. record (narrow_links ns front back free) {
     next = sym (put-twice (led (column (λ m. m.next) 0 ns)) nowhere (place_by front 0) (place_by to 0)) i;

@@ -58,6 +58,16 @@ place_by-some n some = decide (n + 0 * 4294967296) 0 (λ e _. absurd (some (omeg
 pub place_by-below : (n : ℕ) → place_by n 0 < narrow → n ≤ narrow
 place_by-below n below = decide n 0 (λ e _. omega arith) (λ ne _. omega (arith, place_by-some n ne))
 
+-- a lower half that names a place by itself
+pub lower_alone : (a b to : ℕ) → a < 4294967296 → b < 4294967296 → place_by a b ≡ to → (to ≡ nowhere) ⊎ (to < narrow) → place_by a 0 ≡ to
+unfolding place_by
+lower_alone a b to lower upper is small =
+    decide (a + b * 4294967296) 0
+    (λ e t. let h : nowhere ≡ to = rw t at is in let none : a + 0 * 4294967296 ≡ 0 = omega arith in rw none h)
+    (λ ne f. let h : a + b * 4294967296 - 1 ≡ to = rw f at is in
+    let alone : b ≡ 0 = elim small [ inl e ↦ absurd (omega arith) | inr lt ↦ omega arith ] in
+    sym (ap (place_by a) alone) ∙ is)
+
 -- what links lead to, by their halves
 abbrev pub joined : (ℕ → ℕ) → (ℕ → ℕ) → ℕ → ℕ
 joined lower upper k = place_by (lower k) (upper k)

@@ -29,6 +29,10 @@ module _ {X : Type 0} where
   put-same f a v h =
       fun_ext (λ k. decide a k (λ e t. rw t (sym h ∙ ap f e)) (λ _ n. rw n refl))
 
+  -- the later of two at one number stands
+  pub put-twice : (f : ℕ → X) (a : ℕ) (v w : X) → put (put f a v) a w ≡ put f a w
+  put-twice f a v w = fun_ext (λ k. decide a k (λ _ t. rw t refl) (λ _ n. rw n refl))
+
   pub put-swap : (f : ℕ → X) (a b : ℕ) (v w : X) → (a ≡ b → ⊥) → put (put f a v) b w ≡ put (put f b w) a v
   put-swap f a b v w ne =
       fun_ext (λ k. decide a k

@@ -1,14 +1,14 @@
 //! A link in two halves of 4 bytes each. The upper halves stand apart, and only where there may be more places than lower
 //! ones name.
-ghost use Rattle.std.specs.Prelude.{◌≡◌, ◌⊎◌, ◌<◌, ◌≤◌, max, vec_len, IfOk, IsOk};
+ghost use Rattle.std.specs.Prelude.{◌≡◌, ◌≤◌, max, vec_len, IfOk, IsOk};
 ghost use Rattle.clru_list.specs.Halves.{upper_next, upper_prev};
-ghost use Rattle.clru_list.specs.Places.{nowhere, narrow, place_by, put};
+ghost use Rattle.clru_list.specs.Places.{narrow, place_by, put};
 
 use crate::error::NoMemory;
 use std::alloc::Allocator;
 
 /// The places that lower halves alone can name: those below.
-pub(crate) const NARROW: usize = 4294967295;
+pub const NARROW: usize = 4294967295;
 
 /// The upper halves of the links of a place.
 #[derive(Clone, Copy, Drop)]
@@ -42,16 +42,8 @@ pub(crate) fn place_numbered(number: usize) -> usize
 pub(crate) fn halves(to: usize) -> (u32, u32)
     ensures { place_by result.0 result.1 ≡ to }
 {
-    let number = to.wrapping_add(1);
+    let number = number_of(to);
     ((number % 4294967296) as u32, (number / 4294967296) as u32)
-}
-
-/// The lower half of a link whose upper half is 0.
-pub(crate) fn lower_half(to: usize) -> u32
-    requires { (to ≡ nowhere) ⊎ (to < narrow) }
-    ensures { place_by result 0 ≡ to }
-{
-    to.wrapping_add(1) as u32
 }
 
 /// Upper halves for so many places, where the lower ones can't name them.

@@ -21,12 +21,12 @@ mod narrow;
 
 pub use cursor::FixedSizeListIterMut;
 pub use error::{NoMemory, PushError};
-// A crate can name a list in a contract only where the types of its fields are exported.
+// A crate can name a list in a contract only where the types of its fields are exported. Both numbers are those of an index too.
 #[doc(hidden)]
 pub use fingers::{Finger, Fingers};
 #[doc(hidden)]
-pub use halves::Upper;
+pub use halves::{NARROW, Upper};
 pub use iter::FixedSizeListIter;
 #[doc(hidden)]
-pub use links::{Links, Node};
+pub use links::{Links, NOWHERE, Node};
 pub use list::FixedSizeList;

@@ -7,13 +7,13 @@ ghost use Rattle.clru_list.specs.Links.{links_of, allotted_of, set_next, set_pre
 
 use crate::error::NoMemory;
 use crate::halves::{
-    NARROW, Upper, clear_upper, halves, lower_half, number_of, place_by, place_numbered, widen,
+    NARROW, Upper, clear_upper, halves, number_of, place_by, place_numbered, widen,
 };
 use crate::narrow;
 use std::alloc::Allocator;
 
 /// The place that no node has: what stands before the front and behind the back.
-pub(crate) const NOWHERE: usize = usize::MAX;
+pub const NOWHERE: usize = usize::MAX;
 
 /// A place. A free one has no item, and its `next` is the next free one. A link is kept as the number of the place that it
 /// leads to; here are the lower 4 bytes of that.
@@ -138,36 +138,11 @@ impl<T, A: Allocator> Links<T, A> {
         ensures links { links_of self.new ≡ set_next (links_of self.old) at to }
         ensures same_allotted { allotted_of self.new ≡ allotted_of self.old }
     {
-        if at < self.upper.len() {
-            self.write_next_wide(at, to);
-        } else {
-            self.write_next_narrow(at, to);
-        }
-    }
-
-    #[cold]
-    #[inline(never)]
-    fn write_next_wide(&mut self, at: usize, to: usize)
-        requires at { at < vec_len self.old.nodes }
-        requires wide { at < vec_len self.old.upper }
-        ensures links { links_of self.new ≡ set_next (links_of self.old) at to }
-        ensures same_allotted { allotted_of self.new ≡ allotted_of self.old }
-    {
         let (lower, upper) = halves(to);
         self.nodes[at].next = lower;
-        self.upper[at].next = upper;
-    }
-
-    fn write_next_narrow(&mut self, at: usize, to: usize)
-        requires at { at < vec_len self.old.nodes }
-        requires to { IsEnd (links_of self.old) to }
-        requires allotted { vec_len self.old.nodes ≤ allotted_of self.old }
-        requires narrow { vec_len self.old.upper ≤ at }
-        ensures links { links_of self.new ≡ set_next (links_of self.old) at to }
-        ensures upper { self.new.upper ≡ self.old.upper }
-        ensures same_allotted { allotted_of self.new ≡ allotted_of self.old }
-    {
-        self.nodes[at].next = lower_half(to);
+        if at < self.upper.len() {
+            self.upper[at].next = upper;
+        }
     }
 
     fn set_prev(&mut self, at: usize, to: usize)
@@ -192,36 +167,11 @@ impl<T, A: Allocator> Links<T, A> {
         ensures links { links_of self.new ≡ set_prev (links_of self.old) at to }
         ensures same_allotted { allotted_of self.new ≡ allotted_of self.old }
     {
-        if at < self.upper.len() {
-            self.write_prev_wide(at, to);
-        } else {
-            self.write_prev_narrow(at, to);
-        }
-    }
-
-    #[cold]
-    #[inline(never)]
-    fn write_prev_wide(&mut self, at: usize, to: usize)
-        requires at { at < vec_len self.old.nodes }
-        requires wide { at < vec_len self.old.upper }
-        ensures links { links_of self.new ≡ set_prev (links_of self.old) at to }
-        ensures same_allotted { allotted_of self.new ≡ allotted_of self.old }
-    {
         let (lower, upper) = halves(to);
         self.nodes[at].prev = lower;
-        self.upper[at].prev = upper;
-    }
-
-    fn write_prev_narrow(&mut self, at: usize, to: usize)
-        requires at { at < vec_len self.old.nodes }
-        requires to { IsEnd (links_of self.old) to }
-        requires allotted { vec_len self.old.nodes ≤ allotted_of self.old }
-        requires narrow { vec_len self.old.upper ≤ at }
-        ensures links { links_of self.new ≡ set_prev (links_of self.old) at to }
-        ensures upper { self.new.upper ≡ self.old.upper }
-        ensures same_allotted { allotted_of self.new ≡ allotted_of self.old }
-    {
-        self.nodes[at].prev = lower_half(to);
+        if at < self.upper.len() {
+            self.upper[at].prev = upper;
+        }
     }
 
     /// Has the neighbours of a place name each other.

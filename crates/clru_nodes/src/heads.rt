@@ -3,7 +3,8 @@
 //!
 //! A number there is 0 for no place. Else its lowest bits, those of the mask that picks a head, are the place and 1; those above
 //! are the same bits of the hash of the key at that place, its tag; and the highest one says that the place is linked on. So a
-//! look-up passes the places of other keys by their tags, and sees where a chain ends, without going there.
+//! look-up passes the places of other keys by their tags, and sees where a chain ends, without going there. `NOWHERE`, the place
+//! of 0, is the end of each chain, and in calls its start.
 ghost use Rattle.std.specs.Prelude.{◌≡◌, ℕ, ◌+◌, ◌*◌, ◌^◌, ◌<◌, ◌≤◌, ◌==◌, [], Some, false, true, length, replicate, set, IfOk, IfSome, IfNone, IsOk};
 ghost use Rattle.std.specs.Int.{IsNextPowerOfTwo, IsPowerOfTwo};
 ghost use Rattle.clru_list.specs.Places.{nowhere};
@@ -17,12 +18,6 @@ use std::marker::Model;
 
 mod chains;
 mod words;
-
-/// No place: the end of each chain, and in calls its start.
-pub(crate) const NOWHERE: usize = usize::MAX;
-
-/// The places that 4 bytes can name are those below.
-pub(crate) const NARROW: usize = 4294967295;
 
 // The highest bits of 4 bytes and of 8.
 const NARROW_MORE: usize = 2147483648;

@@ -11,8 +11,8 @@ ghost use Rattle.clru_nodes.specs.HeadList.{place_named, tag_by};
 ghost use Rattle.clru_nodes.specs.Heads.{key_at, IsAt, IsLive};
 ghost use Rattle.clru_nodes.specs.Nodes.{hash_of, pairs_of, pairs_in, capacity_of, places_of, builder_of, IsIndexed, IsEmpty};
 
-use crate::heads::{Heads, NARROW, NOWHERE};
-use clru_list::FixedSizeList;
+use crate::heads::Heads;
+use clru_list::{FixedSizeList, NARROW, NOWHERE};
 use std::alloc::Allocator;
 use std::collections::hash_map::Equivalent;
 use std::hash::{BuildHasher, Hash};

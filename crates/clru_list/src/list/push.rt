@@ -27,12 +27,21 @@ impl<T, A: Allocator + Copy> FixedSizeList<T, A> {
         if self.len < self.places {
             return Ok(());
         }
-        let places = grown(self.places, self.capacity);
+        let places = self.grown_places();
         let Ok(()) = self.links.reserve(places, self.limit) else {
             return Err(NoMemory);
         };
         self.places = places;
         Ok(())
+    }
+
+    /// Returns how many places the next growth finds memory for, with those that are there: four times as many, at least four,
+    /// and as many as the capacity at most.
+    pub fn grown_places(&self) -> usize
+        ensures grown { result ≡ min self.now.capacity (max 4 (4 * self.now.places)) }
+        ensures valid { IsValid self.now }
+    {
+        self.places.saturating_mul(4).max(4).min(self.capacity)
     }
 
     /// Sets the capacity. The items, their order and their places stay, and so does the number of places, which may be
@@ -102,19 +111,5 @@ impl<T, A: Allocator + Copy> FixedSizeList<T, A> {
             Ok(()) => Ok(item),
             Err(NoMemory) => Err(PushError::NoMemory(item)),
         }
-    }
-}
-
-/// Four times the places, at least four, and the capacity at most.
-fn grown(places: usize, capacity: usize) -> usize
-    requires { places < capacity }
-    ensures { result ≡ min capacity (max 4 (4 * places)) }
-{
-    if places == 0 {
-        capacity.min(4)
-    } else if places <= capacity / 4 {
-        places * 4
-    } else {
-        capacity
     }
 }

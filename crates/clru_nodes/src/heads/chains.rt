@@ -4,7 +4,8 @@ ghost use Rattle.clru_list.specs.Places.{nowhere};
 ghost use Rattle.clru_nodes.specs.Chained.{IsCut, IsCutBehind, IsPlace, IsRelinked, IsWalk};
 ghost use Rattle.clru_nodes.specs.Heads.{number_in, place_in, low_of, numbers_along, steps_in, HasLink, IsNumber, IsRewritten, KeepsSizes};
 
-use crate::heads::{Heads, NOWHERE};
+use crate::heads::Heads;
+use clru_list::NOWHERE;
 use std::alloc::Allocator;
 
 impl<A: Allocator + Copy> Heads<A> {

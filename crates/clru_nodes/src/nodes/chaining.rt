@@ -4,8 +4,8 @@ ghost use Rattle.clru_list.specs.PlaceList.{IsValid};
 ghost use Rattle.clru_nodes.specs.Heads.{key_at, IsChainedAs, IsChainedBut, HasHash, HasHome};
 ghost use Rattle.clru_nodes.specs.Nodes.{hash_of, KeepsAllButPairs};
 
-use crate::heads::NOWHERE;
 use crate::nodes::Nodes;
+use clru_list::NOWHERE;
 use std::alloc::Allocator;
 use std::hash::{BuildHasher, Hash};
 

@@ -4,9 +4,8 @@ ghost use Rattle.clru_nodes.specs.Growth.{GrowsIf, IsRefused};
 ghost use Rattle.clru_nodes.specs.Heads.{number_in, key_at, IsChainedAs, KeepsPlaces};
 ghost use Rattle.clru_nodes.specs.Nodes.{hash_of, pairs_in, capacity_of, places_of, IsIndexed, KeepsAllButPairs, KeepsPairs};
 
-use crate::heads::NOWHERE;
 use crate::nodes::Nodes;
-use clru_list::NoMemory;
+use clru_list::{NOWHERE, NoMemory};
 use std::alloc::Allocator;
 use std::hash::{BuildHasher, Hash};
 
@@ -45,8 +44,7 @@ impl<K: Eq + Hash, V, S: BuildHasher, A: Allocator + Copy> Nodes<K, V, S, A> {
         ensures indexed { IsIndexed (hash_of K.Hash S.BuildHasher S.Hasher.Hasher) self.new }
         ensures keeps { KeepsPairs self.old self.new }
     {
-        let grown = self.list.places().saturating_mul(4).max(4);
-        let places = grown.min(self.list.capacity());
+        let places = self.list.grown_places();
         self.make_heads(places)?;
         self.list.make_ready()
     }

@@ -50,6 +50,7 @@ fn told_of<A: Allocator + Copy>(list: &Numbers<A>, name: &str) -> Told {
         "len" => Told::Number(Some(list.len())),
         "capacity" => Told::Number(Some(list.capacity())),
         "places" => Told::Number(Some(list.places())),
+        "grown_places" => Told::Number(Some(list.grown_places())),
         "is_empty" => Told::Truth(list.is_empty()),
         "is_full" => Told::Truth(list.is_full()),
         _ => Told::NoCall,

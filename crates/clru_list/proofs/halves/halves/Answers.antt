@@ -1,10 +1,11 @@
-use Rattle.std.proofs.Common.{◌+◌, ◌*◌, ◌/◌, ◌%◌, arith}
-use Rattle.clru_list.specs.Places.{place_by}
-use Rattle.clru_list.proofs.Puts.{decide}
+use Rattle.std.proofs.Common.{◌≡◌, ◌+◌, ◌-◌, ◌*◌, ◌/◌, ◌%◌, ap, ◌∙◌, arith}
+use Rattle.std.specs.Prelude.{◌==◌, if◌then◌else◌}
+use Rattle.clru_list.specs.Places.{nowhere, place_by}
 use Rattle.clru_list.proofs.halves.halves.Goals as goal
 
 pub returns : goal.returns
 unfolding place_by
 returns c =
-    let number = (c.args.to + 1) % 18446744073709551616 in
-    decide (number % 4294967296 + number / 4294967296 * 4294967296) 0 (λ e t. rw t (omega arith)) (λ ne f. rw f (omega arith))
+    let n = c.number_of-number.result in
+    let same : n % 4294967296 + n / 4294967296 * 4294967296 ≡ n + 0 * 4294967296 = omega arith in
+    ap (λ k. if k == 0 then nowhere else k - 1) same ∙ c.number_of-number.ensures

@@ -1,5 +1,5 @@
-use Rattle.std.proofs.Common.{◌≡◌, arith, sym, ap, ◌∙◌}
-use Rattle.clru_list.specs.Places.{nowhere, place_by}
+use Rattle.std.proofs.Common.{◌≡◌, arith, sym, ◌∙◌}
+use Rattle.clru_list.specs.Places.{nowhere}
 use Rattle.clru_list.specs.Links.{narrow_links, set_next, set_prev}
 use Rattle.clru_list.proofs.NodeLemmas.{place_by-none, place_by-below}
 use Rattle.clru_list.proofs.NarrowLinks.{narrow-next, narrow-prev, narrow-front}

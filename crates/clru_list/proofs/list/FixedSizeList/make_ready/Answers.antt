@@ -37,9 +37,10 @@ returns-in_default-clause-valid g c = valid_view _ _ _ _ _ _ (invariant_of-self 
 
 abbrev pub invariant_of-self-2 : goal.invariant_of-self-2
 invariant_of-self-2 g c =
-    let e = c.reserve.ensures in let i = c.self.invariant.0 in
+    let e = c.reserve.ensures in let i = c.self.invariant.0 in let sees = seen _ _ _ _ _ c.self.invariant.0 _ c.self.view_is in
     let new = sound-at _ _ _ _ _ _ _ _ e.links refl
-    (sound-grow _ _ _ _ _ i c.grown-places.result _ (omega (arith, c.grown-places.ensures, c.if-self.false, c.if-self-2.false, i.1.fits))
+    (sound-grow _ _ _ _ _ i c.grown_places-places.result _
+    (omega (arith, c.grown_places-places.ensures.grown, ap (λ l. l.places) sees, ap (λ l. l.capacity) sees, c.if-self.false, c.if-self-2.false, i.1.fits))
     c.in-Ok.ensures.ready (omega (arith, c.reserve.new.self.nodes.small))) in
     ((i.0, new), pointed-still _ _ _ _ _ _ _ _ _ _ _ _ _ i.1 new refl c.self.invariant.1)
 
@@ -51,7 +52,7 @@ returns-clause-ready g c = λ lt.
     let i = c.self.invariant.0.1 in let sees = seen _ _ _ _ _ c.self.invariant.0 _ c.self.view_is in
     omega (
       arith,
-      c.grown-places.ensures,
+      c.grown_places-places.ensures.grown,
       i.held.total,
       i.within,
       i.counted,
@@ -66,12 +67,12 @@ returns-clause-places g c =
     let i = c.self.invariant.0.1 in let sees = seen _ _ _ _ _ c.self.invariant.0 _ c.self.view_is in let len = seen_length _ _ _ _ _ c.self.invariant.0 _ c.self.view_is in
     record {
       capacity = sym (ap (λ l. l.capacity) sees);
-      never_falls = omega (arith, c.grown-places.ensures, ap (λ l. l.places) sees, c.if-self.false, c.if-self-2.false, i.fits);
+      never_falls = omega (arith, c.grown_places-places.ensures.grown, ap (λ l. l.places) sees, ap (λ l. l.capacity) sees, c.if-self.false, c.if-self-2.false, i.fits);
       stays = λ h. absurd (h (
         omega (arith, i.fits, c.if-self.false, len, ap (λ l. l.capacity) sees),
         omega (arith, c.if-self-2.false, i.counted, i.held.total, i.within, len, ap (λ l. l.places) sees),
       ));
-      bounded = λ _. omega (arith, c.grown-places.ensures);
+      bounded = λ _. omega (arith, c.grown_places-places.ensures.grown, ap (λ l. l.capacity) sees);
     }
 
 pub returns-clause-valid : goal.returns-clause-valid

@@ -10,7 +10,7 @@ returns-clause-indexed g c =
     let x = c.make_heads.new.self in let old = c.make_heads.ensures.indexed in let list = c.make_heads.ensures.keeps.list in
     let l = c.make_ready.new.self in let e = c.make_ready.ensures in
     -- the list has no more places than it had, or than heads were found for
-    let reach : (b : ℕ) → c.min-places.result ≤ b → x.list.places ≤ b → l.places ≤ b = λ b grown before. elim (cases_eq x.list.places (length x.list.entries)) [
+    let reach : (b : ℕ) → c.grown_places-places.result ≤ b → x.list.places ≤ b → l.places ≤ b = λ b grown before. elim (cases_eq x.list.places (length x.list.entries)) [
       | inl full ↦ omega (
         arith,
         e.reach,
@@ -19,8 +19,7 @@ returns-clause-indexed g c =
         ap (λ m. m.places) list,
         ap (λ m. m.capacity) list,
         grown,
-        c.places.ensures.places,
-        c.capacity.ensures.capacity,
+        c.grown_places-places.ensures.grown,
       )
       | inr free ↦ omega (arith, e.places.stays (λ needs. free needs.1), before)
     ] in
