@@ -198,14 +198,6 @@ module _ {T A : Type 0} where
       pub links_of-write_prev : (lower to : ℕ) → place_by lower 0 ≡ to → links_of (record c { nodes = with_item c.nodes at (record n { prev = lower }) }) ≡ set_prev (links_of c) at to
       links_of-write_prev lower to is = links_of-set_prev c.upper lower 0 to (sym (put-same (upper_prev c.upper) at 0 (upper_prev-past c.upper at none))) refl is
 
-      pub links_of-stand : (lower other next prev : ℕ) → place_by lower 0 ≡ next → place_by other 0 ≡ prev
-          → links_of (record c { nodes = with_item c.nodes at (record n { next = lower; prev = other }) }) ≡ set_prev (set_next (links_of c) at next) at prev
-      links_of-stand lower other next prev is_next is_prev =
-          let item = put-same (item_of c) at n.item (node_item c at n long h) in
-          links_of-write c at (record n { next = lower; prev = other }) c.upper 0 0 long ne
-          (sym (put-same (upper_next c.upper) at 0 (upper_next-past c.upper at none))) (sym (put-same (upper_prev c.upper) at 0 (upper_prev-past c.upper at none)))
-          ∙ (λ i. record { next = put (next_of c) at (is_next i); prev = put (prev_of c) at (is_prev i); item = item i; free = c.free; size = vec_len c.nodes })
-
     -- and where there are
     module _ (u : Upper) (wide : at < vec_len c.upper) (d : u ≡ get_or c.upper.items at u) where
       upper_next-read : upper_next c.upper at ≡ u.next

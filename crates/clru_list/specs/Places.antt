@@ -5,7 +5,8 @@ use Rattle.std.specs.Prelude.{◌≡◌, ℕ, ◌+◌, ◌-◌, ◌*◌, ◌==�
 abbrev pub nowhere : ℕ
 nowhere = 18446744073709551615
 
--- what a link leads to: it is kept as one more than the place, in two halves of 4 bytes, and as 0 where it leads nowhere
+-- what a link leads to: it is kept as one more than the place, in two halves of 4 bytes or whole as the lower one, and as 0
+-- where it leads nowhere
 unfoldable pub place_by : ℕ → ℕ → ℕ
 place_by lower upper = if lower + upper * 4294967296 == 0 then nowhere else lower + upper * 4294967296 - 1
 

@@ -21,7 +21,8 @@ mod narrow;
 
 pub use cursor::FixedSizeListIterMut;
 pub use error::{NoMemory, PushError};
-// A crate can name a list in a contract only where the types of its fields are exported. Both numbers are those of an index too.
+// A crate can name a list in a contract only where the types of its fields are exported. `NARROW` and `NOWHERE` serve the index of
+// `clru_nodes` too.
 #[doc(hidden)]
 pub use fingers::{Finger, Fingers};
 #[doc(hidden)]

@@ -1,6 +1,6 @@
 //! The nodes and their links. Each call is one change of the links, in the words of `Links`: at `NOWHERE` the next place is
 //! the front, and the one before is the back.
-ghost use Rattle.std.specs.Prelude.{◌≡◌, ◌<◌, ◌≤◌, Some, None, cond, vec_len, option_copied, IsSome, OnOk};
+ghost use Rattle.std.specs.Prelude.{◌≡◌, ◌<◌, ◌≤◌, Some, None, vec_len, option_copied, IsSome, OnOk};
 ghost use Rattle.std.specs.Borrow.{Lends, sem};
 ghost use Rattle.clru_list.specs.Places.{nowhere};
 ghost use Rattle.clru_list.specs.Links.{links_of, allotted_of, set_next, set_prev, set_item, unlinked, linked, brought_front, released, spot, occupied, appended, filled, IsEnd};
@@ -16,7 +16,7 @@ use std::alloc::Allocator;
 pub const NOWHERE: usize = usize::MAX;
 
 /// A place. A free one has no item, and its `next` is the next free one. A link is kept as the number of the place that it
-/// leads to; here are the lower 4 bytes of that.
+/// leads to, one more than it, and 0 for none; here are the lower 4 bytes of that.
 #[derive(Drop)]
 pub struct Node<T> {
     pub(crate) prev: u32,
@@ -24,7 +24,7 @@ pub struct Node<T> {
     item: Option<T>,
 }
 
-/// The places, with the numbers of the ends of the list and the first free place.
+/// The places. `front` and `back` are numbers of places, `free` is a place.
 #[derive(Drop)]
 pub struct Links<T, A: Allocator> {
     pub(crate) nodes: Vec<Node<T>, A>,

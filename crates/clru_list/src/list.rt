@@ -2,7 +2,6 @@
 //! `places`.
 ghost use Rattle.std.specs.Prelude.{◌≡◌, ◌<◌, ◌≤◌, ◌↔◌, ◌^◌, [], length, min, Some, IfOk, OnOk, IsOk, IsSome, IsTrue, max, option_copied, vec_capacity, vec_len};
 ghost use Rattle.std.specs.Option.{option_map};
-ghost use Rattle.std.specs.Borrow.{sem};
 ghost use Rattle.clru_list.specs.Links.{place_of};
 ghost use Rattle.clru_list.specs.Places.{narrow};
 ghost use Rattle.clru_list.specs.PlaceList.{place_list, item_at, first_entry, last_entry, first_place, last_place, place_after, place_before, IsValid};

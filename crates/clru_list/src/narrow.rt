@@ -1,5 +1,5 @@
-//! Steps over the nodes where the lower halves of links serve. They take the nodes by themselves, so that where these lie is
-//! read once for all writes, and pass on numbers as they stand there.
+//! Writes of links where their lower halves alone serve. They take the nodes as one slice, so that its address is read once for
+//! all writes, and copy a number without making a place of it.
 ghost use Rattle.std.specs.Prelude.{◌≡◌, ◌⊎◌, ℕ, ◌<◌, ◌≤◌, length};
 ghost use Rattle.clru_list.specs.Places.{nowhere, narrow, place_by};
 ghost use Rattle.clru_list.specs.Links.{narrow_links, set_next, set_prev, brought_front, IsEnd};
@@ -7,7 +7,7 @@ ghost use Rattle.clru_list.specs.Links.{narrow_links, set_next, set_prev, brough
 use crate::halves::{number_of, place_numbered};
 use crate::links::Node;
 
-/// Moves a place that is not the first one to the front. The ends are numbers.
+/// Moves a place that is not the first one to the front. `front` and `back` are numbers of places.
 #[inline(always)]
 pub(crate) fn bring_front<T>(
     nodes: &mut [Node<T>],
@@ -58,17 +58,17 @@ fn write_prev<T>(nodes: &mut [Node<T>], at: usize, to: u32)
     nodes[at].prev = to;
 }
 
-/// Has a place, or the back where the number is that of none, name the one before.
-fn write_prev_or_back<T>(nodes: &mut [Node<T>], back: &mut usize, at: u32, to: u32)
-    requires at { (place_by at 0 ≡ nowhere) ⊎ (place_by at 0 < length nodes.old) }
+/// Has the place of a number name the one before. For 0 the back becomes that one.
+fn write_prev_or_back<T>(nodes: &mut [Node<T>], back: &mut usize, number: u32, to: u32)
+    requires at { (place_by number 0 ≡ nowhere) ⊎ (place_by number 0 < length nodes.old) }
     requires narrow { length nodes.old ≤ narrow }
     ensures links { (front free : ℕ) → narrow_links nodes.new front back.new free
-        ≡ set_prev (narrow_links nodes.old front back.old free) (place_by at 0) (place_by to 0) }
+        ≡ set_prev (narrow_links nodes.old front back.old free) (place_by number 0) (place_by to 0) }
     ensures len { length nodes.new ≡ length nodes.old }
 {
-    if at == 0 {
+    if number == 0 {
         *back = to as usize;
     } else {
-        write_prev(nodes, place_numbered(at as usize), to);
+        write_prev(nodes, place_numbered(number as usize), to);
     }
 }

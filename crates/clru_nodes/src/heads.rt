@@ -3,9 +3,9 @@
 //!
 //! A number there is 0 for no place. Else its lowest bits, those of the mask that picks a head, are the place and 1; those above
 //! are the same bits of the hash of the key at that place, its tag; and the highest one says that the place is linked on. So a
-//! look-up passes the places of other keys by their tags, and sees where a chain ends, without going there. `NOWHERE`, the place
-//! of 0, is the end of each chain, and in calls its start.
-ghost use Rattle.std.specs.Prelude.{◌≡◌, ℕ, ◌+◌, ◌*◌, ◌^◌, ◌<◌, ◌≤◌, ◌==◌, [], Some, false, true, length, replicate, set, IfOk, IfSome, IfNone, IsOk};
+//! look-up passes the places of other keys by their tags, and sees where a chain ends, without going there. `NOWHERE`, for
+//! which 0 stands, is the end of each chain, and in calls its start.
+ghost use Rattle.std.specs.Prelude.{◌≡◌, ℕ, ◌+◌, ◌*◌, ◌^◌, ◌<◌, ◌≤◌, ◌==◌, Some, false, true, length, replicate, set, IfOk, IfSome, IfNone, IsOk};
 ghost use Rattle.std.specs.Int.{IsNextPowerOfTwo, IsPowerOfTwo};
 ghost use Rattle.clru_list.specs.Places.{nowhere};
 ghost use Rattle.clru_nodes.specs.HeadList.{head_list, place_named, place_numbered, tag_by};

@@ -35,8 +35,8 @@ impl<T, A: Allocator + Copy> FixedSizeList<T, A> {
         Ok(())
     }
 
-    /// Returns how many places the next growth finds memory for, with those that are there: four times as many, at least four,
-    /// and as many as the capacity at most.
+    /// Returns how many places the next growth comes to: four times as many, at least four, and as many as the capacity at
+    /// most. Where the places reach the capacity nothing grows, and this is the capacity.
     pub fn grown_places(&self) -> usize
         ensures grown { result ≡ min self.now.capacity (max 4 (4 * self.now.places)) }
         ensures valid { IsValid self.now }
