@@ -1,5 +1,5 @@
 -- Private: what heads are seen as. No public clause cites it.
-use Rattle.std.specs.Prelude.{◌≡◌, ℕ, ◌+◌, ◌-◌, ◌*◌, ◌^◌, ◌<◌, ◌≤◌, ◌==◌, if◌then◌else◌, List, length, take, drop, bit_and, refl}
+use Rattle.std.specs.Prelude.{◌≡◌, ℕ, ◌+◌, ◌-◌, ◌*◌, ◌^◌, ◌<◌, ◌≤◌, ◌==◌, if◌then◌else◌, List, [], ◌∷◌, length, take, drop, bit_and, refl}
 use Rattle.std.specs.Coded.{Coded, code_by, coded×, coded_list, coded_ℕ}
 use Rattle.clru_list.specs.Places.{nowhere, narrow}
 use Rattle.clru_nodes.specs.declared.heads.words.Words.{Words}
@@ -39,10 +39,15 @@ pub record IsShaped (mask tags : ℕ) : Type 0 where
   pub masked : mask + 1 ≡ 2 ^ low
   pub tagged : mask + tags + 1 ≡ 2 ^ (high + low)
 
+-- one number, 0, where there is none
+abbrev pub or_zero : List ℕ → List ℕ
+or_zero [] = 0 ∷ []
+or_zero (n ∷ ns) = n ∷ ns
+
 module _ {A : Type 0} where
   abbrev pub numbers_in : Words A → List ℕ
   numbers_in (Narrow words) = words.items
-  numbers_in (Wide words) = words.items
+  numbers_in (Wide words) = or_zero words.items
 
   abbrev pub bound_of : Words A → ℕ
   bound_of (Narrow words) = narrow
@@ -52,9 +57,9 @@ module _ {A : Type 0} where
   abbrev pub list_of : Words A → ℕ → ℕ → HeadList
   list_of words mask tags = head_list (take (mask + 1) (numbers_in words)) (drop (mask + 1) (numbers_in words)) mask tags
 
-  -- there are so many heads, or none, each place with a link can be named, and a number has its tag and one bit more
+  -- there are so many heads, each place with a link can be named, and a number has its tag and one bit more
   pub record IsWorded (words : Words A) (mask tags : ℕ) : Type 0 where
-    pub sized : 0 < length (numbers_in words) → mask < length (numbers_in words)
+    pub sized : mask < length (numbers_in words)
     pub named : length (numbers_in words) ≤ mask + 1 + mask
     pub shaped : IsShaped mask tags
     pub fits : (mask + tags + 1) * 2 ≡ bound_of words + 1

@@ -11,18 +11,13 @@ ghost use Rattle.clru_list.specs.Places.{nowhere};
 ghost use Rattle.clru_nodes.specs.HeadList.{head_list, place_named, place_numbered, tag_by};
 ghost use Rattle.clru_nodes.specs.Heads.{number_in, head_by, low_of, HasLink, IsNumber, IsNumberOf};
 
-use crate::heads::words::Words;
+use crate::heads::words::{NARROW_MORE, WIDE_MORE, Words};
 use clru_list::NoMemory;
 use std::alloc::Allocator;
 use std::marker::Model;
 
 mod chains;
 mod words;
-
-// The highest bits of 4 bytes and of 8.
-const NARROW_MORE: usize = 2147483648;
-
-const WIDE_MORE: usize = 9223372036854775808;
 
 /// A clause sees heads as the numbers of the heads and of the links, the bound of the places that can be named, and the bits of a
 /// number that are those of a hash.
@@ -51,16 +46,15 @@ impl<A: Allocator + Copy> Model for Heads<A> {
 }
 
 impl<A: Allocator + Copy> Heads<A> {
-    /// No heads. They take no memory.
+    /// One head, and no link. They take no memory.
     pub(crate) fn new(alloc: A, limit: usize) -> Self
-        ensures none { length result.firsts ≡ 0 }
         ensures unlinked { length result.links ≡ 0 }
         ensures free { (h : ℕ) → number_in result.firsts h ≡ 0 }
     {
         Heads {
-            words: Words::Narrow(Vec::new(alloc)),
+            words: Words::bare(alloc),
             mask: 0,
-            tags: NARROW_MORE - 1,
+            tags: WIDE_MORE - 1,
             limit,
         }
     }
@@ -112,7 +106,6 @@ impl<A: Allocator + Copy> Heads<A> {
 
     /// The head of the keys with the hash.
     pub(crate) fn head_of(&self, hash: u64) -> usize
-        requires { 0 < length self.now.firsts }
         ensures head { result ≡ head_by (length self.now.firsts) hash }
         ensures within { result < length self.now.firsts }
     {
@@ -158,7 +151,7 @@ impl<A: Allocator + Copy> Heads<A> {
         ensures last { result ≡ true → number ≤ low_of self.now }
         ensures more { result ≡ false → low_of self.now < number }
     {
-        number <= self.mask + self.tags
+        number <= self.words.low()
     }
 
     /// The number of a place, whose key has the hash, and which is the last one of its chain.
@@ -187,7 +180,7 @@ impl<A: Allocator + Copy> Heads<A> {
         ensures ends { leads ≡ false → result ≤ low_of self.now }
         ensures fits { IsNumber self.now result }
     {
-        let low = self.mask + self.tags;
+        let low = self.words.low();
         if leads {
             number | (low + 1)
         } else {
@@ -198,6 +191,7 @@ impl<A: Allocator + Copy> Heads<A> {
     /// Writes the number of a head.
     pub(crate) fn set_first(&mut self, head: usize, number: usize)
         requires head { head < length self.old.firsts }
+        requires led { 0 < length self.old.links }
         requires fits { IsNumber self.old number }
         ensures { self.new ≡ head_list (set self.old.firsts head number) self.old.links self.old.bound self.old.tags }
     {

@@ -155,9 +155,8 @@ impl<K: Eq + Hash, V, S: BuildHasher, A: Allocator + Copy> Nodes<K, V, S, A> {
         ensures valid { IsValid self.now.list }
         ensures absent { IfNone result (lookup_entry (Q.equivalent key) (pairs_of self.now.list.entries) ≡ None) }
     {
-        if self.list.is_empty() {
-            return None;
-        }
+        // Read for its clause alone.
+        let _len = self.list.len();
         let head = self.heads.head_of(hash);
         let mut number = self.heads.first(head);
         while self.is_other(number, hash, &key) {

@@ -14,6 +14,7 @@ impl<A: Allocator + Copy> Heads<A> {
     pub(crate) fn link(&mut self, head: usize, at: usize, number: usize)
         requires head { at ≡ nowhere → head < length self.old.firsts }
         requires place { (at ≡ nowhere → ⊥) → HasLink self.old at }
+        requires led { 0 < length self.old.links }
         requires fits { IsNumber self.old number }
         ensures written { IsRelinked (number_in self.old.firsts) (number_in self.old.links) head at number
             (number_in self.new.firsts) (number_in self.new.links) }
@@ -46,6 +47,7 @@ impl<A: Allocator + Copy> Heads<A> {
     pub(crate) fn note(&mut self, head: usize, at: usize, behind: usize, leads: bool)
         requires head { behind ≡ nowhere → head < length self.old.firsts }
         requires place { (behind ≡ nowhere → ⊥) → HasLink self.old behind }
+        requires led { 0 < length self.old.links }
         ensures none { at ≡ nowhere → self.new ≡ self.old }
         ensures written { (at ≡ nowhere → ⊥) → IsRewritten self.old self.new head behind }
         ensures leads { (at ≡ nowhere → ⊥) → leads ≡ true → low_of self.old < numbers_along self.new head behind }

@@ -15,7 +15,6 @@ impl<K: Eq + Hash, V, S: BuildHasher, A: Allocator + Copy> Nodes<K, V, S, A> {
     pub(crate) fn append(&mut self, hash: u64, place: usize)
         requires hash { HasHash (hash_of K.Hash S.BuildHasher S.Hasher.Hasher) hash place self.old }
         requires chained { IsChainedBut (hash_of K.Hash S.BuildHasher S.Hasher.Hasher) place self.old }
-        requires headed { 0 < length self.old.heads.firsts }
         requires linked { self.old.list.places ≤ length self.old.heads.links }
         requires named { self.old.list.places ≤ self.old.heads.bound }
         requires valid { IsValid self.old.list }

@@ -69,7 +69,6 @@ impl<K: Eq + Hash, V, S: BuildHasher, A: Allocator + Copy> Nodes<K, V, S, A> {
     /// Chains all keys, where each head is empty.
     fn relink(&mut self)
         requires free { (h : ℕ) → number_in self.old.heads.firsts h ≡ 0 }
-        requires some { 0 < length self.old.heads.firsts }
         requires linked { self.old.list.places ≤ length self.old.heads.links }
         requires named { self.old.list.places ≤ self.old.heads.bound }
         ensures chained { IsChainedAs (hash_of K.Hash S.BuildHasher S.Hasher.Hasher)

@@ -154,8 +154,7 @@ impl<K: Eq + Hash, V, S: BuildHasher, A: Allocator + Copy> Nodes<K, V, S, A> {
 
     /// The head of the key at a place.
     pub(crate) fn home(&self, place: usize) -> usize
-        requires place { IsLive self.now.list.entries place }
-        requires headed { 0 < length self.now.heads.firsts }
+        requires { IsLive self.now.list.entries place }
         ensures home { HasHome (hash_of K.Hash S.BuildHasher S.Hasher.Hasher) result place self.now }
         ensures valid { IsValid self.now.list }
     {

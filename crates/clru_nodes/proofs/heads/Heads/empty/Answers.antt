@@ -16,7 +16,7 @@ invariant_of-result g c =
       | inl t ↦
           let all = c.tags_above.ensures.narrow t in let bound = words.bound ∙ ap (λ b. cond b narrow nowhere) t in
           record {
-            sized = λ h. omega (arith, len, sum, enough, some);
+            sized = omega (arith, len, sum, enough, some);
             named = omega (arith, len, sum, enough, some);
             shaped = shaped_from size tags 31 power all;
             fits = omega (arith, all, bound, enough, some);
@@ -25,7 +25,7 @@ invariant_of-result g c =
       | inr f ↦
           let all = c.tags_above.ensures.wide f in let bound = words.bound ∙ ap (λ b. cond b narrow nowhere) f in
           record {
-            sized = λ h. omega (arith, len, sum, enough, some);
+            sized = omega (arith, len, sum, enough, some);
             named = omega (arith, len, sum, enough, some);
             shaped = shaped_from size tags 63 power all;
             fits = omega (arith, all, bound, enough, some);

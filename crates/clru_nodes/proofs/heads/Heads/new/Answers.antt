@@ -3,11 +3,11 @@ use Rattle.clru_nodes.proofs.heads.Heads.new.Goals as goal
 
 pub invariant_of-result : goal.invariant_of-result
 invariant_of-result g c =
-    let none = ap length c.new.ensures.items in
+    let one = ap length c.bare.ensures.numbers in
     record {
-      sized = λ some. omega (arith, some, none);
-      named = omega (arith, none);
-      shaped = record { low = 0; high = 31; masked = refl; tagged = refl };
-      fits = refl;
+      sized = omega (arith, one);
+      named = omega (arith, one);
+      shaped = record { low = 0; high = 63; masked = refl; tagged = refl };
+      fits = omega (arith, c.bare.ensures.bound);
       countable = omega arith;
     }

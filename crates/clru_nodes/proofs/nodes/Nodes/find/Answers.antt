@@ -43,11 +43,11 @@ is_other-requires-clause-tagged g c =
 pub is_other-requires-clause-live : goal.is_other-requires-clause-live
 is_other-requires-clause-live g c =
     let x = c.args.self.now in
-    λ off. (walk_alive c.loop-key.invariant.walk (λ a. none_at_start x.list c.is_empty.ensures.valid a.0) off).0
+    λ off. (walk_alive c.loop-key.invariant.walk (λ a. none_at_start x.list c.len-len.ensures.valid a.0) off).0
 
 pub returns-then-is_last-clause-absent : goal.returns-then-is_last-clause-absent
 returns-then-is_last-clause-absent g c =
-    let x = c.args.self.now in let valid = c.is_empty.ensures.valid in let i = c.loop-key.invariant in
+    let x = c.args.self.now in let valid = c.len-len.ensures.valid in let i = c.loop-key.invariant in
     let none = none_at_start x.list valid in
     absent_from g.Q.Equivalent.equivalent c.args.key x.list.entries valid.apart
     (λ p at. walk_last i.walk (λ a. none a.0) (λ off w. c.is_other.ensures.other c.loop-key-test.true off w.1)
@@ -59,14 +59,14 @@ returns-then-is_last-clause-absent g c =
 
 pub next-number-requires : goal.next-number-requires
 next-number-requires g c =
-    let x = c.args.self.now in let valid = c.is_empty.ensures.valid in let i = c.loop-key.invariant in
+    let x = c.args.self.now in let valid = c.len-len.ensures.valid in let i = c.loop-key.invariant in
     let off = i.hint.leads (c.is_last.ensures.more c.if-is_last.false) in
     let live = (walk_alive i.walk (λ a. none_at_start x.list valid a.0) off).0 in
     omega (arith, live_below x.list valid (place_named x.heads.bound c.loop-key.number) live, c.place-place.ensures, c.requires.indexed.linked)
 
 pub loop-key-smaller : goal.loop-key-smaller
 loop-key-smaller g c =
-    let x = c.args.self.now in let valid = c.is_empty.ensures.valid in let i = c.loop-key.invariant in
+    let x = c.args.self.now in let valid = c.len-len.ensures.valid in let i = c.loop-key.invariant in
     let next = place_named x.heads.bound c.loop-key.number in let f = steps_in x.heads c.head_of-head.result in
     let off = i.hint.leads (c.is_last.ensures.more c.if-is_last.false) in
     let new = c.next-number.ensures.number ∙ ap (number_in x.heads.links) c.place-place.ensures in
@@ -77,7 +77,7 @@ loop-key-smaller g c =
 
 pub loop-key-preserved : goal.loop-key-preserved
 loop-key-preserved g c =
-    let x = c.args.self.now in let es = x.list.entries in let valid = c.is_empty.ensures.valid in let i = c.loop-key.invariant in
+    let x = c.args.self.now in let es = x.list.entries in let valid = c.len-len.ensures.valid in let i = c.loop-key.invariant in
     let next = place_named x.heads.bound c.loop-key.number in let h = c.head_of-head.result in
     let none = none_at_start x.list valid in
     let off = i.hint.leads (c.is_last.ensures.more c.if-is_last.false) in

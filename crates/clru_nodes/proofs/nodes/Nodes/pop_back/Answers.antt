@@ -10,8 +10,8 @@ returns-in_err-place-clause-pair g c = let none = none_at_last c.args.self.now.l
 pub returns-in_err-place-clause-pairs : goal.returns-in_err-place-clause-pairs
 returns-in_err-place-clause-pairs g c = let none = none_at_last c.args.self.now.list.entries (sym c.in_err-place.ensures.place) in rw none refl
 
-pub home-head-requires-clause-place : goal.home-head-requires-clause-place
-home-head-requires-clause-place g c =
+pub home-head-requires : goal.home-head-requires
+home-head-requires g c =
     let l = last_at c.in_ok-place.place c.args.self.now.list.entries (sym c.in_ok-place.ensures.place) in
     (l.item, (held_last c.in_ok-place.ensures.valid.apart l).0)
 

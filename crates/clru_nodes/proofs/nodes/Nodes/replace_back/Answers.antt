@@ -17,8 +17,8 @@ unreachable-requires g c =
     let none = none_at_last es (sym c.back_idx.ensures.place ∙ c.in_default.is) in
     let some : 0 < length (pairs_of es) = c.requires.some in let no = rw none at some in absurd (omega arith)
 
-pub home-old_head-requires-clause-place : goal.home-old_head-requires-clause-place
-home-old_head-requires-clause-place g c =
+pub home-old_head-requires : goal.home-old_head-requires
+home-old_head-requires g c =
     let l = last_at c.in-Some.place c.args.self.now.list.entries (sym c.in-Some.ensures.place) in
     (l.item, (held_last c.back_idx.ensures.valid.apart l).0)
 

@@ -12,11 +12,6 @@ pub returns-in_err-place-clause-pairs : goal.returns-in_err-place-clause-pairs
 returns-in_err-place-clause-pairs g c =
     sym (none_removed g.Q.Equivalent.equivalent c.args.key (pairs_of c.args.self.now.list.entries) c.in_err-place.ensures.absent)
 
-pub head_of-head-requires : goal.head_of-head-requires
-head_of-head-requires g c =
-    let at = c.in_ok-place.ensures.found in let live = some_live c.in_ok-place.place c.args.self.now.list.entries (at.item, at.held) in
-    omega (arith, live, c.requires.indexed.held, c.requires.indexed.linked, c.requires.indexed.headed)
-
 pub remove-requires-clause-home : goal.remove-requires-clause-home
 remove-requires-clause-home g c =
     let x = c.args.self.now in let es = x.list.entries in let p = c.in_ok-place.place in
