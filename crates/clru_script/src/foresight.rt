@@ -25,8 +25,8 @@ struct Look<F: Drop> {
 pub(crate) fn run(world: &'static World, first: &Line, lines: &[Line], answers: &mut Answers) {
     let mut words = Words::new(first.call);
     let _name = words.next();
-    let list = read_keys(world, &mut words);
-    let Ok(ahead) = Foresight::new(&world.heap, &list.keys, world.hashing()) else {
+    let keys = read_keys(world, &mut words);
+    let Ok(ahead) = Foresight::new(&world.heap, &keys, world.hashing()) else {
         answers.nothing(world);
         return;
     };

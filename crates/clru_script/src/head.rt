@@ -1,6 +1,6 @@
 //! The first line of a block: what its subject is made of.
 
-use crate::words::{Words, Wrong, number_of};
+use crate::words::{Words, Wrong};
 
 /// std's hashes, or the first or the last number as the hash of all keys.
 #[derive(Clone, Copy)]
@@ -40,10 +40,6 @@ pub(crate) struct Head {
     /// How many entries it holds at first: the keys 0, 1, .. in this order, each with itself as its value, or with 0 where values
     /// weigh something.
     pub(crate) filled: usize,
-    /// How many calls are drawn, of how many caches, from where on.
-    pub(crate) calls: usize,
-    pub(crate) caches: usize,
-    pub(crate) seed: usize,
     /// The hash that it names, or `None` where the block is run under each of them.
     pub(crate) hash: Option<Hash>,
 }
@@ -60,9 +56,6 @@ impl Head {
             by_number: false,
             folded: false,
             filled: 0,
-            calls: 0,
-            caches: 1,
-            seed: 1,
             hash: None,
         }
     }
@@ -78,7 +71,6 @@ impl Head {
             "nodes",
             "store",
             "store_costs",
-            "drawn",
             "runs",
         ]
         .contains(&name);
@@ -104,8 +96,6 @@ impl Head {
             "refuse" => self.refuse = Some(words.number()),
             "fill" => self.filled = words.number(),
             "fold" => self.folded = true,
-            "seed" => self.seed = words.number(),
-            "caches" => self.caches = words.number(),
             "weigh" => {
                 self.weighs = true;
                 self.by_number = words.passes("number");
@@ -113,10 +103,7 @@ impl Head {
                     words.note(Wrong::NoSuchWord);
                 }
             }
-            _ => match number_of(word) {
-                Some(calls) => self.calls = calls,
-                None => words.note(Wrong::NoSuchWord),
-            },
+            _ => words.note(Wrong::NoSuchWord),
         }
     }
 }

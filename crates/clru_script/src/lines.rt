@@ -15,7 +15,7 @@ pub(crate) struct Line {
 }
 
 /// What begins a block of lines.
-const SUBJECTS: [&str; 17] = [
+const SUBJECTS: [&str; 16] = [
     "cache",
     "costs",
     "list",
@@ -29,7 +29,6 @@ const SUBJECTS: [&str; 17] = [
     "spans",
     "least",
     "foresight",
-    "drawn",
     "makers",
     "runs",
     "input",

@@ -14,7 +14,6 @@ use clru_list::FixedSizeList;
 use ration::Rationed;
 use std::alloc::Global;
 
-mod beside;
 mod change;
 mod lend;
 mod read;

@@ -3,7 +3,6 @@
 use crate::answers::Answers;
 use crate::fault::Fault;
 use crate::lines::Line;
-use crate::nodes::beside::{fill, holds, pairs_of, thin};
 use crate::nodes::kept::Kept;
 use crate::out::{Out, Told};
 use crate::subject::{Subject, run_lines};
@@ -12,7 +11,6 @@ use crate::world::World;
 use ration::Rationed;
 use std::alloc::{Allocator, Global};
 
-mod beside;
 mod kept;
 
 /// Nodes over memory that is counted.
@@ -62,26 +60,31 @@ fn say_pair(pair: Option<(u64, u64)>, out: &mut Out) {
 
 /// Says the pairs, front first.
 fn say_list<A: Allocator + Copy>(kept: &Kept<A>, world: &'static World, out: &mut Out) {
-    for pair in &pairs_of(kept, world) {
+    let mut pairs = Vec::new(world.alloc);
+    if kept.copy_to(&mut pairs).is_err() {
+        world.is_short.set(true);
+    }
+    for pair in &pairs {
         out.part(", ");
         say_pair(Some(*pair), out);
     }
     out.or("nothing");
 }
 
-/// Says whether many calls did as the list beside them.
-fn alike(alike: bool) -> Told {
-    Told::Word(if alike {
-        "as a list does"
-    } else {
-        "? the list does otherwise"
-    })
+/// Puts new keys in, each with a thousand more as its value, and answers whether all went in.
+fn fill<A: Allocator + Copy>(kept: &mut Kept<A>, from: usize, to: usize) -> bool {
+    for key in from as u64..to as u64 {
+        if !kept.put(key, key.wrapping_add(1000)) {
+            return false;
+        }
+    }
+    true
 }
 
 /// How many numbers a call takes.
 fn arity(name: &str) -> usize {
     match name {
-        "put" | "fill" | "thin" | "holds" => 2,
+        "put" | "fill" => 2,
         "take" | "get" | "touch" | "set_front" | "resize" => 1,
         _ => 0,
     }
@@ -103,9 +106,7 @@ fn made_call<A: Allocator + Copy>(
         "pop_back" => say_pair(kept.pop_back(), out),
         "front" => say_pair(kept.front(), out),
         "back" => say_pair(kept.back(), out),
-        "fill" => return out.told(alike(fill(kept, world, first, second))),
-        "thin" => return out.told(alike(thin(kept, world, first, second))),
-        "holds" => out.truth(holds(kept, world, first, second)),
+        "fill" => out.truth(fill(kept, first, second)),
         _ => return out.told(told_of(kept, name, first as u64, second as u64)),
     }
     true

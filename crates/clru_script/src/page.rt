@@ -6,9 +6,7 @@ use crate::lines::{Line, block_len, lines_of};
 use crate::out::Out;
 use crate::words::{Words, Wrong};
 use crate::world::World;
-use crate::{
-    cache, costs, drawn, foresight, list, makers, nodes, passes, report, requests, runs, store,
-};
+use crate::{cache, costs, foresight, list, makers, nodes, passes, report, requests, runs, store};
 use std::alloc::{AllocError, Global};
 
 /// The script with its answers, and how many of these are faults.
@@ -144,7 +142,6 @@ fn run(world: &'static World, block: &[Line], answers: &mut Answers) {
         "distances" => passes::run_distances(world, lines, answers),
         "spans" => passes::run_spans(world, lines, answers),
         "foresight" => foresight::run(world, first, lines, answers),
-        "drawn" => drawn::run(world, lines, answers),
         "runs" => runs::run(world, lines, answers),
         "input" => report::run(world, first, lines, answers),
         _ => answers.wrong = Some(Wrong::NothingMade),

@@ -118,9 +118,9 @@ fn request_all<S: BuildHasher, A: Allocator + Copy>(
     words: &mut Words,
     out: &mut Out,
 ) {
-    let list = read_keys(world, words);
-    for key in &list.keys {
-        if list.keys.len() > MOST {
+    let keys = read_keys(world, words);
+    for key in &keys {
+        if keys.len() > MOST {
             out.clear();
         }
         match pass.request(Key::new(world, key)) {
@@ -140,8 +140,8 @@ fn request_all_again<S: BuildHasher, A: Allocator + Copy>(
     words: &mut Words,
     out: &mut Out,
 ) {
-    let list = read_keys(world, words);
-    for text in &list.keys {
+    let keys = read_keys(world, words);
+    for text in &keys {
         let key = Key::new(world, text);
         match pass.request_again(&key) {
             Ok(distance) => say_again(distance, out),
@@ -228,9 +228,9 @@ fn request_sized<S: BuildHasher, A: Allocator + Copy>(
     words: &mut Words,
     out: &mut Out,
 ) {
-    let list = read_keys(world, words);
-    for text in &list.keys {
-        if list.keys.len() > MOST {
+    let keys = read_keys(world, words);
+    for text in &keys {
+        if keys.len() > MOST {
             out.clear();
         }
         match pass.request(key_of(world, text), weight_of(text, words)) {
@@ -258,8 +258,8 @@ fn request_sized_again<S: BuildHasher, A: Allocator + Copy>(
     words: &mut Words,
     out: &mut Out,
 ) {
-    let list = read_keys(world, words);
-    for text in &list.keys {
+    let keys = read_keys(world, words);
+    for text in &keys {
         let key = key_of(world, text);
         match pass.request_again(&key, weight_of(text, words)) {
             Ok(span) => say_again(span, out),

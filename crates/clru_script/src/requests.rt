@@ -6,8 +6,7 @@ use crate::lines::Line;
 use crate::misses::{misses_of, sizes_of};
 use crate::out::Out;
 use crate::pairs::Key;
-use crate::requested::{Requested, read_keys, stepped};
-use crate::simulated::searched;
+use crate::requested::read_keys;
 use crate::subject::{Subject, run_lines};
 use crate::words::{Words, Wrong, capacity_of};
 use crate::world::World;
@@ -33,7 +32,6 @@ impl Subject for Requests {
             "replay" => replayed(world, words, out),
             "misses" => misses_of(world, &read_keys(world, words), out),
             "sizes" => sizes_of(world, &read_keys(world, words), words, out),
-            "least" if words.passes("searched") => searches(world, words, out),
             "least" => least_of(world, &read_keys(world, words), out),
             _ => words.note(Wrong::NoSuchCall),
         }
@@ -53,7 +51,7 @@ fn replayed(world: &'static World, words: &mut Words, out: &mut Out) {
     let capacity = words.capacity();
     let list = read_keys(world, words);
     let mut keys = Vec::new(&world.owned);
-    for key in &list.keys {
+    for key in &list {
         if keys.push(Key::new(world, key)).is_err() {
             world.is_short.set(true);
         }
@@ -90,21 +88,21 @@ fn say_back(keys: &[Key], out: &mut Out) {
 }
 
 /// `least KEYS`: the least misses with room for 1, 2 and so on, up to where they stay the same.
-fn least_of(world: &'static World, list: &Requested, out: &mut Out) {
-    let Ok(foresight) = Foresight::new(&world.heap, &list.keys, world.hashing()) else {
+fn least_of(world: &'static World, keys: &[&'static str], out: &mut Out) {
+    let Ok(foresight) = Foresight::new(&world.heap, keys, world.hashing()) else {
         out.say("no memory");
         return;
     };
     say_rooms(&foresight, out);
     match foresight.least(capacity_of(3)) {
-        Ok(wanted) => say_beside(world, list, wanted, out),
+        Ok(wanted) => say_beside(world, keys, wanted, out),
         Err(_) => out.say("; no memory"),
     }
 }
 
 /// Says the least misses of the whole list with room for 3, where they are not those.
-fn say_beside(world: &'static World, list: &Requested, wanted: usize, out: &mut Out) {
-    match least(&world.heap, capacity_of(3), &list.keys, world.hashing()) {
+fn say_beside(world: &'static World, keys: &[&'static str], wanted: usize, out: &mut Out) {
+    match least(&world.heap, capacity_of(3), keys, world.hashing()) {
         Ok(misses) if misses == wanted => {}
         Ok(misses) => {
             out.count("; ? ", misses);
@@ -132,39 +130,4 @@ fn say_rooms<K: Eq, A: Allocator + Copy>(foresight: &Foresight<K, A>, out: &mut 
         }
     }
     out.count(" .. ", last);
-}
-
-/// Ten drawn requests of four keys.
-fn ten_keys(world: &World, state: &mut u64) -> Vec<u8> {
-    let mut keys = Vec::new(world.alloc);
-    for _ in 0..10usize {
-        *state = stepped(*state);
-        if keys.push(((*state >> 60) % 4) as u8).is_err() {
-            world.is_short.set(true);
-        }
-    }
-    keys
-}
-
-/// `least searched N seed S`: N drawn lists of ten requests of four keys, with room for 1, 2 and 3 of them in turn.
-fn searches(world: &'static World, words: &mut Words, out: &mut Out) {
-    let count = words.number();
-    let mut state = words.named("seed") as u64;
-    if words.passes("hash") {
-        let _name = words.word();
-    }
-    for row in 0..count {
-        let keys = ten_keys(world, &mut state);
-        let room = row % 3 + 1;
-        let wanted = searched(&keys, room);
-        match least(world.alloc, capacity_of(room), &keys, world.hashing()) {
-            Ok(misses) if misses == wanted => {}
-            Ok(_) => {
-                out.count("? another number than by a search, list ", row);
-                return;
-            }
-            Err(_) => out.is_short = true,
-        }
-    }
-    out.say("as searched");
 }

@@ -1,20 +1,20 @@
 //! Runs of calls, made by `clru_runs` on a cache of numbers: each line on one of its own. Its answer is those of its calls,
 //! and how many hashes and requests they cost.
 
-pub(crate) mod answers;
+mod answers;
 mod named;
+mod numbers;
 
 use crate::answers::Answers;
-use crate::drawn::numbers::{Counted, Of, is_whole, made};
-use crate::drawn::pairs::Pairs;
 use crate::lines::Line;
 use crate::out::Out;
 use crate::runs::answers::say_answer;
-use crate::runs::named::calls_of;
+use crate::runs::named::{any_calls_of, calls_of};
+use crate::runs::numbers::{ByNumber, Counted, Of, made};
 use crate::words::{Words, Wrong};
-use crate::world::World;
-use clru::ZeroWeightScale;
-use clru_runs::{Attempt, Perform, PlainCall, perform_all};
+use crate::world::{Cost, World};
+use clru::{WeightScale, ZeroWeightScale};
+use clru_runs::{Answer, Call, PlainCall, perform_all};
 use ration::Rationed;
 use std::alloc::{Allocator, Global};
 use std::hash::BuildHasher;
@@ -22,8 +22,11 @@ use std::hash::BuildHasher;
 /// The calls of a line.
 type Calls<A> = Vec<PlainCall<usize, usize>, A>;
 
-/// A cache of numbers that weigh nothing.
+/// A cache of numbers that weigh nothing, and
 type Plain<S, A> = Of<S, ZeroWeightScale, A>;
+
+/// one of numbers that weigh themselves.
+type Weighed<S, A> = Of<S, ByNumber, A>;
 
 /// Answers the lines of a block: each is a run of its own.
 pub(crate) fn run(world: &'static World, lines: &[Line], answers: &mut Answers) {
@@ -43,29 +46,50 @@ pub(crate) fn run(world: &'static World, lines: &[Line], answers: &mut Answers) 
 
 /// Makes the calls of a line on a new cache. The first word may say what the run meets.
 fn line_made(world: &'static World, words: &mut Words, out: &mut Out) {
-    if words.passes("fails") {
-        fails(world, words, out);
-    } else if let Some(mut cache) = filled(world, words) {
+    if world.head.weighs {
+        if let Some(mut cache) = filled(world, ByNumber, words) {
+            refuse(world, words);
+            weighed_run_of(
+                world,
+                &world.owned,
+                &mut cache,
+                any_calls_of(world, words),
+                out,
+            );
+        }
+    } else if let Some(mut cache) = filled(world, ZeroWeightScale, words) {
         if words.passes("puts") {
             puts(world, &mut cache, words, out);
-        } else if words.passes("refused") {
-            world.heap.refuse_after(0);
-            run_of(world, &world.owned, &mut cache, calls_of(world, words), out);
         } else if words.passes("unanswered") {
             unanswered(world, &world.owned, &mut cache, calls_of(world, words), out);
         } else {
+            refuse(world, words);
             run_of(world, &world.owned, &mut cache, calls_of(world, words), out);
         }
     }
 }
 
+/// `refused`: each request of the run is; `refused one N`: the one after the next N alone.
+fn refuse(world: &'static World, words: &mut Words) {
+    if words.passes("refused") {
+        if words.passes("one") {
+            world.heap.refuse_one_after(words.number() as u64);
+        } else {
+            world.heap.refuse_after(0);
+        }
+    }
+}
+
 /// A cache with the first entries.
-fn filled(world: &'static World, words: &mut Words) -> Option<Counted<ZeroWeightScale>> {
+fn filled<W: WeightScale<usize, usize> + Copy>(
+    world: &'static World,
+    scale: W,
+    words: &mut Words,
+) -> Option<Counted<W>> {
     let head = world.head;
-    let reserve = head.reserve.unwrap_or(0);
-    let mut cache = made(world, head.capacity, reserve, ZeroWeightScale)?;
+    let mut cache = made(world, head.capacity, head.reserve.unwrap_or(0), scale)?;
     for number in 0..head.filled {
-        if cache.put(number, number).is_err() {
+        if cache.put_with_weight(number, number, |_, _| {}).is_err() {
             words.note(Wrong::NotFilled);
         }
     }
@@ -81,10 +105,35 @@ fn run_of<S: BuildHasher, A: Allocator + Copy>(
     out: &mut Out,
 ) {
     let (before, asked) = (world.cost(), world.owned.asked());
-    let Ok(answers) = perform_all(owned, cache, calls) else {
-        out.is_short = true;
-        return;
-    };
+    match perform_all(owned, cache, calls) {
+        Ok(answers) => say_run(world, answers.as_slice(), before, asked, out),
+        Err(_) => out.is_short = true,
+    }
+}
+
+/// The same of calls that each cache has, where numbers weigh themselves.
+fn weighed_run_of<S: BuildHasher, A: Allocator + Copy>(
+    world: &'static World,
+    owned: A,
+    cache: &mut Weighed<S, A>,
+    calls: Vec<Call<usize, usize>, A>,
+    out: &mut Out,
+) {
+    let (before, asked) = (world.cost(), world.owned.asked());
+    match perform_all(owned, cache, calls) {
+        Ok(answers) => say_run(world, answers.as_slice(), before, asked, out),
+        Err(_) => out.is_short = true,
+    }
+}
+
+/// Says what the calls of a run answered and cost, since these were counted.
+fn say_run(
+    world: &World,
+    answers: &[Answer<usize, usize>],
+    before: Cost,
+    asked: u64,
+    out: &mut Out,
+) {
     let cost = world.cost().since(before);
     for (at, answer) in answers.iter().enumerate() {
         out.say(if at > 0 { "; " } else { "" });
@@ -150,58 +199,4 @@ fn puts_below(world: &'static World, end: usize) -> Calls<&'static Rationed<Glob
         }
     }
     calls
-}
-
-/// `fails K ..`: puts of these keys by closures, of which the first one fails, or the second, and so on, with and without a
-/// value written. After each, the cache holds what the list does.
-fn fails(world: &'static World, words: &mut Words, out: &mut Out) {
-    let mut keys = Vec::new(world.alloc);
-    for _ in 0..usize::MAX {
-        if words.is_empty() {
-            break;
-        }
-        if keys.push(words.number()).is_err() {
-            out.is_short = true;
-        }
-    }
-    let (mut calls, mut failed) = (0usize, 0usize);
-    for at in 0..=keys.len() {
-        for left in [None, Some(9)] {
-            if let Some(mut cache) = filled(world, words) {
-                failing(world, &mut cache, &keys, at, left, out);
-                calls = calls.wrapping_add(keys.len());
-                failed = failed.wrapping_add(usize::from(at < keys.len()));
-            }
-        }
-    }
-    out.number(calls);
-    out.count(" calls as a list answers, ", failed);
-    out.say(" failed");
-}
-
-/// Puts of keys, of which the one of a number fails.
-fn failing<S: BuildHasher, A: Allocator + Copy>(
-    world: &'static World,
-    cache: &mut Plain<S, A>,
-    keys: &[usize],
-    at: usize,
-    left: Option<usize>,
-    out: &mut Out,
-) {
-    let mut pairs = Pairs::new(world, world.head.capacity);
-    for (number, key) in keys.iter().enumerate() {
-        let attempt = if number == at {
-            Attempt::Fail(left)
-        } else {
-            Attempt::Store(number)
-        };
-        let wanted = pairs.perform_plain(&PlainCall::TryPutOrModify(*key, attempt));
-        let given = PlainCall::TryPutOrModify(*key, attempt).perform(cache);
-        if given != wanted || !is_whole(cache, &pairs) {
-            out.count("? call ", number);
-            out.count(", where this one fails: ", at);
-            out.say("; ");
-        }
-    }
-    out.is_short = out.is_short || pairs.is_short;
 }

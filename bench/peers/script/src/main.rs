@@ -17,7 +17,7 @@ use std::io::{read_to_string, stdin};
 /// What begins a block of lines, where it is not `list` alone.
 const SUBJECTS: &str =
     "cache costs list nodes store store_costs replay misses distances sizes spans least foresight \
-    drawn makers runs input";
+    makers runs input";
 
 /// A line of a script: what stands before the arrow, the call in it, and the answer where one stands.
 struct Line<'s> {

@@ -29,7 +29,7 @@ pub fn replay(capacity: usize, words: &[&str]) -> Option<String> {
     Some(format!("{}misses {} of {}", marks, misses, keys.len()))
 }
 
-/// The keys that a line names, or counts. Those that it draws are not known here.
+/// The keys that a line names, or counts.
 fn keys_of(words: &[&str]) -> Option<Vec<String>> {
     match *words {
         [ref keys @ .., "hash", _] => keys_of(keys),
@@ -41,7 +41,6 @@ fn keys_of(words: &[&str]) -> Option<Vec<String>> {
                     .collect(),
             )
         }
-        ["drawn", ..] => None,
         _ => Some(words.iter().map(|word| word.to_string()).collect()),
     }
 }

@@ -1,7 +1,6 @@
 //! The calls of a list that may change it.
 
 use crate::list::Numbers;
-use crate::list::beside::{fill, schedule};
 use crate::list::lend::{retain, retain_mut, swap, writes};
 use crate::out::{Out, Told};
 use crate::words::Words;
@@ -21,7 +20,6 @@ pub(crate) fn change<A: Allocator + Copy>(
         "push_front" => say_pushed(list.push_front(words.number() as u64), out),
         "push_back" => say_pushed(list.push_back(words.number() as u64), out),
         "fill" => fill(list, words.number(), out),
-        "schedule" => schedule(list, world, words.number(), out),
         "retain" => retain(list, world, words),
         "retain_mut" => retain_mut(list, world, words),
         "get_mut" | "front_mut" | "back_mut" => lend(list, name, words, out),
@@ -33,6 +31,22 @@ pub(crate) fn change<A: Allocator + Copy>(
         }
     }
     true
+}
+
+/// Pushes a number to the front where it is even, and else to the back, up to a length.
+fn fill<A: Allocator + Copy>(list: &mut Numbers<A>, len: usize, out: &mut Out) {
+    for number in list.len()..len {
+        let item = number as u64;
+        let pushed = if item % 2 == 0 {
+            list.push_front(item)
+        } else {
+            list.push_back(item)
+        };
+        if pushed.is_err() {
+            say_pushed(pushed, out);
+            return;
+        }
+    }
 }
 
 /// What a call tells, of a place or an index.
@@ -65,7 +79,7 @@ fn lend<A: Allocator + Copy>(list: &mut Numbers<A>, name: &str, words: &mut Word
 }
 
 /// Says the place of a push, or why it was refused, with the item that came back.
-pub(crate) fn say_pushed(pushed: Result<usize, PushError<u64>>, out: &mut Out) {
+fn say_pushed(pushed: Result<usize, PushError<u64>>, out: &mut Out) {
     match pushed {
         Ok(place) => out.number(place),
         Err(PushError::Full(item)) => out.count("full, back ", item as usize),

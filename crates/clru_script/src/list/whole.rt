@@ -39,7 +39,7 @@ fn is_linked<A: Allocator + Copy>(
 }
 
 /// Whether a place has this item, and this one before it.
-pub(crate) fn is_behind<A: Allocator + Copy>(
+fn is_behind<A: Allocator + Copy>(
     list: &Numbers<A>,
     place: usize,
     before: Option<usize>,

@@ -151,22 +151,6 @@ impl<A: Allocator + Copy> Kept<A> {
         Ok(())
     }
 
-    /// Whether the nodes have these pairs and no other, front first: from the front, from the back, and by each key.
-    pub(crate) fn has(&self, pairs: &[(u64, u64)]) -> bool {
-        let (mut forward, mut backward) = (self.nodes.iter(), self.nodes.iter());
-        for ((key, value), last) in pairs.iter().zip(pairs.iter().rev()) {
-            let shown = shown_of(forward.next());
-            let other = shown_of(backward.next_back());
-            if shown != Some((*key, *value)) || other != Some(*last) {
-                return false;
-            }
-            if self.get(*key) != Some(*value) {
-                return false;
-            }
-        }
-        forward.next().is_none() && backward.next_back().is_none() && self.len() == pairs.len()
-    }
-
     /// What is wrong with the nodes, if anything: the look-up of each key, their number, and their ends.
     pub(crate) fn fault(&self) -> Option<Fault> {
         let mut count = 0usize;

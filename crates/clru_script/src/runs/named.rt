@@ -23,6 +23,30 @@ pub(crate) fn calls_of(
     calls
 }
 
+/// The same of calls that each cache has.
+pub(crate) fn any_calls_of(
+    world: &'static World,
+    words: &mut Words,
+) -> Vec<Call<usize, usize>, &'static Rationed<Global>> {
+    let mut calls = Vec::new(&world.owned);
+    for _ in 0..usize::MAX {
+        let Some(name) = words.next() else {
+            break;
+        };
+        let call = match next_call(name, words) {
+            PlainCall::Any(call) => call,
+            _ => {
+                words.note(Wrong::NoSuchCall);
+                Call::Len
+            }
+        };
+        if calls.push(call).is_err() {
+            world.is_short.set(true);
+        }
+    }
+    calls
+}
+
 /// A call of that name, with what follows it.
 fn next_call(name: &str, words: &mut Words) -> PlainCall<usize, usize> {
     if name == "try_put_or_modify" {
