@@ -1,7 +1,6 @@
 //! The tests of the Rust crate under their own names, each with its cases: who knows that crate looks for them here. They
 //! differ where docs/DIFFERENCES.md says so. Beside them stands what needs keys or a walk of its own: a caller that counts
-//! words, texts that a script can't write, another hash builder, a cursor over very many entries. Rows under each hash
-//! builder are scripts.
+//! words, texts that a script can't write, a cursor over very many entries. Rows under each hash builder are scripts.
 #![tactic(auto)]
 
 #[cfg(test)]

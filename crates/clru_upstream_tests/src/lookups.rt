@@ -1,4 +1,4 @@
-//! Look-ups, for writing too, with keys that own memory, and with another hash builder.
+//! Look-ups, for writing too, and with keys that own memory.
 
 use crate::caches::{GREEN, RED, YELLOW};
 use crate::steps::Step::{
@@ -9,8 +9,6 @@ use assertions::equal;
 use clru::CLruCache;
 use clru_fixtures::sizes::capacity_of;
 use std::alloc::Global;
-use std::hash::{BuildHasherDefault, FoldHasher};
-use std::test::Fail;
 
 static INSERT_AND_GET_MUT: &[Step] = &[Puts(FRUITS), Sizes(2, 2, false, true), GetsMut(FRUITS)];
 
@@ -102,19 +100,4 @@ fn test_get_with_borrow(rt: HostRuntime) {
 #[test]
 fn test_get_mut_with_borrow(rt: HostRuntime) {
     equal!(rt; found(rt.alloc(), true), Some("red"));
-}
-
-type Folded = CLruCache<&'static str, u64, BuildHasherDefault<FoldHasher>>;
-
-#[test]
-fn a_cache_takes_another_hash_builder(rt: HostRuntime) -> Result<(), Fail> {
-    let builder = BuildHasherDefault::<FoldHasher>::new();
-    let mut cache = CLruCache::with_hasher(rt.alloc(), capacity_of(2)?, builder);
-    equal!(rt; finds(&mut cache), Some(3));
-    Ok(())
-}
-
-fn finds(cache: &mut Folded) -> Option<u64> {
-    let _ = cache.put("apple", 3);
-    cache.get(&"apple").copied()
 }

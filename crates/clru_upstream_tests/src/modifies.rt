@@ -25,17 +25,6 @@ pub(crate) fn modifies(cache: &mut Numbers, key: &'static str, base: Option<u64>
     }
 }
 
-/// Puts a value or writes it to the held one, and then writes to what is lent.
-pub(crate) fn writes_lent(cache: &mut Numbers, key: &'static str, value: u64, new: u64) -> bool {
-    match cache.put_or_modify(key, |_, new| new, |_, value, new| *value = new, value) {
-        Ok(lent) => {
-            *lent = new;
-            true
-        }
-        Err(_) => false,
-    }
-}
-
 /// Odd data is the error.
 fn even(data: u64) -> Result<u64, u64> {
     if data % 2 == 1 { Err(data) } else { Ok(data) }

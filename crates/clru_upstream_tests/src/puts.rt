@@ -1,9 +1,7 @@
 //! Puts, with closures too.
 
 use crate::caches::{GREEN, RED, YELLOW};
-use crate::steps::Step::{
-    self, Gets, GetsNone, Is, Modifies, Puts, Replaces, Sizes, Tries, WritesLent,
-};
+use crate::steps::Step::{self, Gets, GetsNone, Is, Modifies, Puts, Replaces, Sizes, Tries};
 use crate::steps::{FRUITS, plain};
 use assertions::equal;
 use clru::TryPutError;
@@ -61,17 +59,6 @@ static PUT_OR_MODIFY: &[Step] = &[
 #[test]
 fn test_put_or_modify(rt: HostRuntime) {
     equal!(rt; plain(rt.alloc(), 2, PUT_OR_MODIFY), None);
-}
-
-static WRITES_LENT: &[Step] = &[
-    Puts(&[("a", 1), ("b", 2)]),
-    WritesLent("a", 7, 8),
-    Is(&[("a", 8), ("b", 2)]),
-];
-
-#[test]
-fn a_lent_value_can_be_written(rt: HostRuntime) {
-    equal!(rt; plain(rt.alloc(), 2, WRITES_LENT), None);
 }
 
 static TRY_PUT_OR_MODIFY: &[Step] = &[

@@ -4,11 +4,11 @@ use crate::caches::{
     End, Numbers, Pairs, RED, Walk, YELLOW, get, gets, is, put, puts, resized, sizes, walks,
 };
 use crate::cursors::{lends, takes_one, walks_twice};
-use crate::modifies::{modifies, tries, writes_lent};
+use crate::modifies::{modifies, tries};
 use crate::steps::Step::{
     Clear, Contains, Gets, GetsMut, GetsNone, Is, Lends, Modifies, Peeks, PeeksMut, PeeksMutNone,
     PeeksNone, Pop, Puts, Replaces, Resize, Retain, RetainMut, Sizes, TakesOne, Tries, Walks,
-    WalksTwice, Writes, WritesLent,
+    WalksTwice, Writes,
 };
 use clru::{CLruCache, TryPutError};
 use clru_fixtures::sizes::capacity_of;
@@ -57,8 +57,6 @@ pub(crate) enum Step {
     TakesOne(End),
     /// Puts or modifies a key by its length and a base: the value that is lent.
     Modifies(&'static str, Option<u64>, u64),
-    /// Puts a value in this way, or writes it to the held one, and another to what is lent.
-    WritesLent(&'static str, u64, u64),
     /// Puts or modifies a key by closures that fail where the number is odd.
     Tries(&'static str, u64, Tried),
 }
@@ -89,7 +87,6 @@ fn plain_step(cache: &mut Numbers, step: &Step) -> bool {
         Puts(pairs) => puts(cache, pairs),
         Replaces(key, value, old) => put(cache, key, *value) == Some(Some(*old)),
         Modifies(key, base, value) => modifies(cache, key, *base) == Some(*value),
-        WritesLent(key, value, new) => writes_lent(cache, key, *value, *new),
         Tries(key, data, answer) => tries(cache, key, *data) == *answer,
         _ => finds(cache, step),
     }
