@@ -1,5 +1,6 @@
 /* Sees each code of each call, that nothing was written with one, what memory is asked for, that no block is left behind, and that
- * all calls agree. Link it with --wrap=malloc, --wrap=realloc and --wrap=free, since it refuses memory and counts it. */
+ * all calls agree; answers.c has the numbers. Link it with --wrap=malloc, --wrap=realloc and --wrap=free, since it refuses memory
+ * and counts it. */
 #include "clru.h"
 
 #include <stdio.h>
@@ -129,16 +130,16 @@ static void codes_of_arguments(void) {
     expect(untouched(), "something was written with a code");
 }
 
-static uint32_t call(int which) {
+static uint32_t call(int which, uint64_t low) {
     switch (which) {
     case 0:
-        return clru_hits_at(keys, KEYS, 3, 0, 0, hits, KEYS, &number);
+        return clru_hits_at(keys, KEYS, 3, low, 0, hits, KEYS, &number);
     case 1:
-        return clru_misses_by_capacity(keys, KEYS, 0, 0, misses, KEYS, &number);
+        return clru_misses_by_capacity(keys, KEYS, low, 0, misses, KEYS, &number);
     case 2:
-        return by_size(KEYS, KEYS, KEYS);
+        return clru_misses_by_size(keys, KEYS, sizes, KEYS, capacities, KEYS, low, 0, misses, KEYS, missed_sizes, KEYS, &number);
     default:
-        return clru_least_by_room(keys, KEYS, rooms, 2, 0, 0, least, 2);
+        return clru_least_by_room(keys, KEYS, rooms, 2, low, 0, least, 2);
     }
 }
 
@@ -148,14 +149,14 @@ static const struct {
     size_t requests, bytes;
 } needs[4] = {{"hits", 3, 644}, {"misses", 21, 24848}, {"misses by size", 31, 57296}, {"least", 30, 28976}};
 
-/* Refuses each request for memory in turn, until the call meets no refusal. */
-static void code_of_refused_memory(void) {
+/* Refuses each request for memory in turn with all behind it, until the call meets no refusal. */
+static void code_of_refused_memory(uint64_t low) {
     for (int which = 0; which < 4; which++) {
         for (size_t granted = 0;; granted++) {
             reset();
             asked = asked_bytes = 0;
             passing = granted;
-            uint32_t code = call(which);
+            uint32_t code = call(which, low);
             passing = (size_t)-1;
             if (code == CLRU_OK) {
                 break;
@@ -219,7 +220,8 @@ int main(void) {
     sizes[0] = LARGEST;
     codes_of_arguments();
     codes_of_sizes();
-    code_of_refused_memory();
+    code_of_refused_memory(0);
+    code_of_refused_memory(1);
     calls_agree(0);
     calls_agree(0x1234567890abcdefu);
     no_keys();

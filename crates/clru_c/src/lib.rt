@@ -8,5 +8,3 @@ mod codes;
 mod exports;
 mod keyed;
 mod sized;
-#[cfg(test)]
-mod tests;
