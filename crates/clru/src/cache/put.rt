@@ -24,7 +24,8 @@ where
     /// the capacity or more is refused as too heavy, whether its key is held or not. A refused pair comes back, and
     /// `on_drop` is not called. No memory is taken for handing them out.
     /// Cost: one weighing, one hash and two walks along one chain; for the old value of its key a walk and a weighing more, and
-    /// for each pair that it drops a hash, a walk and a weighing. A growth asks for memory twice and hashes each held key once.
+    /// for each pair that it drops a hash, a walk and a weighing. A growth asks for memory twice and hashes each held key once,
+    /// or asks once and hashes none where the index has room.
     ///
     /// ```rust
     /// match pages.put_with_weight(page, bytes, |_, _| {}) {
@@ -113,7 +114,7 @@ impl<K: Eq + Hash, V, S: BuildHasher, A: Allocator + Copy> CLruCache<K, V, S, Ze
     /// A new entry drops, or evicts, the least recently used one of a full cache. Where memory is refused, the pair comes
     /// back.
     /// Cost: one hash and a walk along one chain, for a new key two walks; where it drops a pair, one hash and one walk more.
-    /// A growth asks for memory twice and hashes each held key once.
+    /// A growth asks for memory twice and hashes each held key once, or asks once and hashes none where the index has room.
     pub fn put(&mut self, key: K, value: V) -> Result<Put<K, V>, (K, V)>
     where
         K: Drop,

@@ -49,7 +49,7 @@ impl<K: Eq + Hash, V, S: BuildHasher, A: Allocator + Copy> Nodes<K, V, S, A> {
         self.list.make_ready()
     }
 
-    /// Finds memory for the heads of so many places, and chains all keys anew, unless there are as many.
+    /// Finds memory for the heads of so many places, or of more, and chains all keys anew, unless there are as many.
     fn make_heads(&mut self, places: usize) -> Result<(), NoMemory>
         requires some { 0 < places }
         requires indexed { IsIndexed (hash_of K.Hash S.BuildHasher S.Hasher.Hasher) self.old }
@@ -61,9 +61,22 @@ impl<K: Eq + Hash, V, S: BuildHasher, A: Allocator + Copy> Nodes<K, V, S, A> {
         if places <= self.heads.link_count() {
             return Ok(());
         }
-        self.heads = self.heads.another(places)?;
+        self.heads = self.heads.another(self.headed(places))?;
         self.relink();
         Ok(())
+    }
+
+    /// For how many places heads are made where so many are wanted. From a quarter of the capacity on it is all of it, so that
+    /// while these nodes fill up no key is chained anew once more.
+    fn headed(&self, places: usize) -> usize
+        ensures { places ≤ result }
+    {
+        let capacity = self.list.capacity();
+        if places < capacity / 4 {
+            places
+        } else {
+            places.max(capacity)
+        }
     }
 
     /// Chains all keys, where each head is empty.
