@@ -1,9 +1,10 @@
 -- Where the lines of an input begin and end.
-use Rattle.std.proofs.Common.{◌≡◌, ℕ, zero, suc, ◌+◌, ◌<◌, ◌≤◌, Bool, true, false, cond, not, List, [], ◌∷◌, ◌++◌, None, Some, length, get_or, rules, take, drop, take-append-drop, drop-cons, length-append, add-one, refl, sym, ap, ◌∙◌, arith}
+use Rattle.std.proofs.Common.{◌≡◌, ℕ, zero, suc, ◌+◌, ◌<◌, ◌≤◌, ◌-◌, Bool, true, false, cond, not, List, [], ◌∷◌, ◌++◌, None, Some, length, get_or, rules, take, drop, take-append-drop, drop-cons, length-append, length-drop, add-one, refl, sym, ap, ◌∙◌, arith}
 use Rattle.std.specs.Prelude.{◌==◌, position}
 use Rattle.std.proofs.Math.Seq.{take-append_seam, drop-append-add}
 use Rattle.std.specs.List.{slice_split, position_or_len, before_first, after_first}
 use Rattle.std.proofs.lemmas.Bool.Decides.{nat_tests}
+use Rattle.std.proofs.lemmas.List.{take_all}
 use Rattle.std.proofs.lemmas.List.Quantifiers.{position-Some}
 use Rattle.std.proofs.lemmas.List.Sums.{fails_before_first, position_or_len_is}
 use Rattle.std.proofs.lemmas.List.Splits.{slice_split_first, slice_split_none, length-slice_split}
@@ -24,6 +25,24 @@ lines_of_parts-one (b ∷ bs) h = refl
 -- where `position` gives none, no element passes
 position-None : {X : Type 0} (p : X → Bool) (xs : List X) → position p xs ≡ None → length xs ≤ position_or_len p xs
 position-None p xs h = grind (arith, nat_tests)
+
+-- the first element that passes is what `position` gives, and it gives none where all are before it
+pub position-is : {X : Type 0} (p : X → Bool) (xs : List X) (at : ℕ) → position_or_len p xs ≡ at → at < length xs → position p xs ≡ Some at
+position-is p xs at is within = grind (arith, nat_tests)
+
+pub position-is_none : {X : Type 0} (p : X → Bool) (xs : List X) → length xs ≤ position_or_len p xs → position p xs ≡ None
+position-is_none p xs past = grind (arith, nat_tests)
+
+-- what stands behind the first elements tells of all, where none of these passes
+pub position_behind : {X : Type 0} (p : X → Bool) (xs : List X) (start n : ℕ) → start ≤ length xs → length xs ≤ start + n
+    → position_or_len p xs ≡ start + position_or_len p (drop start xs)
+    → ((at : ℕ) → position p (take n (drop start xs)) ≡ Some at → position p xs ≡ Some (start + at)) × (position p (take n (drop start xs)) ≡ None → position p xs ≡ None)
+position_behind p xs start n within all shift =
+    let len : length (drop start xs) ≡ length xs - start = length-drop start xs in
+    let same : take n (drop start xs) ≡ drop start xs = take_all n (drop start xs) (omega arith) in (
+      (λ at h. let some : position p (drop start xs) ≡ Some at = rw (← same) h in position-is p xs (start + at) (grind (arith, nat_tests)) (grind (arith, nat_tests))),
+      (λ h. let none : position p (drop start xs) ≡ None = rw (← same) h in let late = position-None p (drop start xs) none in position-is_none p xs (omega arith)),
+    )
 
 -- the first newline ends the first line
 pub lines_of-at : (bytes : List ℕ) (at : ℕ) → position (λ b. b == 10) bytes ≡ Some at

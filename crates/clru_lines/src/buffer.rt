@@ -4,7 +4,7 @@ ghost use Rattle.std.specs.Io.KnownBytes.{Consumes, IsAtEnd};
 ghost use Rattle.clru_lines.specs.Told.{HasRead, HasTold, IsFree};
 
 use crate::input::ReadError;
-use crate::lines::newline_at;
+use crate::newline::newline_at;
 use std::alloc::{Allocator, Global};
 use std::io::Read;
 use std::marker::Model;

@@ -10,6 +10,7 @@ mod buffer;
 mod capacity;
 mod input;
 mod lines;
+mod newline;
 mod output;
 
 pub use buffer::LineBuffer;

@@ -1,5 +1,5 @@
 //! The lines of the input, each a key without a copy of its bytes.
-ghost use Rattle.std.specs.Prelude.{◌≡◌, ◌==◌, ◌<◌, ◌⊎◌, [], ◌∷◌, ◌++◌, map, length, position, IfOk, IfSome, IfNone};
+ghost use Rattle.std.specs.Prelude.{◌≡◌, ◌<◌, ◌⊎◌, [], ◌∷◌, ◌++◌, map, length, IfOk, IfSome, IfNone};
 ghost use Rattle.std.specs.Cmp.{on_equiv, on_per, partial_equiv_from_equiv};
 ghost use Rattle.std.specs.Cmp.Lexicographic.{nat_list_eq_equiv};
 ghost use Rattle.std.specs.Cmp.Rules.{hashing};
@@ -7,6 +7,7 @@ ghost use Rattle.std.specs.Str.{bytes_eq};
 ghost use Rattle.std.proofs.Common.{rules};
 ghost use Rattle.clru_lines.specs.Lines.{lines_of};
 
+use crate::newline::newline_at;
 use std::alloc::{AllocError, Allocator, Global};
 use std::hash::{Hash, Hasher};
 
@@ -52,13 +53,6 @@ impl<'a> Hash for Key<'a> {
     fn hash<H: Hasher>(&self, state: &mut H) {
         state.write(self.0);
     }
-}
-
-/// Where the first newline stands.
-pub(crate) fn newline_at(bytes: &[u8]) -> Option<usize>
-    ensures { result ≡ position (λ b. b == 10) bytes.now }
-{
-    bytes.iter().position(|byte| *byte == b'\n')
 }
 
 /// The first line of the bytes and what follows its newline, or `None` where there is no line.

@@ -1,5 +1,5 @@
 //! The text of the report, taken whole before any of it is written.
-ghost use Rattle.std.specs.Prelude.{◌≡◌, ◌⊎◌, Err, Some, None, IfOk, IfErr, IsSome, string_bytes};
+ghost use Rattle.std.specs.Prelude.{◌≡◌, ◌⊎◌, ◌+◌, Err, Some, None, IfOk, IfErr, IsSome, string_bytes};
 ghost use Rattle.clru_replay.specs.Report.{misses_line, report, text_of};
 
 use crate::fault::Fault;
@@ -40,15 +40,29 @@ fn report_text<A: Allocator + Copy>(
 ) -> Result<Vec<u8, A>, AllocError>
     ensures { IfOk result (λ text. text.items ≡ text_of marks.now misses) }
 {
-    let mut text = Vec::new(alloc);
+    let last = last_line(alloc, misses)?;
+    let mut text = Vec::with_capacity(alloc, text_len(marks.len(), last.len())?)?;
     for hit in marks {
         // By an index: a branch on a mark is guessed wrong half of the time.
         let mark = [b'M', b'H'][*hit as usize];
-        text.extend_from_slice(&[mark, b'\n'])?;
+        text.push_reserved(mark);
+        text.push_reserved(b'\n');
     }
-    let last = last_line(alloc, misses)?;
     text.extend_from_slice(last.as_bytes())?;
     Ok(text)
+}
+
+// The length of a text of so many marks and of a last line with so many bytes.
+fn text_len(marks: usize, last: usize) -> Result<usize, AllocError>
+    ensures { IfOk result (λ len. len ≡ marks + marks + last) }
+{
+    let Some(lines) = marks.checked_add(marks) else {
+        return Err(AllocError);
+    };
+    let Some(len) = lines.checked_add(last) else {
+        return Err(AllocError);
+    };
+    Ok(len)
 }
 
 fn last_line<A: Allocator + Copy>(alloc: A, misses: usize) -> Result<String<A>, AllocError>

@@ -52,20 +52,20 @@ const HEAD: u64 = 6;
 fn a_run_asks_for_what_its_input_needs(rt: HostRuntime) -> Result<(), Fail> {
     let large = lines(rt.alloc(), 600_000, [b"1", b"\na", b""])?;
     // Room for the input, the keys, places, heads and marks, the report, and its last line.
-    let small = 65_536 + 4 * 16 + 2 * PLACE + 4 * HEAD + 4 + (8 + 17) + (8 + 16);
-    // Input, keys and report double from 65,536, 4 and 8: six, 19 and 19 times.
+    let small = 65_536 + 4 * 16 + 2 * PLACE + 4 * HEAD + 4 + (4 * 2 + 9) + (8 + 16);
+    // Input and keys double from 65,536 and 4: six and 19 times. The report is asked for once.
     let input = 65_536 * 63;
     let keys = 16 * 4 * 524_287;
-    let report = 8 * 524_287;
+    let report = 600_000 * 2 + 9;
     let most = input + keys + PLACE + 2 * HEAD + 600_000 + report + (8 + 16);
     let offers = [
         65_536, 65_536, 131_072, 262_144, 524_288, 1_048_576, 897_151,
     ];
     let rows = [
-        (FOUR, 1 + 1 + 3 + 2 + 2, small, [65_536, 65_527].as_slice()),
+        (FOUR, 1 + 1 + 3 + 1 + 2, small, [65_536, 65_527].as_slice()),
         (
             large.as_slice(),
-            6 + 19 + 3 + 19 + 2,
+            6 + 19 + 3 + 1 + 2,
             most,
             offers.as_slice(),
         ),

@@ -1,0 +1,57 @@
+//! Where the first newline stands. Eight bytes are looked at together and without a branch on each: at which byte a line ends
+//! would be guessed wrong at most lines.
+ghost use Rattle.std.specs.Prelude.{◌≡◌, ◌==◌, ◌+◌, ◌<◌, ◌≤◌, length, position};
+ghost use Rattle.clru_lines.specs.Newlines.{IsFirstOfEight};
+
+pub(crate) fn newline_at(bytes: &[u8]) -> Option<usize>
+    ensures { result ≡ position (λ b. b == 10) bytes.now }
+{
+    let mut start = 0;
+    while bytes.len() - start >= 8 {
+        let at = first_of_eight(bytes, start);
+        if at < 8 {
+            return Some(start + at);
+        }
+        start += 8;
+    }
+    match newline_in(&bytes[start..]) {
+        Some(at) => Some(start + at),
+        None => None,
+    }
+}
+
+fn newline_in(bytes: &[u8]) -> Option<usize>
+    ensures { result ≡ position (λ b. b == 10) bytes.now }
+{
+    bytes.iter().position(|byte| *byte == b'\n')
+}
+
+/// How many of the eight bytes from `start` on stand before the first newline.
+fn first_of_eight(bytes: &[u8], start: usize) -> usize
+    requires { start + 8 ≤ length bytes.now }
+    ensures { IsFirstOfEight bytes.now start 0 result }
+{
+    let at = or_here(bytes, start, 7, 8);
+    let at = or_here(bytes, start, 6, at);
+    let at = or_here(bytes, start, 5, at);
+    let at = or_here(bytes, start, 4, at);
+    let at = or_here(bytes, start, 3, at);
+    let at = or_here(bytes, start, 2, at);
+    let at = or_here(bytes, start, 1, at);
+    or_here(bytes, start, 0, at)
+}
+
+/// The same of those from `index` on, by what is known of those behind it.
+#[inline(always)]
+fn or_here(bytes: &[u8], start: usize, index: usize, behind: usize) -> usize
+    requires within { start + index < length bytes.now }
+    requires eight { index < 8 }
+    requires behind { IsFirstOfEight bytes.now start (index + 1) behind }
+    ensures { IsFirstOfEight bytes.now start index result }
+{
+    if bytes[start + index] == b'\n' {
+        index
+    } else {
+        behind
+    }
+}
