@@ -147,7 +147,7 @@ static uint32_t call(int which, uint64_t low) {
 static const struct {
     const char *name;
     size_t requests, bytes;
-} needs[4] = {{"hits", 3, 644}, {"misses", 21, 24848}, {"misses by size", 31, 57296}, {"least", 30, 28976}};
+} needs[4] = {{"hits", 3, 644}, {"misses", 20, 24656}, {"misses by size", 30, 57104}, {"least", 30, 28976}};
 
 /* Refuses each request for memory in turn with all behind it, until the call meets no refusal. */
 static void code_of_refused_memory(uint64_t low) {

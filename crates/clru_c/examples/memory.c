@@ -183,9 +183,9 @@ static void see_many(void) {
     held_by(clru_hits_at(keys, MANY, MANY, 0, 0, hits, MANY, &number));
     see_asked("hits", 3, 3882864);
     curve(MANY);
-    see_asked("misses", 64, 13694992);
+    see_asked("misses", 63, 13694800);
     curve_by_size(MANY);
-    see_asked("misses by size", 58, 16977424);
+    see_asked("misses by size", 57, 16977232);
     held_by(clru_least_by_room(keys, MANY, &room, 1, 0, 0, &least, 1));
     see_asked("least", 60, 5497568);
 }
