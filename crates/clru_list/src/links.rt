@@ -224,8 +224,8 @@ impl<T, A: Allocator> Links<T, A> {
         }
     }
 
-    #[cold]
-    #[inline(never)]
+    // In line, though it is seldom run: by a call a look-up in a loop would keep what it counts on the stack.
+    #[inline(always)]
     fn bring_front_wide(&mut self, place: usize)
         requires place { place < vec_len self.old.nodes }
         requires prev { (links_of self.old).prev place < vec_len self.old.nodes }
