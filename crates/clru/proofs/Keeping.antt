@@ -4,7 +4,9 @@ use Rattle.std.specs.Cmp.{IsEquivalence}
 use Rattle.std.specs.List.{AllByRecursion, IsDistinct}
 use Rattle.std.specs.Map.{keys_of, lookup, lookup_entry, remove_entry}
 use Rattle.std.proofs.lemmas.Map.{NonePasses, none_passes_from_lookup}
-use Rattle.std.proofs.lemmas.Map.Keys.{IsDistinct-cons}
+use Rattle.std.proofs.lemmas.List.Sorted.{IsPermutation-map, length_permutation, sum_by-IsPermutation}
+use Rattle.std.proofs.lemmas.Map.Keys.{IsDistinct-cons, IsDistinct-IsPermutation}
+use Rattle.std.specs.List.Sorted.{IsPermutation}
 use Rattle.clru_model.specs.Entries.{weight_of, size_of, touch, fit}
 use Rattle.clru_model.proofs.Weights.{weight_of-cons, weight_of-zero}
 use Rattle.clru_model.proofs.Lookups.{lookup-without}
@@ -53,16 +55,6 @@ module _ {K V : Type 0} {eq : K → K → Bool} (weight : K → V → ℕ) where
     fits = rw (weight_of-cons weight e fs) (omega (arith, fits));
   }
 
-module _ {K V : Type 0} (weight : K → V → ℕ) where
-  -- a touch changes no weight
-  pub weight_of-touch : {X : Type 0} (eq : X → K → Bool) (x : X) (es : List (K × V)) → weight_of weight (touch eq x es) ≡ weight_of weight es
-  weight_of-touch eq x es =
-      (elim (lookup_entry (eq x) es) as (λ o. lookup_entry (eq x) es ≡ o → weight_of weight (touch eq x es) ≡ weight_of weight es) [
-        | None ↦ λ e. ap (weight_of weight) (touch-missed eq x (missed_at (eq x) (sym e)))
-        | Some d ↦ λ e. let h = held_at (eq x) (sym e) in
-            omega (arith, ap (weight_of weight) (touch-held eq x h), weight_of-cons weight h.entry (remove_entry (eq x) es), weight_of-held (eq x) weight h)
-      ]) refl
-
 module _ {K V : Type 0} {eq : K → K → Bool} (weight : K → V → ℕ) where
   -- when the entry that is found gets another value of the same weight and comes first
   pub IsKept-front : {es : List (K × V)} {c : ℕ} (x : K) (v : V) → IsEquivalence eq → IsKept eq weight es c
@@ -72,25 +64,12 @@ module _ {K V : Type 0} {eq : K → K → Bool} (weight : K → V → ℕ) where
       IsKept-put weight x (h.entry.0, v) laws old (sublist_remove_entry (eq x) es) (lookup-without laws x es old.distinct) h.passes
       (omega (arith, weight_of-held (eq x) weight h, alike, h.shorter, old.fits))
 
-  -- when it comes first as it is, or none is found
-  pub IsKept-touch : {es : List (K × V)} {c : ℕ} (x : K) → IsEquivalence eq → IsKept eq weight es c → IsKept eq weight (touch eq x es) c
-  IsKept-touch {es} {c} x laws old =
-      (elim (lookup_entry (eq x) es) as (λ o. lookup_entry (eq x) es ≡ o → IsKept eq weight (touch eq x es) c) [
-        | None ↦ λ e. subst (λ l. IsKept eq weight l c) (sym (touch-missed eq x (missed_at (eq x) (sym e)))) old
-        | Some d ↦ λ e. let h = held_at (eq x) (sym e) in
-            subst (λ l. IsKept eq weight l c) (sym (touch-held eq x h)) (IsKept-front x h.entry.1 laws old h refl)
-      ]) refl
-
-  -- the same by a form of the key
-  IsKept-touch_form : {X : Type 0} {es : List (K × V)} {c : ℕ} (by : X → K → Bool) (x : X) → IsForm eq (by x) → IsEquivalence eq
-      → IsKept eq weight es c → IsKept eq weight (touch by x es) c
-  IsKept-touch_form {es = es} {c = c} by x form laws old =
-      (elim (lookup_entry (by x) es) as (λ o. lookup_entry (by x) es ≡ o → IsKept eq weight (touch by x es) c) [
-        | None ↦ λ e. subst (λ l. IsKept eq weight l c) (sym (touch-missed by x (missed_at (by x) (sym e)))) old
-        | Some d ↦ λ e. let h = held_at (by x) (sym e) in
-            subst (λ (test : K → Bool). IsKept eq weight (touch (λ (t : K → Bool). t) test es) c)
-            (sym (form_is eq (by x) form h.entry.0 h.passes)) (IsKept-touch h.entry.0 laws old)
-      ]) refl
+  -- when they come in another order
+  pub IsKept-ordered : {es fs : List (K × V)} {c : ℕ} → IsEquivalence eq → IsPermutation es fs → IsKept eq weight es c → IsKept eq weight fs c
+  IsKept-ordered {es} {fs} laws order old = record {
+    distinct = IsDistinct-IsPermutation eq laws.symm (keys_of es) (keys_of fs) (IsPermutation-map (λ (e : K × V). e.0) es fs order) old.distinct;
+    fits = omega (arith, old.fits, length_permutation es fs order, sum_by-IsPermutation (λ (e : K × V). weight e.0 e.1) es fs order);
+  }
 
   -- the new pair comes first, and what does not fit beside it goes
   pub IsKept-weighted : {es fs : List (K × V)} {c : ℕ} (x : K) (v : V) → IsEquivalence eq
@@ -116,13 +95,13 @@ module _ {K V S W A H : Type 0} {eq : K → K → Bool} (weight : W → K → V 
     same_capacity = capacity ∙ old.same_capacity;
   }
 
-  -- after a touch by a form of a key
-  pub IsCache-touch : {X : Type 0} {n : Nodes K V S A H} (by : X → K → Bool) (k : X) → IsForm eq (by k) → IsEquivalence eq → IsCache eq weight hash x c
-      → pairs_in n ≡ touch by k (pairs_in x.nodes) → IsIndexed hash n → KeepsAllButPairs x.nodes n → IsCache eq weight hash (record x { nodes = n }) c
-  IsCache-touch by k form laws old same indexed rest =
+  -- whose pairs come in another order
+  pub IsCache-ordered : {n : Nodes K V S A H} {fs : List (K × V)} → IsEquivalence eq → IsPermutation (pairs_in x.nodes) fs → IsCache eq weight hash x c
+      → pairs_in n ≡ fs → IsIndexed hash n → KeepsAllButPairs x.nodes n → IsCache eq weight hash (record x { nodes = n }) c
+  IsCache-ordered {n} {fs} laws order old same indexed rest =
       let w = weight x.scale in
-      IsCache-from old same (IsKept-touch_form w by k form laws old.pairs) (record {
-        weighs = old.whole.weighs ∙ sym (weight_of-touch w by k (pairs_in x.nodes)) ∙ ap (weight_of w) (sym same);
+      IsCache-from old same (IsKept-ordered w laws order old.pairs) (record {
+        weighs = old.whole.weighs ∙ sym (sum_by-IsPermutation (λ (e : K × V). w e.0 e.1) (pairs_in x.nodes) fs order) ∙ ap (weight_of w) (sym same);
         indexed = indexed;
       }) refl rest.capacity
 

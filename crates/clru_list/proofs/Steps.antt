@@ -33,6 +33,10 @@ module _ {T : Type 0} (l : LinkMap T) (len capacity places allotted : ℕ) (i : 
     countable = countable;
   }
 
+  pub back_end : IsEnd l (l.prev nowhere)
+  back_end = let P : ℕ → Type 0 = λ k. IsEnd l k in subst P (sym (back_is l.next l.prev (keys_of i.0) i.1.linked))
+      (end_at l len capacity places allotted i.0 i.1 (last_or nowhere (keys_of i.0)) (last_or-counted nowhere (keys_of i.0)))
+
   pub size_room : l.size ≤ allotted
   size_room = omega (arith, i.1.within, i.1.reserved)
 
@@ -109,28 +113,46 @@ module _ {T : Type 0} (l : LinkMap T) (len capacity places allotted : ℕ) (i : 
         subst P (sym (front_is l.next l.prev (keys_of i.0) i.1.linked))
         (below l.next l.item l.free l.size i.0 i.1.held (first_or nowhere (keys_of i.0)) (first_counted p (keys_of i.0) (omega (arith, keys_count p))))
 
-    -- the item is at the front
-    sound-front : IsSound (linked (unlinked l p) nowhere p ((unlinked l p).next nowhere)) len capacity places allotted ((p, x) ∷ without p i.0)
-    sound-front =
-        let es = at_place.before ++ at_place.behind in let loose = unlinked_loose in
-        let done = link-loose (unlinked l p) p x nowhere ((unlinked l p).next nowhere) [] es refl
-        (front_is (unlinked l p).next (unlinked l p).prev (keys_of es) loose.linked) loose in
-        let P : List (ℕ × T) → Type 0 = λ ds. IsSound (linked (unlinked l p) nowhere p ((unlinked l p).next nowhere)) len capacity places allotted ((p, x) ∷ ds) in
-        subst P (sym without_is) (record {
+    -- before the back there is a place behind
+    pub next_below : (l.prev nowhere ≡ p → ⊥) → l.next p < l.size
+    next_below ne =
+        let here = count-here p (keys_of at_place.behind) in let le = count-le-cons p nowhere (keys_of i.0) in elim next_end [
+          | inl e ↦ absurd (ne (ap l.prev (sym e) ∙ i.1.linked.backward p (omega (arith, keys_count p))))
+          | inr lt ↦ lt
+        ]
+
+    left_loose : IsLoose (unlinked l p) p x (without p i.0)
+    left_loose = let P : List (ℕ × T) → Type 0 = λ es. IsLoose (unlinked l p) p x es in subst P (sym without_is) unlinked_loose
+
+    -- the item stands between two parts of the others
+    sound-between : (bs cs : List (ℕ × T)) (a b : ℕ) → without p i.0 ≡ bs ++ cs → a ≡ last_or nowhere (keys_of bs) → b ≡ first_or nowhere (keys_of cs)
+        → IsSound (linked (unlinked l p) a p b) len capacity places allotted (bs ++ (p, x) ∷ cs)
+    sound-between bs cs a b parts is_a is_b =
+        let P : List (ℕ × T) → Type 0 = λ es. IsLoose (unlinked l p) p x es in
+        let done = link-loose (unlinked l p) p x a b bs cs is_a is_b (subst P parts left_loose) in
+        record {
           linked = done.0;
           held = done.1;
-          counted = omega (arith, i.1.counted, length_split);
+          counted = omega (arith, i.1.counted, length_split, ap length (sym without_is ∙ parts), length-append bs cs, length-append bs ((p, x) ∷ cs));
           fits = i.1.fits;
           within = i.1.within;
           reserved = i.1.reserved;
           countable = i.1.countable;
-        })
+        }
 
-    -- the same where it was not there before
+    -- the item is at the front, where it was not there before
     pub sound-moved : (l.next nowhere ≡ p → ⊥) → IsSound (linked (unlinked l p) nowhere p (l.next nowhere)) len capacity places allotted ((p, x) ∷ without p i.0)
     sound-moved ne =
-        let P : ℕ → Type 0 = λ k. IsSound (linked (unlinked l p) nowhere p k) len capacity places allotted ((p, x) ∷ without p i.0) in
-        subst P (put-other l.next (l.prev p) (l.next p) nowhere (λ e. absurd (omega (arith, prev_below ne, i.1.held.small)))) sound-front
+        let stays = put-other l.next (l.prev p) (l.next p) nowhere (λ e. absurd (omega (arith, prev_below ne, i.1.held.small))) in
+        sound-between [] (without p i.0) nowhere (l.next nowhere) refl refl
+        (sym stays ∙ front_is (unlinked l p).next (unlinked l p).prev (keys_of (without p i.0)) left_loose.linked)
+
+    -- the item is at the back, where it was not there before
+    pub sound-moved_back : (l.prev nowhere ≡ p → ⊥) → IsSound (linked (unlinked l p) (l.prev nowhere) p nowhere) len capacity places allotted (without p i.0 ++ (p, x) ∷ [])
+    sound-moved_back ne =
+        let stays = put-other l.prev (l.next p) (l.prev p) nowhere (λ e. absurd (omega (arith, next_below ne, i.1.held.small))) in
+        sound-between (without p i.0) [] (l.prev nowhere) nowhere (sym (append-nil (without p i.0)))
+        (sym stays ∙ back_is (unlinked l p).next (unlinked l p).prev (keys_of (without p i.0)) left_loose.linked) refl
 
     -- another item is at the place
     pub sound-write : (w : T) → IsSound (set_item l p (Some w)) len capacity places allotted (with_at p w i.0)

@@ -1,11 +1,11 @@
 -- What a list shows, from what its fields keep.
-use Rattle.std.proofs.Common.{◌≡◌, ℕ, ◌<◌, ◌≤◌, eqb, List, [], ◌∷◌, length, Option, Some, None, IsSome, refl, sym, ap, ◌∙◌, arith, subst}
+use Rattle.std.proofs.Common.{◌≡◌, ℕ, ◌<◌, ◌≤◌, eqb, List, [], ◌∷◌, ◌++◌, length, Option, Some, None, IsSome, refl, sym, ap, ◌∙◌, arith, subst}
 use Rattle.std.proofs.lemmas.Bool.{eq-eqb}
 use Rattle.std.specs.Option.{option_map, option_map_or}
 use Rattle.std.specs.Map.{keys_of}
 use Rattle.std.specs.Prelude.{vec_len, slice_index_or as get_or}
 use Rattle.std.specs.Vec.{with_item}
-use Rattle.clru_list.specs.PlaceList.{PlaceList, place_list, with_entries, item_at, without, with_at, to_front, first_entry, last_entry, last_entry_from, first_place, last_place, place_after, place_before_from, IsValid}
+use Rattle.clru_list.specs.PlaceList.{PlaceList, place_list, with_entries, item_at, without, with_at, to_back, to_front, first_entry, last_entry, last_entry_from, first_place, last_place, place_after, place_before_from, IsApart, IsValid}
 use Rattle.clru_list.specs.declared.links.Links.{Links}
 use Rattle.clru_list.specs.declared.links.Node.{Node}
 use Rattle.clru_list.proofs.NodeLemmas.{links_of-set_item}
@@ -14,7 +14,8 @@ use Rattle.clru_list.specs.Places.{count, nowhere}
 use Rattle.clru_list.specs.Links.{LinkMap, links_of, allotted_of, IsSound, place_of, walk, set_item}
 use Rattle.clru_list.proofs.Puts.{split}
 use Rattle.clru_list.proofs.Paths.{count-here, last_or, first_or, last_or-counted}
-use Rattle.clru_list.proofs.EntryLists.{item_at-here, item_at-other}
+use Rattle.clru_list.proofs.EntryLists.{item_at-here, item_at-in, item_at-other, last_is, place_of-some}
+use Rattle.clru_list.proofs.PlaceLemmas.{without-last}
 use Rattle.clru_list.proofs.Rings.{front_is, back_is}
 use Rattle.clru_list.proofs.Soundness.{view-is, valid, keys_once, first_place_view, last_place_view}
 
@@ -86,6 +87,12 @@ module _ {T : Type 0} where
   to_front-first p [] first = refl
   to_front-first p (e ∷ es) first = let P : ℕ → Type 0 = λ q. to_front q (e ∷ es) ≡ e ∷ es in subst P first (rw (eq-eqb e.0 e.0 refl) refl)
 
+  -- the last entry stays where it is
+  to_back-last : (p : ℕ) (es : List (ℕ × T)) → IsApart es → last_place es ≡ Some p → to_back p es ≡ es
+  to_back-last p es apart is =
+      let last = last_is p es apart is in
+      rw (ap (item_at p) last.is ∙ item_at-in p last.item last.before [] last.absent) (ap (λ bs. bs ++ (p, last.item) ∷ []) (without-last p es last) ∙ sym last.is)
+
   pub some_item : (o : Option T) → IsSome o → (x : T) × (o ≡ Some x)
   some_item None some = absurd (cc)
   some_item (Some x) some = (x, refl)
@@ -114,6 +121,16 @@ module _ {T : Type 0} where
 
     pub seen_front_stays : (p : ℕ) → l.next nowhere ≡ p → with_entries now (to_front p now.entries) ≡ now
     seen_front_stays p first = ap (with_entries now) (to_front-first p now.entries (sym (front_place l len capacity places allotted i now h) ∙ first))
+
+    pub seen_to_back : (p : ℕ) (x : T) → l.item p ≡ Some x → with_entries now (to_back p now.entries) ≡ place_list (without p i.0 ++ (p, x) ∷ []) capacity places
+    seen_to_back p x is = seen_with (to_back p)
+        ∙ ap (λ o. place_list (option_map_or (λ y. without p i.0 ++ (p, y) ∷ []) o i.0) capacity places) (sym (i.1.held.live p) ∙ is)
+
+    pub seen_back_stays : (p : ℕ) (x : T) → l.item p ≡ Some x → l.prev nowhere ≡ p → with_entries now (to_back p now.entries) ≡ now
+    seen_back_stays p x is last =
+        let below = place_below l len capacity places allotted i p x is in
+        ap (with_entries now) (to_back-last p now.entries (seen_valid l len capacity places allotted i now h).apart
+        (sym (seen_last l len capacity places allotted i now h) ∙ ap place_of last ∙ place_of-some p (λ e. absurd (omega (arith, i.1.held.small)))))
 
   -- the same fact of equal links, in memory of the same size
   pub sound-at : (l m : LinkMap T) (len capacity places allotted grown : ℕ) (es : List (ℕ × T)) → m ≡ l → grown ≡ allotted → IsSound l len capacity places allotted es

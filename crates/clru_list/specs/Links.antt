@@ -69,6 +69,10 @@ module _ {T : Type 0} where
   abbrev pub brought_front : LinkMap T → ℕ → LinkMap T
   brought_front l p = linked (unlinked l p) nowhere p (l.next nowhere)
 
+  -- the place comes to the back
+  abbrev pub brought_back : LinkMap T → ℕ → LinkMap T
+  brought_back l p = linked (unlinked l p) (l.prev nowhere) p nowhere
+
   -- the place is the first free one
   abbrev pub released : LinkMap T → ℕ → LinkMap T
   released l p = record (set_next l p l.free) { free = p }

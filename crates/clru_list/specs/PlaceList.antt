@@ -1,5 +1,5 @@
 -- What a contract sees of a list. Public clauses cite it.
-use Rattle.std.specs.Prelude.{◌≡◌, ℕ, ◌^◌, ◌<◌, ◌≤◌, ◌==◌, if◌then◌else◌, List, [], ◌∷◌, length, Option, Some, None, IsSome, refl}
+use Rattle.std.specs.Prelude.{◌≡◌, ℕ, ◌^◌, ◌<◌, ◌≤◌, ◌==◌, if◌then◌else◌, List, [], ◌∷◌, ◌++◌, length, Option, Some, None, IsSome, refl}
 use Rattle.std.specs.Option.{option_map, option_map_or}
 use Rattle.std.specs.Map.{lookup, remove_entry, set_value}
 use Rattle.std.specs.Coded.{Coded, code_by, coded×, coded_list, coded_ℕ}
@@ -38,6 +38,10 @@ module _ {T : Type 0} where
   -- the entry at a place first, and the others in their order
   abbrev pub to_front : ℕ → List (ℕ × T) → List (ℕ × T)
   to_front p es = option_map_or (λ x. (p, x) ∷ without p es) (item_at p es) es
+
+  -- the entry at a place last, and the others in their order
+  abbrev pub to_back : ℕ → List (ℕ × T) → List (ℕ × T)
+  to_back p es = option_map_or (λ x. without p es ++ (p, x) ∷ []) (item_at p es) es
 
   abbrev pub first_entry : List (ℕ × T) → Option (ℕ × T)
   first_entry [] = None

@@ -3,7 +3,7 @@
 ghost use Rattle.std.specs.Prelude.{◌≡◌, ◌<◌, ◌≤◌, Some, None, vec_len, option_copied, IsSome, OnOk};
 ghost use Rattle.std.specs.Borrow.{Lends, sem};
 ghost use Rattle.clru_list.specs.Places.{nowhere};
-ghost use Rattle.clru_list.specs.Links.{links_of, allotted_of, set_next, set_prev, set_item, unlinked, linked, brought_front, released, spot, occupied, appended, filled, IsEnd};
+ghost use Rattle.clru_list.specs.Links.{links_of, allotted_of, set_next, set_prev, set_item, unlinked, linked, brought_back, brought_front, released, spot, occupied, appended, filled, IsEnd};
 
 use crate::error::NoMemory;
 use crate::halves::{
@@ -252,6 +252,21 @@ impl<T, A: Allocator> Links<T, A> {
     {
         let nodes = self.nodes.as_mut_slice();
         narrow::bring_front(nodes, &mut self.front, &mut self.back, place);
+    }
+
+    /// Moves a place that is not the last one to the back.
+    pub(crate) fn bring_back(&mut self, place: usize)
+        requires place { place < vec_len self.old.nodes }
+        requires prev { IsEnd (links_of self.old) ((links_of self.old).prev place) }
+        requires next { (links_of self.old).next place < vec_len self.old.nodes }
+        requires back { IsEnd (links_of self.old) ((links_of self.old).prev nowhere) }
+        requires allotted { vec_len self.old.nodes ≤ allotted_of self.old }
+        ensures links { links_of self.new ≡ brought_back (links_of self.old) place }
+        ensures same_allotted { allotted_of self.new ≡ allotted_of self.old }
+    {
+        let back = self.back();
+        self.unlink(place);
+        self.link(back, place, NOWHERE);
     }
 
     /// Takes the item out of a place, if one is there.

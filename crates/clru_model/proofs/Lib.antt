@@ -23,6 +23,7 @@ pub mod LeastIsThere
 pub mod Lookups
 pub mod Marks
 pub mod Optimum
+pub mod Orders
 pub mod Positions
 pub mod PutRuns
 pub mod PutSteps

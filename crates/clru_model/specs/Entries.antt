@@ -16,6 +16,10 @@ module _ {K V : Type 0} where
     abbrev pub touch : X → List (K × V) → List (K × V)
     touch x es = option_map_or (λ e. e ∷ without x es) (lookup_entry (eq x) es) es
 
+    -- the pair of x last, and the others in their order
+    abbrev pub demote : X → List (K × V) → List (K × V)
+    demote x es = option_map_or (λ e. without x es ++ e ∷ []) (lookup_entry (eq x) es) es
+
   module _ (eq : K → K → Bool) where
     -- a plain put under the capacity c: a key that is held stays with the new value, and a new pair drops what is past the capacity
     abbrev pub plain_put : ℕ → K → V → List (K × V) → List (K × V)

@@ -1,6 +1,7 @@
 -- Chains under changes of the list: a place that comes, one that goes, and one that moves or is written.
-use Rattle.std.proofs.Common.{◌≡◌, ℕ, ◌==◌, ◌≤◌, Option, Some, None, List, ◌∷◌, length, refl, sym, ap, ◌∙◌, arith, inl, inr}
+use Rattle.std.proofs.Common.{◌≡◌, ℕ, ◌==◌, ◌≤◌, Option, Some, None, List, [], ◌∷◌, ◌++◌, length, refl, sym, ap, ◌∙◌, arith, inl, inr}
 use Rattle.std.proofs.lemmas.Bool.{cases_eq, eq-eqb, ne_eqb}
+use Rattle.std.proofs.lemmas.List.{append-nil, length-append}
 use Rattle.std.proofs.lemmas.Map.{length-set_value}
 use Rattle.std.specs.Option.{option_map}
 use Rattle.clru_list.specs.PlaceList.{item_at, without, with_at, with_entries, IsApart}
@@ -10,6 +11,7 @@ use Rattle.clru_nodes.specs.Heads.{key_at, IsChainedAs}
 use Rattle.clru_nodes.specs.Nodes.{IsIndexed, KeepsAllButPairs}
 use Rattle.clru_nodes.specs.declared.nodes.Item.{Item}
 use Rattle.clru_nodes.specs.declared.nodes.Nodes.{Nodes}
+use Rattle.clru_list.proofs.EntryLists.{absent, reordered}
 use Rattle.clru_list.proofs.Puts.{put-here, put-other}
 use Rattle.clru_nodes.proofs.Hints.{keys_stay}
 use Rattle.clru_nodes.proofs.Placed.{item_at-with_at, item_at-without, length-without_held}
@@ -78,6 +80,13 @@ module _ {K V S A H : Type 0} {hash : S → K → ℕ} {x y : Nodes K V S A H} w
     named = omega (arith, same.places, same.heads.bound, old.named);
   }
 
+-- and so does one that comes last
+pub items_to_back : {T : Type 0} (p : ℕ) (i : T) (es : List (ℕ × T)) → IsApart es → item_at p es ≡ Some i
+    → (q : ℕ) → item_at q (without p es ++ (p, i) ∷ []) ≡ item_at q es
+items_to_back p i es apart held q =
+    let rest = without p es in let gone = item_at-without p p es apart ∙ rw (eq-eqb p p refl) refl in
+    (reordered p i rest [] (absent p rest gone)).items q ∙ ap (λ l. item_at q ((p, i) ∷ l)) (append-nil rest) ∙ items_to_front p i es apart held q
+
 -- other entries, and all else as it was
 pub same_nodes : {K V S A H : Type 0} {x : Nodes K V S A H} {es : List (ℕ × Item K V)} → KeepsAllButPairs x (record x { list = with_entries x.list es })
 same_nodes = record {
@@ -88,13 +97,24 @@ same_nodes = record {
 }
 
 module _ {K V S A H : Type 0} {hash : S → K → ℕ} {x : Nodes K V S A H} where
-  -- an item that comes first keeps the invariant
-  pub indexed_front : (p : ℕ) (i : Item K V) → IsIndexed hash x → IsApart x.list.entries → item_at p x.list.entries ≡ Some i
-      → IsIndexed hash (record x { list = with_entries x.list ((p, i) ∷ without p x.list.entries) })
-  indexed_front p i old apart held =
-      indexed_from old same_nodes
-      (chained_stays x.list.entries ((p, i) ∷ without p x.list.entries) (items_to_front p i x.list.entries apart held) old.chained)
-      (omega (arith, length-without_held p x.list.entries i held))
+  -- another order keeps the invariant
+  indexed_ordered : (es : List (ℕ × Item K V)) → IsIndexed hash x → ((q : ℕ) → item_at q es ≡ item_at q x.list.entries)
+      → length es ≤ length x.list.entries → IsIndexed hash (record x { list = with_entries x.list es })
+  indexed_ordered es old items fewer = indexed_from old same_nodes (chained_stays x.list.entries es items old.chained) fewer
+
+  module _ (p : ℕ) (i : Item K V) (old : IsIndexed hash x) (apart : IsApart x.list.entries) (held : item_at p x.list.entries ≡ Some i) where
+    -- an item that comes first
+    pub indexed_front : IsIndexed hash (record x { list = with_entries x.list ((p, i) ∷ without p x.list.entries) })
+    indexed_front =
+        indexed_ordered ((p, i) ∷ without p x.list.entries) old (items_to_front p i x.list.entries apart held)
+        (omega (arith, length-without_held p x.list.entries i held))
+
+    -- an item that comes last
+    pub indexed_back : IsIndexed hash (record x { list = with_entries x.list (without p x.list.entries ++ (p, i) ∷ []) })
+    indexed_back =
+        let rest = without p x.list.entries in
+        indexed_ordered (rest ++ (p, i) ∷ []) old (items_to_back p i x.list.entries apart held)
+        (omega (arith, length-without_held p x.list.entries i held, length-append rest ((p, i) ∷ [])))
 
   -- an item that gets another value keeps it
   pub indexed_written : (p : ℕ) (i : Item K V) (v : V) → IsIndexed hash x → item_at p x.list.entries ≡ Some i

@@ -1,13 +1,14 @@
 -- The pairs of the nodes: what a look-up by key and a change at a place say of each other.
-use Rattle.std.proofs.Common.{◌≡◌, ℕ, Bool, true, false, Some, None, List, [], ◌∷◌, refl, sym, ap, ◌∙◌, subst, inl, inr}
+use Rattle.std.proofs.Common.{◌≡◌, ℕ, Bool, true, false, Some, None, List, [], ◌∷◌, ◌++◌, refl, sym, ap, ◌∙◌, subst, inl, inr}
 use Rattle.std.proofs.lemmas.Bool.{cases_eq, cases_Bool, eq-eqb, ne_eqb}
+use Rattle.std.proofs.lemmas.List.{map-append}
 use Rattle.std.proofs.lemmas.Map.{NonePasses}
 use Rattle.std.proofs.lemmas.Map.Entries.{none_past_head}
 use Rattle.std.specs.Cmp.{IsEquivalence}
 use Rattle.std.specs.List.{IsDistinct}
 use Rattle.std.specs.Map.{keys_of, lookup, lookup_entry, remove_entry}
 use Rattle.std.proofs.lemmas.Map.Keys.{IsDistinct-tail}
-use Rattle.clru_model.specs.Entries.{touch}
+use Rattle.clru_model.specs.Entries.{demote, touch}
 use Rattle.clru_model.proofs.Forms.{IsForm, form_is}
 use Rattle.clru_list.specs.PlaceList.{item_at, with_at, without, IsApart}
 use Rattle.clru_nodes.specs.Heads.{with_value, IsAt}
@@ -79,6 +80,12 @@ module _ {K V X : Type 0} (eq : X → K → Bool) (x : X) where
   pub touch_found : {p : ℕ} {item : Item K V} {es : List (ℕ × Item K V)} → IsFoundAt p item es
       → pair_of item ∷ pairs_of (without p es) ≡ touch eq x (pairs_of es)
   touch_found f = rw (f.entry, f.removed) refl
+
+  -- a found pair that comes last
+  pub demote_found : {p : ℕ} {item : Item K V} {es : List (ℕ × Item K V)} → IsFoundAt p item es
+      → pairs_of (without p es ++ (p, item) ∷ []) ≡ demote eq x (pairs_of es)
+  demote_found {p} {item} {es} f =
+      map-append (λ (e : ℕ × Item K V). pair_of e.1) (without p es) ((p, item) ∷ []) ∙ rw (f.entry, f.removed) refl
 
   -- without a pair of x there is none to move or to take out
   pub none_removed : (es : List (K × V)) → lookup_entry (eq x) es ≡ None → remove_entry (eq x) es ≡ es

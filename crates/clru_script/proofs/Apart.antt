@@ -10,7 +10,8 @@ use Rattle.clru_model.specs.Entries.{without, touch, with_front, size_of}
 use Rattle.clru_model.proofs.Sublists.{IsSublist, nothing, goes, sublist_itself, sublist_remove_entry, sublist_take, sublist_keys, lookup-sublist}
 use Rattle.clru_model.proofs.Sublists.{IsDistinct-sublist}
 use Rattle.clru.specs.Fields.{IsKept}
-use Rattle.clru.proofs.Keeping.{IsKept-touch}
+use Rattle.clru.proofs.Keeping.{IsKept-ordered}
+use Rattle.clru_model.proofs.Orders.{permutation-touch}
 
 module _ {V : Type 0} where
   apart_where_some_go : {es fs : List (ℕ × V)} → IsSublist es fs → IsDistinct nat_eq (keys_of es) → IsDistinct nat_eq (keys_of fs)
@@ -44,7 +45,7 @@ module _ {V : Type 0} where
   pub apart_touched : (k : ℕ) (es : List (ℕ × V)) → IsDistinct nat_eq (keys_of es) → IsDistinct nat_eq (keys_of (touch nat_eq k es))
   apart_touched k es d =
       let kept : IsKept nat_eq (λ (k : ℕ) (v : V). 0) es (size_of (λ (k : ℕ) (v : V). 0) es) = record { distinct = d; fits = omega arith } in
-      (IsKept-touch (λ (k : ℕ) (v : V). 0) k nat_eq_equiv kept).distinct
+      (IsKept-ordered (λ (k : ℕ) (v : V). 0) nat_eq_equiv (permutation-touch nat_eq k es) kept).distinct
 
   -- and where the first one gets another value
   pub apart_with_front : (v : V) (es : List (ℕ × V)) → IsDistinct nat_eq (keys_of es) → IsDistinct nat_eq (keys_of (with_front v es))

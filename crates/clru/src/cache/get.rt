@@ -4,7 +4,8 @@ ghost use Rattle.std.specs.Borrow.{sem};
 ghost use Rattle.std.specs.Map.{lookup};
 ghost use Rattle.std.specs.Option.{option_copied_mut};
 ghost use Rattle.clru_model.specs.contracts.weight.ZeroWeightScale.{the_row as zero_scale_row};
-ghost use Rattle.clru_model.specs.Entries.{touch};
+ghost use Rattle.clru_model.specs.Entries.{demote, touch};
+ghost use Rattle.clru.specs.Cache.{with_entries};
 ghost use Rattle.clru.specs.Lends.{ends_with, lends_value};
 
 use crate::cache::CLruCache;
@@ -41,6 +42,20 @@ where
             return Some(pair.1);
         }
         None
+    }
+
+    /// Makes the entry of the key the least recently used, so that it goes next. Returns whether the key is held.
+    /// Cost: one hash and a walk along one chain.
+    ///
+    /// ```rust
+    /// pages.demote(&page);
+    /// ```
+    pub fn demote<Q: Equivalent<K>>(&mut self, key: Q) -> bool
+        ensures held { result ≡ is_some (lookup (Q.equivalent key) self.old.entries) }
+        ensures entries { self.new ≡ with_entries self.old (demote Q.equivalent key self.old.entries) }
+    {
+        let hash = self.pairs.nodes.hash(key);
+        self.pairs.nodes.demote(hash, key)
     }
 
     /// Returns the value of the key, and leaves the order as it is.

@@ -1,8 +1,8 @@
-//! The calls that lend an item for writing, where it is or at the front.
+//! The calls that lend an item for writing, and those that move one to the front or to the back.
 ghost use Rattle.std.specs.Prelude.{◌≡◌, IsSome, Some};
 ghost use Rattle.std.specs.Option.{option_map, option_copied_mut};
 ghost use Rattle.std.specs.Borrow.{sem};
-ghost use Rattle.clru_list.specs.PlaceList.{with_entries, item_at, to_front, first_entry, last_entry, IsValid};
+ghost use Rattle.clru_list.specs.PlaceList.{with_entries, item_at, to_back, to_front, first_entry, last_entry, IsValid};
 ghost use Rattle.clru_list.specs.Lends.{lends_item, lends_held, lends_moved, lends_first, lends_last};
 
 use crate::list::FixedSizeList;
@@ -68,6 +68,19 @@ impl<T, A: Allocator + Copy> FixedSizeList<T, A> {
             return;
         }
         self.links.bring_front(place);
+        self.fingers.clear();
+    }
+
+    /// Moves the item at a place, where one is, to the back. It keeps its place; where it is last already, nothing is written.
+    pub fn move_back(&mut self, place: usize)
+        requires { IsSome (item_at place self.old.entries) }
+        ensures moved { self.new ≡ with_entries self.old (to_back place self.old.entries) }
+        ensures valid { IsValid self.new }
+    {
+        if self.links.back() == place {
+            return;
+        }
+        self.links.bring_back(place);
         self.fingers.clear();
     }
 

@@ -2,7 +2,7 @@
 ghost use Rattle.std.specs.Prelude.{◌≡◌, [], ◌-◌, ◌<◌, ◌≤◌, ◌∷◌, Some, length, drop, take, is_some, slice_get};
 ghost use Rattle.std.specs.List.{IsDistinct};
 ghost use Rattle.std.specs.Map.{keys_of, lookup, lookup_entry};
-ghost use Rattle.clru_model.specs.Entries.{touch};
+ghost use Rattle.clru_model.specs.Entries.{demote, touch};
 ghost use Rattle.clru_model.specs.Entries as entries;
 ghost use Rattle.clru_list.specs.PlaceList.{without, IsValid};
 ghost use Rattle.clru_nodes.specs.Heads.{placed_of, HasHome, IsLive, IsTaken};
@@ -30,6 +30,23 @@ impl<K: Eq + Hash, V, S: BuildHasher, A: Allocator + Copy> Nodes<K, V, S, A> {
             return false;
         };
         self.list.bring_front(place);
+        true
+    }
+
+    /// Moves the pair with the key, whose hash is given, to the back, and answers whether there is one.
+    pub fn demote<Q: Equivalent<K>>(&mut self, hash: u64, key: Q) -> bool
+        requires hash { hash ≡ hash_of Q.Hash S.BuildHasher S.Hasher.Hasher (builder_of self.old) key }
+        requires indexed { IsIndexed (hash_of K.Hash S.BuildHasher S.Hasher.Hasher) self.old }
+        requires distinct { IsDistinct K.eq (keys_of (pairs_in self.old)) }
+        ensures held { result ≡ is_some (lookup (Q.equivalent key) (pairs_in self.old)) }
+        ensures pairs { pairs_in self.new ≡ demote Q.equivalent key (pairs_in self.old) }
+        ensures indexed { IsIndexed (hash_of K.Hash S.BuildHasher S.Hasher.Hasher) self.new }
+        ensures same { KeepsAllButPairs self.old self.new }
+    {
+        let Some(place) = self.find(hash, key) else {
+            return false;
+        };
+        self.list.move_back(place);
         true
     }
 

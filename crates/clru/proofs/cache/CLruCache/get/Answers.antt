@@ -4,13 +4,14 @@ use Rattle.std.specs.NonZero.{non_zero_usize_get}
 use Rattle.std.specs.Option.{option_map}
 use Rattle.clru_nodes.specs.Nodes.{pairs_in}
 use Rattle.clru_model.proofs.Finding.{held, first_touched}
+use Rattle.clru_model.proofs.Orders.{permutation-touch}
 use Rattle.clru.specs.Cache.{cache}
-use Rattle.clru.proofs.Keeping.{IsCache-touch}
+use Rattle.clru.proofs.Keeping.{IsCache-ordered}
 use Rattle.clru.proofs.cache.CLruCache.get.Goals as goal
 
 pub invariant_of-self : goal.invariant_of-self
 invariant_of-self g c =
-    let e = c.touch.ensures in IsCache-touch g.W.WeightScale.weight g.Q.Equivalent.equivalent c.args.key (g.met.Q.Equivalent.respects_eq c.args.key) g.met.K.Eq.laws c.self.invariant e.pairs e.indexed e.same
+    let e = c.touch.ensures in IsCache-ordered g.W.WeightScale.weight g.met.K.Eq.laws (permutation-touch g.Q.Equivalent.equivalent c.args.key _) c.self.invariant e.pairs e.indexed e.same
 
 pub unreachable-requires : goal.unreachable-requires
 unreachable-requires g c =
@@ -28,4 +29,4 @@ returns-then-touch g c =
 
 pub invariant_of-self-else-touch : goal.invariant_of-self-else-touch
 invariant_of-self-else-touch g c =
-    let e = c.touch.ensures in IsCache-touch g.W.WeightScale.weight g.Q.Equivalent.equivalent c.args.key (g.met.Q.Equivalent.respects_eq c.args.key) g.met.K.Eq.laws c.self.invariant e.pairs e.indexed e.same
+    let e = c.touch.ensures in IsCache-ordered g.W.WeightScale.weight g.met.K.Eq.laws (permutation-touch g.Q.Equivalent.equivalent c.args.key _) c.self.invariant e.pairs e.indexed e.same

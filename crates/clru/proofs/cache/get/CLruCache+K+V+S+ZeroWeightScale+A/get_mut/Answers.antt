@@ -2,17 +2,18 @@ use Rattle.std.proofs.Common.{Some, sym, ap, ◌∙◌}
 use Rattle.std.specs.NonZero.{non_zero_usize_get}
 use Rattle.clru_model.specs.Entries.{with_front}
 use Rattle.clru_model.proofs.Finding.{held, touch-held, with_front-set_value}
+use Rattle.clru_model.proofs.Orders.{permutation-touch}
 use Rattle.clru_nodes.proofs.Lending.{ends_alike}
 use Rattle.clru_nodes.proofs.WrittenItems.{first_pair, first_written}
 use Rattle.clru.specs.Cache.{cache}
-use Rattle.clru.proofs.Keeping.{IsCache-touch}
+use Rattle.clru.proofs.Keeping.{IsCache-ordered}
 use Rattle.clru.proofs.Values.{IsCache-values}
 use Rattle.clru.proofs.cache.get.CLruCache+K+V+S+ZeroWeightScale+A.get_mut.Goals as goal
 
 pub invariant_of-self-lent : goal.invariant_of-self-lent
 invariant_of-self-lent g c =
     λ w. let e = c.touch.ensures in
-    IsCache-values (IsCache-touch (λ s k v. 0) g.Q.Equivalent.equivalent c.args.key (g.met.Q.Equivalent.respects_eq c.args.key) g.met.K.Eq.laws c.self.invariant e.pairs e.indexed e.same)
+    IsCache-values (IsCache-ordered (λ s k v. 0) g.met.K.Eq.laws (permutation-touch g.Q.Equivalent.equivalent c.args.key _) c.self.invariant e.pairs e.indexed e.same)
     (first_written _ c.front_item.ensures.first w)
 
 pub returns : goal.returns
@@ -28,4 +29,4 @@ returns g c =
 
 pub invariant_of-self : goal.invariant_of-self
 invariant_of-self g c =
-    let e = c.touch.ensures in IsCache-touch (λ s k v. 0) g.Q.Equivalent.equivalent c.args.key (g.met.Q.Equivalent.respects_eq c.args.key) g.met.K.Eq.laws c.self.invariant e.pairs e.indexed e.same
+    let e = c.touch.ensures in IsCache-ordered (λ s k v. 0) g.met.K.Eq.laws (permutation-touch g.Q.Equivalent.equivalent c.args.key _) c.self.invariant e.pairs e.indexed e.same
