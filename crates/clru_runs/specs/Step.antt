@@ -8,7 +8,7 @@ use Rattle.clru_model.specs.declared.error.TryPutError.{TryPutError}
 use Rattle.clru_model.specs.declared.error.TryPutError.TheVariants as try
 use Rattle.clru.specs.Cache.{Cache, cache, with_entries}
 use Rattle.clru.specs.Collecting.{PutsAll, PutStep, PutRefused}
-use Rattle.clru.specs.Entries.{without, touch, fit, plain_drop, weighted_put, weighted_drops, weight_of, size_of, with_value_at}
+use Rattle.clru.specs.Entries.{without, demote, touch, fit, plain_drop, weighted_put, weighted_drops, weight_of, size_of, with_value_at}
 use Rattle.clru.specs.Memory.{GrowsOnlyIf, NeedsPlace, NeedsPlaceFor, Accepts, RefusesForMemory}
 use Rattle.clru.specs.declared.cache.answer.Put as stored
 use Rattle.clru_runs.specs.declared.call.Answer.{Answer}
@@ -16,11 +16,9 @@ use Rattle.clru_runs.specs.declared.call.Answer.TheVariants.{Stored, Weighed, Le
 use Rattle.clru_runs.specs.declared.call.Attempt.{Attempt}
 use Rattle.clru_runs.specs.declared.call.Attempt.TheVariants.{Store, Fail}
 use Rattle.clru_runs.specs.declared.call.Call.{Call}
-use Rattle.clru_runs.specs.declared.call.Call.TheVariants.{PutWithWeight, Get, Peek, Contains, Len, Weight, Capacity, IsEmpty, IsFull, Front, Back, Nth, NthBack, Pop, PopFront, PopBack, Clear, Resize, Retain}
-use Rattle.clru_runs.specs.declared.call.ListCall.{ListCall}
-use Rattle.clru_runs.specs.declared.call.ListCall.TheVariants.{Extend, Plain}
+use Rattle.clru_runs.specs.declared.call.Call.TheVariants.{PutWithWeight, Get, Peek, Contains, Len, Weight, Capacity, IsEmpty, IsFull, Front, Back, Nth, NthBack, Demote, Pop, PopFront, PopBack, Clear, Resize, Retain}
 use Rattle.clru_runs.specs.declared.call.PlainCall.{PlainCall}
-use Rattle.clru_runs.specs.declared.call.PlainCall.TheVariants.{Put, PutOrModify, TryPutOrModify, GetMut, PeekMut, FrontMut, BackMut, RetainMut, Any}
+use Rattle.clru_runs.specs.declared.call.PlainCall.TheVariants.{Put, PutOrModify, TryPutOrModify, GetMut, PeekMut, FrontMut, BackMut, RetainMut, Extend, Any}
 use Rattle.clru_runs.specs.declared.call.Weighing.{Weighing}
 
 -- the value at an index
@@ -98,6 +96,8 @@ module _ {K V W : Type 0} where
     Step weight old IsEmpty answer new = (answer ≡ Flag (length old.entries == 0)) × (new ≡ old)
     Step weight old IsFull answer new = (answer ≡ Flag (size_of (weight old.scale) old.entries == old.capacity))
         × (new ≡ old)
+    Step weight old (Demote x) answer new = (answer ≡ Flag (is_some (lookup (eq x) old.entries)))
+        × (new ≡ with_entries old (demote eq x old.entries))
     Step weight old (Pop x) answer new = (answer ≡ Value (lookup (eq x) old.entries))
         × (new ≡ with_entries old (without eq x old.entries))
     Step weight old Front answer new = (answer ≡ Value (value_at 0 old.entries)) × (new ≡ old)
@@ -121,6 +121,7 @@ module _ {K V W : Type 0} where
     PlainStep old (PutOrModify x v) answer new = Tells Lent (PlainPuts old x v v) answer new
     PlainStep old (RetainMut x v) answer new =
         (answer ≡ Done) × (new ≡ with_entries old (map (λ e. (e.0, v)) (filter (λ e. not (eq e.0 x)) old.entries)))
+    PlainStep old (Extend es) answer new = Tells Extended (Extends old es.items) answer new
     PlainStep old (TryPutOrModify x attempt) answer new = Tells Tried (TryPuts old x attempt) answer new
     PlainStep old (GetMut x v) answer new = (answer ≡ Value (lookup (eq x) old.entries))
         × (new ≡ with_entries old (set_value (eq x) (touch eq x old.entries) v))
@@ -131,8 +132,3 @@ module _ {K V W : Type 0} where
     PlainStep old (BackMut v) answer new = (answer ≡ Value (value_at (length old.entries - 1) old.entries))
         × (new ≡ with_entries old (with_value_at (length old.entries - 1) v old.entries))
     PlainStep old (Any call) answer new = Step (λ _ _ _. 0) old call answer new
-
-    -- the same, where a call may hand over a list of pairs
-    abbrev pub ListStep : Cache K V W → ListCall K V → Answer K V → Cache K V W → Type 0
-    ListStep old (Extend es) answer new = Tells Extended (Extends old es.items) answer new
-    ListStep old (Plain call) answer new = PlainStep old call answer new

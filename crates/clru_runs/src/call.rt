@@ -15,6 +15,7 @@ pub enum Call<K, V> {
     Capacity,
     IsEmpty,
     IsFull,
+    Demote(K),
     Pop(K),
     Front,
     Back,
@@ -55,19 +56,11 @@ pub enum PlainCall<K, V> {
     /// Keeps the entries of the other keys, and writes the value to each.
     RetainMut(K, V),
 
-    /// A call that each cache has.
-    Any(Call<K, V>),
-}
-
-/// A call of a cache whose pairs weigh nothing, where one may hand over a list of pairs. It owns memory, as the calls above
-/// do not, so that they can stand in a `static`.
-#[derive(Clone, Debug, Drop)]
-pub enum ListCall<K, V> {
     /// Puts of the pairs in turn.
     Extend(Vec<(K, V)>),
 
-    /// A call that takes no list.
-    Plain(PlainCall<K, V>),
+    /// A call that each cache has.
+    Any(Call<K, V>),
 }
 
 /// What the closures of a put-or-modify do that may fail.

@@ -7,8 +7,7 @@
 //! A value is copied out of the cache, so `V` is `Copy`: a clone may want memory, and would be one more way to fail. A key
 //! is moved in and needs `Drop`.
 //!
-//! One more call is a variant of `Call`, `PlainCall` or `ListCall`, its arm in `perform.rt`, and its line in `Step`,
-//! `PlainStep` or `ListStep`.
+//! One more call is a variant of `Call` or `PlainCall`, its arm in `perform.rt`, and its line in `Step` or `PlainStep`.
 #![tactic(auto)]
 
 mod call;
@@ -18,7 +17,7 @@ mod perform;
 mod run;
 mod walks;
 
-pub use call::{Answer, Attempt, Call, ListCall, PlainCall, Weighing};
+pub use call::{Answer, Attempt, Call, PlainCall, Weighing};
 pub use laws::{law_included_runs, law_put_runs, law_sized_put_runs};
 pub use perform::Perform;
 pub use run::perform_all;

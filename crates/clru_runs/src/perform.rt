@@ -1,9 +1,9 @@
 //! One call, made.
 ghost use Rattle.std.specs.Prelude.{◌≡◌, ◌+◌, ◌<◌, ◌^◌, Some, not};
 ghost use Rattle.clru.specs.Cache.{IsValid};
-ghost use Rattle.clru_runs.specs.Step.{Step, PlainStep, ListStep};
+ghost use Rattle.clru_runs.specs.Step.{Step, PlainStep};
 
-use crate::call::{Answer, Call, ListCall, PlainCall, Weighing};
+use crate::call::{Answer, Call, PlainCall, Weighing};
 use crate::lends::{back, back_mut, front, front_mut, get_mut, peek_mut, try_put_or_modify};
 use crate::walks::{nth, nth_back};
 use clru::{CLruCache, NonZeroUsize, WeightScale, ZeroWeightScale};
@@ -58,24 +58,6 @@ where
     }
 }
 
-impl<K: Eq + Hash + Drop, V: Copy, S: BuildHasher, A> Perform<
-    CLruCache<K, V, S, ZeroWeightScale, A>,
-> for ListCall<K, V>
-where
-    A: Allocator + Copy,
-{
-    type Answer = Answer<K, V>;
-
-    ghost step = { λ old call answer new. ListStep K.eq old call answer new × IsValid K.eq (λ _ _. 0) new };
-
-    fn perform(self, cache: &mut CLruCache<K, V, S, ZeroWeightScale, A>) -> Answer<K, V> {
-        match self {
-            ListCall::Extend(pairs) => extend(cache, pairs),
-            ListCall::Plain(call) => call.perform(cache),
-        }
-    }
-}
-
 fn make<K: Eq + Hash + Drop, V: Copy, S: BuildHasher, W: WeightScale<K, V>, A: Allocator + Copy>(
     call: Call<K, V>,
     cache: &mut CLruCache<K, V, S, W, A>,
@@ -92,6 +74,7 @@ fn make<K: Eq + Hash + Drop, V: Copy, S: BuildHasher, W: WeightScale<K, V>, A: A
         Call::Capacity => Answer::Number(cache.capacity()),
         Call::IsEmpty => Answer::Flag(cache.is_empty()),
         Call::IsFull => Answer::Flag(cache.is_full()),
+        Call::Demote(key) => Answer::Flag(cache.demote(&key)),
         Call::Pop(key) => Answer::Value(cache.pop(&key)),
         Call::Front => Answer::Value(front(cache)),
         Call::Back => Answer::Value(back(cache)),
@@ -121,6 +104,7 @@ fn make_plain<K: Eq + Hash + Drop, V: Copy, S: BuildHasher, A: Allocator + Copy>
         PlainCall::Put(key, value) => put(cache, key, value),
         PlainCall::PutOrModify(key, value) => put_or_modify(cache, key, value),
         PlainCall::RetainMut(key, value) => retain_mut(cache, key, value),
+        PlainCall::Extend(pairs) => Answer::Extended(cache.extend(pairs)),
         PlainCall::TryPutOrModify(key, attempt) => try_put_or_modify(cache, key, attempt),
         PlainCall::GetMut(key, value) => get_mut(cache, key, value),
         PlainCall::PeekMut(key, value) => peek_mut(cache, key, value),
@@ -183,18 +167,6 @@ fn put_or_modify<K: Eq + Hash + Drop, V: Copy, S: BuildHasher, A: Allocator + Co
         Ok(lent) => Answer::Lent(Ok(*lent)),
         Err(back) => Answer::Lent(Err(back)),
     }
-}
-
-fn extend<K: Eq + Hash + Drop, V: Copy, S: BuildHasher, A: Allocator + Copy>(
-    cache: &mut CLruCache<K, V, S, ZeroWeightScale, A>,
-    pairs: Vec<(K, V)>,
-) -> Answer<K, V>
-    ensures step { ListStep K.eq cache.old (ListCall.Extend pairs) result cache.new }
-    ensures valid { IsValid K.eq (λ _ _. 0) cache.new }
-{
-    let answer = Answer::Extended(cache.extend(pairs));
-    let _len = cache.len();
-    answer
 }
 
 fn retain<K: Eq + Hash + Drop, V: Copy, S: BuildHasher, W: WeightScale<K, V>, A: Allocator + Copy>(
