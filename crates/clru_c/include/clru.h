@@ -5,7 +5,7 @@
  * process.
  *
  * What each call writes is proved of its code in Rattle (the clauses stand in src/exports.rt). Nothing checks that a caller does
- * what he owes. This header is written by hand; tools/foreign calls each function and sees each code.
+ * what he owes. This header is written by hand; tools/test/from_c calls each function and sees each code.
  *
  * What the caller owes:
  * - Each pointer is valid for its length, aligned for its type, and not NULL, not even where the length is 0. An array that is

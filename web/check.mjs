@@ -1,4 +1,4 @@
-// The module beside the native program: node page/check.mjs MODULE PROGRAM
+// The module beside the native program: node web/check.mjs MODULE PROGRAM
 //
 // Both get the same words and the same log; status and text have to be the same, byte for byte. The last lines ask whether the
 // comparison sees a difference, and whether a small block, a small text and a second call answer as they should.

@@ -1,5 +1,5 @@
 #!/usr/bin/env python3
-"""Plain models of what scripts call, by which `tools/drawn` answers calls. It runs nothing itself.
+"""Plain models of what scripts call, by which `tools/test/random` answers calls. It runs nothing itself.
 
 They know no index, no link and no running total: a cache is a list of pairs in order, a capacity and a number of places, a list of
 numbers is a list, and misses are counted by a walk through the requests for each capacity. Memory is told as docs/PROVED.md, MODEL.md
