@@ -65,9 +65,12 @@ class Function:
     def calls(self, name):
         return any(re.search(rf"\b{name}\(", line) for line in self.text()[1:])
 
-    def labels(self):
-        """The labels of its clauses of what it promises, in order."""
-        return re.findall(r"^\s*ensures\*? (\w+) \{", "\n".join(self.text()), re.M)
+    def clauses(self):
+        """The labels of the clauses of what it promises, in order, '' of one without."""
+        lines = self.text()
+        indent = lines[0][:len(lines[0]) - len(lines[0].lstrip())]
+        begin = next((at for at, line in enumerate(lines) if line in (indent + "{", indent + "{}")), 0)
+        return re.findall(r"^\s*ensures\*?(?: (\w+))? \{", "\n".join(lines[:begin]), re.M)
 
     def where(self):
         return f"{self.path.relative_to(TOP)}: {self.key}"
@@ -120,9 +123,9 @@ def functions(crate):
 
 
 def mutants(crate, all_functions):
-    """The public functions that have a mutant: one that changes a line of theirs, or private code alone and begins with their name. Where
-    several types have that name, the function has to call the private one."""
-    found = set()
+    """The mutants of each public function that has one: it changes a line of the function, or private code alone and begins with its
+    name. Where several types have that name, the function has to call the private one."""
+    found = {}
     for edit in sorted((crate / "mutants").glob("*.edit")):
         path, hit = None, []
         for line in edit.read_text().splitlines():
@@ -135,7 +138,8 @@ def mutants(crate, all_functions):
         if not changed:
             same = [one for one in all_functions if one.public and one.name == edit.name.split("-")[0]]
             changed = same if len(same) == 1 else [one for one in same if any(one.calls(private.name) for private in hit)]
-        found |= {one.key for one in changed}
+        for key in {one.key for one in changed}:
+            found.setdefault(key, []).append(edit.stem)
     return found
 
 
