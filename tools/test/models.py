@@ -3,7 +3,7 @@
 
 They know no index, no link and no running total: a cache is a list of pairs in order, a capacity and a number of places, a list of
 numbers is a list, and misses are counted by a walk through the requests for each capacity. Memory is told as docs/PROVED.md, MODEL.md
-and the scripts `memory`, `growths`, `list` and `nodes` have it: when it is asked for, how often, and what stays where a request
+and the scripts `memory`, `growths` and `list` have it: when it is asked for, how often, and what stays where a request
 is refused.
 """
 import collections
@@ -563,6 +563,13 @@ class List:
             self.entries.insert(0, self.entries.pop(at))
         return self.item(0 if at is not None else None)
 
+    def call_move_back(self, place):
+        at = self.index(place)
+        if at is None:
+            return "none"
+        self.entries.append(self.entries.pop(at))
+        return "done"
+
     def call_bring_front(self, place):
         return "none" if self.call_move_front(place) == "none" else "done"
 
@@ -620,86 +627,3 @@ class List:
             "capacity": lambda: str(places.capacity), "places": lambda: str(places.count), "grown_places": lambda: str(places.grown()),
             "is_empty": lambda: truth(length == 0), "is_full": lambda: truth(length == places.capacity), "bytes": lambda: str(places.bytes()),
         }[name]()
-
-
-class Nodes:
-    """A list of pairs with keys that differ, the front first. What is full drops its last pair."""
-
-    def __init__(self, memory, capacity, reserve, limit):
-        self.places = Places(memory, capacity, reserve or 0, NARROW if limit is None else limit, True, 32)
-        self.pairs = []
-
-    def call(self, line):
-        name, *words = line.split()
-        return getattr(self, f"call_{name}")(*words)
-
-    def at(self, key):
-        return next((at for at, pair in enumerate(self.pairs) if pair[0] == key), None)
-
-    def take(self, at):
-        return shown(self.pairs.pop(at) if at is not None and self.pairs else None)
-
-    def call_put(self, key, value):
-        if self.at(key) is not None or not self.places.ready(len(self.pairs)):
-            return "not stored"
-        self.pairs.insert(0, [key, value])
-        del self.pairs[self.places.capacity:]
-        return "stored"
-
-    def call_fill(self, start, end):
-        return truth(all(self.call_put(str(key), str(key + 1000)) == "stored" for key in range(int(start), int(end))))
-
-    def call_take(self, key):
-        return self.take(self.at(key))
-
-    def call_pop_front(self):
-        return self.take(0)
-
-    def call_pop_back(self):
-        return self.take(-1)
-
-    def call_front(self):
-        return shown(self.pairs[0] if self.pairs else None)
-
-    def call_back(self):
-        return shown(self.pairs[-1] if self.pairs else None)
-
-    def call_get(self, key):
-        at = self.at(key)
-        return found(None if at is None else self.pairs[at][1])
-
-    def call_touch(self, key):
-        at = self.at(key)
-        if at is not None:
-            self.pairs.insert(0, self.pairs.pop(at))
-        return truth(at is not None)
-
-    def call_set_front(self, value):
-        if not self.pairs:
-            return "none"
-        old, self.pairs[0][1] = self.pairs[0][1], value
-        return old
-
-    def call_clear(self):
-        self.pairs = []
-        return "done"
-
-    def call_make_ready(self):
-        return "done" if self.places.ready(len(self.pairs)) else "no memory"
-
-    def call_resize(self, capacity):
-        if len(self.pairs) <= int(capacity):
-            self.places.capacity = int(capacity)
-        return "done"
-
-    def call_len(self):
-        return str(len(self.pairs))
-
-    def call_capacity(self):
-        return str(self.places.capacity)
-
-    def call_bytes(self):
-        return str(self.places.bytes())
-
-    def call_list(self):
-        return listed(self.pairs)

@@ -18,6 +18,8 @@ mod faults;
 #[cfg(test)]
 mod forms;
 #[cfg(test)]
+mod index;
+#[cfg(test)]
 mod lent;
 #[cfg(test)]
 mod lines;
@@ -35,3 +37,5 @@ mod rations;
 mod shown;
 #[cfg(test)]
 mod stores;
+
+pub mod kept;

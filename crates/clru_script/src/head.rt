@@ -68,7 +68,6 @@ impl Head {
             "cache",
             "costs",
             "list",
-            "nodes",
             "store",
             "store_costs",
             "runs",
@@ -82,7 +81,7 @@ impl Head {
                 Some(_) => {}
             }
         }
-        if name == "list" || name == "nodes" {
+        if name == "list" {
             head.hash = Some(Hash::Std);
         }
         head

@@ -15,11 +15,10 @@ pub(crate) struct Line {
 }
 
 /// What begins a block of lines.
-const SUBJECTS: [&str; 16] = [
+const SUBJECTS: [&str; 15] = [
     "cache",
     "costs",
     "list",
-    "nodes",
     "store",
     "store_costs",
     "replay",

@@ -13,7 +13,6 @@ mod lines;
 mod list;
 mod makers;
 mod misses;
-mod nodes;
 mod out;
 mod page;
 mod pairs;

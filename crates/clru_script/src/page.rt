@@ -6,7 +6,7 @@ use crate::lines::{Line, block_len, lines_of};
 use crate::out::Out;
 use crate::words::{Words, Wrong};
 use crate::world::World;
-use crate::{cache, costs, foresight, list, makers, nodes, passes, report, requests, runs, store};
+use crate::{cache, costs, foresight, list, makers, passes, report, requests, runs, store};
 use std::alloc::{AllocError, Global};
 
 /// The script with its answers, and how many of these are faults.
@@ -135,7 +135,6 @@ fn run(world: &'static World, block: &[Line], answers: &mut Answers) {
         "costs" => costs::run(world, lines, answers),
         "makers" => makers::run(world, lines, answers),
         "list" => list::run(world, lines, answers),
-        "nodes" => nodes::run(world, lines, answers),
         "store" => store::run(world, lines, answers),
         "store_costs" => store::run_costs(world, lines, answers),
         "replay" | "misses" | "sizes" | "least" => requests::run(world, block, answers),

@@ -64,6 +64,7 @@ fn told_of<A: Allocator + Copy>(list: &mut Numbers<A>, name: &str, number: usize
             Told::Word("done")
         }
         "bring_front" => bring_front(list, number),
+        "move_back" => move_back(list, number),
         "resize" => resize(list, number),
         _ => Told::NoCall,
     }
@@ -93,6 +94,15 @@ fn bring_front<A: Allocator + Copy>(list: &mut Numbers<A>, place: usize) -> Told
         return Told::Number(None);
     }
     list.bring_front(place);
+    Told::Word("done")
+}
+
+/// Moves the item at a place to the back, which asks that one is there.
+fn move_back<A: Allocator + Copy>(list: &mut Numbers<A>, place: usize) -> Told {
+    if list.get(place).is_none() {
+        return Told::Number(None);
+    }
+    list.move_back(place);
     Told::Word("done")
 }
 

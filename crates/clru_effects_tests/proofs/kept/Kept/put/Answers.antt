@@ -1,8 +1,8 @@
 use Rattle.std.proofs.Common.{◌-◌, sym, ap, ◌∙◌, arith}
 use Rattle.std.specs.Option.{option_copied}
 use Rattle.clru_nodes.specs.Nodes.{pairs_in, capacity_of}
-use Rattle.clru_script.proofs.Apart.{apart_with_a_new_key}
-use Rattle.clru_script.proofs.nodes.kept.Kept.put.Goals as goal
+use Rattle.clru_effects_tests.proofs.Apart.{apart_with_a_new_key}
+use Rattle.clru_effects_tests.proofs.kept.Kept.put.Goals as goal
 
 pub invariant_of-self-2 : goal.invariant_of-self-2
 invariant_of-self-2 g c =
