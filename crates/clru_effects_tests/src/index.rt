@@ -58,5 +58,10 @@ fn grows(heap: &Rationed<Global>, row: Row) -> (bool, u64, bool, u64) {
     let left = stored == (refused == NONE) && kept.holds(0, filled.wrapping_add(stored as u64));
     let end = (capacity as u64).wrapping_add(100);
     let more = kept.fill(filled.wrapping_add(stored as u64), end);
-    (full && left, asked, more && kept.holds(100, end), heap.held_bytes())
+    (
+        full && left,
+        asked,
+        more && kept.holds(100, end),
+        heap.held_bytes(),
+    )
 }

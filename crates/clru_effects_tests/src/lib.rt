@@ -19,6 +19,7 @@ mod faults;
 mod forms;
 #[cfg(test)]
 mod index;
+pub mod kept;
 #[cfg(test)]
 mod lent;
 #[cfg(test)]
@@ -37,5 +38,3 @@ mod rations;
 mod shown;
 #[cfg(test)]
 mod stores;
-
-pub mod kept;

@@ -1,5 +1,7 @@
 //! The calls that a cache with any scale has.
 
+mod arms;
+
 use crate::cache::Any;
 use crate::closures::Keep;
 use crate::out::Out;
@@ -45,7 +47,7 @@ pub(crate) fn say_found(pair: Option<(&Key, &Value)>, out: &mut Out) {
 }
 
 /// Says a pair that was taken out, or that there is none.
-fn say_taken(pair: Option<(Key, Value)>, out: &mut Out) {
+pub(crate) fn say_taken(pair: Option<(Key, Value)>, out: &mut Out) {
     match &pair {
         Some((key, value)) => say_pair(key, value, out),
         None => out.say("none"),
@@ -72,33 +74,11 @@ pub(crate) fn read<S: BuildHasher, W: WeightScale<Key, Value>, A: Allocator + Co
     out: &mut Out,
 ) -> bool {
     match name {
-        "peek" => say_value(cache.peek(&Key::next(world, words)), out),
-        "contains" => out.truth(cache.contains(&Key::next(world, words))),
-        "front" => say_found(cache.front(), out),
-        "back" => say_found(cache.back(), out),
         "list" => say_list(cache.iter(), out),
         "iter" => walk(cache.iter(), words, out),
-        "is_empty" => out.truth(cache.is_empty()),
-        "is_full" => out.truth(cache.is_full()),
-        _ => match count_of(cache, name) {
-            Some(count) => out.number(count),
-            None => return false,
-        },
+        _ => return arms::read(cache, world, name, words, out),
     }
     true
-}
-
-/// What a call of the whole cache counts, or `None` where the name is none of these.
-fn count_of<S: BuildHasher, W: WeightScale<Key, Value>, A: Allocator + Copy>(
-    cache: &Any<S, W, A>,
-    name: &str,
-) -> Option<usize> {
-    match name {
-        "len" => Some(cache.len()),
-        "weight" => Some(cache.weight()),
-        "capacity" => Some(cache.capacity()),
-        _ => None,
-    }
 }
 
 /// Says the pairs, the most recently used first.
@@ -223,30 +203,12 @@ fn change<S: BuildHasher, W: WeightScale<Key, Value>, A: Allocator + Copy>(
 ) -> bool {
     match name {
         "put_with_weight" | "put_with_weight_handing_to" => put(cache, world, name, words, out),
-        "get" | "pop" => by_key(cache, name, &Key::next(world, words), out),
-        "pop_front" => say_taken(cache.pop_front(), out),
-        "pop_back" => say_taken(cache.pop_back(), out),
-        "clear" => cache.clear(),
         "resize" => cache.resize(words.capacity()),
         "retain" => retain(cache, world, words),
-        _ => return false,
+        _ => return arms::change(cache, world, name, words, out),
     }
     out.or("done");
     true
-}
-
-/// A call by a key, `get` or `pop`.
-fn by_key<S: BuildHasher, W: WeightScale<Key, Value>, A: Allocator + Copy>(
-    cache: &mut Any<S, W, A>,
-    name: &str,
-    key: &Key,
-    out: &mut Out,
-) {
-    if name == "get" {
-        say_value(cache.get(key), out);
-    } else {
-        say_popped(cache.pop(key), out);
-    }
 }
 
 /// Keeps the entries of a form.

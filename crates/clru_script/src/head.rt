@@ -64,15 +64,7 @@ impl Head {
     /// requests, or of an input, says nothing but its hash.
     pub(crate) fn read(words: &mut Words, name: &str) -> Head {
         let mut head = Head::empty();
-        let asks = [
-            "cache",
-            "costs",
-            "list",
-            "store",
-            "store_costs",
-            "runs",
-        ]
-        .contains(&name);
+        let asks = ["cache", "costs", "list", "store", "store_costs", "runs"].contains(&name);
         for _ in 0..usize::MAX {
             match words.next() {
                 Some("from_iter") | None => break,

@@ -2,6 +2,7 @@
 //! and how many hashes and requests they cost.
 
 mod answers;
+mod arms;
 mod named;
 mod numbers;
 
