@@ -154,7 +154,7 @@ def of_calls():
     arm = lambda name, says, given="": f'"{name}" => {says.format(f"cache.{name}({given})")}'
     *by_key, (_, last) = [(name, says.format(f"cache.{name}(key)")) for name, keyed, changes, says in made if keyed and changes]
     return filled(OF_CALLS, {
-        "READS": [arm(name, says, key * keyed) for name, keyed, changes, says in made if not changes and says != SAYS["usize"]],
+        "READS": [arm(name, says, key if keyed else "") for name, keyed, changes, says in made if not changes and says != SAYS["usize"]],
         "COUNTS": [arm(name, says) for name, keyed, changes, says in made if not changes and says == SAYS["usize"]],
         "BY_KEYS": [
             f"{names} => by_key(cache, name, {key}, out)"

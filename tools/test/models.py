@@ -265,6 +265,13 @@ class Cache:
             self.to_front(held)
         return found(held and held[1])
 
+    def call_demote(self, key):
+        held = self.find(key)
+        if held is not None:
+            self.pairs.remove(held)
+            self.pairs.append(held)
+        return truth(held is not None)
+
     def writes(self, pair, value):
         if pair is None:
             return "none"

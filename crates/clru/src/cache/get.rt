@@ -46,10 +46,6 @@ where
 
     /// Makes the entry of the key the least recently used, so that it goes next. Returns whether the key is held.
     /// Cost: one hash and a walk along one chain.
-    ///
-    /// ```rust
-    /// pages.demote(&page);
-    /// ```
     pub fn demote<Q: Equivalent<K>>(&mut self, key: Q) -> bool
         ensures held { result ≡ is_some (lookup (Q.equivalent key) self.old.entries) }
         ensures entries { self.new ≡ with_entries self.old (demote Q.equivalent key self.old.entries) }
