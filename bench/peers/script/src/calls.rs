@@ -50,6 +50,16 @@ pub fn answer<W: WeightScale<Key, Value> + Default>(
             stored(cache, |cache| cache.put_with_weight(key, value))
         }
         ["get", key] => shown(cache.get(&of.key(key))),
+        // The crate has none: all other entries come before it, the last one first.
+        ["demote", key] => {
+            let key = of.key(key);
+            let held = cache.contains(&key);
+            let others = cache.iter().rev().filter(|(other, _)| held && **other != key);
+            for text in others.map(|(other, _)| other.text.clone()).collect::<Vec<_>>() {
+                cache.get(&of.key(&text));
+            }
+            yes(held)
+        }
         ["pop", key] => shown(cache.pop(&of.key(key)).as_ref()),
         ["pop_front"] => shown_pair(cache.pop_front().as_ref().map(|(key, value)| (key, value))),
         ["pop_back"] => shown_pair(cache.pop_back().as_ref().map(|(key, value)| (key, value))),
