@@ -1,8 +1,8 @@
-//! What calls do beside what they answer, where a script can't say it. What is owned is dropped once, and refused memory leaves all
-//! as it was: iterators that are drawn no further than to a refusal, makers of configurations, items of a list that own memory,
-//! look-ups by a lent text, a source that takes memory of its own, memory that was lent, an index past its limit for 4 bytes,
-//! and what the allocator that refuses counts. What the programs stand on: readers that break, writers that fill up or close, what a report asks for, and what
-//! reads and writes lines.
+//! What calls do beside what they answer, where a script can't say it. What is owned is dropped once, and refused memory leaves
+//! all as it was: iterators that are drawn no further than to a refusal, makers of configurations, items of a list that own
+//! memory, look-ups by a lent text, a source that takes memory of its own, memory that was lent, an index past its limit for 4
+//! bytes, and what the allocator that refuses counts. What the programs stand on: readers that break, writers that fill up or
+//! close, what a report asks for, and what reads and writes lines.
 #![tactic(auto)]
 
 #[cfg(test)]
