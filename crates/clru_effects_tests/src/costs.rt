@@ -1,29 +1,10 @@
 //! How often a report hashes a line and asks for memory, in each form.
-ghost use Rattle.std.specs.Hash.FoldHasher as folding;
-
-use crate::fakes::plain;
-use assertions::equal;
+use crate::fakes::{Counting, plain};
 use clru_report::{Capacities, Form, NonZeroUsize, Options, Sample, run};
-use ration::Rationed;
+use ration::{Rationed, equal};
 use std::alloc::{AllocError, Global};
 use std::cell::Cell;
-use std::hash::{BuildHasher, FoldHasher};
 use std::test::Fail;
-
-/// Counts the hashers that it makes, one for each hash.
-#[derive(Clone, Copy)]
-struct Counting<'c>(&'c Cell<u64>);
-
-impl<'c> BuildHasher for Counting<'c> {
-    type Hasher = FoldHasher;
-
-    ghost build_hasher = { λ s. folding.initial };
-
-    fn build_hasher(&self) -> FoldHasher {
-        self.0.set(self.0.get().saturating_add(1));
-        FoldHasher::default()
-    }
-}
 
 /// How many lines of a thousand are new.
 const KEYS: usize = 10;

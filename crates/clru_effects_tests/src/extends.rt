@@ -1,11 +1,8 @@
 //! The memory of `extend` and of `from_iter`: their puts ask for it one by one, and the first refusal ends them.
 
-use crate::plain::{Plain, holds_those_below, takes_out_those_below};
-use assertions::equal;
+use crate::plain::{Plain, REQUESTS, holds_those_below, takes_out_those_below};
 use clru::{CLruCache, DefaultState, NoMemory, NonZeroUsize};
-use clru_fixtures::costs::REQUESTS;
-use clru_fixtures::sizes::capacity_of;
-use ration::Rationed;
+use ration::{Rationed, capacity_of, equal};
 use std::alloc::Global;
 use std::cell::Cell;
 use std::test::Fail;

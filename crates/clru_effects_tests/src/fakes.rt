@@ -1,7 +1,10 @@
-//! Readers and writers that fail, and a plain look.
+//! Readers and writers that fail, a hash builder that counts, and a plain look.
+ghost use Rattle.std.specs.Hash.FoldHasher as folding;
 
 use clru_report::Look;
 use std::alloc::Allocator;
+use std::cell::Cell;
+use std::hash::{BuildHasher, FoldHasher};
 use std::io::{self, ErrorKind, Read, Write};
 
 /// The look of a picture of which nothing is asked.
@@ -80,5 +83,20 @@ impl Write for Filling {
 
     fn flush(&mut self) -> io::Result<()> {
         Ok(())
+    }
+}
+
+/// Counts the hashers that it makes, one for each hash.
+#[derive(Clone, Copy)]
+pub(crate) struct Counting<'c>(pub(crate) &'c Cell<u64>);
+
+impl<'c> BuildHasher for Counting<'c> {
+    type Hasher = FoldHasher;
+
+    ghost build_hasher = { λ s. folding.initial };
+
+    fn build_hasher(&self) -> FoldHasher {
+        self.0.set(self.0.get().saturating_add(1));
+        FoldHasher::default()
     }
 }

@@ -1,11 +1,10 @@
 //! Reports whose reader, writer or memory fails, each with its status.
 
 use crate::fakes::{Breaking, Filling, plain};
-use assertions::equal;
 use clru_report::{
     Capacities, DefaultState, Fault, Form, Options, Sample, exit_status, run, write_report,
 };
-use ration::Rationed;
+use ration::{Rationed, equal};
 use std::alloc::{Allocator, Global};
 use std::io::ErrorKind;
 use std::process::Abort;

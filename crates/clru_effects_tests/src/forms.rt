@@ -1,10 +1,8 @@
 //! Look-ups by a form of the key: a text that is lent, where the keys own their memory.
 
-use assertions::equal;
 use clru::{CLruCache, DefaultState, NonZeroUsize, ZeroWeightScale};
 use clru_curve::{DistancePass, SizedPass};
-use clru_fixtures::sizes::capacity_of;
-use ration::Rationed;
+use ration::{Rationed, capacity_of, equal};
 use std::alloc::Global;
 use std::test::Fail;
 
@@ -12,6 +10,7 @@ type Key<'a> = String<&'a Rationed<Global>>;
 
 type Texts<'a> = CLruCache<Key<'a>, u64, DefaultState, ZeroWeightScale, &'a Rationed<Global>>;
 
+/// Also the Rust crate's test_get_with_borrow and test_get_mut_with_borrow.
 #[test]
 fn a_look_up_by_a_lent_text_asks_for_no_memory(rt: HostRuntime) -> Result<(), Fail> {
     let two = capacity_of(2)?;

@@ -1,8 +1,7 @@
 //! The index of a cache past the number of places that 4 bytes can name. No cache of a test reaches it, so the limit is lowered here.
 
 use crate::kept::Kept;
-use assertions::equal;
-use ration::Rationed;
+use ration::{Rationed, equal};
 use std::alloc::Global;
 use std::test::Fail;
 

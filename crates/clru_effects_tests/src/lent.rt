@@ -1,7 +1,7 @@
 //! Memory that was lent: what is left of it, what it refuses, and what it hands back.
 
-use assertions::{equal, shows};
 use lent_block::{LentBlock, Loan};
+use ration::{equal, shows};
 use std::alloc::{AllocError, Global};
 use std::test::Fail;
 

@@ -2,12 +2,11 @@
 //! shows.
 
 use crate::fakes::{Breaking, Filling, Piecewise};
-use assertions::equal;
 use clru_lines::{
     Key, LineBuffer, OwnedKey, ReadError, keys_of, next_line, read_input, write_text,
 };
 use clru_report::DefaultState;
-use ration::Rationed;
+use ration::{Rationed, equal};
 use std::alloc::{Allocator, Global};
 use std::hash::BuildHasher;
 use std::io::{ErrorKind, Read};

@@ -1,8 +1,7 @@
 //! Items that own memory: none of it is left once they are gone.
 
-use assertions::equal;
 use clru_list::{FixedSizeList, PushError};
-use ration::Rationed;
+use ration::{Rationed, equal};
 use std::alloc::{AllocError, Global};
 use std::test::Fail;
 

@@ -1,11 +1,8 @@
 //! Makers that find memory for their entries, and those that are refused.
 
-use crate::plain::Plain;
-use assertions::equal;
+use crate::plain::{Plain, REQUESTS};
 use clru::{CLruCache, CLruCacheConfig, NoMemory, NonZeroUsize};
-use clru_fixtures::costs::{REQUESTS, free_places};
-use clru_fixtures::sizes::capacity_of;
-use ration::Rationed;
+use ration::{Rationed, capacity_of, equal};
 use std::alloc::Global;
 use std::test::Fail;
 
@@ -54,6 +51,19 @@ fn each_refusal_leaves_no_block(rt: HostRuntime) -> Result<(), Fail> {
         }
     }
     Ok(())
+}
+
+/// How many new keys go in before one is refused or the first one goes, where each request is refused.
+fn free_places(heap: &Rationed<Global>, cache: &mut Plain) -> u64 {
+    heap.refuse_after(0);
+    let mut put = 0;
+    for key in 0..2000u64 {
+        if cache.len() == cache.capacity() || cache.put(key, key).is_err() {
+            return put;
+        }
+        put = key + 1;
+    }
+    put
 }
 
 type Config = CLruCacheConfig<u64, u64>;

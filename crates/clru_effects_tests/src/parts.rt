@@ -1,13 +1,12 @@
 //! What a cache lends of what it was made with, and what nodes and the allocator that refuses print.
 ghost use Rattle.std.specs.Prelude.{length};
 
-use assertions::{equal, shows};
+use crate::fakes::Counting;
 use clru::{CLruCache, CLruCacheConfig, DefaultState, WeightScale};
-use clru_fixtures::builders::Hashing;
-use clru_fixtures::sizes::capacity_of;
 use clru_nodes::{Item, Nodes};
-use ration::Rationed;
+use ration::{Rationed, capacity_of, equal, shows};
 use std::alloc::Global;
+use std::cell::Cell;
 use std::test::Fail;
 
 /// A text weighs its number of bytes.
@@ -22,26 +21,27 @@ impl WeightScale<u64, &'static str> for ByLength {
     }
 }
 
-type Texts<'a> = CLruCache<u64, &'static str, Hashing, ByLength, &'a Rationed<Global>>;
+type Texts<'a> = CLruCache<u64, &'static str, Counting<'a>, ByLength, &'a Rationed<Global>>;
 
 #[test]
 fn a_cache_lends_what_it_was_made_with(rt: HostRuntime) -> Result<(), Fail> {
+    let count = Cell::new(7);
     let heap = Rationed::new(rt.alloc());
     let config = CLruCacheConfig::new(capacity_of(4)?)
-        .with_hasher(Hashing(Some(7)))
+        .with_hasher(Counting(&count))
         .with_memory(1)
         .with_scale(ByLength);
     let Ok(cache) = CLruCache::with_config(&heap, config) else {
         return Err(Fail::from("no memory"));
     };
-    equal!(rt; lent_by(&cache), (Some(7), 3, 2));
+    equal!(rt; lent_by(&cache), (7, 3, 2));
     Ok(())
 }
 
-/// The fixed hash, the weight of a text, and the requests of the allocator.
-fn lent_by(cache: &Texts) -> (Option<u64>, usize, u64) {
+/// The count of hashes, the weight of a text, and the requests of the allocator.
+fn lent_by(cache: &Texts) -> (u64, usize, u64) {
     (
-        cache.hasher().0,
+        cache.hasher().0.get(),
         cache.scale().weight(&1, &"abc"),
         cache.allocator().asked(),
     )

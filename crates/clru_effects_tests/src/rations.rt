@@ -3,8 +3,7 @@
 use crate::rations::Step::{
     Capacity, Counts, Limit, Push, RefuseAfter, RefuseNone, RefuseOneAfter, Reserve, Shrink,
 };
-use assertions::equal;
-use ration::Rationed;
+use ration::{Rationed, equal};
 use std::alloc::{Allocator, Global};
 
 type Numbers<'a> = Vec<u64, &'a Rationed<Global>>;

@@ -1,8 +1,8 @@
 //! What `{:?}` prints of what the arguments ask for, and of a key.
 
-use assertions::{equal, shows};
 use clru_lines::Key;
 use clru_report::{Command, Refusal, command_of};
+use ration::{equal, shows};
 use std::alloc::Global;
 use std::test::Fail;
 

@@ -3,11 +3,9 @@ ghost use Rattle.std.specs.Prelude.{ℕ, List, Some, length, replicate, ⊤};
 ghost use Rattle.std.specs.Cmp.Rules.{comparing};
 ghost use Rattle.std.proofs.Common.{rules};
 
-use assertions::equal;
 use clru::{CLruCache, DefaultState, NonZeroUsize, WeightScale};
-use clru_fixtures::sizes::capacity_of;
 use clru_through::{Loaded, Source, Through};
-use ration::Rationed;
+use ration::{Rationed, capacity_of, equal};
 use std::alloc::{AllocError, Global};
 use std::marker::Model;
 use std::test::Fail;

@@ -5,8 +5,13 @@
 //! trait's own `grow` and `shrink` ask for the new block by `allocate`, and give the old one back by `deallocate`.
 //! It is proved that what it answers is a block of the inner allocator, of the size that was asked for. The counters are
 //! only tested (`clru_effects_tests`), since no contract can say what a cell holds.
+//!
+//! Beside it stands what crates of tests assert with: `equal!`, `shows`, `capacity_of`.
 #![tactic(auto)]
 
+mod assertions;
+
+pub use assertions::{capacity_of, shows};
 use std::alloc::{AllocError, Allocator};
 use std::cell::Cell;
 use std::fmt;

@@ -1,0 +1,123 @@
+//! Callers of the store, over a source that gives each key below 100 its double, and fails at the others.
+ghost use Rattle.std.specs.Prelude.{◌*◌, Some, ⊤};
+ghost use Rattle.std.specs.Cmp.Rules.{comparing};
+ghost use Rattle.std.proofs.Common.{rules};
+
+use clru::{CLruCache, NonZeroUsize, ZeroWeightScale};
+use clru_through::{Source, Through};
+use clru_uses::of_stores::changing::{Tickets, ticket_of};
+use clru_uses::of_stores::loads::fetches_of_all;
+use clru_uses::of_stores::parts::{made_again, store_before};
+use clru_uses::of_stores::tiers::{Tier, value_through_two};
+use clru_uses::of_stores::{
+    fetches_of, got_both, got_twice, load_beside, room_of, twice, value_of,
+};
+use ration::{capacity_of, equal};
+use std::alloc::Global;
+use std::test::Fail;
+
+#[derive(Drop)]
+struct Doubles;
+
+impl Source<u64, u64, ()> for Doubles {
+    ghost value = { λ _ key. Some (2 * key) };
+
+    ghost fetches = { λ _ _ _ _. ⊤ };
+
+    fn fetch(&mut self, key: &u64) -> Result<u64, ()> {
+        if *key < 100 { Ok(2 * *key) } else { Err(()) }
+    }
+
+    ghost same = { Prim.search (rules, comparing) };
+}
+
+type Store = Through<u64, u64, (), Doubles>;
+
+/// A store of so many values. It takes no memory yet.
+fn store_of(alloc: Global, capacity: NonZeroUsize) -> Store {
+    Through::new(CLruCache::new(alloc, capacity), Doubles)
+}
+
+#[test]
+fn callers_of_a_store_get_its_values(rt: HostRuntime) {
+    let mut store = store_of(rt.alloc(), NonZeroUsize::MIN);
+    equal!(rt; values(&mut store), (Ok(6), Ok((8, 8)), Ok((10, 12)), Ok((14, 14))));
+    equal!(rt; fetches(&mut store), (Ok(1), Ok(0), Err(()), 0));
+    equal!(rt; failures(&mut store), (Err(Some(18)), Err(None), Ok(())));
+}
+
+/// A value, or a failed fetch.
+type Fetched<T> = Result<T, ()>;
+
+fn values(
+    store: &mut Store,
+) -> (
+    Fetched<u64>,
+    Fetched<(u64, u64)>,
+    Fetched<(u64, u64)>,
+    Fetched<(u64, u64)>,
+) {
+    (
+        value_of(store, 3),
+        twice(store, 4),
+        got_both(store, 5, 6),
+        got_twice(store, 7),
+    )
+}
+
+fn fetches(store: &mut Store) -> (Fetched<u64>, Fetched<u64>, Fetched<u64>, usize) {
+    (
+        fetches_of(store, 9),
+        fetches_of(store, 9),
+        fetches_of(store, 100),
+        room_of(store),
+    )
+}
+
+/// What is held of another key where a load fails, of one that is held and of one that is not; and a load.
+fn failures(
+    store: &mut Store,
+) -> (
+    Result<(), Option<u64>>,
+    Result<(), Option<u64>>,
+    Result<(), Option<u64>>,
+) {
+    (
+        load_beside(store, 100, 9),
+        load_beside(store, 100, 10),
+        load_beside(store, 10, 9),
+    )
+}
+
+#[test]
+fn a_store_fetches_what_a_replay_misses(rt: HostRuntime) -> Result<(), Fail> {
+    let mut store = made_again(store_before(rt.alloc(), capacity_of(2)?, Doubles));
+    equal!(rt; fetches_of_all(&mut store, &[1, 2, 1, 3, 2]), Some(4));
+    store.clear();
+    equal!(rt; fetches_of_all(&mut store, &[1, 100]), None);
+    Ok(())
+}
+
+#[test]
+fn a_value_comes_through_two_stores(rt: HostRuntime) {
+    let source = Tier {
+        store: store_of(rt.alloc(), NonZeroUsize::MIN),
+    };
+    let mut store = Through::new(CLruCache::new(rt.alloc(), NonZeroUsize::MIN), source);
+    equal!(rt; both_values(&mut store), (Ok(8), Ok(8)));
+}
+
+type Tiers = Through<u64, u64, (), Tier<(), Doubles, ZeroWeightScale>>;
+
+fn both_values(store: &mut Tiers) -> (Fetched<u64>, Fetched<u64>) {
+    (value_through_two(store, 4), value_through_two(store, 4))
+}
+
+#[test]
+fn a_source_may_give_another_value_each_time(rt: HostRuntime) {
+    let cache = CLruCache::new(rt.alloc(), NonZeroUsize::MIN);
+    let mut store = Through::new(cache, Tickets { given: 0 });
+    equal!(rt; (ticket_of(&mut store, 4), ticket_of(&mut store, 4)), (Ok(5), Ok(5)));
+    store.clear();
+    equal!(rt; (ticket_of(&mut store, 4), ticket_of(&mut store, u64::MAX)), (Ok(6), Err(())));
+}
