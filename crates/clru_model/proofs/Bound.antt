@@ -142,7 +142,7 @@ module _ {K : Type 0} (eq : K → K → Bool) (laws : IsEquivalence eq) where
       let ih = rest (x ∷ phase) older u e (rw same few) (omega (arith, rw old at after)) near in
       rw (hit_within (n + g) x phase older old few) (paid_old n g m d s u e c (rw same at ih)))
       (λ new.
-      let more : distinct eq (x ∷ phase) ≡ suc d = rw new refl in
+      let more : distinct eq (x ∷ phase) ≡ 1 + d = rw new refl in
       elim (cases_lt d (n + g)) [
         | inl room ↦
             let ih = rest (x ∷ phase) older (c + u) (c + e) (rw more (omega arith)) (rw new at after) (omega arith) in

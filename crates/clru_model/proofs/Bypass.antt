@@ -56,7 +56,7 @@ module _ {K : Type 0} (eq : K → K → Bool) (laws : IsEquivalence eq) where
       let s = schedule_misses eq (next ∷ later) rs in
       rw (count_by-not-cons (holds eq x ks)) (split (holds eq x seen)
       (λ t. let same : distinct eq (x ∷ seen) ≡ distinct eq seen = rw t refl in omega arith)
-      (λ f. let more : distinct eq (x ∷ seen) ≡ suc (distinct eq seen) = rw f refl in
+      (λ f. let more : distinct eq (x ∷ seen) ≡ 1 + distinct eq seen = rw f refl in
       let missed : holds eq x ks ≡ false = split (holds eq x ks) (λ t. cc (within x t)) (λ g. g) in
       rw missed (omega arith)))
 

@@ -71,7 +71,7 @@ unfolding IsDistinct
 distinct_numbers [] d = refl
 distinct_numbers (x ∷ xs) d =
     let new : holds nat_eq x xs ≡ false = apart x xs d.0 in
-    rw new (ap suc (distinct_numbers xs d.1))
+    let ih = distinct_numbers xs d.1 in rw new (omega (arith, ih))
   where
     apart : (x : ℕ) (xs : List ℕ) → AllByRecursion (λ y. nat_eq x y ≡ false) xs → holds nat_eq x xs ≡ false
     apart x [] all = refl

@@ -39,7 +39,6 @@ pub mod Spans
 pub mod SpansByPosition
 pub mod Sublists
 pub mod Summing
-pub mod Totals
 pub mod Views
 pub mod Wanted
 pub mod Weights

@@ -15,7 +15,7 @@ use Rattle.clru_model.specs.Spans.{is_within, size_of_misses}
 use Rattle.clru_model.proofs.Bound.{miss-le-one}
 use Rattle.clru_model.proofs.Cases.{split}
 use Rattle.clru_model.proofs.Marks.{count_by-not-cons, reverse-cons-append}
-use Rattle.clru_model.proofs.Totals.{span_within}
+use Rattle.clru_model.proofs.Distinct.{span_within}
 
 module _ {K : Type 0} (eq : K → K → Bool) (weight : K → ℕ) where
   -- a request hits at the sizes from its span on
