@@ -6,7 +6,7 @@ use Rattle.std.proofs.lemmas.List.Sums.{sum_by-cons}
 use Rattle.std.specs.Cmp.{IsEquivalence}
 use Rattle.std.specs.List.{count_by}
 use Rattle.clru_model.specs.Requests.{holds, distinct}
-use Rattle.clru_model.proofs.Bound.{distinct-le-length}
+use Rattle.clru_model.proofs.Distinct.{distinct-le-length}
 use Rattle.clru_model.proofs.Cases.{split}
 use Rattle.clru_model.proofs.Distinct.{others, holds-others, holds_same, distinct_by_key}
 use Rattle.clru_least.specs.Next.{until}

@@ -9,7 +9,8 @@ use Rattle.clru_model.specs.Bypass.{IsBypassSchedule, SchedulesMayPass, Distinct
 use Rattle.clru_model.specs.Least.{RoomForAllHasDistinct}
 use Rattle.clru_model.specs.Requests.{holds, distinct, misses}
 use Rattle.clru_model.specs.Schedule.{IsSchedule, schedule_misses}
-use Rattle.clru_model.proofs.Bound.{held_of_all, miss-le-one}
+use Rattle.clru_model.proofs.Distinct.{held_of_all}
+use Rattle.clru_model.proofs.Marks.{missed-le}
 use Rattle.clru_model.proofs.Cases.{split}
 use Rattle.clru_model.proofs.Distances.{misses-room}
 use Rattle.clru_model.proofs.Distinct.{distinct_mono, holds-append}
@@ -91,7 +92,7 @@ module _ {K : Type 0} (eq : K → K → Bool) (laws : IsEquivalence eq) where
       let rest = takes_all_misses h next (x ∷ next) later rs (λ z g. or_right (eq z x) (holds eq z next) g) sched.2 in
       rw (count_by-not-cons (holds eq x front), count_by-not-cons (holds eq x ks)) (split (holds eq x ks)
       (λ t. rw (t, within x t) (omega (arith, rest)))
-      (λ f. rw f (omega (arith, rest, miss-le-one (holds eq x front)))))
+      (λ f. rw f (omega (arith, rest, missed-le (holds eq x front) 1))))
 
   pub one_key_more_is_enough : OneKeyMoreIsEnough eq
   one_key_more_is_enough h n schedule rs sched least =

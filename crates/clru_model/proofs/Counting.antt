@@ -10,7 +10,7 @@ use Rattle.std.proofs.lemmas.Option.{slice_get-get_or, get_or_from_slice_get, sl
 use Rattle.std.specs.Prelude.{nat_eq}
 use Rattle.std.specs.List.{AllByRecursion, Contains, IsDistinct}
 use Rattle.clru_model.specs.Requests.{holds, distinct}
-use Rattle.clru_model.proofs.Bound.{distinct-le-length}
+use Rattle.clru_model.proofs.Distinct.{distinct-le-length}
 use Rattle.clru_model.proofs.Distinct.{distinct_mono}
 use Rattle.clru_model.specs.ByPosition.{IsCountOf}
 use Rattle.clru_model.proofs.Positions.{HasKey_from_holds}

@@ -1,10 +1,10 @@
 -- Keys held in lists of requests, and sums over the distinct ones: their number, their size.
-use Rattle.std.proofs.Common.{◌≡◌, ℕ, suc, ◌+◌, ◌<◌, ◌≤◌, Bool, true, false, cond, not, ◌&&◌, ◌||◌, List, [], ◌∷◌, ◌++◌, refl, sym, ap, ◌∙◌, arith}
+use Rattle.std.proofs.Common.{◌≡◌, ℕ, suc, ◌+◌, ◌<◌, ◌≤◌, Bool, true, false, cond, not, ◌&&◌, ◌||◌, List, [], ◌∷◌, ◌++◌, length, refl, sym, ap, ◌∙◌, arith}
 use Rattle.std.proofs.lemmas.List.Sums.{take_while-cons}
 use Rattle.std.proofs.lemmas.Bool.Decides.{nat_tests}
-use Rattle.std.proofs.lemmas.Bool.{or_left, or_right, or_parts}
+use Rattle.std.proofs.lemmas.Bool.{or_left, or_right, or_parts, and_parts}
 use Rattle.std.specs.Cmp.{IsEquivalence}
-use Rattle.std.specs.List.{filter}
+use Rattle.std.specs.List.{filter, list_all}
 use Rattle.clru_model.proofs.Cases.{split}
 use Rattle.clru_model.specs.Requests.{holds, sum_distinct, distinct, since, hit}
 use Rattle.clru_model.specs.Sizes.{SameWeights, total}
@@ -22,6 +22,11 @@ module _ {K : Type 0} (eq : K → K → Bool) where
   -- since x, with one more request in front
   pub since-cons : (x y : K) (past : List K) → since eq x (y ∷ past) ≡ cond (eq x y) [] (y ∷ since eq x past)
   since-cons x y past = rw (take_while-cons (λ z. not (eq x z)) y past) (split (eq x y) (λ t. rw t refl) (λ f. rw f refl))
+
+  -- a list has at most as many distinct keys as keys
+  pub distinct-le-length : (ks : List K) → distinct eq ks ≤ length ks
+  distinct-le-length [] = omega arith
+  distinct-le-length (k ∷ ks) = let ih = distinct-le-length ks in split (holds eq k ks) (λ t. rw t (omega arith)) (λ f. rw f (omega arith))
 
 module _ {K : Type 0} (eq : K → K → Bool) (laws : IsEquivalence eq) where
   -- keys that are the same are held together
@@ -53,6 +58,21 @@ module _ {K : Type 0} (eq : K → K → Bool) (laws : IsEquivalence eq) where
   pub not_since : (x : K) (past : List K) → holds eq x (since eq x past) ≡ false
   not_since x [] = refl
   not_since x (y ∷ past) = rw (since-cons eq x y past) (split (eq x y) (λ t. rw t refl) (λ f. rw (f, f) (not_since x past)))
+
+  -- each key for which a list passes a test of being held is held
+  pub held_of_all : (ks ls : List K) → list_all (λ q. holds eq q ls) ks ≡ true → (z : K) → holds eq z ks ≡ true → holds eq z ls ≡ true
+  held_of_all (k ∷ ks) ls all z h =
+      let parts = and_parts (holds eq k ls) (list_all (λ q. holds eq q ls) ks) all in
+      split (eq z k) (λ t. holds_same z k ls t ∙ parts.0) (λ f. held_of_all ks ls parts.1 z (rw f at h))
+  held_of_all [] ls all z h = cc
+
+  -- the requests since one of the latest requests
+  pub since-append : (x : K) (phase older : List K) → holds eq x phase ≡ true → since eq x (phase ++ older) ≡ since eq x phase
+  since-append x [] older h = cc
+  since-append x (y ∷ phase) older h =
+      rw (since-cons eq x y (phase ++ older), since-cons eq x y phase) (split (eq x y)
+      (λ t. rw t refl)
+      (λ f. rw f (ap (λ l. y ∷ l) (since-append x phase older (rw f at h)))))
 
   -- what is requested since x is requested before
   pub since_within : (x z : K) (past : List K) → holds eq z (since eq x past) ≡ true → holds eq z past ≡ true

@@ -7,7 +7,7 @@ use Rattle.std.specs.Cmp.{IsEquivalence}
 use Rattle.std.specs.List.{list_all}
 use Rattle.clru_model.specs.Least.{IsNearFromAnyStart, LeastIsThere, LeastIsNearFromAnyStart}
 use Rattle.clru_model.specs.Requests.{holds, distinct}
-use Rattle.clru_model.proofs.Bound.{distinct-le-length}
+use Rattle.clru_model.proofs.Distinct.{distinct-le-length}
 use Rattle.clru_model.proofs.Cases.{split}
 use Rattle.clru_model.proofs.Distinct.{others, holds_same, holds-others, distinct_by_key}
 use Rattle.clru_model.proofs.Least.{least_is_one}

@@ -9,7 +9,7 @@ use Rattle.std.specs.List.{Contains, IsDistinct, sum_by}
 use Rattle.clru_model.specs.Requests.{holds}
 use Rattle.clru_model.specs.Sizes.{total}
 use Rattle.clru_model.specs.SpansByPosition.{IsSumOf}
-use Rattle.clru_model.proofs.Bound.{distinct-le-length}
+use Rattle.clru_model.proofs.Distinct.{distinct-le-length}
 use Rattle.clru_model.proofs.Cases.{split}
 use Rattle.clru_model.proofs.Counting.{AreAll, all_next, distinct_numbers, holds_from_Contains, Contains_from_holds}
 use Rattle.clru_model.proofs.Distinct.{distinct_mono}

@@ -11,6 +11,7 @@ pub mod Requests
 pub mod Runs
 pub mod Schedule
 pub mod SizedRuns
+pub mod SizedSchedule
 pub mod Sizes
 pub mod Spans
 pub mod SpansByPosition
