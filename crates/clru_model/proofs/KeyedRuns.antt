@@ -63,7 +63,7 @@ module _ {K V : Type 0} (eq : K → K → Bool) (weight : K → ℕ) (pair_weigh
 
 module _ {K V : Type 0} (eq : K → K → Bool) (pair_weight : K → V → ℕ) where
   -- a key that is held has an entry, beside which the others are less by its size
-  held_entry : (x : K) (es : List (K × V)) → holds eq x (keys_of es) ≡ true → (e : K × V) × (lookup_entry (eq x) es ≡ Some e)
+  pub held_entry : (x : K) (es : List (K × V)) → holds eq x (keys_of es) ≡ true → (e : K × V) × (lookup_entry (eq x) es ≡ Some e)
       × (eq x e.0 ≡ true) × (1 + pair_weight e.0 e.1 + size_of pair_weight (without eq x es) ≡ size_of pair_weight es)
   held_entry x [] h = cc
   held_entry x (e ∷ es) h =

@@ -4,6 +4,7 @@ pub mod ByPosition
 pub mod Bypass
 pub mod BypassRows
 pub mod Cases
+pub mod Cuts
 pub mod Counting
 pub mod Distances
 pub mod Distinct
@@ -14,6 +15,7 @@ pub mod EntryRows
 pub mod Finding
 pub mod Fitting
 pub mod Forms
+pub mod GetRuns
 pub mod Growing
 pub mod Hits
 pub mod Inclusion

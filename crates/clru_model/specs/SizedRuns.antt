@@ -4,8 +4,10 @@ use Rattle.std.specs.List.{slice_get}
 use Rattle.std.specs.Map.{keys_of}
 use Rattle.clru_model.specs.Entries.{touch, size_of, weighted_put}
 use Rattle.clru_model.specs.Requests.{holds}
-use Rattle.clru_model.specs.Runs.{held_before}
+use Rattle.clru_model.specs.Runs.{IsRunOf, IsGetOr, held_before}
+use Rattle.clru_model.specs.SizedSchedule.{IsCompetitiveBySize, IsCompetitiveBySizeFromAnyStart}
 use Rattle.clru_model.specs.Sizes.{SameWeights, marks_by_size}
+use Rattle.clru_model.specs.Spans.{size_of_misses}
 
 module _ {K V : Type 0} (eq : K → K → Bool) (weight : K → V → ℕ) (c : ℕ) where
   -- the entries after a put of the key x by its weight under the capacity c, which takes the pair: those after a weighted put
@@ -17,16 +19,9 @@ module _ {K V : Type 0} (eq : K → K → Bool) (weight : K → V → ℕ) (c : 
     pub light : weight key value < c
     pub entries : next ≡ weighted_put eq weight c key value es
 
-  -- the first of the later lists is the one after such a put of x
-  abbrev pub SizedPutsNext : List (K × V) → K → List (List (K × V)) → Type 0
-  SizedPutsNext es x [] = ⊥
-  SizedPutsNext es x (next ∷ later) = IsSizedPut x es next
-
   -- the entries before each request and at the end, where each request in turn is a put of its key by its weight
   abbrev pub IsSizedPutRun : List (List (K × V)) → List K → Type 0
-  IsSizedPutRun [] requests = ⊥
-  IsSizedPutRun (es ∷ later) [] = later ≡ []
-  IsSizedPutRun (es ∷ later) (x ∷ requests) = SizedPutsNext es x later × IsSizedPutRun later requests
+  IsSizedPutRun run requests = IsRunOf IsSizedPut run requests
 
 -- of the entries after each put, the first pair, which was put, weighs what its key does
 abbrev pub PutsWeighAsKeys : {K V : Type 0} → (K → ℕ) → (K → V → ℕ) → List (List (K × V)) → Type 0
@@ -46,3 +41,24 @@ module _ {K : Type 0} (eq : K → K → Bool) (V : Type 0) where
   abbrev pub TouchesArePuts : Type 0
   TouchesArePuts = (pair_weight : K → V → ℕ) (c : ℕ) (x : K) (es : List (K × V)) → size_of pair_weight es ≤ c
       → holds eq x (keys_of es) ≡ true → IsSizedPut eq pair_weight c x es (touch eq x es)
+
+  -- and so, from entries that fit, a run of look-ups, each followed by a put where it finds nothing, is a run of puts
+  abbrev pub SizedGetsOrPutsArePuts : Type 0
+  SizedGetsOrPutsArePuts = (pair_weight : K → V → ℕ) (c : ℕ) (requests : List K) (first : List (K × V))
+      (later : List (List (K × V))) → size_of pair_weight first ≤ c
+      → IsRunOf (IsGetOr (IsSizedPut eq pair_weight c) eq) (first ∷ later) requests
+      → IsSizedPutRun eq pair_weight c (first ∷ later) requests
+
+  -- the sizes of the requests whose key is not held before their put keep the bound by size beside schedules that start empty
+  abbrev pub SizedPutsCompete : Type 0
+  SizedPutsCompete = (weight : K → ℕ) (pair_weight : K → V → ℕ) (c : ℕ) (requests : List K) (later : List (List (K × V)))
+      → SameWeights eq weight → PutsWeighAsKeys weight pair_weight later
+      → IsSizedPutRun eq pair_weight c ([] ∷ later) requests
+      → IsCompetitiveBySize eq weight c requests (size_of_misses weight (held_before eq ([] ∷ later) requests) requests)
+
+  -- and that beside schedules that start with any keys
+  abbrev pub SizedPutsCompeteFromAnyStart : Type 0
+  SizedPutsCompeteFromAnyStart = (weight : K → ℕ) (pair_weight : K → V → ℕ) (c : ℕ) (requests : List K)
+      (later : List (List (K × V))) → SameWeights eq weight → PutsWeighAsKeys weight pair_weight later
+      → IsSizedPutRun eq pair_weight c ([] ∷ later) requests
+      → IsCompetitiveBySizeFromAnyStart eq weight c requests (size_of_misses weight (held_before eq ([] ∷ later) requests) requests)

@@ -2,7 +2,7 @@
 use Rattle.std.specs.Prelude.{ℕ, ◌+◌, ◌-◌, ◌*◌, ◌≤◌, Bool, if◌then◌else◌, List, [], ◌∷◌}
 use Rattle.clru_model.specs.Requests.{holds}
 use Rattle.clru_model.specs.Schedule.{Schedules, Serves}
-use Rattle.clru_model.specs.Sizes.{total}
+use Rattle.clru_model.specs.Sizes.{SameWeights, total, missed_size}
 
 module _ {K : Type 0} (eq : K → K → Bool) (weight : K → ℕ) where
   -- a schedule of the size h for the requests: the distinct keys held are of that size at most
@@ -26,3 +26,14 @@ module _ {K : Type 0} (eq : K → K → Bool) (weight : K → ℕ) where
   IsCompetitiveBySizeFromAnyStart c requests m = (h : ℕ) (schedule : List (List K))
       → 1 ≤ h → h ≤ c → IsScheduleBySize h schedule requests
       → (c - h + 1) * m ≤ c * schedule_missed_size schedule requests + h * (c - h + 1)
+
+module _ {K : Type 0} (eq : K → K → Bool) where
+  -- what misses at a size keeps the bound beside schedules that start empty
+  abbrev pub MissedSizeCompetes : Type 0
+  MissedSizeCompetes = (weight : K → ℕ) (c : ℕ) (requests : List K) → SameWeights eq weight
+      → IsCompetitiveBySize eq weight c requests (missed_size eq weight c requests)
+
+  -- and that beside schedules that start with any keys
+  abbrev pub MissedSizeCompetesFromAnyStart : Type 0
+  MissedSizeCompetesFromAnyStart = (weight : K → ℕ) (c : ℕ) (requests : List K) → SameWeights eq weight
+      → IsCompetitiveBySizeFromAnyStart eq weight c requests (missed_size eq weight c requests)
