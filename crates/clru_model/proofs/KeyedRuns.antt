@@ -5,6 +5,12 @@ use Rattle.std.specs.List.{AllByRecursion}
 use Rattle.std.specs.Map.{keys_of, lookup_entry}
 use Rattle.clru_model.specs.Entries.{without, size_of, fit, weighted_put}
 use Rattle.clru_model.specs.Requests.{holds}
+use Rattle.clru_model.specs.Runs.{held_before}
+use Rattle.clru_model.specs.SizedSchedule.{IsCompetitiveBySize, IsCompetitiveBySizeFromAnyStart}
+use Rattle.clru_model.specs.Sizes.{SameWeights, missed_size}
+use Rattle.clru_model.specs.Spans.{size_of_misses}
+use Rattle.clru_model.proofs.Bound.{competitive_by_size, competitive_by_size_from_any_start}
+use Rattle.clru_model.proofs.Spans.{missed_by_marks}
 use Rattle.clru_model.specs.SizedRuns.{IsSizedPutRun, PutsWeighAsKeys, SizedPutsHit, TouchesArePuts}
 use Rattle.clru_model.proofs.Cases.{split}
 use Rattle.clru_model.proofs.Fitting.{size_of-cons, sublist_fit, whole_is_too_long, too_long_fits}
@@ -96,3 +102,17 @@ module _ {K : Type 0} (eq : K → K → Bool) (V : Type 0) where
         light = omega (arith, size, small);
         entries = rw (found, ← without_same eq pair_weight laws x e.0 es same) (ap (λ l. e ∷ l) all);
       }
+
+  module _ (laws : IsEquivalence eq) (weight : K → ℕ) (pair_weight : K → V → ℕ) (c : ℕ) (rs : List K) (later : List (List (K × V)))
+      (same : SameWeights eq weight) (puts : PutsWeighAsKeys weight pair_weight later) (run : IsSizedPutRun eq pair_weight c ([] ∷ later) rs) where
+    -- the size of the puts whose key is not held before them is what is missed
+    not_held_size : size_of_misses weight (held_before eq ([] ∷ later) rs) rs ≡ missed_size eq weight c rs
+    not_held_size = ap (λ ms. size_of_misses weight ms rs) (sized_puts_hit laws weight pair_weight c rs later same puts run)
+        ∙ sym (missed_by_marks eq weight c [] rs)
+
+    pub sized_puts_compete : IsCompetitiveBySize eq weight c rs (size_of_misses weight (held_before eq ([] ∷ later) rs) rs)
+    sized_puts_compete = subst (IsCompetitiveBySize eq weight c rs) (sym not_held_size) (competitive_by_size eq laws weight same c rs)
+
+    pub sized_puts_compete_from_any_start : IsCompetitiveBySizeFromAnyStart eq weight c rs (size_of_misses weight (held_before eq ([] ∷ later) rs) rs)
+    sized_puts_compete_from_any_start =
+        subst (IsCompetitiveBySizeFromAnyStart eq weight c rs) (sym not_held_size) (competitive_by_size_from_any_start eq laws weight same c rs)

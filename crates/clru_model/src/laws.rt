@@ -4,9 +4,12 @@ ghost use Rattle.clru_model.specs.Laws.{TrueMarksAreHits, OneMarkForEach, Misses
 ghost use Rattle.clru_model.specs.Laws.{SchedulesAreByPosition, FalseMarksAreMisses, ScheduleMissesAreByPosition};
 ghost use Rattle.clru_model.specs.Laws.{HitsGrow, MissesFall};
 ghost use Rattle.clru_model.specs.Laws.{LesserBeginsGreater};
-ghost use Rattle.clru_model.specs.Laws.{PutsHit, PutsCompete, PutsCompeteFromAnyStart};
+ghost use Rattle.clru_model.specs.Laws.{CutsMissMore, CutsMissFewMore, SomeKeysMissLess};
+ghost use Rattle.clru_model.specs.Laws.{PutsHit, PutsCompete, PutsCompeteFromAnyStart, GetsOrPutsArePuts, DropsAreMissesNotLeft};
 ghost use Rattle.clru_model.specs.Laws.{FitIsLongest, OnlyFitIsLongest};
-ghost use Rattle.clru_model.specs.SizedRuns.{SizedPutsHit, TouchesArePuts};
+ghost use Rattle.clru_model.specs.SizedRuns.{SizedPutsHit, TouchesArePuts, SizedGetsOrPutsArePuts};
+ghost use Rattle.clru_model.specs.SizedRuns.{SizedPutsCompete, SizedPutsCompeteFromAnyStart};
+ghost use Rattle.clru_model.specs.SizedSchedule.{MissedSizeCompetes, MissedSizeCompetesFromAnyStart};
 ghost use Rattle.clru_model.specs.Spans.{HitsAreWithin, MarksAreWithin, MissedSizeIsOfMarks, RoomForTotalMissesFirst};
 ghost use Rattle.clru_model.specs.Spans.{HitsBySizeGrow, MissesBySizeFall, MissedSizeFalls};
 ghost use Rattle.clru_model.specs.Spans.{WeightlessTotalIsDistinct, WeightlessMarksAreMarks, WeightlessMissedSizeIsMisses};
@@ -66,6 +69,8 @@ pub fn law_requests<K: Eq, V>()
     ensures hits { PutsHit K.eq V }
     ensures bound { PutsCompete K.eq V }
     ensures bound_any_start { PutsCompeteFromAnyStart K.eq V }
+    ensures gets { GetsOrPutsArePuts K.eq V }
+    ensures drops { DropsAreMissesNotLeft K.eq V }
 {}
 
 /// Does nothing at run time. Its contract says that what a weighted put keeps of the other entries, which is defined by
@@ -120,6 +125,7 @@ pub fn law_distances<K: Eq>()
 pub fn law_sizes<K: Eq, V>()
     ensures puts { SizedPutsHit K.eq V }
     ensures gets { TouchesArePuts K.eq V }
+    ensures gets_or_puts { SizedGetsOrPutsArePuts K.eq V }
     ensures hits { HitsAreWithin K.eq }
     ensures marks { MarksAreWithin K.eq }
     ensures missed_size { MissedSizeIsOfMarks K.eq }
@@ -131,6 +137,25 @@ pub fn law_sizes<K: Eq, V>()
     ensures weightless_marks { WeightlessMarksAreMarks K.eq }
     ensures weightless_size { WeightlessMissedSizeIsMisses K.eq }
     ensures weightless_span { WeightlessSpanIsDistance K.eq }
+{}
+
+/// Does nothing at run time. Its contract states the competitive bound by size. If equal keys have equal weights, then at the
+/// size `c` the missed size is at most `c / (c - h + 1)` times what any schedule of the size `h` misses, for `h` from 1 to `c`,
+/// and beside schedules that start with keys at most `h` more than that. Weighted puts of a cache keep the bound too.
+pub fn law_size_bound<K: Eq, V>()
+    ensures bound { MissedSizeCompetes K.eq }
+    ensures bound_any_start { MissedSizeCompetesFromAnyStart K.eq }
+    ensures puts { SizedPutsCompete K.eq V }
+    ensures puts_any_start { SizedPutsCompeteFromAnyStart K.eq V }
+{}
+
+/// Does nothing at run time. Its contract compares the misses of a list with those of its parts. Cut in two, the parts counted
+/// each from an empty cache have at least the misses of the whole, and at most the capacity more. The requests for some of the
+/// keys, as a sample has them, have no more misses than all requests.
+pub fn law_parts<K: Eq>()
+    ensures cut { CutsMissMore K.eq }
+    ensures cut_few { CutsMissFewMore K.eq }
+    ensures some_keys { SomeKeysMissLess K.eq }
 {}
 
 /// Does nothing at run time. Its contract says how many requests miss: at each capacity at least the first of each key, and at
