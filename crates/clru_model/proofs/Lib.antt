@@ -14,6 +14,7 @@ pub mod Ends
 pub mod EntryRows
 pub mod Finding
 pub mod Fitting
+pub mod Floor
 pub mod Forms
 pub mod GetRuns
 pub mod Growing

@@ -4,6 +4,7 @@ pub mod Bypass
 pub mod Distances
 pub mod Entries
 pub mod Errors
+pub mod Floor
 pub mod Laws
 pub mod Least
 pub mod Refusals
