@@ -45,7 +45,7 @@ module _ {K : Type 0} (eq : K → K → Bool) where
   schedule_fits fits held later (x ∷ rs) sched = sched.0
 
   -- what a schedule of requests that weigh nothing misses is its misses
-  schedule_missed_weightless : (held : List (List K)) (rs : List K) → schedule_missed_size eq (λ _. 0) held rs ≡ schedule_misses eq held rs
+  pub schedule_missed_weightless : (held : List (List K)) (rs : List K) → schedule_missed_size eq (λ _. 0) held rs ≡ schedule_misses eq held rs
   schedule_missed_weightless [] rs = refl
   schedule_missed_weightless (ks ∷ later) [] = refl
   schedule_missed_weightless (ks ∷ later) (x ∷ rs) = rw (count_by-not-cons (holds eq x ks)) (ap (λ n. cond (holds eq x ks) 0 1 + n) (schedule_missed_weightless later rs))
