@@ -51,7 +51,7 @@ module _ {K : Type 0} (eq : K → K → Bool) where
   schedule_missed_weightless (ks ∷ later) (x ∷ rs) = rw (count_by-not-cons (holds eq x ks)) (ap (λ n. cond (holds eq x ks) 0 1 + n) (schedule_missed_weightless later rs))
 
   -- and one of few keys is one of as small a size
-  schedule_weightless : (h : ℕ) (held : List (List K)) (rs : List K) → IsSchedule eq h held rs → IsScheduleBySize eq (λ _. 0) h held rs
+  pub schedule_weightless : (h : ℕ) (held : List (List K)) (rs : List K) → IsSchedule eq h held rs → IsScheduleBySize eq (λ _. 0) h held rs
   schedule_weightless h [] rs sched = sched
   schedule_weightless h (ks ∷ later) [] sched = (omega (arith, sched.0, distinct-le-length eq ks), sched.1)
   schedule_weightless h (ks ∷ later) (x ∷ rs) sched =

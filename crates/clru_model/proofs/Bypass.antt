@@ -8,7 +8,7 @@ use Rattle.std.specs.List.{list_all}
 use Rattle.clru_model.specs.Bypass.{ServesOrPasses, IsBypassSchedule, SchedulesMayPass, DistinctIsFloor, OneKeyMoreIsEnough}
 use Rattle.clru_model.specs.Least.{RoomForAllHasDistinct}
 use Rattle.clru_model.specs.Requests.{holds, distinct, misses}
-use Rattle.clru_model.specs.Schedule.{Schedules, IsSchedule, schedule_misses}
+use Rattle.clru_model.specs.Schedule.{Schedules, Serves, IsSchedule, schedule_misses}
 use Rattle.clru_model.specs.SizedSchedule.{schedule_missed_size}
 use Rattle.clru_model.specs.Sizes.{SameWeights, total}
 use Rattle.clru_model.proofs.Bound.{schedule_missed_weightless}
@@ -22,11 +22,15 @@ use Rattle.clru_model.proofs.Positions.{holds-reverse}
 use Rattle.clru_model.proofs.ReplaySchedules.{all_held, replay_attained}
 
 module _ {K : Type 0} (eq : K → K → Bool) where
+  pub may_pass : (fits : List K → Type 0) (held : List (List K)) (rs : List K) → Schedules fits (Serves eq) held rs
+      → Schedules fits (ServesOrPasses eq) held rs
+  may_pass fits [] rs sched = absurd sched
+  may_pass fits (ks ∷ later) [] sched = sched
+  may_pass fits (ks ∷ []) (x ∷ rs) sched = absurd sched.1
+  may_pass fits (ks ∷ next ∷ later) (x ∷ rs) sched = (sched.0, sched.1.0, may_pass fits (next ∷ later) rs sched.2)
+
   pub schedules_may_pass : SchedulesMayPass eq
-  schedules_may_pass h [] rs sched = absurd sched
-  schedules_may_pass h (ks ∷ later) [] sched = sched
-  schedules_may_pass h (ks ∷ []) (x ∷ rs) sched = absurd sched.1
-  schedules_may_pass h (ks ∷ next ∷ later) (x ∷ rs) sched = (sched.0, sched.1.0, schedules_may_pass h (next ∷ later) rs sched.2)
+  schedules_may_pass h held rs sched = may_pass (λ ks. length ks ≤ h) held rs sched
 
   bypass_short : (h : ℕ) (ks : List K) (later : List (List K)) (rs : List K) → IsBypassSchedule eq h (ks ∷ later) rs → length ks ≤ h
   bypass_short h ks later [] sched = sched.0

@@ -6,11 +6,11 @@ use Rattle.std.proofs.Math.Nat.{le-div_iff_mul-le, max-le}
 use Rattle.std.proofs.lemmas.List.Sums.{sum_by-cons}
 use Rattle.std.specs.List.{AllByRecursion, list_all, sum_by}
 use Rattle.clru_model.specs.Bypass.{ServesOrPasses}
-use Rattle.clru_model.specs.Floor.{greatest_by, gap, gaps_after, price_of_hits, HitsArePaid, FloorIsBelow, SizeFloorIsBelow}
+use Rattle.clru_model.specs.Floor.{greatest_by, gap, gaps_after, price_of_hits, HitsArePaid, FloorIsBelow, SizeFloorIsBelow, FloorIsBelowLeast}
 use Rattle.clru_model.specs.Floor.{IsBypassScheduleBySize, volume, volumes_after, spared_after, most_hits}
 use Rattle.clru_model.specs.Schedule.{Schedules, schedule_misses}
-use Rattle.clru_model.proofs.Bound.{schedule_missed_weightless}
-use Rattle.clru_model.proofs.Bypass.{total_is_floor, misses_distinct}
+use Rattle.clru_model.proofs.Bound.{schedule_missed_weightless, schedule_weightless}
+use Rattle.clru_model.proofs.Bypass.{may_pass, total_is_floor, misses_distinct}
 use Rattle.clru_model.specs.SizedSchedule.{schedule_missed_size}
 use Rattle.clru_model.specs.Requests.{holds, sum_distinct, distinct, since}
 use Rattle.clru_model.specs.Sizes.{SameWeights, total}
@@ -156,3 +156,9 @@ module _ {K : Type 0} (eq : K → K → Bool) (laws : IsEquivalence eq) where
       sum_by_ones : (rs : List K) → sum_by (λ _. 1) rs ≡ length rs
       sum_by_ones [] = refl
       sum_by_ones (x ∷ rs) = omega (arith, sum_by-cons (λ (_ : K). 1) x rs, sum_by_ones rs)
+
+  pub floor_is_below_least : FloorIsBelowLeast eq
+  floor_is_below_least h n rs least =
+      let a = least.attained in
+      let sched = may_pass eq (λ ks. total eq (λ _. 0) ks ≤ h) ([] ∷ a.schedule) rs (schedule_weightless eq h ([] ∷ a.schedule) rs a.serves) in
+      omega (arith, floor_is_below (λ _. 0) h a.schedule rs (λ _ _ _. refl) sched, a.misses)

@@ -3,6 +3,7 @@
 use Rattle.std.specs.Prelude.{ℕ, suc, ◌+◌, ◌-◌, ◌*◌, ◌/◌, ◌≤◌, max, Bool, if◌then◌else◌, List, [], ◌∷◌, length, reverse}
 use Rattle.std.specs.List.{sum_by}
 use Rattle.clru_model.specs.Bypass.{ServesOrPasses}
+use Rattle.clru_model.specs.Least.{IsLeast}
 use Rattle.clru_model.specs.Requests.{holds, distinct, since}
 use Rattle.clru_model.specs.Schedule.{Schedules, schedule_misses}
 use Rattle.clru_model.specs.SizedSchedule.{schedule_missed_size}
@@ -80,3 +81,7 @@ module _ {K : Type 0} (eq : K → K → Bool) where
   SizeFloorIsBelow = (weight : K → ℕ) (h : ℕ) (schedule : List (List K)) (requests : List K)
       → SameWeights eq weight → IsBypassScheduleBySize eq weight h ([] ∷ schedule) requests
       → floor_missed_size eq weight h requests ≤ schedule_missed_size eq weight ([] ∷ schedule) requests
+
+  -- where keys weigh nothing it is no more than the least possible misses
+  abbrev pub FloorIsBelowLeast : Type 0
+  FloorIsBelowLeast = (h n : ℕ) (requests : List K) → IsLeast eq h requests n → floor_misses eq (λ _. 0) h requests ≤ n

@@ -1,12 +1,12 @@
 -- Runs of puts by weight, where the weight of a pair is that of its key. Public clauses cite them.
-use Rattle.std.specs.Prelude.{◌≡◌, ℕ, ◌<◌, ◌≤◌, Bool, true, Some, List, [], ◌∷◌}
+use Rattle.std.specs.Prelude.{◌≡◌, ℕ, ◌<◌, ◌≤◌, Bool, true, false, if◌then◌else◌, nat_lt, Some, List, [], ◌∷◌}
 use Rattle.std.specs.List.{slice_get}
 use Rattle.std.specs.Map.{keys_of}
 use Rattle.clru_model.specs.Entries.{touch, size_of, weighted_put}
 use Rattle.clru_model.specs.Requests.{holds}
 use Rattle.clru_model.specs.Runs.{IsRunOf, IsGetOr, held_before}
 use Rattle.clru_model.specs.SizedSchedule.{IsCompetitiveBySize, IsCompetitiveBySizeFromAnyStart}
-use Rattle.clru_model.specs.Sizes.{SameWeights, marks_by_size}
+use Rattle.clru_model.specs.Sizes.{SameWeights, hit_by_size, marks_by_size}
 use Rattle.clru_model.specs.Spans.{size_of_misses}
 
 module _ {K V : Type 0} (eq : K → K → Bool) (weight : K → V → ℕ) (c : ℕ) where
@@ -22,6 +22,24 @@ module _ {K V : Type 0} (eq : K → K → Bool) (weight : K → V → ℕ) (c : 
   -- the entries before each request and at the end, where each request in turn is a put of its key by its weight
   abbrev pub IsSizedPutRun : List (List (K × V)) → List K → Type 0
   IsSizedPutRun run requests = IsRunOf IsSizedPut run requests
+
+-- the entries after a request of x by its weight: those after such a put where it is below the capacity, and else the same
+pub record IsPutIfLight {K V : Type 0} (eq : K → K → Bool) (weight : K → ℕ) (pair_weight : K → V → ℕ) (c : ℕ)
+    (x : K) (es next : List (K × V)) : Type 0 where
+  pub light : weight x < c → IsSizedPut eq pair_weight c x es next
+  pub heavy : c ≤ weight x → next ≡ es
+
+module _ {K : Type 0} (eq : K → K → Bool) (weight : K → ℕ) (c : ℕ) where
+  -- for each request in order whether it hits, after the requests of the past: where it is too heavy it misses, and is not
+  -- among the past of the others
+  abbrev pub marks_of_light_after : List K → List K → List Bool
+  marks_of_light_after past [] = []
+  marks_of_light_after past (x ∷ rs) = if nat_lt (weight x) c
+      then hit_by_size eq weight c x past ∷ marks_of_light_after (x ∷ past) rs
+      else false ∷ marks_of_light_after past rs
+
+  abbrev pub marks_of_light : List K → List Bool
+  marks_of_light requests = marks_of_light_after [] requests
 
 -- of the entries after each put, the first pair, which was put, weighs what its key does
 abbrev pub PutsWeighAsKeys : {K V : Type 0} → (K → ℕ) → (K → V → ℕ) → List (List (K × V)) → Type 0
@@ -62,3 +80,10 @@ module _ {K : Type 0} (eq : K → K → Bool) (V : Type 0) where
       (later : List (List (K × V))) → SameWeights eq weight → PutsWeighAsKeys weight pair_weight later
       → IsSizedPutRun eq pair_weight c ([] ∷ later) requests
       → IsCompetitiveBySizeFromAnyStart eq weight c requests (size_of_misses weight (held_before eq ([] ∷ later) requests) requests)
+
+  -- where puts of keys that are too heavy are refused, all others hit as if those were not there
+  abbrev pub LightPutsHit : Type 0
+  LightPutsHit = (weight : K → ℕ) (pair_weight : K → V → ℕ) (c : ℕ) (requests : List K) (later : List (List (K × V)))
+      → SameWeights eq weight → PutsWeighAsKeys weight pair_weight later
+      → IsRunOf (IsPutIfLight eq weight pair_weight c) ([] ∷ later) requests
+      → held_before eq ([] ∷ later) requests ≡ marks_of_light eq weight c requests

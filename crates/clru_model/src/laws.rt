@@ -7,7 +7,7 @@ ghost use Rattle.clru_model.specs.Laws.{LesserBeginsGreater};
 ghost use Rattle.clru_model.specs.Laws.{CutsMissMore, CutsMissFewMore, SomeKeysMissLess};
 ghost use Rattle.clru_model.specs.Laws.{PutsHit, PutsCompete, PutsCompeteFromAnyStart, GetsOrPutsArePuts, DropsAreMissesNotLeft};
 ghost use Rattle.clru_model.specs.Laws.{FitIsLongest, OnlyFitIsLongest};
-ghost use Rattle.clru_model.specs.SizedRuns.{SizedPutsHit, TouchesArePuts, SizedGetsOrPutsArePuts};
+ghost use Rattle.clru_model.specs.SizedRuns.{SizedPutsHit, LightPutsHit, TouchesArePuts, SizedGetsOrPutsArePuts};
 ghost use Rattle.clru_model.specs.SizedRuns.{SizedPutsCompete, SizedPutsCompeteFromAnyStart};
 ghost use Rattle.clru_model.specs.SizedSchedule.{MissedSizeCompetes, MissedSizeCompetesFromAnyStart};
 ghost use Rattle.clru_model.specs.Spans.{HitsAreWithin, MarksAreWithin, MissedSizeIsOfMarks, RoomForTotalMissesFirst};
@@ -19,6 +19,7 @@ ghost use Rattle.clru_model.specs.Least.{LeastIsThere, LeastIsOne, LeastFalls, R
 ghost use Rattle.clru_model.specs.Least.{ReplayIsSchedule, LeastIsBelowReplay, ReplayIsNearLeast};
 ghost use Rattle.clru_model.specs.Bounds.{DistinctMiss, NoMoreMiss, NoMoreSizeMisses, SizesMissMore, RoomForGreatestMissesLess};
 ghost use Rattle.clru_model.specs.Bypass.{SchedulesMayPass, DistinctIsFloor, OneKeyMoreIsEnough};
+ghost use Rattle.clru_model.specs.Floor.{HitsArePaid, FloorIsBelow, SizeFloorIsBelow, FloorIsBelowLeast};
 
 /// Does nothing at run time. Its contract says that the hits, misses and numbers of distinct keys that the other contracts
 /// cite, which are defined by computing, are those that a sentence about positions describes.
@@ -120,10 +121,12 @@ pub fn law_distances<K: Eq>()
 /// key leaves what a put of its pair does. A request hits at the sizes from its span on, so one list of spans has the hits at every
 /// size. Where each key weighs 0, all this is what it is for numbers of keys.
 ///
-/// Of keys whose weight changes between their puts it says nothing: what room an entry gave up does not bring back what went
-/// for it. Nor does it at a capacity that is not above each weight, where puts are refused.
+/// At a capacity that is not above each weight, puts of the heavier keys are refused and miss, and the others hit as if those
+/// were not there. Of keys whose weight changes between their puts it says nothing: what room an entry gave up does not bring
+/// back what went for it.
 pub fn law_sizes<K: Eq, V>()
     ensures puts { SizedPutsHit K.eq V }
+    ensures light_puts { LightPutsHit K.eq V }
     ensures gets { TouchesArePuts K.eq V }
     ensures gets_or_puts { SizedGetsOrPutsArePuts K.eq V }
     ensures hits { HitsAreWithin K.eq }
@@ -147,6 +150,17 @@ pub fn law_size_bound<K: Eq, V>()
     ensures bound_any_start { MissedSizeCompetesFromAnyStart K.eq }
     ensures puts { SizedPutsCompete K.eq V }
     ensures puts_any_start { SizedPutsCompeteFromAnyStart K.eq V }
+{}
+
+/// Does nothing at run time. Its contract says that no schedule that starts empty misses less than the floor, in requests or in
+/// size, and that no price of hits helps: what hits takes room at each position since the latest request of its key. Schedules
+/// may let requested keys pass by. If equal keys have equal weights. Where keys weigh nothing the floor is at most the least
+/// possible misses.
+pub fn law_floor<K: Eq>()
+    ensures paid { HitsArePaid K.eq }
+    ensures misses { FloorIsBelow K.eq }
+    ensures missed_size { SizeFloorIsBelow K.eq }
+    ensures below_least { FloorIsBelowLeast K.eq }
 {}
 
 /// Does nothing at run time. Its contract compares the misses of a list with those of its parts. Cut in two, the parts counted

@@ -1,6 +1,6 @@
 use Rattle.std.proofs.Common.{[]}
 use Rattle.clru_model.proofs.GetRuns.{sized_gets_or_puts_are_puts}
-use Rattle.clru_model.proofs.KeyedRuns.{sized_puts_hit, touches_are_puts}
+use Rattle.clru_model.proofs.KeyedRuns.{sized_puts_hit, light_puts_hit, touches_are_puts}
 use Rattle.clru_model.proofs.Spans as spans
 use Rattle.clru_model.proofs.laws.law_sizes.Goals as goal
 
@@ -50,3 +50,6 @@ returns-clause-weightless_span g c weight x past none = spans.span_weightless g.
 
 pub returns-clause-gets_or_puts : goal.returns-clause-gets_or_puts
 returns-clause-gets_or_puts g c = sized_gets_or_puts_are_puts g.K.PartialEq.eq g.row.V.Denot g.met.K.Eq.laws
+
+pub returns-clause-light_puts : goal.returns-clause-light_puts
+returns-clause-light_puts g c = light_puts_hit g.K.PartialEq.eq g.row.V.Denot g.met.K.Eq.laws
