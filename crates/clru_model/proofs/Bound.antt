@@ -1,18 +1,18 @@
 -- What is missed at a size against what any schedule misses; and so the misses at a capacity.
-use Rattle.std.proofs.Common.{◌≡◌, ℕ, suc, ◌+◌, ◌-◌, ◌*◌, ◌≤◌, Bool, true, false, cond, not, ◌||◌}
-use Rattle.std.proofs.Common.{List, [], ◌∷◌, ◌++◌, length, refl, ap, ◌∙◌, subst, arith, inl, inr, leb, append-nil, mul-le-mul_left, mul-le-mul_right}
+use Rattle.std.proofs.Common.{◌≡◌, ℕ, ◌+◌, ◌-◌, ◌*◌, ◌≤◌, Bool, true, false, cond, ◌||◌}
+use Rattle.std.proofs.Common.{List, [], ◌∷◌, ◌++◌, refl, ap, ◌∙◌, subst, arith, inl, inr, append-nil, mul-le-mul_left, mul-le-mul_right}
 use Rattle.std.proofs.Math.Bool.{or_comm}
-use Rattle.std.proofs.lemmas.Bool.{or_left, or_right, and_parts, or_cases, cases_lt, le-leb}
+use Rattle.std.proofs.lemmas.Bool.{or_left, or_right, or_cases, cases_lt, le-leb}
 use Rattle.std.specs.Cmp.{IsEquivalence}
 use Rattle.std.specs.List.{list_all}
-use Rattle.clru_model.specs.Requests.{holds, distinct, since, misses}
+use Rattle.clru_model.specs.Requests.{holds, since, misses}
 use Rattle.clru_model.specs.Schedule.{Schedules, Serves, IsSchedule, schedule_misses, IsCompetitive, IsCompetitiveFromAnyStart}
 use Rattle.clru_model.specs.SizedSchedule.{IsScheduleBySize, schedule_missed_size, IsCompetitiveBySize, IsCompetitiveBySizeFromAnyStart}
 use Rattle.clru_model.specs.Sizes.{SameWeights, total, hit_by_size, missed_size_after, missed_size}
 use Rattle.clru_model.proofs.Cases.{split}
 use Rattle.clru_model.proofs.Marks.{count_by-not-cons, missed-le}
 use Rattle.clru_model.proofs.Distinct.{distinct-le-length, held_of_all, since-append, holds-append, holds_same, since_within, total_mono, total_since_less}
-use Rattle.clru_model.proofs.Spans.{missed_weightless, total_weightless}
+use Rattle.clru_model.proofs.Spans.{missed_weightless}
 
 -- The induction's claim on numbers, with n = c - h + 1 and g = h - 1: what is to be missed, m, and the size d of the phase so far are paid for by
 -- what the schedule is to miss, s, and by the size u of the keys seen, of which at most e was missed

@@ -1,12 +1,12 @@
 -- The misses of a list that is cut in two, and those of the requests for some of its keys.
-use Rattle.std.proofs.Common.{◌≡◌, ℕ, suc, ◌+◌, ◌-◌, ◌≤◌, Bool, true, false, cond, not, List, [], ◌∷◌, ◌++◌, refl, ap, ◌∙◌, arith, inl, inr, ltb, ltb-true, lt-ltb}
+use Rattle.std.proofs.Common.{◌≡◌, ℕ, ◌+◌, ◌-◌, ◌≤◌, Bool, true, false, cond, not, List, [], ◌∷◌, ◌++◌, refl, ap, ◌∙◌, arith, inl, inr, ltb, ltb-true, lt-ltb}
 use Rattle.std.proofs.Common.{nat_lt, reverse, sym}
-use Rattle.std.proofs.lemmas.Bool.{or_left, or_right, and_parts, and_from, cases_lt}
+use Rattle.std.proofs.lemmas.Bool.{and_parts, cases_lt}
 use Rattle.std.proofs.lemmas.Bool.Decides.{nat_tests}
 use Rattle.std.specs.Cmp.{IsEquivalence}
 use Rattle.std.specs.List.{filter, count_by}
 use Rattle.clru_model.specs.Laws.{CutsMissMore, CutsMissFewMore, SomeKeysMissLess}
-use Rattle.clru_model.specs.Requests.{holds, distinct, since, hit, marks_after, misses}
+use Rattle.clru_model.specs.Requests.{holds, distinct, since, hit, marks_after}
 use Rattle.clru_model.proofs.Cases.{split}
 use Rattle.clru_model.proofs.Distinct.{holds-append, since-append, since-cons, distinct_mono}
 use Rattle.clru_model.proofs.Marks.{count_by-not-cons, count_by-not-append, marks_after-append, missed-le}

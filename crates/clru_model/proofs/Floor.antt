@@ -1,10 +1,10 @@
 -- What the hits of any schedule take of its room.
-use Rattle.std.proofs.Common.{◌≡◌, ℕ, suc, ◌+◌, ◌-◌, ◌*◌, ◌/◌, ◌≤◌, Bool, true, false, cond, not, ◌&&◌, List, [], ◌∷◌, length, refl, sym, ap, ◌∙◌, arith, inl, inr, reverse, mul-le-mul_left}
+use Rattle.std.proofs.Common.{◌≡◌, ℕ, ◌+◌, ◌-◌, ◌*◌, ◌/◌, ◌≤◌, Bool, true, not, ◌&&◌, List, [], ◌∷◌, length, refl, ap, ◌∙◌, arith, inl, inr, reverse, mul-le-mul_left}
 use Rattle.std.proofs.lemmas.Bool.{and_parts, and_from, cases_lt}
 use Rattle.std.specs.Cmp.{IsEquivalence}
 use Rattle.std.proofs.Math.Nat.{le-div_iff_mul-le, max-le}
 use Rattle.std.proofs.lemmas.List.Sums.{sum_by-cons}
-use Rattle.std.specs.List.{AllByRecursion, list_all, sum_by}
+use Rattle.std.specs.List.{AllByRecursion, sum_by}
 use Rattle.clru_model.specs.Bypass.{ServesOrPasses}
 use Rattle.clru_model.specs.Floor.{greatest_by, gap, gaps_after, price_of_hits, HitsArePaid, FloorIsBelow, SizeFloorIsBelow, FloorIsBelowLeast}
 use Rattle.clru_model.specs.Floor.{IsBypassScheduleBySize, volume, volumes_after, spared_after, most_hits}

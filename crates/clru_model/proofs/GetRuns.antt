@@ -1,13 +1,12 @@
 -- Runs of look-ups, each followed by a put where it finds nothing, are runs of puts; and what runs of puts drop.
-use Rattle.std.proofs.Common.{◌≡◌, ℕ, ◌+◌, ◌-◌, ◌≤◌, Bool, true, false, cond, not, Some, None, List, [], ◌∷◌, length, refl, sym, ap, ◌∙◌, subst, arith}
+use Rattle.std.proofs.Common.{◌≡◌, ℕ, ◌-◌, ◌≤◌, Bool, List, [], ◌∷◌, refl, sym, ap, ◌∙◌, subst, arith}
 use Rattle.std.specs.Cmp.{IsEquivalence}
-use Rattle.std.specs.List.{slice_get, count_by}
 use Rattle.std.specs.Map.{keys_of}
 use Rattle.clru_model.specs.Entries.{without, size_of, fit, weighted_put}
 use Rattle.clru_model.specs.Laws.{GetsOrPutsArePuts}
 use Rattle.clru_model.specs.Requests.{holds}
-use Rattle.clru_model.specs.Runs.{IsRunOf, IsGetOr, IsPut, IsPutRun}
-use Rattle.clru_model.specs.SizedRuns.{IsSizedPut, IsSizedPutRun, SizedGetsOrPutsArePuts}
+use Rattle.clru_model.specs.Runs.{IsRunOf, IsGetOr, IsPut}
+use Rattle.clru_model.specs.SizedRuns.{IsSizedPut, SizedGetsOrPutsArePuts}
 use Rattle.clru_model.proofs.Cases.{split}
 use Rattle.clru_model.proofs.Fitting.{size_of-cons, size_of-fit}
 use Rattle.clru_model.proofs.KeyedRuns.{held_entry, touches_are_puts}

@@ -85,9 +85,10 @@ module _ {K V : Type 0} (eq : K → K → Bool) (weight : K → ℕ) (pair_weigh
       let put = put_by_key c x es next all (puts 0) (run.0.light light) in
       (record { light = λ l. put.0; heavy = λ h. absurd (omega (arith, light, h)) }, light_run_by_key c next later rs put.1 (λ i. puts (suc i)) run.1))
       (λ f. let heavy = ltb-false (weight x) c f in
-      let same = run.0.heavy heavy in
-      (record { light = λ l. absurd (omega (arith, l, heavy)); heavy = λ h. same },
-      light_run_by_key c next later rs (subst (λ l. WeighAsKeys l) (sym same) all) (λ i. puts (suc i)) run.1))
+      let same = run.0.heavy heavy in (
+        record { light = λ l. absurd (omega (arith, l, heavy)); heavy = λ h. same },
+        light_run_by_key c next later rs (subst (λ l. WeighAsKeys l) (sym same) all) (λ i. puts (suc i)) run.1,
+      ))
 
 module _ {K V : Type 0} (eq : K → K → Bool) (pair_weight : K → V → ℕ) where
   -- a key that is held has an entry, beside which the others are less by its size

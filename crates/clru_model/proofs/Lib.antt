@@ -4,6 +4,7 @@ pub mod ByPosition
 pub mod Bypass
 pub mod BypassRows
 pub mod Cases
+pub mod ChangingWeights
 pub mod Cuts
 pub mod Counting
 pub mod Distances

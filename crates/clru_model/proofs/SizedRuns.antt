@@ -49,7 +49,7 @@ module _ {K V : Type 0} (weight : K → V → ℕ) where
 module _ {K V : Type 0} (eq : K → K → Bool) (laws : IsEquivalence eq) (weight : K → ℕ) (same : SameWeights eq weight)
     (pair_weight : K → V → ℕ) (by_key : (k : K) (v : V) → pair_weight k v ≡ weight k) where
   -- what fits beside x is the same where more fitted with it
-  fit-without-fit : (x : K) (i : ℕ) (es : List (K × V))
+  pub fit-without-fit : (x : K) (i : ℕ) (es : List (K × V))
       → fit pair_weight i (without eq x (fit pair_weight (i + (1 + weight x)) es)) ≡ fit pair_weight i (without eq x es)
   unfolding fit
   fit-without-fit x i [] = refl
@@ -91,10 +91,10 @@ module _ {K V : Type 0} (eq : K → K → Bool) (laws : IsEquivalence eq) (weigh
       rw (v, over) (split (holds eq x (keys_of es)) (λ h. rw h refl) (λ h. rw h refl)))))
 
   -- entries for all keys that were requested, each once, the latest request first
-  record IsOrder (past : List K) (es : List (K × V)) : Type 0 where
-    held : (y : K) → holds eq y (keys_of es) ≡ holds eq y past
-    held_before_it : (y z : K) → holds eq z (keys_of (before eq y es)) ≡ holds eq z (since eq y past)
-    size_before_it : (y : K) → size_of pair_weight (before eq y es) ≡ total eq weight (since eq y past)
+  pub record IsOrder (past : List K) (es : List (K × V)) : Type 0 where
+    pub held : (y : K) → holds eq y (keys_of es) ≡ holds eq y past
+    pub held_before_it : (y z : K) → holds eq z (keys_of (before eq y es)) ≡ holds eq z (since eq y past)
+    pub size_before_it : (y : K) → size_of pair_weight (before eq y es) ≡ total eq weight (since eq y past)
 
   -- an entry that is taken out
   before-without : (x y : K) (es : List (K × V)) → eq x y ≡ false → before eq y (without eq x es) ≡ without eq x (before eq y es)
@@ -125,11 +125,11 @@ module _ {K V : Type 0} (eq : K → K → Bool) (laws : IsEquivalence eq) (weigh
       (λ f. rw f (omega (arith, sum, size_of-cons pair_weight e (without eq x es), size_of-without x es)))
 
   -- before the first request there are none
-  order_none : IsOrder [] []
+  pub order_none : IsOrder [] []
   order_none = record { held = λ y. refl; held_before_it = λ y z. refl; size_before_it = λ y. refl }
 
   -- after a request of x its entry comes first
-  order_cons : {past : List K} {es : List (K × V)} (x key : K) (value : V) → eq x key ≡ true → IsOrder past es
+  pub order_cons : {past : List K} {es : List (K × V)} (x key : K) (value : V) → eq x key ≡ true → IsOrder past es
       → IsOrder (x ∷ past) ((key, value) ∷ without eq key es)
   order_cons {past} {es} x key value e order = record {
     held = held;
@@ -173,7 +173,7 @@ module _ {K V : Type 0} (eq : K → K → Bool) (laws : IsEquivalence eq) (weigh
 
   module _ (c : ℕ) where
     -- what fits of those entries holds the keys that hit
-    held_hits : {past : List K} {all es : List (K × V)} (x : K) → IsOrder past all → es ≡ fit pair_weight c all
+    pub held_hits : {past : List K} {all es : List (K × V)} (x : K) → IsOrder past all → es ≡ fit pair_weight c all
         → holds eq x (keys_of es) ≡ hit_by_size eq weight c x past
     held_hits {past} {all} x order is =
         ap (λ l. holds eq x (keys_of l)) is ∙ holds-fit x c all ∙ rw (order.held x, order.size_before_it x) refl

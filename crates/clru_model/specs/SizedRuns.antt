@@ -46,6 +46,11 @@ abbrev pub PutsWeighAsKeys : {K V : Type 0} → (K → ℕ) → (K → V → ℕ
 PutsWeighAsKeys {K} {V} weight pair_weight later = (i : ℕ) (key : K) (value : V) (rest : List (K × V))
     → slice_get later i ≡ Some ((key, value) ∷ rest) → pair_weight key value ≡ weight key
 
+-- of the entries after each put, the first pair, which was put, weighs from the low weight of its key to the high one
+abbrev pub PutsWeighBetween : {K V : Type 0} → (low high : K → ℕ) → (K → V → ℕ) → List (List (K × V)) → Type 0
+PutsWeighBetween {K} {V} low high pair_weight later = (i : ℕ) (key : K) (value : V) (rest : List (K × V))
+    → slice_get later i ≡ Some ((key, value) ∷ rest) → (low key ≤ pair_weight key value) × (pair_weight key value ≤ high key)
+
 module _ {K : Type 0} (eq : K → K → Bool) (V : Type 0) where
   -- where each pair that is put weighs what its key does, a run of puts by weight from the empty list holds a key before its
   -- put exactly where the request hits by size
@@ -87,3 +92,19 @@ module _ {K : Type 0} (eq : K → K → Bool) (V : Type 0) where
       → SameWeights eq weight → PutsWeighAsKeys weight pair_weight later
       → IsRunOf (IsPutIfLight eq weight pair_weight c) ([] ∷ later) requests
       → held_before eq ([] ∷ later) requests ≡ marks_of_light eq weight c requests
+
+  -- where the weight of a key changes between its puts, a key that would hit by the high weights is held before its put
+  abbrev pub HighHitsAreHeld : Type 0
+  HighHitsAreHeld = (low high : K → ℕ) (pair_weight : K → V → ℕ) (c i : ℕ) (requests : List K) (later : List (List (K × V)))
+      → SameWeights eq low → SameWeights eq high → PutsWeighBetween low high pair_weight later
+      → IsSizedPutRun eq pair_weight c ([] ∷ later) requests
+      → slice_get (marks_by_size eq high c requests) i ≡ Some true
+      → slice_get (held_before eq ([] ∷ later) requests) i ≡ Some true
+
+  -- and one that is held would hit by the low ones
+  abbrev pub HeldHitsByLow : Type 0
+  HeldHitsByLow = (low high : K → ℕ) (pair_weight : K → V → ℕ) (c i : ℕ) (requests : List K) (later : List (List (K × V)))
+      → SameWeights eq low → SameWeights eq high → PutsWeighBetween low high pair_weight later
+      → IsSizedPutRun eq pair_weight c ([] ∷ later) requests
+      → slice_get (held_before eq ([] ∷ later) requests) i ≡ Some true
+      → slice_get (marks_by_size eq low c requests) i ≡ Some true

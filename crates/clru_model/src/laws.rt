@@ -8,6 +8,7 @@ ghost use Rattle.clru_model.specs.Laws.{CutsMissMore, CutsMissFewMore, SomeKeysM
 ghost use Rattle.clru_model.specs.Laws.{PutsHit, PutsCompete, PutsCompeteFromAnyStart, GetsOrPutsArePuts, DropsAreMissesNotLeft};
 ghost use Rattle.clru_model.specs.Laws.{FitIsLongest, OnlyFitIsLongest};
 ghost use Rattle.clru_model.specs.SizedRuns.{SizedPutsHit, LightPutsHit, TouchesArePuts, SizedGetsOrPutsArePuts};
+ghost use Rattle.clru_model.specs.SizedRuns.{HighHitsAreHeld, HeldHitsByLow};
 ghost use Rattle.clru_model.specs.SizedRuns.{SizedPutsCompete, SizedPutsCompeteFromAnyStart};
 ghost use Rattle.clru_model.specs.SizedSchedule.{MissedSizeCompetes, MissedSizeCompetesFromAnyStart};
 ghost use Rattle.clru_model.specs.Spans.{HitsAreWithin, MarksAreWithin, MissedSizeIsOfMarks, RoomForTotalMissesFirst};
@@ -122,11 +123,13 @@ pub fn law_distances<K: Eq>()
 /// size. Where each key weighs 0, all this is what it is for numbers of keys.
 ///
 /// At a capacity that is not above each weight, puts of the heavier keys are refused and miss, and the others hit as if those
-/// were not there. Of keys whose weight changes between their puts it says nothing: what room an entry gave up does not bring
-/// back what went for it.
+/// were not there. If the weight of a key changes between its puts, what would hit by the highest weights is held, and what is
+/// held would hit by the lowest.
 pub fn law_sizes<K: Eq, V>()
     ensures puts { SizedPutsHit K.eq V }
     ensures light_puts { LightPutsHit K.eq V }
+    ensures changing_high { HighHitsAreHeld K.eq V }
+    ensures changing_low { HeldHitsByLow K.eq V }
     ensures gets { TouchesArePuts K.eq V }
     ensures gets_or_puts { SizedGetsOrPutsArePuts K.eq V }
     ensures hits { HitsAreWithin K.eq }

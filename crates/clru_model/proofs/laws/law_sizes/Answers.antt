@@ -1,4 +1,5 @@
 use Rattle.std.proofs.Common.{[]}
+use Rattle.clru_model.proofs.ChangingWeights.{high_hits_are_held, held_hits_by_low}
 use Rattle.clru_model.proofs.GetRuns.{sized_gets_or_puts_are_puts}
 use Rattle.clru_model.proofs.KeyedRuns.{sized_puts_hit, light_puts_hit, touches_are_puts}
 use Rattle.clru_model.proofs.Spans as spans
@@ -53,3 +54,9 @@ returns-clause-gets_or_puts g c = sized_gets_or_puts_are_puts g.K.PartialEq.eq g
 
 pub returns-clause-light_puts : goal.returns-clause-light_puts
 returns-clause-light_puts g c = light_puts_hit g.K.PartialEq.eq g.row.V.Denot g.met.K.Eq.laws
+
+pub returns-clause-changing_high : goal.returns-clause-changing_high
+returns-clause-changing_high g c = high_hits_are_held g.K.PartialEq.eq g.row.V.Denot g.met.K.Eq.laws
+
+pub returns-clause-changing_low : goal.returns-clause-changing_low
+returns-clause-changing_low g c = held_hits_by_low g.K.PartialEq.eq g.row.V.Denot g.met.K.Eq.laws
