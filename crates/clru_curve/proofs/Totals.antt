@@ -1,7 +1,7 @@
 -- The size of distinct keys as a measure of requests.
 use Rattle.std.proofs.Common.{ℕ, ◌+◌, Bool, refl, arith}
 use Rattle.std.specs.Cmp.{IsEquivalence}
-use Rattle.clru_model.proofs.Totals.{total_since_since}
+use Rattle.clru_model.proofs.Distinct.{total_since_since}
 use Rattle.clru_model.specs.Sizes.{SameWeights, total}
 use Rattle.clru_curve.proofs.Ranks.{IsMeasure}
 

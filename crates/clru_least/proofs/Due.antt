@@ -6,7 +6,7 @@ use Rattle.std.proofs.lemmas.List.Sums.{sum_by-cons}
 use Rattle.std.specs.Cmp.{IsEquivalence}
 use Rattle.std.specs.List.{count_by}
 use Rattle.clru_model.specs.Requests.{holds, distinct}
-use Rattle.clru_model.proofs.Bound.{distinct-le-length}
+use Rattle.clru_model.proofs.Distinct.{distinct-le-length}
 use Rattle.clru_model.proofs.Cases.{split}
 use Rattle.clru_model.proofs.Distinct.{others, holds-others, holds_same, distinct_by_key}
 use Rattle.clru_least.specs.Next.{until}
@@ -57,7 +57,7 @@ module _ {K : Type 0} (eq : K → K → Bool) (laws : IsEquivalence eq) where
       let parts = AreApart_parts eq k ks apart in
       let ih = AreApart_others x ks parts.1 in
       let none : holds eq k (others eq x ks) ≡ false = holds-others eq laws k x ks ∙ split (eq x k) (λ t. rw t refl) (λ f. rw (f, parts.0) refl) in
-      split (eq x k) (λ t. rw t ih) (λ f. rw (f, none) (ap suc ih))
+      split (eq x k) (λ t. rw t ih) (λ f. rw (f, none) (omega (arith, ih)))
 
   -- a key that is held is one of the keys
   pub length-others : (x : K) (ks : List K) → AreApart eq ks → length ks ≡ cond (holds eq x ks) 1 0 + length (others eq x ks)
@@ -70,7 +70,7 @@ module _ {K : Type 0} (eq : K → K → Bool) (laws : IsEquivalence eq) where
   pub AreApart_first : (x : K) (ks : List K) → AreApart eq ks → AreApart eq (x ∷ others eq x ks)
   AreApart_first x ks apart =
       let none : holds eq x (others eq x ks) ≡ false = holds-others eq laws x x ks ∙ rw (laws.refl x) refl in
-      rw none (ap suc (AreApart_others x ks apart))
+      let ih = AreApart_others x ks apart in rw none (omega (arith, ih))
 
   -- a key that is held counts once
   pub count_by_key : (f : K → Bool) (z : K) (ks : List K) → ((y : K) → eq z y ≡ true → f z ≡ f y) → AreApart eq ks → holds eq z ks ≡ true

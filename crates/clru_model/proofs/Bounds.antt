@@ -8,7 +8,7 @@ use Rattle.std.specs.List.{AllByRecursion, sum_by, count_by}
 use Rattle.clru_model.specs.Bounds.{DistinctMiss, NoMoreMiss, NoMoreSizeMisses, SizesMissMore, RoomForGreatestMissesLess}
 use Rattle.clru_model.specs.Requests.{holds, distinct, since, hit, marks_after}
 use Rattle.clru_model.specs.Sizes.{total, hit_by_size, marks_by_size_after, missed_size_after}
-use Rattle.clru_model.proofs.Bound.{miss-le-one}
+use Rattle.clru_model.proofs.Marks.{missed-le}
 use Rattle.clru_model.proofs.Cases.{split}
 use Rattle.clru_model.proofs.Distinct.{since-cons}
 use Rattle.clru_model.proofs.Marks.{count_by-not-cons, reverse-cons-append}
@@ -28,7 +28,7 @@ module _ {K : Type 0} (eq : K → K → Bool) where
   no_more_miss_after : (k : ℕ) (past rs : List K) → count_by not (marks_after eq k past rs) ≤ length rs
   no_more_miss_after k past [] = omega arith
   no_more_miss_after k past (x ∷ rs) =
-      rw (count_by-not-cons (hit eq k x past)) (omega (arith, miss-le-one (hit eq k x past), no_more_miss_after k (x ∷ past) rs))
+      rw (count_by-not-cons (hit eq k x past)) (omega (arith, missed-le (hit eq k x past) 1, no_more_miss_after k (x ∷ past) rs))
 
   pub no_more_miss : NoMoreMiss eq
   no_more_miss k rs = no_more_miss_after k [] rs
@@ -65,7 +65,7 @@ module _ {K : Type 0} (eq : K → K → Bool) where
         let rest = sizes_miss_more_after c (x ∷ past) rs in
         rw (count_by-not-cons (hit eq c x past), count_by-not-cons (hit_by_size eq weight c x past)) (split (hit_by_size eq weight c x past)
         (λ t. rw (t, hit_from_size c x past t) (omega (arith, rest)))
-        (λ f. rw f (omega (arith, rest, miss-le-one (hit eq c x past)))))
+        (λ f. rw f (omega (arith, rest, missed-le (hit eq c x past) 1))))
 
     module _ (g : ℕ) where
       abbrev AreUpTo : List K → Type 0
@@ -102,7 +102,7 @@ module _ {K : Type 0} (eq : K → K → Bool) where
           let rest = room_misses_less_after k (x ∷ past) rs (all.0, before) all.1 in
           rw (count_by-not-cons (hit_by_size eq weight ((g + 1) * k) x past), count_by-not-cons (hit eq k x past)) (split (hit eq k x past)
           (λ t. rw (t, hit_with_room k x past all.0 before t) (omega (arith, rest)))
-          (λ f. rw f (omega (arith, rest, miss-le-one (hit_by_size eq weight ((g + 1) * k) x past)))))
+          (λ f. rw f (omega (arith, rest, missed-le (hit_by_size eq weight ((g + 1) * k) x past) 1))))
 
   pub no_more_size_misses : NoMoreSizeMisses eq
   no_more_size_misses weight c rs = no_more_size_misses_after weight c [] rs

@@ -10,7 +10,7 @@ use Rattle.std.proofs.lemmas.Option.{slice_get-get_or, get_or_from_slice_get, sl
 use Rattle.std.specs.Prelude.{nat_eq}
 use Rattle.std.specs.List.{AllByRecursion, Contains, IsDistinct}
 use Rattle.clru_model.specs.Requests.{holds, distinct}
-use Rattle.clru_model.proofs.Bound.{distinct-le-length}
+use Rattle.clru_model.proofs.Distinct.{distinct-le-length}
 use Rattle.clru_model.proofs.Distinct.{distinct_mono}
 use Rattle.clru_model.specs.ByPosition.{IsCountOf}
 use Rattle.clru_model.proofs.Positions.{HasKey_from_holds}
@@ -71,7 +71,7 @@ unfolding IsDistinct
 distinct_numbers [] d = refl
 distinct_numbers (x ∷ xs) d =
     let new : holds nat_eq x xs ≡ false = apart x xs d.0 in
-    rw new (ap suc (distinct_numbers xs d.1))
+    let ih = distinct_numbers xs d.1 in rw new (omega (arith, ih))
   where
     apart : (x : ℕ) (xs : List ℕ) → AllByRecursion (λ y. nat_eq x y ≡ false) xs → holds nat_eq x xs ≡ false
     apart x [] all = refl

@@ -1,5 +1,5 @@
 -- Hits, marks and misses by the distances of requests.
-use Rattle.std.proofs.Common.{◌≡◌, ℕ, suc, ◌+◌, ◌≤◌, Bool, true, false, cond, List, [], ◌∷◌, map, reverse, refl, ap, ◌∙◌, arith}
+use Rattle.std.proofs.Common.{◌≡◌, ℕ, ◌+◌, ◌≤◌, Bool, true, false, cond, List, [], ◌∷◌, map, reverse, refl, ap, ◌∙◌, arith}
 use Rattle.std.proofs.lemmas.Bool.Decides.{nat_tests}
 use Rattle.std.proofs.lemmas.List.{reverse-append, reverse-reverse}
 use Rattle.std.specs.Prelude.{nat_lt}
@@ -39,7 +39,7 @@ module _ {K : Type 0} (eq : K → K → Bool) (laws : IsEquivalence eq) where
       let here : hit eq k x past ≡ true = rw t low in
       let ih = misses-room k past before in
       rw t (pushed ∙ rw here (omega (arith, ih))))
-      (λ f. let above : suc (distinct eq past) ≤ k = rw f at room in
+      (λ f. let above = rw f at room in
       let here : hit eq k x past ≡ false = rw f refl in
       let ih = misses-room k past (omega (arith, above)) in
       rw f (pushed ∙ rw here (omega (arith, ih))))

@@ -118,7 +118,7 @@ module _ {K : Type 0} (eq : K → K → Bool) where
       subst (λ l. IsCountOf (IsFirstAt eq l) (distinct eq (x ∷ older))) (sym (reverse-append (x ∷ []) older))
       (distinct_next (reverse older) x (distinct eq older) (distinct eq (x ∷ older)) (distinct_of_past older)
       (λ t. let held : holds eq x older ≡ true = sym (holds-reverse eq x older) ∙ t in rw held refl)
-      (λ f. let new : holds eq x older ≡ false = sym (holds-reverse eq x older) ∙ f in rw new refl))
+      (λ f. let new : holds eq x older ≡ false = sym (holds-reverse eq x older) ∙ f in rw new (omega arith)))
 
   -- the distinct keys are those that stand somewhere first
   pub distinct_by_position : (ks : List K) → IsCountOf (IsFirstAt eq ks) (distinct eq (reverse ks))

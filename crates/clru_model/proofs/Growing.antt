@@ -5,7 +5,7 @@ use Rattle.std.proofs.lemmas.Option.{same_Some}
 use Rattle.std.specs.List.{slice_get, count_by}
 use Rattle.clru_model.proofs.Cases.{split}
 use Rattle.clru_model.specs.Requests.{holds, distinct, since, hit, marks_after, marks, misses}
-use Rattle.clru_model.proofs.Bound.{miss-le-one}
+use Rattle.clru_model.proofs.Marks.{missed-le}
 use Rattle.clru_model.proofs.Marks.{count_by-not-cons}
 
 module _ {K : Type 0} (eq : K → K → Bool) {k l : ℕ} (more : k ≤ l) where
@@ -27,7 +27,7 @@ module _ {K : Type 0} (eq : K → K → Bool) {k l : ℕ} (more : k ≤ l) where
       let ih = misses_after_fall (x ∷ past) rs in
       rw (count_by-not-cons (hit eq l x past), count_by-not-cons (hit eq k x past)) (split (hit eq k x past)
       (λ t. rw (t, hit_grows past x t) (omega arith))
-      (λ f. rw f (omega (arith, miss-le-one (hit eq l x past)))))
+      (λ f. rw f (omega (arith, missed-le (hit eq l x past) 1))))
 
   -- a true mark stays true at a greater capacity
   pub marks_grow : (rs : List K) (i : ℕ) → slice_get (marks eq k rs) i ≡ Some true → slice_get (marks eq l rs) i ≡ Some true

@@ -1,13 +1,13 @@
 -- There is a least number of misses: that of dropping the key that is requested again last.
 use Rattle.std.proofs.Common.{◌≡◌, ℕ, zero, suc, ◌+◌, ◌≤◌, Bool, true, false, cond, not, ◌⊎◌, inl, inr}
-use Rattle.std.proofs.Common.{List, [], ◌∷◌, length, take, refl, ap, ◌∙◌, subst, arith}
+use Rattle.std.proofs.Common.{List, [], ◌∷◌, length, take, refl, ◌∙◌, subst, arith}
 use Rattle.std.proofs.lemmas.Bool.{or_left, or_right, and_parts, cases_lt}
 use Rattle.std.proofs.lemmas.List.Sums.{length-filter, count_by-le-length}
 use Rattle.std.specs.Cmp.{IsEquivalence}
 use Rattle.std.specs.List.{list_all}
 use Rattle.clru_model.specs.Least.{IsNearFromAnyStart, LeastIsThere, LeastIsNearFromAnyStart}
 use Rattle.clru_model.specs.Requests.{holds, distinct}
-use Rattle.clru_model.proofs.Bound.{distinct-le-length}
+use Rattle.clru_model.proofs.Distinct.{distinct-le-length}
 use Rattle.clru_model.proofs.Cases.{split}
 use Rattle.clru_model.proofs.Distinct.{others, holds_same, holds-others, distinct_by_key}
 use Rattle.clru_model.proofs.Least.{least_is_one}
@@ -108,7 +108,7 @@ module _ {K : Type 0} (eq : K → K → Bool) (laws : IsEquivalence eq) where
       let without_x : holds eq x left ≡ false = rw (holds-others eq laws x l.key ms, new) (split (eq l.key x) (λ t. rw t refl) (λ f. rw f refl)) in
       let within : (z : K) → holds eq z left ≡ true → holds eq z ms ≡ true = λ z g.
       (and_parts (not (eq l.key z)) (holds eq z ms) (rw (holds-others eq laws z l.key ms) at g)).1 in
-      let many : distinct eq (x ∷ left) ≡ suc (distinct eq left) = rw without_x refl in
+      let many : distinct eq (x ∷ left) ≡ 1 + distinct eq left = rw without_x refl in
       record {
         next = x ∷ left;
         short = omega arith;
@@ -141,7 +141,7 @@ module _ {K : Type 0} (eq : K → K → Bool) (laws : IsEquivalence eq) where
         | inl room ↦ record {
           next = x ∷ ms;
           short = omega arith;
-          apart = rw new (ap suc apart);
+          apart = rw new (omega (arith, apart));
           all = all_held eq (x ∷ ms) (x ∷ ms) (λ z g. g) laws;
           served = holds_first x ms;
           latest = λ d. inl (λ z held want. or_right (eq z x) (holds eq z ms) held);

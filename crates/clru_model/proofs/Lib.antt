@@ -4,6 +4,8 @@ pub mod ByPosition
 pub mod Bypass
 pub mod BypassRows
 pub mod Cases
+pub mod ChangingWeights
+pub mod Cuts
 pub mod Counting
 pub mod Distances
 pub mod Distinct
@@ -13,7 +15,9 @@ pub mod Ends
 pub mod EntryRows
 pub mod Finding
 pub mod Fitting
+pub mod Floor
 pub mod Forms
+pub mod GetRuns
 pub mod Growing
 pub mod Hits
 pub mod Inclusion
@@ -39,7 +43,6 @@ pub mod Spans
 pub mod SpansByPosition
 pub mod Sublists
 pub mod Summing
-pub mod Totals
 pub mod Views
 pub mod Wanted
 pub mod Weights

@@ -1,8 +1,8 @@
 -- The marks of requests at two capacities, and after one more request.
-use Rattle.std.proofs.Common.{◌≡◌, ℕ, ◌+◌, Bool, cond, not, List, []}
+use Rattle.std.proofs.Common.{◌≡◌, ℕ, ◌+◌, ◌≤◌, Bool, cond, not, List, [], arith}
 use Rattle.std.proofs.Common.{◌∷◌, ◌++◌, reverse, refl, sym, ap, ◌∙◌, append_assoc, append-nil}
 use Rattle.std.proofs.lemmas.List.{reverse-append}
-use Rattle.std.proofs.lemmas.List.Sums.{sum_by-cons, sum_by_push}
+use Rattle.std.proofs.lemmas.List.Sums.{sum_by-cons, sum_by-append, sum_by_push}
 use Rattle.std.specs.List.{count_by}
 use Rattle.clru_model.proofs.Cases.{split}
 use Rattle.clru_model.specs.Requests.{hit, marks_after, marks, misses}
@@ -14,6 +14,14 @@ count_by-not-cons m ms = sum_by-cons (λ b. cond (not b) 1 0) m ms ∙ split m (
 -- how many marks are false, with one more at the end
 pub count_by-not-push : (ms : List Bool) (m : Bool) → count_by not (ms ++ m ∷ []) ≡ count_by not ms + cond m 0 1
 count_by-not-push ms m = sum_by_push (λ b. cond (not b) 1 0) ms m ∙ split m (λ t. rw t refl) (λ f. rw f refl)
+
+-- how many marks of two lists in a row are false
+pub count_by-not-append : (ms ns : List Bool) → count_by not (ms ++ ns) ≡ count_by not ms + count_by not ns
+count_by-not-append = sum_by-append (λ b. cond (not b) 1 0)
+
+-- what a mark misses of a size is that size at most
+pub missed-le : (b : Bool) (z : ℕ) → cond b 0 z ≤ z
+missed-le b z = split b (λ t. rw t (omega arith)) (λ f. rw f (omega arith))
 
 module _ {K : Type 0} (eq : K → K → Bool) where
   -- a reversed list before another one, element by element

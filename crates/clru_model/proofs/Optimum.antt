@@ -7,7 +7,8 @@ use Rattle.std.specs.List.{list_all}
 use Rattle.clru_model.specs.Least.{IsLeast, IsNearFromAnyStart}
 use Rattle.clru_model.specs.Requests.{holds}
 use Rattle.clru_model.specs.Schedule.{IsSchedule, schedule_marks, schedule_misses}
-use Rattle.clru_model.proofs.Bound.{held_of_all, schedule_short, distinct-le-length}
+use Rattle.clru_model.proofs.Bound.{schedule_fits}
+use Rattle.clru_model.proofs.Distinct.{held_of_all, distinct-le-length}
 use Rattle.clru_model.proofs.Distinct.{distinct_mono}
 use Rattle.clru_model.proofs.Marks.{count_by-not-cons}
 use Rattle.clru_model.proofs.Wanted.{asked, wanted, wanted_beside, LosesLatest, wanted-cons, wanted_held, beside_mono, beside_few, beside_many, holds-asked}
@@ -87,7 +88,7 @@ module _ {K : Type 0} (eq : K → K → Bool) (laws : IsEquivalence eq) where
       fewer m s ks [] ahead sched = absurd sched.1
       fewer m s ks (other ∷ others) ahead sched =
           let after = IsAhead_next h m s x ms next ks other rs ahead served latest sched.1.0 sched.1.1
-          (schedule_short eq laws h other others rs sched.2) in
+          (schedule_fits eq (λ ks. length ks ≤ h) other others rs sched.2) in
           let rest = best.none_fewer (m + cond (holds eq x ms) 0 1) (s + cond (holds eq x ks) 0 1) other others after sched.2 in
           omega (arith, rest, count_by-not-cons (holds eq x ks) (schedule_marks eq (other ∷ others) rs))
 
@@ -117,6 +118,6 @@ module _ {K : Type 0} (eq : K → K → Bool) (laws : IsEquivalence eq) where
   pub IsNear_from_best : (h n : ℕ) (rs : List K) → IsBest eq h [] rs n → IsNearFromAnyStart eq h rs n
   IsNear_from_best h n rs best [] sched = absurd sched
   IsNear_from_best h n rs best (ks ∷ later) sched =
-      let short = schedule_short eq laws h ks later rs sched in
+      let short = schedule_fits eq (λ ks. length ks ≤ h) ks later rs sched in
       let m = best.none_fewer 0 h ks later (λ d. omega (arith, wanted-le-length d ks rs, short)) sched in
       omega (arith, m)

@@ -12,7 +12,7 @@ use Rattle.clru_model.specs.Runs.{IsPut}
 
 module _ {K V : Type 0} (eq : K → K → Bool) where
   -- without its pair a list that holds a key is shorter by one
-  length-without_held : (x : K) (es : List (K × V)) → holds eq x (keys_of es) ≡ true → suc (length (without eq x es)) ≡ length es
+  pub length-without_held : (x : K) (es : List (K × V)) → holds eq x (keys_of es) ≡ true → suc (length (without eq x es)) ≡ length es
   length-without_held x [] h = cc
   length-without_held x (e ∷ es) h =
       split (eq x e.0) (λ t. rw t refl) (λ f. let here = rw f at h in rw f (ap suc (length-without_held x es here)))

@@ -1,8 +1,8 @@
 -- Runs of puts by weight hold the keys that hit by size: they hold the longest beginning that fits of all keys that were
 -- requested, the latest first.
 use Rattle.std.proofs.Common.{◌≡◌, ℕ, ◌+◌, ◌-◌, ◌<◌, ◌≤◌, leb, Bool, true, false, cond, not, ◌&&◌, ◌||◌, List, [], ◌∷◌}
-use Rattle.std.proofs.Common.{refl, sym, ap, ◌∙◌, arith}
-use Rattle.std.proofs.lemmas.Bool.{leb-true}
+use Rattle.std.proofs.Common.{refl, sym, ap, ◌∙◌, arith, ltb, ltb-true}
+use Rattle.std.proofs.lemmas.Bool.{leb-true, ltb-false}
 use Rattle.std.proofs.lemmas.Bool.Decides.{nat_tests}
 use Rattle.std.proofs.lemmas.List.Sums.{take_while-cons}
 use Rattle.std.specs.Cmp.{IsEquivalence}
@@ -10,9 +10,9 @@ use Rattle.std.specs.List.{take_while}
 use Rattle.std.specs.Map.{keys_of}
 use Rattle.clru_model.specs.Entries.{without, size_of, fit}
 use Rattle.clru_model.specs.Requests.{holds, since}
-use Rattle.clru_model.specs.Runs.{held_before}
+use Rattle.clru_model.specs.Runs.{IsRunOf, held_before}
 use Rattle.clru_model.specs.Sizes.{SameWeights, total, hit_by_size, marks_by_size_after, marks_by_size}
-use Rattle.clru_model.specs.SizedRuns.{IsSizedPut, IsSizedPutRun}
+use Rattle.clru_model.specs.SizedRuns.{IsSizedPut, IsSizedPutRun, IsPutIfLight, marks_of_light_after, marks_of_light}
 use Rattle.clru_model.proofs.Cases.{split}
 use Rattle.clru_model.proofs.Distinct.{since-cons, holds_same, same_right}
 use Rattle.clru_model.proofs.Fitting.{size_of-cons}
@@ -49,7 +49,7 @@ module _ {K V : Type 0} (weight : K → V → ℕ) where
 module _ {K V : Type 0} (eq : K → K → Bool) (laws : IsEquivalence eq) (weight : K → ℕ) (same : SameWeights eq weight)
     (pair_weight : K → V → ℕ) (by_key : (k : K) (v : V) → pair_weight k v ≡ weight k) where
   -- what fits beside x is the same where more fitted with it
-  fit-without-fit : (x : K) (i : ℕ) (es : List (K × V))
+  pub fit-without-fit : (x : K) (i : ℕ) (es : List (K × V))
       → fit pair_weight i (without eq x (fit pair_weight (i + (1 + weight x)) es)) ≡ fit pair_weight i (without eq x es)
   unfolding fit
   fit-without-fit x i [] = refl
@@ -91,10 +91,10 @@ module _ {K V : Type 0} (eq : K → K → Bool) (laws : IsEquivalence eq) (weigh
       rw (v, over) (split (holds eq x (keys_of es)) (λ h. rw h refl) (λ h. rw h refl)))))
 
   -- entries for all keys that were requested, each once, the latest request first
-  record IsOrder (past : List K) (es : List (K × V)) : Type 0 where
-    held : (y : K) → holds eq y (keys_of es) ≡ holds eq y past
-    held_before_it : (y z : K) → holds eq z (keys_of (before eq y es)) ≡ holds eq z (since eq y past)
-    size_before_it : (y : K) → size_of pair_weight (before eq y es) ≡ total eq weight (since eq y past)
+  pub record IsOrder (past : List K) (es : List (K × V)) : Type 0 where
+    pub held : (y : K) → holds eq y (keys_of es) ≡ holds eq y past
+    pub held_before_it : (y z : K) → holds eq z (keys_of (before eq y es)) ≡ holds eq z (since eq y past)
+    pub size_before_it : (y : K) → size_of pair_weight (before eq y es) ≡ total eq weight (since eq y past)
 
   -- an entry that is taken out
   before-without : (x y : K) (es : List (K × V)) → eq x y ≡ false → before eq y (without eq x es) ≡ without eq x (before eq y es)
@@ -125,11 +125,11 @@ module _ {K V : Type 0} (eq : K → K → Bool) (laws : IsEquivalence eq) (weigh
       (λ f. rw f (omega (arith, sum, size_of-cons pair_weight e (without eq x es), size_of-without x es)))
 
   -- before the first request there are none
-  order_none : IsOrder [] []
+  pub order_none : IsOrder [] []
   order_none = record { held = λ y. refl; held_before_it = λ y z. refl; size_before_it = λ y. refl }
 
   -- after a request of x its entry comes first
-  order_cons : {past : List K} {es : List (K × V)} (x key : K) (value : V) → eq x key ≡ true → IsOrder past es
+  pub order_cons : {past : List K} {es : List (K × V)} (x key : K) (value : V) → eq x key ≡ true → IsOrder past es
       → IsOrder (x ∷ past) ((key, value) ∷ without eq key es)
   order_cons {past} {es} x key value e order = record {
     held = held;
@@ -173,7 +173,7 @@ module _ {K V : Type 0} (eq : K → K → Bool) (laws : IsEquivalence eq) (weigh
 
   module _ (c : ℕ) where
     -- what fits of those entries holds the keys that hit
-    held_hits : {past : List K} {all es : List (K × V)} (x : K) → IsOrder past all → es ≡ fit pair_weight c all
+    pub held_hits : {past : List K} {all es : List (K × V)} (x : K) → IsOrder past all → es ≡ fit pair_weight c all
         → holds eq x (keys_of es) ≡ hit_by_size eq weight c x past
     held_hits {past} {all} x order is =
         ap (λ l. holds eq x (keys_of l)) is ∙ holds-fit x c all ∙ rw (order.held x, order.size_before_it x) refl
@@ -200,6 +200,34 @@ module _ {K V : Type 0} (eq : K → K → Bool) (laws : IsEquivalence eq) (weigh
         let rest = held_after (x ∷ past) ((p.key, p.value) ∷ without eq p.key all) next later rs
         (order_cons x p.key p.value p.same order) (fits_next all p is) run.1 in
         cc (held_hits x order is, rest)
+
+    -- a key that is too heavy is not held
+    heavy_missed : (x : K) (past : List K) → c ≤ weight x → hit_by_size eq weight c x past ≡ false
+    heavy_missed x past heavy =
+        let over : leb (1 + weight x + total eq weight (since eq x past)) c ≡ false = grind (arith, nat_tests) in
+        rw over (split (holds eq x past) (λ t. rw t refl) (λ f. rw f refl))
+
+    light_after : (past : List K) (all es : List (K × V)) (later : List (List (K × V))) (rs : List K) → IsOrder past all
+        → es ≡ fit pair_weight c all → IsRunOf (IsPutIfLight eq weight pair_weight c) (es ∷ later) rs
+        → held_before eq (es ∷ later) rs ≡ marks_of_light_after eq weight c past rs
+    light_after past all es later [] order is run = refl
+    light_after past all es [] (x ∷ rs) order is run = absurd run.0
+    light_after past all es (next ∷ later) (x ∷ rs) order is run =
+        let here = held_hits x order is in
+        split (ltb (weight x) c)
+        (λ t. let p = run.0.light (ltb-true (weight x) c t) in
+        let rest = light_after (x ∷ past) ((p.key, p.value) ∷ without eq p.key all) next later rs
+        (order_cons x p.key p.value p.same order) (fits_next all p is) run.1 in
+        rw t (cc (here, rest)))
+        (λ f. let heavy : c ≤ weight x = ltb-false (weight x) c f in
+        let rest = light_after past all next later rs order (run.0.heavy heavy ∙ is) run.1 in
+        rw f (cc (here, heavy_missed x past heavy, rest)))
+
+    pub held_before_marks_of_light : (rs : List K) (later : List (List (K × V)))
+        → IsRunOf (IsPutIfLight eq weight pair_weight c) ([] ∷ later) rs
+        → held_before eq ([] ∷ later) rs ≡ marks_of_light eq weight c rs
+    unfolding fit
+    held_before_marks_of_light rs later = light_after [] [] [] later rs order_none refl
 
     -- a run of puts by weight holds a key before its put exactly where the request hits by size
     pub held_before_marks_by_size : (rs : List K) (later : List (List (K × V))) → IsSizedPutRun eq pair_weight c ([] ∷ later) rs

@@ -12,10 +12,10 @@ use Rattle.clru_model.specs.Requests.{holds, distinct, since, hit, marks_after}
 use Rattle.clru_model.specs.Sizes.{SameWeights, total, span, spans_after, hit_by_size, marks_by_size_after}
 use Rattle.clru_model.specs.Sizes.{misses_by_size, missed_size_after, missed_size}
 use Rattle.clru_model.specs.Spans.{is_within, size_of_misses}
-use Rattle.clru_model.proofs.Bound.{miss-le-one}
+use Rattle.clru_model.proofs.Marks.{missed-le}
 use Rattle.clru_model.proofs.Cases.{split}
 use Rattle.clru_model.proofs.Marks.{count_by-not-cons, reverse-cons-append}
-use Rattle.clru_model.proofs.Totals.{span_within}
+use Rattle.clru_model.proofs.Distinct.{span_within}
 
 module _ {K : Type 0} (eq : K → K → Bool) (weight : K → ℕ) where
   -- a request hits at the sizes from its span on
@@ -57,7 +57,7 @@ module _ {K : Type 0} (eq : K → K → Bool) (weight : K → ℕ) where
         rw (count_by-not-cons (hit_by_size eq weight d x past), count_by-not-cons (hit_by_size eq weight c x past))
         (split (hit_by_size eq weight c x past)
         (λ t. rw (t, hit_by_size_grows past x t) (omega (arith, ih)))
-        (λ f. rw f (omega (arith, ih, miss-le-one (hit_by_size eq weight d x past)))))
+        (λ f. rw f (omega (arith, ih, missed-le (hit_by_size eq weight d x past) 1))))
 
     pub missed_size_falls : (past rs : List K) → missed_size_after eq weight d past rs ≤ missed_size_after eq weight c past rs
     missed_size_falls past [] = omega arith

@@ -9,11 +9,11 @@ use Rattle.std.specs.List.{Contains, IsDistinct, sum_by}
 use Rattle.clru_model.specs.Requests.{holds}
 use Rattle.clru_model.specs.Sizes.{total}
 use Rattle.clru_model.specs.SpansByPosition.{IsSumOf}
-use Rattle.clru_model.proofs.Bound.{distinct-le-length}
+use Rattle.clru_model.proofs.Distinct.{distinct-le-length}
 use Rattle.clru_model.proofs.Cases.{split}
 use Rattle.clru_model.proofs.Counting.{AreAll, all_next, distinct_numbers, holds_from_Contains, Contains_from_holds}
 use Rattle.clru_model.proofs.Distinct.{distinct_mono}
-use Rattle.clru_model.proofs.Totals.{total_mono}
+use Rattle.clru_model.proofs.Distinct.{total_mono}
 
 -- over no position
 pub sum_none : (P : ℕ → Type 0) (f : ℕ → ℕ) → ((p : ℕ) → P p → ⊥) → IsSumOf P f 0

@@ -1,5 +1,5 @@
 -- Requests that are compared by a view of them hit as their views do.
-use Rattle.std.proofs.Common.{◌≡◌, ℕ, ◌+◌, Bool, cond, not, ◌&&◌, ◌||◌, List, [], ◌∷◌, ◌++◌, map, reverse, take, suc, nat_lt, refl, sym, ap, ◌∙◌}
+use Rattle.std.proofs.Common.{◌≡◌, ℕ, ◌+◌, Bool, cond, not, ◌&&◌, ◌||◌, List, [], ◌∷◌, ◌++◌, map, reverse, take, nat_lt, refl, sym, ap, ◌∙◌}
 use Rattle.std.specs.List.{count_by, prefix_len}
 use Rattle.std.proofs.lemmas.List.{map-append, take-map}
 use Rattle.std.proofs.lemmas.Grind.{reverse_onto}
@@ -31,8 +31,8 @@ module _ {X Y : Type 0} (eq : Y → Y → Bool) (view : X → Y) where
   pub distinct-map : (ks : List X) → distinct eq (map view ks) ≡ distinct same ks
   distinct-map [] = refl
   distinct-map (x ∷ earlier) =
-      ap (λ b. cond b (distinct eq (map view earlier)) (suc (distinct eq (map view earlier)))) (holds-map x earlier)
-      ∙ ap (λ n. cond (holds same x earlier) n (suc n)) (distinct-map earlier)
+      ap (λ b. cond b (distinct eq (map view earlier)) (1 + distinct eq (map view earlier))) (holds-map x earlier)
+      ∙ ap (λ n. cond (holds same x earlier) n (1 + n)) (distinct-map earlier)
 
   -- the views since the last request of one
   pub since-map : (x : X) (past : List X) → since eq (view x) (map view past) ≡ map view (since same x past)

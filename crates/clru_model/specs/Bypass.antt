@@ -3,7 +3,7 @@ use Rattle.std.specs.Prelude.{◌≡◌, ℕ, ◌+◌, ◌≤◌, Bool, true, Li
 use Rattle.std.specs.List.{list_all}
 use Rattle.clru_model.specs.Least.{IsLeast}
 use Rattle.clru_model.specs.Requests.{holds, distinct}
-use Rattle.clru_model.specs.Schedule.{IsSchedule, schedule_misses}
+use Rattle.clru_model.specs.Schedule.{Schedules, IsSchedule, schedule_misses}
 
 module _ {K : Type 0} (eq : K → K → Bool) where
   -- after the request of x at the keys ks no other key came in, and x itself came in or passed by
@@ -13,9 +13,7 @@ module _ {K : Type 0} (eq : K → K → Bool) where
 
   -- a schedule of h keys that may let requested keys pass by; one that starts empty is `[] ∷ schedule`
   abbrev pub IsBypassSchedule : ℕ → List (List K) → List K → Type 0
-  IsBypassSchedule h [] rs = ⊥
-  IsBypassSchedule h (ks ∷ later) [] = (length ks ≤ h) × (later ≡ [])
-  IsBypassSchedule h (ks ∷ later) (x ∷ rs) = (length ks ≤ h) × ServesOrPasses ks x later × IsBypassSchedule h later rs
+  IsBypassSchedule h held rs = Schedules (λ ks. length ks ≤ h) ServesOrPasses held rs
 
   -- a schedule that lets none pass by is one that may
   abbrev pub SchedulesMayPass : Type 0

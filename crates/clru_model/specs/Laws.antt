@@ -1,9 +1,9 @@
 -- The statements of the laws. Public clauses cite them.
-use Rattle.std.specs.Prelude.{◌≡◌, ◌↔◌, ℕ, ◌≤◌, Bool, true, false, not, Some, List, [], ◌∷◌, ◌++◌, length, reverse}
-use Rattle.std.specs.List.{slice_get, count_by}
+use Rattle.std.specs.Prelude.{◌≡◌, ◌↔◌, ℕ, ◌+◌, ◌≤◌, Bool, true, false, not, Some, List, [], ◌∷◌, ◌++◌, length, reverse}
+use Rattle.std.specs.List.{slice_get, filter, count_by}
 use Rattle.clru_model.specs.Entries.{fit, IsLongestFit}
 use Rattle.clru_model.specs.Requests.{distinct, marks, misses}
-use Rattle.clru_model.specs.Runs.{Call, after_all, AreTaken, IsPutRun, held_before}
+use Rattle.clru_model.specs.Runs.{Call, after_all, AreTaken, IsRunOf, IsGetOr, IsPut, IsPutRun, drops, held_before}
 use Rattle.clru_model.specs.Schedule.{IsSchedule, schedule_marks, schedule_misses, IsCompetitive, IsCompetitiveFromAnyStart}
 use Rattle.clru_model.specs.ByPosition.{IsCountOf, IsFirstAt, IsHitAt, IsScheduleAt, IsScheduleMissAt}
 
@@ -50,6 +50,20 @@ module _ {K : Type 0} (eq : K → K → Bool) where
   abbrev pub MissesFall : Type 0
   MissesFall = (k l : ℕ) (requests : List K) → k ≤ l → misses eq l requests ≤ misses eq k requests
 
+  -- two lists in a row have no more misses than each from an empty cache
+  abbrev pub CutsMissMore : Type 0
+  CutsMissMore = (k : ℕ) (first second : List K) → misses eq k (first ++ second) ≤ misses eq k first + misses eq k second
+
+  -- and at most the capacity fewer
+  abbrev pub CutsMissFewMore : Type 0
+  CutsMissFewMore = (k : ℕ) (first second : List K)
+      → misses eq k first + misses eq k second ≤ misses eq k (first ++ second) + k
+
+  -- the requests for some of the keys, by a test that keys that are the same pass alike, have no more misses than all
+  abbrev pub SomeKeysMissLess : Type 0
+  SomeKeysMissLess = (k : ℕ) (test : K → Bool) (requests : List K) → ((x y : K) → eq x y ≡ true → test x ≡ test y)
+      → misses eq k (filter test requests) ≤ misses eq k requests
+
 module _ (K V : Type 0) where
   -- `fit` is the longest beginning that fits
   abbrev pub FitIsLongest : Type 0
@@ -82,3 +96,14 @@ module _ {K : Type 0} (eq : K → K → Bool) (V : Type 0) where
   PutsCompeteFromAnyStart = (k : ℕ) (requests : List K) (later : List (List (K × V)))
       → 1 ≤ k → IsPutRun eq k ([] ∷ later) requests
       → IsCompetitiveFromAnyStart eq k requests (count_by not (held_before eq ([] ∷ later) requests))
+
+  -- a run of look-ups, each followed by a put where it finds nothing, is a run of puts
+  abbrev pub GetsOrPutsArePuts : Type 0
+  GetsOrPutsArePuts = (k : ℕ) (requests : List K) (run : List (List (K × V)))
+      → IsRunOf (IsGetOr (IsPut eq k) eq) run requests → IsPutRun eq k run requests
+
+  -- what plain puts drop in a run from the empty list, and what they leave, is as much as misses
+  abbrev pub DropsAreMissesNotLeft : Type 0
+  DropsAreMissesNotLeft = (k : ℕ) (requests : List K) (later : List (List (K × V))) (left : List (K × V))
+      → 1 ≤ k → IsPutRun eq k ([] ∷ later) requests → slice_get ([] ∷ later) (length requests) ≡ Some left
+      → drops eq k ([] ∷ later) requests + length left ≡ misses eq k requests

@@ -4,6 +4,7 @@ pub mod Bypass
 pub mod Distances
 pub mod Entries
 pub mod Errors
+pub mod Floor
 pub mod Laws
 pub mod Least
 pub mod Refusals
@@ -11,6 +12,7 @@ pub mod Requests
 pub mod Runs
 pub mod Schedule
 pub mod SizedRuns
+pub mod SizedSchedule
 pub mod Sizes
 pub mod Spans
 pub mod SpansByPosition

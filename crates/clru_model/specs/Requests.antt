@@ -1,5 +1,5 @@
 -- Requests for keys: which of them hit. No cache is in sight here. Public clauses cite them.
-use Rattle.std.specs.Prelude.{ℕ, suc, Bool, if◌then◌else◌, not, ◌&&◌, nat_lt, List, [], ◌∷◌}
+use Rattle.std.specs.Prelude.{ℕ, ◌+◌, Bool, if◌then◌else◌, not, ◌&&◌, nat_lt, List, [], ◌∷◌}
 use Rattle.std.specs.List.{list_any, take_while, count_by}
 
 module _ {K : Type 0} (eq : K → K → Bool) where
@@ -7,10 +7,14 @@ module _ {K : Type 0} (eq : K → K → Bool) where
   abbrev pub holds : K → List K → Bool
   holds x ks = list_any (eq x) ks
 
-  -- how many requests, the latest first, ask for a key that no earlier one asked for
+  -- the sum of f over the requests, the latest first, that ask for a key that no earlier one asked for
+  abbrev pub sum_distinct : (K → ℕ) → List K → ℕ
+  sum_distinct f [] = 0
+  sum_distinct f (x ∷ earlier) = if holds x earlier then sum_distinct f earlier else f x + sum_distinct f earlier
+
+  -- how many distinct keys the requests ask for
   abbrev pub distinct : List K → ℕ
-  distinct [] = 0
-  distinct (x ∷ earlier) = if holds x earlier then distinct earlier else suc (distinct earlier)
+  distinct past = sum_distinct (λ _. 1) past
 
   -- of the requests, the latest first, those after the latest one of x
   abbrev pub since : K → List K → List K

@@ -1,7 +1,8 @@
 -- Runs of calls over entry lists. Public clauses cite them.
-use Rattle.std.specs.Prelude.{◌≡◌, ℕ, ◌-◌, ◌<◌, nat_lt, Bool, true, if◌then◌else◌, ⊤, List, [], ◌∷◌, length, take, drop, map}
+use Rattle.std.specs.Prelude.{◌≡◌, ℕ, ◌+◌, ◌-◌, ◌<◌, nat_lt, Bool, true, false, if◌then◌else◌, ⊤, List, [], ◌∷◌, length, take, drop, map}
+use Rattle.std.specs.Option.{option_to_list}
 use Rattle.std.specs.Map.{keys_of}
-use Rattle.clru_model.specs.Entries.{without, weighted_put}
+use Rattle.clru_model.specs.Entries.{without, touch, plain_drop, weighted_put}
 use Rattle.clru_model.specs.Requests.{holds}
 use Rattle.clru_model.specs.Schedule.{schedule_marks}
 
@@ -42,6 +43,23 @@ module _ {K V : Type 0} (weight : K → V → ℕ) (c : ℕ) where
   AreTaken [] = ⊤
   AreTaken (call ∷ calls) = IsTaken call × AreTaken calls
 
+module _ {K V : Type 0} (step : K → List (K × V) → List (K × V) → Type 0) where
+  -- the first of the later lists is one that a step at x leaves
+  abbrev pub StepsTo : List (K × V) → K → List (List (K × V)) → Type 0
+  StepsTo es x [] = ⊥
+  StepsTo es x (next ∷ later) = step x es next
+
+  -- the entries before each request and at the end, where each request in turn is a step
+  abbrev pub IsRunOf : List (List (K × V)) → List K → Type 0
+  IsRunOf [] requests = ⊥
+  IsRunOf (es ∷ later) [] = later ≡ []
+  IsRunOf (es ∷ later) (x ∷ requests) = StepsTo es x later × IsRunOf later requests
+
+  -- a step as caches are used: a look-up of x, and, where x is not held, this step
+  pub record IsGetOr (eq : K → K → Bool) (x : K) (es next : List (K × V)) : Type 0 where
+    pub held : holds eq x (keys_of es) ≡ true → next ≡ touch eq x es
+    pub missed : holds eq x (keys_of es) ≡ false → step x es next
+
 module _ {K V : Type 0} (eq : K → K → Bool) (k : ℕ) where
   -- the entries after a put of the key x under the capacity k at weight zero, in whichever form: first a pair of the key, then
   -- the others without its old pair, or, where it was not held, as many of the others as have room beside it
@@ -51,16 +69,15 @@ module _ {K V : Type 0} (eq : K → K → Bool) (k : ℕ) where
     pub same : eq x key ≡ true
     pub entries : next ≡ (key, value) ∷ (if holds eq x (keys_of es) then without eq x es else take (k - 1) es)
 
-  -- the first of the later lists is the one after a put of x
-  abbrev pub PutsNext : List (K × V) → K → List (List (K × V)) → Type 0
-  PutsNext es x [] = ⊥
-  PutsNext es x (next ∷ later) = IsPut x es next
-
   -- the entries before each request and at the end, where each request in turn is a put of its key
   abbrev pub IsPutRun : List (List (K × V)) → List K → Type 0
-  IsPutRun [] requests = ⊥
-  IsPutRun (es ∷ later) [] = later ≡ []
-  IsPutRun (es ∷ later) (x ∷ requests) = PutsNext es x later × IsPutRun later requests
+  IsPutRun run requests = IsRunOf IsPut run requests
+
+  -- how many pairs plain puts drop in such a run
+  abbrev pub drops : List (List (K × V)) → List K → ℕ
+  drops [] requests = 0
+  drops (es ∷ later) [] = 0
+  drops (es ∷ later) (x ∷ requests) = length (option_to_list (plain_drop eq k x es)) + drops later requests
 
 module _ {K V : Type 0} (eq : K → K → Bool) where
   -- for each request in order whether its key is held before it

@@ -4,6 +4,13 @@ use Rattle.std.specs.Prelude.{◌≡◌, ℕ, ◌+◌, ◌-◌, ◌*◌, ◌≤�
 use Rattle.std.specs.List.{list_all, count_by}
 use Rattle.clru_model.specs.Requests.{holds}
 
+module _ {K : Type 0} (fits : List K → Type 0) (serves : List K → K → List (List K) → Type 0) where
+  -- the keys held before each request and at the end: those held each time fit, and each request is served
+  abbrev pub Schedules : List (List K) → List K → Type 0
+  Schedules [] rs = ⊥
+  Schedules (ks ∷ later) [] = fits ks × (later ≡ [])
+  Schedules (ks ∷ later) (x ∷ rs) = fits ks × serves ks x later × Schedules later rs
+
 module _ {K : Type 0} (eq : K → K → Bool) where
   -- after the request of x at the keys ks, x is held, and no other key came in: no key passes by, and none comes unasked
   abbrev pub Serves : List K → K → List (List K) → Type 0
@@ -12,9 +19,7 @@ module _ {K : Type 0} (eq : K → K → Bool) where
 
   -- a schedule of h keys for the requests; one that starts empty is `[] ∷ schedule`
   abbrev pub IsSchedule : ℕ → List (List K) → List K → Type 0
-  IsSchedule h [] rs = ⊥
-  IsSchedule h (ks ∷ later) [] = (length ks ≤ h) × (later ≡ [])
-  IsSchedule h (ks ∷ later) (x ∷ rs) = (length ks ≤ h) × Serves ks x later × IsSchedule h later rs
+  IsSchedule h held rs = Schedules (λ ks. length ks ≤ h) Serves held rs
 
   -- for each request in order whether its key is held before it
   abbrev pub schedule_marks : List (List K) → List K → List Bool

@@ -2,7 +2,7 @@
 -- in sight here. They speak of a cache at the capacities above each weight (law_sizes). Public clauses cite them.
 use Rattle.std.specs.Prelude.{◌≡◌, ℕ, ◌+◌, Bool, true, if◌then◌else◌, not, ◌&&◌, nat_le, Option, Some, None, List, [], ◌∷◌}
 use Rattle.std.specs.List.{count_by}
-use Rattle.clru_model.specs.Requests.{holds, since}
+use Rattle.clru_model.specs.Requests.{holds, since, sum_distinct}
 
 module _ {K : Type 0} (eq : K → K → Bool) (weight : K → ℕ) where
   -- keys that are the same weigh the same
@@ -11,8 +11,7 @@ module _ {K : Type 0} (eq : K → K → Bool) (weight : K → ℕ) where
 
   -- the size of all distinct keys of the requests, the latest first: 1 and the weight of each, by its first request
   abbrev pub total : List K → ℕ
-  total [] = 0
-  total (x ∷ earlier) = if holds eq x earlier then total earlier else 1 + weight x + total earlier
+  total past = sum_distinct eq (λ x. 1 + weight x) past
 
   -- the size of x and of the distinct keys that were requested since the latest request of x, if there was one
   abbrev pub span : K → List K → Option ℕ

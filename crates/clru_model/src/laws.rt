@@ -4,9 +4,13 @@ ghost use Rattle.clru_model.specs.Laws.{TrueMarksAreHits, OneMarkForEach, Misses
 ghost use Rattle.clru_model.specs.Laws.{SchedulesAreByPosition, FalseMarksAreMisses, ScheduleMissesAreByPosition};
 ghost use Rattle.clru_model.specs.Laws.{HitsGrow, MissesFall};
 ghost use Rattle.clru_model.specs.Laws.{LesserBeginsGreater};
-ghost use Rattle.clru_model.specs.Laws.{PutsHit, PutsCompete, PutsCompeteFromAnyStart};
+ghost use Rattle.clru_model.specs.Laws.{CutsMissMore, CutsMissFewMore, SomeKeysMissLess};
+ghost use Rattle.clru_model.specs.Laws.{PutsHit, PutsCompete, PutsCompeteFromAnyStart, GetsOrPutsArePuts, DropsAreMissesNotLeft};
 ghost use Rattle.clru_model.specs.Laws.{FitIsLongest, OnlyFitIsLongest};
-ghost use Rattle.clru_model.specs.SizedRuns.{SizedPutsHit, TouchesArePuts};
+ghost use Rattle.clru_model.specs.SizedRuns.{SizedPutsHit, LightPutsHit, TouchesArePuts, SizedGetsOrPutsArePuts};
+ghost use Rattle.clru_model.specs.SizedRuns.{HighHitsAreHeld, HeldHitsByLow};
+ghost use Rattle.clru_model.specs.SizedRuns.{SizedPutsCompete, SizedPutsCompeteFromAnyStart};
+ghost use Rattle.clru_model.specs.SizedSchedule.{MissedSizeCompetes, MissedSizeCompetesFromAnyStart};
 ghost use Rattle.clru_model.specs.Spans.{HitsAreWithin, MarksAreWithin, MissedSizeIsOfMarks, RoomForTotalMissesFirst};
 ghost use Rattle.clru_model.specs.Spans.{HitsBySizeGrow, MissesBySizeFall, MissedSizeFalls};
 ghost use Rattle.clru_model.specs.Spans.{WeightlessTotalIsDistinct, WeightlessMarksAreMarks, WeightlessMissedSizeIsMisses};
@@ -16,6 +20,7 @@ ghost use Rattle.clru_model.specs.Least.{LeastIsThere, LeastIsOne, LeastFalls, R
 ghost use Rattle.clru_model.specs.Least.{ReplayIsSchedule, LeastIsBelowReplay, ReplayIsNearLeast};
 ghost use Rattle.clru_model.specs.Bounds.{DistinctMiss, NoMoreMiss, NoMoreSizeMisses, SizesMissMore, RoomForGreatestMissesLess};
 ghost use Rattle.clru_model.specs.Bypass.{SchedulesMayPass, DistinctIsFloor, OneKeyMoreIsEnough};
+ghost use Rattle.clru_model.specs.Floor.{HitsArePaid, FloorIsBelow, SizeFloorIsBelow, FloorIsBelowLeast};
 
 /// Does nothing at run time. Its contract says that the hits, misses and numbers of distinct keys that the other contracts
 /// cite, which are defined by computing, are those that a sentence about positions describes.
@@ -66,6 +71,8 @@ pub fn law_requests<K: Eq, V>()
     ensures hits { PutsHit K.eq V }
     ensures bound { PutsCompete K.eq V }
     ensures bound_any_start { PutsCompeteFromAnyStart K.eq V }
+    ensures gets { GetsOrPutsArePuts K.eq V }
+    ensures drops { DropsAreMissesNotLeft K.eq V }
 {}
 
 /// Does nothing at run time. Its contract says that what a weighted put keeps of the other entries, which is defined by
@@ -115,11 +122,16 @@ pub fn law_distances<K: Eq>()
 /// key leaves what a put of its pair does. A request hits at the sizes from its span on, so one list of spans has the hits at every
 /// size. Where each key weighs 0, all this is what it is for numbers of keys.
 ///
-/// Of keys whose weight changes between their puts it says nothing: what room an entry gave up does not bring back what went
-/// for it. Nor does it at a capacity that is not above each weight, where puts are refused.
+/// At a capacity that is not above each weight, puts of the heavier keys are refused and miss, and the others hit as if those
+/// were not there. If the weight of a key changes between its puts, what would hit by the highest weights is held, and what is
+/// held would hit by the lowest.
 pub fn law_sizes<K: Eq, V>()
     ensures puts { SizedPutsHit K.eq V }
+    ensures light_puts { LightPutsHit K.eq V }
+    ensures changing_high { HighHitsAreHeld K.eq V }
+    ensures changing_low { HeldHitsByLow K.eq V }
     ensures gets { TouchesArePuts K.eq V }
+    ensures gets_or_puts { SizedGetsOrPutsArePuts K.eq V }
     ensures hits { HitsAreWithin K.eq }
     ensures marks { MarksAreWithin K.eq }
     ensures missed_size { MissedSizeIsOfMarks K.eq }
@@ -131,6 +143,36 @@ pub fn law_sizes<K: Eq, V>()
     ensures weightless_marks { WeightlessMarksAreMarks K.eq }
     ensures weightless_size { WeightlessMissedSizeIsMisses K.eq }
     ensures weightless_span { WeightlessSpanIsDistance K.eq }
+{}
+
+/// Does nothing at run time. Its contract states the competitive bound by size. If equal keys have equal weights, then at the
+/// size `c` the missed size is at most `c / (c - h + 1)` times what any schedule of the size `h` misses, for `h` from 1 to `c`,
+/// and beside schedules that start with keys at most `h` more than that. Weighted puts of a cache keep the bound too.
+pub fn law_size_bound<K: Eq, V>()
+    ensures bound { MissedSizeCompetes K.eq }
+    ensures bound_any_start { MissedSizeCompetesFromAnyStart K.eq }
+    ensures puts { SizedPutsCompete K.eq V }
+    ensures puts_any_start { SizedPutsCompeteFromAnyStart K.eq V }
+{}
+
+/// Does nothing at run time. Its contract says that no schedule that starts empty misses less than the floor, in requests or in
+/// size, and that no price of hits helps: what hits takes room at each position since the latest request of its key. Schedules
+/// may let requested keys pass by. If equal keys have equal weights. Where keys weigh nothing the floor is at most the least
+/// possible misses.
+pub fn law_floor<K: Eq>()
+    ensures paid { HitsArePaid K.eq }
+    ensures misses { FloorIsBelow K.eq }
+    ensures missed_size { SizeFloorIsBelow K.eq }
+    ensures below_least { FloorIsBelowLeast K.eq }
+{}
+
+/// Does nothing at run time. Its contract compares the misses of a list with those of its parts. Cut in two, the parts counted
+/// each from an empty cache have at least the misses of the whole, and at most the capacity more. The requests for some of the
+/// keys, as a sample has them, have no more misses than all requests.
+pub fn law_parts<K: Eq>()
+    ensures cut { CutsMissMore K.eq }
+    ensures cut_few { CutsMissFewMore K.eq }
+    ensures some_keys { SomeKeysMissLess K.eq }
 {}
 
 /// Does nothing at run time. Its contract says how many requests miss: at each capacity at least the first of each key, and at

@@ -6,7 +6,7 @@ use Rattle.std.proofs.lemmas.Slice.Eq.{bytes_eq-Decides}
 use Rattle.clru_curve.specs.SizedCurves.{CurveBySize, IsSizedCurveOf, greatest_of}
 use Rattle.clru_model.proofs.Cases.{split}
 use Rattle.clru_model.proofs.Spans.{room_misses_first}
-use Rattle.clru_model.proofs.Totals.{total_by_key}
+use Rattle.clru_model.proofs.Distinct.{total_by_key}
 use Rattle.clru_model.specs.Requests.{holds}
 use Rattle.clru_model.specs.Sizes.{SameWeights, total}
 use Rattle.clru_report.specs.Passes.{IsSettled}

@@ -4,7 +4,7 @@ use Rattle.std.specs.Cmp.{IsEquivalence}
 use Rattle.clru_model.proofs.PutSteps.{IsPut-plain, IsPut-weightless, length-put}
 use Rattle.clru.specs.Cache.{Cache}
 use Rattle.clru.specs.Entries.{plain_put}
-use Rattle.clru.specs.Runs.{IsPut, IsPutRun, PutsNext}
+use Rattle.clru.specs.Runs.{StepsTo, IsPut, IsPutRun}
 use Rattle.clru_runs.specs.declared.call.Answer.{Answer}
 use Rattle.clru_runs.specs.declared.call.Answer.TheVariants.{Stored, Weighed, Lent, Tried}
 use Rattle.clru_runs.specs.declared.call.Attempt.TheVariants.{Store}
@@ -69,7 +69,7 @@ module _ {K V W : Type 0} (eq : K → K → Bool) (laws : IsEquivalence eq) wher
       let step = put_step x call answer old run.0 (rw is short) puts.0 run.1 in
       let put = subst (λ c. IsPut eq c x old.entries run.0.entries) is step.put in
       let (later, first) = entries_first eq run.0 calls answers new run.2 in (
-        subst (λ l. PutsNext eq k old.entries x l) (sym first) put,
+        subst (λ l. StepsTo (IsPut eq k) old.entries x l) (sym first) put,
         run_of_puts k requests run.0 new calls answers run.2 some (step.capacity ∙ is) (length-put eq k x old.entries run.0.entries some short put) puts.1,
       )
   run_of_puts k requests old new calls answers run some is short puts = absurd puts

@@ -1,5 +1,7 @@
 use Rattle.std.proofs.Common.{[]}
-use Rattle.clru_model.proofs.KeyedRuns.{sized_puts_hit, touches_are_puts}
+use Rattle.clru_model.proofs.ChangingWeights.{high_hits_are_held, held_hits_by_low}
+use Rattle.clru_model.proofs.GetRuns.{sized_gets_or_puts_are_puts}
+use Rattle.clru_model.proofs.KeyedRuns.{sized_puts_hit, light_puts_hit, touches_are_puts}
 use Rattle.clru_model.proofs.Spans as spans
 use Rattle.clru_model.proofs.laws.law_sizes.Goals as goal
 
@@ -46,3 +48,15 @@ returns-clause-weightless_size g c weight size requests none =
 
 pub returns-clause-weightless_span : goal.returns-clause-weightless_span
 returns-clause-weightless_span g c weight x past none = spans.span_weightless g.K.PartialEq.eq weight none x past
+
+pub returns-clause-gets_or_puts : goal.returns-clause-gets_or_puts
+returns-clause-gets_or_puts g c = sized_gets_or_puts_are_puts g.K.PartialEq.eq g.row.V.Denot g.met.K.Eq.laws
+
+pub returns-clause-light_puts : goal.returns-clause-light_puts
+returns-clause-light_puts g c = light_puts_hit g.K.PartialEq.eq g.row.V.Denot g.met.K.Eq.laws
+
+pub returns-clause-changing_high : goal.returns-clause-changing_high
+returns-clause-changing_high g c = high_hits_are_held g.K.PartialEq.eq g.row.V.Denot g.met.K.Eq.laws
+
+pub returns-clause-changing_low : goal.returns-clause-changing_low
+returns-clause-changing_low g c = held_hits_by_low g.K.PartialEq.eq g.row.V.Denot g.met.K.Eq.laws
