@@ -49,7 +49,7 @@ class Places:
     def grown(self):
         return min(max(4 * self.count, 4), self.capacity)
 
-    def headed(self, places):
+    def index_places_for(self, places):
         """For how many places heads are made: from a quarter of the capacity on for all of it."""
         return places if places < self.capacity // 4 else max(places, self.capacity)
 
@@ -68,7 +68,7 @@ class Places:
         if held == self.capacity or held < self.count:
             return True
         grown = self.grown()
-        if self.indexed and grown > self.heads and not self.make_heads(self.headed(grown), held):
+        if self.indexed and grown > self.heads and not self.make_heads(self.index_places_for(grown), held):
             return False
         if grown > self.nodes:
             if not self.memory.grants():

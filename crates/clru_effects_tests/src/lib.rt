@@ -29,6 +29,8 @@ mod lists;
 #[cfg(test)]
 mod makers;
 #[cfg(test)]
+mod numbers;
+#[cfg(test)]
 mod parts;
 #[cfg(test)]
 mod plain;

@@ -1,7 +1,6 @@
 pub mod Due
 pub mod Furthest
 pub mod Held
-pub mod Joined
 pub mod Laters
 pub mod Queue
 pub mod Until

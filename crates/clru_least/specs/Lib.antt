@@ -1,4 +1,3 @@
 pub mod Next
-pub mod Numbers
 pub mod Passes
 pub mod Queue

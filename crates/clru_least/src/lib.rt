@@ -8,10 +8,9 @@
 //! misses no fewer than the least with room for one key more (`law_least`).
 #![tactic(auto)]
 
-mod ahead;
 mod debug;
 mod foresight;
-mod numbers;
+mod next_uses;
 mod pass;
 
 pub use clru_model::{DefaultState, law_least};

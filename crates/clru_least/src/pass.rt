@@ -5,8 +5,8 @@ ghost use Rattle.clru_model.specs.Least.{IsLeast, IsNearFromAnyStart};
 ghost use Rattle.clru_model.specs.Requests.{misses};
 ghost use Rattle.clru_least.specs.Passes.{IsForesight, IsLatestOf, next_or};
 
-use crate::ahead::{drop_latest, keep};
-use crate::numbers::Numbers;
+use crate::next_uses::{drop_latest, keep};
+use clru_list::PackedNumbers;
 use std::alloc::{AllocError, Allocator, Global};
 use std::collections::BinaryHeap;
 use std::marker::{Model, PhantomData};
@@ -22,7 +22,7 @@ use std::num::NonZeroUsize;
 /// Memory is 4 bytes for each request, and 8 where there are more than 4,294,967,295.
 pub struct ForesightPass<K: Eq, A: Allocator + Copy = Global> {
     // For each request the position of the next one of its key, and 0 where there is none.
-    pub(crate) later: Numbers<A>,
+    pub(crate) later: PackedNumbers<A>,
     alloc: A,
     keys: PhantomData<K>,
 }
@@ -44,9 +44,9 @@ impl<K: Eq, A: Allocator + Copy> Model for ForesightPass<K, A> {
 
     ghost Value = { List ℕ };
 
-    ghost view = { λ p. p.later };
+    ghost view = { λ p. p.later.numbers };
 
-    ghost invariant = { λ p. IsSound K.eq p.later };
+    ghost invariant = { λ p. IsSound K.eq p.later.numbers };
 }
 
 impl<K: Eq, A: Allocator + Copy> ForesightPass<K, A> {
@@ -56,7 +56,7 @@ impl<K: Eq, A: Allocator + Copy> ForesightPass<K, A> {
         ensures { IsForesight K.eq [] result }
     {
         ForesightPass {
-            later: Numbers::new(alloc),
+            later: PackedNumbers::new(alloc),
             alloc,
             keys: PhantomData,
         }
@@ -67,7 +67,7 @@ impl<K: Eq, A: Allocator + Copy> ForesightPass<K, A> {
         ensures { IfOk result (IsForesight K.eq []) }
     {
         Ok(ForesightPass {
-            later: Numbers::with_memory(alloc, requests)?,
+            later: PackedNumbers::with_memory(alloc, requests)?,
             alloc,
             keys: PhantomData,
         })
@@ -77,7 +77,8 @@ impl<K: Eq, A: Allocator + Copy> ForesightPass<K, A> {
     /// or `None` where its key was not requested before.
     ///
     /// Where memory is refused the pass has taken what it had.
-    /// Cost: two writes; one request for memory where there is no room for a number.
+    /// Cost: two writes; one request for memory where there is no room for a number. Where numbers begin to take 8 bytes, one more,
+    /// and a copy of each.
     pub fn request(&mut self, latest: Option<usize>) -> Result<(), AllocError>
         requires { (past : List K) × (key : K) × IsForesight K.eq past self.old × IsLatestOf K.eq past key latest }
         ensures taken { (past : List K) (key : K) → IsForesight K.eq past self.old → IsLatestOf K.eq past key latest
@@ -85,7 +86,8 @@ impl<K: Eq, A: Allocator + Copy> ForesightPass<K, A> {
         ensures refused { OnErr result (self.new ≡ self.old) }
     {
         let position = self.later.len();
-        self.later.push()?;
+        self.later.widen_for(position)?;
+        self.later.push(0)?;
         match latest {
             Some(latest) => {
                 self.later.set(latest, position);
@@ -119,8 +121,8 @@ impl<K: Eq, A: Allocator + Copy> ForesightPass<K, A> {
         }
         let mut kept = Vec::new(self.alloc);
         kept.resize(count, false)?;
-        let mut ahead = BinaryHeap::with_capacity(self.alloc, count)?;
-        let mut done = 0;
+        let mut next_uses = BinaryHeap::with_capacity(self.alloc, count)?;
+        let mut never_again = 0;
         let mut held = 0;
         let mut misses = 0;
         for position in 0..count {
@@ -129,11 +131,11 @@ impl<K: Eq, A: Allocator + Copy> ForesightPass<K, A> {
                 if held < room.get() {
                     held += 1;
                 } else {
-                    drop_latest(&mut ahead, &mut done, &mut kept, count);
+                    drop_latest(&mut next_uses, &mut never_again, &mut kept, count);
                 }
             }
             let next = next_or(self.later.get(position), count);
-            keep(&mut ahead, &mut done, &mut kept, count, next)?;
+            keep(&mut next_uses, &mut never_again, &mut kept, count, next)?;
         }
         Ok(misses)
     }

@@ -4,6 +4,7 @@ pub mod Fingers
 pub mod Halves
 pub mod Lends
 pub mod Links
+pub mod Packed
 pub mod PlaceList
 pub mod Places
 pub mod Pushes

@@ -18,6 +18,7 @@ mod iter;
 mod links;
 mod list;
 mod narrow;
+mod packed;
 
 pub use cursor::FixedSizeListIterMut;
 pub use error::{NoMemory, PushError};
@@ -31,3 +32,4 @@ pub use iter::FixedSizeListIter;
 #[doc(hidden)]
 pub use links::{Links, NOWHERE, Node};
 pub use list::FixedSizeList;
+pub use packed::PackedNumbers;

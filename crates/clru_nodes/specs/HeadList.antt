@@ -1,9 +1,8 @@
 -- Private: what heads are seen as. No public clause cites it.
-use Rattle.std.specs.Prelude.{◌≡◌, ℕ, ◌+◌, ◌-◌, ◌*◌, ◌^◌, ◌<◌, ◌≤◌, ◌==◌, if◌then◌else◌, List, [], ◌∷◌, length, take, drop, bit_and, refl}
+use Rattle.std.specs.Prelude.{◌≡◌, ℕ, ◌+◌, ◌-◌, ◌*◌, ◌^◌, ◌<◌, ◌≤◌, ◌==◌, if◌then◌else◌, List, length, take, drop, bit_and, refl}
 use Rattle.std.specs.Coded.{Coded, code_by, coded×, coded_list, coded_ℕ}
-use Rattle.clru_list.specs.Places.{nowhere, narrow}
-use Rattle.clru_nodes.specs.declared.heads.words.Words.{Words}
-use Rattle.clru_nodes.specs.declared.heads.words.Words.TheVariants.{Narrow, Wide}
+use Rattle.clru_list.specs.Packed.{Packed}
+use Rattle.clru_list.specs.Places.{nowhere}
 
 -- the number of each head, the number of the link of each place, the bound of the places that can be named, and the bits of a
 -- number that are those of a hash
@@ -39,28 +38,14 @@ pub record IsShaped (mask tags : ℕ) : Type 0 where
   pub masked : mask + 1 ≡ 2 ^ low
   pub tagged : mask + tags + 1 ≡ 2 ^ (high + low)
 
--- one number, 0, where there is none
-abbrev pub or_zero : List ℕ → List ℕ
-or_zero [] = 0 ∷ []
-or_zero (n ∷ ns) = n ∷ ns
+-- the first numbers, as many as the mask and one, are those of heads, and the others those of links
+abbrev pub list_of : Packed → ℕ → ℕ → HeadList
+list_of words mask tags = head_list (take (mask + 1) words.numbers) (drop (mask + 1) words.numbers) mask tags
 
-module _ {A : Type 0} where
-  abbrev pub numbers_in : Words A → List ℕ
-  numbers_in (Narrow words) = words.items
-  numbers_in (Wide words) = or_zero words.items
-
-  abbrev pub bound_of : Words A → ℕ
-  bound_of (Narrow words) = narrow
-  bound_of (Wide words) = nowhere
-
-  -- the first numbers, as many as the mask and one, are those of heads, and the others those of links
-  abbrev pub list_of : Words A → ℕ → ℕ → HeadList
-  list_of words mask tags = head_list (take (mask + 1) (numbers_in words)) (drop (mask + 1) (numbers_in words)) mask tags
-
-  -- there are so many heads, each place with a link can be named, and a number has its tag and one bit more
-  pub record IsWorded (words : Words A) (mask tags : ℕ) : Type 0 where
-    pub sized : mask < length (numbers_in words)
-    pub named : length (numbers_in words) ≤ mask + 1 + mask
-    pub shaped : IsShaped mask tags
-    pub fits : (mask + tags + 1) * 2 ≡ bound_of words + 1
-    pub countable : mask + tags < 2 ^ 63
+-- there are so many heads, each place with a link can be named, and a number has its tag and one bit more
+pub record IsWorded (words : Packed) (mask tags : ℕ) : Type 0 where
+  pub sized : mask < length words.numbers
+  pub named : length words.numbers ≤ mask + 1 + mask
+  pub shaped : IsShaped mask tags
+  pub fits : (mask + tags + 1) * 2 ≡ words.greatest + 1
+  pub countable : mask + tags < 2 ^ 63

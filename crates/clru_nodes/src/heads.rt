@@ -5,26 +5,29 @@
 //! are the same bits of the hash of the key at that place, its tag; and the highest one says that the place is linked on. So a
 //! look-up passes the places of other keys by their tags, and sees where a chain ends, without going there. `NOWHERE`, for
 //! which 0 stands, is the end of each chain, and in calls its start.
-ghost use Rattle.std.specs.Prelude.{◌≡◌, ℕ, ◌+◌, ◌*◌, ◌^◌, ◌<◌, ◌≤◌, ◌==◌, Some, false, true, length, replicate, set, IfOk, IfSome, IfNone, IsOk};
+ghost use Rattle.std.specs.Prelude.{◌≡◌, ℕ, ◌+◌, ◌*◌, ◌/◌, ◌^◌, ◌<◌, ◌≤◌, ◌==◌, Some, false, true, length, replicate, set, IfOk, IfSome, IfNone, IsOk};
 ghost use Rattle.std.specs.Int.{IsNextPowerOfTwo, IsPowerOfTwo};
 ghost use Rattle.clru_list.specs.Places.{nowhere};
 ghost use Rattle.clru_nodes.specs.HeadList.{head_list, place_named, place_numbered, tag_by};
 ghost use Rattle.clru_nodes.specs.Heads.{number_in, head_by, low_of, HasLink, IsNumber, IsNumberOf};
 
-use crate::heads::words::{NARROW_MORE, WIDE_MORE, Words};
-use clru_list::NoMemory;
+use clru_list::{NoMemory, PackedNumbers};
 use std::alloc::Allocator;
 use std::marker::Model;
 
 mod chains;
-mod words;
+
+// The highest bits of 4 bytes and of 8. In a number that bit says that its place is linked on.
+const MORE_BIT_32: usize = 2147483648;
+
+const MORE_BIT_64: usize = 9223372036854775808;
 
 /// A clause sees heads as the numbers of the heads and of the links, the bound of the places that can be named, and the bits of a
 /// number that are those of a hash.
 #[derive(Drop)]
 pub(crate) struct Heads<A: Allocator + Copy> {
     // The heads, and behind them the links by their places, since one request for memory finds both.
-    words: Words<A>,
+    words: PackedNumbers<A>,
     // How many heads there are, less one. They are a power of two, so it is a mask.
     mask: usize,
     // The bits of a tag: those between the mask and the highest one.
@@ -52,9 +55,9 @@ impl<A: Allocator + Copy> Heads<A> {
         ensures free { (h : ℕ) → number_in result.firsts h ≡ 0 }
     {
         Heads {
-            words: Words::bare(alloc),
+            words: PackedNumbers::one_zero(alloc),
             mask: 0,
-            tags: WIDE_MORE - 1,
+            tags: MORE_BIT_64 - 1,
             limit,
         }
     }
@@ -77,7 +80,7 @@ impl<A: Allocator + Copy> Heads<A> {
             return Err(NoMemory);
         };
         let is_narrow = fits_narrow(places, size, limit);
-        let words = Words::zeros(alloc, len, is_narrow)?;
+        let words = PackedNumbers::zeros(alloc, len, is_narrow)?;
         Ok(Heads {
             words,
             mask: size - 1,
@@ -87,7 +90,7 @@ impl<A: Allocator + Copy> Heads<A> {
     }
 
     /// Empty heads for so many places, from the allocator of these and with their limit.
-    pub(crate) fn another(&self, places: usize) -> Result<Self, NoMemory>
+    pub(crate) fn empty_resized(&self, places: usize) -> Result<Self, NoMemory>
         ensures free { IfOk result (λ x. (h : ℕ) → number_in x.firsts h ≡ 0) }
         ensures linked { IfOk result (λ x. places ≤ length x.links) }
         ensures headed { IfOk result (λ x. length x.links ≤ length x.firsts) }
@@ -151,7 +154,7 @@ impl<A: Allocator + Copy> Heads<A> {
         ensures last { result ≡ true → number ≤ low_of self.now }
         ensures more { result ≡ false → low_of self.now < number }
     {
-        number <= self.words.low()
+        number <= low_in(&self.words)
     }
 
     /// The number of a place, whose key has the hash, and which is the last one of its chain.
@@ -180,7 +183,7 @@ impl<A: Allocator + Copy> Heads<A> {
         ensures ends { leads ≡ false → result ≤ low_of self.now }
         ensures fits { IsNumber self.now result }
     {
-        let low = self.words.low();
+        let low = low_in(&self.words);
         if leads {
             number | (low + 1)
         } else {
@@ -233,11 +236,18 @@ fn place_numbered(number: usize) -> usize
     number.wrapping_sub(1)
 }
 
+/// The greatest number that leaves the highest bit 0. A sum of the mask and the tags is the same, and takes longer.
+fn low_in<A: Allocator + Copy>(words: &PackedNumbers<A>) -> usize
+    ensures { result ≡ words.now.greatest / 2 }
+{
+    words.greatest() / 2
+}
+
 /// Answers whether so many heads, for so many places, have 4 bytes each.
 fn fits_narrow(places: usize, size: usize, limit: usize) -> bool
     ensures { result ≡ true → size ≤ 2 ^ 31 }
 {
-    places <= limit && size <= NARROW_MORE
+    places <= limit && size <= MORE_BIT_32
 }
 
 /// The bits of a number above those of its place, but for the highest one.
@@ -248,8 +258,8 @@ fn tags_above(size: usize, is_narrow: bool) -> usize
     ensures wide { is_narrow ≡ false → result + size ≡ 2 ^ 63 }
 {
     if is_narrow {
-        NARROW_MORE - size
+        MORE_BIT_32 - size
     } else {
-        WIDE_MORE - size
+        MORE_BIT_64 - size
     }
 }

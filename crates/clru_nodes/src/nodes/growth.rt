@@ -61,14 +61,14 @@ impl<K: Eq + Hash, V, S: BuildHasher, A: Allocator + Copy> Nodes<K, V, S, A> {
         if places <= self.heads.link_count() {
             return Ok(());
         }
-        self.heads = self.heads.another(self.headed(places))?;
+        self.heads = self.heads.empty_resized(self.index_places_for(places))?;
         self.relink();
         Ok(())
     }
 
     /// For how many places heads are made where so many are wanted. From a quarter of the capacity on it is all of it, so that
     /// while these nodes fill up no key is chained anew once more.
-    fn headed(&self, places: usize) -> usize
+    fn index_places_for(&self, places: usize) -> usize
         ensures { places ≤ result }
     {
         let capacity = self.list.capacity();

@@ -19,19 +19,19 @@ pub loop-position-init : goal.loop-position-init
 loop-position-init g c =
     let eq = g.K.PartialEq.eq in
     let h = non_zero_usize_get c.args.room in
-    let empty : heap_items c.in_ok-ahead.ahead ≡ [] = c.in_ok-ahead.ensures.items in
+    let empty : heap_items c.in_ok-next_uses.next_uses ≡ [] = c.in_ok-next_uses.ensures.items in
     let n : c.len-count.result ≡ length c.args.self.now = c.len-count.ensures ∙ ap (λ l. length l) c.self.view_is in
     let len : c.resize.new.self.len ≡ c.len-count.result = search rules in
     record {
       way = λ past is. rw empty (on_the_way_start eq h (reverse past) c.resize.new.self.items
           (λ p below. c.in_ok-resize.ensures.by_index.1 p false (search rules) (omega (arith, c.new-kept.ensures.len))
           (omega (arith, below, n, foresight_length eq past c.args.self.now is))));
-      ordered = c.in_ok-ahead.ensures.heap_order;
+      ordered = c.in_ok-next_uses.ensures.heap_order;
       inside = rw empty (λ k d below. absurd (omega (arith, below)));
       marks = omega (arith, len, c.resize.new.self.ok);
       end = n;
       few = omega arith;
-      few_done = omega arith;
+      few_never_again = omega arith;
     }
 
 pub drop_latest-requires-clause-some : goal.drop_latest-requires-clause-some
@@ -39,7 +39,7 @@ drop_latest-requires-clause-some g c =
     let sound = c.self.invariant in let l = c.loop-position in
     let way = l.invariant.way sound.past (sym c.self.view_is ∙ sound.taken) in
     queue_some g.K.PartialEq.eq g.met.K.Eq.laws (non_zero_usize_get c.args.room) l.position (reverse sound.past) l.kept.items
-    (queue_of c.len-count.result l.done (heap_items l.ahead)) l.held l.misses way (omega arith)
+    (queue_of c.len-count.result l.never_again (heap_items l.next_uses)) l.held l.misses way (omega arith)
 
 -- what is read of the positions of later requests, and where it stands among those of the next ones
 module _ (g : Over) (c : After-next_or-next g) where
@@ -48,7 +48,7 @@ module _ (g : Over) (c : After-next_or-next g) where
       let l = c.loop-position in
       next_read c.args.self.now c.len-count.result l.position c.get-in-loop-position.result c.next_or-next.result
       (omega (arith, l.invariant.end, c.loop-position-test.true))
-      (c.get-in-loop-position.ensures ∙ ap (λ k. get_or k l.position 0) c.self.view_is) c.next_or-next.ensures
+      (c.get-in-loop-position.ensures.number ∙ ap (λ k. get_or k l.position 0) c.self.view_is) c.next_or-next.ensures
 
   within : c.loop-position.position < length (map (next_or c.len-count.result) c.args.self.now)
   within = omega (arith, c.loop-position.invariant.end, c.loop-position-test.true, length-map c.args.self.now (next_or c.len-count.result))
@@ -76,9 +76,9 @@ loop-position-preserved g c =
     let at = (goal.at.loop-position-preserved g c).After-next_or-next in
     let n = c.len-count.result in let later = c.args.self.now in let nexts = map (next_or n) later in
     let l = c.loop-position in let w = c.if-not-index in
-    let before = queue_of n l.done (heap_items l.ahead) in
-    let between = queue_of n w.done (heap_items w.ahead) in
-    let after = queue_of n c.keep.new.done (heap_items c.keep.new.ahead) in
+    let before = queue_of n l.never_again (heap_items l.next_uses) in
+    let between = queue_of n w.never_again (heap_items w.next_uses) in
+    let after = queue_of n c.keep.new.never_again (heap_items c.keep.new.next_uses) in
     let read = next_is g at in
     let s : (past : List g.row.K.Denot) → IsForesight eq past later
     → IsStep eq l.position (reverse past) nexts w.kept.items c.keep.new.kept.items between after =
@@ -96,7 +96,7 @@ loop-position-preserved g c =
     elim w.branch [
       | then-not-index+then-held-get w ↦
           let k : c.if-not-index.kept.items ≡ l.kept.items = rw w.kept-is refl in
-          let q : between ≡ before = rw (w.ahead-is, w.done-is) refl in
+          let q : between ≡ before = rw (w.next_uses-is, w.never_again-is) refl in
           record {
             way = λ past is. way_room eq laws h l.position (reverse past) nexts l.kept.items c.if-not-index.kept.items
                 c.keep.new.kept.items before between after l.held c.if-not-index.held
@@ -107,11 +107,11 @@ loop-position-preserved g c =
             marks = marks (ap (λ v. length v) k ∙ l.invariant.marks);
             end = l.invariant.end;
             few = omega (arith, w.misses-is);
-            few_done = omega (arith, w.done-is, c.in_ok-keep.ensures.few, l.invariant.few_done);
+            few_never_again = omega (arith, w.never_again-is, c.in_ok-keep.ensures.few, l.invariant.few_never_again);
           }
       | then-not-index+else-held-get w ↦
           let k : c.if-not-index.kept.items ≡ set l.kept.items w.drop_latest.result false = rw w.kept-is w.drop_latest.ensures.marks in
-          let taken : IsPermutation before (w.drop_latest.result ∷ between) = rw (w.ahead-is, w.done-is) w.drop_latest.ensures.taken in
+          let taken : IsPermutation before (w.drop_latest.result ∷ between) = rw (w.next_uses-is, w.never_again-is) w.drop_latest.ensures.taken in
           record {
             way = λ past is. way_full eq laws h l.position (reverse past) nexts l.kept.items c.if-not-index.kept.items
                 c.keep.new.kept.items before between after l.held c.if-not-index.held
@@ -123,11 +123,11 @@ loop-position-preserved g c =
             marks = marks (ap (λ v. length v) k ∙ length-set l.kept.items w.drop_latest.result false ∙ l.invariant.marks);
             end = l.invariant.end;
             few = omega (arith, w.misses-is);
-            few_done = omega (arith, w.done-is, w.drop_latest.ensures.fewer, c.in_ok-keep.ensures.few, l.invariant.few_done);
+            few_never_again = omega (arith, w.never_again-is, w.drop_latest.ensures.fewer, c.in_ok-keep.ensures.few, l.invariant.few_never_again);
           }
       | else-not-index w ↦
           let k : c.if-not-index.kept.items ≡ l.kept.items = rw w.kept-is refl in
-          let q : between ≡ before = rw (w.ahead-is, w.done-is) refl in
+          let q : between ≡ before = rw (w.next_uses-is, w.never_again-is) refl in
           record {
             way = λ past is. way_hit eq laws h l.position (reverse past) nexts l.kept.items c.if-not-index.kept.items
                 c.keep.new.kept.items before between after l.held c.if-not-index.held
@@ -138,7 +138,7 @@ loop-position-preserved g c =
             marks = marks (ap (λ v. length v) k ∙ l.invariant.marks);
             end = l.invariant.end;
             few = omega (arith, w.misses-is);
-            few_done = omega (arith, w.done-is, c.in_ok-keep.ensures.few, l.invariant.few_done);
+            few_never_again = omega (arith, w.never_again-is, c.in_ok-keep.ensures.few, l.invariant.few_never_again);
           }
     ]
 
@@ -150,7 +150,7 @@ best g c past is =
     let l = c.loop-position in
     let ends : l.position ≡ length (reverse past) =
     omega (arith, foresight_length eq past c.args.self.now is, l.invariant.end, c.loop-position-test.false, l.auto) in
-    on_the_way_end eq (non_zero_usize_get c.args.room) (reverse past) l.kept.items (queue_of c.len-count.result l.done (heap_items l.ahead)) l.held l.misses
+    on_the_way_end eq (non_zero_usize_get c.args.room) (reverse past) l.kept.items (queue_of c.len-count.result l.never_again (heap_items l.next_uses)) l.held l.misses
     (rw ends at (l.invariant.way past is))
 
 pub returns-clause-least : goal.returns-clause-least

@@ -1,7 +1,7 @@
-use Rattle.std.proofs.Common.{◌+◌, ◌-◌, length, cond, ap, ◌∙◌, arith, inl, inr}
+use Rattle.std.proofs.Common.{◌+◌, ◌-◌, length, ap, ◌∙◌, arith, inl, inr}
 use Rattle.std.proofs.lemmas.Bool.{cases_Bool}
 use Rattle.std.proofs.lemmas.List.{length-replicate}
-use Rattle.clru_list.specs.Places.{nowhere, narrow}
+use Rattle.clru_list.specs.Packed.{greatest_by}
 use Rattle.clru_nodes.proofs.HeadLists.{none_led}
 use Rattle.clru_nodes.proofs.Numbers.{shaped_from}
 use Rattle.clru_nodes.proofs.heads.Heads.empty.Goals as goal
@@ -14,7 +14,7 @@ invariant_of-result g c =
     let power = c.in-Some.ensures.least.0 in
     elim (cases_Bool c.fits_narrow-is_narrow.result) [
       | inl t ↦
-          let all = c.tags_above.ensures.narrow t in let bound = words.bound ∙ ap (λ b. cond b narrow nowhere) t in
+          let all = c.tags_above.ensures.narrow t in let bound = words.greatest ∙ ap greatest_by t in
           record {
             sized = omega (arith, len, sum, enough, some);
             named = omega (arith, len, sum, enough, some);
@@ -23,7 +23,7 @@ invariant_of-result g c =
             countable = omega (arith, all, enough, some);
           }
       | inr f ↦
-          let all = c.tags_above.ensures.wide f in let bound = words.bound ∙ ap (λ b. cond b narrow nowhere) f in
+          let all = c.tags_above.ensures.wide f in let bound = words.greatest ∙ ap greatest_by f in
           record {
             sized = omega (arith, len, sum, enough, some);
             named = omega (arith, len, sum, enough, some);

@@ -3,11 +3,11 @@ use Rattle.clru_nodes.proofs.heads.Heads.new.Goals as goal
 
 pub invariant_of-result : goal.invariant_of-result
 invariant_of-result g c =
-    let one = ap length c.bare.ensures.numbers in
+    let one = ap length c.one_zero.ensures.numbers in
     record {
       sized = omega (arith, one);
       named = omega (arith, one);
       shaped = record { low = 0; high = 63; masked = refl; tagged = refl };
-      fits = omega (arith, c.bare.ensures.bound);
+      fits = omega (arith, c.one_zero.ensures.greatest);
       countable = omega arith;
     }

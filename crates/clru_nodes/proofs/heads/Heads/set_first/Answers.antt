@@ -1,12 +1,11 @@
 use Rattle.std.proofs.Common.{◌+◌, ◌<◌, length, take, drop, ap, ◌∙◌, arith}
 use Rattle.std.proofs.lemmas.List.{length-take}
-use Rattle.clru_nodes.specs.HeadList.{numbers_in}
 use Rattle.clru_nodes.proofs.HeadLists.{head_written, links_stay}
 use Rattle.clru_nodes.proofs.heads.Heads.set_first.Goals as goal
 
 pub returns : goal.returns
 returns g c =
-    let s = c.self.inside in let xs = numbers_in s.words in let k = c.args.head in let n = c.args.number in
+    let s = c.self.inside in let xs = s.words.numbers in let k = c.args.head in let n = c.args.number in
     let within : k < s.mask + 1 =
     omega (arith, c.requires.head, ap (λ l. length l.firsts) c.self.view_is, length-take (s.mask + 1) xs) in
     let new = c.set.ensures.numbers in

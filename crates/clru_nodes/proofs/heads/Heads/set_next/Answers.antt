@@ -1,11 +1,10 @@
 use Rattle.std.proofs.Common.{◌+◌, take, drop, ap, ◌∙◌}
-use Rattle.clru_nodes.specs.HeadList.{numbers_in}
 use Rattle.clru_nodes.proofs.HeadLists.{link_written, heads_stay}
 use Rattle.clru_nodes.proofs.heads.Heads.set_next.Goals as goal
 
 pub returns : goal.returns
 returns g c =
-    let s = c.self.inside in let xs = numbers_in s.words in let k = c.args.place in let n = c.args.number in
+    let s = c.self.inside in let xs = s.words.numbers in let k = c.args.place in let n = c.args.number in
     let new = c.set.ensures.numbers in
     let firsts = ap (λ ws. take (s.mask + 1) ws) new ∙ heads_stay (s.mask + 1) xs k n in
     let links = ap (λ ws. drop (s.mask + 1) ws) new ∙ link_written (s.mask + 1) xs k n in

@@ -8,14 +8,14 @@ returns-clause-indexed g c =
       chained = c.relink.ensures.chained;
       held = omega (arith, ap (λ l. length l.entries) list, ap (λ l. l.places) list, old.held);
       headed = omega (arith, same.heads.heads, same.heads.links, new.headed);
-      linked = omega (arith, ap (λ l. l.places) list, same.heads.links, new.linked, c.headed.ensures, c.if-places-link_count.false, c.link_count.ensures.count, old.linked);
+      linked = omega (arith, ap (λ l. l.places) list, same.heads.links, new.linked, c.index_places_for.ensures, c.if-places-link_count.false, c.link_count.ensures.count, old.linked);
       named = omega (
         arith,
         ap (λ l. l.places) list,
         same.heads.bound,
         new.linked,
         new.named,
-        c.headed.ensures,
+        c.index_places_for.ensures,
         c.if-places-link_count.false,
         c.link_count.ensures.count,
         old.linked,
