@@ -27,7 +27,7 @@ pub use clru_list::NoMemory;
 pub use clru_model::{
     DefaultState, PutError, TryPutError, WeightScale, ZeroWeightScale, law_by_position,
     law_greater_capacity, law_inclusion, law_longest_fit, law_requests, law_schedules_by_position,
-    law_sizes,
+    law_size_bound, law_sizes,
 };
 pub use config::CLruCacheConfig;
 pub use cursor::CLruCacheIterMut;

@@ -19,7 +19,7 @@ mod sized;
 mod tree;
 
 pub use clru::{DefaultState, NoMemory, WeightScale};
-pub use clru_model::{law_bounds, law_distances, law_sizes, law_spans_by_position};
+pub use clru_model::{law_bounds, law_distances, law_parts, law_sizes, law_spans_by_position};
 pub use curve::MissCurve;
 pub use list::miss_curve;
 pub use pass::DistancePass;

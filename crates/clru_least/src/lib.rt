@@ -13,7 +13,7 @@ mod foresight;
 mod next_uses;
 mod pass;
 
-pub use clru_model::{DefaultState, law_least};
+pub use clru_model::{DefaultState, law_floor, law_least};
 pub use foresight::{Foresight, least};
 pub use pass::ForesightPass;
 pub use std::num::NonZeroUsize;

@@ -64,7 +64,8 @@ pub fn law_inclusion<K: Eq, V>()
 
 /// Does nothing at run time. Its contract says that a cache of weight zero, empty at first, that takes each key of a list in
 /// turn by one of the puts, in whichever form, holds a key before its put exactly where `replay` of the list marks a hit, and
-/// that the puts whose key it does not hold keep the bound that `replay` keeps.
+/// that the puts whose key it does not hold keep the bound that `replay` keeps. So does a loop that looks each key up and puts it
+/// only where the look-up finds nothing: its runs are runs of puts. What plain puts drop and what they leave is as much as misses.
 ///
 /// No put is refused, and no other call changes the cache.
 pub fn law_requests<K: Eq, V>()
@@ -145,9 +146,9 @@ pub fn law_sizes<K: Eq, V>()
     ensures weightless_span { WeightlessSpanIsDistance K.eq }
 {}
 
-/// Does nothing at run time. Its contract states the competitive bound by size. If equal keys have equal weights, then at the
-/// size `c` the missed size is at most `c / (c - h + 1)` times what any schedule of the size `h` misses, for `h` from 1 to `c`,
-/// and beside schedules that start with keys at most `h` more than that. Weighted puts of a cache keep the bound too.
+/// Does nothing at run time. Its contract says that, if equal keys have equal weights, the missed size at `c` is at most
+/// `c / (c - h + 1)` times what any schedule of the size `h` misses, for `h` from 1 to `c`, and at most `h` more than that beside
+/// schedules that start with keys. The weighted puts of a cache keep this bound too.
 pub fn law_size_bound<K: Eq, V>()
     ensures bound { MissedSizeCompetes K.eq }
     ensures bound_any_start { MissedSizeCompetesFromAnyStart K.eq }
@@ -155,10 +156,9 @@ pub fn law_size_bound<K: Eq, V>()
     ensures puts_any_start { SizedPutsCompeteFromAnyStart K.eq V }
 {}
 
-/// Does nothing at run time. Its contract says that no schedule that starts empty misses less than the floor, in requests or in
-/// size, and that no price of hits helps: what hits takes room at each position since the latest request of its key. Schedules
-/// may let requested keys pass by. If equal keys have equal weights. Where keys weigh nothing the floor is at most the least
-/// possible misses.
+/// Does nothing at run time. Its contract says that, if equal keys have equal weights, no schedule that starts empty misses less
+/// than the floor, in requests or in size, even if it bypasses requested keys. The reason is clause `paid`: a hit takes room at
+/// each position since the latest request of its key. If keys weigh nothing, the floor is at most the least possible misses.
 pub fn law_floor<K: Eq>()
     ensures paid { HitsArePaid K.eq }
     ensures misses { FloorIsBelow K.eq }
@@ -166,9 +166,9 @@ pub fn law_floor<K: Eq>()
     ensures below_least { FloorIsBelowLeast K.eq }
 {}
 
-/// Does nothing at run time. Its contract compares the misses of a list with those of its parts. Cut in two, the parts counted
-/// each from an empty cache have at least the misses of the whole, and at most the capacity more. The requests for some of the
-/// keys, as a sample has them, have no more misses than all requests.
+/// Does nothing at run time. Its contract says that the two parts of a list, each counted from an empty cache, have at least the
+/// misses of the whole, and at most the capacity more; and that the requests for some of the keys, as a sample has them, have no
+/// more misses than all requests.
 pub fn law_parts<K: Eq>()
     ensures cut { CutsMissMore K.eq }
     ensures cut_few { CutsMissFewMore K.eq }
