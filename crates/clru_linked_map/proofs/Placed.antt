@@ -1,0 +1,106 @@
+-- The entries of a list of nodes: what stands at a place once one is written, taken out or put in.
+use Rattle.std.proofs.Common.{◌≡◌, ◌<◌, ℕ, suc, ◌==◌, ◌≤◌, true, false, cond, Option, Some, None, IsSome, List, [], ◌∷◌, map, length, refl, sym, ap, ◌∙◌, subst, arith, inl, inr}
+use Rattle.std.proofs.lemmas.Bool.{cases_eq, eq-eqb, ne_eqb}
+use Rattle.std.specs.Option.{option_map}
+use Rattle.clru_list.specs.PlaceList.{PlaceList, item_at, without, with_at, IsApart, IsValid}
+use Rattle.clru_list.specs.Places.{nowhere}
+use Rattle.clru_linked_map.specs.Buckets.{placed_of, IsLive}
+use Rattle.clru_linked_map.specs.IndexedList.{pair_of, pairs_of}
+use Rattle.clru_linked_map.specs.declared.indexed_list.Item.{Item}
+
+module _ {T : Type 0} where
+  -- an item that is written stands at its place, and the others where they stood
+  pub item_at-with_at : (p q : ℕ) (w : T) (es : List (ℕ × T)) (i : T) → item_at p es ≡ Some i
+      → item_at q (with_at p w es) ≡ cond (p == q) (Some w) (item_at q es)
+  item_at-with_at p q w [] i held = cc
+  item_at-with_at p q w (e ∷ es) i held = elim (cases_eq p e.0) [
+    | inl here ↦ elim (cases_eq p q) [
+      | inl same ↦ rw (eq-eqb p e.0 here, eq-eqb p q same, eq-eqb q e.0 (sym same ∙ here)) refl
+      | inr apart ↦ rw (eq-eqb p e.0 here, ne_eqb p q apart, ne_eqb q e.0 (λ h. apart (here ∙ sym h))) refl
+    ]
+    | inr there ↦
+        let later = rw (ne_eqb p e.0 there) at held in let ih = item_at-with_at p q w es i later in elim (cases_eq p q) [
+          | inl same ↦ rw (ne_eqb p e.0 there, ne_eqb q e.0 (λ h. there (same ∙ h))) ih
+          | inr apart ↦
+              rw (ne_eqb p e.0 there, ne_eqb p q apart) (ap (λ (o : Option T). cond (q == e.0) (Some e.1) o) (ih ∙ rw (ne_eqb p q apart) refl))
+        ]
+  ]
+
+  -- an item that is taken out is gone, and the others stand where they stood
+  pub item_at-without : (p q : ℕ) (es : List (ℕ × T)) → IsApart es → item_at q (without p es) ≡ cond (p == q) None (item_at q es)
+  item_at-without p q [] apart =
+      let none : Option T = None in elim (p == q) as (λ b. none ≡ cond b none none) [ true ↦ refl | false ↦ refl ]
+  item_at-without p q (e ∷ es) apart = elim (cases_eq p e.0) [
+    | inl here ↦ elim (cases_eq p q) [
+      | inl same ↦ rw (eq-eqb p e.0 here, eq-eqb p q same) (subst (λ x. item_at x es ≡ None) (sym here ∙ same) apart.0)
+      | inr other ↦ rw (eq-eqb p e.0 here, ne_eqb p q other, ne_eqb q e.0 (λ h. other (here ∙ sym h))) refl
+    ]
+    | inr there ↦
+        let ih = item_at-without p q es apart.1 in elim (cases_eq p q) [
+          | inl same ↦ rw (ne_eqb p e.0 there, ne_eqb q e.0 (λ h. there (same ∙ h))) ih
+          | inr other ↦
+              rw (ne_eqb p e.0 there, ne_eqb p q other) (ap (λ (o : Option T). cond (q == e.0) (Some e.1) o) (ih ∙ rw (ne_eqb p q other) refl))
+        ]
+  ]
+
+  pub length-without : (p : ℕ) (es : List (ℕ × T)) → length (without p es) ≤ length es
+  length-without p [] = omega arith
+  length-without p (e ∷ es) = let ih = length-without p es in elim (p == e.0) as (λ b. length (cond b es (e ∷ without p es)) ≤ suc (length es)) [
+    | true ↦ omega arith
+    | false ↦ omega (arith, ih)
+  ]
+
+  -- and the entries are one less
+  pub length-without_held : (p : ℕ) (es : List (ℕ × T)) (i : T) → item_at p es ≡ Some i → suc (length (without p es)) ≡ length es
+  length-without_held p [] i held = cc
+  length-without_held p (e ∷ es) i held = elim (cases_eq p e.0) [
+    | inl here ↦ rw (eq-eqb p e.0 here) refl
+    | inr there ↦ rw (ne_eqb p e.0 there) (ap suc (length-without_held p es i (rw (ne_eqb p e.0 there) at held)))
+  ]
+
+module _ {K V : Type 0} where
+  -- the pairs with their places have the pairs
+  pub pairs-placed : (es : List (ℕ × Item K V)) → pairs_of es ≡ map (λ (e : ℕ × (K × V)). e.1) (placed_of es)
+  pairs-placed [] = refl
+  pairs-placed (e ∷ es) = ap (λ l. (e.1.key, e.1.value) ∷ l) (pairs-placed es)
+
+  -- the pair at a place
+  pub pair_at-placed : (q : ℕ) (es : List (ℕ × Item K V)) → option_map (λ (i : Item K V). pair_of i) (item_at q es) ≡ item_at q (placed_of es)
+  pair_at-placed q [] = refl
+  pair_at-placed q (e ∷ es) = elim (cases_eq q e.0) [
+    | inl here ↦ rw (eq-eqb q e.0 here) refl
+    | inr there ↦ rw (ne_eqb q e.0 there) (pair_at-placed q es)
+  ]
+
+  pub length-placed : (es : List (ℕ × Item K V)) → length (placed_of es) ≡ length es
+  length-placed [] = refl
+  length-placed (e ∷ es) = ap suc (length-placed es)
+
+  -- there are as many pairs as entries
+  pub length-pairs : (es : List (ℕ × Item K V)) → length (pairs_of es) ≡ length es
+  length-pairs [] = refl
+  length-pairs (e ∷ es) = ap suc (length-pairs es)
+
+  none_at-placed : (q : ℕ) (es : List (ℕ × Item K V)) → item_at q es ≡ None → item_at q (placed_of es) ≡ None
+  none_at-placed q es none = sym (pair_at-placed q es) ∙ rw none refl
+
+  -- the places of pairs are apart where those of items are
+  pub apart-placed : (es : List (ℕ × Item K V)) → IsApart es → IsApart (placed_of es)
+  apart-placed [] apart = apart
+  apart-placed (e ∷ es) apart = (none_at-placed e.0 es apart.0, apart-placed es apart.1)
+
+  -- what is left, with its places, is left of the pairs
+  pub placed-without : (p : ℕ) (es : List (ℕ × Item K V)) → placed_of (without p es) ≡ without p (placed_of es)
+  placed-without p [] = refl
+  placed-without p (e ∷ es) = elim (cases_eq p e.0) [
+    | inl here ↦ rw (eq-eqb p e.0 here) refl
+    | inr there ↦ rw (ne_eqb p e.0 there) (ap (λ l. (e.0, (e.1.key, e.1.value)) ∷ l) (placed-without p es))
+  ]
+
+  -- an item stands below the number of places
+  pub live_below : (l : PlaceList (Item K V)) → IsValid l → (p : ℕ) → IsLive l.entries p → p < l.places
+  live_below l valid p live = let there : IsSome (item_at p l.entries) = rw live.1 refl in valid.below p there
+
+  -- no item stands at the start
+  pub none_at_start : (l : PlaceList (Item K V)) → IsValid l → IsLive l.entries nowhere → ⊥
+  none_at_start l valid live = omega (arith, live_below l valid nowhere live, valid.countable)
