@@ -8,7 +8,8 @@ use Rattle.clru_list.specs.PlaceList.{IsApart, item_at, with_at}
 use Rattle.clru_list.proofs.Indices.{entry-of}
 use Rattle.clru_list.proofs.Windows.{differs, item_at-entry}
 use Rattle.clru_linked_map.specs.Buckets.{with_item_at}
-use Rattle.clru_linked_map.specs.IndexedList.{item_with, pair_of, pairs_of}
+use Rattle.clru_linked_map.specs.IndexedList.{item_with}
+use Rattle.clru_linked_map.specs.LinkedMap.{pair_of, pairs_of}
 use Rattle.clru_linked_map.specs.declared.indexed_list.Item.{Item}
 use Rattle.clru_linked_map.proofs.Values.{frame_of}
 

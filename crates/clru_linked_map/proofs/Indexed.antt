@@ -11,7 +11,8 @@ use Rattle.clru_list.specs.Places.{nowhere, put, count}
 use Rattle.clru_linked_map.specs.Chained.{steps_of, of_bucket, IsCut, IsChained, IsLinked, IsWalk}
 use Rattle.clru_linked_map.specs.BucketList.{place_named, tag_by}
 use Rattle.clru_linked_map.specs.Buckets.{bucket_by, key_at, number_in, IsLive}
-use Rattle.clru_linked_map.specs.IndexedList.{hash_by, IsIndexed}
+use Rattle.clru_linked_map.specs.IndexedList.{IsIndexed}
+use Rattle.clru_linked_map.specs.LinkedMap.{hash_by}
 use Rattle.clru_linked_map.specs.declared.indexed_list.Item.{Item}
 use Rattle.clru_linked_map.specs.declared.indexed_list.IndexedList.{IndexedList}
 use Rattle.clru_list.proofs.Puts.{put-here, put-other}

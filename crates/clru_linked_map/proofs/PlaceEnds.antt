@@ -6,7 +6,7 @@ use Rattle.std.specs.Option.{option_map}
 use Rattle.clru_model.proofs.Ends.{last_of}
 use Rattle.clru_list.specs.PlaceList.{item_at, without, first_place, last_entry, last_entry_from, last_place, IsApart}
 use Rattle.clru_linked_map.specs.Buckets.{IsLive}
-use Rattle.clru_linked_map.specs.IndexedList.{pair_of, pairs_of}
+use Rattle.clru_linked_map.specs.LinkedMap.{pair_of, pairs_of}
 use Rattle.clru_linked_map.specs.declared.indexed_list.Item.{Item}
 
 module _ {K V : Type 0} where

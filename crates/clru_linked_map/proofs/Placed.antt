@@ -5,7 +5,7 @@ use Rattle.std.specs.Option.{option_map}
 use Rattle.clru_list.specs.PlaceList.{PlaceList, item_at, without, with_at, IsApart, IsValid}
 use Rattle.clru_list.specs.Places.{nowhere}
 use Rattle.clru_linked_map.specs.Buckets.{placed_of, IsLive}
-use Rattle.clru_linked_map.specs.IndexedList.{pair_of, pairs_of}
+use Rattle.clru_linked_map.specs.LinkedMap.{pair_of, pairs_of}
 use Rattle.clru_linked_map.specs.declared.indexed_list.Item.{Item}
 
 module _ {T : Type 0} where

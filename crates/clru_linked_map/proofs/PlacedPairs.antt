@@ -12,7 +12,8 @@ use Rattle.clru_model.specs.Entries.{demote, touch}
 use Rattle.clru_model.proofs.Forms.{IsForm, form_is}
 use Rattle.clru_list.specs.PlaceList.{item_at, with_at, without, IsApart}
 use Rattle.clru_linked_map.specs.Buckets.{with_value, IsAt}
-use Rattle.clru_linked_map.specs.IndexedList.{item_with, pair_of, pairs_of}
+use Rattle.clru_linked_map.specs.IndexedList.{item_with}
+use Rattle.clru_linked_map.specs.LinkedMap.{pair_of, pairs_of}
 use Rattle.clru_linked_map.specs.declared.indexed_list.Item.{Item}
 
 module _ {K V X : Type 0} (eq : X → K → Bool) (x : X) where

@@ -3,7 +3,8 @@ use Rattle.std.proofs.Common.{◌≡◌, refl, ap, ◌∙◌}
 use Rattle.clru_list.specs.PlaceList.{PlaceList}
 use Rattle.clru_linked_map.specs.Buckets.{KeepsPlaces, KeepsSizes}
 use Rattle.clru_linked_map.specs.BucketList.{BucketList}
-use Rattle.clru_linked_map.specs.IndexedList.{pairs_of, KeepsAllButPairs, KeepsPairs}
+use Rattle.clru_linked_map.specs.IndexedList.{KeepsAllButPairs, KeepsPairs}
+use Rattle.clru_linked_map.specs.LinkedMap.{pairs_of}
 use Rattle.clru_linked_map.specs.declared.indexed_list.Item.{Item}
 use Rattle.clru_linked_map.specs.declared.indexed_list.IndexedList.{IndexedList}
 

@@ -10,7 +10,7 @@ use Rattle.clru_model.proofs.Weights.{weight_of-cons}
 use Rattle.clru_list.specs.PlaceList.{PlaceList, place_list, with_entries, item_at, without, with_at, first_place, place_after, IsValid}
 use Rattle.clru_list.proofs.Retaining.{IsRetaining, from_place, some_injective, starts, ends, bucket, item_here, takes_here, goes_on, fewer}
 use Rattle.clru_linked_map.specs.Buckets.{placed_of}
-use Rattle.clru_linked_map.specs.IndexedList.{pair_of, pairs_of}
+use Rattle.clru_linked_map.specs.LinkedMap.{pair_of, pairs_of}
 use Rattle.clru_linked_map.specs.declared.indexed_list.Item.{Item}
 use Rattle.clru_linked_map.proofs.Placed.{pair_at-placed, length-placed, apart-placed, pairs-placed}
 use Rattle.clru_linked_map.proofs.Valid.{valid-with_at, valid-without}

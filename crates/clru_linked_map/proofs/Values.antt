@@ -6,7 +6,8 @@ use Rattle.clru_model.specs.Entries.{with_value_at, with_front}
 use Rattle.clru_model.proofs.Cases.{split}
 use Rattle.clru_list.specs.PlaceList.{item_at, with_entries, first_entry, last_entry, with_first, with_last}
 use Rattle.clru_linked_map.specs.Buckets.{with_value, key_at}
-use Rattle.clru_linked_map.specs.IndexedList.{item_with, pair_of, pairs_of, IsIndexed}
+use Rattle.clru_linked_map.specs.IndexedList.{item_with, IsIndexed}
+use Rattle.clru_linked_map.specs.LinkedMap.{pair_of, pairs_of}
 use Rattle.clru_linked_map.specs.declared.indexed_list.Item.{Item}
 use Rattle.clru_linked_map.specs.declared.indexed_list.IndexedList.{IndexedList}
 use Rattle.clru_linked_map.proofs.Hints.{keys_stay}

@@ -55,10 +55,10 @@ impl<K: Eq + Hash, V, S: BuildHasher, A: Allocator + Copy> LinkedHashMap<K, V, S
             A.Allocator self.entry (length self.old.entries - 1) result.1) }
         ensures entry { slice_get self.old.entries (length self.old.entries - 1) ≡ Some (deref_pair_mut result) }
     {
-        match self.items.list.back_mut() {
-            Some(item) => (&item.key, &mut item.value),
-            None => unreachable!(),
-        }
+        let Some(item) = self.items.list.back_mut() else {
+            unreachable!()
+        };
+        (&item.key, &mut item.value)
     }
 
     /// Returns the value of the key, whose hash is given, for writing.

@@ -29,10 +29,10 @@ impl<K: Eq + Hash, V, S: BuildHasher, A: Allocator + Copy> LinkedHashMap<K, V, S
         let Some(place) = self.items.list.place_at(index) else {
             unreachable!()
         };
-        match self.items.list.get_mut(place) {
-            Some(item) => (&item.key, &mut item.value),
-            None => unreachable!(),
-        }
+        let Some(item) = self.items.list.get_mut(place) else {
+            unreachable!()
+        };
+        (&item.key, &mut item.value)
     }
 
     /// Returns the entry at an index, with its value for writing. It is quick for a walk that goes down by one.
@@ -45,9 +45,9 @@ impl<K: Eq + Hash, V, S: BuildHasher, A: Allocator + Copy> LinkedHashMap<K, V, S
         let Some(place) = self.items.list.place_at_back(index) else {
             unreachable!()
         };
-        match self.items.list.get_mut(place) {
-            Some(item) => (&item.key, &mut item.value),
-            None => unreachable!(),
-        }
+        let Some(item) = self.items.list.get_mut(place) else {
+            unreachable!()
+        };
+        (&item.key, &mut item.value)
     }
 }

@@ -4,7 +4,7 @@ use Rattle.clru_list.specs.Places.{nowhere}
 use Rattle.clru_linked_map.specs.Chained.{IsPlace}
 use Rattle.clru_linked_map.specs.BucketList.{place_named, tag_by}
 use Rattle.clru_linked_map.specs.Buckets.{bucket_by, number_in, key_at, IsNumberOf}
-use Rattle.clru_linked_map.specs.IndexedList.{hash_by}
+use Rattle.clru_linked_map.specs.LinkedMap.{hash_by}
 use Rattle.clru_linked_map.proofs.ChainWalks.{walk_weaker}
 use Rattle.clru_linked_map.proofs.Cuts.{passed_met}
 use Rattle.clru_linked_map.proofs.Indexed.{walk_of_chain, live_at_cut, live_met, live_but}

@@ -4,7 +4,7 @@ use Rattle.clru_list.specs.Places.{nowhere}
 use Rattle.clru_linked_map.specs.Chained.{of_bucket, steps_left}
 use Rattle.clru_linked_map.specs.BucketList.{place_named, tag_by}
 use Rattle.clru_linked_map.specs.Buckets.{bucket_by, number_in, place_in, key_at, steps_in, home_at, IsLive, IsAt}
-use Rattle.clru_linked_map.specs.IndexedList.{hash_by}
+use Rattle.clru_linked_map.specs.LinkedMap.{hash_by}
 use Rattle.clru_linked_map.proofs.Chaining.{key_met, steps_off}
 use Rattle.clru_linked_map.proofs.ChainWalks.{walk_alive, walk_last, walk_step, walk_nearer}
 use Rattle.clru_linked_map.proofs.Cuts.{cut_here}

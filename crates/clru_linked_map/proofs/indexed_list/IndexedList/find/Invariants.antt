@@ -3,7 +3,7 @@ use Rattle.clru_list.specs.Places.{nowhere}
 use Rattle.clru_linked_map.specs.Chained.{of_bucket, steps_left, IsHint, IsWalk}
 use Rattle.clru_linked_map.specs.BucketList.{place_named, tag_by}
 use Rattle.clru_linked_map.specs.Buckets.{home_at, key_at, low_of, place_in, steps_in, IsLive, IsAt}
-use Rattle.clru_linked_map.specs.IndexedList.{hash_by}
+use Rattle.clru_linked_map.specs.LinkedMap.{hash_by}
 use Rattle.clru_linked_map.proofs.indexed_list.IndexedList.find.Given as goal
 
 abbrev pub invariant-loop-key : goal.invariant-loop-key

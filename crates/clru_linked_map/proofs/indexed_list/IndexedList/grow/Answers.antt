@@ -1,7 +1,7 @@
 use Rattle.std.proofs.Common.{ℕ, ◌≤◌, length, arith, sym, ap, subst, inl, inr}
 use Rattle.std.proofs.lemmas.Bool.{cases_eq}
 use Rattle.clru_linked_map.specs.Buckets.{key_at, IsChainedAs}
-use Rattle.clru_linked_map.specs.IndexedList.{hash_by}
+use Rattle.clru_linked_map.specs.LinkedMap.{hash_by}
 use Rattle.clru_linked_map.proofs.indexed_list.IndexedList.grow.Goals as goal
 
 pub returns-clause-indexed : goal.returns-clause-indexed

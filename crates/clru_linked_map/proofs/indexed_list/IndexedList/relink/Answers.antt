@@ -6,7 +6,7 @@ use Rattle.clru_list.specs.Places.{nowhere}
 use Rattle.clru_linked_map.specs.Chained.{IsRelinked}
 use Rattle.clru_linked_map.specs.BucketList.{place_named, tag_by}
 use Rattle.clru_linked_map.specs.Buckets.{bucket_by, number_in, IsChainedAs}
-use Rattle.clru_linked_map.specs.IndexedList.{hash_by}
+use Rattle.clru_linked_map.specs.LinkedMap.{hash_by}
 use Rattle.clru_linked_map.proofs.Hints.{linked_none}
 use Rattle.clru_linked_map.proofs.Indexed.{sized_stay}
 use Rattle.clru_linked_map.proofs.Placed.{live_below, none_at_start}

@@ -1,6 +1,7 @@
 use Rattle.std.proofs.Common.{◌≡◌}
 use Rattle.clru_linked_map.specs.Buckets.{IsChainedAs}
-use Rattle.clru_linked_map.specs.IndexedList.{hash_by, KeepsAllButPairs}
+use Rattle.clru_linked_map.specs.IndexedList.{KeepsAllButPairs}
+use Rattle.clru_linked_map.specs.LinkedMap.{hash_by}
 use Rattle.clru_linked_map.proofs.Relinking.{key_from}
 use Rattle.clru_linked_map.proofs.indexed_list.IndexedList.relink.Given as goal
 

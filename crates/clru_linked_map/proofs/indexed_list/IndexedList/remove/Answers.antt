@@ -1,6 +1,7 @@
 use Rattle.std.proofs.Common.{◌≡◌, Some, None, length, arith, sym, ap, ◌∙◌, subst}
 use Rattle.clru_list.specs.PlaceList.{without, with_entries, item_at, IsApart}
-use Rattle.clru_linked_map.specs.IndexedList.{hash_by, pair_of, IsIndexed}
+use Rattle.clru_linked_map.specs.IndexedList.{IsIndexed}
+use Rattle.clru_linked_map.specs.LinkedMap.{hash_by, pair_of}
 use Rattle.clru_linked_map.proofs.IndexedMoves.{chained_drop, indexed_from}
 use Rattle.clru_linked_map.proofs.Placed.{length-without}
 use Rattle.clru_linked_map.proofs.indexed_list.IndexedList.remove.Goals as goal

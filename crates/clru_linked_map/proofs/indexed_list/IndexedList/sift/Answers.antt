@@ -4,7 +4,7 @@ use Rattle.std.proofs.lemmas.Bool.{eq-eqb}
 use Rattle.clru_model.specs.Entries.{weight_of}
 use Rattle.clru_list.specs.PlaceList.{place_list, item_at, with_at}
 use Rattle.clru_linked_map.specs.Buckets.{placed_of}
-use Rattle.clru_linked_map.specs.IndexedList.{pairs_of}
+use Rattle.clru_linked_map.specs.LinkedMap.{pairs_of}
 use Rattle.clru_linked_map.specs.declared.indexed_list.Item.{Item}
 use Rattle.clru_linked_map.proofs.Placed.{item_at-with_at, placed-without}
 use Rattle.clru_linked_map.proofs.IndexedMoves.{indexed_written}

@@ -3,7 +3,8 @@ use Rattle.std.specs.Map.Calls.{CalledAtPair, TakesPair}
 use Rattle.clru_model.specs.Entries.{weight_of}
 use Rattle.clru_list.proofs.Retaining.{from_place}
 use Rattle.clru_linked_map.specs.Buckets.{placed_of}
-use Rattle.clru_linked_map.specs.IndexedList.{hash_by, pairs_of, IsIndexed, KeepsAllButPairs}
+use Rattle.clru_linked_map.specs.IndexedList.{IsIndexed, KeepsAllButPairs}
+use Rattle.clru_linked_map.specs.LinkedMap.{hash_by, pairs_of}
 use Rattle.clru_linked_map.proofs.Sifting.{IsSifting}
 use Rattle.clru_linked_map.proofs.indexed_list.IndexedList.sift.Given as goal
 

@@ -2,7 +2,7 @@ use Rattle.std.proofs.Common.{refl, sym, ◌∙◌, arith, inl, inr}
 use Rattle.std.proofs.lemmas.Bool.{cases_Bool}
 use Rattle.clru_linked_map.specs.Chained.{IsPlace}
 use Rattle.clru_linked_map.specs.Buckets.{key_at, home_at}
-use Rattle.clru_linked_map.specs.IndexedList.{hash_by}
+use Rattle.clru_linked_map.specs.LinkedMap.{hash_by}
 use Rattle.clru_linked_map.proofs.Chaining.{key_met}
 use Rattle.clru_linked_map.proofs.ChainWalks.{walk_weaker}
 use Rattle.clru_linked_map.proofs.Cuts.{passed_met}
