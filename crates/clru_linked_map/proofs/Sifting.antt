@@ -8,7 +8,7 @@ use Rattle.std.specs.Option.{option_map}
 use Rattle.clru_model.specs.Entries.{weight_of}
 use Rattle.clru_model.proofs.Weights.{weight_of-cons}
 use Rattle.clru_list.specs.PlaceList.{PlaceList, place_list, with_entries, item_at, without, with_at, first_place, place_after, IsValid}
-use Rattle.clru_list.proofs.Retaining.{IsRetaining, from_place, some_injective, starts, ends, bucket, item_here, takes_here, goes_on, fewer}
+use Rattle.clru_list.proofs.Retaining.{IsRetaining, from_place, some_injective, starts, ends, head, item_here, takes_here, goes_on, fewer}
 use Rattle.clru_linked_map.specs.Buckets.{placed_of}
 use Rattle.clru_linked_map.specs.LinkedMap.{pair_of, pairs_of}
 use Rattle.clru_linked_map.specs.declared.indexed_list.Item.{Item}
@@ -119,7 +119,7 @@ module _ {F K V : Type 0} (step : F → K → V → Bool → V → F → Type 0)
         ∙ item_here (step_at step) (takes_at takes) first (shown old) f (shown l) at s p here in cc
 
     module _ (p : ℕ) (here : at ≡ Some p) (i : Item K V) (held : item_at p l.entries ≡ Some i) where
-      pair_here : pair_of i ≡ (bucket (step_at step) (takes_at takes) first (shown old) f (shown l) at s p here).value
+      pair_here : pair_of i ≡ (head (step_at step) (takes_at takes) first (shown old) f (shown l) at s p here).value
       pair_here =
           some_injective (ap (λ (o : Option (Item K V)). option_map (λ (j : Item K V). pair_of j) o) (sym held) ∙ pair_at-placed p l.entries
           ∙ item_here (step_at step) (takes_at takes) first (shown old) f (shown l) at s p here)

@@ -1,4 +1,4 @@
-use Rattle.std.proofs.Common.{◌≡◌, Some, sym, ap, ◌∙◌, subst}
+use Rattle.std.proofs.Common.{◌≡◌, Some, length, sym, ap, ◌∙◌, subst}
 use Rattle.clru_list.specs.PlaceList.{item_at}
 use Rattle.clru_linked_map.specs.Buckets.{bucket_by}
 use Rattle.clru_linked_map.specs.IndexedList.{map_of}
