@@ -52,20 +52,19 @@ module _ {K V S A H : Type 0} (x : IndexedList K V S A H) where
       → IsWritten (with_value test w x.list.entries) (set_value test (pairs_of x.list.entries) w)
   found_written test w = written (frame-with_value test w x.list.entries) (pairs_of-with_value test w x.list.entries)
 
-  -- what stands at a place with an index
-  pub record IsAtIndex (k p : ℕ) : Type 0 where
-    pub item : Item K V
-    pub held : item_at p x.list.entries ≡ Some item
-    pub pair : slice_get (pairs_of x.list.entries) k ≡ Some (pair_of item)
-    pub written : (w : V) → IsWritten (with_at p (item_with item w) x.list.entries) (with_value_at k w (pairs_of x.list.entries))
+  -- the item i stands at a place with the index k
+  pub record IsAtIndex (k p : ℕ) (i : Item K V) : Type 0 where
+    pub pair : slice_get (pairs_of x.list.entries) k ≡ Some (pair_of i)
+    pub written : (w : V) → IsWritten (with_at p (item_with i w) x.list.entries) (with_value_at k w (pairs_of x.list.entries))
 
-  pub at_index : (k p : ℕ) → IsApart x.list.entries → Some p ≡ slice_get (keys_of x.list.entries) k → IsAtIndex k p
-  at_index k p apart at =
+  pub at_index : (k p : ℕ) (i : Item K V) → IsApart x.list.entries → Some p ≡ slice_get (keys_of x.list.entries) k
+      → item_at p x.list.entries ≡ Some i → IsAtIndex k p i
+  at_index k p i apart at held =
       let es = x.list.entries in let s = stands_at es k p apart at in
+      let is : s.item ≡ i = let both : Some s.item ≡ Some i = sym s.held ∙ held in cc in
+      let there : option_map (λ (e : ℕ × Item K V). e.1) (slice_get es k) ≡ Some i = s.at_index ∙ ap (λ (d : Item K V). Some d) is in
       record {
-        item = s.item;
-        held = s.held;
-        pair = pair_at es k s.item s.at_index;
-        written = λ w. written (ap (λ l. frame_of l) (s.written (item_with s.item w)) ∙ frame-with_item_at w es k s.item s.at_index)
-            (ap (λ l. pairs_of l) (s.written (item_with s.item w)) ∙ pairs_of-with_item_at w es k s.item s.at_index);
+        pair = pair_at es k i there;
+        written = λ w. written (ap (λ l. frame_of l) (s.written (item_with i w)) ∙ frame-with_item_at w es k i there)
+            (ap (λ l. pairs_of l) (s.written (item_with i w)) ∙ pairs_of-with_item_at w es k i there);
       }
