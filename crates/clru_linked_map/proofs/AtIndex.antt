@@ -9,8 +9,7 @@ use Rattle.clru_list.proofs.Indices.{entry-of}
 use Rattle.clru_list.proofs.Windows.{differs, item_at-entry}
 use Rattle.clru_linked_map.specs.Buckets.{with_item_at}
 use Rattle.clru_linked_map.specs.IndexedList.{item_with}
-use Rattle.clru_linked_map.specs.LinkedMap.{pair_of, pairs_of}
-use Rattle.clru_linked_map.specs.declared.indexed_list.Item.{Item}
+use Rattle.clru_linked_map.specs.LinkedMap.{pairs_of}
 use Rattle.clru_linked_map.proofs.Values.{frame_of}
 
 module _ {X : Type 0} where
@@ -40,24 +39,24 @@ module _ {X : Type 0} where
 
 module _ {K V : Type 0} where
   -- the pair at an index is that of its item
-  pub pair_at : (es : List (ℕ × Item K V)) (k : ℕ) (i : Item K V) → option_map (λ e. e.1) (slice_get es k) ≡ Some i
-      → slice_get (pairs_of es) k ≡ Some (pair_of i)
+  pub pair_at : (es : List (ℕ × (K × V))) (k : ℕ) (i : K × V) → option_map (λ e. e.1) (slice_get es k) ≡ Some i
+      → slice_get (pairs_of es) k ≡ Some i
   pair_at [] k i at = cc
-  pair_at (e ∷ es) zero i at = let same : i ≡ e.1 = cc in ap (λ d. Some (pair_of d)) (sym same)
+  pair_at (e ∷ es) zero i at = let same : i ≡ e.1 = cc in ap (λ (d : K × V). Some d) (sym same)
   pair_at (e ∷ es) (suc k) i at = pair_at es k i at
 
   module _ (v : V) where
     -- another value there leaves all but the value
-    pub frame-with_item_at : (es : List (ℕ × Item K V)) (k : ℕ) (i : Item K V) → option_map (λ e. e.1) (slice_get es k) ≡ Some i
+    pub frame-with_item_at : (es : List (ℕ × (K × V))) (k : ℕ) (i : K × V) → option_map (λ e. e.1) (slice_get es k) ≡ Some i
         → frame_of (with_item_at k (item_with i v) es) ≡ frame_of es
     frame-with_item_at [] k i at = refl
     frame-with_item_at (e ∷ es) zero i at =
-        let same : i ≡ e.1 = cc in ap (λ (d : Item K V). (e.0, d.key) ∷ frame_of es) same
-    frame-with_item_at (e ∷ es) (suc k) i at = ap (λ l. (e.0, e.1.key) ∷ l) (frame-with_item_at es k i at)
+        let same : i ≡ e.1 = cc in ap (λ (d : K × V). (e.0, d.0) ∷ frame_of es) same
+    frame-with_item_at (e ∷ es) (suc k) i at = ap (λ l. (e.0, e.1.0) ∷ l) (frame-with_item_at es k i at)
 
     -- and the pairs have it there
-    pub pairs_of-with_item_at : (es : List (ℕ × Item K V)) (k : ℕ) (i : Item K V) → option_map (λ e. e.1) (slice_get es k) ≡ Some i
+    pub pairs_of-with_item_at : (es : List (ℕ × (K × V))) (k : ℕ) (i : K × V) → option_map (λ e. e.1) (slice_get es k) ≡ Some i
         → pairs_of (with_item_at k (item_with i v) es) ≡ with_value_at k v (pairs_of es)
     pairs_of-with_item_at [] k i at = refl
-    pairs_of-with_item_at (e ∷ es) zero i at = let same : i ≡ e.1 = cc in ap (λ (d : Item K V). (d.key, v) ∷ pairs_of es) same
-    pairs_of-with_item_at (e ∷ es) (suc k) i at = ap (λ l. pair_of e.1 ∷ l) (pairs_of-with_item_at es k i at)
+    pairs_of-with_item_at (e ∷ es) zero i at = let same : i ≡ e.1 = cc in ap (λ (d : K × V). (d.0, v) ∷ pairs_of es) same
+    pairs_of-with_item_at (e ∷ es) (suc k) i at = ap (λ l. e.1 ∷ l) (pairs_of-with_item_at es k i at)

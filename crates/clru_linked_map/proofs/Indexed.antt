@@ -13,7 +13,6 @@ use Rattle.clru_linked_map.specs.BucketList.{place_named, tag_by}
 use Rattle.clru_linked_map.specs.Buckets.{bucket_by, key_at, number_in, IsLive}
 use Rattle.clru_linked_map.specs.IndexedList.{IsIndexed}
 use Rattle.clru_linked_map.specs.LinkedMap.{hash_by}
-use Rattle.clru_linked_map.specs.declared.indexed_list.Item.{Item}
 use Rattle.clru_linked_map.specs.declared.indexed_list.IndexedList.{IndexedList}
 use Rattle.clru_list.proofs.Puts.{put-here, put-other}
 use Rattle.clru_linked_map.proofs.Chaining.{single, met_key}
@@ -28,7 +27,7 @@ same_hash {W = W} finish write build form input builder e = ap (λ (ws : List W)
 
 module _ {K V : Type 0} where
   -- a place that holds something is among the places
-  live_counted : (q : ℕ) (es : List (ℕ × Item K V)) → IsLive es q → 0 < count q (keys_of es)
+  live_counted : (q : ℕ) (es : List (ℕ × (K × V))) → IsLive es q → 0 < count q (keys_of es)
   live_counted q [] live = let no = live.1 in cc
   live_counted q (e ∷ es) live = elim (cases_eq q e.0) [
     | inl here ↦ rw (eq-eqb q e.0 here) (omega arith)
@@ -36,13 +35,13 @@ module _ {K V : Type 0} where
   ]
 
   -- a key at a place stands in an item
-  pub live_of_key : (es : List (ℕ × Item K V)) (q : ℕ) (k : K) → key_at es q ≡ Some k → IsLive es q
-  live_of_key es q k is = (elim (item_at q es) as (λ o. item_at q es ≡ o → option_map (λ (i : Item K V). i.key) o ≡ Some k → IsLive es q) [
+  pub live_of_key : (es : List (ℕ × (K × V))) (q : ℕ) (k : K) → key_at es q ≡ Some k → IsLive es q
+  live_of_key es q k is = (elim (item_at q es) as (λ o. item_at q es ≡ o → option_map (λ (i : K × V). i.0) o ≡ Some k → IsLive es q) [
     | None ↦ λ e no. cc
     | Some i ↦ λ e yes. (i, e)
   ]) refl is
 
-  module _ (home : K → ℕ) {buckets link : ℕ → ℕ} (es : List (ℕ × Item K V)) {key : ℕ → Option K}
+  module _ (home : K → ℕ) {buckets link : ℕ → ℕ} (es : List (ℕ × (K × V))) {key : ℕ → Option K}
       (c : IsChained home buckets link key) (lives : (q : ℕ) (k : K) → key q ≡ Some k → IsLive es q) where
     -- a walk along a chain begins at its bucket
     pub walk_along : (h : ℕ) (alive wanted : ℕ → Type 0) → ((q : ℕ) → (q ≡ nowhere → ⊥) → 0 < of_bucket home h key q → alive q)
@@ -70,7 +69,7 @@ module _ {K V : Type 0} where
     live_at_cut h at cut off = live_met h at (cut_here cut) off
 
   -- the keys that are chained stand in items, also where one is out
-  pub live_but : (es : List (ℕ × Item K V)) (out q : ℕ) (k : K) → put (key_at es) out None q ≡ Some k → IsLive es q
+  pub live_but : (es : List (ℕ × (K × V))) (out q : ℕ) (k : K) → put (key_at es) out None q ≡ Some k → IsLive es q
   live_but es out q k is = elim (cases_eq out q) [
     | inl e ↦ let no = sym (put-here (key_at es) out None q e) ∙ is in cc
     | inr n ↦ live_of_key es q k (sym (put-other (key_at es) out None q n) ∙ is)

@@ -9,7 +9,6 @@ use Rattle.clru_list.specs.Places.{put}
 use Rattle.clru_linked_map.specs.Chained.{IsLinked}
 use Rattle.clru_linked_map.specs.Buckets.{key_at, IsChainedAs}
 use Rattle.clru_linked_map.specs.IndexedList.{IsIndexed, KeepsAllButPairs}
-use Rattle.clru_linked_map.specs.declared.indexed_list.Item.{Item}
 use Rattle.clru_linked_map.specs.declared.indexed_list.IndexedList.{IndexedList}
 use Rattle.clru_list.proofs.EntryLists.{absent, reordered}
 use Rattle.clru_list.proofs.Puts.{put-here, put-other}
@@ -18,17 +17,17 @@ use Rattle.clru_linked_map.proofs.Placed.{item_at-with_at, item_at-without, leng
 
 module _ {K V : Type 0} {hash : K → ℕ} {tag : ℕ → ℕ} {low ahead : ℕ} {home : K → ℕ} {place first next : ℕ → ℕ} where
   -- all chains stay where the keys do but at one place, which is in no chain
-  moved : (es fs : List (ℕ × Item K V)) (key key' : ℕ → Option K) (p : ℕ) → ((q : ℕ) → (p ≡ q → ⊥) → item_at q fs ≡ item_at q es)
+  moved : (es fs : List (ℕ × (K × V))) (key key' : ℕ → Option K) (p : ℕ) → ((q : ℕ) → (p ≡ q → ⊥) → item_at q fs ≡ item_at q es)
       → key p ≡ None → ((q : ℕ) → (p ≡ q → ⊥) → key q ≡ key_at es q) → key' p ≡ None → ((q : ℕ) → (p ≡ q → ⊥) → key' q ≡ key_at fs q)
       → IsLinked hash tag low ahead home place first next key → IsLinked hash tag low ahead home place first next key'
   moved es fs key key' p items out keys out' keys' =
       keys_stay key key' (λ q. elim (cases_eq p q) [
         | inl e ↦ ap key' (sym e) ∙ out' ∙ sym out ∙ ap key e
-        | inr n ↦ keys' q n ∙ ap (λ (o : Option (Item K V)). option_map (λ (i : Item K V). i.key) o) (items q n) ∙ sym (keys q n)
+        | inr n ↦ keys' q n ∙ ap (λ (o : Option (K × V)). option_map (λ (i : K × V). i.0) o) (items q n) ∙ sym (keys q n)
       ])
 
   -- a new item is in no chain yet
-  pub chained_push : (p : ℕ) (i : Item K V) (es : List (ℕ × Item K V)) → item_at p es ≡ None → IsLinked hash tag low ahead home place first next (key_at es)
+  pub chained_push : (p : ℕ) (i : K × V) (es : List (ℕ × (K × V))) → item_at p es ≡ None → IsLinked hash tag low ahead home place first next (key_at es)
       → IsLinked hash tag low ahead home place first next (put (key_at ((p, i) ∷ es)) p None)
   chained_push p i es fresh =
       let fs = (p, i) ∷ es in
@@ -36,7 +35,7 @@ module _ {K V : Type 0} {hash : K → ℕ} {tag : ℕ → ℕ} {low ahead : ℕ}
       (put-here (key_at fs) p None p refl) (λ q n. put-other (key_at fs) p None q n)
 
   -- an item that is in no chain goes
-  pub chained_drop : (p : ℕ) (es : List (ℕ × Item K V)) → IsApart es → IsLinked hash tag low ahead home place first next (put (key_at es) p None)
+  pub chained_drop : (p : ℕ) (es : List (ℕ × (K × V))) → IsApart es → IsLinked hash tag low ahead home place first next (put (key_at es) p None)
       → IsLinked hash tag low ahead home place first next (key_at (without p es))
   chained_drop p es apart =
       let fs = without p es in
@@ -45,7 +44,7 @@ module _ {K V : Type 0} {hash : K → ℕ} {tag : ℕ → ℕ} {low ahead : ℕ}
       (rw (item_at-without p p es apart, eq-eqb p p refl) refl) (λ q n. refl)
 
   -- an item that is in no chain is written, and comes first
-  pub chained_replace : (p : ℕ) (i : Item K V) (es : List (ℕ × Item K V)) → IsApart es → IsLinked hash tag low ahead home place first next (put (key_at es) p None)
+  pub chained_replace : (p : ℕ) (i : K × V) (es : List (ℕ × (K × V))) → IsApart es → IsLinked hash tag low ahead home place first next (put (key_at es) p None)
       → IsLinked hash tag low ahead home place first next (put (key_at ((p, i) ∷ without p es)) p None)
   chained_replace p i es apart =
       let fs = (p, i) ∷ without p es in
@@ -55,10 +54,10 @@ module _ {K V : Type 0} {hash : K → ℕ} {tag : ℕ → ℕ} {low ahead : ℕ}
       (put-here (key_at fs) p None p refl) (λ q n. put-other (key_at fs) p None q n)
 
   -- where each place holds what it held, all chains stay
-  pub chained_stays : (es fs : List (ℕ × Item K V)) → ((q : ℕ) → item_at q fs ≡ item_at q es) → IsLinked hash tag low ahead home place first next (key_at es)
+  pub chained_stays : (es fs : List (ℕ × (K × V))) → ((q : ℕ) → item_at q fs ≡ item_at q es) → IsLinked hash tag low ahead home place first next (key_at es)
       → IsLinked hash tag low ahead home place first next (key_at fs)
   chained_stays es fs items =
-      keys_stay (key_at es) (key_at fs) (λ q. ap (λ (o : Option (Item K V)). option_map (λ (i : Item K V). i.key) o) (items q))
+      keys_stay (key_at es) (key_at fs) (λ q. ap (λ (o : Option (K × V)). option_map (λ (i : K × V). i.0) o) (items q))
 
 -- an item that comes first leaves each place with what it held
 pub items_to_front : {T : Type 0} (p : ℕ) (i : T) (es : List (ℕ × T)) → IsApart es → item_at p es ≡ Some i
@@ -88,7 +87,7 @@ items_to_back p i es apart held q =
     (reordered p i rest [] (absent p rest gone)).items q ∙ ap (λ l. item_at q ((p, i) ∷ l)) (append-nil rest) ∙ items_to_front p i es apart held q
 
 -- other entries, and all else as it was
-pub same_list : {K V S A H : Type 0} {x : IndexedList K V S A H} {es : List (ℕ × Item K V)} → KeepsAllButPairs x (record x { list = with_entries x.list es })
+pub same_list : {K V S A H : Type 0} {x : IndexedList K V S A H} {es : List (ℕ × (K × V))} → KeepsAllButPairs x (record x { list = with_entries x.list es })
 same_list = record {
   capacity = refl;
   places = refl;
@@ -98,11 +97,11 @@ same_list = record {
 
 module _ {K V S A H : Type 0} {hash : S → K → ℕ} {x : IndexedList K V S A H} where
   -- another order keeps the invariant
-  indexed_ordered : (es : List (ℕ × Item K V)) → IsIndexed hash x → ((q : ℕ) → item_at q es ≡ item_at q x.list.entries)
+  indexed_ordered : (es : List (ℕ × (K × V))) → IsIndexed hash x → ((q : ℕ) → item_at q es ≡ item_at q x.list.entries)
       → length es ≤ length x.list.entries → IsIndexed hash (record x { list = with_entries x.list es })
   indexed_ordered es old items fewer = indexed_from old same_list (chained_stays x.list.entries es items old.chained) fewer
 
-  module _ (p : ℕ) (i : Item K V) (old : IsIndexed hash x) (apart : IsApart x.list.entries) (held : item_at p x.list.entries ≡ Some i) where
+  module _ (p : ℕ) (i : K × V) (old : IsIndexed hash x) (apart : IsApart x.list.entries) (held : item_at p x.list.entries ≡ Some i) where
     -- an item that comes first
     pub indexed_front : IsIndexed hash (record x { list = with_entries x.list ((p, i) ∷ without p x.list.entries) })
     indexed_front =
@@ -117,10 +116,10 @@ module _ {K V S A H : Type 0} {hash : S → K → ℕ} {x : IndexedList K V S A 
         (omega (arith, length-without_held p x.list.entries i held, length-append rest ((p, i) ∷ [])))
 
   -- an item that gets another value keeps it
-  pub indexed_written : (p : ℕ) (i : Item K V) (v : V) → IsIndexed hash x → item_at p x.list.entries ≡ Some i
-      → IsIndexed hash (record x { list = with_entries x.list (with_at p (record { key = i.key; value = v }) x.list.entries) })
+  pub indexed_written : (p : ℕ) (i : K × V) (v : V) → IsIndexed hash x → item_at p x.list.entries ≡ Some i
+      → IsIndexed hash (record x { list = with_entries x.list (with_at p ((i.0, v)) x.list.entries) })
   indexed_written p i v old held =
-      let es = x.list.entries in let w : Item K V = record { key = i.key; value = v } in
+      let es = x.list.entries in let w : K × V = (i.0, v) in
       indexed_from old same_list
       (keys_stay (key_at es) _ (λ q. elim (cases_eq p q) [
         | inl e ↦ rw (item_at-with_at p q w es i held, eq-eqb p q e, ← e, held) refl

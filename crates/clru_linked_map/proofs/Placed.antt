@@ -4,9 +4,8 @@ use Rattle.std.proofs.lemmas.Bool.{cases_eq, eq-eqb, ne_eqb}
 use Rattle.std.specs.Option.{option_map}
 use Rattle.clru_list.specs.PlaceList.{PlaceList, item_at, without, with_at, IsApart, IsValid}
 use Rattle.clru_list.specs.Places.{nowhere}
-use Rattle.clru_linked_map.specs.Buckets.{placed_of, IsLive}
-use Rattle.clru_linked_map.specs.LinkedMap.{pair_of, pairs_of}
-use Rattle.clru_linked_map.specs.declared.indexed_list.Item.{Item}
+use Rattle.clru_linked_map.specs.Buckets.{IsLive}
+use Rattle.clru_linked_map.specs.LinkedMap.{pairs_of}
 
 module _ {T : Type 0} where
   -- an item that is written stands at its place, and the others where they stood
@@ -59,48 +58,15 @@ module _ {T : Type 0} where
   ]
 
 module _ {K V : Type 0} where
-  -- the pairs with their places have the pairs
-  pub pairs-placed : (es : List (ℕ × Item K V)) → pairs_of es ≡ map (λ (e : ℕ × (K × V)). e.1) (placed_of es)
-  pairs-placed [] = refl
-  pairs-placed (e ∷ es) = ap (λ l. (e.1.key, e.1.value) ∷ l) (pairs-placed es)
-
-  -- the pair at a place
-  pub pair_at-placed : (q : ℕ) (es : List (ℕ × Item K V)) → option_map (λ (i : Item K V). pair_of i) (item_at q es) ≡ item_at q (placed_of es)
-  pair_at-placed q [] = refl
-  pair_at-placed q (e ∷ es) = elim (cases_eq q e.0) [
-    | inl here ↦ rw (eq-eqb q e.0 here) refl
-    | inr there ↦ rw (ne_eqb q e.0 there) (pair_at-placed q es)
-  ]
-
-  pub length-placed : (es : List (ℕ × Item K V)) → length (placed_of es) ≡ length es
-  length-placed [] = refl
-  length-placed (e ∷ es) = ap suc (length-placed es)
-
   -- there are as many pairs as entries
-  pub length-pairs : (es : List (ℕ × Item K V)) → length (pairs_of es) ≡ length es
+  pub length-pairs : (es : List (ℕ × (K × V))) → length (pairs_of es) ≡ length es
   length-pairs [] = refl
   length-pairs (e ∷ es) = ap suc (length-pairs es)
 
-  none_at-placed : (q : ℕ) (es : List (ℕ × Item K V)) → item_at q es ≡ None → item_at q (placed_of es) ≡ None
-  none_at-placed q es none = sym (pair_at-placed q es) ∙ rw none refl
-
-  -- the places of pairs are apart where those of items are
-  pub apart-placed : (es : List (ℕ × Item K V)) → IsApart es → IsApart (placed_of es)
-  apart-placed [] apart = apart
-  apart-placed (e ∷ es) apart = (none_at-placed e.0 es apart.0, apart-placed es apart.1)
-
-  -- what is left, with its places, is left of the pairs
-  pub placed-without : (p : ℕ) (es : List (ℕ × Item K V)) → placed_of (without p es) ≡ without p (placed_of es)
-  placed-without p [] = refl
-  placed-without p (e ∷ es) = elim (cases_eq p e.0) [
-    | inl here ↦ rw (eq-eqb p e.0 here) refl
-    | inr there ↦ rw (ne_eqb p e.0 there) (ap (λ l. (e.0, (e.1.key, e.1.value)) ∷ l) (placed-without p es))
-  ]
-
   -- an item stands below the number of places
-  pub live_below : (l : PlaceList (Item K V)) → IsValid l → (p : ℕ) → IsLive l.entries p → p < l.places
+  pub live_below : (l : PlaceList (K × V)) → IsValid l → (p : ℕ) → IsLive l.entries p → p < l.places
   live_below l valid p live = let there : IsSome (item_at p l.entries) = rw live.1 refl in valid.below p there
 
   -- no item stands at the start
-  pub none_at_start : (l : PlaceList (Item K V)) → IsValid l → IsLive l.entries nowhere → ⊥
+  pub none_at_start : (l : PlaceList (K × V)) → IsValid l → IsLive l.entries nowhere → ⊥
   none_at_start l valid live = omega (arith, live_below l valid nowhere live, valid.countable)

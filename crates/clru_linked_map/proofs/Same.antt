@@ -5,7 +5,6 @@ use Rattle.clru_linked_map.specs.Buckets.{KeepsPlaces, KeepsSizes}
 use Rattle.clru_linked_map.specs.BucketList.{BucketList}
 use Rattle.clru_linked_map.specs.IndexedList.{KeepsAllButPairs, KeepsPairs}
 use Rattle.clru_linked_map.specs.LinkedMap.{pairs_of}
-use Rattle.clru_linked_map.specs.declared.indexed_list.Item.{Item}
 use Rattle.clru_linked_map.specs.declared.indexed_list.IndexedList.{IndexedList}
 
 size_refl : {h : BucketList} → KeepsSizes h h
@@ -31,7 +30,7 @@ module _ {K V S A H : Type 0} where
   pairs_kept x y k = record { pairs = ap (λ l. pairs_of l.entries) k.list; capacity = ap (λ l. l.capacity) k.list; builder = k.builder }
 
   -- and so they do where the list alone grows
-  pub pairs_grown : (x : IndexedList K V S A H) (l : PlaceList (Item K V)) → l.entries ≡ x.list.entries → l.capacity ≡ x.list.capacity
+  pub pairs_grown : (x : IndexedList K V S A H) (l : PlaceList (K × V)) → l.entries ≡ x.list.entries → l.capacity ≡ x.list.capacity
       → KeepsPairs x (record x { list = l })
   pairs_grown x l entries capacity = record { pairs = ap (λ es. pairs_of es) entries; capacity = capacity; builder = refl }
 

@@ -5,7 +5,6 @@ use Rattle.clru_list.specs.PlaceList.{item_at}
 use Rattle.clru_list.specs.Places.{nowhere, put}
 use Rattle.clru_linked_map.specs.Chained.{steps_of, IsLinked, IsRelinked}
 use Rattle.clru_linked_map.specs.BucketList.{BucketList, place_named, tag_by}
-use Rattle.clru_linked_map.specs.declared.indexed_list.Item.{Item}
 use Rattle.clru_linked_map.specs.declared.indexed_list.IndexedList.{IndexedList}
 
 -- the bucket of a hash, of n buckets
@@ -13,33 +12,28 @@ abbrev pub bucket_by : ℕ → ℕ → ℕ
 bucket_by n hash = bit_and hash (n - 1)
 
 module _ {K V : Type 0} where
-  -- the pairs with their places, front first
-  abbrev pub placed_of : List (ℕ × Item K V) → List (ℕ × (K × V))
-  placed_of es = map (λ e. (e.0, (e.1.key, e.1.value))) es
-
   -- the items with another value at the first key that passes
-  abbrev pub with_value : (K → Bool) → V → List (ℕ × Item K V) → List (ℕ × Item K V)
+  abbrev pub with_value : (K → Bool) → V → List (ℕ × (K × V)) → List (ℕ × (K × V))
   with_value test v [] = []
   with_value test v (e ∷ es) =
-      let written : Item K V = record { key = e.1.key; value = v } in
-      if test e.1.key then ((e.0, written) ∷ es) else e ∷ with_value test v es
+      if test e.1.0 then ((e.0, (e.1.0, v)) ∷ es) else e ∷ with_value test v es
 
-  abbrev pub key_at : List (ℕ × Item K V) → ℕ → Option K
-  key_at es q = option_map (λ i. i.key) (item_at q es)
+  abbrev pub key_at : List (ℕ × (K × V)) → ℕ → Option K
+  key_at es q = option_map (λ i. i.0) (item_at q es)
 
   -- some item is there
-  abbrev pub IsLive : List (ℕ × Item K V) → ℕ → Type 0
-  IsLive es q = (i : Item K V) × (item_at q es ≡ Some i)
+  abbrev pub IsLive : List (ℕ × (K × V)) → ℕ → Type 0
+  IsLive es q = (i : K × V) × (item_at q es ≡ Some i)
 
   -- the pair stood at the place
-  abbrev pub IsTaken : K × V → ℕ → List (ℕ × Item K V) → Type 0
-  IsTaken pair p es = (i : Item K V) × (item_at p es ≡ Some i) × (pair ≡ (i.key, i.value))
+  abbrev pub IsTaken : K × V → ℕ → List (ℕ × (K × V)) → Type 0
+  IsTaken pair p es = item_at p es ≡ Some pair
 
   -- the item at the place has the key x, or the key of which x is a form
-  pub record IsAt {X : Type 0} (eq : X → K → Bool) (x : X) (p : ℕ) (es : List (ℕ × Item K V)) : Type 0 where
-    pub item : Item K V
+  pub record IsAt {X : Type 0} (eq : X → K → Bool) (x : X) (p : ℕ) (es : List (ℕ × (K × V))) : Type 0 where
+    pub item : K × V
     pub held : item_at p es ≡ Some item
-    pub same : eq x item.key ≡ true
+    pub same : eq x item.0 ≡ true
 
 -- the entries with another item at an index
 abbrev pub with_item_at : {X : Type 0} → ℕ → X → List (ℕ × X) → List (ℕ × X)
@@ -115,17 +109,17 @@ module _ {K V S A H : Type 0} where
 
   -- what a place holds, whose key has the bucket h
   pub record HasHome (hash : S → K → ℕ) (h p : ℕ) (x : IndexedList K V S A H) : Type 0 where
-    pub item : Item K V
+    pub item : K × V
     pub held : item_at p x.list.entries ≡ Some item
-    pub home : home_at hash x item.key ≡ h
+    pub home : home_at hash x item.0 ≡ h
     pub off : p ≡ nowhere → ⊥
     pub within : h < length x.index.firsts
 
   -- what a place holds, whose key has the hash n
   pub record HasHash (hash : S → K → ℕ) (n p : ℕ) (x : IndexedList K V S A H) : Type 0 where
-    pub item : Item K V
+    pub item : K × V
     pub held : item_at p x.list.entries ≡ Some item
-    pub hashed : hash x.hash_builder item.key ≡ n
+    pub hashed : hash x.hash_builder item.0 ≡ n
     pub off : p ≡ nowhere → ⊥
 
   -- all but buckets and links is as it was

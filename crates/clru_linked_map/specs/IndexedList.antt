@@ -3,12 +3,11 @@ use Rattle.std.specs.Prelude.{◌≡◌, ℕ, ◌≤◌, List, length}
 use Rattle.clru_list.specs.PlaceList.{with_entries}
 use Rattle.clru_linked_map.specs.Buckets.{key_at, IsChainedAs, KeepsSizes}
 use Rattle.clru_linked_map.specs.LinkedMap.{LinkedMap, linked_map, pairs_of}
-use Rattle.clru_linked_map.specs.declared.indexed_list.Item.{Item}
 use Rattle.clru_linked_map.specs.declared.indexed_list.IndexedList.{IndexedList}
 
 -- the item with another value
-abbrev pub item_with : {K V : Type 0} → Item K V → V → Item K V
-item_with i v = record { key = i.key; value = v }
+abbrev pub item_with : {K V : Type 0} → K × V → V → K × V
+item_with i v = (i.0, v)
 
 module _ {K V S A H : Type 0} where
   -- the pairs, front first
@@ -20,7 +19,7 @@ module _ {K V S A H : Type 0} where
   map_of x = linked_map (pairs_in x) x.list.capacity x.list.places x.hash_builder
 
   -- it with other items
-  abbrev pub with_items : List (ℕ × Item K V) → IndexedList K V S A H → IndexedList K V S A H
+  abbrev pub with_items : List (ℕ × (K × V)) → IndexedList K V S A H → IndexedList K V S A H
   with_items es x = record x { list = with_entries x.list es }
 
   -- what holds between the calls: each key is found by its hash, each pair has memory, and each place has a link and a name

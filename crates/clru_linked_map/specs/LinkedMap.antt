@@ -6,7 +6,6 @@ use Rattle.std.specs.List.{fold}
 use Rattle.std.specs.HashMap.Lent.{HashMembers}
 use Rattle.std.specs.declared.hash.BuildHasher as builder
 use Rattle.std.specs.declared.hash.Hasher as hasher
-use Rattle.clru_linked_map.specs.declared.indexed_list.Item.{Item}
 
 pub record LinkedMap (K V S : Type 0) : Type 0 where
   pub entries : List (K × V)
@@ -22,13 +21,9 @@ hash_by finish write build input builder k = finish (fold write (build builder) 
 abbrev pub hash_of : {K S H : Type 0} → HashMembers K → builder.Ghosts S H → hasher.Ghosts H → S → K → ℕ
 hash_of key build hash = hash_by hash.finish hash.write build.build_hasher key.hash_input
 
-module _ {K V : Type 0} where
-  abbrev pub pair_of : Item K V → K × V
-  pair_of i = (i.key, i.value)
-
-  -- the pairs of items with their places, front first
-  abbrev pub pairs_of : List (ℕ × Item K V) → List (K × V)
-  pairs_of es = map (λ e. pair_of e.1) es
+-- the pairs of a list, front first
+abbrev pub pairs_of : {K V : Type 0} → List (ℕ × (K × V)) → List (K × V)
+pairs_of es = map (λ e. e.1) es
 
 module _ {K V S : Type 0} where
   abbrev pub linked_map : List (K × V) → ℕ → ℕ → S → LinkedMap K V S

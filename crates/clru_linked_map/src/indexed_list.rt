@@ -21,16 +21,9 @@ mod chaining;
 mod growth;
 mod retain;
 
-/// A pair.
-#[derive(Drop)]
-pub struct Item<K, V> {
-    pub key: K,
-    pub value: V,
-}
-
-/// Items in order, found by the hash of their keys.
+/// Pairs in order, found by the hash of their keys.
 pub(crate) struct IndexedList<K: Eq + Hash, V, S: BuildHasher, A: Allocator + Copy> {
-    pub(crate) list: FixedSizeList<Item<K, V>, A>,
+    pub(crate) list: FixedSizeList<(K, V), A>,
     pub(crate) index: HashIndex<A>,
     pub(crate) hash_builder: S,
 }
@@ -100,7 +93,7 @@ impl<K: Eq + Hash, V, S: BuildHasher, A: Allocator + Copy> IndexedList<K, V, S, 
             return true;
         }
         let item = self.list.item(place);
-        !key.equivalent(&item.key)
+        !key.equivalent(&item.0)
     }
 
     /// The bucket of the key at a place.
@@ -110,7 +103,7 @@ impl<K: Eq + Hash, V, S: BuildHasher, A: Allocator + Copy> IndexedList<K, V, S, 
         ensures valid { IsValid self.now.list }
     {
         let item = self.list.item(place);
-        self.index.bucket_of(self.hash(&item.key))
+        self.index.bucket_of(self.hash(&item.0))
     }
 
     /// Takes out the pair at a place, where the bucket of its key is given.
@@ -126,7 +119,7 @@ impl<K: Eq + Hash, V, S: BuildHasher, A: Allocator + Copy> IndexedList<K, V, S, 
     {
         self.unchain(bucket, place);
         match self.list.remove(place) {
-            Some(item) => (item.key, item.value),
+            Some(pair) => pair,
             None => unreachable!(),
         }
     }

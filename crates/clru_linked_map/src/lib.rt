@@ -11,5 +11,4 @@ mod hash_index;
 mod indexed_list;
 mod map;
 
-pub use indexed_list::Item;
 pub use map::LinkedHashMap;

@@ -141,6 +141,6 @@ impl<K: Eq + Hash, V, S: BuildHasher, A: Allocator + Copy> LinkedHashMap<K, V, S
         ensures { option_copied result ≡ lookup (Q.equivalent key) self.now.entries }
     {
         let place = self.items.find(hash, key)?;
-        Some(&self.items.list.item(place).value)
+        Some(&self.items.list.item(place).1)
     }
 }

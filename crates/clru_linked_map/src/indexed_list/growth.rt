@@ -76,7 +76,7 @@ impl<K: Eq + Hash, V, S: BuildHasher, A: Allocator + Copy> IndexedList<K, V, S, 
             let Some(item) = self.list.get(place) else {
                 continue;
             };
-            let hash = self.hash(&item.key);
+            let hash = self.hash(&item.0);
             let bucket = self.index.bucket_of(hash);
             let first = self.index.first(bucket);
             let number = self.index.number_of(place, hash);

@@ -38,7 +38,7 @@ impl<K: Eq + Hash, V, S: BuildHasher, A: Allocator + Copy> IndexedList<K, V, S, 
         while let Some(place) = next {
             next = self.list.next_idx(place);
             let kept = match self.list.get_mut(place) {
-                Some(item) => keep(&item.key, &mut item.value),
+                Some(item) => keep(&item.0, &mut item.1),
                 None => unreachable!(),
             };
             if kept {

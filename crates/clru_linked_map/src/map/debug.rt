@@ -1,6 +1,5 @@
-//! What `{:?}` prints of a map and of an item: counts, and nothing of keys and values.
+//! What `{:?}` prints of a map: counts, and nothing of keys and values.
 
-use crate::indexed_list::Item;
 use crate::map::LinkedHashMap;
 use std::alloc::Allocator;
 use std::fmt;
@@ -12,11 +11,5 @@ impl<K: Eq + Hash, V, S: BuildHasher, A: Allocator + Copy> fmt::Debug for Linked
             .field("len", &self.len())
             .field("capacity", &self.capacity())
             .finish()
-    }
-}
-
-impl<K, V> fmt::Debug for Item<K, V> {
-    fn fmt<W: fmt::Write>(&self, f: &mut fmt::Formatter<W>) -> fmt::Result {
-        f.debug_struct("Item").finish_non_exhaustive()
     }
 }

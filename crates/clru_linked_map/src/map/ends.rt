@@ -22,7 +22,7 @@ impl<K: Eq + Hash, V, S: BuildHasher, A: Allocator + Copy> LinkedHashMap<K, V, S
     {
         let place = self.items.list.front_idx()?;
         let item = self.items.list.item(place);
-        Some((&item.key, &item.value))
+        Some((&item.0, &item.1))
     }
 
     /// Returns the last entry.
@@ -30,7 +30,7 @@ impl<K: Eq + Hash, V, S: BuildHasher, A: Allocator + Copy> LinkedHashMap<K, V, S
         ensures { option_map deref_pair result ≡ slice_get self.now.entries (length self.now.entries - 1) }
     {
         match self.items.list.back() {
-            Some(item) => Some((&item.key, &item.value)),
+            Some(item) => Some((&item.0, &item.1)),
             None => None,
         }
     }
@@ -45,7 +45,7 @@ impl<K: Eq + Hash, V, S: BuildHasher, A: Allocator + Copy> LinkedHashMap<K, V, S
         let Some(item) = self.items.list.front_mut() else {
             unreachable!()
         };
-        (&item.key, &mut item.value)
+        (&item.0, &mut item.1)
     }
 
     /// Returns the last entry, with its value for writing.
@@ -58,7 +58,7 @@ impl<K: Eq + Hash, V, S: BuildHasher, A: Allocator + Copy> LinkedHashMap<K, V, S
         let Some(item) = self.items.list.back_mut() else {
             unreachable!()
         };
-        (&item.key, &mut item.value)
+        (&item.0, &mut item.1)
     }
 
     /// Returns the value of the key, whose hash is given, for writing.
@@ -71,7 +71,7 @@ impl<K: Eq + Hash, V, S: BuildHasher, A: Allocator + Copy> LinkedHashMap<K, V, S
     {
         let place = self.items.find(hash, key)?;
         match self.items.list.get_mut(place) {
-            Some(item) => Some(&mut item.value),
+            Some(item) => Some(&mut item.1),
             None => unreachable!(),
         }
     }
@@ -83,7 +83,7 @@ impl<K: Eq + Hash, V, S: BuildHasher, A: Allocator + Copy> LinkedHashMap<K, V, S
         ensures entries { self.new ≡ with_entries self.old (with_front value self.old.entries) }
     {
         match self.items.list.front_mut() {
-            Some(item) => mem::replace(&mut item.value, value),
+            Some(item) => mem::replace(&mut item.1, value),
             None => unreachable!(),
         }
     }

@@ -2,7 +2,6 @@
 ghost use Rattle.std.specs.Prelude.{◌≡◌, ◌-◌, ◌<◌, ◌≤◌, ◌∷◌, Some, length, slice_get, take};
 ghost use Rattle.clru_linked_map.specs.LinkedMap.{hash_of, with_entries};
 
-use crate::indexed_list::Item;
 use crate::map::LinkedHashMap;
 use std::alloc::Allocator;
 use std::hash::{BuildHasher, Hash};
@@ -17,8 +16,7 @@ impl<K: Eq + Hash, V, S: BuildHasher, A: Allocator + Copy> LinkedHashMap<K, V, S
         requires room { length self.old.entries < self.old.capacity }
         ensures { self.new ≡ with_entries self.old ((key, value) ∷ self.old.entries) }
     {
-        let item = Item { key, value };
-        match self.items.list.push_front(item) {
+        match self.items.list.push_front((key, value)) {
             Ok(place) => self.items.append(hash, place),
             Err(_) => unreachable!(),
         }
@@ -41,9 +39,9 @@ impl<K: Eq + Hash, V, S: BuildHasher, A: Allocator + Copy> LinkedHashMap<K, V, S
         let Some(item) = self.items.list.move_front(place) else {
             unreachable!()
         };
-        let old = mem::replace(item, Item { key, value });
+        let old = mem::replace(item, (key, value));
         self.items.append(hash, place);
-        (old.key, old.value)
+        old
     }
 
     /// Puts a new key, whose hash is given, with its value to the front, and returns the entry that went. If the map is full,

@@ -5,15 +5,14 @@ ghost use Rattle.std.specs.Map.Iter.{deref_pair_mut};
 ghost use Rattle.clru_linked_map.specs.LinkedMap.{pairs_of};
 ghost use Rattle.clru_linked_map.specs.MapLends.{lends_at};
 
-use crate::indexed_list::Item;
 use crate::map::LinkedHashMap;
 use clru_list::FixedSizeListIter;
 use std::alloc::Allocator;
 use std::hash::{BuildHasher, Hash};
 
 impl<K: Eq + Hash, V, S: BuildHasher, A: Allocator + Copy> LinkedHashMap<K, V, S, A> {
-    /// Returns an iterator over the items, from the first to the last.
-    pub fn iter(&self) -> FixedSizeListIter<'_, Item<K, V>, A>
+    /// Returns an iterator over the pairs with their places, from the first to the last.
+    pub fn iter(&self) -> FixedSizeListIter<'_, (K, V), A>
         ensures { pairs_of result ≡ self.now.entries }
     {
         self.items.list.iter()
@@ -32,7 +31,7 @@ impl<K: Eq + Hash, V, S: BuildHasher, A: Allocator + Copy> LinkedHashMap<K, V, S
         let Some(item) = self.items.list.get_mut(place) else {
             unreachable!()
         };
-        (&item.key, &mut item.value)
+        (&item.0, &mut item.1)
     }
 
     /// Returns the entry at an index, with its value for writing. It is quick for a walk that goes down by one.
@@ -48,6 +47,6 @@ impl<K: Eq + Hash, V, S: BuildHasher, A: Allocator + Copy> LinkedHashMap<K, V, S
         let Some(item) = self.items.list.get_mut(place) else {
             unreachable!()
         };
-        (&item.key, &mut item.value)
+        (&item.0, &mut item.1)
     }
 }

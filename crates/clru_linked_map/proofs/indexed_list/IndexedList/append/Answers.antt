@@ -75,7 +75,7 @@ returns-clause-chained g c =
     let same = c.set_next.ensures in let note = c.note.ensures in let before = c.before-last.ensures in let n = c.number_of-number.result in
     let number = subst (λ m. IsNumberOf x.index p m n) (sym h.hashed) c.number_of-number.ensures in
     let chained = chained_cleared (hash x.hash_builder) (key_at es) p x.index c.set_next.new.self within c.requires.chained same in
-    let b = c.set_next.new.self in let bound = ap (λ l. l.bound) same in let tags = ap (λ l. l.tags) same in let k = hash x.hash_builder h.item.key in
+    let b = c.set_next.new.self in let bound = ap (λ l. l.bound) same in let tags = ap (λ l. l.tags) same in let k = hash x.hash_builder h.item.0 in
     chained_behind (hash x.hash_builder) (key_at es) p b c.note.new.self c.bucket_of-bucket.result _ _ chained before.behind
     (before.cut _ (chained.chains.chain c.bucket_of-bucket.result)) note.none note.written (λ off. note.leads off refl)
     h.off (rw h.held refl)

@@ -28,7 +28,7 @@ loop-key-init g c =
           (λ q off met. (live_met (home_at hash x) es chained.chains (live_of_key es) h q met off, met))
           (λ q at. (
             at.0,
-            key_met (home_at hash x) h (key_at es) q at.1.item.key (rw at.1.held refl) (alike at.1.item.key at.1.same),
+            key_met (home_at hash x) h (key_at es) q at.1.item.0 (rw at.1.held refl) (alike at.1.item.0 at.1.same),
           )));
       hint = as_hint first (ap (place_named x.index.bound) first) (chained.hints h nowhere (cut_here (chained.chains.chain h)));
     }
@@ -54,7 +54,7 @@ returns-then-is_last-clause-absent g c =
     (λ off.
     let live = (walk_alive i.walk (λ a. none a.0) off).0 in
     steps_off (place_in x.index.bound x.index.firsts) (place_in x.index.bound x.index.links) c.bucket_of-bucket.result _ off
-    ∙ i.hint.ends live.0.key off (rw live.1 refl) (c.is_last.ensures.last c.if-is_last.true))
+    ∙ i.hint.ends live.0.0 off (rw live.1 refl) (c.is_last.ensures.last c.if-is_last.true))
     p (λ e. none (at.item, subst (λ q. item_at q x.list.entries ≡ Some at.item) e at.held), at))
 
 pub next-number-requires : goal.next-number-requires

@@ -1,7 +1,7 @@
 use Rattle.std.proofs.Common.{◌≡◌, Some, None, length, arith, sym, ap, ◌∙◌, subst}
 use Rattle.clru_list.specs.PlaceList.{without, with_entries, item_at, IsApart}
 use Rattle.clru_linked_map.specs.IndexedList.{IsIndexed}
-use Rattle.clru_linked_map.specs.LinkedMap.{hash_by, pair_of}
+use Rattle.clru_linked_map.specs.LinkedMap.{hash_by}
 use Rattle.clru_linked_map.proofs.IndexedMoves.{chained_drop, indexed_from}
 use Rattle.clru_linked_map.proofs.Placed.{length-without}
 use Rattle.clru_linked_map.proofs.indexed_list.IndexedList.remove.Goals as goal
@@ -13,10 +13,7 @@ unreachable-requires g c =
 
 pub returns-clause-pair : goal.returns-clause-pair
 returns-clause-pair g c =
-    let h = c.requires.home in
-    let both : Some c.in-Some.item ≡ Some h.item = c.in-Some.ensures.value ∙ ap (λ l. item_at c.args.place l.entries) c.unchain.ensures.list ∙ h.held in
-    let is : c.in-Some.item ≡ h.item = cc in
-    (h.item, h.held, ap (λ i. pair_of i) is)
+    sym (c.in-Some.ensures.value ∙ ap (λ l. item_at c.args.place l.entries) c.unchain.ensures.list)
 
 pub returns-clause-indexed : goal.returns-clause-indexed
 returns-clause-indexed g c =

@@ -3,13 +3,11 @@ use Rattle.std.specs.Map.Calls.{CalledAtPair, TakesPair}
 use Rattle.std.proofs.lemmas.Bool.{eq-eqb}
 use Rattle.clru_model.specs.Entries.{weight_of}
 use Rattle.clru_list.specs.PlaceList.{place_list, item_at, with_at}
-use Rattle.clru_linked_map.specs.Buckets.{placed_of}
 use Rattle.clru_linked_map.specs.LinkedMap.{pairs_of}
-use Rattle.clru_linked_map.specs.declared.indexed_list.Item.{Item}
-use Rattle.clru_linked_map.proofs.Placed.{item_at-with_at, placed-without}
+use Rattle.clru_linked_map.proofs.Placed.{item_at-with_at}
 use Rattle.clru_linked_map.proofs.IndexedMoves.{indexed_written}
 use Rattle.clru_linked_map.proofs.Same.{same_refl, same_trans}
-use Rattle.clru_linked_map.proofs.Sifting.{sifting_starts, sifting_ends, sifting_takes, sifting_goes_on, sifting_fewer, sifting_some, shown-written, weight_of-taken, weight_of-written}
+use Rattle.clru_linked_map.proofs.Sifting.{sifting_starts, sifting_ends, sifting_takes, sifting_goes_on, sifting_fewer, sifting_some, weight_of-taken, weight_of-written}
 use Rattle.clru_linked_map.proofs.indexed_list.IndexedList.sift.Goals as goal
 
 pub loop-next-init : goal.loop-next-init
@@ -35,7 +33,7 @@ loop-next-smaller-then-kept g c =
     let l = c.loop-next.self.list in let p = c.in-Some.place in
     sifting_fewer (CalledAtPair g.F.FnMut) (TakesPair g.F.FnMut) c.args.keep c.args.self.now.list c.loop-next.keep l c.loop-next.next c.loop-next.invariant.sifting
     p c.in-Some.is c.in-Some-get_mut.item.now (sym c.in-Some-get_mut.ensures.value)
-    c.next_idx-next.ensures.valid true c.keep-kept.new.arg3 _ _ (shown-written p c.in-Some-get_mut.item.now c.keep-kept.new.arg3 l) refl _ c.next_idx-next.ensures.place
+    c.next_idx-next.ensures.valid true c.keep-kept.new.arg3 _ _ refl refl _ c.next_idx-next.ensures.place
 
 pub loop-next-preserved-then-kept : goal.loop-next-preserved-then-kept
 loop-next-preserved-then-kept g c =
@@ -44,7 +42,7 @@ loop-next-preserved-then-kept g c =
     record {
       sifting = sifting_goes_on (CalledAtPair g.F.FnMut) (TakesPair g.F.FnMut) c.args.keep c.args.self.now.list c.loop-next.keep l c.loop-next.next inv.sifting
           p c.in-Some.is i held
-          c.next_idx-next.ensures.valid true c.keep-kept.new.arg3 _ _ (shown-written p c.in-Some-get_mut.item.now c.keep-kept.new.arg3 l) refl _ c.next_idx-next.ensures.place _
+          c.next_idx-next.ensures.valid true c.keep-kept.new.arg3 _ _ refl refl _ c.next_idx-next.ensures.place _
           (record { key = _; value = _; shows = (refl, refl); left = _; called = c.if-kept.ensures; leaves = refl });
       weighs = inv.weighs ∙ sym (weight_of-written (g.W.WeightScale.weight c.args.scale.now) p c.keep-kept.new.arg3 l.entries i held
           (c.requires.steady _ _ _ _ _ _ (record { key = _; value = _; shows = (refl, refl); left = _; called = c.if-kept.ensures; leaves = refl })));
@@ -55,7 +53,7 @@ loop-next-preserved-then-kept g c =
 pub take_at-key-requires-clause-place : goal.take_at-key-requires-clause-place
 take_at-key-requires-clause-place g c =
     let p = c.in-Some.place in let i = c.in-Some-get_mut.item.now in
-    let w : Item g.row.K.Denot g.row.V.Denot = record { key = i.key; value = c.keep-kept.new.arg3 } in
+    let w : g.row.K.Denot × g.row.V.Denot = (i.0, c.keep-kept.new.arg3) in
     (w, item_at-with_at p p w c.loop-next.self.list.entries i (sym c.in-Some-get_mut.ensures.value) ∙ rw (eq-eqb p p refl) refl)
 
 pub take_at-key-requires-clause-indexed : goal.take_at-key-requires-clause-indexed
@@ -63,49 +61,45 @@ take_at-key-requires-clause-indexed g c = indexed_written c.in-Some.place c.in-S
 
 pub overflow_sub-total_weight : goal.overflow_sub-total_weight
 overflow_sub-total_weight g c =
-    let w = g.W.WeightScale.weight c.args.scale.now in let (out, at_p, is) = c.take_at-key.ensures.pair in
+    let w = g.W.WeightScale.weight c.args.scale.now in let at_p = c.take_at-key.ensures.pair in
     let l = c.loop-next.self.list in let p = c.in-Some.place in let i = c.in-Some-get_mut.item.now in
     let held : item_at p l.entries ≡ Some i = sym c.in-Some-get_mut.ensures.value in
     omega (
       arith,
-      weight_of-taken w p (with_at p (record { key = i.key; value = c.keep-kept.new.arg3 }) l.entries) out at_p,
+      weight_of-taken w p (with_at p (i.0, c.keep-kept.new.arg3) l.entries) _ at_p,
       weight_of-written w p c.keep-kept.new.arg3 l.entries i held
           (c.requires.steady _ _ _ _ _ _ (record { key = _; value = _; shows = (refl, refl); left = _; called = c.if-kept.ensures; leaves = refl })),
       c.loop-next.invariant.weighs,
       c.weight.ensures,
-      ap (λ (e : g.row.K.Denot × g.row.V.Denot). w e.0 e.1) is,
     )
 
 pub loop-next-smaller : goal.loop-next-smaller
 loop-next-smaller g c =
     let l = c.loop-next.self.list in let p = c.in-Some.place in let t = c.take_at-key.ensures in
-    let placed = ap (λ l. placed_of l) t.entries ∙ placed-without p (with_at p (record { key = c.in-Some-get_mut.item.now.key; value = c.keep-kept.new.arg3 }) l.entries) in
     sifting_fewer (CalledAtPair g.F.FnMut) (TakesPair g.F.FnMut) c.args.keep c.args.self.now.list c.loop-next.keep l c.loop-next.next c.loop-next.invariant.sifting
     p c.in-Some.is c.in-Some-get_mut.item.now (sym c.in-Some-get_mut.ensures.value)
-    c.next_idx-next.ensures.valid false c.keep-kept.new.arg3 _ _ (shown-written p c.in-Some-get_mut.item.now c.keep-kept.new.arg3 l)
-    (λ k. place_list (placed k) (t.same.capacity k) (t.same.places k)) _ c.next_idx-next.ensures.place
+    c.next_idx-next.ensures.valid false c.keep-kept.new.arg3 _ _ refl
+    (λ k. place_list (t.entries k) (t.same.capacity k) (t.same.places k)) _ c.next_idx-next.ensures.place
 
 pub loop-next-preserved : goal.loop-next-preserved
 loop-next-preserved g c =
     let l = c.loop-next.self.list in let p = c.in-Some.place in let i = c.in-Some-get_mut.item.now in let inv = c.loop-next.invariant in let t = c.take_at-key.ensures in
     let held : item_at p l.entries ≡ Some i = sym c.in-Some-get_mut.ensures.value in
-    let w = g.W.WeightScale.weight c.args.scale.now in let (out, at_p, is) = t.pair in
-    let es = with_at p (record { key = i.key; value = c.keep-kept.new.arg3 }) l.entries in
-    let placed = ap (λ l. placed_of l) t.entries ∙ placed-without p es in
+    let w = g.W.WeightScale.weight c.args.scale.now in let at_p = t.pair in
+    let es = with_at p (i.0, c.keep-kept.new.arg3) l.entries in
     let steady = c.requires.steady _ _ _ _ _ _ (record { key = _; value = _; shows = (refl, refl); left = _; called = c.if-kept.ensures; leaves = refl }) in
     record {
       sifting = sifting_goes_on (CalledAtPair g.F.FnMut) (TakesPair g.F.FnMut) c.args.keep c.args.self.now.list c.loop-next.keep l c.loop-next.next inv.sifting
           p c.in-Some.is i held
-          c.next_idx-next.ensures.valid false c.keep-kept.new.arg3 _ _ (shown-written p c.in-Some-get_mut.item.now c.keep-kept.new.arg3 l)
-          (λ k. place_list (placed k) (t.same.capacity k) (t.same.places k)) _ c.next_idx-next.ensures.place _
+          c.next_idx-next.ensures.valid false c.keep-kept.new.arg3 _ _ refl
+          (λ k. place_list (t.entries k) (t.same.capacity k) (t.same.places k)) _ c.next_idx-next.ensures.place _
           (record { key = _; value = _; shows = (refl, refl); left = _; called = c.if-kept.ensures; leaves = refl });
       weighs = omega (
         arith,
-        weight_of-taken w p es out at_p,
+        weight_of-taken w p es _ at_p,
         weight_of-written w p c.keep-kept.new.arg3 l.entries i held steady,
         inv.weighs,
         c.weight.ensures,
-        ap (λ (e : g.row.K.Denot × g.row.V.Denot). w e.0 e.1) is,
         ap (λ l. weight_of w (pairs_of l)) t.entries,
       );
       indexed = t.indexed;

@@ -2,7 +2,6 @@ use Rattle.std.proofs.Common.{◌≡◌, length}
 use Rattle.std.specs.Map.Calls.{CalledAtPair, TakesPair}
 use Rattle.clru_model.specs.Entries.{weight_of}
 use Rattle.clru_list.proofs.Retaining.{from_place}
-use Rattle.clru_linked_map.specs.Buckets.{placed_of}
 use Rattle.clru_linked_map.specs.IndexedList.{IsIndexed, KeepsAllButPairs}
 use Rattle.clru_linked_map.specs.LinkedMap.{hash_by, pairs_of}
 use Rattle.clru_linked_map.proofs.Sifting.{IsSifting}
@@ -17,4 +16,4 @@ invariant-loop-next g l = record {
 }
 
 abbrev pub decreases-loop-next : goal.decreases-loop-next
-decreases-loop-next g l = length (from_place l.next (placed_of l.self.list.entries))
+decreases-loop-next g l = length (from_place l.next l.self.list.entries)

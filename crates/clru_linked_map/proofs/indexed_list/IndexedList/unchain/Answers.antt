@@ -16,7 +16,7 @@ before-before-requires-clause-walk g c =
     let x = c.args.self.now in let es = x.list.entries in let homed = c.requires.home in
     let hash = hash_by g.S.Hasher.Hasher.finish g.S.Hasher.Hasher.write g.S.BuildHasher.build_hasher g.K.Hash.hash_input in
     walk_weaker (walk_of_chain (home_at hash x) es c.requires.chained.chains (live_of_key es) c.args.bucket (IsPlace c.args.place)
-    (λ q w. (λ e. w.1 (sym w.0 ∙ e), key_met (home_at hash x) c.args.bucket (key_at es) q homed.item.key (rw (w.0, homed.held) refl) homed.home)))
+    (λ q w. (λ e. w.1 (sym w.0 ∙ e), key_met (home_at hash x) c.args.bucket (key_at es) q homed.item.0 (rw (w.0, homed.held) refl) homed.home)))
     (λ q live. omega (arith, live_below x.list c.requires.valid q live, c.requires.linked))
     (omega (arith, c.requires.valid.held, c.requires.linked))
 

@@ -1,6 +1,6 @@
 use Rattle.std.proofs.Common.{◌≡◌, Some, refl, sym, ap, ◌∙◌}
 use Rattle.clru_linked_map.specs.IndexedList.{map_of}
-use Rattle.clru_linked_map.specs.LinkedMap.{linked_map, pair_of, pairs_of, with_entries}
+use Rattle.clru_linked_map.specs.LinkedMap.{linked_map, pairs_of, with_entries}
 use Rattle.clru_linked_map.proofs.PlaceEnds.{last_at, held_last, last_pair, none_at_last}
 use Rattle.clru_linked_map.proofs.map.LinkedHashMap.pop_back.Goals as goal
 
@@ -22,9 +22,7 @@ home-bucket-requires g c =
 pub returns-clause-pair : goal.returns-clause-pair
 returns-clause-pair g c =
     let l = last_at c.in_ok-place.place c.self.inside.items.list.entries (sym c.in_ok-place.ensures.place) in
-    let (item, held, is) = c.remove.ensures.pair in
-    let same : item ≡ l.item = let both : Some item ≡ Some l.item = sym held ∙ (held_last c.in_ok-place.ensures.valid.apart l).0 in cc in
-    rw (← c.self.view_is) (ap (λ (p : g.row.K.Denot × g.row.V.Denot). Some p) (is ∙ ap (λ i. pair_of i) same) ∙ sym (last_pair l).0)
+    rw (← c.self.view_is) (sym c.remove.ensures.pair ∙ (held_last c.in_ok-place.ensures.valid.apart l).0 ∙ sym (last_pair l).0)
 
 pub returns-clause-entries : goal.returns-clause-entries
 returns-clause-entries g c =

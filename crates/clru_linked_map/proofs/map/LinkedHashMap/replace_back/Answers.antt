@@ -2,8 +2,7 @@ use Rattle.std.proofs.Common.{◌≡◌, ◌<◌, Some, None, ◌∷◌, length,
 use Rattle.std.proofs.lemmas.Bool.{eq-eqb}
 use Rattle.std.specs.Option.{option_copied_mut}
 use Rattle.clru_list.specs.PlaceList.{item_at, without, IsApart, IsValid}
-use Rattle.clru_linked_map.specs.LinkedMap.{hash_by, linked_map, pair_of, pairs_of}
-use Rattle.clru_linked_map.specs.declared.indexed_list.Item.{Item}
+use Rattle.clru_linked_map.specs.LinkedMap.{hash_by, linked_map, pairs_of}
 use Rattle.clru_linked_map.proofs.IndexedMoves.{chained_replace, indexed_from}
 use Rattle.clru_linked_map.proofs.Placed.{length-without_held}
 use Rattle.clru_linked_map.proofs.Same.{size_trans}
@@ -33,7 +32,7 @@ append-requires-clause-hash g c =
     let u = c.unchain.new.self in let p = c.in-Some.place in
     let hash = hash_by g.S.Hasher.Hasher.finish g.S.Hasher.Hasher.write g.S.BuildHasher.build_hasher g.K.Hash.hash_input in
     let h = c.home-old_bucket.ensures.home in let same = c.unchain.ensures.same in
-    let key : c.replace-old.new.dest.key ≡ c.args.key = ap (λ (i : Item g.row.K.Denot g.row.V.Denot). i.key) c.replace-old.ensures.after in
+    let key : c.replace-old.new.dest.0 ≡ c.args.key = ap (λ (i : g.row.K.Denot × g.row.V.Denot). i.0) c.replace-old.ensures.after in
     record {
       item = c.replace-old.new.dest;
       held = rw (eq-eqb p p refl) refl;
@@ -61,14 +60,14 @@ returns-clause-pair g c =
     let both : Some item ≡ Some l.item = c.in-Some-move_front.ensures.value ∙ ap (λ l. item_at p l.entries) c.unchain.ensures.list
     ∙ (held_last c.back_idx.ensures.valid.apart l).0 in
     let is : item ≡ l.item = cc in
-    rw (← c.self.view_is) (ap (λ i. Some (pair_of i)) (c.replace-old.ensures.value ∙ is) ∙ sym (last_pair l).0)
+    rw (← c.self.view_is) (ap (λ (i : g.row.K.Denot × g.row.V.Denot). Some i) (c.replace-old.ensures.value ∙ is) ∙ sym (last_pair l).0)
 
 pub returns-clause-entries : goal.returns-clause-entries
 returns-clause-entries g c =
     let es = c.self.inside.items.list.entries in let u = c.unchain.new.self.list.entries in let p = c.in-Some.place in
     let a = c.unchain.ensures.same in let b = c.append.ensures.same in
     let l = last_at p es (sym c.in-Some.ensures.place) in
-    let pairs = ap (λ l. pairs_of l.entries) c.append.ensures.list ∙ ap (λ i. pair_of i ∷ pairs_of (without p u)) c.replace-old.ensures.after
+    let pairs = ap (λ l. pairs_of l.entries) c.append.ensures.list ∙ ap (λ (i : g.row.K.Denot × g.row.V.Denot). i ∷ pairs_of (without p u)) c.replace-old.ensures.after
     ∙ ap (λ ps. (c.args.key, c.args.value) ∷ ps) (ap (λ l. pairs_of (without p l.entries)) c.unchain.ensures.list
     ∙ ap (λ fs. pairs_of fs) (held_last c.back_idx.ensures.valid.apart l).1 ∙ sym (last_pair l).1) in
     let capacity = b.capacity ∙ a.capacity in let places = b.places ∙ a.places in let builder = b.builder ∙ a.builder in

@@ -26,20 +26,20 @@ remove-requires-clause-home g c =
       item = at.item;
       held = at.held;
       home = sym (is ∙ ap (λ n. bucket_by (length x.index.firsts) n) (hashed ∙ same_hash g.S.Hasher.Hasher.finish g.S.Hasher.Hasher.write
-          g.S.BuildHasher.build_hasher g.Q.Hash.hash_input g.K.Hash.hash_input x.hash_builder (g.met.Q.Equivalent.respects_hash c.args.key at.item.key at.same)));
+          g.S.BuildHasher.build_hasher g.Q.Hash.hash_input g.K.Hash.hash_input x.hash_builder (g.met.Q.Equivalent.respects_hash c.args.key at.item.0 at.same)));
       off = λ e. none_at_start x.list c.find.ensures.valid (at.item, subst (λ q. item_at q es ≡ Some at.item) e at.held);
       within = c.bucket_of-bucket.ensures.within;
     }
 
 pub returns-clause-pair : goal.returns-clause-pair
 returns-clause-pair g c =
-    let (item, held, is) = c.remove.ensures.pair in let distinct = rw (← c.self.view_is) at c.requires.distinct in
-    let f = found_item g.Q.Equivalent.equivalent c.args.key g.met.K.Eq.laws (g.met.Q.Equivalent.respects_eq c.args.key) distinct c.in_ok-place.ensures.found item held in
-    rw (← c.self.view_is) (ap (λ (p : g.row.K.Denot × g.row.V.Denot). Some p) is ∙ sym f.entry)
+    let distinct = rw (← c.self.view_is) at c.requires.distinct in
+    let f = found_item g.Q.Equivalent.equivalent c.args.key g.met.K.Eq.laws (g.met.Q.Equivalent.respects_eq c.args.key) distinct c.in_ok-place.ensures.found _ c.remove.ensures.pair in
+    rw (← c.self.view_is) (sym f.entry)
 
 pub returns-clause-entries : goal.returns-clause-entries
 returns-clause-entries g c =
-    let r = c.remove.ensures in let (item, held, is) = r.pair in let distinct = rw (← c.self.view_is) at c.requires.distinct in
-    let f = found_item g.Q.Equivalent.equivalent c.args.key g.met.K.Eq.laws (g.met.Q.Equivalent.respects_eq c.args.key) distinct c.in_ok-place.ensures.found item held in
+    let r = c.remove.ensures in let distinct = rw (← c.self.view_is) at c.requires.distinct in
+    let f = found_item g.Q.Equivalent.equivalent c.args.key g.met.K.Eq.laws (g.met.Q.Equivalent.respects_eq c.args.key) distinct c.in_ok-place.ensures.found _ c.remove.ensures.pair in
     let pairs = ap (λ l. pairs_of l) r.entries ∙ sym f.removed in
     rw (← c.self.view_is) (λ j. linked_map (pairs j) (r.same.capacity j) (r.same.places j) (r.same.builder j))
