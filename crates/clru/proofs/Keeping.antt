@@ -1,5 +1,5 @@
 -- Which changes of the entries keep what a cache's fields keep.
-use Rattle.std.proofs.Common.{◌≡◌, ℕ, ◌+◌, ◌-◌, ◌<◌, ◌≤◌, Bool, true, false, List, [], ◌∷◌, length, take, drop, min, Some, None, refl, sym, ap, ◌∙◌, subst, arith, length-take}
+use Rattle.std.proofs.Common.{◌≡◌, ℕ, ◌+◌, ◌-◌, ◌<◌, ◌≤◌, Bool, true, false, List, [], ◌∷◌, length, take, drop, min, slice_get, Some, None, refl, sym, ap, ◌∙◌, subst, arith, length-take}
 use Rattle.std.specs.Cmp.{IsEquivalence}
 use Rattle.std.specs.List.{AllByRecursion, IsDistinct}
 use Rattle.std.specs.Map.{keys_of, lookup, lookup_entry, remove_entry}
@@ -81,9 +81,19 @@ module _ {K V : Type 0} {eq : K → K → Bool} (weight : K → V → ℕ) where
   pub IsKept-fit : {es : List (K × V)} {c : ℕ} (d : ℕ) → IsKept eq weight es c → IsKept eq weight (fit weight d es) d
   IsKept-fit {es} d old = record { distinct = (IsKept-sublist weight old (sublist_fit weight d es)).distinct; fits = size_of-fit weight d es }
 
+-- no entry is first in an empty list
+pub no_first : {X : Type 0} (es : List X) → None ≡ slice_get es 0 → es ≡ []
+no_first [] none = refl
+no_first (e ∷ es) none = cc
+
+-- the first entry comes before the others
+pub split_first : {X : Type 0} (es : List X) (e : X) → Some e ≡ slice_get es 0 → es ≡ e ∷ drop 1 es
+split_first [] e first = cc
+split_first {X} (d ∷ es) e first = let same : d ≡ e = cc in ap (λ (x : X). x ∷ es) same
+
 module _ {K V S : Type 0} {eq : K → K → Bool} (weight : K → V → ℕ) {m n : LinkedMap K V S} {t : ℕ} {fs : List (K × V)} where
-  -- a cache whose map has other entries
-  pub IsCache-from : {u : ℕ} → IsCache eq weight m t → n ≡ with_entries m fs → IsKept eq weight fs m.capacity → u ≡ weight_of weight fs
+  -- a cache whose map has other entries and places
+  pub IsCache-from : {u p : ℕ} {b : S} → IsCache eq weight m t → n ≡ linked_map fs m.capacity p b → IsKept eq weight fs m.capacity → u ≡ weight_of weight fs
       → IsCache eq weight n u
   IsCache-from {u} old same kept weighs =
       subst (λ l. IsCache eq weight l u) (sym same) (record { kept = kept; some = old.some; weighs = weighs })

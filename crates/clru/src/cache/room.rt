@@ -1,5 +1,5 @@
 //! Room for a pair: the entries that do not fit beside it go, or there is memory for one more.
-ghost use Rattle.std.specs.Prelude.{◌≡◌, ◌<◌, ◌≤◌, ◌^◌, length, reverse, OnOk, OnErr};
+ghost use Rattle.std.specs.Prelude.{◌≡◌, ◌<◌, ◌≤◌, length, reverse, OnOk, OnErr};
 ghost use Rattle.clru_model.specs.Entries.{fit, past_fit, size_of, weight_of};
 ghost use Rattle.clru_linked_map.specs.Growth.{GrowsIf, IsRefused};
 ghost use Rattle.clru_linked_map.specs.LinkedMap.{linked_map, with_entries};
@@ -23,13 +23,15 @@ pub(crate) fn shrink<K: Eq + Hash, V, S: BuildHasher, W: WeightScale<K, V>, A, F
 where
     A: Allocator + Copy,
     requires weighs { total.old ≡ weight_of (W.weight scale.now) map.old.entries }
-    requires small { size_of (W.weight scale.now) map.old.entries < 2 ^ 64 }
+    requires fits { size_of (W.weight scale.now) map.old.entries ≤ map.old.capacity }
     requires callable { TakesEach F.FnMut on_drop.old (reverse (past_fit (W.weight scale.now) room map.old.entries)) }
     ensures entries { map.new ≡ with_entries map.old (fit (W.weight scale.now) room map.old.entries) }
     ensures weighs { total.new ≡ weight_of (W.weight scale.now) map.new.entries }
     ensures handed_out { HandsOutTo F.FnMut on_drop.old (reverse (past_fit (W.weight scale.now) room map.old.entries))
         on_drop.new }
 {
+    // Read for the proof alone: no sum below passes the capacity.
+    let _capacity = map.capacity();
     while map.len() + *total > room {
         match map.pop_back() {
             Some((key, value)) => {
@@ -53,7 +55,7 @@ pub(crate) fn make_room<K: Eq + Hash, V, S: BuildHasher, W: WeightScale<K, V>, A
 where
     A: Allocator + Copy,
     requires weighs { total.old ≡ weight_of (W.weight scale.now) map.old.entries }
-    requires small { size_of (W.weight scale.now) map.old.entries < 2 ^ 64 }
+    requires fits { size_of (W.weight scale.now) map.old.entries ≤ map.old.capacity }
     requires below { room < map.old.capacity }
     requires callable { TakesEach F.FnMut on_drop.old (reverse (past_fit (W.weight scale.now) room map.old.entries)) }
     ensures entries { OnOk result (map.new.entries ≡ fit (W.weight scale.now) room map.old.entries) }
@@ -69,6 +71,8 @@ where
         (reverse (past_fit (W.weight scale.now) room map.old.entries)) on_drop.new) }
     ensures not_called { OnErr result (on_drop.new ≡ on_drop.old) }
 {
+    // As in `shrink`.
+    let _capacity = map.capacity();
     if map.len() + *total > room {
         shrink(map, scale, total, room, on_drop);
         return Ok(());

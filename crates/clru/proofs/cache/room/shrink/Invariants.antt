@@ -1,5 +1,5 @@
-use Rattle.std.proofs.Common.{◌≡◌, length, drop, reverse}
-use Rattle.clru_model.specs.Entries.{weight_of}
+use Rattle.std.proofs.Common.{◌≡◌, ◌≤◌, length, drop, reverse}
+use Rattle.clru_model.specs.Entries.{size_of, weight_of}
 use Rattle.clru_model.proofs.Fitting.{IsTooLongFit}
 use Rattle.clru_linked_map.specs.LinkedMap.{with_entries}
 use Rattle.clru.specs.Drops.{HandsOutTo}
@@ -9,6 +9,7 @@ abbrev pub invariant-loop-map : goal.invariant-loop-map
 invariant-loop-map g l = record {
   same : l.map ≡ with_entries l.fn.map l.map.entries;
   weighs : l.total ≡ weight_of (g.W.WeightScale.weight l.scale) l.map.entries;
+  fits : size_of (g.W.WeightScale.weight l.scale) l.map.entries ≤ l.fn.map.capacity;
   long : IsTooLongFit (g.W.WeightScale.weight l.scale) l.room l.fn.map.entries l.map.entries;
   handed : HandsOutTo g.F.FnMut l.fn.on_drop (reverse (drop (length l.map.entries) l.fn.map.entries)) l.on_drop;
 }
