@@ -1,4 +1,4 @@
-//! Blocks of calls of nodes with numbers for keys and values.
+//! Blocks of calls of a map with numbers for keys and values.
 
 use crate::answers::Answers;
 use crate::fault::Fault;
@@ -13,17 +13,17 @@ use std::alloc::{Allocator, Global};
 
 mod kept;
 
-/// Nodes over memory that is counted.
+/// A map over memory that is counted.
 type Numbers = Kept<&'static Rationed<Global>>;
 
-/// Nodes, and the world that their memory is of.
+/// A map, and the world that its memory is of.
 #[derive(Drop)]
 struct Held {
     world: &'static World,
     kept: Numbers,
 }
 
-/// Runs a block: makes the nodes of its first line, and the calls of the others.
+/// Runs a block: makes the map of its first line, and the calls of the others.
 pub(crate) fn run(world: &'static World, lines: &[Line], answers: &mut Answers) {
     match made(world) {
         Some(kept) => {
@@ -37,7 +37,7 @@ pub(crate) fn run(world: &'static World, lines: &[Line], answers: &mut Answers) 
     }
 }
 
-/// Makes nodes, or answers `None` for want of memory.
+/// Makes a map, or answers `None` for want of memory.
 fn made(world: &'static World) -> Option<Numbers> {
     let (heap, head) = (&world.heap, world.head);
     match (head.reserve, head.limit) {
