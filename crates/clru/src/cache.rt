@@ -125,7 +125,7 @@ where
     pub fn is_empty(&self) -> bool
         ensures { IsTrue result ↔ (self.now.entries ≡ []) }
     {
-        self.map.len() == 0
+        self.len() == 0
     }
 
     /// Returns whether the number of entries and their total weight reach the capacity.
@@ -134,6 +134,6 @@ where
         ensures { IsTrue result ↔ (size_of (W.weight self.now.scale) self.now.entries ≡ self.now.capacity) }
     {
         let capacity = self.map.capacity();
-        self.map.len() + self.total == capacity
+        self.total + self.map.len() == capacity
     }
 }
