@@ -134,6 +134,7 @@ where
         ensures { IsTrue result ↔ (size_of (W.weight self.now.scale) self.now.entries ≡ self.now.capacity) }
     {
         let capacity = self.map.capacity();
-        self.total + self.map.len() == capacity
+        let size = self.map.len() + self.total;
+        size == capacity
     }
 }
