@@ -6,7 +6,7 @@ use std::alloc::Global;
 use std::hash::BuildHasher;
 
 /// The requests of a growth that makes the index, and the blocks that a cache with places holds: the places of the list, and the
-/// heads with the links of their chains.
+/// buckets with the links of their chains.
 pub const REQUESTS: u64 = 2;
 
 /// How many new keys go in before one is refused or the first one goes, where each request is refused.

@@ -31,7 +31,7 @@ impl<K: Eq + Hash, V, A: Allocator + Copy> CLruCache<K, V, DefaultState, ZeroWei
 
     /// Creates a cache that holds at most `capacity` entries, with memory for `reserve` of them, or for all where `capacity`
     /// is less.
-    /// Cost: two requests for memory and a write of each head, or none of either without a reserve.
+    /// Cost: two requests for memory and a write of each bucket, or none of either without a reserve.
     pub fn with_memory(alloc: A, capacity: NonZeroUsize, reserve: usize) -> Result<Self, NoMemory>
         ensures empty { let size = non_zero_usize_get capacity in
             IfOk result (λ c. c ≡ cache [] size (record {}) (min reserve size)) }
@@ -81,7 +81,7 @@ where
     /// Creates a cache from its configuration: the capacity, the hash builder and the scale are the configured ones, and
     /// there is memory for as many entries as its reserve says, or for `capacity` entries where that is less. Where
     /// memory is refused, the configuration comes back as it was.
-    /// Cost: two requests for memory and a write of each head, or none of either without a reserve.
+    /// Cost: two requests for memory and a write of each bucket, or none of either without a reserve.
     pub fn with_config(
         alloc: A,
         config: CLruCacheConfig<K, V, S, W>,

@@ -51,7 +51,7 @@ where
     }
 
     /// Removes all entries. Their places stay ready.
-    /// Cost: a drop of each entry and a write of each head; no hash.
+    /// Cost: a drop of each entry and a write of each bucket; no hash.
     pub fn clear(&mut self)
     where
         K: Drop,
