@@ -33,15 +33,16 @@ module _ {M K V T R : Type 0} (g : Mut M (Bor K × (MutBor V × (T × Unit {0}))
 
 module _ {K V S : Type 0} where
   -- the pair that is shown in front is the first entry
-  pub front_value : {z y : LinkedMap K V S} {e d : K × V} {es : List (K × V)} → z ≡ with_entries y (e ∷ es) → slice_get z.entries 0 ≡ Some d → d ≡ e
+  pub front_value : {z : LinkedMap K V S} {e d : K × V} {es : List (K × V)} {c p : ℕ} {b : S} → z ≡ linked_map (e ∷ es) c p b
+      → slice_get z.entries 0 ≡ Some d → d ≡ e
   front_value {e = e} {d = d} pushed shown = let both : Some d ≡ Some e = sym shown ∙ ap (λ m. slice_get m.entries 0) pushed in cc
 
   -- after a touch of a held key, the entry of the key
-  pub front_of : {eq : K → K → Bool} {key : K} {x z : LinkedMap K V S} {d : K × V} → (h : IsHeld (eq key) x.entries)
+  pub front_of : (eq : K → K → Bool) (key : K) {x z : LinkedMap K V S} {d : K × V} → (h : IsHeld (eq key) x.entries)
       → z ≡ with_entries x (touch eq key x.entries) → slice_get z.entries 0 ≡ Some d → d ≡ h.entry
-  front_of {eq = eq} {key = key} {x = x} h touched = front_value (touched ∙ ap (λ l. with_entries x l) (touch-held eq key h))
+  front_of eq key {x = x} h touched = front_value (touched ∙ ap (λ l. with_entries x l) (touch-held eq key h))
 
-module _ {K V S W : Type 0} {eq : K → K → Bool} {x : LinkedMap K V S} {t : ℕ} {scale : W} (key : K) (old : IsCache eq (λ k v. 0) x t) where
+module _ {K V S W : Type 0} {eq : K → K → Bool} {x : LinkedMap K V S} {t : ℕ} (key : K) (scale : W) (old : IsCache eq (λ k v. 0) x t) where
   -- the cache of the map z
   abbrev seen : LinkedMap K V S → Cache K V W
   seen z = cache z.entries z.capacity scale z.places

@@ -11,21 +11,21 @@ no h = cc
 pub modify_op-requires : goal.modify_op-requires
 modify_op-requires g c =
     let eq = g.K.PartialEq.eq in let key = c.args.key in let h = held (eq key) c.if-touch.ensures.found in
-    let same = front_of h c.touch.ensures.entries c.front_mut-stored.ensures.entry in
+    let same = front_of eq key h c.touch.ensures.entries c.front_mut-value.ensures.entry in
     c.requires.modify h.entry.0 h.entry.1 (ap (λ o. lookup_entry (eq key) o.entries) (sym c.self.view_is) ∙ h.looked_up) _ _
     (ap (λ d. d.0) same) (ap (λ d. d.1) same)
 
 pub invariant_of-self-lent : goal.invariant_of-self-lent
 invariant_of-self-lent g c =
     λ w. let key = c.args.key in let e = c.touch.ensures in let h = held (g.K.PartialEq.eq key) c.if-touch.ensures.found in
-    (lent_held key c.self.invariant g.met.K.Eq.laws h e.entries e.held w).keeps
+    (lent_held key c.self.inside.scale c.self.invariant g.met.K.Eq.laws h e.entries e.held w).keeps
 
 pub returns-then-touch : goal.returns-then-touch
 returns-then-touch g c =
     let eq = g.K.PartialEq.eq in let key = c.args.key in let e = c.touch.ensures in
     let h = held (eq key) c.if-touch.ensures.found in
-    let same = front_of h e.entries c.front_mut-stored.ensures.entry in
-    let lent = lent_held key c.self.invariant g.met.K.Eq.laws h e.entries e.held in
+    let same = front_of eq key h e.entries c.front_mut-value.ensures.entry in
+    let lent = lent_held key c.self.inside.scale c.self.invariant g.met.K.Eq.laws h e.entries e.held in
     rw (← c.self.view_is) (
       (refl, λ w _. ((lent w).entries, (lent w).grows), tt),
       record {
@@ -40,14 +40,14 @@ pub invariant_of-self : goal.invariant_of-self
 invariant_of-self g c =
     let eq = g.K.PartialEq.eq in let key = c.args.key in let e = c.touch.ensures in let o = c.in_default.ensures in
     let m = missed (eq key) c.if-touch.ensures.found in
-    let ready = ready_new key c.self.invariant m e.entries e.held o.grows o.same in
+    let ready = ready_new key c.self.inside.scale c.self.invariant m e.entries e.held o.grows o.same in
     ready.keeps
 
 pub returns-in_default : goal.returns-in_default
 returns-in_default g c =
     let eq = g.K.PartialEq.eq in let key = c.args.key in let e = c.touch.ensures in let o = c.in_default.ensures in
     let m = missed (eq key) c.if-touch.ensures.found in let before = e.entries ∙ ap (λ l. with_entries c.self.inside.map l) (touch-missed eq key m) in
-    let ready = ready_new key c.self.invariant m e.entries e.held o.grows o.same in
+    let ready = ready_new key c.self.inside.scale c.self.invariant m e.entries e.held o.grows o.same in
     let lasts = ready.grows c.make_ready.new.self (ap (λ r. r.capacity) ready.same) refl o.held in
     let wanted : length c.self.inside.map.entries < c.self.inside.map.capacity =
     omega (arith, ap (λ r. length r.entries) before, o.refused.asked, ap (λ r. r.capacity) before) in
@@ -74,18 +74,18 @@ pub invariant_of-self-lent-2 : goal.invariant_of-self-lent-2
 invariant_of-self-lent-2 g c =
     λ w. let eq = g.K.PartialEq.eq in let key = c.args.key in let e = c.touch.ensures in let o = c.in-Ok.ensures in
     let m = missed (eq key) c.if-touch.ensures.found in
-    let ready = ready_new key c.self.invariant m e.entries e.held o.grows o.same in
+    let ready = ready_new key c.self.inside.scale c.self.invariant m e.entries e.held o.grows o.same in
     let p = c.put_front.ensures in
-    (lent_new key c.self.invariant g.met.K.Eq.laws m ready
+    (lent_new key c.self.inside.scale c.self.invariant g.met.K.Eq.laws m ready
     p.entries p.held w).keeps
 
 pub returns : goal.returns
 returns g c =
     let eq = g.K.PartialEq.eq in let key = c.args.key in let e = c.touch.ensures in let o = c.in-Ok.ensures in
     let m = missed (eq key) c.if-touch.ensures.found in
-    let ready = ready_new key c.self.invariant m e.entries e.held o.grows o.same in
+    let ready = ready_new key c.self.inside.scale c.self.invariant m e.entries e.held o.grows o.same in
     let p = c.put_front.ensures in
-    let lent = lent_new key c.self.invariant g.met.K.Eq.laws m ready p.entries p.held in
+    let lent = lent_new key c.self.inside.scale c.self.invariant g.met.K.Eq.laws m ready p.entries p.held in
     let value = ap (λ d. d.1) (front_value p.entries c.front_mut.ensures.entry) in
     rw (← c.self.view_is) (
       (refl, λ w _. ((lent w).entries, (lent w).grows), tt),

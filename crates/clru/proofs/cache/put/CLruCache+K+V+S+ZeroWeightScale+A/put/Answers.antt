@@ -27,12 +27,12 @@ returns-then-touch-clause-entries g c =
 pub invariant_of-self-in_default : goal.invariant_of-self-in_default
 invariant_of-self-in_default g c =
     let e = c.touch.ensures in let o = c.in_default.ensures in
-    (ready_new c.args.key c.self.invariant (missed (g.K.PartialEq.eq c.args.key) c.if-touch.ensures.found) e.entries e.held o.grows o.same).keeps
+    (ready_new c.args.key c.self.inside.scale c.self.invariant (missed (g.K.PartialEq.eq c.args.key) c.if-touch.ensures.found) e.entries e.held o.grows o.same).keeps
 
 pub returns-in_default-clause-entries : goal.returns-in_default-clause-entries
 returns-in_default-clause-entries g c =
     let e = c.touch.ensures in let o = c.in_default.ensures in
-    let ready = ready_new c.args.key c.self.invariant (missed (g.K.PartialEq.eq c.args.key) c.if-touch.ensures.found) e.entries e.held o.grows o.same in
+    let ready = ready_new c.args.key c.self.inside.scale c.self.invariant (missed (g.K.PartialEq.eq c.args.key) c.if-touch.ensures.found) e.entries e.held o.grows o.same in
     rw (← c.self.view_is) (ap (λ m. m.entries) ready.same)
 
 pub returns-in_default-clause-memory : goal.returns-in_default-clause-memory
@@ -48,26 +48,26 @@ returns-in_default-clause-memory g c =
 pub invariant_of-self-2 : goal.invariant_of-self-2
 invariant_of-self-2 g c =
     let key = c.args.key in let v = c.args.value in let e = c.touch.ensures in let o = c.in-Ok.ensures in let old = c.self.invariant in
-    let m = missed (g.K.PartialEq.eq key) c.if-touch.ensures.found in let ready = ready_new key old m e.entries e.held o.grows o.same in
+    let m = missed (g.K.PartialEq.eq key) c.if-touch.ensures.found in let ready = ready_new key c.self.inside.scale old m e.entries e.held o.grows o.same in
     IsCache-plain old (c.put_front-dropped.ensures.entries ∙ ap (λ r. with_entries r ((key, v) ∷ take (r.capacity - 1) r.entries)) ready.same)
     (IsKept-new key v g.met.K.Eq.laws old.kept m.value old.some)
 
 pub returns-clause-entries : goal.returns-clause-entries
 returns-clause-entries g c =
     let eq = g.K.PartialEq.eq in let key = c.args.key in let v = c.args.value in let e = c.touch.ensures in let o = c.in-Ok.ensures in
-    let m = missed (eq key) c.if-touch.ensures.found in let ready = ready_new key c.self.invariant m e.entries e.held o.grows o.same in
+    let m = missed (eq key) c.if-touch.ensures.found in let ready = ready_new key c.self.inside.scale c.self.invariant m e.entries e.held o.grows o.same in
     rw (← c.self.view_is) (ap (λ r. r.entries) c.put_front-dropped.ensures.entries
     ∙ ap (λ r. (key, v) ∷ take (r.capacity - 1) r.entries) ready.same ∙ sym (plain_put-missed eq key m c.self.inside.map.capacity v))
 
 pub returns-clause-dropped : goal.returns-clause-dropped
 returns-clause-dropped g c =
     let eq = g.K.PartialEq.eq in let key = c.args.key in let e = c.touch.ensures in let o = c.in-Ok.ensures in
-    let m = missed (eq key) c.if-touch.ensures.found in let ready = ready_new key c.self.invariant m e.entries e.held o.grows o.same in
+    let m = missed (eq key) c.if-touch.ensures.found in let ready = ready_new key c.self.inside.scale c.self.invariant m e.entries e.held o.grows o.same in
     rw (← c.self.view_is, m.value) (c.put_front-dropped.ensures.pair ∙ ap (λ r. slice_get r.entries (r.capacity - 1)) ready.same)
 
 pub returns-clause-places : goal.returns-clause-places
 returns-clause-places g c =
     let e = c.touch.ensures in let o = c.in-Ok.ensures in let p = c.put_front-dropped.ensures in
-    let ready = ready_new c.args.key c.self.invariant (missed (g.K.PartialEq.eq c.args.key) c.if-touch.ensures.found) e.entries e.held o.grows o.same in
+    let ready = ready_new c.args.key c.self.inside.scale c.self.invariant (missed (g.K.PartialEq.eq c.args.key) c.if-touch.ensures.found) e.entries e.held o.grows o.same in
     rw (← c.self.view_is) (ready.grows c.put_front-dropped.new.self (ap (λ r. r.capacity) p.entries ∙ ap (λ r. r.capacity) ready.same)
     (ap (λ r. r.places) p.entries) p.held)
