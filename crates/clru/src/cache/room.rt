@@ -77,5 +77,6 @@ where
         shrink(map, scale, total, room, on_drop);
         return Ok(());
     }
-    map.make_ready()
+    map.make_ready()?;
+    Ok(())
 }

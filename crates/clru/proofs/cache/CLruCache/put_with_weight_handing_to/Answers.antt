@@ -8,7 +8,7 @@ use Rattle.clru_model.proofs.Fitting.{sublist_fit, size_of-fit}
 use Rattle.clru_model.proofs.Weights.{weight_of-cons}
 use Rattle.clru_linked_map.specs.LinkedMap.{linked_map, with_entries}
 use Rattle.clru.proofs.Keeping.{IsCache-from, IsKept-weighted}
-use Rattle.clru.proofs.Growth.{GrowsIf-along, grows_if_needed}
+use Rattle.clru.proofs.Growth.{GrowsIf-along, grows_if_needed, grows_not, held_needs_none}
 use Rattle.clru.proofs.cache.CLruCache.put_with_weight_handing_to.Goals as goal
 
 pub overflow_sub-self : goal.overflow_sub-self
@@ -105,6 +105,15 @@ pub returns-in-Some-clause-answer : goal.returns-in-Some-clause-answer
 returns-in-Some-clause-answer g c =
     let test = g.K.PartialEq.eq c.args.key in let found = c.in-Some.ensures.pair in let h = held_at test found in
     rw (← c.self.view_is) (ap (λ (x : g.row.K.Denot × g.row.V.Denot). Some x.1) (held_is test h found) ∙ sym h.value)
+
+pub returns-in-Some-clause-places : goal.returns-in-Some-clause-places
+returns-in-Some-clause-places g c =
+    let t = c.in-Some.ensures in let s = c.shrink.ensures.entries in let p = c.push_front.ensures in
+    let h = held_at (g.K.PartialEq.eq c.args.key) t.pair in
+    rw (← c.self.view_is) (grows_not _ _ _ (held_needs_none _ h.value)
+    (ap (λ m. m.capacity) p ∙ ap (λ m. m.capacity) s ∙ ap (λ m. m.capacity) t.entries) refl
+    (ap (λ m. m.places) p ∙ ap (λ m. m.places) s ∙ ap (λ m. m.places) t.entries)
+    (omega (arith, ap (λ m. length m.entries) p, push_front-requires-clause-ready g c, ap (λ m. m.places) p)))
 
 pub make_room-requires-clause-weighs : goal.make_room-requires-clause-weighs
 make_room-requires-clause-weighs g c =
