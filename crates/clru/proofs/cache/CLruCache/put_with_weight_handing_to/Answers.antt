@@ -109,11 +109,20 @@ returns-in-Some-clause-answer g c =
 pub returns-in-Some-clause-places : goal.returns-in-Some-clause-places
 returns-in-Some-clause-places g c =
     let t = c.in-Some.ensures in let s = c.shrink.ensures.entries in let p = c.push_front.ensures in
-    let h = held_at (g.K.PartialEq.eq c.args.key) t.pair in
+    let h = held_at (g.K.PartialEq.eq c.args.key) t.pair in let places = ap (λ m. m.places) p ∙ ap (λ m. m.places) s ∙ ap (λ m. m.places) t.entries in
+    let shorter = length-sublist (sublist_fit (g.W.WeightScale.weight c.self.inside.scale) (c.capacity-capacity.result - 1 - c.weight-weight.result) c.take.new.self.entries) in
     rw (← c.self.view_is) (grows_not _ _ _ (held_needs_none _ h.value)
     (ap (λ m. m.capacity) p ∙ ap (λ m. m.capacity) s ∙ ap (λ m. m.capacity) t.entries) refl
-    (ap (λ m. m.places) p ∙ ap (λ m. m.places) s ∙ ap (λ m. m.places) t.entries)
-    (omega (arith, ap (λ m. length m.entries) p, push_front-requires-clause-ready g c, ap (λ m. m.places) p)))
+    places (omega (
+      arith,
+      ap (λ m. length m.entries) p,
+      ap (λ m. length m.entries) s,
+      shorter,
+      ap (λ m. length m.entries) t.entries,
+      h.shorter,
+      c.capacity-capacity.ensures.held,
+      places,
+    )))
 
 pub make_room-requires-clause-weighs : goal.make_room-requires-clause-weighs
 make_room-requires-clause-weighs g c =
