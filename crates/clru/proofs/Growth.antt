@@ -2,7 +2,7 @@
 use Rattle.std.proofs.Common.{◌≡◌, ℕ, ◌≤◌, Bool, length, None, Some, inl, inr, sym, arith}
 use Rattle.std.specs.Map.{lookup}
 use Rattle.std.proofs.lemmas.Bool.{cases_lt}
-use Rattle.clru_nodes.specs.Growth.{GrowsIf}
+use Rattle.clru_linked_map.specs.Growth.{GrowsIf}
 use Rattle.clru.specs.Cache.{Cache}
 use Rattle.clru.specs.Memory.{GrowsOnlyIf, NeedsMemory}
 

@@ -1,5 +1,5 @@
 -- Which changes of the entries keep what a cache's fields keep.
-use Rattle.std.proofs.Common.{◌≡◌, ℕ, ◌+◌, ◌-◌, ◌<◌, ◌≤◌, Bool, true, false, List, [], ◌∷◌, length, take, drop, min, Some, None, refl, sym, ap, ◌∙◌, subst, arith, length-take}
+use Rattle.std.proofs.Common.{◌≡◌, ℕ, ◌+◌, ◌-◌, ◌<◌, ◌≤◌, Bool, true, false, List, [], ◌∷◌, length, take, drop, min, slice_get, Some, None, refl, sym, ap, ◌∙◌, subst, arith, length-take}
 use Rattle.std.specs.Cmp.{IsEquivalence}
 use Rattle.std.specs.List.{AllByRecursion, IsDistinct}
 use Rattle.std.specs.Map.{keys_of, lookup, lookup_entry, remove_entry}
@@ -15,11 +15,8 @@ use Rattle.clru_model.proofs.Fitting.{sublist_fit, size_of-fit}
 use Rattle.clru_model.proofs.Finding.{IsHeld, weight_of-held, touch-held, touch-missed, held_at, missed_at}
 use Rattle.clru_model.proofs.Sublists.{IsSublist, goes, sublist_itself, sublist_remove_entry, sublist_keys, length-sublist, sum_by-sublist, IsDistinct-sublist}
 use Rattle.clru_model.proofs.Sublists.{sublist_take, sublist_trans, lookup-sublist}
-use Rattle.clru_nodes.specs.Nodes.{pairs_in, IsIndexed, KeepsAllButPairs, capacity_of}
-use Rattle.clru_nodes.specs.declared.nodes.Nodes.{Nodes}
+use Rattle.clru_linked_map.specs.LinkedMap.{LinkedMap, linked_map, with_entries}
 use Rattle.clru.specs.Fields.{IsKept, IsCache}
-use Rattle.clru.specs.Weighed.{IsWeighed}
-use Rattle.clru.specs.declared.weighed.Weighed.{Weighed}
 
 module _ {K V : Type 0} (eq : K → K → Bool) where
   keys_apart : (x : K) (es : List (K × V)) → NonePasses (eq x) es → (q : K) → ((y : K) → eq x y ≡ eq q y)
@@ -84,26 +81,28 @@ module _ {K V : Type 0} {eq : K → K → Bool} (weight : K → V → ℕ) where
   pub IsKept-fit : {es : List (K × V)} {c : ℕ} (d : ℕ) → IsKept eq weight es c → IsKept eq weight (fit weight d es) d
   IsKept-fit {es} d old = record { distinct = (IsKept-sublist weight old (sublist_fit weight d es)).distinct; fits = size_of-fit weight d es }
 
-module _ {K V S W A H : Type 0} {eq : K → K → Bool} (weight : W → K → V → ℕ) {hash : S → K → ℕ} {x : Weighed K V S W A H} {c : ℕ} where
-  -- a cache whose nodes have other pairs
-  pub IsCache-from : {y : Weighed K V S W A H} {fs : List (K × V)} → IsCache eq weight hash x c → pairs_in y.nodes ≡ fs
-      → IsKept eq (weight x.scale) fs c → IsWeighed weight hash y → y.scale ≡ x.scale → capacity_of y.nodes ≡ capacity_of x.nodes
-      → IsCache eq weight hash y c
-  IsCache-from {y} old same pairs whole scale capacity = record {
-    pairs = subst (λ s. IsKept eq (weight s) (pairs_in y.nodes) c) (sym scale) (subst (λ l. IsKept eq (weight x.scale) l c) (sym same) pairs);
-    whole = whole;
-    same_capacity = capacity ∙ old.same_capacity;
-  }
+-- no entry is first in an empty list
+pub no_first : {X : Type 0} (es : List X) → None ≡ slice_get es 0 → es ≡ []
+no_first [] none = refl
+no_first (e ∷ es) none = cc
 
-  -- whose pairs come in another order
-  pub IsCache-ordered : {n : Nodes K V S A H} {fs : List (K × V)} → IsEquivalence eq → IsPermutation (pairs_in x.nodes) fs → IsCache eq weight hash x c
-      → pairs_in n ≡ fs → IsIndexed hash n → KeepsAllButPairs x.nodes n → IsCache eq weight hash (record x { nodes = n }) c
-  IsCache-ordered {n} {fs} laws order old same indexed rest =
-      let w = weight x.scale in
-      IsCache-from old same (IsKept-ordered w laws order old.pairs) (record {
-        weighs = old.whole.weighs ∙ sym (sum_by-IsPermutation (λ (e : K × V). w e.0 e.1) (pairs_in x.nodes) fs order) ∙ ap (weight_of w) (sym same);
-        indexed = indexed;
-      }) refl rest.capacity
+-- the first entry comes before the others
+pub split_first : {X : Type 0} (es : List X) (e : X) → Some e ≡ slice_get es 0 → es ≡ e ∷ drop 1 es
+split_first [] e first = cc
+split_first {X} (d ∷ es) e first = let same : d ≡ e = cc in ap (λ (x : X). x ∷ es) same
+
+module _ {K V S : Type 0} {eq : K → K → Bool} (weight : K → V → ℕ) {m n : LinkedMap K V S} {t : ℕ} {fs : List (K × V)} where
+  -- a cache whose map has other entries and places
+  pub IsCache-from : {u p : ℕ} {b : S} → IsCache eq weight m t → n ≡ linked_map fs m.capacity p b → IsKept eq weight fs m.capacity → u ≡ weight_of weight fs
+      → IsCache eq weight n u
+  IsCache-from {u} old same kept weighs =
+      subst (λ l. IsCache eq weight l u) (sym same) (record { kept = kept; some = old.some; weighs = weighs })
+
+  -- whose entries come in another order
+  pub IsCache-ordered : IsEquivalence eq → IsPermutation m.entries fs → IsCache eq weight m t → n ≡ with_entries m fs → IsCache eq weight n t
+  IsCache-ordered laws order old same =
+      IsCache-from old same (IsKept-ordered weight laws order old.kept)
+      (old.weighs ∙ sym (sum_by-IsPermutation (λ (e : K × V). weight e.0 e.1) m.entries fs order))
 
 -- at weight zero
 module _ {K V : Type 0} {eq : K → K → Bool} where
@@ -115,12 +114,9 @@ module _ {K V : Type 0} {eq : K → K → Bool} where
       IsKept-put (λ k v. 0) x (x, v) laws old (sublist_take (c - 1) es)
       (lookup-sublist (eq x) (sublist_take (c - 1) es) absent) (laws.refl x) (omega (arith, weight_of-zero rest, len))
 
-  module _ {S W A H : Type 0} {hash : S → K → ℕ} {x : Weighed K V S W A H} {c : ℕ} where
-    -- other nodes keep the total
-    pub IsCache-plain : {n : Nodes K V S A H} {fs : List (K × V)} → IsCache eq (λ s k v. 0) hash x c → pairs_in n ≡ fs
-        → IsKept eq (λ k v. 0) fs c → IsIndexed hash n → capacity_of n ≡ capacity_of x.nodes
-        → IsCache eq (λ s k v. 0) hash (record x { nodes = n }) c
-    IsCache-plain {n} old same pairs indexed capacity = IsCache-from (λ s k v. 0) old same pairs (record {
-      weighs = old.whole.weighs ∙ weight_of-zero (pairs_in x.nodes) ∙ sym (weight_of-zero (pairs_in n));
-      indexed = indexed;
-    }) refl capacity
+  -- other entries and places keep the total
+  pub IsCache-plain : {S : Type 0} {m n : LinkedMap K V S} {t : ℕ} {fs : List (K × V)} {p : ℕ} {b : S} → IsCache eq (λ k v. 0) m t
+      → n ≡ linked_map fs m.capacity p b → IsKept eq (λ k v. 0) fs m.capacity → IsCache eq (λ k v. 0) n t
+  IsCache-plain {m = m} {t = t} {fs = fs} old same kept =
+      subst (λ l. IsCache eq (λ k v. 0) l t) (sym same)
+      (record { kept = kept; some = old.some; weighs = old.weighs ∙ weight_of-zero m.entries ∙ sym (weight_of-zero fs) })

@@ -11,4 +11,3 @@ pub mod Keeping
 pub mod LentPuts
 pub mod Replaying
 pub mod Values
-pub mod Weighing

@@ -1,21 +1,18 @@
 -- Private: what a cache's fields keep. No public clause cites it.
-use Rattle.std.specs.Prelude.{◌≡◌, ℕ, ◌≤◌, Bool, List}
+use Rattle.std.specs.Prelude.{◌≡◌, ℕ, ◌<◌, ◌≤◌, Bool, List}
 use Rattle.std.specs.List.{IsDistinct}
 use Rattle.std.specs.Map.{keys_of}
-use Rattle.clru_model.specs.Entries.{size_of}
-use Rattle.clru_nodes.specs.Nodes.{pairs_in, capacity_of}
-use Rattle.clru.specs.Weighed.{IsWeighed}
-use Rattle.clru.specs.declared.weighed.Weighed.{Weighed}
+use Rattle.clru_model.specs.Entries.{size_of, weight_of}
+use Rattle.clru_linked_map.specs.LinkedMap.{LinkedMap}
 
--- the pairs under a capacity
-pub record IsKept {K V : Type 0} (eq : K → K → Bool) (weight : K → V → ℕ)
-    (pairs : List (K × V)) (capacity : ℕ) : Type 0 where
-  pub distinct : IsDistinct eq (keys_of pairs)
-  pub fits : size_of weight pairs ≤ capacity
+module _ {K V : Type 0} (eq : K → K → Bool) (weight : K → V → ℕ) where
+  -- the entries under a capacity
+  pub record IsKept (entries : List (K × V)) (capacity : ℕ) : Type 0 where
+    pub distinct : IsDistinct eq (keys_of entries)
+    pub fits : size_of weight entries ≤ capacity
 
--- the weighed nodes, and in them the pairs
-pub record IsCache {K V S W A H : Type 0} (eq : K → K → Bool) (weight : W → K → V → ℕ) (hash : S → K → ℕ)
-    (x : Weighed K V S W A H) (capacity : ℕ) : Type 0 where
-  pub pairs : IsKept eq (weight x.scale) (pairs_in x.nodes) capacity
-  pub whole : IsWeighed weight hash x
-  pub same_capacity : capacity_of x.nodes ≡ capacity
+  -- the map, and the total weight of its entries
+  pub record IsCache {S : Type 0} (map : LinkedMap K V S) (total : ℕ) : Type 0 where
+    pub kept : IsKept map.entries map.capacity
+    pub some : 0 < map.capacity
+    pub weighs : total ≡ weight_of weight map.entries

@@ -8,7 +8,7 @@ pub use Rattle.clru_model.specs.Schedule
 pub use Rattle.clru_model.specs.SizedRuns
 pub use Rattle.clru_model.specs.Sizes
 pub use Rattle.clru_model.specs.Spans
-pub use Rattle.clru_nodes.specs.Retains
+pub use Rattle.clru_linked_map.specs.Retains
 pub mod Cache
 pub mod Closures
 pub mod Collecting
@@ -22,4 +22,3 @@ pub mod Lends
 pub mod Memory
 pub mod WalkLends
 pub mod Walks
-pub mod Weighed

@@ -15,15 +15,15 @@ mod put;
 mod remove;
 mod resize;
 mod retain;
+mod room;
 mod walk;
 
-use crate::weighed::Weighed;
 pub use answer::Put;
+use clru_linked_map::LinkedHashMap;
 use clru_model::{DefaultState, WeightScale, ZeroWeightScale};
 use std::alloc::{Allocator, Global};
 use std::hash::{BuildHasher, Hash};
 use std::marker::Model;
-use std::num::NonZeroUsize;
 
 /// A weighted LRU cache: the number of its entries and their total weight never pass the capacity together.
 ///
@@ -51,8 +51,10 @@ pub struct CLruCache<
     W: WeightScale<K, V> = ZeroWeightScale,
     A: Allocator + Copy = Global,
 > {
-    pub(crate) pairs: Weighed<K, V, S, W, A>,
-    pub(crate) capacity: NonZeroUsize,
+    pub(crate) map: LinkedHashMap<K, V, S, A>,
+    pub(crate) scale: W,
+    // What the entries weigh together.
+    pub(crate) total: usize,
 }
 
 impl<K: Eq + Hash + Drop, V: Drop, S: BuildHasher + Drop, W: WeightScale<K, V> + Drop, A> Drop
@@ -61,15 +63,18 @@ where
     A: Allocator + Copy,
 {
     fn drop(self) {
-        let CLruCache { pairs, capacity: _ } = self;
-        drop(pairs);
+        let CLruCache {
+            map,
+            scale,
+            total: _,
+        } = self;
+        drop(map);
+        drop(scale);
     }
 }
 
 impl<K: Eq + Hash, V, S: BuildHasher, W: WeightScale<K, V>, A: Allocator + Copy> Model
     for CLruCache<K, V, S, W, A> {
-    ghost use Rattle.std.specs.Int.NonZero.{non_zero_usize_get};
-    ghost use Rattle.clru_nodes.specs.Nodes.{hash_by, places_of, pairs_in};
     ghost use Rattle.clru.specs.Cache.{Cache, cache, cache_code};
     ghost use Rattle.clru.specs.Fields.{IsCache};
 
@@ -77,11 +82,9 @@ impl<K: Eq + Hash, V, S: BuildHasher, W: WeightScale<K, V>, A: Allocator + Copy>
 
     ghost coded = { cache_code K.code V.code W.code };
 
-    ghost view = { λ c. cache (pairs_in c.pairs.nodes) (non_zero_usize_get c.capacity) c.pairs.scale
-        (places_of c.pairs.nodes) };
+    ghost view = { λ c. cache c.map.entries c.map.capacity c.scale c.map.places };
 
-    ghost invariant = { λ c. IsCache K.eq W.weight (hash_by S.Hasher.finish S.Hasher.write S.build_hasher K.hash_input)
-        c.pairs (non_zero_usize_get c.capacity) };
+    ghost invariant = { λ c. IsCache K.eq (W.weight c.scale) c.map c.total };
 }
 
 impl<K: Eq + Hash, V, S: BuildHasher, W: WeightScale<K, V>, A> CLruCache<K, V, S, W, A>
@@ -94,9 +97,7 @@ where
         ensures len { result ≡ length self.now.entries }
         ensures valid { IsValid K.eq (W.weight self.now.scale) self.now }
     {
-        // Read for the proof alone, which takes from it that a capacity is at most `usize::MAX`.
-        let _capacity = self.capacity.get();
-        self.pairs.nodes.len()
+        self.map.len()
     }
 
     /// Returns what the number of entries and their total weight never pass together.
@@ -105,7 +106,7 @@ where
         ensures capacity { result ≡ self.now.capacity }
         ensures valid { IsValid K.eq (W.weight self.now.scale) self.now }
     {
-        self.capacity.get()
+        self.map.capacity()
     }
 
     /// Returns the total weight of the entries.
@@ -114,9 +115,9 @@ where
         ensures weight { result ≡ weight_of (W.weight self.now.scale) self.now.entries }
         ensures valid { IsValid K.eq (W.weight self.now.scale) self.now }
     {
-        // As in `len`.
-        let _capacity = self.capacity.get();
-        self.pairs.total
+        // Read for its clause alone.
+        let _capacity = self.map.capacity();
+        self.total
     }
 
     /// Returns whether there is no entry.
@@ -124,7 +125,7 @@ where
     pub fn is_empty(&self) -> bool
         ensures { IsTrue result ↔ (self.now.entries ≡ []) }
     {
-        self.pairs.nodes.len() == 0
+        self.len() == 0
     }
 
     /// Returns whether the number of entries and their total weight reach the capacity.
@@ -132,7 +133,8 @@ where
     pub fn is_full(&self) -> bool
         ensures { IsTrue result ↔ (size_of (W.weight self.now.scale) self.now.entries ≡ self.now.capacity) }
     {
-        let capacity = self.capacity.get();
-        self.pairs.nodes.len() + self.pairs.total == capacity
+        let capacity = self.map.capacity();
+        let size = self.map.len() + self.total;
+        size == capacity
     }
 }

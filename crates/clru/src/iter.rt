@@ -5,7 +5,6 @@ ghost use Rattle.std.specs.Iterator.SizeHint.{IsWithinCount};
 ghost use Rattle.std.specs.Map.Iter.{deref_pair};
 
 use clru_list::FixedSizeListIter;
-use clru_nodes::Item;
 use std::alloc::{AllocError, Allocator, Global};
 use std::iter::FusedIterator;
 use std::marker::Model;
@@ -15,12 +14,12 @@ pub(crate) mod owned;
 /// The pairs of a cache, the most recently used first, seen as the list of those that are left.
 #[derive(Drop)]
 pub struct CLruCacheIter<'a, K, V, A: Allocator + Copy = Global> {
-    pub(crate) items: FixedSizeListIter<'a, Item<K, V>, A>,
+    pub(crate) items: FixedSizeListIter<'a, (K, V), A>,
 }
 
 impl<'a, K, V, A: Allocator + Copy> Model for CLruCacheIter<'a, K, V, A> {
     ghost use Rattle.std.specs.Prelude.{List};
-    ghost use Rattle.clru_nodes.specs.Nodes.{pairs_of};
+    ghost use Rattle.clru_linked_map.specs.LinkedMap.{pairs_of};
 
     ghost Value = { List (K × V) };
 
@@ -35,8 +34,8 @@ impl<'a, K, V, A: Allocator + Copy> Iterator for CLruCacheIter<'a, K, V, A> {
     ghost remaining = { item_count (λ rest. rest) };
 
     fn next(&mut self) -> Option<(&'a K, &'a V)> {
-        let (_, item) = self.items.next()?;
-        Some((&item.key, &item.value))
+        let (_, pair) = self.items.next()?;
+        Some((&pair.0, &pair.1))
     }
 
     fn size_hint(&self) -> (usize, Option<usize>)
@@ -52,8 +51,8 @@ impl<'a, K, V, A: Allocator + Copy> DoubleEndedIterator for CLruCacheIter<'a, K,
     ghost next_back_gives = { YieldsLastBy deref_pair (λ rest. rest) };
 
     fn next_back(&mut self) -> Option<(&'a K, &'a V)> {
-        let (_, item) = self.items.next_back()?;
-        Some((&item.key, &item.value))
+        let (_, pair) = self.items.next_back()?;
+        Some((&pair.0, &pair.1))
     }
 }
 

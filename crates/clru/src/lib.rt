@@ -7,7 +7,7 @@
 //! of places, for which memory was found. A put asks for memory only where its key is not held, no entry has to go and no
 //! place is free; where it is refused, it gives back what it was given and the entries stay.
 //!
-//! The entries lie in a linked list, in the order of recency, under a hash index with a chain for each head, or bucket. A
+//! The entries lie in a linked list, in the order of recency, under a hash index with a chain for each bucket. A
 //! look-up costs one hash and a walk along one chain. A put of a new key walks along one chain more, and for each entry that
 //! it drops it hashes that key too, and walks along its chain.
 #![tactic(auto)]
@@ -20,7 +20,6 @@ mod entry;
 mod iter;
 mod laws;
 mod replays;
-mod weighed;
 
 pub use cache::{CLruCache, Put};
 pub use clru_list::NoMemory;

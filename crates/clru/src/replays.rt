@@ -30,7 +30,7 @@ use std::num::NonZeroUsize;
 /// Memory is taken before the first request: places for as many entries as there are keys, `capacity` at most, and the
 /// marks. Where either is refused, the keys come back as they were, and nothing else can be refused. Without keys no memory
 /// is asked for. Keys are hashed with `hash_builder`. `replay_slice` leaves the keys with the caller.
-/// Cost: three requests for memory, and a write of each head; for each request one hash and a walk along one chain, and for a
+/// Cost: three requests for memory, and a write of each bucket; for each request one hash and a walk along one chain, and for a
 /// miss up to one hash and two walks more.
 ///
 /// A choice of a capacity looks at the misses:

@@ -231,7 +231,7 @@ pub(crate) fn no_positions<K: Eq + Hash, S: BuildHasher, A: Allocator + Copy>(
 
 /// Doubles the capacity of a cache that is full, so that a put drops nothing.
 ///
-/// The capacity bounds how far the places grow, fourfold else; each takes two heads and a link, which are all written at once.
+/// The capacity bounds how far the places grow, fourfold else; each takes two buckets and a link, which are all written at once.
 pub(crate) fn double_if_full<K: Eq + Hash + Drop, S: BuildHasher, A: Allocator + Copy>(
     positions: &mut CLruCache<K, usize, S, ZeroWeightScale, A>,
 )

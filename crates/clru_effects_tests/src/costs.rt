@@ -70,7 +70,7 @@ fn costs_of(
 #[test]
 fn each_form_hashes_a_line_as_often(rt: HostRuntime) -> Result<(), Fail> {
     let input = thousand(rt.alloc())?;
-    // A line that came before is hashed once, a new one three times, and four of ten where the places grow from 4 to 16 (heads
+    // A line that came before is hashed once, a new one three times, and four of ten where the places grow from 4 to 16 (buckets
     // are made for 64 then, the capacity of a pass at first).
     let once = 1_000 + 2 * KEYS as u64 + 4;
     for (form, sizes, least, requests, bytes) in REQUESTS {

@@ -1,30 +1,29 @@
-//! `Kept`: nodes on which each call may be made at any time, as a cache keeps them.
+//! `Kept`: a map whose keys are distinct, so that each call may be made at any time.
 
 use clru::DefaultState;
-use clru_nodes::Nodes;
+use clru_linked_map::LinkedHashMap;
 use std::alloc::Allocator;
 use std::marker::Model;
 
-/// Nodes that are indexed, with keys that differ, and their capacity: each call may be made at any time.
+/// A map with keys that are pairwise not the same.
 #[derive(Drop)]
 pub struct Kept<A: Allocator + Copy> {
-    nodes: Nodes<u64, u64, DefaultState, A>,
-    capacity: usize,
+    map: LinkedHashMap<u64, u64, DefaultState, A>,
 }
 
 impl<A: Allocator + Copy> Model for Kept<A> {
-    ghost use Rattle.std.specs.Prelude.{ℕ, List};
+    ghost use Rattle.std.specs.Prelude.{ℕ, List, nat_eq};
     ghost use Rattle.std.specs.Coded.{coded×, coded_list, coded_ℕ};
-    ghost use Rattle.clru_nodes.specs.Nodes.{pairs_in};
-    ghost use Rattle.clru_effects_tests.specs.Kept.{IsKept};
+    ghost use Rattle.std.specs.List.{IsDistinct};
+    ghost use Rattle.std.specs.Map.{keys_of};
 
     ghost Value = { List (ℕ × ℕ) };
 
     ghost coded = { coded_list (coded× coded_ℕ coded_ℕ) };
 
-    ghost view = { λ k. pairs_in k.nodes };
+    ghost view = { λ k. k.map.entries };
 
-    ghost invariant = { λ k. IsKept k.nodes k.capacity };
+    ghost invariant = { λ k. IsDistinct nat_eq (keys_of k.map.entries) };
 }
 
 impl<A: Allocator + Copy> Kept<A> {
@@ -32,26 +31,25 @@ impl<A: Allocator + Copy> Kept<A> {
     #[tactic(auto, using(crate::proofs::Distinct::distinct_pairs))]
     pub fn new(alloc: A, capacity: usize, limit: usize) -> Self {
         Kept {
-            nodes: Nodes::with_narrow_places(alloc, capacity, DefaultState, limit),
-            capacity,
+            map: LinkedHashMap::with_narrow_places(alloc, capacity, DefaultState, limit),
         }
     }
 
     /// The value of a key.
     pub fn get(&self, key: u64) -> Option<u64> {
-        self.nodes.get(self.nodes.hash(&key), &key).copied()
+        self.map.get(self.map.hash(&key), &key).copied()
     }
 
-    /// Puts a pair with a new key to the front, where there is memory for it. The last pair of full nodes goes.
+    /// Puts a pair with a new key to the front, where there is memory for it. The last pair of a full map goes.
     pub fn put(&mut self, key: u64, value: u64) -> bool {
-        let hash = self.nodes.hash(&key);
-        let None = self.nodes.get(hash, &key) else {
+        let hash = self.map.hash(&key);
+        let None = self.map.get(hash, &key) else {
             return false;
         };
-        if self.capacity == 0 || self.nodes.make_ready().is_err() {
+        if self.map.capacity() == 0 || self.map.make_ready().is_err() {
             return false;
         }
-        let _ = self.nodes.put_front(hash, key, value);
+        let _ = self.map.put_front(hash, key, value);
         true
     }
 
@@ -67,9 +65,8 @@ impl<A: Allocator + Copy> Kept<A> {
 
     /// Sets a capacity, where the pairs fit it.
     pub fn resize(&mut self, capacity: usize) {
-        if self.nodes.len() <= capacity {
-            self.nodes.resize(capacity);
-            self.capacity = capacity;
+        if self.map.len() <= capacity {
+            self.map.resize(capacity);
         }
     }
 
@@ -85,8 +82,8 @@ impl<A: Allocator + Copy> Kept<A> {
                 return false;
             }
         }
-        let ends = (first_of(self.nodes.front()), first_of(self.nodes.back()));
-        self.nodes.len() as u64 == end.wrapping_sub(first)
+        let ends = (first_of(self.map.front()), first_of(self.map.back()));
+        self.map.len() as u64 == end.wrapping_sub(first)
             && ends == (Some(end.wrapping_sub(1)), Some(first))
     }
 }

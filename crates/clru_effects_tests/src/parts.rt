@@ -1,9 +1,9 @@
-//! What a cache lends of what it was made with, and what nodes and the allocator that refuses print.
+//! What a cache lends of what it was made with, and what a map and the allocator that refuses print.
 ghost use Rattle.std.specs.Prelude.{length};
 
 use crate::fakes::Counting;
 use clru::{CLruCache, CLruCacheConfig, DefaultState, WeightScale};
-use clru_nodes::{Item, Nodes};
+use clru_linked_map::LinkedHashMap;
 use ration::{Rationed, capacity_of, equal, shows};
 use std::alloc::Global;
 use std::cell::Cell;
@@ -51,14 +51,10 @@ fn lent_by(cache: &Texts) -> (u64, usize, u64) {
 struct Name(u64);
 
 #[test]
-fn nodes_and_items_print_nothing_of_their_pairs(rt: HostRuntime) -> Result<(), Fail> {
-    let nodes: Nodes<Name, Name, DefaultState, Global> = Nodes::new(rt.alloc(), 3, DefaultState);
-    equal!(rt; shows(rt.alloc(), &nodes, "Nodes { len: 0, capacity: 3 }")?, true);
-    let item = Item {
-        key: Name(1),
-        value: Name(2),
-    };
-    equal!(rt; shows(rt.alloc(), &item, "Item { .. }")?, true);
+fn a_map_prints_nothing_of_its_entries(rt: HostRuntime) -> Result<(), Fail> {
+    let map: LinkedHashMap<Name, Name, DefaultState, Global> =
+        LinkedHashMap::new(rt.alloc(), 3, DefaultState);
+    equal!(rt; shows(rt.alloc(), &map, "LinkedHashMap { len: 0, capacity: 3 }")?, true);
     Ok(())
 }
 

@@ -21,7 +21,7 @@ where
     pub fn front(&self) -> Option<(&K, &V)>
         ensures { option_map deref_pair result ≡ slice_get self.now.entries 0 }
     {
-        self.pairs.nodes.front()
+        self.map.front()
     }
 
     /// Returns the least recently used entry, and leaves the order as it is.
@@ -29,7 +29,7 @@ where
     pub fn back(&self) -> Option<(&K, &V)>
         ensures { option_map deref_pair result ≡ slice_get self.now.entries (length self.now.entries - 1) }
     {
-        self.pairs.nodes.back()
+        self.map.back()
     }
 
     /// Returns the entry at an end, where there is one.
@@ -94,8 +94,8 @@ impl<K: Eq + Hash, V, S: BuildHasher, A: Allocator + Copy> CLruCache<K, V, S, Ze
             ≡ option_map (λ e. e.1) (slice_get self.old.entries (index_of end self.old.entries)) }
     {
         match end {
-            End::Front => &mut self.pairs.nodes.front_item().value,
-            End::Back => &mut self.pairs.nodes.back_item().value,
+            End::Front => self.map.front_mut().1,
+            End::Back => self.map.back_mut().1,
         }
     }
 }

@@ -77,8 +77,7 @@ impl<K: Eq + Hash, V, S: BuildHasher, A: Allocator + Copy> CLruCache<K, V, S, Ze
     fn close(&mut self)
         ensures { self.new ≡ cache self.old.entries (max 1 (length self.old.entries)) self.old.scale self.old.places }
     {
-        let capacity = NonZeroUsize::new(self.pairs.nodes.len()).unwrap_or(NonZeroUsize::MIN);
-        self.pairs.nodes.resize(capacity.get());
-        self.capacity = capacity;
+        let capacity = self.map.len().max(1);
+        self.map.resize(capacity);
     }
 }

@@ -33,10 +33,10 @@ where
             S.Hasher.Hasher W.WeightScale A.Allocator self.entry (touch Q.equivalent key self.old.entries)) }
         ensures value { option_copied result ≡ lookup (Q.equivalent key) self.old.entries }
     {
-        let hash = self.pairs.nodes.hash(key);
-        if self.pairs.nodes.touch(hash, key) {
+        let hash = self.map.hash(key);
+        if self.map.touch(hash, key) {
             // A pair is in front now, so this test costs nothing.
-            let Some(pair) = self.pairs.nodes.front() else {
+            let Some(pair) = self.map.front() else {
                 unreachable!()
             };
             return Some(pair.1);
@@ -50,8 +50,8 @@ where
         ensures held { result ≡ is_some (lookup (Q.equivalent key) self.old.entries) }
         ensures entries { self.new ≡ with_entries self.old (demote Q.equivalent key self.old.entries) }
     {
-        let hash = self.pairs.nodes.hash(key);
-        self.pairs.nodes.demote(hash, key)
+        let hash = self.map.hash(key);
+        self.map.demote(hash, key)
     }
 
     /// Returns the value of the key, and leaves the order as it is.
@@ -59,7 +59,7 @@ where
     pub fn peek<Q: Equivalent<K>>(&self, key: Q) -> Option<&V>
         ensures { option_copied result ≡ lookup (Q.equivalent key) self.now.entries }
     {
-        self.pairs.nodes.get(self.pairs.nodes.hash(key), key)
+        self.map.get(self.map.hash(key), key)
     }
 
     /// Returns whether the key is held, and leaves the order as it is.
@@ -80,11 +80,11 @@ impl<K: Eq + Hash, V, S: BuildHasher, A: Allocator + Copy> CLruCache<K, V, S, Ze
             (touch Q.equivalent key self.old.entries) result) }
         ensures value { option_copied_mut result ≡ lookup (Q.equivalent key) self.old.entries }
     {
-        let hash = self.pairs.nodes.hash(key);
-        if !self.pairs.nodes.touch(hash, key) {
+        let hash = self.map.hash(key);
+        if !self.map.touch(hash, key) {
             return None;
         }
-        Some(&mut self.pairs.nodes.front_item().value)
+        Some(self.map.front_mut().1)
     }
 
     /// Lends the value of the key for writing, and leaves the order as it is.
@@ -95,8 +95,8 @@ impl<K: Eq + Hash, V, S: BuildHasher, A: Allocator + Copy> CLruCache<K, V, S, Ze
             self.old.entries result) }
         ensures value { option_copied_mut result ≡ lookup (Q.equivalent key) self.old.entries }
     {
-        let hash = self.pairs.nodes.hash(key);
-        let value = self.pairs.nodes.get_mut(hash, key)?;
+        let hash = self.map.hash(key);
+        let value = self.map.get_mut(hash, key)?;
         Some(value)
     }
 }

@@ -49,18 +49,18 @@ impl<K: Eq + Hash, V, S: BuildHasher, A: Allocator + Copy> CLruCache<K, V, S, Ze
         ensures refused { IfErr result (λ back. back ≡ (key, «data»)) }
         ensures memory { IsErr result → NeedsPlace K.eq self.old key }
     {
-        let hash = self.pairs.nodes.hash(&key);
-        if self.pairs.nodes.touch(hash, &key) {
-            let item = self.pairs.nodes.front_item();
-            modify_op(&item.key, &mut item.value, data);
-            return Ok(&mut item.value);
+        let hash = self.map.hash(&key);
+        if self.map.touch(hash, &key) {
+            let (stored, value) = self.map.front_mut();
+            modify_op(stored, &mut *value, data);
+            return Ok(value);
         }
-        let Ok(()) = self.pairs.nodes.make_ready() else {
+        let Ok(()) = self.map.make_ready() else {
             return Err((key, data));
         };
         let value = put_op(&key, data);
-        let _ = self.pairs.nodes.put_front(hash, key, value);
-        Ok(&mut self.pairs.nodes.front_item().value)
+        let _ = self.map.put_front(hash, key, value);
+        Ok(self.map.front_mut().1)
     }
 
     /// Puts a new entry with the value that `put_op` makes of the key and the data, or has `modify_op` change the value
@@ -115,22 +115,22 @@ impl<K: Eq + Hash, V, S: BuildHasher, A: Allocator + Copy> CLruCache<K, V, S, Ze
         ensures refused { IfErr result (λ e. IfNoMemory e (λ back. back ≡ (key, «data»))) }
         ensures memory { IfErr result (λ e. IfNoMemory e (λ _. NeedsPlace K.eq self.old key)) }
     {
-        let hash = self.pairs.nodes.hash(&key);
-        if self.pairs.nodes.touch(hash, &key) {
-            let item = self.pairs.nodes.front_item();
-            if let Err(error) = modify_op(&item.key, &mut item.value, data) {
+        let hash = self.map.hash(&key);
+        if self.map.touch(hash, &key) {
+            let (stored, value) = self.map.front_mut();
+            if let Err(error) = modify_op(stored, &mut *value, data) {
                 return Err(TryPutError::Failed(error));
             }
-            return Ok(&mut item.value);
+            return Ok(value);
         }
-        let Ok(()) = self.pairs.nodes.make_ready() else {
+        let Ok(()) = self.map.make_ready() else {
             return Err(TryPutError::NoMemory(key, data));
         };
         let value = match put_op(&key, data) {
             Ok(value) => value,
             Err(error) => return Err(TryPutError::Failed(error)),
         };
-        let _ = self.pairs.nodes.put_front(hash, key, value);
-        Ok(&mut self.pairs.nodes.front_item().value)
+        let _ = self.map.put_front(hash, key, value);
+        Ok(self.map.front_mut().1)
     }
 }

@@ -1,15 +1,13 @@
 //! The makers.
 ghost use Rattle.std.specs.Prelude.{◌≡◌, ◌<◌, ◌^◌, [], min, IfOk, IfErr, IsOk, OnOk};
 ghost use Rattle.std.specs.Int.NonZero.{non_zero_usize_get};
-ghost use Rattle.clru_nodes.specs.Nodes.{hash_of, IsEmpty, IsIndexed, places_of};
 ghost use Rattle.clru.specs.Cache.{cache};
 
 use crate::cache::CLruCache;
 use crate::config::CLruCacheConfig;
-use crate::weighed::Weighed;
+use clru_linked_map::LinkedHashMap;
 use clru_list::NoMemory;
 use clru_model::{DefaultState, WeightScale, ZeroWeightScale};
-use clru_nodes::Nodes;
 use std::alloc::Allocator;
 use std::hash::{BuildHasher, Hash};
 use std::num::NonZeroUsize;
@@ -33,15 +31,15 @@ impl<K: Eq + Hash, V, A: Allocator + Copy> CLruCache<K, V, DefaultState, ZeroWei
 
     /// Creates a cache that holds at most `capacity` entries, with memory for `reserve` of them, or for all where `capacity`
     /// is less.
-    /// Cost: two requests for memory and a write of each head, or none of either without a reserve.
+    /// Cost: two requests for memory and a write of each bucket, or none of either without a reserve.
     pub fn with_memory(alloc: A, capacity: NonZeroUsize, reserve: usize) -> Result<Self, NoMemory>
         ensures empty { let size = non_zero_usize_get capacity in
             IfOk result (λ c. c ≡ cache [] size (record {}) (min reserve size)) }
         ensures never_refused { reserve ≡ 0 → IsOk result }
         ensures countable { OnOk result (min reserve (non_zero_usize_get capacity) < 2 ^ 63) }
     {
-        match Nodes::with_memory(alloc, capacity.get(), DefaultState, reserve) {
-            Ok(nodes) => Ok(CLruCache::empty(nodes, capacity, ZeroWeightScale)),
+        match LinkedHashMap::with_memory(alloc, capacity.get(), DefaultState, reserve) {
+            Ok(map) => Ok(CLruCache::empty(map, ZeroWeightScale)),
             Err(_) => Err(NoMemory),
         }
     }
@@ -54,8 +52,7 @@ impl<K: Eq + Hash, V, S: BuildHasher, A: Allocator + Copy> CLruCache<K, V, S, Ze
         ensures { result ≡ cache [] (non_zero_usize_get capacity) (record {}) 0 }
     {
         CLruCache::empty(
-            Nodes::new(alloc, capacity.get(), hash_builder),
-            capacity,
+            LinkedHashMap::new(alloc, capacity.get(), hash_builder),
             ZeroWeightScale,
         )
     }
@@ -71,8 +68,7 @@ where
         ensures { result ≡ cache [] (non_zero_usize_get capacity) scale 0 }
     {
         CLruCache::empty(
-            Nodes::new(alloc, capacity.get(), DefaultState),
-            capacity,
+            LinkedHashMap::new(alloc, capacity.get(), DefaultState),
             scale,
         )
     }
@@ -85,7 +81,7 @@ where
     /// Creates a cache from its configuration: the capacity, the hash builder and the scale are the configured ones, and
     /// there is memory for as many entries as its reserve says, or for `capacity` entries where that is less. Where
     /// memory is refused, the configuration comes back as it was.
-    /// Cost: two requests for memory and a write of each head, or none of either without a reserve.
+    /// Cost: two requests for memory and a write of each bucket, or none of either without a reserve.
     pub fn with_config(
         alloc: A,
         config: CLruCacheConfig<K, V, S, W>,
@@ -103,8 +99,8 @@ where
             scale,
             pairs,
         } = config;
-        match Nodes::with_memory(alloc, capacity.get(), hash_builder, reserve) {
-            Ok(nodes) => Ok(CLruCache::empty(nodes, capacity, scale)),
+        match LinkedHashMap::with_memory(alloc, capacity.get(), hash_builder, reserve) {
+            Ok(map) => Ok(CLruCache::empty(map, scale)),
             Err(hash_builder) => Err(CLruCacheConfig {
                 capacity,
                 hash_builder,
@@ -115,18 +111,15 @@ where
         }
     }
 
-    fn empty(nodes: Nodes<K, V, S, A>, capacity: NonZeroUsize, scale: W) -> Self
-        requires none { IsEmpty (non_zero_usize_get capacity) (places_of nodes) nodes }
-        requires indexed { IsIndexed (hash_of K.Hash S.BuildHasher S.Hasher.Hasher) nodes }
-        ensures { result ≡ cache [] (non_zero_usize_get capacity) scale (places_of nodes) }
+    fn empty(map: LinkedHashMap<K, V, S, A>, scale: W) -> Self
+        requires none { map.entries ≡ [] }
+        requires some { 0 < map.capacity }
+        ensures { result ≡ cache [] map.capacity scale map.places }
     {
         CLruCache {
-            pairs: Weighed {
-                nodes,
-                scale,
-                total: 0,
-            },
-            capacity,
+            map,
+            scale,
+            total: 0,
         }
     }
 }

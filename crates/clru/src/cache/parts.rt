@@ -15,18 +15,18 @@ where
     pub fn scale(&self) -> &W
         ensures { result.now ≡ self.now.scale }
     {
-        &self.pairs.scale
+        &self.scale
     }
 
     /// Lends the hash builder. No clause tells which it is, since a cache's model has none.
     /// Cost: a read.
     pub fn hasher(&self) -> &S {
-        self.pairs.nodes.hasher()
+        self.map.hasher()
     }
 
     /// Lends the allocator. No clause tells which it is, since a cache's model has none.
     /// Cost: a read.
     pub fn allocator(&self) -> &A {
-        self.pairs.nodes.allocator()
+        self.map.allocator()
     }
 }

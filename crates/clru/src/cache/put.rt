@@ -8,6 +8,7 @@ ghost use Rattle.clru.specs.Memory.{NeedsPlace, NeedsPlaceFor, GrowsOnlyIf};
 
 use crate::cache::CLruCache;
 use crate::cache::answer::Put;
+use crate::cache::room::{make_room, shrink};
 use clru_model::{PutError, WeightScale, ZeroWeightScale};
 use std::alloc::Allocator;
 use std::hash::{BuildHasher, Hash};
@@ -86,23 +87,26 @@ where
             (weighted_drops K.eq (W.weight self.old.scale) self.old.capacity key value self.old.entries) on_drop.new) }
         ensures not_called { OnErr result (on_drop.new ≡ on_drop.old) }
     {
-        let weight = self.pairs.scale.weight(&key, &value);
-        let capacity = self.capacity.get();
+        let weight = self.scale.weight(&key, &value);
+        let capacity = self.map.capacity();
         if weight >= capacity {
             return Err(PutError::TooHeavy(key, value));
         }
         // Compared with the room that the pair leaves, so that no sum passes the largest number.
         let room = capacity - 1 - weight;
-        let hash = self.pairs.nodes.hash(&key);
-        if let Some((_, old_value)) = self.pairs.take(hash, &key) {
-            self.pairs.shrink(room, on_drop);
-            self.pairs.push_front(hash, key, value, weight);
+        let hash = self.map.hash(&key);
+        if let Some((stored, old_value)) = self.map.take(hash, &key) {
+            self.total -= self.scale.weight(&stored, &old_value);
+            shrink(&mut self.map, &self.scale, &mut self.total, room, on_drop);
+            self.map.push_front(hash, key, value);
+            self.total += weight;
             return Ok(Some(old_value));
         }
-        let Ok(()) = self.pairs.make_room(room, on_drop) else {
+        let Ok(()) = make_room(&mut self.map, &self.scale, &mut self.total, room, on_drop) else {
             return Err(PutError::NoMemory(key, value));
         };
-        self.pairs.push_front(hash, key, value, weight);
+        self.map.push_front(hash, key, value);
+        self.total += weight;
         Ok(None)
     }
 }
@@ -126,18 +130,18 @@ impl<K: Eq + Hash, V, S: BuildHasher, A: Allocator + Copy> CLruCache<K, V, S, Ze
         ensures memory { IsErr result → NeedsPlace K.eq self.old key }
         ensures places { GrowsOnlyIf (NeedsPlace K.eq self.old key) self.old self.new }
     {
-        let hash = self.pairs.nodes.hash(&key);
-        if self.pairs.nodes.touch(hash, &key) {
-            let replaced = Some(self.pairs.nodes.set_front(value));
+        let hash = self.map.hash(&key);
+        if self.map.touch(hash, &key) {
+            let replaced = Some(self.map.set_front(value));
             return Ok(Put {
                 replaced,
                 dropped: None,
             });
         }
-        let Ok(()) = self.pairs.nodes.make_ready() else {
+        let Ok(()) = self.map.make_ready() else {
             return Err((key, value));
         };
-        let dropped = self.pairs.nodes.put_front(hash, key, value);
+        let dropped = self.map.put_front(hash, key, value);
         Ok(Put {
             replaced: None,
             dropped,

@@ -22,8 +22,9 @@ where
         ensures value { result ≡ lookup (Q.equivalent key) self.old.entries }
         ensures entries { self.new ≡ with_entries self.old (without Q.equivalent key self.old.entries) }
     {
-        let hash = self.pairs.nodes.hash(key);
-        let (_, value) = self.pairs.take(hash, key)?;
+        let hash = self.map.hash(key);
+        let (stored, value) = self.map.take(hash, key)?;
+        self.total -= self.scale.weight(&stored, &value);
         Some(value)
     }
 
@@ -33,7 +34,9 @@ where
         ensures value { result ≡ slice_get self.old.entries 0 }
         ensures entries { self.new ≡ with_entries self.old (drop 1 self.old.entries) }
     {
-        self.pairs.pop_front()
+        let (key, value) = self.map.pop_front()?;
+        self.total -= self.scale.weight(&key, &value);
+        Some((key, value))
     }
 
     /// Removes the least recently used entry and returns it. Its place stays ready.
@@ -42,17 +45,20 @@ where
         ensures value { result ≡ slice_get self.old.entries (length self.old.entries - 1) }
         ensures entries { self.new ≡ with_entries self.old (take (length self.old.entries - 1) self.old.entries) }
     {
-        self.pairs.pop_back()
+        let (key, value) = self.map.pop_back()?;
+        self.total -= self.scale.weight(&key, &value);
+        Some((key, value))
     }
 
     /// Removes all entries. Their places stay ready.
-    /// Cost: a drop of each entry and a write of each head; no hash.
+    /// Cost: a drop of each entry and a write of each bucket; no hash.
     pub fn clear(&mut self)
     where
         K: Drop,
         V: Drop,
         ensures { self.new ≡ with_entries self.old [] }
     {
-        self.pairs.clear();
+        self.map.clear();
+        self.total = 0;
     }
 }

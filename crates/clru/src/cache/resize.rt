@@ -5,6 +5,7 @@ ghost use Rattle.clru_model.specs.Entries.{fit};
 ghost use Rattle.clru.specs.Cache.{cache};
 
 use crate::cache::CLruCache;
+use crate::cache::room::shrink;
 use clru_model::WeightScale;
 use std::alloc::Allocator;
 use std::hash::{BuildHasher, Hash};
@@ -29,8 +30,8 @@ where
         ensures { let size = non_zero_usize_get capacity in
             self.new ≡ cache (fit (W.weight self.old.scale) size self.old.entries) size self.old.scale self.old.places }
     {
-        self.pairs.shrink(capacity.get(), &mut |_, _| {});
-        self.pairs.nodes.resize(capacity.get());
-        self.capacity = capacity;
+        let capacity = capacity.get();
+        shrink(&mut self.map, &self.scale, &mut self.total, capacity, &mut |_, _| {});
+        self.map.resize(capacity);
     }
 }

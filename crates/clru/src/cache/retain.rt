@@ -1,7 +1,7 @@
 //! The calls that keep the entries at which a closure answers `true`. They ask for no memory, and the places stay.
 ghost use Rattle.std.specs.Prelude.{◌≡◌};
 ghost use Rattle.std.specs.Map.Calls.{CalledAtPair, CallableOnEachPair, RetainsPairs, TakesPair};
-ghost use Rattle.clru_nodes.specs.Retains.{CalledAtShownPair, TakesShownPair};
+ghost use Rattle.clru_linked_map.specs.Retains.{CalledAtShownPair, TakesShownPair};
 ghost use Rattle.clru.specs.Cache.{with_entries};
 
 use crate::cache::CLruCache;
@@ -28,7 +28,7 @@ where
         ensures kept { RetainsPairs (CalledAtShownPair F.FnMut) keep self.old.entries self.new.entries }
         ensures same { self.new ≡ with_entries self.old self.new.entries }
     {
-        self.pairs.retain(keep);
+        self.map.retain(&mut self.total, &self.scale, keep);
     }
 }
 
@@ -44,6 +44,6 @@ impl<K: Eq + Hash, V, S: BuildHasher, A: Allocator + Copy> CLruCache<K, V, S, Ze
         ensures kept { RetainsPairs (CalledAtPair F.FnMut) keep self.old.entries self.new.entries }
         ensures same { self.new ≡ with_entries self.old self.new.entries }
     {
-        self.pairs.nodes.retain_mut(keep);
+        self.map.retain_mut(keep);
     }
 }

@@ -23,7 +23,7 @@ where
         ensures { result ≡ self.now.entries }
     {
         CLruCacheIter {
-            items: self.pairs.nodes.iter(),
+            items: self.map.iter(),
         }
     }
 }
@@ -57,8 +57,7 @@ impl<K: Eq + Hash, V, S: BuildHasher, A: Allocator + Copy> CLruCache<K, V, S, Ze
             A.Allocator ⟦<ZeroWeightScale as WeightScale<K, V>>⟧ self.entry index result.1) }
         ensures entry { slice_get self.old.entries index ≡ Some (deref_pair_mut result) }
     {
-        let item = self.pairs.nodes.item_at(index);
-        (&item.key, &mut item.value)
+        self.map.entry_at(index)
     }
 
     /// Lends the entry at an index, with its value for writing. It is quick for a walk that goes down by one.
@@ -68,8 +67,7 @@ impl<K: Eq + Hash, V, S: BuildHasher, A: Allocator + Copy> CLruCache<K, V, S, Ze
             A.Allocator ⟦<ZeroWeightScale as WeightScale<K, V>>⟧ self.entry index result.1) }
         ensures entry { slice_get self.old.entries index ≡ Some (deref_pair_mut result) }
     {
-        let item = self.pairs.nodes.item_at_back(index);
-        (&item.key, &mut item.value)
+        self.map.entry_at_back(index)
     }
 }
 

@@ -51,7 +51,7 @@ const HEAD: u64 = 6;
 #[test]
 fn a_run_asks_for_what_its_input_needs(rt: HostRuntime) -> Result<(), Fail> {
     let large = lines(rt.alloc(), 600_000, [b"1", b"\na", b""])?;
-    // Room for the input, the keys, places, heads and marks, the report, and its last line.
+    // Room for the input, the keys, places, buckets and marks, the report, and its last line.
     let small = 65_536 + 4 * 16 + 2 * PLACE + 4 * HEAD + 4 + (4 * 2 + 9) + (8 + 16);
     // Input and keys double from 65,536 and 4: six and 19 times. The report is asked for once.
     let input = 65_536 * 63;

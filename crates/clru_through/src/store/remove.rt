@@ -40,7 +40,7 @@ impl<
     }
 
     /// Takes all values out. Their places stay ready.
-    /// Cost: a drop of each value and a write of each head; no hash.
+    /// Cost: a drop of each value and a write of each bucket; no hash.
     pub fn clear(&mut self)
     where
         K: Drop,

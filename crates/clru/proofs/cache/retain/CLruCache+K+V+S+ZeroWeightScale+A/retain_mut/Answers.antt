@@ -1,4 +1,3 @@
-use Rattle.std.proofs.Common.{refl}
 use Rattle.std.specs.Map.Calls.{CalledAtPair}
 use Rattle.clru.proofs.Keeping.{IsCache-plain}
 use Rattle.clru.proofs.Values.{IsKept-retained}
@@ -7,5 +6,4 @@ use Rattle.clru.proofs.cache.retain.CLruCache+K+V+S+ZeroWeightScale+A.retain_mut
 pub invariant_of-self : goal.invariant_of-self
 invariant_of-self g c =
     let e = c.retain_mut.ensures in
-    IsCache-plain c.self.invariant refl
-    (IsKept-retained (CalledAtPair g.F.FnMut) c.args.keep _ c.self.invariant.pairs e.kept) e.indexed e.same.capacity
+    IsCache-plain c.self.invariant e.same (IsKept-retained (CalledAtPair g.F.FnMut) c.args.keep _ c.self.invariant.kept e.kept)

@@ -1,0 +1,126 @@
+//! `IndexedList`: the place list of a map and the hash index over it, and looking for a key.
+//!
+//! Each key has a bucket, which its hash picks, and the places of the keys of one bucket are linked to a chain. Clauses here
+//! name places, buckets and links; those of the map's calls speak of its entries alone.
+ghost use Rattle.std.specs.Prelude.{◌≡◌, ◌≤◌, true, false, length, None, IfSome, IfNone};
+ghost use Rattle.std.specs.Map.{lookup_entry};
+ghost use Rattle.clru_list.specs.PlaceList.{without, IsValid};
+ghost use Rattle.clru_list.specs.Places.{nowhere};
+ghost use Rattle.clru_linked_map.specs.BucketList.{place_named, tag_by};
+ghost use Rattle.clru_linked_map.specs.Buckets.{key_at, HasHome, IsAt, IsLive, IsTaken};
+ghost use Rattle.clru_linked_map.specs.IndexedList.{IsIndexed, KeepsAllButPairs};
+ghost use Rattle.clru_linked_map.specs.LinkedMap.{hash_of, pairs_of};
+
+use crate::hash_index::HashIndex;
+use clru_list::{FixedSizeList, NOWHERE};
+use std::alloc::Allocator;
+use std::collections::hash_map::Equivalent;
+use std::hash::{BuildHasher, Hash};
+
+mod chaining;
+mod growth;
+mod retain;
+
+/// Pairs in order, found by the hash of their keys.
+pub(crate) struct IndexedList<K: Eq + Hash, V, S: BuildHasher, A: Allocator + Copy> {
+    pub(crate) list: FixedSizeList<(K, V), A>,
+    pub(crate) index: HashIndex<A>,
+    pub(crate) hash_builder: S,
+}
+
+impl<K: Eq + Hash + Drop, V: Drop, S: BuildHasher + Drop, A: Allocator + Copy> Drop
+    for IndexedList<K, V, S, A> {
+    fn drop(self) {
+        let IndexedList {
+            list,
+            index,
+            hash_builder,
+        } = self;
+        drop(list);
+        drop(index);
+        drop(hash_builder);
+    }
+}
+
+impl<K: Eq + Hash, V, S: BuildHasher, A: Allocator + Copy> IndexedList<K, V, S, A> {
+    /// Returns the hash of a key, which is that of each form of it.
+    pub(crate) fn hash<Q: Equivalent<K>>(&self, key: Q) -> u64
+        ensures { result ≡ hash_of Q.Hash S.BuildHasher S.Hasher.Hasher self.now.hash_builder key }
+    {
+        self.hash_builder.hash_one(&key)
+    }
+
+    /// Returns the place of the pair with the key, whose hash is given.
+    #[inline(always)]
+    pub(crate) fn find<Q: Equivalent<K>>(&self, hash: u64, key: Q) -> Option<usize>
+        requires hash { hash ≡ hash_of Q.Hash S.BuildHasher S.Hasher.Hasher self.now.hash_builder key }
+        requires indexed { IsIndexed (hash_of K.Hash S.BuildHasher S.Hasher.Hasher) self.now }
+        ensures found { IfSome result (λ p. IsAt Q.equivalent key p self.now.list.entries) }
+        ensures valid { IsValid self.now.list }
+        ensures absent { IfNone result (lookup_entry (Q.equivalent key) (pairs_of self.now.list.entries) ≡ None) }
+    {
+        // Read for its clause alone.
+        let _len = self.list.len();
+        let bucket = self.index.bucket_of(hash);
+        let mut number = self.index.first(bucket);
+        while self.is_other(number, hash, &key) {
+            if self.index.is_last(number) {
+                return None;
+            }
+            let place = self.index.place(number);
+            number = self.index.next(place);
+        }
+        Some(self.index.place(number))
+    }
+
+    /// Answers whether a number names another place than that of the key, whose hash is given.
+    #[inline(always)]
+    fn is_other<Q: Equivalent<K>>(&self, number: usize, hash: u64, key: &Q) -> bool
+        requires tagged { (k : K) → (place_named self.now.index.bound number ≡ nowhere → ⊥)
+            → key_at self.now.list.entries (place_named self.now.index.bound number) ≡ Some k → Q.equivalent key.now k ≡ true
+            → tag_by self.now.index.tags number ≡ tag_by self.now.index.tags hash }
+        requires live { (place_named self.now.index.bound number ≡ nowhere → ⊥)
+            → IsLive self.now.list.entries (place_named self.now.index.bound number) }
+        ensures found { result ≡ false → IsAt Q.equivalent key.now (place_named self.now.index.bound number) self.now.list.entries }
+        ensures other { result ≡ true → (place_named self.now.index.bound number ≡ nowhere → ⊥)
+            → IsAt Q.equivalent key.now (place_named self.now.index.bound number) self.now.list.entries → ⊥ }
+    {
+        if self.index.has_other_tag(number, hash) {
+            return true;
+        }
+        let place = self.index.place(number);
+        if place == NOWHERE {
+            return true;
+        }
+        let item = self.list.item(place);
+        !key.equivalent(&item.0)
+    }
+
+    /// The bucket of the key at a place.
+    pub(crate) fn home(&self, place: usize) -> usize
+        requires { IsLive self.now.list.entries place }
+        ensures home { HasHome (hash_of K.Hash S.BuildHasher S.Hasher.Hasher) result place self.now }
+        ensures valid { IsValid self.now.list }
+    {
+        let item = self.list.item(place);
+        self.index.bucket_of(self.hash(&item.0))
+    }
+
+    /// Takes out the pair at a place, where the bucket of its key is given.
+    #[inline(always)]
+    pub(crate) fn remove(&mut self, bucket: usize, place: usize) -> (K, V)
+        requires home { HasHome (hash_of K.Hash S.BuildHasher S.Hasher.Hasher) bucket place self.old }
+        requires valid { IsValid self.old.list }
+        requires indexed { IsIndexed (hash_of K.Hash S.BuildHasher S.Hasher.Hasher) self.old }
+        ensures pair { IsTaken result place self.old.list.entries }
+        ensures entries { self.new.list.entries ≡ without place self.old.list.entries }
+        ensures indexed { IsIndexed (hash_of K.Hash S.BuildHasher S.Hasher.Hasher) self.new }
+        ensures same { KeepsAllButPairs self.old self.new }
+    {
+        self.unchain(bucket, place);
+        match self.list.remove(place) {
+            Some(pair) => pair,
+            None => unreachable!(),
+        }
+    }
+}

@@ -1,0 +1,14 @@
+//! A linked hash map with a capacity: entries in order of recency, found by the hash of their keys.
+//!
+//! The entries lie in a place list of `clru_list`, under a hash index with a chain for each bucket. A clause sees a map as its
+//! entries, the most recently used first, its capacity, its hash builder, and for how many entries memory was found.
+//!
+//! A caller hashes a key once, and hands the hash to the calls that look for it. The caller must also keep the keys distinct,
+//! because a key that is put in is not looked for.
+#![tactic(auto)]
+
+mod hash_index;
+mod indexed_list;
+mod map;
+
+pub use map::LinkedHashMap;

@@ -1,5 +1,0 @@
-use Rattle.clru_nodes.proofs.PlaceEnds.{no_last_item}
-use Rattle.clru_nodes.proofs.nodes.Nodes.back_item.Goals as goal
-
-pub unreachable-requires : goal.unreachable-requires
-unreachable-requires g c = no_last_item c.args.self.now.list.entries c.in-None.ensures.value c.requires

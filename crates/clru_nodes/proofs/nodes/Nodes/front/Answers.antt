@@ -1,7 +1,0 @@
-use Rattle.std.proofs.Common.{refl, sym}
-use Rattle.clru_nodes.proofs.PlaceEnds.{live_first}
-use Rattle.clru_nodes.proofs.nodes.Nodes.front.Goals as goal
-
-pub item-item-requires : goal.item-item-requires
-item-item-requires g c =
-    let live = live_first c.in_ok-place.place c.args.self.now.list.entries (sym c.in_ok-place.ensures.place) in rw (live.1) refl

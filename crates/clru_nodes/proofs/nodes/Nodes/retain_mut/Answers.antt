@@ -1,7 +1,0 @@
-use Rattle.std.proofs.Common.{sym}
-use Rattle.clru_model.proofs.Weights.{weight_of-zero}
-use Rattle.clru_nodes.specs.Nodes.{pairs_of}
-use Rattle.clru_nodes.proofs.nodes.Nodes.retain_mut.Goals as goal
-
-pub sift-requires-clause-weighs : goal.sift-requires-clause-weighs
-sift-requires-clause-weighs g c = sym (weight_of-zero {K = g.row.K.Denot} {V = g.row.V.Denot} (pairs_of c.args.self.now.list.entries))
