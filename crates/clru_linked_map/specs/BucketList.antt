@@ -38,9 +38,9 @@ pub record IsShaped (mask tags : ℕ) : Type 0 where
   pub masked : mask + 1 ≡ 2 ^ low
   pub tagged : mask + tags + 1 ≡ 2 ^ (high + low)
 
--- the first numbers, as many as the mask and one, are those of heads, and the others those of links
-abbrev pub list_of : Packed → ℕ → ℕ → HeadList
-list_of words mask tags = head_list (take (mask + 1) words.numbers) (drop (mask + 1) words.numbers) mask tags
+-- the first numbers, as many as the mask and one, are those of buckets, and the others those of links
+abbrev pub list_of : Packed → ℕ → ℕ → BucketList
+list_of words mask tags = bucket_list (take (mask + 1) words.numbers) (drop (mask + 1) words.numbers) mask tags
 
 -- there are so many buckets, each place with a link can be named, and a number has its tag and one bit more
 pub record IsWorded (words : Packed) (mask tags : ℕ) : Type 0 where
