@@ -14,8 +14,8 @@ use Rattle.clru_report.specs.Refusals.{IsFirstWithout, fault_from}
 use Rattle.clru_report.specs.Samples.{kept_of}
 use Rattle.clru_report.specs.Sizes.{HaveSizes, size_of_lines, weight_of_line}
 use Rattle.clru_report.specs.SizedTables.{capacity_of_sized_row, sized_table_text}
-use Rattle.clru_report.specs.declared.fault.Fault.{Fault}
-use Rattle.clru_report.specs.declared.fault.Fault.TheVariants.{Memory, Reading, Writing, Closed, NoSize, TooLarge, TooSmall}
+use Rattle.clru_lines.specs.declared.fault.Fault.{Fault}
+use Rattle.clru_lines.specs.declared.fault.Fault.TheVariants.{BadCapacity, Memory, Reading, Writing, Closed, NoSize, TooLarge, TooSmall}
 use Rattle.clru_report.specs.declared.options.Capacities.{Capacities}
 use Rattle.clru_report.specs.declared.options.Form.{Form}
 use Rattle.clru_report.specs.declared.options.Form.TheVariants.{Table, Picture, Summary}
@@ -118,6 +118,7 @@ pub record HasTakenOf {A : Type 0} (n : ℕ) (lines : List (List ℕ)) (size : �
 
 -- why lines have no curve
 abbrev pub IsOfLines : Fault → List (List ℕ) → Type 0
+IsOfLines BadCapacity lines = ⊥
 IsOfLines Memory lines = ⊤
 IsOfLines Reading lines = ⊥
 IsOfLines Writing lines = ⊥
@@ -159,6 +160,7 @@ module _ (curve : CurveBySize) where
 
   -- why capacities have no rows
   abbrev pub IsOfCapacities : Fault → List ℕ → Type 0
+  IsOfCapacities BadCapacity capacities = ⊥
   IsOfCapacities Memory capacities = ⊤
   IsOfCapacities Reading capacities = ⊥
   IsOfCapacities Writing capacities = ⊥

@@ -6,10 +6,10 @@ ghost use Rattle.clru_report.specs.Faults.{is_of_writing};
 ghost use Rattle.clru_report.specs.Refusals.{is_of_input, IsRefused};
 ghost use Rattle.clru_report.specs.Report.{IsReport};
 
-use crate::fault::Fault;
 use crate::options::Options;
 use crate::output::write_report;
 use crate::report::report_on;
+use clru_lines::Fault;
 use std::alloc::Allocator;
 use std::hash::BuildHasher;
 use std::io::{Read, Write};

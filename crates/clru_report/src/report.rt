@@ -8,7 +8,7 @@ ghost use Rattle.clru_report.specs.Passes.{capacities_asked, has_rows, IsCurveOf
 ghost use Rattle.clru_report.specs.Refusals.{is_of_input, IsRefused};
 ghost use Rattle.clru_report.specs.Report.{AreRows, IsInForm, IsReport, IsReportByKeys};
 
-use crate::fault::{Fault, fault_of};
+use crate::fault::read_fault;
 use crate::options::{Form, Options, Sample};
 use crate::pass::{curve_and_foresight, curve_by_keys, curve_of_sample};
 use crate::picture::picture_by_keys;
@@ -17,7 +17,7 @@ use crate::sample::text_of_sample;
 use crate::sized::sized_report_on;
 use crate::table::{summary_of, table_of};
 use clru_curve::MissCurve;
-use clru_lines::ReadError;
+use clru_lines::{Fault, ReadError};
 use std::alloc::{AllocError, Allocator};
 use std::hash::BuildHasher;
 use std::io::Read;
@@ -41,7 +41,7 @@ pub(crate) fn report_on<R: Read, S: BuildHasher + Copy, A: Allocator + Copy>(
     }
     match report_of(alloc, options, reader, hash_builder) {
         Ok(text) => Ok(text),
-        Err(error) => Err(fault_of(error)),
+        Err(error) => Err(read_fault(error)),
     }
 }
 

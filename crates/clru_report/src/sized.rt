@@ -17,12 +17,12 @@ mod rows;
 mod sample;
 mod table;
 
-use crate::fault::Fault;
 use crate::options::{Capacities, Form, Look, Options, Sample};
 use crate::picture::picture_by_size;
 use crate::sample::times;
 pub(crate) use capacities::first_capacity;
 use clru_curve::SizedCurve;
+use clru_lines::Fault;
 use kept::curve_of_kept;
 pub use line::size_of;
 use pass::curve_of;

@@ -11,10 +11,10 @@ ghost use Rattle.clru_report.specs.Sizes.{HaveSizes, size_of_line, size_of_lines
 
 use super::line::size_of;
 use super::pass::take_line;
-use crate::fault::{Fault, fault_of};
+use crate::fault::read_fault;
 use crate::sample::is_kept;
 use clru_curve::{SizedCurve, SizedPass};
-use clru_lines::{LineBuffer, OwnedKey};
+use clru_lines::{Fault, LineBuffer, OwnedKey};
 use std::alloc::{AllocError, Allocator};
 use std::hash::BuildHasher;
 use std::io::Read;
@@ -46,7 +46,7 @@ pub(super) fn curve_of_kept<R: Read, S: BuildHasher + Drop, A: Allocator + Copy>
         match buffer.read_line(reader, &mut key.0) {
             Ok(true) => {}
             Ok(false) => break,
-            Err(error) => return Err(fault_of(error)),
+            Err(error) => return Err(read_fault(error)),
         }
         requests += 1;
         if refused.is_none() {

@@ -7,9 +7,9 @@ ghost use Rattle.clru_report.specs.Passes.{HasTaken, IsOfLines, IsSettled, IsSiz
 ghost use Rattle.clru_report.specs.Refusals.{fault_from, is_of_input};
 
 use super::line::size_of;
-use crate::fault::{Fault, fault_of};
+use crate::fault::read_fault;
 use clru_curve::{SizedCurve, SizedPass, SizedRequestError};
-use clru_lines::{LineBuffer, OwnedKey};
+use clru_lines::{Fault, LineBuffer, OwnedKey};
 use std::alloc::Allocator;
 use std::hash::BuildHasher;
 use std::io::Read;
@@ -39,7 +39,7 @@ pub(crate) fn curve_of<R: Read, S: BuildHasher + Drop, A: Allocator + Copy>(
         match buffer.read_line(reader, &mut key.0) {
             Ok(true) => {}
             Ok(false) => break,
-            Err(error) => return Err(fault_of(error)),
+            Err(error) => return Err(read_fault(error)),
         }
         number += 1;
         if refused.is_none() {
