@@ -5,6 +5,7 @@ mod KneeLemmas
 mod LeastLemmas
 mod ReportLemmas
 mod RowLemmas
+mod Samples
 mod SettledCurves
 mod SizeViews
 mod SizedKnees

@@ -23,6 +23,7 @@ mod rows;
 mod sample;
 mod sized;
 mod table;
+mod text;
 
 pub use arguments::{Command, Refusal, command_of};
 pub use clru_lines::{Fault, exit_status};

@@ -9,7 +9,6 @@ ghost use Rattle.clru_report.specs.SizedReport.{IsReportBySize, IsReportBySizeOf
 ghost use Rattle.clru_report.specs.Tables.{HasTable};
 
 mod capacities;
-mod kept;
 mod knees;
 mod line;
 mod pass;
@@ -23,9 +22,8 @@ use crate::sample::times;
 pub(crate) use capacities::first_capacity;
 use clru_curve::SizedCurve;
 use clru_lines::Fault;
-use kept::curve_of_kept;
 pub use line::size_of;
-use pass::curve_of;
+use pass::curve_by_size;
 use rows::sized_rows_for;
 pub(crate) use sample::Totals;
 use sample::text_of_sized_sample;
@@ -52,10 +50,10 @@ pub(crate) fn sized_report_on<R: Read, S: BuildHasher + Drop, A: Allocator + Cop
     match options.sample {
         Sample::Whole => sized_report_of_all(alloc, options, reader, hash_builder),
         Sample::OneIn(one_in) => {
-            sized_report_of_kept(alloc, options, one_in, reader, hash_builder)
+            sized_report_of_sample(alloc, options, one_in, reader, hash_builder)
         }
         Sample::Taken(one_in, requests) => {
-            sized_report_of_taken(alloc, options, one_in, requests, reader, hash_builder)
+            sized_report_of_sampled(alloc, options, one_in, requests, reader, hash_builder)
         }
     }
 }
@@ -73,12 +71,12 @@ fn sized_report_of_all<R: Read, S: BuildHasher + Drop, A: Allocator + Copy>(
         (λ input. IsRefusedFor fault options.now (lines_of input))) }
     ensures fault { IfErr result (λ fault. is_of_writing fault ≡ false) }
 {
-    let (curve, bytes) = curve_of(alloc, reader, hash_builder)?;
+    let (curve, _, _, bytes) = curve_by_size(alloc, NonZeroUsize::MIN, reader, hash_builder)?;
     text_by_size(alloc, options, &curve, bytes)
 }
 
 // Where the lines of one key in so many are taken, and all are counted.
-fn sized_report_of_kept<R: Read, S: BuildHasher + Drop, A: Allocator + Copy>(
+fn sized_report_of_sample<R: Read, S: BuildHasher + Drop, A: Allocator + Copy>(
     alloc: A,
     options: &Options<A>,
     one_in: NonZeroUsize,
@@ -91,7 +89,7 @@ fn sized_report_of_kept<R: Read, S: BuildHasher + Drop, A: Allocator + Copy>(
         (λ input. IsRefusedBy (Sample.OneIn one_in) fault options.now (lines_of input))) }
     ensures fault { IfErr result (λ fault. is_of_writing fault ≡ false) }
 {
-    let (curve, requests, size, bytes) = curve_of_kept(alloc, one_in, reader, hash_builder)?;
+    let (curve, requests, size, bytes) = curve_by_size(alloc, one_in, reader, hash_builder)?;
     let totals = Totals {
         one_in,
         requests,
@@ -104,7 +102,7 @@ fn sized_report_of_kept<R: Read, S: BuildHasher + Drop, A: Allocator + Copy>(
 }
 
 // Where all lines are of one key in so many, and there were so many requests; their size is as many times that of the lines.
-fn sized_report_of_taken<R: Read, S: BuildHasher + Drop, A: Allocator + Copy>(
+fn sized_report_of_sampled<R: Read, S: BuildHasher + Drop, A: Allocator + Copy>(
     alloc: A,
     options: &Options<A>,
     one_in: NonZeroUsize,
@@ -118,11 +116,12 @@ fn sized_report_of_taken<R: Read, S: BuildHasher + Drop, A: Allocator + Copy>(
         (λ input. IsRefusedBy (Sample.Taken one_in requests) fault options.now (lines_of input))) }
     ensures fault { IfErr result (λ fault. is_of_writing fault ≡ false) }
 {
-    let (curve, bytes) = curve_of(alloc, reader, hash_builder)?;
+    let all = NonZeroUsize::MIN;
+    let (curve, _, size, bytes) = curve_by_size(alloc, all, reader, hash_builder)?;
     let totals = Totals {
         one_in,
         requests,
-        size: times(one_in, usize::MAX, curve.size()),
+        size: times(one_in, usize::MAX, size),
     };
     match text_of_sized_sample(alloc, options, &curve, totals, bytes) {
         Ok(text) => Ok(text),

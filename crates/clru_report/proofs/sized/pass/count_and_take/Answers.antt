@@ -3,7 +3,7 @@ use Rattle.std.specs.Int.NonZero.{non_zero_usize_get}
 use Rattle.clru_report.specs.Passes.{line_of}
 use Rattle.clru_report.specs.Sizes.{size_of_line, weight_of_line}
 use Rattle.clru_report.proofs.SizedSamples.{counted_more}
-use Rattle.clru_report.proofs.sized.kept.count_and_take.Goals as goal
+use Rattle.clru_report.proofs.sized.pass.count_and_take.Goals as goal
 
 pub returns-in-Ok-clause-taken : goal.returns-in-Ok-clause-taken
 returns-in-Ok-clause-taken g c lines of =
