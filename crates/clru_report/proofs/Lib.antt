@@ -1,6 +1,7 @@
 mod CapacityLemmas
 mod Falls
 mod FaultLemmas
+mod Forms
 mod KneeLemmas
 mod LeastLemmas
 mod ReportLemmas

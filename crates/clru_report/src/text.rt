@@ -30,14 +30,14 @@ pub(crate) fn text_by_keys<A: Allocator + Copy>(
 ) -> Result<String<A>, AllocError>
     ensures { IfOk result (λ text. IsTextByKeys options.now.form least counts rows.now (string_bytes text)) }
 {
-    if let Form::Summary = options.form {
-        return summary_of(alloc, counts.requests, counts.distinct, counts.bytes);
+    let requests = counts.requests;
+    match options.form {
+        Form::Table => table_of(alloc, rows, requests, least),
+        Form::Picture => {
+            let table = table_of(alloc, rows, requests, least)?;
+            let curve = curve.as_slice();
+            picture_by_keys(alloc, curve, counts.one_in, requests, options, rows, &table)
+        }
+        Form::Summary => summary_of(alloc, requests, counts.distinct, counts.bytes),
     }
-    let table = table_of(alloc, rows, counts.requests, least)?;
-    if let Form::Table = options.form {
-        return Ok(table);
-    }
-    let (one_in, requests) = (counts.one_in, counts.requests);
-    let curve = curve.as_slice();
-    picture_by_keys(alloc, curve, one_in, requests, options, rows, &table)
 }

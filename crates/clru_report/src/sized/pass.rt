@@ -83,13 +83,10 @@ fn count_and_take<S: BuildHasher, A: Allocator + Copy>(
         → fault_from number size (line_of key.now ∷ rest) ≡ Some fault) }
 {
     let more = count_line(&key.0, number, size)?;
-    if is_kept(&key.0, one_in) {
-        let weight = more - size - 1;
-        let Ok(()) = take_line(alloc, pass, key, weight) else {
-            return Err(Fault::Memory);
-        };
+    match take_kept(alloc, one_in, pass, key, more - size - 1) {
+        Ok(()) => Ok(more),
+        Err(_) => Err(Fault::Memory),
     }
-    Ok(more)
 }
 
 // Returns the size of all lines with one more, of this number.
@@ -112,7 +109,26 @@ fn count_line(line: &[u8], number: usize, size: usize) -> Result<usize, Fault>
     }
 }
 
-// Takes one more line, which has a size. It is copied where it is new. The sizes of the kept lines are too large only where those
+// Takes one more line of this weight if the sample keeps it.
+fn take_kept<S: BuildHasher, A: Allocator + Copy>(
+    alloc: A,
+    one_in: NonZeroUsize,
+    pass: &mut SizedPass<OwnedKey<A>, S, A>,
+    key: &OwnedKey<A>,
+    weight: usize,
+) -> Result<(), AllocError>
+    requires sized { IsSome (size_of_line (line_of key.now)) }
+    requires weight { weight ≡ weight_of_line (line_of key.now) }
+    ensures { (lines : List (List ℕ)) → HasTaken (kept_of (non_zero_usize_get one_in) lines) pass.old
+        → OnOk result (HasTaken (kept_of (non_zero_usize_get one_in) (lines ++ line_of key.now ∷ [])) pass.new) }
+{
+    if !is_kept(&key.0, one_in) {
+        return Ok(());
+    }
+    take_line(alloc, pass, key, weight)
+}
+
+// Takes one more line of this weight. It is copied where it is new. The sizes of the kept lines are too large only where those
 // of all are, and then the line was refused before.
 fn take_line<S: BuildHasher, A: Allocator + Copy>(
     alloc: A,

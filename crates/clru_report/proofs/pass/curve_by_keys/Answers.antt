@@ -5,17 +5,20 @@ use Rattle.std.specs.Prelude.{bytes_eq, reverse}
 use Rattle.clru_curve.specs.Curves.{HasMissesOf}
 use Rattle.clru_model.specs.Requests.{distinct}
 use Rattle.clru_report.proofs.TakenLines.{distinct_taken, foreseen_for, misses_taken, taken_for}
+use Rattle.clru_report.specs.Passes.{HasTakenFor, IsForeseenFor}
 use Rattle.clru_report.specs.Samples.{kept_of}
 use Rattle.clru_report.proofs.pass.curve_by_keys.Goals as goal
+use Rattle.clru_report.proofs.pass.curve_by_keys.Goals.{else-least, then-least}
 
 pub lines-init : goal.lines-init
-lines-init g c = (
-  [],
-  record { past = []; shown = refl; taken = c.with_hasher-pass.ensures },
-  c.new-buffer.ensures (g.R.Read.remaining c.args.reader.now),
-  refl,
-  omega arith,
-)
+lines-init g c =
+    let pass = c.with_hasher-pass.result in
+    let taken : HasTakenFor c.args.least [] pass c.if-least.foresight = elim c.if-least.branch [
+      | then-least w ↦ subst (HasTakenFor c.args.least [] pass) (sym w.foresight-is)
+          (w.if-least.true, record { past = []; shown = refl; taken = c.with_hasher-pass.ensures; foreseen = w.new.ensures })
+      | else-least w ↦ subst (HasTakenFor c.args.least [] pass) (sym w.foresight-is)
+          (w.if-least.false, record { past = []; shown = refl; taken = c.with_hasher-pass.ensures })
+    ] in ([], taken, c.new-buffer.ensures (g.R.Read.remaining c.args.reader.now), refl, omega arith)
 
 pub overflow_add-requests : goal.overflow_add-requests
 overflow_add-requests g c =
@@ -52,6 +55,6 @@ returns g c =
             (distinct_taken (kept before.0) c.lines.pass taken curve (λ past is. c.into_curve.ensures.distinct past is));
         counted = before.3 ∙ ap length lines;
         in_bytes = c.bytes_read.ensures ∙ read.3.1;
-      }, subst (λ ls. IsForeseenFor g.A.Type c.args.least (kept ls) c.lines.foresight) lines
+      }, subst (λ ls. IsForeseenFor g.row.A.Denot c.args.least (kept ls) c.lines.foresight) lines
           (foreseen_for c.args.least (kept before.0) c.lines.pass c.lines.foresight before.1)),
     )
