@@ -58,14 +58,8 @@ has_rows Summary = false
 abbrev pub wants_least : {A : Type 0} → Options A → Bool
 wants_least options = has_rows options.form && options.least
 
--- the curve by size of the lines of an input, each of which has a size, with the number of its bytes
-pub record IsSizedCurveOfInput (input : List ℕ) (curve : CurveBySize) (bytes : ℕ) : Type 0 where
-  pub sizes : HaveSizes (lines_of input)
-  pub of_lines : IsSizedCurveOf bytes_eq weight_of_line (lines_of input) curve
-  pub no_fault : fault_from 1 0 (lines_of input) ≡ None
-  pub in_bytes : bytes ≡ length input
-
--- the same of those lines that a sample keeps, with the number and the size of all lines, each of which has a size
+-- the curve by size of the lines of an input that a sample keeps, with the number, the size and the bytes of all lines, each of
+-- which has a size
 pub record IsSizedCurveOfKept (n : ℕ) (input : List ℕ) (curve : CurveBySize) (requests size bytes : ℕ) : Type 0 where
   pub sizes : HaveSizes (lines_of input)
   pub of_kept : IsSizedCurveOf bytes_eq weight_of_line (kept_of n (lines_of input)) curve

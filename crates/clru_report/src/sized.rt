@@ -3,7 +3,7 @@ ghost use Rattle.std.specs.Prelude.{◌≡◌, ℕ, List, true, false, IfOk, IfE
 ghost use Rattle.clru_lines.specs.Lines.{lines_of};
 ghost use Rattle.clru_report.specs.Faults.{is_of_writing};
 ghost use Rattle.clru_lines.specs.Whole.{ReadWhole};
-ghost use Rattle.clru_report.specs.Passes.{capacities_on, IsOfCapacities, IsSettled, IsSizedCurveOfInput, IsTableOf};
+ghost use Rattle.clru_report.specs.Passes.{capacities_on, IsOfCapacities, IsSettled, IsSizedCurveOfKept, IsTableOf};
 ghost use Rattle.clru_report.specs.Refusals.{is_of_input, IsRefusedBy, IsRefusedFor};
 ghost use Rattle.clru_report.specs.SizedReport.{IsReportBySize, IsReportBySizeOf};
 ghost use Rattle.clru_report.specs.Tables.{HasTable};
@@ -137,9 +137,9 @@ fn text_by_size<A: Allocator + Copy>(
     bytes: usize,
 ) -> Result<String<A>, Fault>
     requires { IsSettled curve.now }
-    ensures report { (input : List ℕ) → IsSizedCurveOfInput input curve.now bytes
+    ensures report { (input : List ℕ) (requests size : ℕ) → IsSizedCurveOfKept 1 input curve.now requests size bytes
         → IfOk result (λ text. IsReportBySize options.now input (lines_of input) (string_bytes text)) }
-    ensures refused { (input : List ℕ) → IsSizedCurveOfInput input curve.now bytes
+    ensures refused { (input : List ℕ) (requests size : ℕ) → IsSizedCurveOfKept 1 input curve.now requests size bytes
         → IfErr result (λ fault. is_of_input fault ≡ true → IsRefusedFor fault options.now (lines_of input)) }
     ensures fault { IfErr result (λ fault. is_of_writing fault ≡ false) }
 {
