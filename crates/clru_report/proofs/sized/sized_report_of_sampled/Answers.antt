@@ -14,8 +14,10 @@ returns-in-Ok-clause-report g c =
       read.0,
       read.1,
       read.2,
-      of.sizes,
-      of.no_fault,
-      subst (λ s. IsInFormBySizeOfSample options n c.args.requests s lines options.form read.0 (string_bytes c.in-Ok.text))
-          (c.times.ensures ∙ ap (times n (2 ^ 64 - 1)) of.summed) (c.in-Ok.ensures read.0 lines whole of.in_bytes),
+      (
+        of.sizes,
+        of.no_fault,
+        subst (λ s. IsInFormBySizeOfSample options n c.args.requests s lines options.form read.0 (string_bytes c.in-Ok.text))
+            (c.times.ensures ∙ ap (times n (2 ^ 64 - 1)) of.summed) (c.in-Ok.ensures read.0 lines whole of.in_bytes),
+      ),
     )
