@@ -72,8 +72,13 @@ fn report_of_all<R: Read, S: BuildHasher + Drop, A: Allocator + Copy>(
 {
     let one_in = NonZeroUsize::MIN;
     let least = asks_for_least(options);
-    let (curve, foresight, requests, bytes) =
-        curve_by_keys(alloc, one_in, least, reader, hash_builder)?;
+    let (curve, foresight, requests, bytes) = curve_by_keys(
+        alloc,
+        one_in,
+        least,
+        reader,
+        hash_builder,
+    )?;
     let Ok(rows) = rows_of_all(alloc, options, &curve, &foresight) else {
         return Err(ReadError::Memory);
     };

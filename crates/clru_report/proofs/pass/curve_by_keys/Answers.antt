@@ -48,13 +48,16 @@ returns g c =
       read.0,
       read.1,
       read.2,
-      (record {
-        misses = subst (λ ls. HasMissesOf bytes_eq (kept ls) curve) lines
-            (misses_taken (kept before.0) c.lines.pass taken curve (λ past is. c.into_curve.ensures.misses past is));
-        distinct_keys = subst (λ ls. length curve ≡ distinct bytes_eq (reverse (kept ls))) lines
-            (distinct_taken (kept before.0) c.lines.pass taken curve (λ past is. c.into_curve.ensures.distinct past is));
-        counted = before.3 ∙ ap length lines;
-        in_bytes = c.bytes_read.ensures ∙ read.3.1;
-      }, subst (λ ls. IsForeseenFor g.row.A.Denot c.args.least (kept ls) c.lines.foresight) lines
-          (foreseen_for c.args.least (kept before.0) c.lines.pass c.lines.foresight before.1)),
+      (
+        record {
+          misses = subst (λ ls. HasMissesOf bytes_eq (kept ls) curve) lines
+              (misses_taken (kept before.0) c.lines.pass taken curve (λ past is. c.into_curve.ensures.misses past is));
+          distinct_keys = subst (λ ls. length curve ≡ distinct bytes_eq (reverse (kept ls))) lines
+              (distinct_taken (kept before.0) c.lines.pass taken curve (λ past is. c.into_curve.ensures.distinct past is));
+          counted = before.3 ∙ ap length lines;
+          in_bytes = c.bytes_read.ensures ∙ read.3.1;
+        },
+        subst (λ ls. IsForeseenFor g.row.A.Denot c.args.least (kept ls) c.lines.foresight) lines
+            (foreseen_for c.args.least (kept before.0) c.lines.pass c.lines.foresight before.1),
+      ),
     )
