@@ -4,7 +4,7 @@ ghost use Rattle.std.specs.Io.KnownBytes.{Appends, Keeps};
 ghost use Rattle.clru_lines.specs.Whole.{ReadWhole};
 ghost use Rattle.clru_replay.specs.Report.{report};
 
-use crate::report::report_on;
+use crate::report::make_report;
 use clru_lines::{Fault, ReadError, read_input, write_text};
 use std::alloc::Allocator;
 use std::io::{Read, Write};
@@ -38,7 +38,7 @@ pub fn run<R: Read, W: Write, A: Allocator + Copy>(
         Err(ReadError::Memory) => return Err(Fault::Memory),
         Err(ReadError::Reading) => return Err(Fault::Reading),
     };
-    let text = report_on(alloc, &input)?;
+    let text = make_report(alloc, &input)?;
     match write_text(writer, &text) {
         Ok(()) => Ok(()),
         Err(_) => Err(Fault::Writing),

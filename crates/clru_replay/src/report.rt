@@ -7,7 +7,7 @@ use clru_lines::{Fault, capacity_of, keys_of, next_line};
 use std::alloc::{AllocError, Allocator};
 
 /// The report of an input. The first line is tested before any memory is asked for.
-pub(crate) fn report_on<A: Allocator + Copy>(alloc: A, input: &[u8]) -> Result<Vec<u8, A>, Fault>
+pub(crate) fn make_report<A: Allocator + Copy>(alloc: A, input: &[u8]) -> Result<Vec<u8, A>, Fault>
     ensures report { IfOk result (λ text. report input.now ≡ Some text.items) }
     ensures bad_capacity { result ≡ Err Fault.BadCapacity → report input.now ≡ None }
     ensures memory { result ≡ Err Fault.Memory → IsSome (report input.now) }

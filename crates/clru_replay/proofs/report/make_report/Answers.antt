@@ -1,6 +1,6 @@
 use Rattle.std.proofs.Common.{◌∙◌}
 use Rattle.clru_replay.proofs.ReportLemmas.{report-text}
-use Rattle.clru_replay.proofs.report.report_on.Goals as goal
+use Rattle.clru_replay.proofs.report.make_report.Goals as goal
 
 pub returns-in-Ok-report_text-clause-report : goal.returns-in-Ok-report_text-clause-report
 returns-in-Ok-report_text-clause-report g c =
