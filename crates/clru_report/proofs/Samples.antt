@@ -1,5 +1,5 @@
 -- Which lines a sample keeps.
-use Rattle.std.proofs.Common.{◌≡◌, ℕ, ◌%◌, true, false, cond, List, [], ◌∷◌, ◌++◌, append-nil, refl, ap, ◌∙◌}
+use Rattle.std.proofs.Common.{◌≡◌, ℕ, true, false, cond, List, [], ◌∷◌, ◌++◌, append-nil, refl, ap, ◌∙◌}
 use Rattle.std.specs.Prelude.{◌==◌}
 use Rattle.std.proofs.Math.Nat.{mod-one}
 use Rattle.std.proofs.lemmas.List.Elements.{filter-append}

@@ -11,7 +11,7 @@ use crate::options::{Form, Options, Sample};
 use crate::pass::curve_by_keys;
 use crate::rows::rows_of_all;
 use crate::sample::text_of_sample;
-use crate::sized::sized_report_on;
+use crate::sized::make_sized_report;
 use crate::text::{Counts, text_by_keys};
 use clru_lines::{Fault, ReadError};
 use std::alloc::Allocator;
@@ -20,7 +20,7 @@ use std::io::Read;
 use std::num::NonZeroUsize;
 
 /// The report of all that a reader gives.
-pub(crate) fn report_on<R: Read, S: BuildHasher + Copy, A: Allocator + Copy>(
+pub(crate) fn make_report<R: Read, S: BuildHasher + Copy, A: Allocator + Copy>(
     alloc: A,
     options: &Options<A>,
     reader: &mut R,
@@ -33,7 +33,7 @@ pub(crate) fn report_on<R: Read, S: BuildHasher + Copy, A: Allocator + Copy>(
     ensures fault { IfErr result (λ fault. is_of_writing fault ≡ false) }
 {
     if options.sizes {
-        return sized_report_on(alloc, options, reader, hash_builder);
+        return make_sized_report(alloc, options, reader, hash_builder);
     }
     match report_by_keys(alloc, options, reader, hash_builder) {
         Ok(text) => Ok(text),

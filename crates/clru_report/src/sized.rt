@@ -35,7 +35,7 @@ pub(crate) use table::distinct_of;
 use table::{sized_summary_of, sized_table_of};
 
 /// The report of all that a reader gives, by the sizes that its lines begin with.
-pub(crate) fn sized_report_on<R: Read, S: BuildHasher + Drop, A: Allocator + Copy>(
+pub(crate) fn make_sized_report<R: Read, S: BuildHasher + Drop, A: Allocator + Copy>(
     alloc: A,
     options: &Options<A>,
     reader: &mut R,

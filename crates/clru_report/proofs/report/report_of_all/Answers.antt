@@ -1,4 +1,4 @@
-use Rattle.std.proofs.Common.{◌≡◌, ◌∙◌, ap, string_bytes, sym, subst, length}
+use Rattle.std.proofs.Common.{◌≡◌, ◌∙◌, string_bytes, sym, subst, length}
 use Rattle.std.specs.Prelude.{bytes_eq, reverse}
 use Rattle.clru_curve.specs.Curves.{HasMissesOf}
 use Rattle.clru_lines.specs.Lines.{lines_of}

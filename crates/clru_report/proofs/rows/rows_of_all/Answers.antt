@@ -1,4 +1,4 @@
-use Rattle.std.proofs.Common.{◌≡◌, true, false, Some, map, sym, ap, subst}
+use Rattle.std.proofs.Common.{false, Some, sym, subst}
 use Rattle.std.specs.Prelude.{bytes_eq}
 use Rattle.clru_report.specs.Passes.{IsForeseenFor, capacities_asked}
 use Rattle.clru_report.specs.Report.{AreRows}

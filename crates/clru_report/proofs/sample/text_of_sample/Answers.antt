@@ -1,4 +1,4 @@
-use Rattle.std.proofs.Common.{◌-◌, ◌^◌, false, ap, ◌∙◌, string_bytes, sym, subst}
+use Rattle.std.proofs.Common.{◌-◌, ◌^◌, ap, ◌∙◌, string_bytes, sym, subst}
 use Rattle.std.specs.Int.NonZero.{non_zero_usize_get}
 use Rattle.clru_report.specs.Report.{AreRowsOfSample}
 use Rattle.clru_report.specs.Samples.{times}
