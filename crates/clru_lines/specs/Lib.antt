@@ -1,4 +1,5 @@
 pub mod Errors
+pub mod Faults
 pub mod Lines
 pub mod Newlines
 pub mod Told

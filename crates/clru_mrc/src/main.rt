@@ -18,18 +18,18 @@ use written::Written;
 fn main(rt: HostRuntime) -> ExitCode {
     // A terminal is told how far the input is read, and so is who asks.
     let mut progress = rt.stderr().is_terminal();
-    match asked(&rt, &mut progress) {
-        Ok(command) => ExitCode::from(done(&rt, &command, progress)),
+    match parse_args(&rt, &mut progress) {
+        Ok(command) => ExitCode::from(run_command(&rt, &command, progress)),
         Err(Refusal::Wrong(line)) => {
             say(&rt, &line);
             ExitCode::from(2)
         }
-        Err(Refusal::Memory) => ExitCode::from(told(&rt, &Err(Fault::Memory), "")),
+        Err(Refusal::Memory) => ExitCode::from(report_outcome(&rt, &Err(Fault::Memory), "")),
     }
 }
 
 // What the arguments ask for. `--progress` asks nothing of the report.
-fn asked(rt: &HostRuntime, progress: &mut bool) -> Result<Command, Refusal> {
+fn parse_args(rt: &HostRuntime, progress: &mut bool) -> Result<Command, Refusal> {
     match env::args(rt) {
         Ok(words) => {
             let mut rest = Vec::new(rt.alloc());
@@ -60,23 +60,23 @@ fn no_text(rt: &HostRuntime) -> Refusal {
 }
 
 // Does it, and gives the exit status.
-fn done(rt: &HostRuntime, command: &Command, progress: bool) -> u8 {
+fn run_command(rt: &HostRuntime, command: &Command, progress: bool) -> u8 {
     let outcome = match command {
         Command::Help => write_report(&mut rt.stdout(), HELP.as_bytes()),
         Command::Version => write_report(&mut rt.stdout(), VERSION.as_bytes()),
         Command::Report(options) => match RandomState::new(rt) {
-            Ok(seed) => return reported(rt, options, progress, seed),
+            Ok(seed) => return run_report(rt, options, progress, seed),
             Err(_) => {
                 say(rt, "the system gives no random bytes, so there is no seed");
                 return 4;
             }
         },
     };
-    told(rt, &outcome, "")
+    report_outcome(rt, &outcome, "")
 }
 
 // Writes the report, tells what of its input looks wrong, and gives the exit status.
-fn reported(rt: &HostRuntime, options: &Options, progress: bool, seed: RandomState) -> u8 {
+fn run_report(rt: &HostRuntime, options: &Options, progress: bool, seed: RandomState) -> u8 {
     let mut input = Watch::new(rt, rt.stdin(), progress, options.sizes);
     let mut output = Written::new(rt, rt.stdout());
     let outcome = run(rt.alloc(), options, &mut input, &mut output, seed);
@@ -89,13 +89,13 @@ fn reported(rt: &HostRuntime, options: &Options, progress: bool, seed: RandomSta
         Err(_) => None,
     };
     match line {
-        Some(line) => told(rt, &outcome, &line),
-        None => told(rt, &outcome, ""),
+        Some(line) => report_outcome(rt, &outcome, &line),
+        None => report_outcome(rt, &outcome, ""),
     }
 }
 
 // Tells of a fault, but for a pipe that was closed, and gives the exit status.
-fn told(rt: &HostRuntime, outcome: &Result<(), Fault>, more: &str) -> u8 {
+fn report_outcome(rt: &HostRuntime, outcome: &Result<(), Fault>, more: &str) -> u8 {
     match outcome {
         Err(fault) if *fault != Fault::Closed => {
             let fault = *fault;

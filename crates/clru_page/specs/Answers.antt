@@ -2,7 +2,7 @@
 use Rattle.std.specs.Prelude.{◌≡◌, ◌⊎◌, ℕ, List}
 use Rattle.clru_report.specs.Report.{IsReport}
 use Rattle.clru_report.specs.Refusals.{IsRefused}
-use Rattle.clru_report.specs.declared.fault.Fault.{Fault}
+use Rattle.clru_lines.specs.declared.fault.Fault.{Fault}
 use Rattle.clru_report.specs.declared.options.Options.{Options}
 use Rattle.clru_report.specs.declared.help.TheConstants.{HELP, VERSION}
 

@@ -22,11 +22,11 @@ pub(crate) fn answer<S: BuildHasher + Copy, A: Allocator + Copy>(
     ensures within { written.new ≤ length text.new }
     ensures length { length text.new ≡ length text.old }
 {
-    match asked(alloc, arguments) {
+    match parse_args(alloc, arguments) {
         Ok(Command::Help) => put_whole(HELP.as_bytes(), text, written),
         Ok(Command::Version) => put_whole(VERSION.as_bytes(), text, written),
         Ok(Command::Report(options)) => {
-            reported(alloc, &options, log, hash_builder, text, written)
+            run_report(alloc, &options, log, hash_builder, text, written)
         }
         Err(Refusal::Wrong(line)) => {
             say(line.as_bytes(), text, written);
@@ -36,7 +36,7 @@ pub(crate) fn answer<S: BuildHasher + Copy, A: Allocator + Copy>(
     }
 }
 
-fn reported<S: BuildHasher + Copy, A: Allocator + Copy>(
+fn run_report<S: BuildHasher + Copy, A: Allocator + Copy>(
     alloc: A,
     options: &Options<A>,
     log: &[u8],
@@ -58,7 +58,7 @@ fn reported<S: BuildHasher + Copy, A: Allocator + Copy>(
 }
 
 // What the arguments ask for. `--progress` asks nothing of the report.
-fn asked<A: Allocator + Copy>(alloc: A, arguments: &[u8]) -> Result<Command<A>, Refusal<A>> {
+fn parse_args<A: Allocator + Copy>(alloc: A, arguments: &[u8]) -> Result<Command<A>, Refusal<A>> {
     let lines = match std::str::from_utf8(arguments) {
         Ok(lines) => lines,
         Err(_) => return Err(no_text(alloc)),

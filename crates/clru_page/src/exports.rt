@@ -4,8 +4,8 @@ ghost use Rattle.std.specs.Borrow.{Bor};
 ghost use Rattle.clru_page.specs.Answers.{HasNoReport, IsNote, IsReportOf};
 
 use crate::answer::answer;
-use crate::seed::seeded;
 use crate::text::tell;
+use clru_lines::Seed;
 use clru_report::Fault;
 use lent_block::{LentBlock, Loan};
 
@@ -41,7 +41,8 @@ pub extern "C" fn report(
     ensures length { length text.new ≡ length text.old }
 {
     let heap = LentBlock::new(loan);
-    match seeded(low, high) {
+    let seed = Seed { low, high };
+    match seed.hash_builder() {
         Ok(state) => answer(&heap, arguments, log, state, text, written),
         Err(_) => tell(Fault::Reading, text, written),
     }

@@ -3,7 +3,6 @@
 
 mod answer;
 mod exports;
-mod seed;
 #[cfg(test)]
 mod tests;
 mod text;

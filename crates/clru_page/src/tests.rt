@@ -1,7 +1,7 @@
 // What a call answers, beside what `clru_mrc` writes for the same words and log; and where block or text are too small.
 use crate::exports::report;
-use crate::seed::seeded;
 use crate::text::tell;
+use clru_lines::Seed;
 use clru_report::Fault;
 use lent_block::Loan;
 use std::fmt::Debug;
@@ -115,7 +115,8 @@ fn a_call_answers_as_the_program(rt: HostRuntime) {
 #[test]
 fn both_words_are_the_key(rt: HostRuntime) {
     // as `clru_c` has it
-    match seeded(1, 2) {
+    let seed = Seed { low: 1, high: 2 };
+    match seed.hash_builder() {
         Ok(state) => equal(&rt, state.hash_one(&7u64), 0x27af_68d8_34d1_f21d),
         Err(_) => equal(&rt, true, false),
     }

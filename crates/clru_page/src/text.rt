@@ -1,6 +1,6 @@
 //! The text that is handed back.
 ghost use Rattle.std.specs.Prelude.{◌≡◌, ◌⊎◌, ◌+◌, ◌<◌, ◌≤◌, length, take};
-ghost use Rattle.clru_report.specs.Faults.{status_of};
+ghost use Rattle.clru_lines.specs.Faults.{status_of};
 
 use clru_report::{Fault, exit_status};
 use std::io::Write;

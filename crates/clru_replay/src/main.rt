@@ -1,11 +1,10 @@
 //! Replays a list of requests through a cache of the given capacity, and reports which of them hit.
 #![tactic(auto)]
 
-mod fault;
 mod program;
 mod report;
 
-use fault::exit_status;
+use clru_lines::exit_status;
 use program::run;
 use std::process::ExitCode;
 

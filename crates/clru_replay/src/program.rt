@@ -1,12 +1,11 @@
 //! From the reader to the writer.
-ghost use Rattle.std.specs.Prelude.{◌≡◌, ◌≢◌, ℕ, Err, None, take, IfErr, IsSomeAnd, OnOk};
+ghost use Rattle.std.specs.Prelude.{◌≡◌, ◌≢◌, ◌⊎◌, ℕ, Err, None, take, IfErr, IsSomeAnd, OnOk};
 ghost use Rattle.std.specs.Io.KnownBytes.{Appends, Keeps};
 ghost use Rattle.clru_lines.specs.Whole.{ReadWhole};
 ghost use Rattle.clru_replay.specs.Report.{report};
 
-use crate::fault::Fault;
-use crate::report::report_on;
-use clru_lines::{ReadError, read_input, write_text};
+use crate::report::make_report;
+use clru_lines::{Fault, ReadError, read_input, write_text};
 use std::alloc::Allocator;
 use std::io::{Read, Write};
 
@@ -30,13 +29,16 @@ pub fn run<R: Read, W: Write, A: Allocator + Copy>(
     // Any other fault comes before the first write.
     ensures silent { IfErr result (λ fault. fault ≢ Fault.Writing
         → Keeps (W.contents writer.old) (W.contents writer.new)) }
+    // There is no further fault.
+    ensures faults { IfErr result (λ fault. (fault ≡ Fault.BadCapacity) ⊎ (fault ≡ Fault.Memory)
+        ⊎ (fault ≡ Fault.Reading) ⊎ (fault ≡ Fault.Writing)) }
 {
     let input = match read_input(alloc, reader) {
         Ok(input) => input,
         Err(ReadError::Memory) => return Err(Fault::Memory),
         Err(ReadError::Reading) => return Err(Fault::Reading),
     };
-    let text = report_on(alloc, &input)?;
+    let text = make_report(alloc, &input)?;
     match write_text(writer, &text) {
         Ok(()) => Ok(()),
         Err(_) => Err(Fault::Writing),

@@ -2,13 +2,12 @@
 ghost use Rattle.std.specs.Prelude.{◌≡◌, ◌⊎◌, ◌+◌, Err, Some, None, IfOk, IfErr, IsSome, string_bytes};
 ghost use Rattle.clru_replay.specs.Report.{misses_line, report, text_of};
 
-use crate::fault::Fault;
 use clru::{DefaultState, replay};
-use clru_lines::{capacity_of, keys_of, next_line};
+use clru_lines::{Fault, capacity_of, keys_of, next_line};
 use std::alloc::{AllocError, Allocator};
 
 /// The report of an input. The first line is tested before any memory is asked for.
-pub(crate) fn report_on<A: Allocator + Copy>(alloc: A, input: &[u8]) -> Result<Vec<u8, A>, Fault>
+pub(crate) fn make_report<A: Allocator + Copy>(alloc: A, input: &[u8]) -> Result<Vec<u8, A>, Fault>
     ensures report { IfOk result (λ text. report input.now ≡ Some text.items) }
     ensures bad_capacity { result ≡ Err Fault.BadCapacity → report input.now ≡ None }
     ensures memory { result ≡ Err Fault.Memory → IsSome (report input.now) }

@@ -5,8 +5,8 @@ mod faults;
 mod large;
 mod memory;
 
-use crate::fault::{Fault, exit_status, status};
 use crate::program::run;
+use clru_lines::{Fault, exit_status};
 use std::alloc::{AllocError, Global};
 use std::fmt::Debug;
 use std::process::Abort;
@@ -97,12 +97,7 @@ fn each_fault_has_its_status(rt: HostRuntime) {
         (Fault::Writing, 5),
     ];
     for (fault, number) in rows {
-        equal(
-            &rt,
-            (status(&fault), exit_status(&Err(fault))),
-            (number, number),
-            number,
-        );
+        equal(&rt, exit_status(&Err(fault)), number, number);
     }
     equal(&rt, exit_status(&Ok(())), 0, "no fault");
 }

@@ -10,8 +10,8 @@ use Rattle.std.proofs.lemmas.List.Folds.{list_any_at, list_any_none}
 use Rattle.clru_report.specs.Capacities.{sized_capacities_of}
 use Rattle.clru_report.specs.Refusals.{NamesBelow, fault_beside, fault_from, fault_of, names_below}
 use Rattle.clru_report.specs.Sizes.{greatest_size, size_of_line, weight_of_line}
-use Rattle.clru_report.specs.declared.fault.Fault.{Fault}
-use Rattle.clru_report.specs.declared.fault.Fault.TheVariants.{NoSize, TooLarge, TooSmall}
+use Rattle.clru_lines.specs.declared.fault.Fault.{Fault}
+use Rattle.clru_lines.specs.declared.fault.Fault.TheVariants.{NoSize, TooLarge, TooSmall}
 use Rattle.clru_report.specs.declared.options.Capacities.{Capacities}
 use Rattle.clru_report.specs.declared.options.Capacities.TheVariants.{Usual, Each, Named}
 use Rattle.clru_report.specs.declared.options.Form.{Form}

@@ -1,10 +1,12 @@
 mod CapacityLemmas
 mod Falls
 mod FaultLemmas
+mod Forms
 mod KneeLemmas
 mod LeastLemmas
 mod ReportLemmas
 mod RowLemmas
+mod Samples
 mod SettledCurves
 mod SizeViews
 mod SizedKnees

@@ -16,8 +16,8 @@ use Rattle.clru_report.specs.Refusals.{IsRefusedFor, IsSaidOf, fault_beside, fau
 use Rattle.clru_report.specs.SizedReport.{IsSizedRow, IsSizedTable, distinct_size, summary_by_size}
 use Rattle.clru_report.specs.SizedTables.{capacity_of_sized_row, sized_summary_text, sized_table_text}
 use Rattle.clru_report.specs.Sizes.{HaveSizes, greatest_size, size_of_lines, weight_of_line}
-use Rattle.clru_report.specs.declared.fault.Fault.{Fault}
-use Rattle.clru_report.specs.declared.fault.Fault.TheVariants.{Memory, Reading, Writing, Closed, NoSize, TooLarge, TooSmall}
+use Rattle.clru_lines.specs.declared.fault.Fault.{Fault}
+use Rattle.clru_lines.specs.declared.fault.Fault.TheVariants.{BadCapacity, Memory, Reading, Writing, Closed, NoSize, TooLarge, TooSmall}
 use Rattle.clru_report.specs.declared.options.Capacities.{Capacities}
 use Rattle.clru_report.specs.declared.options.Options.{Options}
 use Rattle.clru_report.specs.declared.sized.rows.SizedRow.{SizedRow}
@@ -98,6 +98,7 @@ module _ (lines : List (List ℕ)) (curve : CurveBySize) (is : IsSizedCurveOf by
   -- why capacities have no rows
   capacities_said : {A : Type 0} (options : Options A) (fault : Fault) → HaveSizes lines
       → IsOfCapacities curve fault (capacities_on curve options.capacities) → is_of_input fault ≡ true → IsSaidOf fault options lines
+  capacities_said options BadCapacity sizes why of = why
   capacities_said options Memory sizes why of = cc of
   capacities_said options Reading sizes why of = why
   capacities_said options Writing sizes why of = why
@@ -113,6 +114,7 @@ module _ (lines : List (List ℕ)) (curve : CurveBySize) (is : IsSizedCurveOf by
   small_told : {A : Type 0} (options : Options A) (fault : Fault) → IsOfCapacities curve fault (capacities_on curve options.capacities)
       → is_of_input fault ≡ true
       → cond (names_below options.capacities (greatest_size lines)) (Some (TooSmall (greatest_size lines))) None ≡ Some fault
+  small_told options BadCapacity why of = absurd why
   small_told options Memory why of = cc of
   small_told options Reading why of = absurd why
   small_told options Writing why of = absurd why
@@ -137,6 +139,7 @@ module _ (lines : List (List ℕ)) (curve : CurveBySize) (is : IsSizedCurveOf by
 
 pub capacities_unwritten : (curve : CurveBySize) (capacities : List ℕ) (fault : Fault) → IsOfCapacities curve fault capacities
     → is_of_writing fault ≡ false
+capacities_unwritten curve capacities BadCapacity why = refl
 capacities_unwritten curve capacities Memory why = refl
 capacities_unwritten curve capacities Reading why = refl
 capacities_unwritten curve capacities Writing why = absurd why

@@ -1,33 +1,31 @@
 -- Of lines of which some are kept, and of the curve of the kept ones: one more line, and the report.
-use Rattle.std.proofs.Common.{◌≡◌, ℕ, ◌+◌, ◌-◌, ◌^◌, true, false, cond, nat_le, List, [], ◌∷◌, ◌++◌, IsSome, append-nil, min, length, reverse, ap, ◌∙◌, arith}
+use Rattle.std.proofs.Common.{◌≡◌, ℕ, ◌+◌, ◌-◌, ◌^◌, nat_le, List, [], ◌∷◌, ◌++◌, IsSome, min, length, reverse, ap, ◌∙◌, subst, arith}
 use Rattle.std.specs.Prelude.{bytes_eq}
 use Rattle.std.specs.List.{filter}
-use Rattle.std.proofs.lemmas.List.Elements.{All-push, All-weaker, filter-append}
+use Rattle.std.proofs.lemmas.List.Elements.{All-push, All-weaker}
 use Rattle.std.proofs.lemmas.List.Sums.{sum_by-append, sum_by-cons}
 use Rattle.clru_curve.specs.SizedCurves.{CurveBySize, IsSizedCurveOf}
 use Rattle.clru_curve.specs.SizedPasses.{PassBySize}
 use Rattle.clru_lines.specs.declared.lines.OwnedKey.{OwnedKey}
+use Rattle.clru_lines.specs.Lines.{lines_of}
 use Rattle.clru_model.specs.Requests.{distinct}
-use Rattle.clru_report.specs.Passes.{AreRowsOf, HasTaken, HasTakenOf, IsRowOf, capacities_on, distinct_in}
-use Rattle.clru_report.specs.Samples.{is_kept, kept_of, times}
+use Rattle.clru_report.specs.Passes.{AreRowsOf, HasTaken, HasTakenOf, IsRowOf, IsSizedCurveOfKept, capacities_on, distinct_in}
+use Rattle.clru_report.specs.Samples.{kept_of, times}
 use Rattle.clru_report.specs.SizedReport.{AreSizedRows, IsSizedRow, distinct_size, sized_capacities_of_sample, summary_by_size_of_sample}
 use Rattle.clru_report.specs.SizedTables.{sized_summary_text}
 use Rattle.clru_report.specs.Sizes.{greatest_size, size_of_line, size_of_lines, weight_of_line}
 use Rattle.clru_report.specs.declared.options.Options.{Options}
 use Rattle.clru_report.specs.declared.sized.rows.SizedRow.{SizedRow}
+use Rattle.clru_report.proofs.Samples.{all_kept}
 use Rattle.clru_report.proofs.SizedReports.{capacities_are, distinct_are, greatest_is, row_is}
 
--- one more line is kept, or is not
-module _ (n : ℕ) (lines : List (List ℕ)) (line : List ℕ) where
-  pub kept_one : is_kept n line ≡ true → kept_of n (lines ++ line ∷ []) ≡ kept_of n lines ++ line ∷ []
-  kept_one is = filter-append (is_kept n) lines (line ∷ []) ∙ ap (λ b. kept_of n lines ++ cond b (line ∷ []) []) is
+-- a sample of one in one is the curve of all lines
+pub of_all : (input : List ℕ) (curve : CurveBySize) (requests size bytes : ℕ) → IsSizedCurveOfKept 1 input curve requests size bytes
+    → IsSizedCurveOf bytes_eq weight_of_line (lines_of input) curve
+of_all input curve requests size bytes of =
+    subst (λ ls. IsSizedCurveOf bytes_eq weight_of_line ls curve) (all_kept (lines_of input)) of.of_kept
 
-  pub kept_none : is_kept n line ≡ false → kept_of n (lines ++ line ∷ []) ≡ kept_of n lines
-  kept_none is =
-      filter-append (is_kept n) lines (line ∷ []) ∙ ap (λ b. kept_of n lines ++ cond b (line ∷ []) []) is
-      ∙ append-nil (kept_of n lines)
-
--- its size is added to that of those before it
+-- the size of one more line is added to that of those before it
 pub size_more : (lines rest : List (List ℕ)) (line : List ℕ)
     → size_of_lines (lines ++ line ∷ rest) ≡ size_of_lines lines + (1 + weight_of_line line) + size_of_lines rest
 size_more lines rest line = omega (

@@ -1,5 +1,5 @@
 -- What a pass knows that has taken lines: one more line, and the curve.
-use Rattle.std.proofs.Common.{◌≡◌, ℕ, ◌+◌, ◌≤◌, ◌^◌, List, [], ◌∷◌, ◌++◌, IsNone, IsSome, IfSome, Option, not, map, length, reverse, take, Some, refl, sym, ap, ◌∙◌, subst, arith}
+use Rattle.std.proofs.Common.{◌≡◌, Bool, ℕ, ◌+◌, ◌≤◌, ◌^◌, List, None, [], ◌∷◌, ◌++◌, IsNone, IsSome, IfSome, Option, not, map, length, reverse, take, Some, refl, sym, ap, ◌∙◌, subst, arith}
 use Rattle.std.specs.Prelude.{bytes_eq, IsSomeAnd}
 use Rattle.std.specs.List.{list_any, slice_get, take_while}
 use Rattle.std.proofs.lemmas.Grind.{reverse_onto}
@@ -17,7 +17,7 @@ use Rattle.clru_least.specs.Passes.{IsForesight, IsLatestOf}
 use Rattle.clru_model.proofs.Views.{distinct-map, map-reverse, misses-map}
 use Rattle.clru_model.specs.Requests.{distinct}
 use Rattle.std.proofs.lemmas.List.{reverse-reverse}
-use Rattle.clru_report.specs.Passes.{HasTaken, HasTakenKey, HasTakenLines, HaveTakenLines, line_of, same_line, weight_of_key}
+use Rattle.clru_report.specs.Passes.{HasTaken, HasTakenFor, HasTakenKey, HasTakenLines, HaveTakenLines, IsForeseenFor, line_of, same_line, weight_of_key}
 use Rattle.clru_report.specs.Refusals.{IsFirstWithout}
 use Rattle.clru_report.specs.Sizes.{HaveSizes, size_of_line, size_of_lines, weight_of_line}
 
@@ -55,6 +55,16 @@ lines_taken lines pass later all x latest next after of step one = record {
   taken = one.taken;
   foreseen = step all.past one.key all.foreseen (latest_alike all.past x one.key latest (sym one.is) of);
 }
+
+-- with a foresight or without one, the pass took the lines, and so did the foresight
+module _ {A : Type 0} (least : Bool) (lines : List (List ℕ)) (pass : Pass (OwnedKey A)) where
+  pub taken_for : (later : Option (List ℕ)) → HasTakenFor least lines pass later → HasTakenLines lines pass
+  taken_for None t = t.1
+  taken_for (Some later) t = record { past = t.1.past; shown = t.1.shown; taken = t.1.taken }
+
+  pub foreseen_for : (later : Option (List ℕ)) → HasTakenFor least lines pass later → IsForeseenFor A least lines later
+  foreseen_for None t = t.0
+  foreseen_for (Some later) t = (t.0, record { past = t.1.past; shown = t.1.shown; taken = t.1.foreseen })
 
 module _ {A : Type 0} (lines : List (List ℕ)) (pass : Pass (OwnedKey A)) (taken : HasTakenLines lines pass) where
   pub line_taken : (line : List ℕ) (next : Pass (OwnedKey A)) → HasTakenKey taken.past line next → HasTakenLines (lines ++ line ∷ []) next

@@ -1,5 +1,5 @@
 -- What a pass over lines has taken, and what it answers. No public clause cites it.
-use Rattle.std.specs.Prelude.{◌≡◌, Bool, true, false, ◌&&◌, None, ℕ, ◌+◌, ◌<◌, ◌≤◌, ◌^◌, List, ◌∷◌, length, map, reverse, bytes_eq, ◌==◌, if◌then◌else◌, ⊤}
+use Rattle.std.specs.Prelude.{◌≡◌, Bool, true, false, ◌&&◌, Option, None, Some, ℕ, ◌+◌, ◌<◌, ◌≤◌, ◌^◌, List, ◌∷◌, length, map, reverse, bytes_eq, ◌==◌, if◌then◌else◌, ⊤}
 use Rattle.std.specs.List.{All, Contains}
 use Rattle.clru_curve.specs.SizedCurves.{CurveBySize, IsSizedCurveOf, misses_within, missed_size_within}
 use Rattle.clru_curve.specs.SizedPasses.{PassBySize, IsSizedPass}
@@ -13,13 +13,16 @@ use Rattle.clru_report.specs.Capacities.{capacities_of, sized_capacities_of}
 use Rattle.clru_report.specs.Refusals.{IsFirstWithout, fault_from}
 use Rattle.clru_report.specs.Samples.{kept_of}
 use Rattle.clru_report.specs.Sizes.{HaveSizes, size_of_lines, weight_of_line}
+use Rattle.clru_report.specs.Tables.{HasTable, summary_text, table_text}
 use Rattle.clru_report.specs.SizedTables.{capacity_of_sized_row, sized_table_text}
-use Rattle.clru_report.specs.declared.fault.Fault.{Fault}
-use Rattle.clru_report.specs.declared.fault.Fault.TheVariants.{Memory, Reading, Writing, Closed, NoSize, TooLarge, TooSmall}
+use Rattle.clru_lines.specs.declared.fault.Fault.{Fault}
+use Rattle.clru_lines.specs.declared.fault.Fault.TheVariants.{BadCapacity, Memory, Reading, Writing, Closed, NoSize, TooLarge, TooSmall}
 use Rattle.clru_report.specs.declared.options.Capacities.{Capacities}
 use Rattle.clru_report.specs.declared.options.Form.{Form}
 use Rattle.clru_report.specs.declared.options.Form.TheVariants.{Table, Picture, Summary}
 use Rattle.clru_report.specs.declared.options.Options.{Options}
+use Rattle.clru_report.specs.declared.rows.Row.{Row}
+use Rattle.clru_report.specs.declared.text.Counts.{Counts}
 use Rattle.clru_report.specs.declared.sized.rows.SizedRow.{SizedRow}
 
 -- the bytes of the line that a key is
@@ -32,13 +35,6 @@ same_line x y = bytes_eq (line_of x) (line_of y)
 
 abbrev pub weight_of_key : {A : Type 0} → OwnedKey A → ℕ
 weight_of_key x = weight_of_line (line_of x)
-
--- the curve of the lines of an input, with their number and that of its bytes
-pub record IsCurveOfInput (input : List ℕ) (curve : List ℕ) (requests bytes : ℕ) : Type 0 where
-  pub misses : HasMissesOf bytes_eq (lines_of input) curve
-  pub distinct_keys : length curve ≡ distinct bytes_eq (reverse (lines_of input))
-  pub counted : requests ≡ length (lines_of input)
-  pub in_bytes : bytes ≡ length input
 
 -- the curve of the lines of an input that a sample keeps, with the number of all lines and that of the bytes
 pub record IsCurveOfKept (n : ℕ) (input : List ℕ) (curve : List ℕ) (requests bytes : ℕ) : Type 0 where
@@ -62,14 +58,8 @@ has_rows Summary = false
 abbrev pub wants_least : {A : Type 0} → Options A → Bool
 wants_least options = has_rows options.form && options.least
 
--- the curve by size of the lines of an input, each of which has a size, with the number of its bytes
-pub record IsSizedCurveOfInput (input : List ℕ) (curve : CurveBySize) (bytes : ℕ) : Type 0 where
-  pub sizes : HaveSizes (lines_of input)
-  pub of_lines : IsSizedCurveOf bytes_eq weight_of_line (lines_of input) curve
-  pub no_fault : fault_from 1 0 (lines_of input) ≡ None
-  pub in_bytes : bytes ≡ length input
-
--- the same of those lines that a sample keeps, with the number and the size of all lines, each of which has a size
+-- the curve by size of the lines of an input that a sample keeps, with the number, the size and the bytes of all lines, each of
+-- which has a size
 pub record IsSizedCurveOfKept (n : ℕ) (input : List ℕ) (curve : CurveBySize) (requests size bytes : ℕ) : Type 0 where
   pub sizes : HaveSizes (lines_of input)
   pub of_kept : IsSizedCurveOf bytes_eq weight_of_line (kept_of n (lines_of input)) curve
@@ -103,6 +93,21 @@ pub record HaveTakenLines {A : Type 0} (lines : List (List ℕ)) (pass : Pass (O
   pub taken : IsPass same_line past pass
   pub foreseen : IsForesight same_line past later
 
+-- the same where the foresight is there if it was asked for
+abbrev pub HasTakenFor : {A : Type 0} → Bool → List (List ℕ) → Pass (OwnedKey A) → Option (List ℕ) → Type 0
+HasTakenFor least lines pass None = (least ≡ false) × HasTakenLines lines pass
+HasTakenFor least lines pass (Some later) = (least ≡ true) × HaveTakenLines lines pass later
+
+abbrev pub IsForeseenFor : Type 0 → Bool → List (List ℕ) → Option (List ℕ) → Type 0
+IsForeseenFor A least lines None = least ≡ false
+IsForeseenFor A least lines (Some later) = (least ≡ true) × HasForeseen A lines later
+
+-- the text in the form, with these rows and numbers
+abbrev pub IsTextByKeys : Form → Bool → Counts → List Row → List ℕ → Type 0
+IsTextByKeys Table least counts rows text = text ≡ table_text least counts.requests rows
+IsTextByKeys Picture least counts rows text = HasTable (table_text least counts.requests rows) text
+IsTextByKeys Summary least counts rows text = text ≡ summary_text counts.requests counts.distinct counts.bytes
+
 -- the pass took these lines, each of which has a size
 pub record HasTaken {A : Type 0} (lines : List (List ℕ)) (pass : PassBySize (OwnedKey A)) : Type 0 where
   pub past : List (OwnedKey A)
@@ -118,6 +123,7 @@ pub record HasTakenOf {A : Type 0} (n : ℕ) (lines : List (List ℕ)) (size : �
 
 -- why lines have no curve
 abbrev pub IsOfLines : Fault → List (List ℕ) → Type 0
+IsOfLines BadCapacity lines = ⊥
 IsOfLines Memory lines = ⊤
 IsOfLines Reading lines = ⊥
 IsOfLines Writing lines = ⊥
@@ -159,6 +165,7 @@ module _ (curve : CurveBySize) where
 
   -- why capacities have no rows
   abbrev pub IsOfCapacities : Fault → List ℕ → Type 0
+  IsOfCapacities BadCapacity capacities = ⊥
   IsOfCapacities Memory capacities = ⊤
   IsOfCapacities Reading capacities = ⊥
   IsOfCapacities Writing capacities = ⊥

@@ -5,8 +5,8 @@ use Rattle.std.specs.List.{Contains, list_any, slice_get}
 use Rattle.std.specs.Option.{is_none, option_or}
 use Rattle.clru_lines.specs.Lines.{lines_of}
 use Rattle.clru_report.specs.Sizes.{HaveSizes, greatest_size, size_of_line, size_of_lines, weight_of_line}
-use Rattle.clru_report.specs.declared.fault.Fault.{Fault}
-use Rattle.clru_report.specs.declared.fault.Fault.TheVariants.{Memory, Reading, Writing, Closed, NoSize, TooLarge, TooSmall}
+use Rattle.clru_lines.specs.declared.fault.Fault.{Fault}
+use Rattle.clru_lines.specs.declared.fault.Fault.TheVariants.{BadCapacity, Memory, Reading, Writing, Closed, NoSize, TooLarge, TooSmall}
 use Rattle.clru_report.specs.declared.options.Capacities.{Capacities}
 use Rattle.clru_report.specs.declared.options.Capacities.TheVariants.{Usual, Each, Named}
 use Rattle.clru_report.specs.declared.options.Form.{Form}
@@ -17,6 +17,7 @@ use Rattle.clru_report.specs.declared.options.Sample.TheVariants.{Whole, OneIn, 
 
 -- the fault is one of the input, or of a capacity beside it
 abbrev pub is_of_input : Fault → Bool
+is_of_input BadCapacity = true
 is_of_input Memory = false
 is_of_input Reading = false
 is_of_input Writing = false
@@ -70,6 +71,7 @@ fault_by (Taken n all) options lines = fault_from 1 0 lines
 
 -- what a fault says of the lines
 abbrev pub IsSaidOf : {A : Type 0} → Fault → Options A → List (List ℕ) → Type 0
+IsSaidOf BadCapacity options lines = ⊥
 IsSaidOf Memory options lines = ⊥
 IsSaidOf Reading options lines = ⊥
 IsSaidOf Writing options lines = ⊥

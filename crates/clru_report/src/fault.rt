@@ -1,59 +1,13 @@
-//! What can go wrong in a run, and the exit status of each.
-ghost use Rattle.std.specs.Prelude.{◌≡◌, false, IfErr, IsOk, Some};
-ghost use Rattle.clru_report.specs.Faults.{fault_text, is_of_writing, status_of};
+//! From the errors of a reader and a writer to faults.
+ghost use Rattle.std.specs.Prelude.{◌≡◌, true, false};
+ghost use Rattle.clru_report.specs.Faults.{is_of_writing};
 ghost use Rattle.clru_report.specs.Refusals.{is_of_input};
 
-use clru_lines::ReadError;
-use std::error::Error;
-use std::fmt;
+use clru_lines::{Fault, ReadError};
+use std::io::{Error, ErrorKind};
 
-/// Why a run ends without its whole report.
-#[derive(Clone, Copy, Debug, PartialEq, Eq)]
-pub enum Fault {
-    /// A request for memory was refused.
-    Memory,
-    /// A read answered an error.
-    Reading,
-    /// A write answered an error or took nothing, or the flush failed.
-    Writing,
-    /// The writer is a pipe that nobody reads any more.
-    Closed,
-    /// The line of this number, counted from 1, begins with no size.
-    NoSize(usize),
-    /// The sizes of all lines together pass the greatest `usize`.
-    TooLarge,
-    /// A capacity that was named is below this one, which is the greatest size.
-    TooSmall(usize),
-}
-
-impl fmt::Display for Fault {
-    ghost output = { λ fault. Some (fault_text fault) };
-
-    fn fmt<W: fmt::Write>(&self, f: &mut fmt::Formatter<W>) -> fmt::Result {
-        match self {
-            Fault::Memory => f.write_str("memory ran out"),
-            Fault::Reading => f.write_str("standard input cannot be read"),
-            Fault::Writing => f.write_str("standard output cannot be written"),
-            Fault::Closed => f.write_str("standard output was closed"),
-            Fault::NoSize(number) => write!(
-                f,
-                "line {number} has no size: with --sizes each begins with one and a blank, as in 512 /index.html"
-            ),
-            Fault::TooLarge => {
-                f.write_str("the sizes of all lines add up to more than 18446744073709551615")
-            }
-            Fault::TooSmall(first) => write!(
-                f,
-                "--at names a capacity below the greatest size: name numbers from {first} on"
-            ),
-        }
-    }
-}
-
-impl Error for Fault {}
-
-/// Why an input was not read.
-pub(crate) fn fault_of(error: ReadError) -> Fault
+/// Returns why an input was not read.
+pub(crate) fn read_fault(error: ReadError) -> Fault
     ensures not_of_input { is_of_input result ≡ false }
     ensures not_of_writing { is_of_writing result ≡ false }
 {
@@ -63,17 +17,13 @@ pub(crate) fn fault_of(error: ReadError) -> Fault
     }
 }
 
-/// The exit status of a run.
-pub fn exit_status(outcome: &Result<(), Fault>) -> u8
-    ensures success { IsOk outcome.now → result ≡ 0 }
-    ensures fault { IfErr outcome.now (λ f. result ≡ status_of f) }
+/// Returns why a report was not written. A pipe that was closed early is told from the other faults, since it is no news to who
+/// closed it.
+pub(crate) fn write_fault(error: &Error) -> Fault
+    ensures { is_of_writing result ≡ true }
 {
-    match outcome {
-        Ok(()) => 0,
-        Err(Fault::Memory) => 3,
-        Err(Fault::Reading) => 4,
-        Err(Fault::Writing | Fault::Closed) => 5,
-        Err(Fault::NoSize(_) | Fault::TooLarge) => 6,
-        Err(Fault::TooSmall(_)) => 2,
+    match error.kind() {
+        ErrorKind::BrokenPipe => Fault::Closed,
+        _ => Fault::Writing,
     }
 }

@@ -23,10 +23,11 @@ mod rows;
 mod sample;
 mod sized;
 mod table;
+mod text;
 
 pub use arguments::{Command, Refusal, command_of};
+pub use clru_lines::{Fault, exit_status};
 pub use clru_model::DefaultState;
-pub use fault::{Fault, exit_status};
 pub use help::{HELP, VERSION};
 pub use options::{Capacities, Form, Look, Options, Sample};
 pub use output::write_report;

@@ -3,9 +3,9 @@ ghost use Rattle.std.specs.Prelude.{◌≡◌, ℕ, true, take, IfErr, OnOk};
 ghost use Rattle.std.specs.Io.KnownBytes.{Appends};
 ghost use Rattle.clru_report.specs.Faults.{is_of_writing};
 
-use crate::fault::Fault;
-use clru_lines::write_text;
-use std::io::{Error, ErrorKind, Write};
+use crate::fault::write_fault;
+use clru_lines::{Fault, write_text};
+use std::io::Write;
 
 /// Writes the text whole, as `write_text` of `clru_lines` does, or says why not. A pipe that its reader closed has a fault of its
 /// own.
@@ -17,16 +17,6 @@ pub fn write_report<W: Write>(writer: &mut W, text: &[u8]) -> Result<(), Fault>
 {
     match write_text(writer, text) {
         Ok(()) => Ok(()),
-        Err(error) => Err(fault_of(&error)),
-    }
-}
-
-// A pipe that was closed early is told from the other faults, since it is no news to who closed it.
-fn fault_of(error: &Error) -> Fault
-    ensures { is_of_writing result ≡ true }
-{
-    match error.kind() {
-        ErrorKind::BrokenPipe => Fault::Closed,
-        _ => Fault::Writing,
+        Err(error) => Err(write_fault(&error)),
     }
 }

@@ -6,10 +6,10 @@ ghost use Rattle.clru_report.specs.Faults.{is_of_writing};
 ghost use Rattle.clru_report.specs.Refusals.{is_of_input, IsRefused};
 ghost use Rattle.clru_report.specs.Report.{IsReport};
 
-use crate::fault::Fault;
 use crate::options::Options;
 use crate::output::write_report;
-use crate::report::report_on;
+use crate::report::make_report;
+use clru_lines::Fault;
 use std::alloc::Allocator;
 use std::hash::BuildHasher;
 use std::io::{Read, Write};
@@ -39,7 +39,7 @@ pub fn run<R: Read, W: Write, S: BuildHasher + Copy, A: Allocator + Copy>(
     ensures silent { IfErr result (λ fault. is_of_writing fault ≡ false
         → Keeps (W.contents writer.old) (W.contents writer.new)) }
 {
-    let text = match report_on(alloc, options, reader, hash_builder) {
+    let text = match make_report(alloc, options, reader, hash_builder) {
         Ok(text) => text,
         Err(fault) => return Err(fault),
     };

@@ -1,10 +1,10 @@
 //! The rows of a table, before they are text.
-ghost use Rattle.std.specs.Prelude.{◌≡◌, ◌<◌, ℕ, List, None, true, false, length, map, reverse, IfOk};
+ghost use Rattle.std.specs.Prelude.{◌≡◌, ◌<◌, ℕ, List, Bool, None, true, false, length, map, reverse, IfOk};
 ghost use Rattle.std.specs.Int.NonZero.{non_zero_usize_get};
 ghost use Rattle.std.specs.Str.{bytes_eq};
 ghost use Rattle.clru_curve.specs.Curves.{HasMissesOf, misses_at};
 ghost use Rattle.clru_model.specs.Requests.{distinct};
-ghost use Rattle.clru_report.specs.Passes.{capacities_asked, HasForeseen};
+ghost use Rattle.clru_report.specs.Passes.{capacities_asked, HasForeseen, IsForeseenFor};
 ghost use Rattle.clru_report.specs.Report.{AreRows};
 ghost use Rattle.clru_report.specs.Tables.{capacity_of_row};
 
@@ -71,8 +71,26 @@ fn row_at<A: Allocator>(curve: &MissCurve<A>, capacity: NonZeroUsize) -> Row
     }
 }
 
-/// The rows with the least possible misses.
-pub(crate) fn rows_with_least<A: Allocator + Copy>(
+/// The rows that the options ask for, of all requests; the foresight tells the least possible misses.
+pub(crate) fn rows_of_all<A: Allocator + Copy>(
+    alloc: A,
+    options: &Options<A>,
+    curve: &MissCurve<A>,
+    foresight: &Option<ForesightPass<OwnedKey<A>, A>>,
+) -> Result<Vec<Row, A>, AllocError>
+    ensures { (lines : List (List ℕ)) (least : Bool) → HasMissesOf bytes_eq lines curve.now
+        → length curve.now ≡ distinct bytes_eq (reverse lines) → IsForeseenFor A least lines foresight.now
+        → IfOk result (λ rows. AreRows bytes_eq lines least (capacities_asked options.now lines) rows.items) }
+{
+    let rows = rows_for(alloc, options, curve)?;
+    match foresight {
+        None => Ok(rows),
+        Some(foresight) => rows_with_least(alloc, foresight, &rows),
+    }
+}
+
+// The rows with the least possible misses.
+fn rows_with_least<A: Allocator + Copy>(
     alloc: A,
     foresight: &ForesightPass<OwnedKey<A>, A>,
     rows: &[Row],

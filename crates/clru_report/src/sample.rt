@@ -7,10 +7,9 @@ ghost use Rattle.clru_model.specs.Requests.{distinct};
 ghost use Rattle.clru_report.specs.Report.{AreRowsOfSample, IsInFormOfSample};
 ghost use Rattle.clru_report.specs.Samples.{fnv, is_kept as is_kept_by, numbers_of, numbers_times, times as times_of};
 
-use crate::options::{Form, Options};
-use crate::picture::picture_by_keys;
+use crate::options::Options;
 use crate::rows::{Row, rows_for};
-use crate::table::{summary_of, table_of};
+use crate::text::{Counts, text_by_keys};
 use clru_curve::MissCurve;
 use std::alloc::{AllocError, Allocator};
 use std::num::NonZeroUsize;
@@ -20,11 +19,11 @@ const BASIS: u64 = 14695981039346656037;
 
 const PRIME: u64 = 1099511628211;
 
-/// Whether all requests of a key are kept, where one key in so many is.
+/// Whether all requests of a key are kept, where one key in so many is. One in one keeps each key and needs no hash.
 pub(crate) fn is_kept(line: &[u8], one_in: NonZeroUsize) -> bool
     ensures { result ≡ is_kept_by (non_zero_usize_get one_in) line.now }
 {
-    fnv_of(line) % one_in.get() as u64 == 0
+    one_in.get() == 1 || fnv_of(line) % one_in.get() as u64 == 0
 }
 
 // The hash FNV-1a: no seed, so that a log has the same sample each time.
@@ -52,22 +51,14 @@ pub(crate) fn text_of_sample<A: Allocator + Copy>(
         → IfOk result (λ text. IsInFormOfSample options.now.form options.now (non_zero_usize_get one_in) requests kept
         input (string_bytes text)) }
 {
-    match options.form {
-        Form::Table => {
-            let rows = rows_of_sample(alloc, options, curve, one_in, requests)?;
-            table_of(alloc, &rows, requests, false)
-        }
-        Form::Picture => {
-            let rows = rows_of_sample(alloc, options, curve, one_in, requests)?;
-            let table = table_of(alloc, &rows, requests, false)?;
-            let curve = curve.as_slice();
-            picture_by_keys(alloc, curve, one_in, requests, options, &rows, &table)
-        }
-        Form::Summary => {
-            let distinct = times(one_in, usize::MAX, curve.distinct());
-            summary_of(alloc, requests, distinct, bytes)
-        }
-    }
+    let rows = rows_of_sample(alloc, options, curve, one_in, requests)?;
+    let counts = Counts {
+        one_in,
+        requests,
+        distinct: times(one_in, usize::MAX, curve.distinct()),
+        bytes,
+    };
+    text_by_keys(alloc, options, curve, &rows, false, counts)
 }
 
 // The rows that the options ask for, each as one of all requests.

@@ -3,13 +3,12 @@ ghost use Rattle.std.specs.Prelude.{◌≡◌, ℕ, List, true, false, IfOk, IfE
 ghost use Rattle.clru_lines.specs.Lines.{lines_of};
 ghost use Rattle.clru_report.specs.Faults.{is_of_writing};
 ghost use Rattle.clru_lines.specs.Whole.{ReadWhole};
-ghost use Rattle.clru_report.specs.Passes.{capacities_on, IsOfCapacities, IsSettled, IsSizedCurveOfInput, IsTableOf};
+ghost use Rattle.clru_report.specs.Passes.{capacities_on, IsOfCapacities, IsSettled, IsSizedCurveOfKept, IsTableOf};
 ghost use Rattle.clru_report.specs.Refusals.{is_of_input, IsRefusedBy, IsRefusedFor};
 ghost use Rattle.clru_report.specs.SizedReport.{IsReportBySize, IsReportBySizeOf};
 ghost use Rattle.clru_report.specs.Tables.{HasTable};
 
 mod capacities;
-mod kept;
 mod knees;
 mod line;
 mod pass;
@@ -17,15 +16,14 @@ mod rows;
 mod sample;
 mod table;
 
-use crate::fault::Fault;
 use crate::options::{Capacities, Form, Look, Options, Sample};
 use crate::picture::picture_by_size;
 use crate::sample::times;
 pub(crate) use capacities::first_capacity;
 use clru_curve::SizedCurve;
-use kept::curve_of_kept;
+use clru_lines::Fault;
 pub use line::size_of;
-use pass::curve_of;
+use pass::curve_by_size;
 use rows::sized_rows_for;
 pub(crate) use sample::Totals;
 use sample::text_of_sized_sample;
@@ -37,7 +35,7 @@ pub(crate) use table::distinct_of;
 use table::{sized_summary_of, sized_table_of};
 
 /// The report of all that a reader gives, by the sizes that its lines begin with.
-pub(crate) fn sized_report_on<R: Read, S: BuildHasher + Drop, A: Allocator + Copy>(
+pub(crate) fn make_sized_report<R: Read, S: BuildHasher + Drop, A: Allocator + Copy>(
     alloc: A,
     options: &Options<A>,
     reader: &mut R,
@@ -52,10 +50,10 @@ pub(crate) fn sized_report_on<R: Read, S: BuildHasher + Drop, A: Allocator + Cop
     match options.sample {
         Sample::Whole => sized_report_of_all(alloc, options, reader, hash_builder),
         Sample::OneIn(one_in) => {
-            sized_report_of_kept(alloc, options, one_in, reader, hash_builder)
+            sized_report_of_sample(alloc, options, one_in, reader, hash_builder)
         }
         Sample::Taken(one_in, requests) => {
-            sized_report_of_taken(alloc, options, one_in, requests, reader, hash_builder)
+            sized_report_of_sampled(alloc, options, one_in, requests, reader, hash_builder)
         }
     }
 }
@@ -73,12 +71,12 @@ fn sized_report_of_all<R: Read, S: BuildHasher + Drop, A: Allocator + Copy>(
         (λ input. IsRefusedFor fault options.now (lines_of input))) }
     ensures fault { IfErr result (λ fault. is_of_writing fault ≡ false) }
 {
-    let (curve, bytes) = curve_of(alloc, reader, hash_builder)?;
+    let (curve, _, _, bytes) = curve_by_size(alloc, NonZeroUsize::MIN, reader, hash_builder)?;
     text_by_size(alloc, options, &curve, bytes)
 }
 
 // Where the lines of one key in so many are taken, and all are counted.
-fn sized_report_of_kept<R: Read, S: BuildHasher + Drop, A: Allocator + Copy>(
+fn sized_report_of_sample<R: Read, S: BuildHasher + Drop, A: Allocator + Copy>(
     alloc: A,
     options: &Options<A>,
     one_in: NonZeroUsize,
@@ -91,7 +89,7 @@ fn sized_report_of_kept<R: Read, S: BuildHasher + Drop, A: Allocator + Copy>(
         (λ input. IsRefusedBy (Sample.OneIn one_in) fault options.now (lines_of input))) }
     ensures fault { IfErr result (λ fault. is_of_writing fault ≡ false) }
 {
-    let (curve, requests, size, bytes) = curve_of_kept(alloc, one_in, reader, hash_builder)?;
+    let (curve, requests, size, bytes) = curve_by_size(alloc, one_in, reader, hash_builder)?;
     let totals = Totals {
         one_in,
         requests,
@@ -104,7 +102,7 @@ fn sized_report_of_kept<R: Read, S: BuildHasher + Drop, A: Allocator + Copy>(
 }
 
 // Where all lines are of one key in so many, and there were so many requests; their size is as many times that of the lines.
-fn sized_report_of_taken<R: Read, S: BuildHasher + Drop, A: Allocator + Copy>(
+fn sized_report_of_sampled<R: Read, S: BuildHasher + Drop, A: Allocator + Copy>(
     alloc: A,
     options: &Options<A>,
     one_in: NonZeroUsize,
@@ -118,11 +116,12 @@ fn sized_report_of_taken<R: Read, S: BuildHasher + Drop, A: Allocator + Copy>(
         (λ input. IsRefusedBy (Sample.Taken one_in requests) fault options.now (lines_of input))) }
     ensures fault { IfErr result (λ fault. is_of_writing fault ≡ false) }
 {
-    let (curve, bytes) = curve_of(alloc, reader, hash_builder)?;
+    let all = NonZeroUsize::MIN;
+    let (curve, _, size, bytes) = curve_by_size(alloc, all, reader, hash_builder)?;
     let totals = Totals {
         one_in,
         requests,
-        size: times(one_in, usize::MAX, curve.size()),
+        size: times(one_in, usize::MAX, size),
     };
     match text_of_sized_sample(alloc, options, &curve, totals, bytes) {
         Ok(text) => Ok(text),
@@ -138,9 +137,9 @@ fn text_by_size<A: Allocator + Copy>(
     bytes: usize,
 ) -> Result<String<A>, Fault>
     requires { IsSettled curve.now }
-    ensures report { (input : List ℕ) → IsSizedCurveOfInput input curve.now bytes
+    ensures report { (input : List ℕ) (requests size : ℕ) → IsSizedCurveOfKept 1 input curve.now requests size bytes
         → IfOk result (λ text. IsReportBySize options.now input (lines_of input) (string_bytes text)) }
-    ensures refused { (input : List ℕ) → IsSizedCurveOfInput input curve.now bytes
+    ensures refused { (input : List ℕ) (requests size : ℕ) → IsSizedCurveOfKept 1 input curve.now requests size bytes
         → IfErr result (λ fault. is_of_input fault ≡ true → IsRefusedFor fault options.now (lines_of input)) }
     ensures fault { IfErr result (λ fault. is_of_writing fault ≡ false) }
 {

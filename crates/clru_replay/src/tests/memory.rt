@@ -1,7 +1,7 @@
 // What the program answers where requests for memory are refused.
 use super::{FOUR, FOUR_MISSES, equal};
-use crate::fault::Fault;
 use crate::program::run;
+use clru_lines::Fault;
 use ration::Rationed;
 use std::alloc::Global;
 

@@ -1,30 +1,37 @@
-//! One pass over the lines of a reader, each an object with its size.
-ghost use Rattle.std.specs.Prelude.{◌≡◌, ℕ, ◌+◌, true, false, List, [], ◌∷◌, ◌++◌, length, Some, IfErr, IfOk, OnOk};
+//! The one reading of a log whose lines are objects with their sizes.
+ghost use Rattle.std.specs.Prelude.{◌≡◌, ℕ, ◌+◌, true, false, List, [], ◌∷◌, ◌++◌, length, Some, IsSome, IfErr, IfOk, OnOk};
+ghost use Rattle.std.specs.Int.NonZero.{non_zero_usize_get};
 ghost use Rattle.clru_lines.specs.Lines.{lines_of};
 ghost use Rattle.clru_lines.specs.Whole.{ReadWhole};
 ghost use Rattle.clru_report.specs.Faults.{is_of_writing};
-ghost use Rattle.clru_report.specs.Passes.{HasTaken, IsOfLines, IsSettled, IsSizedCurveOfInput, line_of};
+ghost use Rattle.clru_report.specs.Passes.{HasTaken, HasTakenOf, IsOfLines, IsSettled, IsSizedCurveOfKept, line_of};
 ghost use Rattle.clru_report.specs.Refusals.{fault_from, is_of_input};
+ghost use Rattle.clru_report.specs.Samples.{kept_of};
+ghost use Rattle.clru_report.specs.Sizes.{HaveSizes, size_of_line, size_of_lines, weight_of_line};
 
 use super::line::size_of;
-use crate::fault::{Fault, fault_of};
-use clru_curve::{SizedCurve, SizedPass, SizedRequestError};
-use clru_lines::{LineBuffer, OwnedKey};
-use std::alloc::Allocator;
+use crate::fault::read_fault;
+use crate::sample::is_kept;
+use clru_curve::{SizedCurve, SizedPass};
+use clru_lines::{Fault, LineBuffer, OwnedKey};
+use std::alloc::{AllocError, Allocator};
 use std::hash::BuildHasher;
 use std::io::Read;
+use std::num::NonZeroUsize;
 
-/// The curve of the lines of a reader, and how many bytes it gave.
+/// Returns the curve of the lines that a sample keeps, how many lines there are in all, their size, and how many bytes. A sample
+/// of one key in one keeps all lines.
 ///
-/// No more than the distinct lines is held of them. The fault of a line is told once all is read, since it is one of the whole
-/// input; want of memory is told at once.
-pub(crate) fn curve_of<R: Read, S: BuildHasher + Drop, A: Allocator + Copy>(
+/// No more than the distinct lines is held of them. Each line is to have a size, kept or not. The fault of a line is told once all
+/// is read, since it is one of the whole input; want of memory is told at once.
+pub(super) fn curve_by_size<R: Read, S: BuildHasher + Drop, A: Allocator + Copy>(
     alloc: A,
+    one_in: NonZeroUsize,
     reader: &mut R,
     hash_builder: S,
-) -> Result<(SizedCurve<A>, usize), Fault>
+) -> Result<(SizedCurve<A>, usize, usize, usize), Fault>
     ensures curve { IfOk result (λ found. ReadWhole (R.remaining reader.old) (R.remaining reader.new)
-        (λ input. IsSizedCurveOfInput input found.0 found.1)) }
+        (λ input. IsSizedCurveOfKept (non_zero_usize_get one_in) input found.0 found.1 found.2 found.3)) }
     ensures settled { IfOk result (λ found. IsSettled found.0) }
     ensures refused { IfErr result (λ fault. is_of_input fault ≡ true → ReadWhole (R.remaining reader.old) (R.remaining reader.new)
         (λ input. IsOfLines fault (lines_of input) × (fault_from 1 0 (lines_of input) ≡ Some fault))) }
@@ -33,63 +40,116 @@ pub(crate) fn curve_of<R: Read, S: BuildHasher + Drop, A: Allocator + Copy>(
     let mut pass = SizedPass::with_hasher(alloc, hash_builder);
     let mut buffer = LineBuffer::new(alloc);
     let mut key = OwnedKey(Vec::new(alloc));
-    let mut number = 0;
+    let mut requests = 0;
+    let mut size = 0;
     let mut refused = None;
     'lines: loop {
         match buffer.read_line(reader, &mut key.0) {
             Ok(true) => {}
             Ok(false) => break,
-            Err(error) => return Err(fault_of(error)),
+            Err(error) => return Err(read_fault(error)),
         }
-        number += 1;
+        requests += 1;
         if refused.is_none() {
-            match take_line(alloc, &mut pass, &key, number) {
-                Ok(()) => {}
+            match count_and_take(alloc, one_in, &mut pass, &key, requests, size) {
+                Ok(more) => size = more,
                 Err(Fault::Memory) => return Err(Fault::Memory),
                 Err(fault) => refused = Some(fault),
             }
         }
     }
     match refused {
-        None => Ok((pass.into_curve(), buffer.bytes_read())),
+        None => Ok((pass.into_curve(), requests, size, buffer.bytes_read())),
         Some(fault) => Err(fault),
     }
 }
 
-/// Takes one more line, of this number. It is copied where it is new.
-pub(super) fn take_line<S: BuildHasher, A: Allocator + Copy>(
+// Returns the size of all lines with one more, of this number, which is taken if the sample keeps it.
+fn count_and_take<S: BuildHasher, A: Allocator + Copy>(
     alloc: A,
+    one_in: NonZeroUsize,
     pass: &mut SizedPass<OwnedKey<A>, S, A>,
     key: &OwnedKey<A>,
     number: usize,
-) -> Result<(), Fault>
-    ensures taken { (lines : List (List ℕ)) → HasTaken lines pass.old
-        → OnOk result (HasTaken (lines ++ line_of key.now ∷ []) pass.new) }
-    ensures refused { (lines rest : List (List ℕ)) → HasTaken lines pass.old → number ≡ length lines + 1
-        → IfErr result (λ fault. IsOfLines fault (lines ++ line_of key.now ∷ rest)) }
-    ensures next { (rest : List (List ℕ)) → OnOk result
-        (fault_from number pass.old.size (line_of key.now ∷ rest) ≡ fault_from (number + 1) pass.new.size rest) }
+    size: usize,
+) -> Result<usize, Fault>
+    ensures taken { (lines : List (List ℕ)) → HasTakenOf (non_zero_usize_get one_in) lines size pass.old → IfOk result (λ more.
+        HasTakenOf (non_zero_usize_get one_in) (lines ++ line_of key.now ∷ []) more pass.new) }
+    ensures refused { (lines rest : List (List ℕ)) → HasTakenOf (non_zero_usize_get one_in) lines size pass.old
+        → number ≡ length lines + 1 → IfErr result (λ fault. IsOfLines fault (lines ++ line_of key.now ∷ rest)) }
+    ensures next { (rest : List (List ℕ)) → IfOk result (λ more.
+        fault_from number size (line_of key.now ∷ rest) ≡ fault_from (number + 1) more rest) }
     ensures fault { (rest : List (List ℕ)) → IfErr result (λ fault. is_of_input fault ≡ true
-        → fault_from number pass.old.size (line_of key.now ∷ rest) ≡ Some fault) }
+        → fault_from number size (line_of key.now ∷ rest) ≡ Some fault) }
 {
-    let size = match size_of(&key.0) {
-        Some(size) => size,
+    let more = count_line(&key.0, number, size)?;
+    match take_kept(alloc, one_in, pass, key, more - size - 1) {
+        Ok(()) => Ok(more),
+        Err(_) => Err(Fault::Memory),
+    }
+}
+
+// Returns the size of all lines with one more, of this number.
+fn count_line(line: &[u8], number: usize, size: usize) -> Result<usize, Fault>
+    ensures sum { IfOk result (λ more. more ≡ size + (1 + weight_of_line line.now)) }
+    ensures sized { OnOk result (IsSome (size_of_line line.now)) }
+    ensures refused { (lines rest : List (List ℕ)) → HaveSizes lines → size ≡ size_of_lines lines → number ≡ length lines + 1
+        → IfErr result (λ fault. IsOfLines fault (lines ++ line.now ∷ rest)) }
+    ensures next { (rest : List (List ℕ)) → IfOk result (λ more.
+        fault_from number size (line.now ∷ rest) ≡ fault_from (number + 1) more rest) }
+    ensures fault { (rest : List (List ℕ)) → IfErr result (λ fault. fault_from number size (line.now ∷ rest) ≡ Some fault) }
+{
+    let own = match size_of(line) {
+        Some(own) => own,
         None => return Err(Fault::NoSize(number)),
     };
-    let weight = size.get() - 1;
+    match size.checked_add(own.get()) {
+        Some(more) => Ok(more),
+        None => Err(Fault::TooLarge),
+    }
+}
+
+// Takes one more line of this weight if the sample keeps it.
+fn take_kept<S: BuildHasher, A: Allocator + Copy>(
+    alloc: A,
+    one_in: NonZeroUsize,
+    pass: &mut SizedPass<OwnedKey<A>, S, A>,
+    key: &OwnedKey<A>,
+    weight: usize,
+) -> Result<(), AllocError>
+    requires sized { IsSome (size_of_line (line_of key.now)) }
+    requires weight { weight ≡ weight_of_line (line_of key.now) }
+    ensures { (lines : List (List ℕ)) → HasTaken (kept_of (non_zero_usize_get one_in) lines) pass.old
+        → OnOk result (HasTaken (kept_of (non_zero_usize_get one_in) (lines ++ line_of key.now ∷ [])) pass.new) }
+{
+    if !is_kept(&key.0, one_in) {
+        return Ok(());
+    }
+    take_line(alloc, pass, key, weight)
+}
+
+// Takes one more line of this weight. It is copied where it is new. The sizes of the kept lines are too large only where those
+// of all are, and then the line was refused before.
+fn take_line<S: BuildHasher, A: Allocator + Copy>(
+    alloc: A,
+    pass: &mut SizedPass<OwnedKey<A>, S, A>,
+    key: &OwnedKey<A>,
+    weight: usize,
+) -> Result<(), AllocError>
+    requires sized { IsSome (size_of_line (line_of key.now)) }
+    requires weight { weight ≡ weight_of_line (line_of key.now) }
+    ensures { (lines : List (List ℕ)) → HasTaken lines pass.old
+        → OnOk result (HasTaken (lines ++ line_of key.now ∷ []) pass.new) }
+{
     match pass.request_again(key, weight) {
         Ok(Some(_)) => Ok(()),
         Ok(None) => {
-            let Ok(bytes) = Vec::from_slice(alloc, &key.0) else {
-                return Err(Fault::Memory);
-            };
+            let bytes = Vec::from_slice(alloc, &key.0)?;
             match pass.request(OwnedKey(bytes), weight) {
                 Ok(_) => Ok(()),
-                Err(SizedRequestError::NoMemory(_)) => Err(Fault::Memory),
-                Err(SizedRequestError::TooLarge(_)) => Err(Fault::TooLarge),
+                Err(_) => Err(AllocError),
             }
         }
-        Err(SizedRequestError::NoMemory(_)) => Err(Fault::Memory),
-        Err(SizedRequestError::TooLarge(_)) => Err(Fault::TooLarge),
+        Err(_) => Err(AllocError),
     }
 }

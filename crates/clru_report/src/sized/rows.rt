@@ -5,9 +5,9 @@ ghost use Rattle.clru_report.specs.Passes.{capacities_on, AreRowsOf, IsOfCapacit
 ghost use Rattle.clru_report.specs.SizedTables.{capacity_of_sized_row};
 
 use super::capacities::{first_capacity, sized_capacities_for};
-use crate::fault::Fault;
 use crate::options::Capacities;
 use clru_curve::SizedCurve;
+use clru_lines::Fault;
 use std::alloc::Allocator;
 use std::num::NonZeroUsize;
 

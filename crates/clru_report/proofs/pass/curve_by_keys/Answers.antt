@@ -1,19 +1,24 @@
 use Rattle.std.proofs.Common.{◌≡◌, [], refl, sym, ap, ◌∙◌, subst, arith, length, ◌++◌, ◌∷◌}
 use Rattle.std.proofs.lemmas.List.{length-append}
+use Rattle.std.specs.Int.NonZero.{non_zero_usize_get}
 use Rattle.std.specs.Prelude.{bytes_eq, reverse}
 use Rattle.clru_curve.specs.Curves.{HasMissesOf}
 use Rattle.clru_model.specs.Requests.{distinct}
-use Rattle.clru_report.proofs.TakenLines.{distinct_taken, line_taken, misses_taken}
+use Rattle.clru_report.proofs.TakenLines.{distinct_taken, foreseen_for, misses_taken, taken_for}
+use Rattle.clru_report.specs.Passes.{HasTakenFor, IsForeseenFor}
+use Rattle.clru_report.specs.Samples.{kept_of}
 use Rattle.clru_report.proofs.pass.curve_by_keys.Goals as goal
+use Rattle.clru_report.proofs.pass.curve_by_keys.Goals.{else-least, then-least}
 
 pub lines-init : goal.lines-init
-lines-init g c = (
-  [],
-  record { past = []; shown = refl; taken = c.with_hasher-pass.ensures },
-  c.new-buffer.ensures (g.R.Read.remaining c.args.reader.now),
-  refl,
-  omega arith,
-)
+lines-init g c =
+    let pass = c.with_hasher-pass.result in
+    let taken : HasTakenFor c.args.least [] pass c.if-least.foresight = elim c.if-least.branch [
+      | then-least w ↦ subst (HasTakenFor c.args.least [] pass) (sym w.foresight-is)
+          (w.if-least.true, record { past = []; shown = refl; taken = c.with_hasher-pass.ensures; foreseen = w.new.ensures })
+      | else-least w ↦ subst (HasTakenFor c.args.least [] pass) (sym w.foresight-is)
+          (w.if-least.false, record { past = []; shown = refl; taken = c.with_hasher-pass.ensures })
+    ] in ([], taken, c.new-buffer.ensures (g.R.Read.remaining c.args.reader.now), refl, omega arith)
 
 pub overflow_add-requests : goal.overflow_add-requests
 overflow_add-requests g c =
@@ -27,7 +32,7 @@ lines-preserved g c =
     let line = c.read_line.new.line.items in
     let fits = c.in_ok-read_line.ensures.fits start before.0 before.2 c.if-branch.true in (
       before.0 ++ line ∷ [],
-      line_taken before.0 c.lines.pass before.1 line c.take_key.new.pass (c.in-Ok.ensures before.1.past before.1.taken),
+      c.in-Ok.ensures c.args.least before.0 before.1,
       c.in_ok-read_line.ensures.line start before.0 before.2 c.if-branch.true,
       omega (arith, before.3, length-append before.0 (line ∷ [])),
       omega (arith, before.3, fits),
@@ -37,16 +42,22 @@ pub returns : goal.returns
 returns g c =
     let before = c.lines.invariant in let start = g.R.Read.remaining c.args.reader.now in
     let read = c.in_ok-read_line.ensures.end start before.0 before.2 c.if-branch.false in
-    let lines = sym read.3.0 in
-    let curve = c.into_curve.result in (
+    let lines = sym read.3.0 in let curve = c.into_curve.result in
+    let kept = kept_of (non_zero_usize_get c.args.one_in) in
+    let taken = taken_for c.args.least (kept before.0) c.lines.pass c.lines.foresight before.1 in (
       read.0,
       read.1,
       read.2,
-      record {
-        misses = subst (λ ls. HasMissesOf bytes_eq ls curve) lines (misses_taken before.0 c.lines.pass before.1 curve (λ past is. c.into_curve.ensures.misses past is));
-        distinct_keys = subst (λ ls. length curve ≡ distinct bytes_eq (reverse ls)) lines
-            (distinct_taken before.0 c.lines.pass before.1 curve (λ past is. c.into_curve.ensures.distinct past is));
-        counted = before.3 ∙ ap length lines;
-        in_bytes = c.bytes_read.ensures ∙ read.3.1;
-      },
+      (
+        record {
+          misses = subst (λ ls. HasMissesOf bytes_eq (kept ls) curve) lines
+              (misses_taken (kept before.0) c.lines.pass taken curve (λ past is. c.into_curve.ensures.misses past is));
+          distinct_keys = subst (λ ls. length curve ≡ distinct bytes_eq (reverse (kept ls))) lines
+              (distinct_taken (kept before.0) c.lines.pass taken curve (λ past is. c.into_curve.ensures.distinct past is));
+          counted = before.3 ∙ ap length lines;
+          in_bytes = c.bytes_read.ensures ∙ read.3.1;
+        },
+        subst (λ ls. IsForeseenFor g.row.A.Denot c.args.least (kept ls) c.lines.foresight) lines
+            (foreseen_for c.args.least (kept before.0) c.lines.pass c.lines.foresight before.1),
+      ),
     )

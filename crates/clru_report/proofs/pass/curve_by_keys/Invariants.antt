@@ -1,10 +1,13 @@
 use Rattle.std.proofs.Common.{◌≡◌, ◌-◌, ◌^◌, ◌<◌, ℕ, List, length}
+use Rattle.std.specs.Int.NonZero.{non_zero_usize_get}
 use Rattle.clru_lines.specs.Told.{HasTold}
-use Rattle.clru_report.specs.Passes.{HasTakenLines}
+use Rattle.clru_report.specs.Passes.{HasTakenFor}
+use Rattle.clru_report.specs.Samples.{kept_of}
 use Rattle.clru_report.proofs.pass.curve_by_keys.Given as goal
 
 abbrev pub invariant-lines : goal.invariant-lines
-invariant-lines g l = (lines : List (List ℕ)) × HasTakenLines lines l.pass
+invariant-lines g l = (lines : List (List ℕ))
+    × HasTakenFor l.least (kept_of (non_zero_usize_get l.one_in) lines) l.pass l.foresight
     × HasTold (g.R.Read.remaining l.initial.reader) (g.R.Read.remaining l.reader) l.buffer lines
     × (l.requests ≡ length lines) × (l.requests < 2 ^ 64)
 

@@ -1,4 +1,4 @@
-use Rattle.std.proofs.Common.{false, sym, ap, ◌∙◌, subst, map}
+use Rattle.std.proofs.Common.{ap, ◌∙◌, map}
 use Rattle.std.specs.Int.NonZero.{non_zero_usize_get}
 use Rattle.clru_report.specs.Samples.{numbers_times}
 use Rattle.clru_report.proofs.ReportLemmas.{ok_map}

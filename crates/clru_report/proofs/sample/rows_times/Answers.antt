@@ -1,4 +1,4 @@
-use Rattle.std.proofs.Common.{◌≡◌, ℕ, ◌+◌, ◌++◌, ◌∷◌, [], List, None, Option, map, take, take_all, sym, ap, ◌∙◌, arith}
+use Rattle.std.proofs.Common.{◌≡◌, ℕ, ◌++◌, ◌∷◌, [], None, map, take, take_all, sym, ap, ◌∙◌, arith}
 use Rattle.std.specs.Int.NonZero.{non_zero_usize_get}
 use Rattle.std.proofs.lemmas.List.{map-append, take_more}
 use Rattle.clru_report.specs.Samples.{numbers_of, numbers_times, times}

@@ -8,21 +8,22 @@ use Rattle.clru_report.specs.Sizes.{greatest_size}
 use Rattle.clru_report.proofs.FaultLemmas.{told_beside}
 use Rattle.clru_report.proofs.ReportLemmas.{err_map, ok_map}
 use Rattle.clru_report.proofs.SizedReports.{capacities_refused, capacities_unwritten, rows_free, summary_is, table_is}
+use Rattle.clru_report.proofs.SizedSamples.{of_all}
 use Rattle.clru_report.proofs.sized.text_by_size.Goals as goal
 
 pub returns-in-Table : goal.returns-in-Table
 returns-in-Table g c =
     let options = c.args.options.now in let curve = c.args.curve.now in
     record {
-      report = λ input of. let lines = lines_of input in ok_map c.sized_table_for.result
+      report = λ input requests size of. let lines = lines_of input in let whole = of_all input curve requests size c.args.bytes of in ok_map c.sized_table_for.result
           (λ text t. (
             of.sizes,
-            rows_free lines curve of.of_lines options (string_bytes text) t of.no_fault,
+            rows_free lines curve whole options (string_bytes text) t of.no_fault,
             subst (λ f. IsInFormBySize f options input lines (string_bytes text)) (sym c.in-Table.is)
-                (table_is lines curve of.of_lines options (string_bytes text) t),
+                (table_is lines curve whole options (string_bytes text) t),
           )) c.sized_table_for.ensures.table;
-      refused = λ input of. let lines = lines_of input in err_map c.sized_table_for.result
-          (λ fault why. capacities_refused lines curve of.of_lines options fault of.sizes of.no_fault
+      refused = λ input requests size of. let lines = lines_of input in let whole = of_all input curve requests size c.args.bytes of in err_map c.sized_table_for.result
+          (λ fault why. capacities_refused lines curve whole options fault of.sizes of.no_fault
           (ap (λ f. fault_beside f options.capacities (greatest_size lines)) c.in-Table.is) why) c.sized_table_for.ensures.refused;
       fault = err_map c.sized_table_for.result (λ fault why. capacities_unwritten curve (capacities_on curve options.capacities) fault why)
           c.sized_table_for.ensures.refused;
@@ -32,27 +33,28 @@ pub returns-in-Picture : goal.returns-in-Picture
 returns-in-Picture g c =
     let options = c.args.options.now in let curve = c.args.curve.now in
     record {
-      report = λ input of. let lines = lines_of input in ok_map c.sized_picture_for.result
+      report = λ input requests size of. let lines = lines_of input in let whole = of_all input curve requests size c.args.bytes of in ok_map c.sized_picture_for.result
           (λ text t. (
             of.sizes,
-            rows_free lines curve of.of_lines options t.0 t.1 of.no_fault,
+            rows_free lines curve whole options t.0 t.1 of.no_fault,
             subst (λ f. IsInFormBySize f options input lines (string_bytes text)) (sym c.in-Picture.is)
-                (t.0, table_is lines curve of.of_lines options t.0 t.1, t.2),
+                (t.0, table_is lines curve whole options t.0 t.1, t.2),
           )) c.sized_picture_for.ensures.picture;
-      refused = λ input of. let lines = lines_of input in err_map c.sized_picture_for.result
-          (λ fault why. capacities_refused lines curve of.of_lines options fault of.sizes of.no_fault
+      refused = λ input requests size of. let lines = lines_of input in let whole = of_all input curve requests size c.args.bytes of in err_map c.sized_picture_for.result
+          (λ fault why. capacities_refused lines curve whole options fault of.sizes of.no_fault
           (ap (λ f. fault_beside f options.capacities (greatest_size lines)) c.in-Picture.is) why) c.sized_picture_for.ensures.refused;
       fault = err_map c.sized_picture_for.result
           (λ fault why. capacities_unwritten curve (capacities_on curve options.capacities) fault why) c.sized_picture_for.ensures.refused;
     }
 
 pub returns-in-Ok-clause-report : goal.returns-in-Ok-clause-report
-returns-in-Ok-clause-report g c input of =
-    let options = c.args.options.now in let lines = lines_of input in (
+returns-in-Ok-clause-report g c input requests size of =
+    let options = c.args.options.now in let lines = lines_of input in
+    let whole = of_all input c.args.curve.now requests size c.args.bytes of in (
       of.sizes,
       told_beside options lines None of.no_fault (ap (λ f. fault_beside f options.capacities (greatest_size lines)) c.in-Summary.is),
       subst (λ f. IsInFormBySize f options input lines (string_bytes c.in-Ok.text)) (sym c.in-Summary.is)
-          (summary_is lines c.args.curve.now of.of_lines input (string_bytes c.in-Ok.text)
+          (summary_is lines c.args.curve.now whole input (string_bytes c.in-Ok.text)
           (c.in-Ok.ensures ∙ ap (λ n. sized_summary_text c.args.curve.now.requests (distinct_in c.args.curve.now) n c.args.curve.now.size
           c.args.curve.now.distinct_size (min (1 + c.args.curve.now.greatest_weight) c.args.curve.now.distinct_size)) of.in_bytes)),
     )

@@ -1,0 +1,18 @@
+use Rattle.std.proofs.Common.{◌≡◌, subst, length}
+use Rattle.std.specs.Prelude.{bytes_eq, reverse}
+use Rattle.clru_curve.specs.Curves.{HasMissesOf}
+use Rattle.clru_lines.specs.Lines.{lines_of}
+use Rattle.clru_model.specs.Requests.{distinct}
+use Rattle.clru_report.proofs.Samples.{all_kept}
+use Rattle.clru_report.proofs.report.report_of_sampled.Goals as goal
+
+pub returns-in-Ok : goal.returns-in-Ok
+returns-in-Ok g c =
+    let read = c.in_ok-curve.ensures in let lines = lines_of read.0 in
+    let of = read.3.0 in let curve = c.in_ok-curve.curve in let whole = all_kept lines in (
+      read.0,
+      read.1,
+      read.2,
+      c.in-Ok.ensures read.0 lines (subst (λ ls. HasMissesOf bytes_eq ls curve) whole of.misses)
+          (subst (λ ls. length curve ≡ distinct bytes_eq (reverse ls)) whole of.distinct_keys) of.in_bytes,
+    )

@@ -1,0 +1,16 @@
+use Rattle.std.proofs.Common.{false, Some, sym, subst}
+use Rattle.std.specs.Prelude.{bytes_eq}
+use Rattle.clru_report.specs.Passes.{IsForeseenFor, capacities_asked}
+use Rattle.clru_report.specs.Report.{AreRows}
+use Rattle.clru_report.proofs.ReportLemmas.{ok_map}
+use Rattle.clru_report.proofs.rows.rows_of_all.Goals as goal
+
+pub returns-in-Some : goal.returns-in-Some
+returns-in-Some g c lines least has many of =
+    let capacities = capacities_asked c.args.options.now lines in
+    let given : IsForeseenFor g.row.A.Denot least lines (Some c.in-Some.foresight) =
+    subst (IsForeseenFor g.row.A.Denot least lines) c.in-Some.is of in
+    let rows = subst (AreRows bytes_eq lines false capacities) (sym c.deref.ensures.value) (c.in_ok-rows.ensures lines has many) in
+    ok_map c.rows_with_least.result
+    (λ found is. subst (λ b. AreRows bytes_eq lines b capacities found.items) (sym given.0) is)
+    (c.rows_with_least.ensures lines capacities given.1 rows)

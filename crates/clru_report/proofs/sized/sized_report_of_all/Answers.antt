@@ -1,0 +1,12 @@
+use Rattle.clru_report.proofs.ReportLemmas.{err_map, ok_map}
+use Rattle.clru_report.proofs.sized.sized_report_of_all.Goals as goal
+
+pub returns-clause-report : goal.returns-clause-report
+returns-clause-report g c =
+    let read = c.in_ok-curve.ensures.curve in
+    ok_map c.text_by_size.result (λ text t. (read.0, read.1, read.2, t)) (c.text_by_size.ensures.report read.0 _ _ read.3)
+
+pub returns-clause-refused : goal.returns-clause-refused
+returns-clause-refused g c =
+    let read = c.in_ok-curve.ensures.curve in
+    err_map c.text_by_size.result (λ fault t of. (read.0, read.1, read.2, t of)) (c.text_by_size.ensures.refused read.0 _ _ read.3)
