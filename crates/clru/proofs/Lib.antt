@@ -1,7 +1,3 @@
-pub use Rattle.clru_model.proofs.Finding
-pub use Rattle.clru_model.proofs.Fitting
-pub use Rattle.clru_model.proofs.PutSteps
-pub use Rattle.clru_model.proofs.Sublists
 pub mod CallerLemmas
 pub mod CallerWalks
 pub mod Collecting

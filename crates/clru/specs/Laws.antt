@@ -1,5 +1,4 @@
--- The statements of the laws: those of the model, passed on, and what the two puts of a cache have to do with each other. Public
--- clauses cite them.
+-- What the two puts of a cache have to do with each other. Public clauses cite it.
 use Rattle.std.specs.Prelude.{◌≡◌, ℕ, Bool, Option}
 use Rattle.std.specs.Fn.{Mut}
 use Rattle.std.specs.Map.{lookup}
@@ -8,11 +7,6 @@ use Rattle.clru_model.specs.Entries.{plain_drop, weighted_drops}
 use Rattle.clru.specs.Cache.{Cache, IsValid}
 use Rattle.clru.specs.Drops.{HandsOutTo}
 use Rattle.clru.specs.declared.cache.answer.Put.{Put}
-pub use Rattle.clru_model.specs.Laws.{TrueMarksAreHits, OneMarkForEach, MissesAreFalseMarks, DistinctCountsFirst}
-pub use Rattle.clru_model.specs.Laws.{SchedulesAreByPosition, FalseMarksAreMisses, ScheduleMissesAreByPosition}
-pub use Rattle.clru_model.specs.Laws.{HitsGrow, MissesFall, LesserBeginsGreater}
-pub use Rattle.clru_model.specs.Laws.{PutsHit, PutsCompete, PutsCompeteFromAnyStart}
-pub use Rattle.clru_model.specs.Laws.{FitIsLongest, OnlyFitIsLongest}
 
 module _ {K V F : Type 0} (eq : K → K → Bool) (g : Mut F (K × (V × Unit {0})) (Unit {0})) where
   -- what the contracts tell of a plain put and a weighted put at weight zero, of one pair into one cache, where both are taken:

@@ -1,14 +1,3 @@
-pub use Rattle.clru_model.specs.ByPosition
-pub use Rattle.clru_model.specs.Entries
-pub use Rattle.clru_model.specs.Errors
-pub use Rattle.clru_model.specs.Refusals
-pub use Rattle.clru_model.specs.Requests
-pub use Rattle.clru_model.specs.Runs
-pub use Rattle.clru_model.specs.Schedule
-pub use Rattle.clru_model.specs.SizedRuns
-pub use Rattle.clru_model.specs.Sizes
-pub use Rattle.clru_model.specs.Spans
-pub use Rattle.clru_linked_map.specs.Retains
 pub mod Cache
 pub mod Closures
 pub mod Collecting

@@ -3,7 +3,7 @@ use Rattle.std.proofs.Common.{◌≡◌, ℕ, Bool, true, List, ◌∷◌, Some,
 use Rattle.std.specs.Prelude.{bytes_eq}
 use Rattle.std.specs.Str.Parse.{digits_value}
 use Rattle.std.proofs.lemmas.Bool.{cond-true}
-use Rattle.clru.specs.Requests.{marks, misses}
+use Rattle.clru_model.specs.Requests.{marks, misses}
 use Rattle.clru_model.proofs.Views.{same, marks-map, misses-map}
 use Rattle.clru_lines.specs.Lines.{is_capacity, lines_of}
 use Rattle.clru_replay.specs.Report.{report, report_at, report_of_lines, text_of}

@@ -1,7 +1,7 @@
 -- The report of an input: one text, or nothing where the first line is no capacity.
 use Rattle.std.specs.Prelude.{ℕ, Bool, List, [], ◌∷◌, ◌++◌, Option, None, Some, flat_map, codes, decimal, bytes_eq, if◌then◌else◌}
 use Rattle.std.specs.Str.Parse.{digits_value}
-use Rattle.clru.specs.Requests.{marks, misses}
+use Rattle.clru_model.specs.Requests.{marks, misses}
 use Rattle.clru_lines.specs.Lines.{is_capacity, lines_of}
 
 -- the line of one request

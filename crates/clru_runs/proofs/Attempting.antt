@@ -9,7 +9,7 @@ use Rattle.clru_model.specs.declared.error.TryPutError.TheVariants.{NoMemory, Fa
 use Rattle.clru_model.proofs.Finding.{missed_at, touch-missed}
 use Rattle.clru.specs.Cache.{Cache}
 use Rattle.clru.specs.Closures.{TryPutsOrModifies, FailsToPutOrModify}
-use Rattle.clru.specs.Entries.{touch, plain_put}
+use Rattle.clru_model.specs.Entries.{touch, plain_put}
 use Rattle.clru.specs.Memory.{GrowsOnlyIf, NeedsPlace}
 use Rattle.clru_runs.specs.Attempts.{stored_by, succeeds_by, left_by}
 use Rattle.clru_runs.specs.Step.{TryPuts, written}

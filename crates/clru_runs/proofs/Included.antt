@@ -2,8 +2,8 @@
 use Rattle.std.proofs.Common.{◌≡◌, ℕ, ◌<◌, ◌≤◌, lt-ltb, Bool, List, [], ◌∷◌, ◌++◌, map, Ok, refl, sym, ap, ◌∙◌}
 use Rattle.clru_model.proofs.Inclusion.{after_all_begins}
 use Rattle.clru.specs.Cache.{Cache}
-use Rattle.clru.specs.Runs as model
-use Rattle.clru.specs.Runs.{put_with_weight, pop, pop_front, pop_back, clear, peek, contains, after, after_all, IsTaken, AreTaken}
+use Rattle.clru_model.specs.Runs as model
+use Rattle.clru_model.specs.Runs.{put_with_weight, pop, pop_front, pop_back, clear, peek, contains, after, after_all, IsTaken, AreTaken}
 use Rattle.clru_runs.specs.declared.call.Answer.{Answer}
 use Rattle.clru_runs.specs.declared.call.Answer.TheVariants.{Weighed}
 use Rattle.clru_runs.specs.declared.call.Call.{Call}

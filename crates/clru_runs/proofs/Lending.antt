@@ -6,7 +6,7 @@ use Rattle.std.specs.Fn.{Mut, Called}
 use Rattle.clru_model.proofs.Cases.{split}
 use Rattle.clru_model.proofs.Finding.{missed, touch-missed}
 use Rattle.clru.specs.Closures.{PutsOrModifies}
-use Rattle.clru.specs.Entries.{touch}
+use Rattle.clru_model.specs.Entries.{touch}
 
 -- a put-or-modify whose put operation gives the data and whose modify operation leaves it lends the data
 pub lends_data : {P M K V : Type 0} (p : Mut P (Bor K × (V × Unit {0})) V)

@@ -3,8 +3,8 @@ use Rattle.std.proofs.Common.{◌≡◌, ℕ, ◌≤◌, Bool, List, [], ◌∷�
 use Rattle.std.specs.Cmp.{IsEquivalence}
 use Rattle.clru_model.proofs.PutSteps.{IsPut-plain, IsPut-weightless, length-put}
 use Rattle.clru.specs.Cache.{Cache}
-use Rattle.clru.specs.Entries.{plain_put}
-use Rattle.clru.specs.Runs.{StepsTo, IsPut, IsPutRun}
+use Rattle.clru_model.specs.Entries.{plain_put}
+use Rattle.clru_model.specs.Runs.{StepsTo, IsPut, IsPutRun}
 use Rattle.clru_runs.specs.declared.call.Answer.{Answer}
 use Rattle.clru_runs.specs.declared.call.Answer.TheVariants.{Stored, Weighed, Lent, Tried}
 use Rattle.clru_runs.specs.declared.call.Attempt.TheVariants.{Store}

@@ -3,9 +3,9 @@ use Rattle.std.proofs.Common.{◌≡◌, ℕ, Bool, true, List, [], ◌∷◌, O
 use Rattle.std.specs.Cmp.{IsEquivalence}
 use Rattle.clru_model.proofs.KeyedRuns.{sized_puts_hit}
 use Rattle.clru.specs.Cache.{Cache}
-use Rattle.clru.specs.Runs.{held_before}
-use Rattle.clru.specs.Sizes.{SameWeights, marks_by_size}
-use Rattle.clru.specs.SizedRuns.{IsSizedPut, IsSizedPutRun, PutsWeighAsKeys}
+use Rattle.clru_model.specs.Runs.{held_before}
+use Rattle.clru_model.specs.Sizes.{SameWeights, marks_by_size}
+use Rattle.clru_model.specs.SizedRuns.{IsSizedPut, IsSizedPutRun, PutsWeighAsKeys}
 use Rattle.clru_runs.specs.declared.call.Answer.{Answer}
 use Rattle.clru_runs.specs.declared.call.Answer.TheVariants.{Weighed}
 use Rattle.clru_runs.specs.declared.call.Call.{Call}

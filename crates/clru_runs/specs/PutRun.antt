@@ -2,9 +2,9 @@
 use Rattle.std.specs.Prelude.{◌≡◌, ◌≤◌, Bool, not, List, [], ◌∷◌, Ok, ⊤}
 use Rattle.std.specs.List.{count_by}
 use Rattle.clru.specs.Cache.{Cache}
-use Rattle.clru.specs.Requests.{marks}
-use Rattle.clru.specs.Runs.{IsPutRun, held_before}
-use Rattle.clru.specs.Schedule.{IsCompetitive, IsCompetitiveFromAnyStart}
+use Rattle.clru_model.specs.Requests.{marks}
+use Rattle.clru_model.specs.Runs.{IsPutRun, held_before}
+use Rattle.clru_model.specs.Schedule.{IsCompetitive, IsCompetitiveFromAnyStart}
 use Rattle.clru_runs.specs.declared.call.Answer.{Answer}
 use Rattle.clru_runs.specs.declared.call.Answer.TheVariants.{Stored, Weighed, Lent, Tried}
 use Rattle.clru_runs.specs.declared.call.Attempt.TheVariants.{Store}

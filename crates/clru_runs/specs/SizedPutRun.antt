@@ -1,8 +1,8 @@
 -- Runs of puts by weight of the model. Public clauses cite them.
 use Rattle.std.specs.Prelude.{◌≡◌, ℕ, Bool, List, [], ◌∷◌, Ok, ⊤}
 use Rattle.clru.specs.Cache.{Cache}
-use Rattle.clru.specs.Runs.{held_before}
-use Rattle.clru.specs.Sizes.{SameWeights, marks_by_size}
+use Rattle.clru_model.specs.Runs.{held_before}
+use Rattle.clru_model.specs.Sizes.{SameWeights, marks_by_size}
 use Rattle.clru_runs.specs.declared.call.Answer.{Answer}
 use Rattle.clru_runs.specs.declared.call.Answer.TheVariants.{Weighed}
 use Rattle.clru_runs.specs.declared.call.Call.{Call}

@@ -8,7 +8,7 @@ use Rattle.clru_model.specs.declared.error.TryPutError.{TryPutError}
 use Rattle.clru_model.specs.declared.error.TryPutError.TheVariants as try
 use Rattle.clru.specs.Cache.{Cache, cache, with_entries}
 use Rattle.clru.specs.Collecting.{PutsAll, PutStep, PutRefused}
-use Rattle.clru.specs.Entries.{without, demote, touch, fit, plain_drop, weighted_put, weighted_drops, weight_of, size_of, with_value_at}
+use Rattle.clru_model.specs.Entries.{without, demote, touch, fit, plain_drop, weighted_put, weighted_drops, weight_of, size_of, with_value_at}
 use Rattle.clru.specs.Memory.{GrowsOnlyIf, NeedsPlace, NeedsPlaceFor, Accepts, RefusesForMemory}
 use Rattle.clru.specs.declared.cache.answer.Put as stored
 use Rattle.clru_runs.specs.declared.call.Answer.{Answer}

@@ -5,8 +5,8 @@ use Rattle.std.proofs.lemmas.List.Sums.{sum_by-cons}
 use Rattle.std.specs.Cmp.{IsEquivalence}
 use Rattle.std.specs.List.{count_by}
 use Rattle.std.specs.Map.{keys_of, lookup}
-use Rattle.clru.specs.Requests.{hit, holds, marks, marks_after, misses}
-use Rattle.clru.specs.Runs.{IsPut}
+use Rattle.clru_model.specs.Requests.{hit, holds, marks, marks_after, misses}
+use Rattle.clru_model.specs.Runs.{IsPut}
 use Rattle.clru_model.proofs.Cases.{split}
 use Rattle.clru_model.proofs.Finding.{held, touch-held}
 use Rattle.clru_model.proofs.Hits.{HoldsHits, HoldsHits_held, HoldsHits_none, HoldsHits_put}

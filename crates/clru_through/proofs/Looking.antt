@@ -5,7 +5,7 @@ use Rattle.std.specs.Map.{lookup}
 use Rattle.std.specs.Map.Iter.{deref_pair}
 use Rattle.std.specs.Option.{IfSome, is_some, option_copied, option_map}
 use Rattle.clru.specs.Cache.{Cache, with_entries}
-use Rattle.clru.specs.Entries.{touch}
+use Rattle.clru_model.specs.Entries.{touch}
 use Rattle.clru_model.proofs.Forms.{IsForm}
 use Rattle.clru_through.specs.Store.{AllKeep, KeepsFor}
 use Rattle.clru_through.proofs.Sourced.{KeepsFor-lookup, touch-absent}

@@ -4,9 +4,9 @@ use Rattle.std.specs.Cmp.{IsEquivalence}
 use Rattle.std.specs.Option.{option_map_or}
 use Rattle.std.specs.Map.{lookup, lookup_entry}
 use Rattle.clru.specs.Cache.{Cache}
-use Rattle.clru.specs.Entries.{fit, touch, weighted_put, without}
-use Rattle.clru.proofs.Sublists.{All-sublist, IsSublist, sublist_remove_entry, sublist_trans}
-use Rattle.clru.proofs.Fitting.{sublist_fit}
+use Rattle.clru_model.specs.Entries.{fit, touch, weighted_put, without}
+use Rattle.clru_model.proofs.Sublists.{All-sublist, IsSublist, sublist_remove_entry, sublist_trans}
+use Rattle.clru_model.proofs.Fitting.{sublist_fit}
 use Rattle.clru_model.proofs.Forms.{IsForm}
 use Rattle.clru_through.specs.Steps.{Takes}
 use Rattle.clru_through.specs.Store.{AllKeep, KeepsFor}

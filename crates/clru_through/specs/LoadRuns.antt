@@ -1,6 +1,6 @@
 -- Loads of one key after the other. Public clauses cite them.
 use Rattle.std.specs.Prelude.{◌≡◌, ℕ, zero, suc, Bool, not, List, [], ◌∷◌, map, Result, Ok}
-use Rattle.clru.specs.Requests.{marks, misses}
+use Rattle.clru_model.specs.Requests.{marks, misses}
 use Rattle.clru_through.specs.Steps.{Loads}
 use Rattle.clru_through.specs.Store.{Store}
 use Rattle.clru_through.specs.declared.answer.Loaded.TheVariants.{Held}

@@ -2,7 +2,7 @@
 use Rattle.std.specs.Prelude.{◌≡◌, ℕ, ◌<◌, ◌≤◌, Bool, true, false, ◌⊎◌, Option, Some, None, Result, Ok, Err}
 use Rattle.std.specs.Map.{lookup}
 use Rattle.clru.specs.Cache.{Cache, with_entries}
-use Rattle.clru.specs.Entries.{touch, weighted_put}
+use Rattle.clru_model.specs.Entries.{touch, weighted_put}
 use Rattle.clru.specs.Memory.{NeedsPlaceFor, GrowsOnlyIf}
 use Rattle.clru_through.specs.Store.{Store, store}
 use Rattle.clru_through.specs.declared.answer.Loaded.{Loaded}

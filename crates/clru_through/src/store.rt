@@ -1,7 +1,7 @@
 //! `Through`, and the calls that read the whole of it. A clause sees a store as its `cache` and its `source`.
 ghost use Rattle.std.specs.Prelude.{◌≡◌, ◌≤◌, ◌↔◌, ◌⊎◌, [], length, IsTrue};
 ghost use Rattle.clru.specs.Cache.{IsValid};
-ghost use Rattle.clru.specs.Entries.{weight_of};
+ghost use Rattle.clru_model.specs.Entries.{weight_of};
 ghost use Rattle.clru_through.specs.Store.{AllKeep, store};
 
 mod load;

@@ -4,8 +4,8 @@ use Rattle.std.specs.Borrow.{Bor, MutBor}
 use Rattle.std.specs.Fn.{Mut, Called}
 use Rattle.std.specs.Map.{lookup, lookup_entry}
 use Rattle.clru.specs.Closures.{TryPutsOrModifies, FailsToPutOrModify}
-use Rattle.clru.specs.Entries.{touch}
-use Rattle.clru.proofs.Finding.{missed, held_at, missed_at, touch-missed}
+use Rattle.clru_model.specs.Entries.{touch}
+use Rattle.clru_model.proofs.Finding.{missed, held_at, missed_at, touch-missed}
 
 module _ {K V : Type 0} (eq : K → K → Bool) (x : K) (es : List (K × V)) where
   -- the key is not held and the entries are as they were

@@ -2,8 +2,8 @@
 use Rattle.std.proofs.Common.{◌≡◌, ℕ, Bool, List, [], ◌∷◌, ◌++◌, is_some, refl, sym, ap, ◌∙◌}
 use Rattle.std.proofs.lemmas.Map.Made.{is_some-lookup}
 use Rattle.std.specs.Map.{keys_of, lookup}
-use Rattle.clru.specs.Requests.{holds}
-use Rattle.clru.specs.Runs.{IsPut, IsPutRun, held_before}
+use Rattle.clru_model.specs.Requests.{holds}
+use Rattle.clru_model.specs.Runs.{IsPut, IsPutRun, held_before}
 
 -- the last of some elements
 abbrev pub last_of : {X : Type 0} → X → List X → X

@@ -4,10 +4,10 @@ use Rattle.std.proofs.lemmas.List.Sums.{sum_by_push}
 use Rattle.std.proofs.lemmas.Map.Made.{is_some-lookup}
 use Rattle.std.specs.List.{count_by}
 use Rattle.std.specs.Map.{keys_of, lookup}
-use Rattle.clru.specs.Entries.{weighted_put}
-use Rattle.clru.specs.Requests.{holds}
-use Rattle.clru.specs.Runs.{held_before}
-use Rattle.clru.specs.SizedRuns.{IsSizedPut, IsSizedPutRun}
+use Rattle.clru_model.specs.Entries.{weighted_put}
+use Rattle.clru_model.specs.Requests.{holds}
+use Rattle.clru_model.specs.Runs.{held_before}
+use Rattle.clru_model.specs.SizedRuns.{IsSizedPut, IsSizedPutRun}
 use Rattle.clru_uses.proofs.GrowingRuns.{last_of, last_of-push}
 
 not_held_push : (held : List Bool) (before : Bool) → count_by not (held ++ before ∷ []) ≡ count_by not held + cond before 0 1

@@ -1,7 +1,7 @@
 //! Callers that are handed what a put drops.
 ghost use Rattle.std.specs.Prelude.{◌≡◌, nat_eq, length, set, IfOk, OnOk, OnErr};
 ghost use Rattle.std.specs.Option.{option_map, option_map_or};
-ghost use Rattle.clru.specs.Entries.{plain_drop, weighted_drops};
+ghost use Rattle.clru_model.specs.Entries.{plain_drop, weighted_drops};
 
 use clru::{CLruCache, DefaultState, PutError, WeightScale};
 

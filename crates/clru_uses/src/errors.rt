@@ -1,7 +1,7 @@
 //! Refusals that `?` passes up: in an error of the caller's own, and as want of memory.
 ghost use Rattle.std.specs.Prelude.{◌≡◌, ◌≤◌, ◌↔◌, Err, Some, nat_eq, IfOk, OnOk, OnErr, string_bytes};
 ghost use Rattle.std.specs.Map.{lookup};
-ghost use Rattle.clru.specs.Errors.{put_error_text};
+ghost use Rattle.clru_model.specs.Errors.{put_error_text};
 
 use clru::{CLruCache, DefaultState, NoMemory, PutError, WeightScale};
 use std::alloc::{AllocError, Global};

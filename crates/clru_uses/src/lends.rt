@@ -3,7 +3,7 @@ ghost use Rattle.std.specs.Prelude.{◌≡◌, Some, nat_eq, is_some, slice_get,
 ghost use Rattle.std.specs.Map.{lookup};
 ghost use Rattle.std.specs.Option.{option_map};
 ghost use Rattle.clru.specs.Cache.{with_entries};
-ghost use Rattle.clru.specs.Entries.{touch, with_value_at};
+ghost use Rattle.clru_model.specs.Entries.{touch, with_value_at};
 
 use clru::{CLruCache, TryPutError};
 

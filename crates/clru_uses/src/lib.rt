@@ -4,7 +4,7 @@
 
 ghost use Rattle.std.specs.Prelude.{◌≡◌, ◌+◌, Some, nat_eq, IfSome};
 ghost use Rattle.std.specs.Map.{lookup};
-ghost use Rattle.clru.specs.Entries.{size_of};
+ghost use Rattle.clru_model.specs.Entries.{size_of};
 
 pub mod budget;
 pub mod curves;

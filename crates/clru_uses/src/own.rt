@@ -1,7 +1,7 @@
 //! A cache with a scale and a hash builder of one's own.
 ghost use Rattle.std.specs.Prelude.{◌≡◌, ◌≤◌, ◌↔◌, [], Some, nat_eq, length, OnOk, OnErr};
 ghost use Rattle.std.specs.Map.{lookup};
-ghost use Rattle.clru.specs.Refusals.{IsTooHeavy};
+ghost use Rattle.clru_model.specs.Refusals.{IsTooHeavy};
 
 use crate::hasher::FnvState;
 use crate::scale::ByLength;

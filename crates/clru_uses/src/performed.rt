@@ -1,10 +1,10 @@
 //! Callers that are proved over the contracts of `clru_runs` alone: what a list of calls is known to leave.
 ghost use Rattle.std.specs.Prelude.{◌≡◌, ℕ, ◌≤◌, ◌++◌, [], List, IfOk, IfSome, not};
 ghost use Rattle.std.specs.List.{count_by};
-ghost use Rattle.clru.specs.Requests.{marks};
-ghost use Rattle.clru.specs.Runs.{held_before};
-ghost use Rattle.clru.specs.Schedule.{IsCompetitive};
-ghost use Rattle.clru.specs.Sizes.{SameWeights, marks_by_size};
+ghost use Rattle.clru_model.specs.Requests.{marks};
+ghost use Rattle.clru_model.specs.Runs.{held_before};
+ghost use Rattle.clru_model.specs.Schedule.{IsCompetitive};
+ghost use Rattle.clru_model.specs.Sizes.{SameWeights, marks_by_size};
 ghost use Rattle.clru_runs.specs.IncludedRun.{EachKeepsInclusion};
 ghost use Rattle.clru_runs.specs.PutRun.{PutEach, entries_of};
 ghost use Rattle.clru_runs.specs.Run.{Run};

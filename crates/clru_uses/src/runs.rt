@@ -1,8 +1,8 @@
 //! A whole run of puts, by the contracts of the puts and `law_requests` alone.
 ghost use Rattle.std.specs.Prelude.{◌≡◌, [], not, IfSome};
 ghost use Rattle.std.specs.List.{count_by};
-ghost use Rattle.clru.specs.Schedule.{IsCompetitive};
-ghost use Rattle.clru.specs.Requests.{marks};
+ghost use Rattle.clru_model.specs.Schedule.{IsCompetitive};
+ghost use Rattle.clru_model.specs.Requests.{marks};
 
 use clru::{CLruCache, law_requests};
 use std::alloc::Global;

@@ -1,9 +1,9 @@
 //! Runs of puts by weight and their requests, by the contracts of the calls and the laws alone.
 ghost use Rattle.std.specs.Prelude.{◌≡◌, ◌<◌, ◌≤◌, ℕ, [], List, Some, nat_eq, IfSome, IsSome};
 ghost use Rattle.std.specs.List.{slice_get};
-ghost use Rattle.clru.specs.Requests.{hit};
-ghost use Rattle.clru.specs.Sizes.{span, marks_by_size, misses_by_size};
-ghost use Rattle.clru.specs.SizedRuns.{IsSizedPut};
+ghost use Rattle.clru_model.specs.Requests.{hit};
+ghost use Rattle.clru_model.specs.Sizes.{span, marks_by_size, misses_by_size};
+ghost use Rattle.clru_model.specs.SizedRuns.{IsSizedPut};
 ghost use Rattle.clru_model.specs.SpansByPosition.{IsSpanAt};
 
 use clru::{CLruCache, DefaultState, WeightScale, law_sizes};

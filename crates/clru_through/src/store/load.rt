@@ -4,7 +4,7 @@ ghost use Rattle.std.specs.Option.{option_copied, option_map};
 ghost use Rattle.std.specs.Map.{lookup};
 ghost use Rattle.std.specs.Map.Iter.{deref_pair};
 ghost use Rattle.clru.specs.Cache.{with_entries};
-ghost use Rattle.clru.specs.Entries.{touch};
+ghost use Rattle.clru_model.specs.Entries.{touch};
 ghost use Rattle.clru_through.specs.Given.{IsAnswerOf, IsHeld, answer_value, loaded_value, was_fetched};
 ghost use Rattle.clru_through.specs.Store.{KeepsFor, Store, store};
 ghost use Rattle.clru_through.specs.Steps.{Loads, Takes};

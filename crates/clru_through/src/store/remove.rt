@@ -3,7 +3,7 @@ ghost use Rattle.std.specs.Prelude.{◌≡◌, [], IfSome};
 ghost use Rattle.std.specs.Int.NonZero.{non_zero_usize_get};
 ghost use Rattle.std.specs.Map.{lookup};
 ghost use Rattle.clru.specs.Cache.{cache as cache_of, with_entries};
-ghost use Rattle.clru.specs.Entries.{fit, without};
+ghost use Rattle.clru_model.specs.Entries.{fit, without};
 ghost use Rattle.clru_through.specs.Store.{AllKeep, KeepsFor, store};
 
 use crate::source::Fetch;

@@ -1,6 +1,6 @@
 //! How often loads fetch.
 ghost use Rattle.std.specs.Prelude.{◌≡◌, ℕ, [], nat_eq, IfSome};
-ghost use Rattle.clru.specs.Requests.{misses};
+ghost use Rattle.clru_model.specs.Requests.{misses};
 ghost use Rattle.clru_through.specs.LoadRuns.{IsFetched};
 
 use clru::{DefaultState, WeightScale};

@@ -1,9 +1,9 @@
 use Rattle.std.proofs.Common.{◌≡◌, not}
 use Rattle.std.specs.List.{count_by}
 use Rattle.clru_model.proofs.PutRuns.{held_before_marks, puts_compete, puts_compete_from_any_start}
-use Rattle.clru.specs.Requests.{marks}
-use Rattle.clru.specs.Runs.{held_before}
-use Rattle.clru.specs.Schedule.{IsCompetitive, IsCompetitiveFromAnyStart}
+use Rattle.clru_model.specs.Requests.{marks}
+use Rattle.clru_model.specs.Runs.{held_before}
+use Rattle.clru_model.specs.Schedule.{IsCompetitive, IsCompetitiveFromAnyStart}
 use Rattle.clru_runs.proofs.PutRunning.{put_run, from_put_run}
 use Rattle.clru_runs.proofs.laws.law_put_runs.Goals as goal
 

@@ -1,5 +1,5 @@
 use Rattle.std.proofs.Common.{IsOk, Ok, Err, ap, ◌∙◌, rules, refl}
-use Rattle.clru.specs.Entries.{plain_put}
+use Rattle.clru_model.specs.Entries.{plain_put}
 use Rattle.clru_runs.proofs.Lending.{lends_data}
 use Rattle.clru_runs.proofs.perform.put_or_modify.Goals as goal
 

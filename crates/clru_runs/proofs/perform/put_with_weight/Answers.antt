@@ -1,5 +1,5 @@
 use Rattle.std.proofs.Common.{rules, ◌≡◌, ◌+◌, ◌-◌, ◌<◌, Some, length, slice_get, [], ◌∷◌, arith, refl, ap, sym, ◌∙◌, length-append}
-use Rattle.clru.specs.Entries.{weighted_drops}
+use Rattle.clru_model.specs.Entries.{weighted_drops}
 use Rattle.clru.proofs.CallerLemmas.{handed_keeps, takes_each, length-weighted_drops, last_of-push}
 use Rattle.clru_runs.proofs.perform.put_with_weight.Goals as goal
 

@@ -1,5 +1,5 @@
 use Rattle.std.proofs.Common.{rules, ◌≡◌, nat_eq, length, ◌+◌, ◌<◌, [], ◌∷◌, refl, arith, ap, length-append}
-use Rattle.clru.specs.Entries.{weighted_drops}
+use Rattle.clru_model.specs.Entries.{weighted_drops}
 use Rattle.clru.proofs.CallerLemmas.{handed_keeps, takes_each, length-weighted_drops}
 use Rattle.clru_uses.specs.contracts.drops.fn.number_forgotten.put_with_weight_handing_to as closure
 use Rattle.clru_uses.proofs.drops.number_forgotten.Goals as goal

@@ -1,6 +1,6 @@
 use Rattle.std.proofs.Common.{sym, rules}
 use Rattle.std.specs.Prelude.{nat_eq}
-use Rattle.clru.specs.Entries.{plain_put}
+use Rattle.clru_model.specs.Entries.{plain_put}
 use Rattle.clru_uses.proofs.Failing.{unheld, finds, finds_none}
 use Rattle.clru_uses.proofs.lends.look_for.Goals as goal
 

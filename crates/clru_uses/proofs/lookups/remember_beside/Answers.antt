@@ -1,7 +1,7 @@
 use Rattle.std.proofs.Common.{rules, ◌≡◌, nat_eq, refl, ◌∙◌}
 use Rattle.std.specs.Prelude.{None}
 use Rattle.std.specs.Cmp.{nat_eq_equiv}
-use Rattle.clru.specs.Entries.{plain_drop}
+use Rattle.clru_model.specs.Entries.{plain_drop}
 use Rattle.clru.proofs.CallerLemmas.{lookup-put_beside}
 use Rattle.clru_uses.proofs.lookups.remember_beside.Goals as goal
 

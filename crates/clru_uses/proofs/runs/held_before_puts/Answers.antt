@@ -1,5 +1,5 @@
 use Rattle.std.proofs.Common.{rules, ◌≡◌, [], ◌∷◌, ◌++◌, ◌∙◌}
-use Rattle.clru.specs.Entries.{plain_put}
+use Rattle.clru_model.specs.Entries.{plain_put}
 use Rattle.clru.proofs.CallerLemmas.{IsPut-plain}
 use Rattle.clru_uses.proofs.GrowingRuns.{Runs-push}
 use Rattle.clru_uses.proofs.runs.held_before_puts.Goals as goal

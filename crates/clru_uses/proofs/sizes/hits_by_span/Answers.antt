@@ -2,8 +2,8 @@ use Rattle.std.proofs.Common.{ap, ◌∙◌}
 use Rattle.std.proofs.lemmas.Option.{slice_get-map}
 use Rattle.std.specs.List.{slice_get}
 use Rattle.std.specs.Option.{option_map}
-use Rattle.clru.specs.Sizes.{spans}
-use Rattle.clru.specs.Spans.{is_within}
+use Rattle.clru_model.specs.Sizes.{spans}
+use Rattle.clru_model.specs.Spans.{is_within}
 use Rattle.clru_uses.proofs.sizes.hits_by_span.Goals as goal
 
 pub returns-clause-by_position : goal.returns-clause-by_position

@@ -1,9 +1,9 @@
 use Rattle.std.proofs.Common.{◌≡◌, ◌≤◌, true, nat_eq, is_some, sym, ap, ◌∙◌, subst, arith, rules}
 use Rattle.std.proofs.lemmas.Map.Made.{is_some-lookup}
 use Rattle.std.specs.Map.{keys_of, lookup}
-use Rattle.clru.specs.Entries.{touch, size_of}
-use Rattle.clru.specs.Requests.{holds}
-use Rattle.clru.specs.SizedRuns.{IsSizedPut}
+use Rattle.clru_model.specs.Entries.{touch, size_of}
+use Rattle.clru_model.specs.Requests.{holds}
+use Rattle.clru_model.specs.SizedRuns.{IsSizedPut}
 use Rattle.clru_uses.proofs.sizes.look_again.Goals as goal
 
 pub returns : goal.returns

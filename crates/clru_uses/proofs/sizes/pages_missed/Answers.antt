@@ -5,7 +5,7 @@ use Rattle.std.proofs.lemmas.Iterator.Adapters.{YieldsList-from_vec}
 use Rattle.std.proofs.lemmas.Iterator.Consumers.{YieldsList-end}
 use Rattle.std.proofs.lemmas.List.{length_push}
 use Rattle.std.specs.List.{count_by}
-use Rattle.clru.specs.Sizes.{misses_by_size}
+use Rattle.clru_model.specs.Sizes.{misses_by_size}
 use Rattle.clru_uses.proofs.GrowingSizedRuns.{SizedRuns-push}
 use Rattle.clru_uses.proofs.sizes.pages_missed.Goals as goal
 
