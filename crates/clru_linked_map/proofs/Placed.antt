@@ -1,4 +1,4 @@
--- The entries of a list of nodes: what stands at a place once one is written, taken out or put in.
+-- The entries of a list: what stands at a place once one is written, taken out or put in.
 use Rattle.std.proofs.Common.{◌≡◌, ◌<◌, ℕ, suc, ◌==◌, ◌≤◌, true, false, cond, Option, Some, None, IsSome, List, [], ◌∷◌, map, length, refl, sym, ap, ◌∙◌, subst, arith, inl, inr}
 use Rattle.std.proofs.lemmas.Bool.{cases_eq, eq-eqb, ne_eqb}
 use Rattle.std.specs.Option.{option_map}
