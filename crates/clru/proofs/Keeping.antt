@@ -2,17 +2,16 @@
 use Rattle.std.proofs.Common.{◌≡◌, ℕ, ◌+◌, ◌-◌, ◌<◌, ◌≤◌, Bool, true, false, List, [], ◌∷◌, length, take, drop, min, slice_get, Some, None, refl, sym, ap, ◌∙◌, subst, arith, length-take}
 use Rattle.std.specs.Cmp.{IsEquivalence}
 use Rattle.std.specs.List.{AllByRecursion, IsDistinct}
-use Rattle.std.specs.Map.{keys_of, lookup, lookup_entry, remove_entry}
+use Rattle.std.specs.Map.{keys_of, lookup, remove_entry}
 use Rattle.std.proofs.lemmas.Map.{NonePasses, none_passes_from_lookup}
 use Rattle.std.proofs.lemmas.List.Sorted.{IsPermutation-map, length_permutation, sum_by-IsPermutation}
 use Rattle.std.proofs.lemmas.Map.Keys.{IsDistinct-cons, IsDistinct-IsPermutation}
 use Rattle.std.specs.List.Sorted.{IsPermutation}
-use Rattle.clru_model.specs.Entries.{weight_of, size_of, touch, fit}
+use Rattle.clru_model.specs.Entries.{weight_of, size_of, fit}
 use Rattle.clru_model.proofs.Weights.{weight_of-cons, weight_of-zero}
 use Rattle.clru_model.proofs.Lookups.{lookup-without}
-use Rattle.clru_model.proofs.Forms.{IsForm, form_is}
 use Rattle.clru_model.proofs.Fitting.{sublist_fit, size_of-fit}
-use Rattle.clru_model.proofs.Finding.{IsHeld, weight_of-held, touch-held, touch-missed, held_at, missed_at}
+use Rattle.clru_model.proofs.Finding.{IsHeld, weight_of-held}
 use Rattle.clru_model.proofs.Sublists.{IsSublist, goes, sublist_itself, sublist_remove_entry, sublist_keys, length-sublist, sum_by-sublist, IsDistinct-sublist}
 use Rattle.clru_model.proofs.Sublists.{sublist_take, sublist_trans, lookup-sublist}
 use Rattle.clru_linked_map.specs.LinkedMap.{LinkedMap, linked_map, with_entries}

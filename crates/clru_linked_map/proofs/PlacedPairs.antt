@@ -1,4 +1,4 @@
--- The pairs of the nodes: what a look-up by key and a change at a place say of each other.
+-- The pairs of a list: what a look-up by key and a change at a place say of each other.
 use Rattle.std.proofs.Common.{◌≡◌, ℕ, Bool, true, false, Some, None, List, [], ◌∷◌, ◌++◌, refl, sym, ap, ◌∙◌, subst, inl, inr}
 use Rattle.std.proofs.lemmas.Bool.{cases_eq, cases_Bool, eq-eqb, ne_eqb}
 use Rattle.std.proofs.lemmas.List.{map-append}

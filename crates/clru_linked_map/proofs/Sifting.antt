@@ -1,13 +1,12 @@
 -- The pairs along which a closure is called, place by place: what it was called at, and what is still to come.
-use Rattle.std.proofs.Common.{◌≡◌, ℕ, ◌+◌, ◌<◌, Bool, true, false, cond, Option, Some, None, IsSome, List, [], ◌∷◌, map, length, refl, sym, ap, ◌∙◌, subst, arith, inl, inr}
+use Rattle.std.proofs.Common.{◌≡◌, ℕ, ◌+◌, ◌<◌, Bool, true, false, cond, Option, Some, None, List, [], ◌∷◌, map, length, refl, sym, ap, ◌∙◌, subst, arith, inl, inr}
 use Rattle.std.proofs.lemmas.Bool.{cases_eq, eq-eqb, ne_eqb}
 use Rattle.std.proofs.lemmas.List.{map-append}
 use Rattle.std.specs.List.{FoldsTo}
 use Rattle.std.specs.Map.Calls.{SomeCallAtPair, CallableOnEachPair, RetainsPairs}
-use Rattle.std.specs.Option.{option_map}
 use Rattle.clru_model.specs.Entries.{weight_of}
 use Rattle.clru_model.proofs.Weights.{weight_of-cons}
-use Rattle.clru_list.specs.PlaceList.{PlaceList, place_list, with_entries, item_at, without, with_at, first_place, place_after, IsValid}
+use Rattle.clru_list.specs.PlaceList.{PlaceList, with_entries, item_at, without, with_at, first_place, place_after, IsValid}
 use Rattle.clru_list.proofs.Retaining.{IsRetaining, from_place, some_injective, starts, ends, head, item_here, takes_here, goes_on, fewer}
 use Rattle.clru_linked_map.specs.LinkedMap.{pairs_of}
 use Rattle.clru_linked_map.proofs.Valid.{valid-with_at, valid-without}

@@ -1,5 +1,5 @@
--- Private: how the buckets, the links and the places of nodes go together. No public clause cites it.
-use Rattle.std.specs.Prelude.{◌≡◌, ℕ, zero, suc, ◌+◌, ◌-◌, ◌<◌, ◌≤◌, Bool, true, if◌then◌else◌, Option, Some, None, List, [], ◌∷◌, map, length, slice_index_or, bit_and}
+-- Private: how the buckets, the links and the places of an indexed list go together. No public clause cites it.
+use Rattle.std.specs.Prelude.{◌≡◌, ℕ, zero, suc, ◌+◌, ◌-◌, ◌<◌, ◌≤◌, Bool, true, if◌then◌else◌, Option, Some, None, List, [], ◌∷◌, length, slice_index_or, bit_and}
 use Rattle.std.specs.Option.{option_map}
 use Rattle.clru_list.specs.PlaceList.{item_at}
 use Rattle.clru_list.specs.Places.{nowhere, put}
@@ -99,7 +99,7 @@ module _ {K V S A H : Type 0} where
   abbrev pub home_at : (S → K → ℕ) → IndexedList K V S A H → K → ℕ
   home_at hash x k = bucket_by (length x.index.firsts) (hash x.hash_builder k)
 
-  -- the same of nodes
+  -- the same of an indexed list
   abbrev pub IsChainedAs : (S → K → ℕ) → (ℕ → Option K) → IndexedList K V S A H → Type 0
   IsChainedAs hash key x = IsChainedIn (hash x.hash_builder) x.index key
 

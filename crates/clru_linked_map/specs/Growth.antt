@@ -1,4 +1,4 @@
--- When nodes get places for more pairs, and when they are refused. Public clauses cite it.
+-- When a map gets places for more entries, and when they are refused. Public clauses cite it.
 use Rattle.std.specs.Prelude.{◌≡◌, ℕ, ◌<◌, ◌≤◌}
 
 -- memory for one more pair is found only where that is wanted and the len pairs take each place, and within the capacity

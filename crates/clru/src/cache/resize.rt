@@ -31,7 +31,13 @@ where
             self.new ≡ cache (fit (W.weight self.old.scale) size self.old.entries) size self.old.scale self.old.places }
     {
         let capacity = capacity.get();
-        shrink(&mut self.map, &self.scale, &mut self.total, capacity, &mut |_, _| {});
+        shrink(
+            &mut self.map,
+            &self.scale,
+            &mut self.total,
+            capacity,
+            &mut |_, _| {},
+        );
         self.map.resize(capacity);
     }
 }

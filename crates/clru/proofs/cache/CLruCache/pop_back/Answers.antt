@@ -1,4 +1,4 @@
-use Rattle.std.proofs.Common.{◌-◌, length, take, refl, sym, ap, ◌∙◌, arith}
+use Rattle.std.proofs.Common.{◌-◌, length, take, sym, ap, ◌∙◌, arith}
 use Rattle.clru_model.specs.Entries.{weight_of}
 use Rattle.clru_model.proofs.Ends.{no_last, split_last}
 use Rattle.clru_model.proofs.Sublists.{sublist_take}

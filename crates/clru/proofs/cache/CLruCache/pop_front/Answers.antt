@@ -1,4 +1,4 @@
-use Rattle.std.proofs.Common.{◌∷◌, drop, refl, sym, ap, ◌∙◌, arith}
+use Rattle.std.proofs.Common.{drop, sym, ap, ◌∙◌, arith}
 use Rattle.clru_model.specs.Entries.{weight_of}
 use Rattle.clru_model.proofs.Weights.{weight_of-cons}
 use Rattle.clru.proofs.Keeping.{IsCache-from, IsKept-sublist, no_first, split_first, sublist_past_first}

@@ -1,5 +1,5 @@
 use Rattle.std.proofs.Common.{length, ap, ◌∙◌, subst, sym, arith}
-use Rattle.clru_model.specs.Entries.{fit, weight_of}
+use Rattle.clru_model.specs.Entries.{weight_of}
 use Rattle.clru_model.proofs.Fitting.{size_of-fit}
 use Rattle.clru_linked_map.specs.LinkedMap.{linked_map}
 use Rattle.clru.specs.Fields.{IsCache}
@@ -8,8 +8,11 @@ use Rattle.clru.proofs.cache.CLruCache.resize.Goals as goal
 
 pub resize-requires : goal.resize-requires
 resize-requires g c =
-    omega (arith, ap (λ m. length m.entries) c.shrink.ensures.entries,
-    size_of-fit (g.W.WeightScale.weight c.self.inside.scale) c.get-capacity.result c.self.inside.map.entries)
+    omega (
+      arith,
+      ap (λ m. length m.entries) c.shrink.ensures.entries,
+      size_of-fit (g.W.WeightScale.weight c.self.inside.scale) c.get-capacity.result c.self.inside.map.entries,
+    )
 
 pub invariant_of-self : goal.invariant_of-self
 invariant_of-self g c =

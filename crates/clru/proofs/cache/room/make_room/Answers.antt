@@ -1,8 +1,6 @@
-use Rattle.std.proofs.Common.{◌≡◌, drop, length, reverse, refl, sym, ap, ◌∙◌, subst, arith}
+use Rattle.std.proofs.Common.{drop, length, reverse, refl, sym, ap, ◌∙◌, subst, arith}
 use Rattle.std.proofs.Math.Seq.{drop-length}
-use Rattle.clru_model.specs.Entries.{fit, weight_of}
 use Rattle.clru_model.proofs.Fitting.{length-fit, too_long_fits, whole_is_too_long}
-use Rattle.clru_linked_map.specs.LinkedMap.{linked_map}
 use Rattle.clru.specs.Drops.{HandsOutTo}
 use Rattle.clru.proofs.cache.room.make_room.Goals as goal
 

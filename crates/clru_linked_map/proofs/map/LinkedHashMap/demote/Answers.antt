@@ -17,8 +17,11 @@ invariant_of-self g c =
 pub returns-clause-found : goal.returns-clause-found
 returns-clause-found g c =
     let distinct = rw (← c.self.view_is) at c.requires.distinct in
-    rw (← c.self.view_is, (found_at g.Q.Equivalent.equivalent c.args.key g.met.K.Eq.laws (g.met.Q.Equivalent.respects_eq c.args.key) c.in-Some.place
-    c.self.inside.items.list.entries distinct c.in-Some.ensures.found).value) refl
+    rw (
+      ← c.self.view_is,
+      (found_at g.Q.Equivalent.equivalent c.args.key g.met.K.Eq.laws (g.met.Q.Equivalent.respects_eq c.args.key) c.in-Some.place
+          c.self.inside.items.list.entries distinct c.in-Some.ensures.found).value,
+    ) refl
 
 pub returns-clause-entries : goal.returns-clause-entries
 returns-clause-entries g c =

@@ -1,5 +1,5 @@
 use Rattle.std.proofs.Common.{refl, sym, ap, ◌∙◌}
-use Rattle.clru_linked_map.specs.IndexedList.{item_with, map_of, with_items}
+use Rattle.clru_linked_map.specs.IndexedList.{map_of, with_items}
 use Rattle.clru_linked_map.specs.LinkedMap.{pairs_of}
 use Rattle.clru_linked_map.proofs.Lending.{ends_alike}
 use Rattle.clru_linked_map.proofs.PlacedPairs.{found_item, no_value}

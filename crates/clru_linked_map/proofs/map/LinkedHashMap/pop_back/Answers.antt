@@ -1,6 +1,5 @@
-use Rattle.std.proofs.Common.{◌≡◌, Some, refl, sym, ap, ◌∙◌}
-use Rattle.clru_linked_map.specs.IndexedList.{map_of}
-use Rattle.clru_linked_map.specs.LinkedMap.{linked_map, pairs_of, with_entries}
+use Rattle.std.proofs.Common.{refl, sym, ap, ◌∙◌}
+use Rattle.clru_linked_map.specs.LinkedMap.{linked_map, pairs_of}
 use Rattle.clru_linked_map.proofs.PlaceEnds.{last_at, held_last, last_pair, none_at_last}
 use Rattle.clru_linked_map.proofs.map.LinkedHashMap.pop_back.Goals as goal
 

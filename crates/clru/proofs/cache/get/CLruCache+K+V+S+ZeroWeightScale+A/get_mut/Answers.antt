@@ -1,4 +1,4 @@
-use Rattle.std.proofs.Common.{◌≡◌, Some, slice_get, sym, ap, ◌∙◌}
+use Rattle.std.proofs.Common.{sym, ap, ◌∙◌}
 use Rattle.clru_model.specs.Entries.{touch}
 use Rattle.clru_model.proofs.Finding.{held, first_touched, with_front-set_value}
 use Rattle.clru_model.proofs.Orders.{permutation-touch}
@@ -20,7 +20,7 @@ returns g c =
     let h = held (eq key) c.if-not-touch.ensures.found in
     rw (← c.self.view_is) (
       ends_alike (λ w. ap (λ m. cache (with_value_at 0 w m.entries) m.capacity f.scale m.places) e
-      ∙ ap (λ l. cache l f.map.capacity f.scale f.map.places) (sym (front_at w (touch eq key f.map.entries)) ∙ with_front-set_value eq key h w)),
+          ∙ ap (λ l. cache l f.map.capacity f.scale f.map.places) (sym (front_at w (touch eq key f.map.entries)) ∙ with_front-set_value eq key h w)),
       record { lends = tt; value = first_touched eq key h (ap (λ m. m.entries) e) (sym c.front_mut.ensures.entry) },
     )
 
