@@ -2,12 +2,12 @@
 //!
 //! Each key has a bucket, which its hash picks, and the places of the keys of one bucket are linked to a chain. Clauses here
 //! name places, buckets and links; those of the map's calls speak of its entries alone.
-ghost use Rattle.std.specs.Prelude.{◌≡◌, ◌≤◌, true, false, length, None, IfSome, IfNone};
+ghost use Rattle.std.specs.Prelude.{◌≡◌, ◌<◌, ◌≤◌, true, false, length, None, IfSome, IfNone};
 ghost use Rattle.std.specs.Map.{lookup_entry};
 ghost use Rattle.clru_list.specs.PlaceList.{without, IsValid};
 ghost use Rattle.clru_list.specs.Places.{nowhere};
 ghost use Rattle.clru_linked_map.specs.BucketList.{place_named, tag_by};
-ghost use Rattle.clru_linked_map.specs.Buckets.{key_at, HasHome, IsAt, IsLive, IsTaken};
+ghost use Rattle.clru_linked_map.specs.Buckets.{key_at, HasHome, IsAt, IsLive, IsTaken, IsChainedAs, IsChainedBut, HasHash};
 ghost use Rattle.clru_linked_map.specs.IndexedList.{IsIndexed, KeepsAllButPairs};
 ghost use Rattle.clru_linked_map.specs.LinkedMap.{hash_of, pairs_of};
 
@@ -17,7 +17,6 @@ use std::alloc::Allocator;
 use std::collections::hash_map::Equivalent;
 use std::hash::{BuildHasher, Hash};
 
-mod chaining;
 mod growth;
 mod retain;
 
@@ -122,5 +121,45 @@ impl<K: Eq + Hash, V, S: BuildHasher, A: Allocator + Copy> IndexedList<K, V, S, 
             Some(pair) => pair,
             None => unreachable!(),
         }
+    }
+
+    /// Puts a place to the end of the chain of its key's bucket, where the hash of the key is given.
+    #[inline(always)]
+    pub(crate) fn append(&mut self, hash: u64, place: usize)
+        requires hash { HasHash (hash_of K.Hash S.BuildHasher S.Hasher.Hasher) hash place self.old }
+        requires chained { IsChainedBut (hash_of K.Hash S.BuildHasher S.Hasher.Hasher) place self.old }
+        requires linked { self.old.list.places ≤ length self.old.index.links }
+        requires named { self.old.list.places ≤ self.old.index.bound }
+        requires valid { IsValid self.old.list }
+        ensures chained { IsChainedAs (hash_of K.Hash S.BuildHasher S.Hasher.Hasher)
+            (key_at self.new.list.entries) self.new }
+        ensures list { self.new.list ≡ self.old.list }
+        ensures same { KeepsAllButPairs self.old self.new }
+    {
+        let number = self.index.number_of(place, hash);
+        let bucket = self.index.bucket_of(hash);
+        self.index.set_next(place, 0);
+        let (last, behind) = self.index.before(bucket, NOWHERE);
+        self.index.note(bucket, last, behind, true);
+        self.index.link(bucket, last, number);
+    }
+
+    /// Takes a place out of the chain of its key's bucket.
+    #[inline(always)]
+    pub(crate) fn unchain(&mut self, bucket: usize, place: usize)
+        requires home { HasHome (hash_of K.Hash S.BuildHasher S.Hasher.Hasher) bucket place self.old }
+        requires chained { IsChainedAs (hash_of K.Hash S.BuildHasher S.Hasher.Hasher)
+            (key_at self.old.list.entries) self.old }
+        requires linked { self.old.list.places ≤ length self.old.index.links }
+        requires valid { IsValid self.old.list }
+        ensures chained { IsChainedBut (hash_of K.Hash S.BuildHasher S.Hasher.Hasher) place self.new }
+        ensures list { self.new.list ≡ self.old.list }
+        ensures same { KeepsAllButPairs self.old self.new }
+    {
+        let (before, behind) = self.index.before(bucket, place);
+        let next = self.index.next(place);
+        let leads = self.index.is_named(next);
+        self.index.link(bucket, before, next);
+        self.index.note(bucket, before, behind, leads);
     }
 }

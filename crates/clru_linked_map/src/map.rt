@@ -1,13 +1,12 @@
-//! `LinkedHashMap`: its makers, what it was made with, and looking for a key.
-ghost use Rattle.std.specs.Prelude.{◌≡◌, ◌<◌, ◌≤◌, ◌^◌, [], length, min, IfOk, IfErr, IsOk, OnOk, option_copied};
+//! `LinkedHashMap`: its makers, what it was made with, looking for a key, and moving its entry.
+ghost use Rattle.std.specs.Prelude.{◌≡◌, ◌^◌, ◌<◌, ◌≤◌, [], length, min, IfOk, IfErr, IsOk, OnOk, option_copied, is_some};
 ghost use Rattle.std.specs.List.{IsDistinct};
 ghost use Rattle.std.specs.Map.{keys_of, lookup};
-ghost use Rattle.clru_linked_map.specs.LinkedMap.{hash_of, linked_map};
+ghost use Rattle.clru_linked_map.specs.LinkedMap.{hash_of, linked_map, with_entries};
+ghost use Rattle.clru_model.specs.Entries.{demote, touch};
 
 mod debug;
 mod ends;
-mod growth;
-mod moves;
 mod push;
 mod remove;
 mod retain;
@@ -142,5 +141,35 @@ impl<K: Eq + Hash, V, S: BuildHasher, A: Allocator + Copy> LinkedHashMap<K, V, S
     {
         let place = self.items.find(hash, key)?;
         Some(&self.items.list.item(place).1)
+    }
+
+    /// Moves the entry of the key, whose hash is given, to the front, and returns whether there is one.
+    #[inline(always)]
+    pub fn touch<Q: Equivalent<K>>(&mut self, hash: u64, key: Q) -> bool
+        requires hash { hash ≡ hash_of Q.Hash S.BuildHasher S.Hasher.Hasher self.old.builder key }
+        requires distinct { IsDistinct K.eq (keys_of self.old.entries) }
+        ensures found { result ≡ is_some (lookup (Q.equivalent key) self.old.entries) }
+        ensures entries { self.new ≡ with_entries self.old (touch Q.equivalent key self.old.entries) }
+        ensures held { length self.new.entries ≤ self.new.places }
+    {
+        let Some(place) = self.items.find(hash, key) else {
+            return false;
+        };
+        self.items.list.bring_front(place);
+        true
+    }
+
+    /// Moves the entry of the key, whose hash is given, to the back, and returns whether there is one.
+    pub fn demote<Q: Equivalent<K>>(&mut self, hash: u64, key: Q) -> bool
+        requires hash { hash ≡ hash_of Q.Hash S.BuildHasher S.Hasher.Hasher self.old.builder key }
+        requires distinct { IsDistinct K.eq (keys_of self.old.entries) }
+        ensures found { result ≡ is_some (lookup (Q.equivalent key) self.old.entries) }
+        ensures entries { self.new ≡ with_entries self.old (demote Q.equivalent key self.old.entries) }
+    {
+        let Some(place) = self.items.find(hash, key) else {
+            return false;
+        };
+        self.items.list.move_back(place);
+        true
     }
 }
