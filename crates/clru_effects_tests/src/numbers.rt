@@ -1,8 +1,7 @@
 //! Packed numbers of either form: what they hold, and the bytes that they ask for.
 
-use assertions::equal;
 use clru_list::{NoMemory, PackedNumbers};
-use ration::Rationed;
+use ration::{Rationed, equal};
 
 /// 4 bytes each, until one does not fit; a refused widening leaves them.
 #[test]

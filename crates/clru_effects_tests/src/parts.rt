@@ -52,8 +52,11 @@ struct Name(u64);
 
 #[test]
 fn a_map_prints_nothing_of_its_entries(rt: HostRuntime) -> Result<(), Fail> {
-    let map: LinkedHashMap<Name, Name, DefaultState, Global> =
-        LinkedHashMap::new(rt.alloc(), 3, DefaultState);
+    let map: LinkedHashMap<Name, Name, DefaultState, Global> = LinkedHashMap::new(
+        rt.alloc(),
+        3,
+        DefaultState,
+    );
     equal!(rt; shows(rt.alloc(), &map, "LinkedHashMap { len: 0, capacity: 3 }")?, true);
     Ok(())
 }
