@@ -7,8 +7,9 @@ ghost use Rattle.clru_model.specs.Requests.{distinct};
 ghost use Rattle.clru_report.specs.Report.{AreRowsOfSample, IsInFormOfSample};
 ghost use Rattle.clru_report.specs.Samples.{fnv, is_kept as is_kept_by, numbers_of, numbers_times, times as times_of};
 
-use crate::options::Options;
+use crate::options::{Form, Options};
 use crate::rows::{Row, rows_for};
+use crate::table::summary_of;
 use crate::text::{Counts, text_by_keys};
 use clru_curve::MissCurve;
 use std::alloc::{AllocError, Allocator};
@@ -51,11 +52,15 @@ pub(crate) fn text_of_sample<A: Allocator + Copy>(
         → IfOk result (λ text. IsInFormOfSample options.now.form options.now (non_zero_usize_get one_in) requests kept
         input (string_bytes text)) }
 {
+    let distinct = times(one_in, usize::MAX, curve.distinct());
+    if let Form::Summary = options.form {
+        return summary_of(alloc, requests, distinct, bytes);
+    }
     let rows = rows_of_sample(alloc, options, curve, one_in, requests)?;
     let counts = Counts {
         one_in,
         requests,
-        distinct: times(one_in, usize::MAX, curve.distinct()),
+        distinct,
         bytes,
     };
     text_by_keys(alloc, options, curve, &rows, false, counts)

@@ -13,5 +13,5 @@ returns g c input kept has many in_bytes =
     (c.in_ok-rows.ensures kept has many) in
     ok_map c.text_by_keys.result
     (λ text t. form_of_sample options input n kept options.form _ _ (string_bytes text) t shown
-    (c.times.ensures ∙ ap (times n (2 ^ 64 - 1)) (c.distinct.ensures ∙ many)) in_bytes)
+    (c.times-distinct.ensures ∙ ap (times n (2 ^ 64 - 1)) (c.distinct.ensures ∙ many)) in_bytes)
     c.text_by_keys.ensures
