@@ -28,7 +28,7 @@ static OF_SAMPLES: &[(Form, bool, u64, u64, u64)] = &[
     (Form::Table, true, 514, 57, 93739),
     (Form::Picture, false, 514, 50, 86200),
     (Form::Picture, true, 514, 76, 136542),
-    (Form::Summary, false, 514, 23, 68208),
+    (Form::Summary, false, 514, 19, 67888),
     (Form::Summary, true, 514, 37, 92743),
 ];
 
