@@ -70,7 +70,7 @@ module _ {K : Type 0} (eq : K → K → Bool) (weight : K → ℕ) where
         let one : missed_size eq weight c (reverse (x ∷ past)) ≡ missed_size eq weight c (reverse past) + (1 + weight x) = rw miss at pushed in
         omega (arith, one, are.size c, sum_by-cons (λ y. 1 + weight y) x past);
     again =
-        let more : distinct eq (x ∷ past) ≡ suc (distinct eq past) = rw absent refl in
+        let more : distinct eq (x ∷ past) ≡ 1 + distinct eq past = rw absent refl in
         omega (arith, more, are.again);
   }
 
