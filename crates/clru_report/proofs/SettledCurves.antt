@@ -6,7 +6,7 @@ use Rattle.std.proofs.lemmas.Slice.Eq.{bytes_eq-Decides}
 use Rattle.clru_curve.specs.SizedCurves.{CurveBySize, IsSizedCurveOf, greatest_of}
 use Rattle.clru_model.proofs.Cases.{split}
 use Rattle.clru_model.proofs.Spans.{room_misses_first}
-use Rattle.clru_model.proofs.Distinct.{total_by_key}
+use Rattle.clru_model.proofs.Distinct.{sum_by_key}
 use Rattle.clru_model.specs.Requests.{holds}
 use Rattle.clru_model.specs.Sizes.{SameWeights, total}
 use Rattle.clru_report.specs.Passes.{IsSettled}
@@ -40,7 +40,7 @@ same_weights x y t = ap weight_of_line (same_bytes x y t)
 module _ {K : Type 0} (eq : K → K → Bool) (laws : IsEquivalence eq) (weight : K → ℕ) (same : SameWeights eq weight) where
   -- a key that is held has its size among all
   held_within : (x : K) (ks : List K) → holds eq x ks ≡ true → 1 + weight x ≤ total eq weight ks
-  held_within x ks h = let all = rw h at (total_by_key eq laws weight same x ks) in omega (arith, all)
+  held_within x ks h = let all = rw h at (sum_by_key eq laws (λ y. 1 + weight y) (λ a b e. omega (arith, same a b e)) x ks) in omega (arith, all)
 
   -- the greatest weight is below the size of the distinct keys
   greatest_below : (ks : List K) → greatest_of weight ks ≤ total eq weight ks - 1
