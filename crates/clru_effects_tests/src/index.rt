@@ -12,7 +12,7 @@ const NONE: u64 = 9;
 /// one is refused, and then: the bytes of these requests, and those that are held at last.
 type Row = (usize, usize, u64, usize, u64, u64, u64);
 
-// A growth past the limit asks for heads that can name the new places, for these, and for the upper halves of their links.
+// A growth past the limit asks for buckets that can name the new places, for these, and for the upper halves of their links.
 static GROWTHS: &[Row] = &[
     (255, 600, 64, 600, 0, 24576, 48576),
     (255, 600, 64, 600, 1, 32768, 48576),
@@ -20,7 +20,7 @@ static GROWTHS: &[Row] = &[
     (255, 200, 200, 600, 0, 24576, 48576),
     (255, 200, 200, 600, 1, 43776, 48576),
     (255, 200, 200, 600, 2, 48576, 48576),
-    // wide heads for narrow places: those for all 256 pairs are made for the seventeenth
+    // wide buckets for narrow places: those for all 256 pairs are made for the seventeenth
     (255, 256, 64, 256, 0, 8192, 16384),
     (255, 256, 64, 256, 1, 10240, 16384),
     // on both sides of the limit, with nothing refused

@@ -13,7 +13,7 @@ pub(crate) type Plain<'a> = CLruCache<
     &'a Rationed<Global>,
 >;
 
-/// The requests of a growth that makes the index: for the places of the list, and for the heads with the links of their chains.
+/// The requests of a growth that makes the index: for the places of the list, and for the buckets with the links of their chains.
 pub(crate) const REQUESTS: u64 = 2;
 
 /// Whether the cache holds the keys below `stored` and no other, each with ten more as its value, the highest first: by a walk

@@ -31,7 +31,7 @@ pub(crate) struct HashIndex<A: Allocator + Copy> {
     mask: usize,
     // The bits of a tag: those between the mask and the highest one.
     tags: usize,
-    // HashIndex for more places have 8 bytes for each. A test sets it low, to reach that form.
+    // An index for more places has 8 bytes for each. A test sets it low, to reach that form.
     limit: usize,
 }
 
@@ -61,7 +61,7 @@ impl<A: Allocator + Copy> HashIndex<A> {
         }
     }
 
-    /// HashIndex of empty chains, with links for so many places, and which can name these. Without places they take no memory.
+    /// Creates an index of empty chains, with links for so many places, which it can name. Without places it takes no memory.
     pub(crate) fn empty(alloc: A, places: usize, limit: usize) -> Result<Self, NoMemory>
         ensures free { IfOk result (λ x. (h : ℕ) → number_in x.firsts h ≡ 0) }
         ensures linked { IfOk result (λ x. places ≤ length x.links) }

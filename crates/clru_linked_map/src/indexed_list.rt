@@ -2,22 +2,21 @@
 //!
 //! Each key has a bucket, which its hash picks, and the places of the keys of one bucket are linked to a chain. Clauses here
 //! name places, buckets and links; those of the map's calls speak of its entries alone.
-ghost use Rattle.std.specs.Prelude.{◌≡◌, ◌<◌, ◌≤◌, true, false, length, None, IfSome, IfNone};
+ghost use Rattle.std.specs.Prelude.{◌≡◌, ℕ, ◌<◌, ◌≤◌, true, false, length, None, IfSome, IfNone, OnOk, OnErr};
 ghost use Rattle.std.specs.Map.{lookup_entry};
 ghost use Rattle.clru_list.specs.PlaceList.{without, IsValid};
 ghost use Rattle.clru_list.specs.Places.{nowhere};
 ghost use Rattle.clru_linked_map.specs.BucketList.{place_named, tag_by};
-ghost use Rattle.clru_linked_map.specs.Buckets.{key_at, HasHome, IsAt, IsLive, IsTaken, IsChainedAs, IsChainedBut, HasHash};
-ghost use Rattle.clru_linked_map.specs.IndexedList.{IsIndexed, KeepsAllButPairs};
+ghost use Rattle.clru_linked_map.specs.Buckets.{key_at, HasHome, IsAt, IsLive, IsTaken, IsChainedAs, IsChainedBut, HasHash, number_in, KeepsPlaces};
+ghost use Rattle.clru_linked_map.specs.IndexedList.{IsIndexed, KeepsAllButPairs, pairs_in, KeepsPairs};
 ghost use Rattle.clru_linked_map.specs.LinkedMap.{hash_of, pairs_of};
 
+use clru_list::{FixedSizeList, NOWHERE, NoMemory};
 use crate::hash_index::HashIndex;
-use clru_list::{FixedSizeList, NOWHERE};
 use std::alloc::Allocator;
 use std::collections::hash_map::Equivalent;
 use std::hash::{BuildHasher, Hash};
 
-mod growth;
 mod retain;
 
 /// Pairs in order, found by the hash of their keys.
@@ -161,5 +160,82 @@ impl<K: Eq + Hash, V, S: BuildHasher, A: Allocator + Copy> IndexedList<K, V, S, 
         let leads = self.index.is_named(next);
         self.index.link(bucket, before, next);
         self.index.note(bucket, before, behind, leads);
+    }
+
+    /// Finds memory for one more pair, where each place is taken. It is called seldom, and stands out of line for that.
+    #[cold]
+    #[inline(never)]
+    pub(crate) fn grow(&mut self) -> Result<(), NoMemory>
+        requires below { length (pairs_in self.old) < self.old.list.capacity }
+        requires taken { self.old.list.places ≤ length (pairs_in self.old) }
+        requires indexed { IsIndexed (hash_of K.Hash S.BuildHasher S.Hasher.Hasher) self.old }
+        ensures ready { OnOk result (length (pairs_in self.new) < self.new.list.places) }
+        ensures never_falls { self.old.list.places ≤ self.new.list.places }
+        ensures bounded { self.new.list.places ≤ self.old.list.capacity }
+        ensures refused { OnErr result (self.new.list.places ≡ self.old.list.places) }
+        ensures indexed { IsIndexed (hash_of K.Hash S.BuildHasher S.Hasher.Hasher) self.new }
+        ensures keeps { KeepsPairs self.old self.new }
+    {
+        let places = self.list.grown_places();
+        self.make_index(places)?;
+        self.list.make_ready()
+    }
+
+    /// Finds memory for the buckets of so many places, or of more, and chains all keys anew, unless there are as many.
+    fn make_index(&mut self, places: usize) -> Result<(), NoMemory>
+        requires some { 0 < places }
+        requires indexed { IsIndexed (hash_of K.Hash S.BuildHasher S.Hasher.Hasher) self.old }
+        ensures linked { OnOk result (places ≤ length self.new.index.links) }
+        ensures named { OnOk result (places ≤ self.new.index.bound) }
+        ensures indexed { IsIndexed (hash_of K.Hash S.BuildHasher S.Hasher.Hasher) self.new }
+        ensures keeps { KeepsPlaces self.old self.new }
+    {
+        if places <= self.index.link_count() {
+            return Ok(());
+        }
+        self.index = self.index.empty_resized(self.index_places_for(places))?;
+        self.relink();
+        Ok(())
+    }
+
+    /// Returns for how many places buckets are made if so many are wanted. From a quarter of the capacity on it is all of it,
+    /// so that no key is chained anew once more while the map fills up.
+    fn index_places_for(&self, places: usize) -> usize
+        ensures { places ≤ result }
+    {
+        let capacity = self.list.capacity();
+        if places < capacity / 4 {
+            places
+        } else {
+            places.max(capacity)
+        }
+    }
+
+    /// Chains all keys, where each bucket is empty.
+    fn relink(&mut self)
+        requires free { (h : ℕ) → number_in self.old.index.firsts h ≡ 0 }
+        requires linked { self.old.list.places ≤ length self.old.index.links }
+        requires named { self.old.list.places ≤ self.old.index.bound }
+        ensures chained { IsChainedAs (hash_of K.Hash S.BuildHasher S.Hasher.Hasher)
+            (key_at self.new.list.entries) self.new }
+        ensures list { self.new.list ≡ self.old.list }
+        ensures same { KeepsAllButPairs self.old self.new }
+    {
+        // From the last place, so that what came in first stands first in its chain.
+        let mut place = self.list.places();
+        while place > 0 {
+            place -= 1;
+            let Some(item) = self.list.get(place) else {
+                continue;
+            };
+            let hash = self.hash(&item.0);
+            let bucket = self.index.bucket_of(hash);
+            let first = self.index.first(bucket);
+            let number = self.index.number_of(place, hash);
+            let leads = self.index.is_named(first);
+            let noted = self.index.noted(number, leads);
+            self.index.link(bucket, place, first);
+            self.index.link(bucket, NOWHERE, noted);
+        }
     }
 }

@@ -15,7 +15,6 @@ use std::marker::Model;
 
 mod index;
 mod order;
-mod push;
 mod remove;
 mod retain;
 mod walk;

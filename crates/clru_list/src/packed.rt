@@ -135,7 +135,7 @@ impl<A: Allocator + Copy> PackedNumbers<A> {
         }
     }
 
-    /// Writes the number at an index, unless it is the only one.
+    /// Writes the number at an index. There must be another number too.
     pub fn set(&mut self, at: usize, number: usize)
         requires at { at < length self.old.numbers }
         requires some { 1 < length self.old.numbers }
@@ -177,12 +177,13 @@ impl<A: Allocator + Copy> PackedNumbers<A> {
         }
     }
 
-    /// Makes numbers up to `greatest` fit. If memory is refused, nothing changes.
+    /// Makes numbers up to `greatest` fit. If memory is refused, nothing changes. An empty list cannot be widened.
     /// Cost: none if they fit already; otherwise one request for memory, and a copy of each number.
     pub fn widen_for(&mut self, greatest: usize) -> Result<(), NoMemory>
         requires { self.old.greatest < greatest → 0 < length self.old.numbers }
         ensures fits { OnOk result (greatest ≤ self.new.greatest) }
         ensures numbers { self.new.numbers ≡ self.old.numbers }
+        ensures stays { greatest ≤ self.old.greatest → self.new ≡ self.old }
         ensures refused { OnErr result (self.new ≡ self.old) }
     {
         if greatest <= self.greatest() {

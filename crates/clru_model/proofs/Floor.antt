@@ -6,7 +6,7 @@ use Rattle.std.proofs.Math.Nat.{le-div_iff_mul-le, max-le}
 use Rattle.std.proofs.lemmas.List.Sums.{sum_by-cons}
 use Rattle.std.specs.List.{AllByRecursion, sum_by}
 use Rattle.clru_model.specs.Bypass.{ServesOrPasses}
-use Rattle.clru_model.specs.Floor.{greatest_by, gap, gaps_after, price_of_hits, HitsArePaid, FloorIsBelow, SizeFloorIsBelow, FloorIsBelowLeast}
+use Rattle.clru_model.specs.Floor.{greatest_of, gap, gaps_after, price_of_hits, HitsArePaid, FloorIsBelow, SizeFloorIsBelow, FloorIsBelowLeast}
 use Rattle.clru_model.specs.Floor.{IsBypassScheduleBySize, volume, volumes_after, spared_after, most_hits}
 use Rattle.clru_model.specs.Schedule.{Schedules, schedule_misses}
 use Rattle.clru_model.proofs.Bound.{schedule_missed_weightless, schedule_weightless}
@@ -111,7 +111,7 @@ module _ {K : Type 0} (eq : K → K → Bool) (laws : IsEquivalence eq) (weight 
       ]
 
 -- the greatest of numbers that are at most m is at most m
-greatest-le : (f : ℕ → ℕ) (n m : ℕ) (ms : List ℕ) → n ≤ m → AllByRecursion (λ i. f i ≤ m) ms → greatest_by f n ms ≤ m
+greatest-le : (f : ℕ → ℕ) (n m : ℕ) (ms : List ℕ) → n ≤ m → AllByRecursion (λ i. f i ≤ m) ms → greatest_of f n ms ≤ m
 greatest-le f n m [] first all = first
 greatest-le f n m (i ∷ ms) first all = max-le all.0 (greatest-le f n m ms first all.1)
 

@@ -2,17 +2,18 @@
 use Rattle.std.proofs.Common.{◌≡◌, ℕ, suc, ◌+◌, ◌-◌, ◌≤◌, Bool, true, Some, List, [], ◌∷◌, refl, sym, ap, ◌∙◌, subst, arith, ltb, ltb-true}
 use Rattle.std.proofs.lemmas.Bool.{ltb-false}
 use Rattle.std.specs.Cmp.{IsEquivalence}
-use Rattle.std.specs.List.{AllByRecursion}
+use Rattle.std.specs.List.{AllByRecursion, filter}
 use Rattle.std.specs.Map.{keys_of, lookup_entry}
 use Rattle.clru_model.specs.Entries.{without, size_of, fit, weighted_put}
 use Rattle.clru_model.specs.Requests.{holds}
 use Rattle.clru_model.specs.Runs.{IsRunOf, held_before}
 use Rattle.clru_model.specs.SizedSchedule.{IsCompetitiveBySize, IsCompetitiveBySizeFromAnyStart}
-use Rattle.clru_model.specs.Sizes.{SameWeights, missed_size}
+use Rattle.clru_model.specs.Sizes.{SameWeights, hit_by_size, marks_by_size_after, missed_size}
 use Rattle.clru_model.specs.Spans.{size_of_misses}
 use Rattle.clru_model.proofs.Bound.{competitive_by_size, competitive_by_size_from_any_start}
 use Rattle.clru_model.proofs.Spans.{missed_by_marks}
 use Rattle.clru_model.specs.SizedRuns.{IsSizedPut, IsSizedPutRun, IsPutIfLight, PutsWeighAsKeys, SizedPutsHit, TouchesArePuts, LightPutsHit}
+use Rattle.clru_model.specs.SizedRuns.{marks_where, marks_of_light_after, LightMarksAreOfOthers}
 use Rattle.clru_model.proofs.Cases.{split}
 use Rattle.clru_model.proofs.Fitting.{size_of-cons, sublist_fit, whole_is_too_long, too_long_fits}
 use Rattle.clru_model.proofs.SizedRuns.{held_before_marks_by_size, held_before_marks_of_light}
@@ -105,6 +106,18 @@ module _ {K V : Type 0} (eq : K → K → Bool) (pair_weight : K → V → ℕ) 
   without_same : IsEquivalence eq → (x y : K) (es : List (K × V)) → eq x y ≡ true → without eq x es ≡ without eq y es
   without_same laws x y [] same = refl
   without_same laws x y (e ∷ es) same = rw (laws.congr x y e.0 same, without_same laws x y es same) refl
+
+module _ {K : Type 0} (eq : K → K → Bool) where
+  light_marks_after : (weight : K → ℕ) (c : ℕ) (past rs : List K)
+      → marks_where (λ x. ltb (weight x) c) (marks_of_light_after eq weight c past rs) rs
+      ≡ marks_by_size_after eq weight c past (filter (λ x. ltb (weight x) c) rs)
+  light_marks_after weight c past [] = refl
+  light_marks_after weight c past (x ∷ rs) = split (ltb (weight x) c)
+      (λ t. rw (t, t) (ap (λ ms. hit_by_size eq weight c x past ∷ ms) (light_marks_after weight c (x ∷ past) rs)))
+      (λ f. rw (f, f) (light_marks_after weight c past rs))
+
+  pub light_marks_are_of_others : LightMarksAreOfOthers eq
+  light_marks_are_of_others weight c rs = light_marks_after weight c [] rs
 
 module _ {K : Type 0} (eq : K → K → Bool) (V : Type 0) where
   pub sized_puts_hit : IsEquivalence eq → SizedPutsHit eq V

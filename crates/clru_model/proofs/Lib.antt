@@ -16,6 +16,7 @@ pub mod EntryRows
 pub mod Finding
 pub mod Fitting
 pub mod Floor
+pub mod FloorRows
 pub mod Forms
 pub mod GetRuns
 pub mod Growing

@@ -10,9 +10,9 @@ use Rattle.clru_model.specs.SizedSchedule.{schedule_missed_size}
 use Rattle.clru_model.specs.Sizes.{SameWeights, total}
 
 -- the greatest of the number n and of what f gives at the others
-abbrev pub greatest_by : (ℕ → ℕ) → ℕ → List ℕ → ℕ
-greatest_by f n [] = n
-greatest_by f n (m ∷ ms) = max (f m) (greatest_by f n ms)
+abbrev pub greatest_of : (ℕ → ℕ) → ℕ → List ℕ → ℕ
+greatest_of f n [] = n
+greatest_of f n (m ∷ ms) = max (f m) (greatest_of f n ms)
 
 module _ {K : Type 0} (eq : K → K → Bool) where
   -- how many positions after its latest request x is requested again
@@ -55,11 +55,11 @@ module _ {K : Type 0} (eq : K → K → Bool) (weight : K → ℕ) where
 
   -- a floor of the misses at the size h: by a price that is one of the volumes, and at least each key's first request
   abbrev pub floor_misses : ℕ → List K → ℕ
-  floor_misses h rs = greatest_by (λ v. length rs - most_hits (λ _. 1) h v rs) (distinct eq (reverse rs)) (volumes_after [] rs)
+  floor_misses h rs = greatest_of (λ v. length rs - most_hits (λ _. 1) h v rs) (distinct eq (reverse rs)) (volumes_after [] rs)
 
   -- a floor of the missed size: by a price that is one of the gaps times the size
   abbrev pub floor_missed_size : ℕ → List K → ℕ
-  floor_missed_size h rs = greatest_by (λ g. sum_by (λ x. 1 + weight x) rs - most_hits (λ x. 1 + weight x) h g rs)
+  floor_missed_size h rs = greatest_of (λ g. sum_by (λ x. 1 + weight x) rs - most_hits (λ x. 1 + weight x) h g rs)
       (total eq weight (reverse rs)) (gaps_after eq [] rs)
 
 module _ {K : Type 0} (eq : K → K → Bool) where

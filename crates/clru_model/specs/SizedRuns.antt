@@ -1,6 +1,6 @@
 -- Runs of puts by weight, where the weight of a pair is that of its key. Public clauses cite them.
 use Rattle.std.specs.Prelude.{◌≡◌, ℕ, ◌<◌, ◌≤◌, Bool, true, false, if◌then◌else◌, nat_lt, Some, List, [], ◌∷◌}
-use Rattle.std.specs.List.{slice_get}
+use Rattle.std.specs.List.{slice_get, filter}
 use Rattle.std.specs.Map.{keys_of}
 use Rattle.clru_model.specs.Entries.{touch, size_of, weighted_put}
 use Rattle.clru_model.specs.Requests.{holds}
@@ -40,6 +40,12 @@ module _ {K : Type 0} (eq : K → K → Bool) (weight : K → ℕ) (c : ℕ) whe
 
   abbrev pub marks_of_light : List K → List Bool
   marks_of_light requests = marks_of_light_after [] requests
+
+-- of the marks those of the requests that pass the test
+abbrev pub marks_where : {K : Type 0} → (K → Bool) → List Bool → List K → List Bool
+marks_where test [] requests = []
+marks_where test (mark ∷ ms) [] = []
+marks_where test (mark ∷ ms) (x ∷ rs) = if test x then mark ∷ marks_where test ms rs else marks_where test ms rs
 
 -- of the entries after each put, the first pair, which was put, weighs what its key does
 abbrev pub PutsWeighAsKeys : {K V : Type 0} → (K → ℕ) → (K → V → ℕ) → List (List (K × V)) → Type 0
@@ -108,3 +114,10 @@ module _ {K : Type 0} (eq : K → K → Bool) (V : Type 0) where
       → IsSizedPutRun eq pair_weight c ([] ∷ later) requests
       → slice_get (held_before eq ([] ∷ later) requests) i ≡ Some true
       → slice_get (marks_by_size eq low c requests) i ≡ Some true
+
+module _ {K : Type 0} (eq : K → K → Bool) where
+  -- where puts of keys that are too heavy are refused, the others' marks are those of the list without these keys
+  abbrev pub LightMarksAreOfOthers : Type 0
+  LightMarksAreOfOthers = (weight : K → ℕ) (c : ℕ) (requests : List K)
+      → marks_where (λ x. nat_lt (weight x) c) (marks_of_light eq weight c requests) requests
+      ≡ marks_by_size eq weight c (filter (λ x. nat_lt (weight x) c) requests)

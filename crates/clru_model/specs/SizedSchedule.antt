@@ -1,7 +1,7 @@
 -- Schedules where the size of the keys held is bounded, and the competitive bound by size. Public clauses cite them.
-use Rattle.std.specs.Prelude.{ℕ, ◌+◌, ◌-◌, ◌*◌, ◌≤◌, Bool, if◌then◌else◌, List, [], ◌∷◌}
+use Rattle.std.specs.Prelude.{◌≡◌, ℕ, ◌+◌, ◌-◌, ◌*◌, ◌≤◌, Bool, if◌then◌else◌, List, [], ◌∷◌}
 use Rattle.clru_model.specs.Requests.{holds}
-use Rattle.clru_model.specs.Schedule.{Schedules, Serves}
+use Rattle.clru_model.specs.Schedule.{Schedules, Serves, IsSchedule, schedule_misses}
 use Rattle.clru_model.specs.Sizes.{SameWeights, total, missed_size}
 
 module _ {K : Type 0} (eq : K → K → Bool) (weight : K → ℕ) where
@@ -37,3 +37,13 @@ module _ {K : Type 0} (eq : K → K → Bool) where
   abbrev pub MissedSizeCompetesFromAnyStart : Type 0
   MissedSizeCompetesFromAnyStart = (weight : K → ℕ) (c : ℕ) (requests : List K) → SameWeights eq weight
       → IsCompetitiveBySizeFromAnyStart eq weight c requests (missed_size eq weight c requests)
+
+  -- where keys weigh nothing, the size that a schedule misses is the number of its misses
+  abbrev pub WeightlessScheduleMissesAreMisses : Type 0
+  WeightlessScheduleMissesAreMisses = (held : List (List K)) (requests : List K)
+      → schedule_missed_size eq (λ _. 0) held requests ≡ schedule_misses eq held requests
+
+  -- and a schedule of so many keys is one of that size
+  abbrev pub SchedulesAreWeightless : Type 0
+  SchedulesAreWeightless = (h : ℕ) (held : List (List K)) (requests : List K) → IsSchedule eq h held requests
+      → IsScheduleBySize eq (λ _. 0) h held requests

@@ -10,7 +10,9 @@ ghost use Rattle.clru_model.specs.Laws.{FitIsLongest, OnlyFitIsLongest};
 ghost use Rattle.clru_model.specs.SizedRuns.{SizedPutsHit, LightPutsHit, TouchesArePuts, SizedGetsOrPutsArePuts};
 ghost use Rattle.clru_model.specs.SizedRuns.{HighHitsAreHeld, HeldHitsByLow};
 ghost use Rattle.clru_model.specs.SizedRuns.{SizedPutsCompete, SizedPutsCompeteFromAnyStart};
+ghost use Rattle.clru_model.specs.SizedRuns.{LightMarksAreOfOthers};
 ghost use Rattle.clru_model.specs.SizedSchedule.{MissedSizeCompetes, MissedSizeCompetesFromAnyStart};
+ghost use Rattle.clru_model.specs.SizedSchedule.{WeightlessScheduleMissesAreMisses, SchedulesAreWeightless};
 ghost use Rattle.clru_model.specs.Spans.{HitsAreWithin, MarksAreWithin, MissedSizeIsOfMarks, RoomForTotalMissesFirst};
 ghost use Rattle.clru_model.specs.Spans.{HitsBySizeGrow, MissesBySizeFall, MissedSizeFalls};
 ghost use Rattle.clru_model.specs.Spans.{WeightlessTotalIsDistinct, WeightlessMarksAreMarks, WeightlessMissedSizeIsMisses};
@@ -64,8 +66,9 @@ pub fn law_inclusion<K: Eq, V>()
 
 /// Does nothing at run time. Its contract says that a cache of weight zero, empty at first, that takes each key of a list in
 /// turn by one of the puts, in whichever form, holds a key before its put exactly where `replay` of the list marks a hit, and
-/// that the puts whose key it does not hold keep the bound that `replay` keeps. So does a loop that looks each key up and puts it
-/// only where the look-up finds nothing: its runs are runs of puts. What plain puts drop and what they leave is as much as misses.
+/// that the puts whose key it does not hold keep the bound that `replay` keeps. A loop that looks each key up, and puts it only if
+/// the look-up finds nothing, is such a run of puts. The pairs that plain puts drop and the entries left at the end together
+/// number the misses.
 ///
 /// No put is refused, and no other call changes the cache.
 pub fn law_requests<K: Eq, V>()
@@ -123,12 +126,13 @@ pub fn law_distances<K: Eq>()
 /// key leaves what a put of its pair does. A request hits at the sizes from its span on, so one list of spans has the hits at every
 /// size. Where each key weighs 0, all this is what it is for numbers of keys.
 ///
-/// At a capacity that is not above each weight, puts of the heavier keys are refused and miss, and the others hit as if those
-/// were not there. If the weight of a key changes between its puts, what would hit by the highest weights is held, and what is
+/// At a capacity that is not above each weight, puts of the heavier keys are refused and miss, and the others have the marks of the
+/// list without them. If the weight of a key changes between its puts, what would hit by the highest weights is held, and what is
 /// held would hit by the lowest.
 pub fn law_sizes<K: Eq, V>()
     ensures puts { SizedPutsHit K.eq V }
     ensures light_puts { LightPutsHit K.eq V }
+    ensures light_marks { LightMarksAreOfOthers K.eq }
     ensures changing_high { HighHitsAreHeld K.eq V }
     ensures changing_low { HeldHitsByLow K.eq V }
     ensures gets { TouchesArePuts K.eq V }
@@ -148,12 +152,16 @@ pub fn law_sizes<K: Eq, V>()
 
 /// Does nothing at run time. Its contract says that, if equal keys have equal weights, the missed size at `c` is at most
 /// `c / (c - h + 1)` times what any schedule of the size `h` misses, for `h` from 1 to `c`, and at most `h` more than that beside
-/// schedules that start with keys. The weighted puts of a cache keep this bound too.
+/// schedules that start with keys. So do the weighted puts of a cache that is empty at first, if none is refused and each pair
+/// weighs what its key does. A schedule holds each requested key, so of sizes `h` below the greatest request nothing is said. If keys
+/// weigh nothing, all this is what it is for numbers of keys.
 pub fn law_size_bound<K: Eq, V>()
     ensures bound { MissedSizeCompetes K.eq }
     ensures bound_any_start { MissedSizeCompetesFromAnyStart K.eq }
     ensures puts { SizedPutsCompete K.eq V }
     ensures puts_any_start { SizedPutsCompeteFromAnyStart K.eq V }
+    ensures weightless_misses { WeightlessScheduleMissesAreMisses K.eq }
+    ensures weightless_schedules { SchedulesAreWeightless K.eq }
 {}
 
 /// Does nothing at run time. Its contract says that, if equal keys have equal weights, no schedule that starts empty misses less

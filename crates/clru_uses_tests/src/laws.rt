@@ -3,10 +3,10 @@
 use clru::{
     CLruCache, DefaultState, NonZeroUsize, ZeroWeightScale, law_by_position, law_dropped,
     law_greater_capacity, law_inclusion, law_longest_fit, law_requests, law_schedules_by_position,
-    law_sizes,
+    law_size_bound, law_sizes,
 };
-use clru_curve::{law_bounds, law_distances, law_spans_by_position};
-use clru_least::law_least;
+use clru_curve::{law_bounds, law_distances, law_parts, law_spans_by_position};
+use clru_least::{law_floor, law_least};
 use clru_runs::{law_included_runs, law_put_runs, law_sized_put_runs};
 use clru_uses::of_least::least_by_position;
 use clru_uses::{of_curves, of_least, runs, sizes};
@@ -23,6 +23,7 @@ fn laws_do_nothing() {
     law_longest_fit::<u64, &'static str>();
     law_requests::<&'static str, u64>();
     law_sizes::<usize, &'static str>();
+    law_size_bound::<u64, &'static str>();
     law_included_runs::<&'static str, u64, ZeroWeightScale>();
     law_put_runs::<&'static str, u64, ZeroWeightScale>();
     law_sized_put_runs::<&'static str, u64, ZeroWeightScale>();
@@ -34,9 +35,11 @@ fn laws_do_nothing() {
 fn laws_are_called() {
     law_bounds::<u64>();
     law_distances::<u64>();
+    law_parts::<u64>();
     law_spans_by_position::<u64>();
     clru_curve::law_sizes::<u64, ()>();
     law_least::<u8>();
+    law_floor::<u8>();
 }
 
 /// `law_dropped` for the type of a closure.

@@ -44,7 +44,7 @@ where
         None
     }
 
-    /// Makes the entry of the key the least recently used, so that it goes next. Returns whether the key is held.
+    /// Makes the entry of the key the least recently used, the next to be dropped. Returns whether the key is held.
     /// Cost: one hash and a walk along one chain.
     pub fn demote<Q: Equivalent<K>>(&mut self, key: Q) -> bool
         ensures held { result ≡ is_some (lookup (Q.equivalent key) self.old.entries) }

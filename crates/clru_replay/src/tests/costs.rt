@@ -43,7 +43,7 @@ fn ran(
     (outcome, reader.lengths)
 }
 
-// The bytes of a place of the cache, and of a head with its part of the links.
+// The bytes of a place of the cache, and of a bucket with its part of the links.
 const PLACE: u64 = 40;
 
 const HEAD: u64 = 6;

@@ -1,7 +1,7 @@
 use Rattle.std.proofs.Common.{[]}
 use Rattle.clru_model.proofs.ChangingWeights.{high_hits_are_held, held_hits_by_low}
 use Rattle.clru_model.proofs.GetRuns.{sized_gets_or_puts_are_puts}
-use Rattle.clru_model.proofs.KeyedRuns.{sized_puts_hit, light_puts_hit, touches_are_puts}
+use Rattle.clru_model.proofs.KeyedRuns.{sized_puts_hit, light_marks_are_of_others, light_puts_hit, touches_are_puts}
 use Rattle.clru_model.proofs.Spans as spans
 use Rattle.clru_model.proofs.laws.law_sizes.Goals as goal
 
@@ -60,3 +60,6 @@ returns-clause-changing_high g c = high_hits_are_held g.K.PartialEq.eq g.row.V.D
 
 pub returns-clause-changing_low : goal.returns-clause-changing_low
 returns-clause-changing_low g c = held_hits_by_low g.K.PartialEq.eq g.row.V.Denot g.met.K.Eq.laws
+
+pub returns-clause-light_marks : goal.returns-clause-light_marks
+returns-clause-light_marks g c = light_marks_are_of_others g.K.PartialEq.eq
