@@ -7,7 +7,7 @@ use ration::{Rationed, equal};
 #[test]
 fn numbers_widen(rt: HostRuntime) -> Result<(), NoMemory> {
     let heap = Rationed::new(rt.alloc());
-    let mut numbers = PackedNumbers::with_memory(&heap, 2)?;
+    let mut numbers = PackedNumbers::with_memory(&heap, 3)?;
     numbers.push(7)?;
     numbers.widen_for(4294967295)?;
     numbers.push(4294967295)?;
@@ -17,7 +17,7 @@ fn numbers_widen(rt: HostRuntime) -> Result<(), NoMemory> {
     heap.refuse_none();
     numbers.widen_for(4294967296)?;
     let wide_bytes = heap.held_bytes();
-    equal!(rt; (narrow_bytes, refused, wide_bytes), (8, true, 16));
+    equal!(rt; (narrow_bytes, refused, wide_bytes), (12, true, 24));
     numbers.set(0, 4294967296);
     equal!(rt; (numbers.len(), numbers.get(0), numbers.get(1)), (2, 4294967296, 4294967295));
     numbers.push(usize::MAX)?;
