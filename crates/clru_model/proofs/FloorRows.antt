@@ -1,5 +1,5 @@
 -- Worked rows of the floor, of what hits take, and of what schedules miss by size.
-use Rattle.std.proofs.Common.{◌≡◌, ℕ, List, [], ◌∷◌, refl, nat_eq}
+use Rattle.std.proofs.Common.{◌≡◌, ℕ, ◌+◌, List, [], ◌∷◌, refl, nat_eq}
 use Rattle.clru_model.specs.Floor.{floor_misses, floor_missed_size, most_hits, price_of_hits, spared_after}
 use Rattle.clru_model.specs.SizedSchedule.{schedule_missed_size}
 
