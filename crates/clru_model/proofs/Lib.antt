@@ -20,6 +20,7 @@ pub mod FloorRows
 pub mod Forms
 pub mod GetRuns
 pub mod Growing
+pub mod GrowingRuns
 pub mod Hits
 pub mod Inclusion
 pub mod KeyedRuns

@@ -1,3 +1,1 @@
 mod Failing
-pub mod GrowingRuns
-pub mod GrowingSizedRuns

@@ -1,8 +1,8 @@
-//! A whole run of puts, by the contracts of the puts and `law_requests` alone.
-ghost use Rattle.std.specs.Prelude.{◌≡◌, [], not, IfSome};
+//! Whole runs, of puts and of look-ups that are followed by a put, by the contracts of the calls and `law_requests` alone.
+ghost use Rattle.std.specs.Prelude.{◌≡◌, [], not, nat_eq, IfOk, IfSome};
 ghost use Rattle.std.specs.List.{count_by};
 ghost use Rattle.clru_model.specs.Schedule.{IsCompetitive};
-ghost use Rattle.clru_model.specs.Requests.{marks};
+ghost use Rattle.clru_model.specs.Requests.{marks, misses};
 
 use clru::{CLruCache, law_requests};
 use std::alloc::Global;
@@ -30,4 +30,27 @@ pub fn held_before_puts<K: Eq + Hash + Drop>(
         }
     }
     Some(held)
+}
+
+/// Looks each page up, and fetches and puts it only if it is not found: the loop that everyone writes. Returns how many pages were
+/// fetched, or the pair for which memory was refused. Here a page's text is its number.
+pub fn pages_fetched(
+    cache: &mut CLruCache<usize, usize>,
+    pages: Vec<usize>,
+) -> Result<usize, (usize, usize)>
+    requires empty { cache.old.entries ≡ [] }
+    ensures misses { IfOk result (λ n. n ≡ misses nat_eq cache.old.capacity pages.items) }
+    ensures bound { IfOk result (λ n. IsCompetitive nat_eq cache.old.capacity pages.items n) }
+{
+    law_requests::<usize, usize>();
+    // It tells that the capacity is no 0.
+    let _ = cache.len();
+    let mut fetched = 0;
+    for page in pages {
+        if cache.get(&page).is_none() {
+            fetched += 1;
+            cache.put(page, page)?;
+        }
+    }
+    Ok(fetched)
 }

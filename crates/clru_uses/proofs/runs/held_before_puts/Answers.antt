@@ -1,7 +1,7 @@
 use Rattle.std.proofs.Common.{rules, ◌≡◌, [], ◌∷◌, ◌++◌, ◌∙◌}
 use Rattle.clru_model.specs.Entries.{plain_put}
-use Rattle.clru.proofs.CallerLemmas.{IsPut-plain}
-use Rattle.clru_uses.proofs.GrowingRuns.{Runs-push}
+use Rattle.clru_model.specs.Runs.{IsPut}
+use Rattle.clru.proofs.CallerLemmas.{IsPut-plain, Runs-push}
 use Rattle.clru_uses.proofs.runs.held_before_puts.Goals as goal
 
 pub loop-key-preserved : goal.loop-key-preserved
@@ -13,7 +13,7 @@ loop-key-preserved g c =
     record {
       next = tt;
       ends = tt;
-      runs = Runs-push eq c.args.cache.now.capacity c.in-Some.key c.contains-before.result before.runs c.contains-before.ensures
+      runs = Runs-push eq (IsPut eq c.args.cache.now.capacity) c.in-Some.key c.contains-before.result before.runs c.contains-before.ensures
           (rw before.capacity at put) items;
       capacity = c.put.ensures.places.capacity ∙ before.capacity;
     }

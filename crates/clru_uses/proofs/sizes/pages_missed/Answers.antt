@@ -6,7 +6,7 @@ use Rattle.std.proofs.lemmas.Iterator.Consumers.{YieldsList-end}
 use Rattle.std.proofs.lemmas.List.{length_push}
 use Rattle.std.specs.List.{count_by}
 use Rattle.clru_model.specs.Sizes.{misses_by_size}
-use Rattle.clru_uses.proofs.GrowingSizedRuns.{SizedRuns-push}
+use Rattle.clru.proofs.CallerLemmas.{CountedRuns-push}
 use Rattle.clru_uses.proofs.sizes.pages_missed.Goals as goal
 
 pub loop-page-preserved-in-Ok-Some : goal.loop-page-preserved-in-Ok-Some
@@ -19,8 +19,8 @@ loop-page-preserved-in-Ok-Some g c =
     record {
       next = tt;
       ends = tt;
-      runs = SizedRuns-push _ _ _ c.in-Some.page tt true before.runs (search rules) held
-          (omega (arith, light)) entries (omega arith);
+      runs = CountedRuns-push _ _ c.in-Some.page true before.runs held
+          (record { key = c.in-Some.page; value = tt; same = search rules; light = omega (arith, light); entries = entries }) (omega arith);
       fewer = omega (arith, before.fewer, length_push c.loop-page.yielded c.in-Some.page);
       capacity = put.places.capacity ∙ before.capacity;
       scale = put.places.scale ∙ before.scale;
@@ -37,8 +37,8 @@ loop-page-preserved g c =
     record {
       next = tt;
       ends = tt;
-      runs = SizedRuns-push _ _ _ c.in-Some.page tt false before.runs (search rules) held
-          (omega (arith, light)) entries refl;
+      runs = CountedRuns-push _ _ c.in-Some.page false before.runs held
+          (record { key = c.in-Some.page; value = tt; same = search rules; light = omega (arith, light); entries = entries }) refl;
       fewer = omega (arith, before.fewer, length_push c.loop-page.yielded c.in-Some.page);
       capacity = put.places.capacity ∙ before.capacity;
       scale = put.places.scale ∙ before.scale;
