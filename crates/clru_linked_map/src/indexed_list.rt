@@ -11,8 +11,8 @@ ghost use Rattle.clru_linked_map.specs.Buckets.{key_at, HasHome, IsAt, IsLive, I
 ghost use Rattle.clru_linked_map.specs.IndexedList.{IsIndexed, KeepsAllButPairs, pairs_in, KeepsPairs};
 ghost use Rattle.clru_linked_map.specs.LinkedMap.{hash_of, pairs_of};
 
-use clru_list::{FixedSizeList, NOWHERE, NoMemory};
 use crate::hash_index::HashIndex;
+use clru_list::{FixedSizeList, NOWHERE, NoMemory};
 use std::alloc::Allocator;
 use std::collections::hash_map::Equivalent;
 use std::hash::{BuildHasher, Hash};

@@ -6,9 +6,9 @@ ghost use Rattle.clru_linked_map.specs.LinkedMap.{hash_of, linked_map, with_entr
 ghost use Rattle.clru_model.specs.Entries.{demote, touch};
 ghost use Rattle.clru_linked_map.specs.Growth.{GrowsIf, IsRefused};
 
-use clru_list::{FixedSizeList, NARROW, NoMemory};
 use crate::hash_index::HashIndex;
 use crate::indexed_list::IndexedList;
+use clru_list::{FixedSizeList, NARROW, NoMemory};
 use std::alloc::Allocator;
 use std::collections::hash_map::Equivalent;
 use std::hash::{BuildHasher, Hash};

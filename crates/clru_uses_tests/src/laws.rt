@@ -76,6 +76,20 @@ fn missed_at(alloc: Global, capacity: NonZeroUsize, pages: Vec<usize>) -> Option
 }
 
 #[test]
+fn a_loop_of_looks_and_puts_misses_as_a_replay(rt: HostRuntime) -> Result<(), Fail> {
+    for (capacity, fetched) in [(2, Some(5)), (3, Some(3))] {
+        let pages = Vec::from_array(rt.alloc(), [3, 0, 1, 3, 0])?;
+        equal!(rt; fetched_at(rt.alloc(), capacity_of(capacity)?, pages), fetched, capacity);
+    }
+    Ok(())
+}
+
+fn fetched_at(alloc: Global, capacity: NonZeroUsize, pages: Vec<usize>) -> Option<usize> {
+    let mut cache = CLruCache::new(alloc, capacity);
+    runs::pages_fetched(&mut cache, pages).ok()
+}
+
+#[test]
 fn the_least_by_position_is_the_least(rt: HostRuntime) -> Result<(), Fail> {
     for (room, misses) in [(1, 6), (2, 4), (3, 3)] {
         equal!(rt; least_of_a_round(rt.alloc(), capacity_of(room)?), Some(misses), room);
