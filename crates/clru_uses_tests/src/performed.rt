@@ -1,10 +1,9 @@
 //! Calls through the callers that learn the laws of runs.
 
 use clru::{CLruCache, NonZeroUsize};
-use clru_runs::Answer::{Extended, Lent, Pair};
+use clru_runs::Answer::{Lent, Pair};
 use clru_runs::Call::{self, PopBack, PutWithWeight};
-use clru_runs::Perform;
-use clru_runs::PlainCall::{self, Extend, Put, PutOrModify};
+use clru_runs::PlainCall::{self, Put, PutOrModify};
 use clru_uses::performed::{perform_at_both, perform_puts, perform_puts_by_size};
 use ration::{capacity_of, equal};
 use std::alloc::Global;
@@ -67,16 +66,4 @@ fn takes_the_last_out(alloc: Global, capacity: NonZeroUsize, calls: Calls) -> bo
     let mut cache = CLruCache::new(alloc, capacity);
     perform_puts_by_size(alloc, &mut cache, calls).is_ok_and(|it| it.last()
         == Some(&Pair(Some((1, 10)))))
-}
-
-#[test]
-fn a_list_goes_in(rt: HostRuntime) -> Result<(), Fail> {
-    let pairs = Vec::from_array(rt.alloc(), [(1, 10), (2, 20)])?;
-    equal!(rt; extends(rt.alloc(), capacity_of(2)?, pairs), true);
-    Ok(())
-}
-
-fn extends(alloc: Global, capacity: NonZeroUsize, pairs: Vec<(u32, u32)>) -> bool {
-    let mut cache = CLruCache::new(alloc, capacity);
-    Extend(pairs).perform(&mut cache) == Extended(Ok(())) && cache.pop_back() == Some((1, 10))
 }
