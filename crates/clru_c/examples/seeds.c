@@ -74,7 +74,7 @@ static uint64_t fixed(const uint64_t *words, size_t count) {
 }
 
 /* Whether a key shares its place in the table of a call with each other one of which that is so. A cache takes the lowest bits of
- * the hash of a key for its heads, which are fewer than these, and by size those of an object. Std's table takes both halves
+ * the hash of a key for its buckets, which are fewer than these, and by size those of an object. Std's table takes both halves
  * joined, of these the lowest bits for a group, and the highest for a tag. */
 static bool shares_place(int which, Seed seed, uint64_t key) {
     const uint64_t words[2] = {key, 1};
