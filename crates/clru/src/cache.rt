@@ -25,7 +25,7 @@ use std::alloc::{Allocator, Global};
 use std::hash::{BuildHasher, Hash};
 use std::marker::Model;
 
-/// A weighted LRU cache: the number of its entries and their total weight never pass the capacity together.
+/// A weighted LRU cache: the number of its entries plus their total weight never exceeds the capacity.
 ///
 /// A cache of pages:
 ///
@@ -100,7 +100,7 @@ where
         self.map.len()
     }
 
-    /// Returns what the number of entries and their total weight never pass together.
+    /// Returns the bound on the number of entries plus their total weight.
     /// Cost: a read.
     pub fn capacity(&self) -> usize
         ensures capacity { result ≡ self.now.capacity }
@@ -128,7 +128,7 @@ where
         self.len() == 0
     }
 
-    /// Returns whether the number of entries and their total weight reach the capacity.
+    /// Returns whether the number of entries plus their total weight is the capacity.
     /// Cost: a read.
     pub fn is_full(&self) -> bool
         ensures { IsTrue result ↔ (size_of (W.weight self.now.scale) self.now.entries ≡ self.now.capacity) }

@@ -8,9 +8,9 @@ use std::hash::BuildHasher;
 use std::marker::{Model, PhantomData};
 use std::num::NonZeroUsize;
 
-/// The capacity, hash builder, reserve and scale of a cache to be made by `CLruCache::with_config`.
+/// The capacity, hash builder, reserve and scale from which `CLruCache::with_config` makes a cache.
 ///
-/// No call of it takes memory.
+/// Its calls take no memory.
 ///
 /// ```rust
 /// let config = CLruCacheConfig::new(capacity)
@@ -42,7 +42,7 @@ impl<K, V, S, W> Model for CLruCacheConfig<K, V, S, W> {
 }
 
 impl<K, V> CLruCacheConfig<K, V, DefaultState, ZeroWeightScale> {
-    /// Creates the configuration of a cache that holds at most `capacity` entries, with memory for none of them.
+    /// Creates the configuration of a cache that holds at most `capacity` entries, without a reserve.
     /// Cost: no request for memory.
     pub fn new(capacity: NonZeroUsize) -> Self
         ensures { result ≡ config (non_zero_usize_get capacity) (record {}) 0 (record {}) }
@@ -58,7 +58,7 @@ impl<K, V> CLruCacheConfig<K, V, DefaultState, ZeroWeightScale> {
 }
 
 impl<K, V, S: BuildHasher, W: WeightScale<K, V>> CLruCacheConfig<K, V, S, W> {
-    /// Has the cache hash its keys with `hash_builder`.
+    /// Sets the hash builder of the cache.
     /// Cost: no request for memory.
     pub fn with_hasher<O: BuildHasher>(self, hash_builder: O) -> CLruCacheConfig<K, V, O, W>
     where
@@ -74,7 +74,7 @@ impl<K, V, S: BuildHasher, W: WeightScale<K, V>> CLruCacheConfig<K, V, S, W> {
         }
     }
 
-    /// Has the cache made with memory for `reserve` entries, or for as many as its capacity where that is less.
+    /// Reserves memory for `reserve` entries, or for as many as the capacity if that is less.
     /// Cost: no request for memory.
     pub fn with_memory(mut self, reserve: usize) -> Self
         ensures { result ≡ config self.capacity self.hash_builder reserve self.scale }
@@ -83,7 +83,7 @@ impl<K, V, S: BuildHasher, W: WeightScale<K, V>> CLruCacheConfig<K, V, S, W> {
         self
     }
 
-    /// Has the cache weigh its pairs with `scale`.
+    /// Sets the scale that weighs the pairs of the cache.
     /// Cost: no request for memory.
     pub fn with_scale<O: WeightScale<K, V>>(self, scale: O) -> CLruCacheConfig<K, V, S, O>
     where

@@ -6,8 +6,8 @@ use clru_model::{DefaultState, ZeroWeightScale};
 use std::alloc::{Allocator, Global};
 use std::hash::{BuildHasher, Hash};
 
-/// A cursor over a cache. It has entries left, at first all of them, and passes them one by one from either end. What is
-/// written to a value that it lends is in the cache from then on; keys and order stay.
+/// A cursor over a cache. It passes the entries one by one from either end, and lends their values. What is written to a
+/// value is then in the cache; keys and order stay.
 #[derive(Drop)]
 pub struct CLruCacheIterMut<
     'a,

@@ -15,8 +15,7 @@ pub enum End {
     Back,
 }
 
-/// The most or the least recently used entry of a cache, lent for writing its value. Its key is lent for reading, and the
-/// order stays.
+/// The most or the least recently used entry of a cache, lent for writing its value and reading its key. The order stays.
 ///
 /// ```rust
 /// pub fn double_last(sizes: &mut CLruCache<u64, u64>) -> Option<u64> {

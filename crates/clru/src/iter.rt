@@ -11,7 +11,7 @@ use std::marker::Model;
 
 pub(crate) mod owned;
 
-/// The pairs of a cache, the most recently used first, seen as the list of those that are left.
+/// The pairs of a cache, the most recently used first. A clause sees the list of the remaining ones.
 #[derive(Drop)]
 pub struct CLruCacheIter<'a, K, V, A: Allocator + Copy = Global> {
     pub(crate) items: FixedSizeListIter<'a, (K, V), A>,

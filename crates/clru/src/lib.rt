@@ -1,11 +1,11 @@
 //! A weighted LRU cache: entries in order of recency, each with a weight, of which the least recently used go first.
 //!
-//! The number of entries and their total weight never pass the capacity together. With the scale of a cache that is made
-//! without one, each pair weighs nothing, and the capacity is the number of entries.
+//! The number of entries plus their total weight never exceeds the capacity. If a cache is made without a scale, each pair
+//! weighs nothing, and the capacity bounds the number of entries.
 //!
 //! Contracts see a cache as its entry list, the most recently used pair first, with the capacity, the scale and the number
-//! of places, for which memory was found. A put asks for memory only where its key is not held, no entry has to go and no
-//! place is free; where it is refused, it gives back what it was given and the entries stay.
+//! of places, for which memory was found. A put asks for memory only if its key is not held, no entry has to go and no
+//! place is free. If memory is refused, the put gives back its arguments, and the entries stay.
 //!
 //! The entries lie in a linked list, in the order of recency, under a hash index with a chain for each bucket. A
 //! look-up costs one hash and a walk along one chain. A put of a new key walks along one chain more, and for each entry that

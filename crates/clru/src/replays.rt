@@ -20,20 +20,20 @@ use std::alloc::Allocator;
 use std::hash::{BuildHasher, Hash};
 use std::num::NonZeroUsize;
 
-/// Sends the keys in order through an empty cache of the capacity, and answers which of them it held and how many it did not.
+/// Sends the keys in order through an empty cache of the capacity, and returns which of them it held and how many it did not.
 ///
-/// A request is a hit where its key was requested before, and fewer than `capacity` distinct keys since then. The misses
+/// A request is a hit if its key was requested before, and fewer than `capacity` distinct keys since then. The misses
 /// keep the competitive bound: they are at most `capacity / (capacity - h + 1)` times those of every schedule that starts
-/// empty and holds `h` keys, `capacity` or fewer, also of one that knows all the requests beforehand. Beside a schedule
-/// that starts with keys they are at most `h` more than that.
+/// empty and holds at most `h` keys, for `h` from 1 to `capacity`, even if it knows all requests. If the schedule starts
+/// with keys, they are at most `h` more than that.
 ///
-/// Memory is taken before the first request: places for as many entries as there are keys, `capacity` at most, and the
-/// marks. Where either is refused, the keys come back as they were, and nothing else can be refused. Without keys no memory
-/// is asked for. Keys are hashed with `hash_builder`. `replay_slice` leaves the keys with the caller.
+/// Takes its memory before the first request: places for as many entries as there are keys, at most `capacity`, and the
+/// marks. If either is refused, it returns the keys; nothing else can be refused. Without keys it asks for no memory.
+/// Hashes keys with `hash_builder`. `replay_slice` borrows the keys.
 /// Cost: three requests for memory, and a write of each bucket; for each request one hash and a walk along one chain, and for a
 /// miss up to one hash and two walks more.
 ///
-/// A choice of a capacity looks at the misses:
+/// To choose a capacity, look at the misses:
 ///
 /// ```rust
 /// pub fn misses_at(
@@ -84,7 +84,7 @@ pub fn replay<K: Eq + Hash + Drop, S: BuildHasher + Drop, A: Allocator + Copy>(
     Ok(Replay { marks, misses })
 }
 
-/// Puts the key with the answer as its value: whether it was held before. No memory may be wanted.
+/// Puts the key, with `true` as its value if it was held before. It must not need memory.
 fn request<K: Eq + Hash + Drop, S: BuildHasher, A: Allocator + Copy>(
     cache: &mut CLruCache<K, bool, S, ZeroWeightScale, A>,
     key: K,

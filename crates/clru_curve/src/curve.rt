@@ -1,4 +1,4 @@
-//! `MissCurve`: what a pass answers.
+//! `MissCurve`: what a pass returns.
 ghost use Rattle.std.specs.Prelude.{◌≡◌, length};
 ghost use Rattle.std.specs.Int.NonZero.{non_zero_usize_get};
 ghost use Rattle.clru_curve.specs.Curves.{misses_at};
@@ -23,8 +23,7 @@ impl<A: Allocator> Model for MissCurve<A> {
 }
 
 impl<A: Allocator> MissCurve<A> {
-    /// Returns the number of misses at the capacity, which may be any: where there is room for all keys, there are as many
-    /// misses as distinct keys.
+    /// Returns the number of misses at any capacity. If all keys have room, there are as many misses as distinct keys.
     /// Cost: a read.
     pub fn misses(&self, capacity: NonZeroUsize) -> usize
         ensures { result ≡ misses_at self.now (non_zero_usize_get capacity) }
@@ -35,7 +34,7 @@ impl<A: Allocator> MissCurve<A> {
         }
     }
 
-    /// Returns the number of distinct keys: from that capacity on the misses stay the same.
+    /// Returns the number of distinct keys. From that capacity on the misses stay the same.
     /// Cost: a read.
     pub fn distinct(&self) -> usize
         ensures { result ≡ length self.now }

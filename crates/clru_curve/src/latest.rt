@@ -1,4 +1,4 @@
-//! For each request a bit, which is set where the request is the latest of its key.
+//! For each request a bit, which is set if the request is the latest of its key.
 ghost use Rattle.std.specs.Prelude.{◌≡◌, ℕ, suc, ◌+◌, ◌*◌, ◌%◌, ◌^◌, ◌<◌, [], length, OnOk, IsOk};
 ghost use Rattle.clru_curve.specs.Latest.{ones_from, IsLatest};
 ghost use Rattle.clru_curve.specs.Tree.{up_to};

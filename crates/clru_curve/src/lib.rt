@@ -1,13 +1,13 @@
 //! The misses of LRU at every capacity, from one pass over a list of requests.
 //!
-//! Each number is proved to be `misses` of the definitions that `replay` is proved by, in which no cache stands.
+//! Each number is proved to be `misses` of the definitions by which `replay` is proved; they mention no cache.
 //!
 //! A pass notes for each key the number of its latest request, in a cache that drops nothing, and a bit for each request,
-//! which is set where that request is the latest of its key. The distance of a request is the number of bits after the one
-//! of its key; a tree over the words of bits counts them. A request costs a look-up, and steps that go with the logarithm of
-//! the number of requests; memory goes with the distinct keys, besides a quarter of a byte for each request.
+//! which is set if that request is the latest of its key. The distance of a request is the number of bits after the one
+//! of its key; a Fenwick tree over the words of bits counts them. A request costs a look-up, and steps that grow as the
+//! logarithm of the number of requests; memory goes with the distinct keys, besides a quarter of a byte for each request.
 //!
-//! Where keys weigh something a sized pass does the same with a size in place of each bit, and sums in place of numbers of bits.
+//! If keys weigh something, a sized pass does the same with a size instead of each bit, and sums instead of numbers of bits.
 #![tactic(auto)]
 
 mod curve;

@@ -11,8 +11,8 @@ use std::hash::{BuildHasher, Hash};
 
 /// Returns the misses of the requests at every capacity, from one pass over them.
 ///
-/// Keys that are not `Copy` are passed as references. The keys stay the caller's, and without keys no memory is asked for. A
-/// `DistancePass` takes requests one by one.
+/// Borrows the keys; pass keys that are not `Copy` as references. Without keys it asks for no memory. A `DistancePass` takes
+/// requests one by one.
 /// Cost: that of a `DistancePass` which takes each request, and is then turned into its curve.
 ///
 /// What a cache of a capacity would miss:

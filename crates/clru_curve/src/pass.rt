@@ -21,12 +21,12 @@ use std::num::NonZeroUsize;
 /// The capacity of a pass's cache at first.
 const FIRST_CAPACITY: usize = 64;
 
-/// A pass over requests, which takes them one by one and answers the distance of each.
+/// A pass over requests, which takes them one by one and returns the distance of each.
 ///
-/// Clauses speak of the requests that it has taken by `IsPass`, the latest first: there are none at first, and each request
-/// that is taken comes in front. A curve can be had at any time.
+/// Clauses describe the requests that it has taken, the latest first, by `IsPass`: none at first, then each taken request
+/// comes in front. It returns a curve at any time.
 ///
-/// Memory goes with the distinct keys, a position in a cache and a number for each, besides 16 bytes for each 64 requests.
+/// Takes memory for a position in a cache and a number for each distinct key, and 16 bytes for each 64 requests.
 pub struct DistancePass<K: Eq + Hash, S: BuildHasher = DefaultState, A: Allocator + Copy = Global> {
     pub(crate) positions: CLruCache<K, usize, S, ZeroWeightScale, A>,
     pub(crate) latest: Latest<A>,
@@ -83,12 +83,12 @@ impl<K: Eq + Hash, S: BuildHasher, A: Allocator + Copy> DistancePass<K, S, A> {
         }
     }
 
-    /// Takes one more request, and answers its distance: how many distinct keys were requested since the latest request of its
-    /// key, or `None` where there was none. It hits at the capacities above the distance, and at no other. The stack distance of
-    /// the literature is one more, since it counts the key itself.
+    /// Takes one more request, and returns its distance: how many distinct keys were requested since the latest request of its
+    /// key, or `None` if there was none. It hits at the capacities above the distance, and at no other. The stack distance of
+    /// the literature is one more, because it counts the key itself.
     ///
-    /// Where memory is refused, or there were `usize::MAX` requests, the key comes back and the pass has taken what it had. A
-    /// key that was requested before wants memory at one of 64 requests at most.
+    /// If memory is refused, or there were `usize::MAX` requests, it returns the key, and the pass is unchanged. A key that was
+    /// requested before asks for memory at most once in 64 requests.
     /// Cost: one hash and a walk along one chain, for a new key those of a `put` too; and steps that grow as the logarithm of
     /// the number of requests.
     pub fn request(&mut self, key: K) -> Result<Option<usize>, K>
@@ -113,11 +113,11 @@ impl<K: Eq + Hash, S: BuildHasher, A: Allocator + Copy> DistancePass<K, S, A> {
         }
     }
 
-    /// Takes one more request, of a key that was requested before, by a form of it, and answers its distance; or `None` where no
-    /// such key was: then nothing was taken, and `request` takes the key. So who reads a log owns the keys alone that are new.
+    /// Takes one more request of an earlier key, by a form of it, and returns its distance. If no such key was requested, it
+    /// takes nothing and returns `None`; then call `request`. A log reader therefore allocates a key only when it first appears.
     ///
-    /// Where memory is refused, or there were `usize::MAX` requests, the form comes back and the pass has taken what it had.
-    /// Cost: one hash and a walk along one chain, and where the key is known steps that grow as the logarithm of the number of
+    /// If memory is refused, or there were `usize::MAX` requests, it returns the form, and the pass is unchanged.
+    /// Cost: one hash and a walk along one chain, and if the key is known steps that grow as the logarithm of the number of
     /// requests.
     pub fn request_again<Q: Equivalent<K>>(&mut self, key: Q) -> Result<Option<usize>, Q>
         ensures distance { (past : List K) (x : K) → IsPass K.eq past self.old → IsTrue (Q.equivalent key x)
@@ -147,8 +147,8 @@ impl<K: Eq + Hash, S: BuildHasher, A: Allocator + Copy> DistancePass<K, S, A> {
         Ok(Some(distance))
     }
 
-    /// Returns the position of the latest request of a key, by a form of it: how many requests came before that one. `None` where no
-    /// such key was requested.
+    /// Returns the position of the latest request of a key, by a form of it: how many requests came before that one. Returns
+    /// `None` if no such key was requested.
     /// Cost: one hash and a walk along one chain.
     pub fn latest_request<Q: Equivalent<K>>(&self, key: Q) -> Option<usize>
         ensures known { (past : List K) → IsPass K.eq past self.now
@@ -271,7 +271,7 @@ where
     }
 }
 
-/// A copy of the items, for which no memory is asked for where there are none.
+/// A copy of the items, for which no memory is asked for if there are none.
 pub(crate) fn copied<T: Copy, A: Allocator>(alloc: A, items: &[T]) -> Result<Vec<T, A>, NoMemory>
     ensures items { IfOk result (λ v. v.items ≡ items.now) }
     ensures never_refused { items.now ≡ [] → IsOk result }

@@ -1,5 +1,5 @@
-//! A tree of nodes above counts. Node j holds the sum of the counts from j up to the next number that has fewer binary digits
-//! below its lowest 1, so a sum from a count on takes a node for each digit at most, and a change of a count writes as many.
+//! A Fenwick tree of nodes above counts. Node j holds the sum of the counts from j up to the next number that has fewer binary
+//! digits below its lowest 1, so a sum from a count on takes a node for each digit at most, and a change of a count writes as many.
 ghost use Rattle.std.specs.Prelude.{◌≡◌, ℕ, ◌+◌, ◌-◌, ◌^◌, ◌<◌, ◌≤◌, length};
 ghost use Rattle.clru_curve.specs.Tree.{up_by, IsCounted, Falls};
 

@@ -11,10 +11,10 @@ use std::marker::Model;
 
 const ROOM: usize = 64 * 1024;
 
-/// What was read of an input and is not yet told as a line.
+/// What was read of an input and is not yet returned as a line.
 ///
-/// Clauses speak by `HasTold` of the lines that were told of a reader since it stood somewhere: none at first, and each line
-/// that is told comes behind. One reader goes with one buffer.
+/// Clauses describe by `HasTold` the lines that were returned since a reader's start: none at first, then each line comes
+/// behind. Use one buffer for one reader.
 ///
 /// Memory is one block of 64 KiB, asked for by the first read, however long the input is.
 #[derive(Drop)]
@@ -41,7 +41,7 @@ impl<A: Allocator> Model for LineBuffer<A> {
 }
 
 impl<A: Allocator> LineBuffer<A> {
-    /// Creates a buffer in front of a reader of which nothing was read.
+    /// Creates a buffer for a reader from which the buffer has read nothing.
     /// Cost: no request for memory.
     pub fn new(alloc: A) -> Self
         ensures { (now : Option (List ℕ)) → HasTold now now result [] }
@@ -55,14 +55,14 @@ impl<A: Allocator> LineBuffer<A> {
         }
     }
 
-    /// Reads the next line into `line`, without its newline, and answers whether there was one. What stood there before is gone.
+    /// Reads the next line into `line`, without its newline, and returns whether there was one. Replaces what `line` held.
     ///
-    /// A read that answers an error ends it, whatever the kind; no read is tried again, none follows one that gave no byte, and
-    /// each is offered the whole buffer. What follows the last newline is a line where it is not empty.
+    /// The call ends at a read that returns an error, whatever the kind; it tries no read again, makes none after one that gave
+    /// no byte, and offers each the whole buffer. What follows the last newline is a line if it is not empty.
     ///
-    /// It answers `Reading` where a read failed, and `Memory` where the buffer or the line found none, or more bytes were read
-    /// than the greatest `usize`. No clause says what is left after an error: the rest of that line may be told as one.
-    /// Cost: each byte is looked at once and copied once; a request for memory where the line is longer than all before it.
+    /// Returns `Reading` if a read failed, and `Memory` if memory for buffer or line was refused, or more bytes were read than
+    /// the greatest `usize`. No clause says what is left after an error: the rest of that line may be returned as one.
+    /// Cost: each byte is looked at once and copied once; a request for memory if the line is longer than all before it.
     pub fn read_line<R: Read>(
         &mut self,
         reader: &mut R,
@@ -90,14 +90,14 @@ impl<A: Allocator> LineBuffer<A> {
         }
     }
 
-    /// How many bytes were read.
+    /// Returns how many bytes were read.
     pub fn bytes_read(&self) -> usize
         ensures { result ≡ self.now.read }
     {
         self.read
     }
 
-    // Moves what is left, up to its first newline where there is one, to the end of the line. It answers whether there was one.
+    // Moves what is left, up to its first newline if there is one, to the end of the line. It returns whether there was one.
     fn move_to(&mut self, line: &mut Vec<u8, A>) -> Result<bool, ReadError>
         ensures newline { result ≡ Ok true → (piece : List ℕ) × IsFree piece
             × (self.old.left ≡ piece ++ 10 ∷ self.new.left) × (line.new.items ≡ line.old.items ++ piece) }
@@ -121,7 +121,7 @@ impl<A: Allocator> LineBuffer<A> {
         Ok(true)
     }
 
-    // One read into the buffer, where nothing is left. It answers whether it gave something.
+    // One read into the buffer, if nothing is left. It returns whether it gave something.
     fn fill<R: Read>(&mut self, reader: &mut R) -> Result<bool, ReadError>
         ensures some { result ≡ Ok true → Consumes (R.remaining reader.old) (R.remaining reader.new) self.new.left
             × (0 < length self.new.left) × (self.new.ended ≡ self.old.ended)

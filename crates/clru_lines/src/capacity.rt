@@ -9,10 +9,10 @@ use std::num::NonZeroUsize;
 // The greatest `usize` has 20 digits.
 const MOST_DIGITS: usize = 20;
 
-/// The capacity that a word names, or `None` where it names none.
+/// Returns the capacity that a word names, or `None` if it names none.
 ///
-/// A word that does is 1 to 20 decimal digits and nothing else, no sign and no space, whose value is not 0 and fits a `usize`.
-/// Leading zeros count as digits. No memory is taken.
+/// Such a word is 1 to 20 decimal digits, without sign or space, and its value is not 0 and fits a `usize`. Leading zeros count
+/// as digits. Takes no memory.
 pub fn capacity_of(word: &[u8]) -> Option<NonZeroUsize>
     ensures is_one { IfSome result (λ _. is_capacity word.now ≡ true) }
     ensures value { IfSome result (λ capacity. non_zero_usize_get capacity ≡ digits_value 10 word.now) }

@@ -12,9 +12,9 @@ pub enum Fault {
     BadCapacity,
     /// A request for memory was refused.
     Memory,
-    /// A read answered an error.
+    /// A read returned an error.
     Reading,
-    /// A write answered an error or took nothing, or the flush failed.
+    /// A write returned an error or took nothing, or the flush failed.
     Writing,
     /// The writer is a pipe that nobody reads any more.
     Closed,
@@ -53,7 +53,7 @@ impl fmt::Display for Fault {
 
 impl Error for Fault {}
 
-/// The exit status of a run.
+/// Returns the exit status of a run.
 pub fn exit_status(outcome: &Result<(), Fault>) -> u8
     ensures success { IsOk outcome.now → result ≡ 0 }
     ensures fault { IfErr outcome.now (λ f. result ≡ status_of f) }

@@ -13,7 +13,7 @@ use std::io::{self, Read};
 pub enum ReadError {
     /// A request for memory was refused.
     Memory,
-    /// A read answered an error.
+    /// A read returned an error.
     Reading,
 }
 
@@ -32,10 +32,10 @@ impl Error for ReadError {}
 
 const FIRST_ROOM: usize = 64 * 1024;
 
-/// All bytes of the reader, up to a read that answers none.
+/// Returns all bytes of the reader, up to a read that gives none.
 ///
-/// A read that answers an error ends it, whatever the kind; no read is tried again. The room is 64 KiB at first and is doubled
-/// when it is full, so a read is offered at least half of what was read before it.
+/// The call ends at a read that returns an error, whatever the kind, and tries no read again. The room is 64 KiB at first and is
+/// doubled when it is full, so a read is offered at least half of what was read before it.
 pub fn read_input<R: Read, A: Allocator>(alloc: A, reader: &mut R) -> Result<Vec<u8, A>, ReadError>
     ensures bytes { IfOk result (λ input. Consumes (R.remaining reader.old) (R.remaining reader.new) input.items) }
     ensures end { OnOk result (IsAtEnd (R.remaining reader.new)) }

@@ -55,7 +55,7 @@ impl<'a> Hash for Key<'a> {
     }
 }
 
-/// The first line of the bytes and what follows its newline, or `None` where there is no line.
+/// Returns the first line of the bytes and what follows its newline, or `None` if there is no line.
 pub fn next_line(bytes: &[u8]) -> Option<(&[u8], &[u8])>
     ensures line { IfSome result (λ found. lines_of bytes.now ≡ found.0.now ∷ lines_of found.1.now) }
     ensures bytes { IfSome result (λ found. (bytes.now ≡ found.0.now ++ 10 ∷ found.1.now)
@@ -70,7 +70,7 @@ pub fn next_line(bytes: &[u8]) -> Option<(&[u8], &[u8])>
     }
 }
 
-/// The lines of the bytes, as keys.
+/// Returns the lines of the bytes, as keys.
 pub fn keys_of<'a, A: Allocator>(alloc: A, bytes: &'a [u8]) -> Result<Vec<Key<'a>, A>, AllocError>
     ensures { IfOk result (λ keys. map (λ key. key.0.now) keys.items ≡ lines_of bytes.now) }
 {

@@ -1,5 +1,5 @@
-//! Where the first newline stands. Eight bytes are looked at together and without a branch on each: at which byte a line ends
-//! would be guessed wrong at most lines.
+//! The position of the first newline. Eight bytes are looked at together, without a branch on each, because the processor would
+//! guess the end of most lines wrong.
 ghost use Rattle.std.specs.Prelude.{◌≡◌, ◌==◌, ◌+◌, ◌<◌, ◌≤◌, length, position};
 ghost use Rattle.clru_lines.specs.Newlines.{IsFirstOfEight};
 

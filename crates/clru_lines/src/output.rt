@@ -4,10 +4,10 @@ ghost use Rattle.std.specs.Io.KnownBytes.{Appends};
 
 use std::io::{self, Error, ErrorKind, Write};
 
-/// Writes the text, each call being offered all that is left of it, and then flushes once.
+/// Writes the text, offering each call all that is left of it, and then flushes once.
 ///
-/// The first call that answers an error is the last, whatever the kind, and its error is the answer. A write that takes nothing
-/// is an error of the kind `WriteZero`. An empty text is a flush alone.
+/// Ends at the first call that returns an error, whatever the kind, and returns it. A write that takes nothing is an error of
+/// the kind `WriteZero`. For an empty text it only flushes.
 pub fn write_text<W: Write>(writer: &mut W, text: &[u8]) -> io::Result<()>
     ensures written { OnOk result (Appends (W.contents writer.old) (W.contents writer.new) text.now) }
     ensures cut_short { IfErr result (λ _. (n : ℕ)

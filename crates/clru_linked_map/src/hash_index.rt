@@ -1,5 +1,5 @@
 //! `HashIndex`: which place each bucket leads to, and which place each place is linked to in its chain. A place takes 4 bytes there,
-//! or 8 where the places may be more than those name, or more than a limit that the maker set.
+//! or 8 if the places may be more than those name, or more than a limit that the maker set.
 //!
 //! A number there is 0 for no place. Else its lowest bits, those of the mask that picks a bucket, are the place and 1; those above
 //! are the same bits of the hash of the key at that place, its tag; and the highest one says that the place is linked on. So a
@@ -140,7 +140,7 @@ impl<A: Allocator + Copy> HashIndex<A> {
         place_numbered(number & self.mask)
     }
 
-    /// Answers whether a number has another tag than a hash.
+    /// Returns whether a number has another tag than a hash.
     pub(crate) fn has_other_tag(&self, number: usize, hash: u64) -> bool
         ensures other { result ≡ true → tag_by self.now.tags number ≡ tag_by self.now.tags hash → ⊥ }
         ensures same { result ≡ false → tag_by self.now.tags number ≡ tag_by self.now.tags hash }
@@ -148,7 +148,7 @@ impl<A: Allocator + Copy> HashIndex<A> {
         number & self.tags != hash as usize & self.tags
     }
 
-    /// Answers whether the place that a number names is not linked on, or the number names none.
+    /// Returns whether the place that a number names is not linked on, or the number names none.
     pub(crate) fn is_last(&self, number: usize) -> bool
         ensures last { result ≡ true → number ≤ low_of self.now }
         ensures more { result ≡ false → low_of self.now < number }
@@ -165,7 +165,7 @@ impl<A: Allocator + Copy> HashIndex<A> {
         (place + 1) | tag
     }
 
-    /// Answers whether a number names a place.
+    /// Returns whether a number names a place.
     pub(crate) fn is_named(&self, number: usize) -> bool
         ensures some { result ≡ true → place_named self.now.bound number ≡ nowhere → ⊥ }
         ensures none { result ≡ false → place_named self.now.bound number ≡ nowhere }
@@ -209,7 +209,7 @@ impl<A: Allocator + Copy> HashIndex<A> {
         self.words.set(self.mask + 1 + place, number);
     }
 
-    /// Has all buckets lead nowhere, and no place be linked.
+    /// Empties all buckets, and unlinks all places.
     pub(crate) fn clear(&mut self)
         ensures { self.new ≡ bucket_list (replicate (length self.old.firsts) 0) (replicate (length self.old.links) 0)
             self.old.bound self.old.tags }
@@ -295,7 +295,7 @@ impl<A: Allocator + Copy> HashIndex<A> {
     }
 }
 
-/// The number of buckets for so many places: the least power of two that is at least twice as many. There is none where it
+/// The number of buckets for so many places: the least power of two that is at least twice as many. There is none if it
 /// passes what can be counted.
 fn buckets_for(places: usize) -> Option<usize>
     requires { 0 < places }
@@ -319,7 +319,7 @@ fn low_in<A: Allocator + Copy>(words: &PackedNumbers<A>) -> usize
     words.greatest() / 2
 }
 
-/// Answers whether so many buckets, for so many places, have 4 bytes each.
+/// Returns whether so many buckets, for so many places, have 4 bytes each.
 fn fits_narrow(places: usize, size: usize, limit: usize) -> bool
     ensures { result ≡ true → size ≤ 2 ^ 31 }
 {

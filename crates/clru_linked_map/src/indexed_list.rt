@@ -71,7 +71,7 @@ impl<K: Eq + Hash, V, S: BuildHasher, A: Allocator + Copy> IndexedList<K, V, S, 
         Some(self.index.place(number))
     }
 
-    /// Answers whether a number names another place than that of the key, whose hash is given.
+    /// Returns whether a number names another place than that of the key, whose hash is given.
     #[inline(always)]
     fn is_other<Q: Equivalent<K>>(&self, number: usize, hash: u64, key: &Q) -> bool
         requires tagged { (k : K) → (place_named self.now.index.bound number ≡ nowhere → ⊥)
@@ -104,7 +104,7 @@ impl<K: Eq + Hash, V, S: BuildHasher, A: Allocator + Copy> IndexedList<K, V, S, 
         self.index.bucket_of(self.hash(&item.0))
     }
 
-    /// Takes out the pair at a place, where the bucket of its key is given.
+    /// Takes out the pair at a place. The bucket of its key is given.
     #[inline(always)]
     pub(crate) fn remove(&mut self, bucket: usize, place: usize) -> (K, V)
         requires home { HasHome (hash_of K.Hash S.BuildHasher S.Hasher.Hasher) bucket place self.old }
@@ -122,7 +122,7 @@ impl<K: Eq + Hash, V, S: BuildHasher, A: Allocator + Copy> IndexedList<K, V, S, 
         }
     }
 
-    /// Puts a place to the end of the chain of its key's bucket, where the hash of the key is given.
+    /// Puts a place to the end of the chain of its key's bucket. The hash of the key is given.
     #[inline(always)]
     pub(crate) fn append(&mut self, hash: u64, place: usize)
         requires hash { HasHash (hash_of K.Hash S.BuildHasher S.Hasher.Hasher) hash place self.old }
@@ -162,7 +162,7 @@ impl<K: Eq + Hash, V, S: BuildHasher, A: Allocator + Copy> IndexedList<K, V, S, 
         self.index.note(bucket, before, behind, leads);
     }
 
-    /// Finds memory for one more pair, where each place is taken. It is called seldom, and stands out of line for that.
+    /// Finds memory for one more pair. Each place must be taken. It is called seldom, and is therefore out of line.
     #[cold]
     #[inline(never)]
     pub(crate) fn grow(&mut self) -> Result<(), NoMemory>
@@ -211,7 +211,7 @@ impl<K: Eq + Hash, V, S: BuildHasher, A: Allocator + Copy> IndexedList<K, V, S, 
         }
     }
 
-    /// Chains all keys, where each bucket is empty.
+    /// Chains all keys. Each bucket must be empty.
     fn relink(&mut self)
         requires free { (h : ℕ) → number_in self.old.index.firsts h ≡ 0 }
         requires linked { self.old.list.places ≤ length self.old.index.links }

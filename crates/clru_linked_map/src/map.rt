@@ -86,7 +86,7 @@ impl<K: Eq + Hash, V, S: BuildHasher, A: Allocator + Copy> LinkedHashMap<K, V, S
         let Ok(index) = HashIndex::empty(alloc, places, NARROW) else {
             return Err(hash_builder);
         };
-        // Last, since a list may be dropped only where its items may.
+        // Last, since a list may be dropped only if its items may.
         let Ok(list) = FixedSizeList::with_memory(alloc, capacity, places) else {
             return Err(hash_builder);
         };
@@ -174,7 +174,7 @@ impl<K: Eq + Hash, V, S: BuildHasher, A: Allocator + Copy> LinkedHashMap<K, V, S
         true
     }
 
-    /// Puts a new key, whose hash is given, with its value to the front, where a place is ready.
+    /// Puts a new key, whose hash is given, with its value to the front. A place must be ready.
     #[inline(always)]
     pub fn push_front(&mut self, hash: u64, key: K, value: V)
         requires hash { hash ≡ hash_of K.Hash S.BuildHasher S.Hasher.Hasher self.old.builder key }

@@ -10,8 +10,8 @@ use std::alloc::{Allocator, Global};
 
 mod ends;
 
-/// A cursor over a list. It has entries left, at first the whole list, and passes them one by one from either end. What is
-/// written through an item that it lends is in the list from then on.
+/// A cursor over a list. It passes the entries one by one from either end, and lends their items. What is written to an item
+/// is then in the list.
 #[derive(Drop)]
 pub struct FixedSizeListIterMut<'a, T, A: Allocator + Copy = Global> {
     pub(crate) list: &'a mut FixedSizeList<T, A>,
@@ -23,7 +23,7 @@ pub struct FixedSizeListIterMut<'a, T, A: Allocator + Copy = Global> {
 }
 
 impl<'a, T, A: Allocator + Copy> FixedSizeListIterMut<'a, T, A> {
-    /// Returns the number of items that are left.
+    /// Returns the number of remaining items.
     pub fn len(&self) -> usize
         requires { CanStep self.now }
         ensures { result ≡ length (cursor_rest self.now) }
@@ -31,7 +31,7 @@ impl<'a, T, A: Allocator + Copy> FixedSizeListIterMut<'a, T, A> {
         self.left
     }
 
-    /// Passes the first entry that is left and returns its item for writing, or nothing where none is left.
+    /// Passes the first remaining entry and returns its item for writing, or `None` if none remains.
     pub fn next(&mut self) -> Option<&mut T>
         requires { CanStep self.old }
         ensures* lends { sem 𝓛 (lends_next_if T.row A.row A.Allocator self.entry result) }
@@ -45,7 +45,7 @@ impl<'a, T, A: Allocator + Copy> FixedSizeListIterMut<'a, T, A> {
         Some(item)
     }
 
-    /// Passes the last entry that is left and returns its item for writing, or nothing where none is left.
+    /// Passes the last remaining entry and returns its item for writing, or `None` if none remains.
     pub fn next_back(&mut self) -> Option<&mut T>
         requires { CanStep self.old }
         ensures* lends { sem 𝓛 (lends_next_back_if T.row A.row A.Allocator self.entry result) }
@@ -59,7 +59,7 @@ impl<'a, T, A: Allocator + Copy> FixedSizeListIterMut<'a, T, A> {
         Some(item)
     }
 
-    /// Passes the first entry that is left and returns its place, with its item for writing.
+    /// Passes the first remaining entry and returns its place, with its item for writing.
     pub fn next_entry(&mut self) -> (usize, &mut T)
         requires can { CanStep self.old }
         requires left { 0 < length (cursor_rest self.old) }
@@ -74,7 +74,7 @@ impl<'a, T, A: Allocator + Copy> FixedSizeListIterMut<'a, T, A> {
         }
     }
 
-    /// Passes the last entry that is left and returns its place, with its item for writing.
+    /// Passes the last remaining entry and returns its place, with its item for writing.
     pub fn next_entry_back(&mut self) -> (usize, &mut T)
         requires can { CanStep self.old }
         requires left { 0 < length (cursor_rest self.old) }

@@ -1,4 +1,4 @@
-//! What a call that may want memory answers in place of a result.
+//! The errors of calls that may ask for memory.
 ghost use Rattle.std.specs.Prelude.{Some, codes};
 ghost use Rattle.clru_list.specs.Errors.{push_error_debug, push_error_text};
 
@@ -20,17 +20,17 @@ impl fmt::Display for NoMemory {
 
 impl Error for NoMemory {}
 
-/// So that `?` passes it up beside std's own refusals of memory.
+/// Lets `?` turn it into std's own refusal of memory.
 impl From<NoMemory> for AllocError {
     fn from(_refused: NoMemory) -> AllocError {
         AllocError
     }
 }
 
-/// Why a push was refused. The item comes back, and the list is as it was.
+/// Why a push was refused, with the item. The list is as it was.
 #[derive(Drop, PartialEq, Eq)]
 pub enum PushError<T> {
-    /// The length is at the capacity.
+    /// The length is the capacity.
     Full(T),
 
     /// Memory for one more item was refused.

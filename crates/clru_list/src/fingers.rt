@@ -10,7 +10,7 @@ pub struct Finger {
 }
 
 /// The one that goes up from the front, and the one that goes down from the back. A change of the order clears both, by one
-/// word: what stands in them counts only where they were set since.
+/// word: what stands in them counts only if they were set since.
 #[derive(Clone, Copy, Debug)]
 pub struct Fingers {
     pub(crate) kept: bool,
@@ -35,7 +35,7 @@ impl Fingers {
         self.kept = false;
     }
 
-    /// The place of the index, where the finger that goes up has it.
+    /// The place of the index, if the finger that goes up has it.
     pub(crate) fn up_at(&self, index: usize) -> Option<usize>
         ensures { IfSome result (λ p. (places : List ℕ) → IsPointed places self.now
             → slice_get places index ≡ Some p) }
@@ -47,7 +47,7 @@ impl Fingers {
         }
     }
 
-    /// The place of the index, where the finger that goes down has it.
+    /// The place of the index, if the finger that goes down has it.
     pub(crate) fn down_at(&self, index: usize) -> Option<usize>
         ensures { IfSome result (λ p. (places : List ℕ) → IsPointed places self.now
             → slice_get places index ≡ Some p) }
@@ -80,7 +80,7 @@ impl Fingers {
     }
 }
 
-/// The place of the index, where the finger has it.
+/// The place of the index, if the finger has it.
 fn pointed(finger: Option<Finger>, index: usize) -> Option<usize>
     ensures { IfSome result (λ p. (places : List ℕ) → IsFinger places finger → slice_get places index ≡ Some p) }
 {

@@ -1,4 +1,4 @@
-//! A link in two halves of 4 bytes each. The upper halves stand apart, and only where there may be more places than lower
+//! A link in two halves of 4 bytes each. The upper halves stand apart, and only if there may be more places than lower
 //! ones name.
 ghost use Rattle.std.specs.Prelude.{◌≡◌, ◌≤◌, max, vec_len, IfOk, IsOk};
 ghost use Rattle.clru_list.specs.Halves.{upper_next, upper_prev};
@@ -24,7 +24,7 @@ pub(crate) fn place_by(lower: u32, upper: u32) -> usize
     (lower as usize + upper as usize * 4294967296).wrapping_sub(1)
 }
 
-/// The number of a place, one more than it, and 0 where there is none.
+/// The number of a place, one more than it, and 0 if there is none.
 pub(crate) fn number_of(place: usize) -> usize
     ensures { place_by result 0 ≡ place }
 {
@@ -46,7 +46,7 @@ pub(crate) fn halves(to: usize) -> (u32, u32)
     ((number % 4294967296) as u32, (number / 4294967296) as u32)
 }
 
-/// Upper halves for so many places, where the lower ones can't name them.
+/// Upper halves for so many places, if the lower ones can't name them.
 pub(crate) fn uppers<A: Allocator>(alloc: A, places: usize) -> Result<Vec<Upper, A>, NoMemory>
     ensures named { IfOk result (λ upper. places ≤ max narrow (vec_len upper)) }
     ensures never_refused { places ≡ 0 → IsOk result }
@@ -60,7 +60,7 @@ pub(crate) fn uppers<A: Allocator>(alloc: A, places: usize) -> Result<Vec<Upper,
     }
 }
 
-/// Has the upper halves of a place be 0, where it has some.
+/// Clears a place's upper halves, if it has some.
 pub(crate) fn clear_upper<A: Allocator>(upper: &mut Vec<Upper, A>, place: usize)
     ensures next { upper_next upper.new ≡ put (upper_next upper.old) place 0 }
     ensures prev { upper_prev upper.new ≡ put (upper_prev upper.old) place 0 }

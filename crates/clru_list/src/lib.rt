@@ -2,7 +2,7 @@
 //!
 //! Contracts see a list as its entries, the pairs of a place and an item, front first, with the capacity, the most entries
 //! that it may hold, and the places, the number of entries for which memory was found. The places of the entries differ
-//! pairwise. A push asks for memory only where each place is taken; where it is refused, it gives the item back and the list
+//! pairwise. A push asks for memory only if each place is taken. If memory is refused, it gives the item back, and the list
 //! stays as it was.
 //!
 //! Free places are linked through their own nodes. Each call takes the same short time whatever the length is, but for
@@ -22,7 +22,7 @@ mod packed;
 
 pub use cursor::FixedSizeListIterMut;
 pub use error::{NoMemory, PushError};
-// A crate can name a list in a contract only where the types of its fields are exported. `NARROW` and `NOWHERE` serve the index of
+// A crate can name a list in a contract only if the types of its fields are exported. `NARROW` and `NOWHERE` serve the index of
 // `clru_linked_map` too.
 #[doc(hidden)]
 pub use fingers::{Finger, Fingers};

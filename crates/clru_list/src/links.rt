@@ -28,7 +28,7 @@ pub struct Node<T> {
 #[derive(Drop)]
 pub struct Links<T, A: Allocator> {
     pub(crate) nodes: Vec<Node<T>, A>,
-    // None are there where lower halves serve; else those of each place that the list may use.
+    // None are there if lower halves serve; else those of each place that the list may use.
     pub(crate) upper: Vec<Upper, A>,
     pub(crate) front: usize,
     pub(crate) back: usize,
@@ -130,7 +130,7 @@ impl<T, A: Allocator> Links<T, A> {
         }
     }
 
-    /// Has a place name the next one.
+    /// Links a place to the next one.
     fn write_next(&mut self, at: usize, to: usize)
         requires at { at < vec_len self.old.nodes }
         requires to { IsEnd (links_of self.old) to }
@@ -159,7 +159,7 @@ impl<T, A: Allocator> Links<T, A> {
         }
     }
 
-    /// Has a place name the one before.
+    /// Links a place to the one before.
     fn write_prev(&mut self, at: usize, to: usize)
         requires at { at < vec_len self.old.nodes }
         requires to { IsEnd (links_of self.old) to }
@@ -174,7 +174,7 @@ impl<T, A: Allocator> Links<T, A> {
         }
     }
 
-    /// Has the neighbours of a place name each other.
+    /// Links the neighbours of a place to each other.
     #[inline(always)]
     pub(crate) fn unlink(&mut self, place: usize)
         requires place { place < vec_len self.old.nodes }
@@ -296,7 +296,7 @@ impl<T, A: Allocator> Links<T, A> {
         self.free = place;
     }
 
-    /// Stores an item in the first free place, or in a new one where none is free.
+    /// Stores an item in the first free place, or in a new one if none is free.
     #[inline(always)]
     pub(crate) fn occupy(&mut self, item: T) -> usize
         requires end { IsEnd (links_of self.old) self.old.free }

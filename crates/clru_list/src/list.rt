@@ -26,7 +26,7 @@ pub struct FixedSizeList<T, A: Allocator + Copy = Global> {
     pub(crate) capacity: usize,
     // No more than is allotted to the links, and not that number itself: a growth that was refused changes nothing.
     pub(crate) places: usize,
-    // Links take 4 bytes each only where the places are no more. A test sets it low, to reach the wide form.
+    // Links take 4 bytes each only if the places are no more. A test sets it low, to reach the wide form.
     pub(crate) limit: usize,
     pub(crate) fingers: Fingers,
 }
@@ -66,22 +66,22 @@ impl<T, A: Allocator + Copy> Model for FixedSizeList<T, A> {
 }
 
 impl<T, A: Allocator + Copy> FixedSizeList<T, A> {
-    /// Creates an empty list that holds at most `capacity` items. It takes no memory.
+    /// Creates an empty list that holds at most `capacity` items. Takes no memory.
     pub fn new(alloc: A, capacity: usize) -> Self
         ensures { result ≡ place_list [] capacity 0 }
     {
         FixedSizeList::with_narrow_places(alloc, capacity, NARROW)
     }
 
-    /// Creates an empty list whose links have 8 bytes for each place once there are more than `limit` places, and 4 else. With
-    /// `new` that is so past 2^32 - 1 places, where no test comes. A limit past that changes nothing.
+    /// Creates an empty list whose links take 8 bytes for each place if there are more than `limit` places, and 4 else. The
+    /// limit of `new` is 2^32 - 1, which no test reaches. A greater limit changes nothing.
     pub fn with_narrow_places(alloc: A, capacity: usize, limit: usize) -> Self
         ensures { result ≡ place_list [] capacity 0 }
     {
         FixedSizeList::empty(Vec::new(alloc), Vec::new(alloc), capacity, 0, limit)
     }
 
-    /// Creates an empty list with memory for `reserve` items, or for `capacity` items where that is less.
+    /// Creates an empty list with memory for `reserve` items, or for `capacity` items if that is less.
     pub fn with_memory(alloc: A, capacity: usize, reserve: usize) -> Result<Self, NoMemory>
         ensures empty { IfOk result (λ l. l ≡ place_list [] capacity (min reserve capacity)) }
         ensures never_refused { min reserve capacity ≡ 0 → IsOk result }
@@ -89,7 +89,7 @@ impl<T, A: Allocator + Copy> FixedSizeList<T, A> {
     {
         let places = reserve.min(capacity);
         let upper = uppers(alloc, places)?;
-        // Last, since nodes may be let go only where items may.
+        // Last, since nodes may be let go only if items may.
         let Ok(nodes) = Vec::with_capacity(alloc, places) else {
             return Err(NoMemory);
         };
@@ -155,7 +155,7 @@ impl<T, A: Allocator + Copy> FixedSizeList<T, A> {
         self.len == 0
     }
 
-    /// Returns whether the length is at the capacity.
+    /// Returns whether the length is the capacity.
     pub fn is_full(&self) -> bool
         ensures full { IsTrue result ↔ (length self.now.entries ≡ self.now.capacity) }
         ensures valid { IsValid self.now }
@@ -163,7 +163,7 @@ impl<T, A: Allocator + Copy> FixedSizeList<T, A> {
         self.len == self.capacity
     }
 
-    /// Returns the item at a place, or nothing where none is there.
+    /// Returns the item at a place, or `None` if none is there.
     pub fn get(&self, place: usize) -> Option<&T>
         ensures value { option_copied result ≡ item_at place self.now.entries }
         ensures valid { IsValid self.now }
@@ -171,7 +171,7 @@ impl<T, A: Allocator + Copy> FixedSizeList<T, A> {
         self.links.item(place)
     }
 
-    /// Returns the item at a place, where one is.
+    /// Returns the item at a place. The caller shows that one is there.
     pub fn item(&self, place: usize) -> &T
         requires { IsSome (item_at place self.now.entries) }
         ensures value { item_at place self.now.entries ≡ Some result.now }
@@ -212,7 +212,7 @@ impl<T, A: Allocator + Copy> FixedSizeList<T, A> {
         some_place(self.links.back())
     }
 
-    /// Returns the place behind that of an item. There is none behind the last, nor where no item is.
+    /// Returns the place after that of an item, or `None` if the item is the last or there is no item.
     pub fn next_idx(&self, place: usize) -> Option<usize>
         ensures place { result ≡ place_after place self.now.entries }
         ensures valid { IsValid self.now }
@@ -221,7 +221,7 @@ impl<T, A: Allocator + Copy> FixedSizeList<T, A> {
         some_place(self.links.next(place))
     }
 
-    /// Returns the place before that of an item. There is none before the first, nor where no item is.
+    /// Returns the place before that of an item, or `None` if the item is the first or there is no item.
     pub fn prev_idx(&self, place: usize) -> Option<usize>
         ensures place { result ≡ place_before place self.now.entries }
         ensures valid { IsValid self.now }

@@ -1,4 +1,4 @@
-//! Writes of links where their lower halves alone serve. They take the nodes as one slice, so that its address is read once for
+//! Writes of links if their lower halves alone serve. They take the nodes as one slice, so that its address is read once for
 //! all writes, and copy a number without making a place of it.
 ghost use Rattle.std.specs.Prelude.{◌≡◌, ◌⊎◌, ℕ, ◌<◌, ◌≤◌, length};
 ghost use Rattle.clru_list.specs.Places.{nowhere, narrow, place_by};
@@ -36,7 +36,7 @@ pub(crate) fn bring_front<T>(
     *front = number;
 }
 
-/// Has a place name the next one by its number.
+/// Links a place to the next one by its number.
 fn write_next<T>(nodes: &mut [Node<T>], at: usize, to: u32)
     requires at { at < length nodes.old }
     requires narrow { length nodes.old ≤ narrow }
@@ -47,7 +47,7 @@ fn write_next<T>(nodes: &mut [Node<T>], at: usize, to: u32)
     nodes[at].next = to;
 }
 
-/// Has a place name the one before by its number.
+/// Links a place to the one before by its number.
 fn write_prev<T>(nodes: &mut [Node<T>], at: usize, to: u32)
     requires at { at < length nodes.old }
     requires narrow { length nodes.old ≤ narrow }
@@ -58,7 +58,7 @@ fn write_prev<T>(nodes: &mut [Node<T>], at: usize, to: u32)
     nodes[at].prev = to;
 }
 
-/// Has the place of a number name the one before. For 0 the back becomes that one.
+/// Links the place of a number to the one before. For 0 the back becomes that one.
 fn write_prev_or_back<T>(nodes: &mut [Node<T>], back: &mut usize, number: u32, to: u32)
     requires at { (place_by number 0 ≡ nowhere) ⊎ (place_by number 0 < length nodes.old) }
     requires narrow { length nodes.old ≤ narrow }

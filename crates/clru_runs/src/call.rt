@@ -29,7 +29,7 @@ pub enum Call<K, V> {
     PopBack,
     Clear,
 
-    /// To that capacity, or to 1 where it is 0.
+    /// To that capacity, or to 1 if it is 0.
     Resize(usize),
 
     /// Keeps the entries of the other keys.
@@ -69,11 +69,11 @@ pub enum Attempt<V> {
     /// The one that is called stores the value.
     Store(V),
 
-    /// It fails. That for a held key has written the value first, where there is one.
+    /// It fails. That for a held key has written the value first, if there is one.
     Fail(Option<V>),
 }
 
-/// What a call answered, with the values that it lent copied out.
+/// What a call returned, with the values that it lent copied out.
 #[derive(Debug, Drop, PartialEq)]
 pub enum Answer<K, V> {
     /// Of a plain put: the old value of the key and the pair that was dropped, or the pair that was refused.
@@ -91,13 +91,13 @@ pub enum Answer<K, V> {
     /// Of a put-or-modify that may fail: the value that it lent, or why it was refused.
     Tried(Result<V, TryPutError<K, Attempt<V>, ()>>),
 
-    /// Of a look-up, and of an end: the value there, which was the old one where another was written.
+    /// Of a look-up, and of an end: the value there, which was the old one if another was written.
     Value(Option<V>),
     Pair(Option<(K, V)>),
     Number(usize),
     Flag(bool),
 
-    /// Of a call that answers nothing.
+    /// Of a call that returns nothing.
     Done,
 }
 
@@ -107,7 +107,7 @@ pub enum Answer<K, V> {
 /// from the back, one after the other.
 #[derive(Debug, Drop, PartialEq)]
 pub struct Weighing<K, V> {
-    /// The old value of the key, where it was held.
+    /// The old value of the key, if it was held.
     pub replaced: Option<V>,
 
     /// How many pairs were handed out.

@@ -14,10 +14,10 @@ use std::hash::{BuildHasher, Hash};
 pub trait Perform<C> {
     type Answer;
 
-    // The `C` before, the call, its answer, and the `C` after.
+    // The `C` before, the call, its result, and the `C` after.
     ghost step: { C → Self → Self.Answer → C → Type 0 };
 
-    /// Makes the call. It never fails: what was refused is an answer.
+    /// Makes the call. It never fails: a refusal is a result.
     fn perform(self, cache: &mut C) -> Self::Answer
         ensures { step cache.old self result cache.new };
 }
@@ -123,7 +123,7 @@ fn put_with_weight<
 >(cache: &mut CLruCache<K, V, S, W, A>, key: K, value: V) -> Answer<K, V>
     ensures { Step K.eq W.weight cache.old (Call.PutWithWeight key value) result cache.new }
 {
-    // Its answer is a `usize`, so there are fewer than 2^64 entries.
+    // Its result is a `usize`, so there are fewer than 2^64 entries.
     let _len = cache.len();
     let mut weighing = Weighing {
         replaced: None,

@@ -5,10 +5,10 @@ ghost use Rattle.clru_runs.specs.Run.{Run};
 use crate::perform::Perform;
 use std::alloc::Allocator;
 
-/// Makes the calls in order, and returns their answers.
+/// Makes the calls in order, and returns their results.
 ///
-/// Memory for the answers is taken before the first call, and without calls none is asked for. Where it is refused, no call
-/// was made, and the calls come back.
+/// Takes memory for the results before the first call; without calls it asks for none. If memory is refused, it makes no
+/// call, and returns the calls.
 pub fn perform_all<C, Q: Perform<C> + Drop, A: Allocator + Copy>(
     alloc: A,
     cache: &mut C,

@@ -20,13 +20,13 @@ macro_rules! equal {
     };
 }
 
-/// Whether `{:?}` prints the text.
+/// Returns whether `{:?}` prints the text.
 pub fn shows(alloc: Global, value: &impl Debug, text: &str) -> Result<bool, AllocError> {
     let printed = format!(in alloc; "{value:?}")?;
     Ok(printed.as_str() == text)
 }
 
-/// A capacity, or the failure of a test where it is 0.
+/// Returns a capacity, or fails the test if it is 0.
 pub fn capacity_of(n: usize) -> Result<NonZeroUsize, &'static str>
     ensures capacity { IfOk result (λ c. non_zero_usize_get c ≡ n) }
     ensures refused { IsErr result → n ≡ 0 }

@@ -3,7 +3,7 @@
 //!
 //! An owner lends it, as in `Vec::new(&heap)`. A growth, a `reserve_exact` and a shrink of a `Vec` make one request each: the
 //! trait's own `grow` and `shrink` ask for the new block by `allocate`, and give the old one back by `deallocate`.
-//! It is proved that what it answers is a block of the inner allocator, of the size that was asked for. The counters are
+//! It is proved to return blocks of the inner allocator, of the size that was asked for. The counters are
 //! only tested (`clru_effects_tests`), since no contract can say what a cell holds.
 //!
 //! Beside it stands what crates of tests assert with: `equal!`, `shows`, `capacity_of`.
@@ -40,7 +40,7 @@ pub struct Rationed<B: Allocator> {
 }
 
 impl<B: Allocator> Rationed<B> {
-    /// All requests pass until it is told otherwise.
+    /// Creates an allocator that refuses no request until it is told to.
     pub fn new(inner: B) -> Rationed<B> {
         let book = Book {
             asked: Cell::new(0),
@@ -67,38 +67,38 @@ impl<B: Allocator> Rationed<B> {
         self.book.refusing.set(1);
     }
 
-    /// Refuses each request that would bring the bytes of the blocks above so many, whatever else it is told: a heap of a
-    /// fixed size.
+    /// Refuses each request that would bring the bytes of the blocks above so many, like a heap of a fixed size, whatever else
+    /// it is told.
     pub fn limit_bytes(&self, bytes: u64) {
         self.book.limit_bytes.set(bytes);
     }
 
-    /// Lets all requests pass from now on, but for the limit of bytes.
+    /// Refuses no request from now on, except by the limit of bytes.
     pub fn refuse_none(&self) {
         self.book.refusing.set(0);
     }
 
-    /// The requests for memory so far, refused ones included.
+    /// Returns the number of requests so far, with refused ones.
     pub fn asked(&self) -> u64 {
         self.book.asked.get()
     }
 
-    /// The bytes of the requests so far, refused ones included.
+    /// Returns the bytes of the requests so far, with refused ones.
     pub fn asked_bytes(&self) -> u64 {
         self.book.asked_bytes.get()
     }
 
-    /// The requests so far that got no memory, refused here or by the inner allocator.
+    /// Returns the number of requests so far that got no memory, refused here or by the inner allocator.
     pub fn refused(&self) -> u64 {
         self.book.asked.get().wrapping_sub(self.book.given.get())
     }
 
-    /// The blocks handed out and not yet given back: 0 where nothing leaks.
+    /// Returns the number of blocks handed out and not yet given back: 0 if nothing leaks.
     pub fn blocks(&self) -> u64 {
         self.book.given.get().wrapping_sub(self.book.returned.get())
     }
 
-    /// The bytes of those blocks.
+    /// Returns the bytes of those blocks.
     pub fn held_bytes(&self) -> u64 {
         self.book.held_bytes.get()
     }

@@ -1,8 +1,8 @@
-//! What a plain put answers.
+//! What a plain put returns.
 
-/// What became of the entries that gave way to a plain put: at most one of the two is there.
+/// What a plain put replaced or dropped: at most one of the two is there.
 ///
-/// What is dropped can be written back:
+/// A caller can write the dropped pair back:
 ///
 /// ```rust
 /// match pages.put(page, contents) {
@@ -18,9 +18,9 @@
 /// ```
 #[derive(Debug, Drop, PartialEq, Eq)]
 pub struct Put<K, V> {
-    /// The old value of the key, where it was held.
+    /// The old value of the key, if it was held.
     pub replaced: Option<V>,
 
-    /// The least recently used pair, where it went because the key was not held and the cache was full.
+    /// The least recently used pair, if it was dropped because the key was not held and the cache was full.
     pub dropped: Option<(K, V)>,
 }

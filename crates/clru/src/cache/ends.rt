@@ -32,7 +32,7 @@ where
         self.map.back()
     }
 
-    /// Returns the entry at an end, where there is one.
+    /// Returns the entry at an end, if there is one.
     pub(crate) fn end_pair(&self, end: End) -> (&K, &V)
         requires { 0 < length self.now.entries }
         ensures { Some (deref_pair result) ≡ slice_get self.now.entries (index_of end self.now.entries) }
@@ -85,7 +85,7 @@ impl<K: Eq + Hash, V, S: BuildHasher, A: Allocator + Copy> CLruCache<K, V, S, Ze
         })
     }
 
-    /// Lends the value at an end, where there is one.
+    /// Lends the value at an end, if there is one.
     pub(crate) fn end_value(&mut self, end: End) -> &mut V
         requires { 0 < length self.old.entries }
         ensures* lends { sem 𝓛 (lends_end K.row V.row S.row A.row S.Hasher.row K.Hash S.BuildHasher S.Hasher.Hasher

@@ -14,7 +14,7 @@ use std::num::NonZeroUsize;
 impl<K: Eq + Hash, V, S: BuildHasher, A: Allocator + Copy> CLruCache<K, V, S, ZeroWeightScale, A> {
     /// Puts each of the items in turn, as `put` does.
     ///
-    /// The first refused put ends it: its pair comes back, the items before it stay put, and no later one is drawn.
+    /// Ends at the first refused put and returns its pair. The items before it stay in the cache, and no later one is drawn.
     /// Cost: that of one `put` for each item.
     ///
     /// ```rust
@@ -38,10 +38,10 @@ impl<K: Eq + Hash, V, S: BuildHasher, A: Allocator + Copy> CLruCache<K, V, S, Ze
         Ok(())
     }
 
-    /// Creates a cache that holds the items, as puts of them in turn leave them, and hashes keys with `hash_builder`. Its
-    /// capacity is then the number of its entries, or 1 where there is none.
+    /// Creates a cache, puts the items into it in turn, and hashes keys with `hash_builder`. Its
+    /// capacity is then the number of its entries, or 1 if there is none.
     ///
-    /// The first put for which memory is refused ends it, and what was put is dropped.
+    /// If memory is refused for a put, the call ends, and drops what was put.
     /// Cost: that of one `put` for each item.
     ///
     /// ```rust
@@ -73,7 +73,7 @@ impl<K: Eq + Hash, V, S: BuildHasher, A: Allocator + Copy> CLruCache<K, V, S, Ze
         }
     }
 
-    /// Makes the number of entries the capacity, or 1 where there is none.
+    /// Makes the number of entries the capacity, or 1 if there is none.
     fn close(&mut self)
         ensures { self.new ≡ cache self.old.entries (max 1 (length self.old.entries)) self.old.scale self.old.places }
     {

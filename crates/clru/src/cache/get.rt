@@ -18,10 +18,10 @@ impl<K: Eq + Hash, V, S: BuildHasher, W: WeightScale<K, V>, A> CLruCache<K, V, S
 where
     A: Allocator + Copy,
 {
-    /// Returns the value of the key, and makes its entry the most recently used: it promotes it.
+    /// Returns the value of the key, and makes its entry the most recently used (promotes it).
     ///
-    /// The key is lent, or is a form of it: a `&str` where the keys are `String`, a slice where they are `Vec`. No key is built
-    /// for it.
+    /// Takes a borrowed key or another form of it: a `&str` if the keys are `String`, a slice if they are `Vec`. It builds no
+    /// key.
     /// Cost: one hash and a walk along one chain.
     ///
     /// ```rust

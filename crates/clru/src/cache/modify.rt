@@ -15,11 +15,11 @@ use std::alloc::Allocator;
 use std::hash::{BuildHasher, Hash};
 
 impl<K: Eq + Hash, V, S: BuildHasher, A: Allocator + Copy> CLruCache<K, V, S, ZeroWeightScale, A> {
-    /// Puts a new entry with the value that `put_op` makes of the key and the data, or has `modify_op` change the value
-    /// of a held key. The entry is then the most recently used, and its value is lent.
+    /// Puts a new entry with the value that `put_op` makes of the key and the data, or calls `modify_op` to change the value
+    /// of a held key. Makes the entry the most recently used, and lends its value.
     ///
-    /// A new entry drops the least recently used one of a full cache, after `put_op` has answered. Where memory is
-    /// refused, the key and the data come back and no closure was called.
+    /// A new entry drops the least recently used one of a full cache, after `put_op` has returned. If memory is
+    /// refused, the call returns key and data, and no closure was called.
     /// Cost: that of a `put`, and one call of a closure.
     ///
     /// ```rust
@@ -63,12 +63,12 @@ impl<K: Eq + Hash, V, S: BuildHasher, A: Allocator + Copy> CLruCache<K, V, S, Ze
         Ok(self.map.front_mut().1)
     }
 
-    /// Puts a new entry with the value that `put_op` makes of the key and the data, or has `modify_op` change the value
-    /// of a held key, by closures that may fail. The entry is then the most recently used, and its value is lent.
+    /// Puts a new entry with the value that `put_op` makes of the key and the data, or calls `modify_op` to change the value
+    /// of a held key; either may fail. Makes the entry the most recently used, and lends its value.
     ///
-    /// Where the closure that was called fails, its error is the answer. If it is `put_op`, no entry has changed, and none
-    /// has gone from a full cache. If it is `modify_op`, its entry is the most recently used, with what it has written.
-    /// Where memory is refused, the key and the data come back and no closure was called. Places for which memory was
+    /// If the closure that was called fails, its error is returned. If it is `put_op`, no entry has changed, and a full cache
+    /// has dropped none. If it is `modify_op`, its entry is the most recently used, with what it has written.
+    /// If memory is refused, the call returns key and data, and no closure was called. Places for which memory was
     /// found stay.
     /// Cost: that of a `put`, and one call of a closure.
     ///

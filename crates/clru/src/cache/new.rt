@@ -29,7 +29,7 @@ impl<K: Eq + Hash, V, A: Allocator + Copy> CLruCache<K, V, DefaultState, ZeroWei
         CLruCache::with_hasher(alloc, capacity, DefaultState)
     }
 
-    /// Creates a cache that holds at most `capacity` entries, with memory for `reserve` of them, or for all where `capacity`
+    /// Creates a cache that holds at most `capacity` entries, with memory for `reserve` of them, or for all if `capacity`
     /// is less.
     /// Cost: two requests for memory and a write of each bucket, or none of either without a reserve.
     pub fn with_memory(alloc: A, capacity: NonZeroUsize, reserve: usize) -> Result<Self, NoMemory>
@@ -62,7 +62,7 @@ impl<K: Eq + Hash, V, W: WeightScale<K, V>, A> CLruCache<K, V, DefaultState, W, 
 where
     A: Allocator + Copy,
 {
-    /// Creates a cache in which the number of entries and their weight by `scale` are at most `capacity`.
+    /// Creates a cache in which the number of entries plus their weight by `scale` is at most `capacity`.
     /// Cost: no request for memory.
     pub fn with_scale(alloc: A, capacity: NonZeroUsize, scale: W) -> Self
         ensures { result ≡ cache [] (non_zero_usize_get capacity) scale 0 }
@@ -78,9 +78,9 @@ impl<K: Eq + Hash, V, S: BuildHasher, W: WeightScale<K, V>, A> CLruCache<K, V, S
 where
     A: Allocator + Copy,
 {
-    /// Creates a cache from its configuration: the capacity, the hash builder and the scale are the configured ones, and
-    /// there is memory for as many entries as its reserve says, or for `capacity` entries where that is less. Where
-    /// memory is refused, the configuration comes back as it was.
+    /// Creates a cache with the capacity, hash builder and scale of its configuration, and with memory for as many entries as
+    /// its reserve says, or for `capacity` entries if that is less. If memory is refused, the call returns the
+    /// configuration.
     /// Cost: two requests for memory and a write of each bucket, or none of either without a reserve.
     pub fn with_config(
         alloc: A,

@@ -18,13 +18,13 @@ where
         &self.scale
     }
 
-    /// Lends the hash builder. No clause tells which it is, since a cache's model has none.
+    /// Lends the hash builder. No clause says which it is, because a cache's model has none.
     /// Cost: a read.
     pub fn hasher(&self) -> &S {
         self.map.hasher()
     }
 
-    /// Lends the allocator. No clause tells which it is, since a cache's model has none.
+    /// Lends the allocator. No clause says which it is, because a cache's model has none.
     /// Cost: a read.
     pub fn allocator(&self) -> &A {
         self.map.allocator()

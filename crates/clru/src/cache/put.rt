@@ -17,16 +17,16 @@ impl<K: Eq + Hash, V, S: BuildHasher, W: WeightScale<K, V>, A> CLruCache<K, V, S
 where
     A: Allocator + Copy,
 {
-    /// Puts a pair into the cache, hands out what it drops, and returns the old value of its key. The pair is then the most
-    /// recently used, under the new key.
+    /// Puts a pair into the cache, hands out the pairs that it drops, and returns the old value of its key. The pair is then
+    /// the most recently used, with the new key.
     ///
-    /// Whatever does not fit beside it is dropped, and nothing else: `on_drop` takes each of these pairs, the least recently
-    /// used one first. The old entry of the key is not among them: its value is the answer. A pair that weighs as much as
-    /// the capacity or more is refused as too heavy, whether its key is held or not. A refused pair comes back, and
-    /// `on_drop` is not called. No memory is taken for handing them out.
+    /// Drops only the pairs that do not fit beside the new one: `on_drop` takes each of them, the least recently used one
+    /// first, and never the old entry of the key. Refuses a pair that weighs as much as the capacity or more as too heavy,
+    /// whether its key is held or not. If the put is refused, it returns the pair, and `on_drop` is not called.
+    /// Handing pairs out takes no memory.
     /// Cost: one weighing, one hash and two walks along one chain; for the old value of its key a walk and a weighing more, and
     /// for each pair that it drops a hash, a walk and a weighing. A growth asks for memory twice and hashes each held key once,
-    /// or asks once and hashes none where the index has room.
+    /// or asks once and hashes none if the index has room.
     ///
     /// ```rust
     /// match pages.put_with_weight(page, bytes, |_, _| {}) {
@@ -60,8 +60,8 @@ where
         self.put_with_weight_handing_to(key, value, &mut on_drop)
     }
 
-    /// `put_with_weight` for a closure that is lent. Its contract says what the closure ends as: a caller learns from what
-    /// it captured which pairs were dropped, which a closure passed by value can't tell.
+    /// Does what `put_with_weight` does, with a borrowed closure. The contract says how the closure ends, so a caller learns
+    /// from what it captured which pairs were dropped; a closure passed by value can't say that.
     /// Cost: that of `put_with_weight`.
     pub fn put_with_weight_handing_to<F: FnMut(K, V)>(
         &mut self,
@@ -112,13 +112,13 @@ where
 }
 
 impl<K: Eq + Hash, V, S: BuildHasher, A: Allocator + Copy> CLruCache<K, V, S, ZeroWeightScale, A> {
-    /// Puts a pair into the cache, and returns the old value of its key, and the pair that it drops. Its entry is then the
+    /// Puts a pair into the cache, and returns the old value of its key and the pair that it drops. Its entry is then the
     /// most recently used; a held key stays as it was stored.
     ///
-    /// A new entry drops, or evicts, the least recently used one of a full cache. Where memory is refused, the pair comes
-    /// back.
-    /// Cost: one hash and a walk along one chain, for a new key two walks; where it drops a pair, one hash and one walk more.
-    /// A growth asks for memory twice and hashes each held key once, or asks once and hashes none where the index has room.
+    /// A new entry drops, or evicts, the least recently used one of a full cache. If memory is refused, the put returns
+    /// the pair, and the entries stay.
+    /// Cost: one hash and a walk along one chain, for a new key two walks; if it drops a pair, one hash and one walk more.
+    /// A growth asks for memory twice and hashes each held key once, or asks once and hashes none if the index has room.
     pub fn put(&mut self, key: K, value: V) -> Result<Put<K, V>, (K, V)>
     where
         K: Drop,

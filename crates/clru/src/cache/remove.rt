@@ -15,7 +15,7 @@ where
     A: Allocator + Copy,
 {
     /// Removes the entry of the key and returns its value. Its place stays ready.
-    /// Cost: one hash and a walk along one chain; where the key is held a walk more, and a weighing of its pair.
+    /// Cost: one hash and a walk along one chain; if the key is held a walk more, and a weighing of its pair.
     pub fn pop<Q: Equivalent<K>>(&mut self, key: Q) -> Option<V>
     where
         K: Drop,

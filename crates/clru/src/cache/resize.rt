@@ -15,9 +15,9 @@ impl<K: Eq + Hash, V, S: BuildHasher, W: WeightScale<K, V>, A> CLruCache<K, V, S
 where
     A: Allocator + Copy,
 {
-    /// Sets the capacity, and drops what does not fit it, the least recently used entry first and nothing else.
+    /// Sets the capacity, and drops only the entries that do not fit, the least recently used one first.
     ///
-    /// It takes no memory and gives none back: the places stay, also where they are more than the new capacity.
+    /// Takes no memory and gives none back: the places stay, even if they are more than the new capacity.
     /// Cost: one hash, a walk along one chain and a weighing for each entry that goes.
     ///
     /// ```rust

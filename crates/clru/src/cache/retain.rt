@@ -1,4 +1,4 @@
-//! The calls that keep the entries at which a closure answers `true`. They ask for no memory, and the places stay.
+//! The calls that keep the entries at which a closure returns `true`. They ask for no memory, and the places stay.
 ghost use Rattle.std.specs.Prelude.{◌≡◌};
 ghost use Rattle.std.specs.Map.Calls.{CalledAtPair, CallableOnEachPair, RetainsPairs, TakesPair};
 ghost use Rattle.clru_linked_map.specs.Retains.{CalledAtShownPair, TakesShownPair};
@@ -13,7 +13,7 @@ impl<K: Eq + Hash, V, S: BuildHasher, W: WeightScale<K, V>, A> CLruCache<K, V, S
 where
     A: Allocator + Copy,
 {
-    /// Calls a closure at each entry once, the most recently used first, and removes those at which it answers `false`. The
+    /// Calls a closure at each entry once, the most recently used first, and removes those at which it returns `false`. The
     /// others stay in their order.
     /// Cost: a call of the closure for each entry; one hash, a walk along one chain and a weighing for each that goes.
     ///
@@ -33,7 +33,7 @@ where
 }
 
 impl<K: Eq + Hash, V, S: BuildHasher, A: Allocator + Copy> CLruCache<K, V, S, ZeroWeightScale, A> {
-    /// Calls a closure at each entry once, the most recently used first, and removes those at which it answers `false`. The
+    /// Calls a closure at each entry once, the most recently used first, and removes those at which it returns `false`. The
     /// others stay in their order, with the value that it left there.
     /// Cost: a call of the closure for each entry; one hash and a walk along one chain for each that goes.
     pub fn retain_mut<F: FnMut(&K, &mut V) -> bool>(&mut self, keep: F)

@@ -103,7 +103,7 @@ where
 
     ghost into_iter_gives = { λ cache it. it ≡ cache.entries };
 
-    /// Gives the cache up and returns an iterator that hands its pairs out, the most recently used first.
+    /// Consumes the cache and returns an iterator over its pairs, the most recently used first.
     fn into_iter(self) -> CLruCacheIntoIter<K, V, S, W, A> {
         CLruCacheIntoIter { cache: self }
     }

@@ -11,7 +11,7 @@ use std::alloc::Allocator;
 use std::hash::{BuildHasher, Hash};
 
 impl<'a, K: Eq + Hash, V, S: BuildHasher, A: Allocator + Copy> CLruCacheIterMut<'a, K, V, S, A> {
-    /// Returns the number of entries that are left.
+    /// Returns the number of remaining entries.
     /// Cost: a read.
     pub fn len(&self) -> usize
         ensures { result ≡ length (cursor_rest self.now) }
@@ -19,7 +19,7 @@ impl<'a, K: Eq + Hash, V, S: BuildHasher, A: Allocator + Copy> CLruCacheIterMut<
         self.end.min(self.cache.len()).saturating_sub(self.done)
     }
 
-    /// Passes the first entry that is left and returns its value for writing, or nothing where none is left.
+    /// Passes the first remaining entry and returns its value for writing, or `None` if none remains.
     /// Cost: no hash and no comparison.
     pub fn next(&mut self) -> Option<&mut V>
         ensures* lends { sem 𝓛 (lends_next_if K.row V.row S.row A.row S.Hasher.row K.Hash S.BuildHasher S.Hasher.Hasher
@@ -34,7 +34,7 @@ impl<'a, K: Eq + Hash, V, S: BuildHasher, A: Allocator + Copy> CLruCacheIterMut<
         Some(value)
     }
 
-    /// Passes the last entry that is left and returns its value for writing, or nothing where none is left.
+    /// Passes the last remaining entry and returns its value for writing, or `None` if none remains.
     /// Cost: no hash and no comparison.
     pub fn next_back(&mut self) -> Option<&mut V>
         ensures* lends { sem 𝓛 (lends_next_back_if K.row V.row S.row A.row S.Hasher.row K.Hash S.BuildHasher
@@ -50,7 +50,7 @@ impl<'a, K: Eq + Hash, V, S: BuildHasher, A: Allocator + Copy> CLruCacheIterMut<
         Some(value)
     }
 
-    /// Passes the first entry that is left and returns its key, with its value for writing.
+    /// Passes the first remaining entry and returns its key, with its value for writing.
     /// Cost: no hash and no comparison.
     pub fn next_entry(&mut self) -> (&K, &mut V)
         requires { 0 < length (cursor_rest self.old) }
@@ -65,7 +65,7 @@ impl<'a, K: Eq + Hash, V, S: BuildHasher, A: Allocator + Copy> CLruCacheIterMut<
         cache.entry_at(index)
     }
 
-    /// Passes the last entry that is left and returns its key, with its value for writing.
+    /// Passes the last remaining entry and returns its key, with its value for writing.
     /// Cost: no hash and no comparison.
     pub fn next_entry_back(&mut self) -> (&K, &mut V)
         requires { 0 < length (cursor_rest self.old) }

@@ -20,7 +20,7 @@ impl<'a, K: Eq + Hash, V, S: BuildHasher, A: Allocator + Copy> EntryMut<'a, K, V
         self.cache.end_pair(self.end).0
     }
 
-    /// Returns the value for writing, for as long as the cache is lent.
+    /// Returns the value for writing, for as long as the cache is borrowed.
     /// Cost: no hash and no comparison.
     pub fn into_mut(self) -> &'a mut V
         ensures* lends { sem 𝓛 (lends_cache K.row V.row S.row A.row S.Hasher.row K.Hash S.BuildHasher S.Hasher.Hasher

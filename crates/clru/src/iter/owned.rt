@@ -10,8 +10,8 @@ use std::hash::{BuildHasher, Hash};
 use std::iter::FusedIterator;
 use std::marker::Model;
 
-/// The pairs of a cache that was given up, the most recently used first, seen as the list of those that are left. Those that
-/// it has not handed out are dropped with it.
+/// The pairs of a consumed cache, the most recently used first. A clause sees the list of the remaining ones, which are
+/// dropped with the iterator.
 pub struct CLruCacheIntoIter<
     K: Eq + Hash,
     V,

@@ -1,13 +1,13 @@
-//! What a replay answers.
+//! What a replay returns.
 
 use std::alloc::{Allocator, Global};
 
-/// Which requests of a replay were hits.
+/// Which requests of a replay hit.
 #[derive(Debug, Drop)]
 pub struct Replay<A: Allocator = Global> {
-    /// For each request in order, whether it was a hit.
+    /// Whether each request hit, in order.
     pub marks: Vec<bool, A>,
 
-    /// How many requests were no hit.
+    /// How many requests missed.
     pub misses: usize,
 }

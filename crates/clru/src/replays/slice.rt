@@ -12,11 +12,11 @@ use std::alloc::Allocator;
 use std::hash::{BuildHasher, Hash};
 use std::num::NonZeroUsize;
 
-/// Sends the keys in order through an empty cache of the capacity, as `replay` does, and answers the same. The keys stay the
-/// caller's; those that are not `Copy` are passed as references.
+/// Sends borrowed keys in order through an empty cache of the capacity, and returns what `replay` does. Pass keys that are
+/// not `Copy` as references.
 ///
-/// Memory is taken before the first request, and may be refused then. Without keys no memory is asked for. Keys are hashed
-/// with `hash_builder`.
+/// Takes its memory before the first request; only then it may be refused. Without keys it asks for none. Hashes keys with
+/// `hash_builder`.
 /// Cost: that of `replay`.
 pub fn replay_slice<K: Eq + Hash + Copy, S: BuildHasher + Drop, A: Allocator + Copy>(
     alloc: A,

@@ -1,4 +1,4 @@
-//! `SizedCurve`: what a pass over keys with sizes answers.
+//! `SizedCurve`: what a pass over keys with sizes returns.
 ghost use Rattle.std.specs.Prelude.{◌≡◌, ◌<◌, ◌≤◌, nat_le, length, IsNone, Some};
 ghost use Rattle.std.specs.Int.NonZero.{non_zero_usize_get};
 ghost use Rattle.std.specs.List.{sum_by};
@@ -10,11 +10,11 @@ use std::alloc::{Allocator, Global};
 use std::marker::Model;
 use std::num::NonZeroUsize;
 
-/// The misses of a list of requests, and the size that they miss, at every capacity above the greatest weight that was
-/// requested: the capacity is a number of bytes, say, and not of entries.
+/// The misses of a list of requests, and the size that they miss, at every capacity above the greatest requested weight. A
+/// capacity is a number of bytes, say, instead of entries.
 ///
-/// At a capacity that is no more than the greatest weight a cache refuses the puts of some keys, and what it misses of the
-/// others need not be what a curve would say; so there is no answer there.
+/// At lesser capacities a cache refuses the puts of some keys, and may miss others more or less often than a curve would say.
+/// The curve therefore says nothing there.
 #[derive(Drop)]
 pub struct SizedCurve<A: Allocator = Global> {
     steps: Vec<Step, A>,
@@ -39,7 +39,7 @@ impl<A: Allocator> Model for SizedCurve<A> {
 }
 
 impl<A: Allocator> SizedCurve<A> {
-    /// Returns the number of misses at the capacity, or `None` where that is not above the greatest weight.
+    /// Returns the number of misses at the capacity, or `None` if that is not above the greatest weight.
     /// Cost: steps that grow as the logarithm of the number of requests.
     pub fn misses(&self, capacity: NonZeroUsize) -> Option<usize>
         ensures refused { non_zero_usize_get capacity ≤ self.now.greatest_weight → IsNone result }
@@ -52,7 +52,7 @@ impl<A: Allocator> SizedCurve<A> {
         Some(self.requests - hits_at(&self.steps, capacity.get()))
     }
 
-    /// Returns the size of the requests that miss at the capacity, or `None` where that is not above the greatest weight.
+    /// Returns the size of the requests that miss at the capacity, or `None` if that is not above the greatest weight.
     /// Cost: steps that grow as the logarithm of the number of requests.
     pub fn missed_size(&self, capacity: NonZeroUsize) -> Option<usize>
         ensures refused { non_zero_usize_get capacity ≤ self.now.greatest_weight → IsNone result }
@@ -92,7 +92,7 @@ impl<A: Allocator> SizedCurve<A> {
         self.distinct_size
     }
 
-    /// Returns the greatest weight that was requested, or 0 where there were no requests.
+    /// Returns the greatest weight that was requested, or 0 if there were no requests.
     /// Cost: a read.
     pub fn greatest_weight(&self) -> usize
         ensures { result ≡ self.now.greatest_weight }
@@ -100,7 +100,7 @@ impl<A: Allocator> SizedCurve<A> {
         self.greatest_weight
     }
 
-    /// Returns the steps, the least capacity first. There is one for each request that can hit at all; where a capacity comes
+    /// Returns the steps, the least capacity first. There is one for each request that can hit at all; if a capacity comes
     /// several times, its last one counts. Those that are not above the greatest weight are no answers: there a cache refuses
     /// puts.
     /// Cost: a read.

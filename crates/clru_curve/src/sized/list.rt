@@ -14,10 +14,10 @@ use std::hash::{BuildHasher, Hash};
 /// Returns the misses of the requests at every capacity above the greatest weight, and the size that they miss, from one pass
 /// over them.
 ///
-/// A key weighs what the scale says of it with the value `()`. Keys that are the same are to weigh the same: else nothing is
-/// said of the curve. Keys that are not `Copy` are passed as references. The keys stay the caller's, and without keys no
-/// memory is asked for. Where memory is refused, a key comes back before which all sizes fit; where the sizes of all requests
-/// pass `usize::MAX`, the first with which they do. A `SizedPass` takes requests one by one.
+/// A key weighs what the scale says of it with the value `()`. If equal keys weigh differently, nothing is said of the curve.
+/// Borrows the keys; pass keys that are not `Copy` as references. Without keys it asks for no memory. If memory is refused, it
+/// returns a key before which all sizes fit; if the sizes of all requests exceed `usize::MAX`, the first key with which they
+/// do. A `SizedPass` takes requests one by one.
 /// Cost: that of a `SizedPass` which takes each request, and is then turned into its curve.
 pub fn sized_curve<K, W, S, A>(
     alloc: A,

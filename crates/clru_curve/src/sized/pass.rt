@@ -17,16 +17,14 @@ use std::collections::hash_map::Equivalent;
 use std::hash::{BuildHasher, Hash};
 use std::marker::Model;
 
-/// A pass over requests of keys that weigh something, which takes them one by one and answers the span of each.
+/// A pass over requests of keys that weigh something, which takes them one by one and returns the span of each.
 ///
-/// The size of a request is 1 and the weight of its key, as an entry takes it of a cache's capacity; for bytes the weight is
-/// the number of bytes less 1, and no bytes count as one. Clauses speak of any function that gives the weight of each request
-/// by its key: keys that are the same are to weigh the same each time. Where a key comes with another weight than before they
-/// say nothing, and the calls are as safe as ever. They speak of the requests that were taken by `IsSizedPass`, the latest
-/// first. A curve can be had at any time.
+/// The size of a request is 1 plus the weight of its key, as an entry takes it of a cache's capacity; for bytes the weight is
+/// the number of bytes less 1, and no bytes count as one. Equal keys must weigh the same each time: if a key comes with
+/// another weight than before, the clauses say nothing, and the calls are as safe as ever. Clauses describe the taken
+/// requests, the latest first, by `IsSizedPass`. It returns a curve at any time.
 ///
-/// Memory goes with the requests, nine bytes for each, and sixteen more for each that asks for a key again, besides a
-/// position in a cache for each distinct key.
+/// Takes nine bytes for each request, sixteen more if its key came before, and a position in a cache for each distinct key.
 pub struct SizedPass<K: Eq + Hash, S: BuildHasher = DefaultState, A: Allocator + Copy = Global> {
     pub(crate) positions: CLruCache<K, usize, S, ZeroWeightScale, A>,
     pub(crate) latest: Sizes<A>,
@@ -89,12 +87,12 @@ impl<K: Eq + Hash, S: BuildHasher, A: Allocator + Copy> SizedPass<K, S, A> {
         }
     }
 
-    /// Takes one more request, of a key of this weight, and answers its span: the size of the key and of the distinct keys that
-    /// were requested since its latest request, or `None` where there was none. Where each key fits, the request hits at the
+    /// Takes one more request, of a key of this weight, and returns its span: the size of the key and of the distinct keys that
+    /// were requested since its latest request, or `None` if there was none. If each key fits, the request hits at the
     /// capacities from the span on, and at no other.
     ///
-    /// Where memory is refused, or the sizes of all requests, this one among them, pass `usize::MAX`, the key comes back and
-    /// the pass is as before.
+    /// If memory is refused, or the sizes of all requests with this one exceed `usize::MAX`, it returns the key, and the pass
+    /// is unchanged.
     /// Cost: one hash and a walk along one chain, for a new key those of a `put` too; and steps that grow as the logarithm of
     /// the number of requests.
     pub fn request(&mut self, key: K, weight: usize) -> Result<Option<usize>, SizedRequestError<K>>
@@ -120,13 +118,13 @@ impl<K: Eq + Hash, S: BuildHasher, A: Allocator + Copy> SizedPass<K, S, A> {
         }
     }
 
-    /// Takes one more request, of a key of this weight that was requested before, by a form of it, and answers its span; or
-    /// `None` where no such key was: then nothing was taken, and `request` takes the key. So who reads a log owns the keys alone
-    /// that are new.
+    /// Takes one more request of an earlier key of this weight, by a form of it, and returns its span. If no such key was
+    /// requested, it takes nothing and returns `None`; then call `request`. A log reader therefore allocates a key only when it
+    /// first appears.
     ///
-    /// Where memory is refused, or the sizes of all requests, this one among them, pass `usize::MAX`, the form comes back and
-    /// the pass is as before.
-    /// Cost: one hash and a walk along one chain, and where the key is known steps that grow as the logarithm of the number of
+    /// If memory is refused, or the sizes of all requests with this one exceed `usize::MAX`, it returns the form, and the pass
+    /// is unchanged.
+    /// Cost: one hash and a walk along one chain, and if the key is known steps that grow as the logarithm of the number of
     /// requests.
     pub fn request_again<Q: Equivalent<K>>(
         &mut self,

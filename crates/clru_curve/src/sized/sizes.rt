@@ -1,4 +1,4 @@
-//! For each request the size of its key, where the request is the latest of it, and else 0.
+//! For each request the size of its key, if the request is the latest of it, and else 0.
 ghost use Rattle.std.specs.Prelude.{◌≡◌, ◌+◌, ◌*◌, ◌^◌, ◌<◌, ◌≤◌, [], ◌∷◌, ◌++◌, length, slice_set, vec_len, vec_capacity, OnOk};
 ghost use Rattle.clru_curve.specs.LatestSizes.{sizes_from, IsSummed};
 

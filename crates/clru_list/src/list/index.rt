@@ -10,8 +10,8 @@ use std::alloc::Allocator;
 impl<T, A: Allocator + Copy> FixedSizeList<T, A> {
     /// Returns the place of the entry at an index, counted from the front.
     ///
-    /// A walk that asks for one index after another, upwards from 0, takes the same short time for each: the list keeps
-    /// where it stands until the order changes. Any other index costs a walk from the front.
+    /// If a walk asks for one index after another, upwards from 0, each takes the same short time, because the list remembers
+    /// its place until the order changes. Any other index costs a walk from the front.
     pub fn place_at(&mut self, index: usize) -> Option<usize>
         ensures place { result ≡ slice_get (keys_of self.old.entries) index }
         ensures same { self.new ≡ self.old }
@@ -25,8 +25,8 @@ impl<T, A: Allocator + Copy> FixedSizeList<T, A> {
 
     /// Returns the place of the entry at an index, counted from the front, for a walk downwards from the last index.
     ///
-    /// A walk that asks for one index after another, downwards, takes the same short time for each: the list keeps where it
-    /// stands until the order changes. Any other index costs a walk from the back.
+    /// If a walk asks for one index after another, downwards, each takes the same short time, because the list remembers its
+    /// place until the order changes. Any other index costs a walk from the back.
     pub fn place_at_back(&mut self, index: usize) -> Option<usize>
         ensures place { result ≡ slice_get (keys_of self.old.entries) index }
         ensures same { self.new ≡ self.old }

@@ -12,7 +12,7 @@ use crate::list::FixedSizeList;
 use std::alloc::Allocator;
 
 impl<T, A: Allocator + Copy> FixedSizeList<T, A> {
-    /// Returns the item at a place for writing, or nothing where none is there.
+    /// Returns the item at a place for writing, or `None` if none is there.
     pub fn get_mut(&mut self, place: usize) -> Option<&mut T>
         ensures* lends { sem 𝓛 (lends_item T.row A.row A.Allocator self.entry place result) }
         ensures value { option_copied_mut result ≡ item_at place self.old.entries }
@@ -45,8 +45,8 @@ impl<T, A: Allocator + Copy> FixedSizeList<T, A> {
         Some(self.item_mut(back))
     }
 
-    /// Moves the item at a place to the front, where it keeps its place, and returns it for writing. Where none is there,
-    /// nothing changes.
+    /// Moves the item at a place to the front, and returns it for writing. It keeps its place. If no item is there, nothing
+    /// changes.
     #[inline(always)]
     pub fn move_front(&mut self, place: usize) -> Option<&mut T>
         ensures* lends { sem 𝓛 (lends_moved T.row A.row A.Allocator self.entry place result) }
@@ -60,7 +60,7 @@ impl<T, A: Allocator + Copy> FixedSizeList<T, A> {
         Some(self.item_mut(place))
     }
 
-    /// Moves the item at a place, where one is, to the front. It keeps its place; where it is first already, nothing is written.
+    /// Moves the item at a place to the front. It keeps its place; if it is already the first, nothing is written.
     #[inline(always)]
     pub fn bring_front(&mut self, place: usize)
         requires { IsSome (item_at place self.old.entries) }
@@ -74,7 +74,7 @@ impl<T, A: Allocator + Copy> FixedSizeList<T, A> {
         self.fingers.clear();
     }
 
-    /// Moves the item at a place, where one is, to the back. It keeps its place; where it is last already, nothing is written.
+    /// Moves the item at a place to the back. It keeps its place; if it is already the last, nothing is written.
     pub fn move_back(&mut self, place: usize)
         requires { IsSome (item_at place self.old.entries) }
         ensures moved { self.new ≡ with_entries self.old (to_back place self.old.entries) }
@@ -95,7 +95,7 @@ impl<T, A: Allocator + Copy> FixedSizeList<T, A> {
         self.links.nodes[place].item_mut()
     }
 
-    /// Finds memory for one more item, where the length is below the capacity and each place is taken. The places grow to
+    /// Finds memory for one more item, if the length is below the capacity and each place is taken. The places grow to
     /// four times as many, up to the capacity.
     #[inline(always)]
     pub fn make_ready(&mut self) -> Result<(), NoMemory>
@@ -121,8 +121,8 @@ impl<T, A: Allocator + Copy> FixedSizeList<T, A> {
         Ok(())
     }
 
-    /// Returns how many places the next growth comes to: four times as many, at least four, and as many as the capacity at
-    /// most. Where the places reach the capacity nothing grows, and this is the capacity.
+    /// Returns how many places there are after the next growth: four times as many, at least four, and at most the capacity.
+    /// If the places reach the capacity, nothing grows, and it returns the capacity.
     pub fn grown_places(&self) -> usize
         ensures grown { result ≡ min self.now.capacity (max 4 (4 * self.now.places)) }
         ensures valid { IsValid self.now }
@@ -130,8 +130,8 @@ impl<T, A: Allocator + Copy> FixedSizeList<T, A> {
         self.places.saturating_mul(4).max(4).min(self.capacity)
     }
 
-    /// Sets the capacity. The items, their order and their places stay, and so does the number of places, which may be
-    /// above the new capacity. It takes no memory.
+    /// Sets the capacity. The items, their order and their places stay, and so does the number of places, even if it is
+    /// above the new capacity. Takes no memory.
     pub fn resize(&mut self, capacity: usize)
         requires { length self.old.entries ≤ capacity }
         ensures resized { self.new ≡ place_list self.old.entries capacity self.old.places }
@@ -142,7 +142,7 @@ impl<T, A: Allocator + Copy> FixedSizeList<T, A> {
 
     /// Puts an item to the front, and returns its place: one that was free, or a new one.
     ///
-    /// A full list refuses it, and so does one that finds no memory; then the item comes back.
+    /// If the list is full, or memory is refused, it returns the item.
     #[inline(always)]
     pub fn push_front(&mut self, item: T) -> Result<usize, PushError<T>>
         ensures entries { IfOk result (λ place. self.new.entries ≡ (place, item) ∷ self.old.entries) }
@@ -162,7 +162,7 @@ impl<T, A: Allocator + Copy> FixedSizeList<T, A> {
 
     /// Puts an item to the back, and returns its place: one that was free, or a new one.
     ///
-    /// A full list refuses it, and so does one that finds no memory; then the item comes back.
+    /// If the list is full, or memory is refused, it returns the item.
     pub fn push_back(&mut self, item: T) -> Result<usize, PushError<T>>
         ensures entries { IfOk result (λ place. self.new.entries ≡ self.old.entries ++ (place, item) ∷ []) }
         ensures refused { IfErr result (Refuses self.old item) }

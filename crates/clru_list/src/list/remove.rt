@@ -8,7 +8,7 @@ use crate::list::FixedSizeList;
 use std::alloc::Allocator;
 
 impl<T, A: Allocator + Copy> FixedSizeList<T, A> {
-    /// Removes the item at a place and returns it. Where none is there, nothing changes.
+    /// Removes the item at a place and returns it. If none is there, nothing changes.
     #[inline(always)]
     pub fn remove(&mut self, place: usize) -> Option<T>
         ensures value { result ≡ item_at place self.old.entries }

@@ -1,4 +1,4 @@
-//! The calls that keep the items at which a closure answers `true`.
+//! The calls that keep the items at which a closure returns `true`.
 ghost use Rattle.std.specs.Prelude.{◌≡◌, if◌then◌else◌};
 ghost use Rattle.std.specs.Map.Calls.{CallableOnEachPair, RetainsPairs};
 ghost use Rattle.clru_list.specs.PlaceList.{with_entries, without, IsValid};
@@ -8,7 +8,7 @@ use crate::list::FixedSizeList;
 use std::alloc::Allocator;
 
 impl<T, A: Allocator + Copy> FixedSizeList<T, A> {
-    /// Calls a closure at each place and its item, from the front to the back, and removes those items at which it answers
+    /// Calls a closure at each place and its item, from the front to the back, and removes those items at which it returns
     /// `false`.
     pub fn retain<F: FnMut(usize, &T) -> bool>(&mut self, mut f: F)
     where
@@ -26,7 +26,7 @@ impl<T, A: Allocator + Copy> FixedSizeList<T, A> {
         );
     }
 
-    /// Calls a closure at each place and its item, from the front to the back, and removes those items at which it answers
+    /// Calls a closure at each place and its item, from the front to the back, and removes those items at which it returns
     /// `false`. The others have what it left there.
     pub fn retain_mut<F: FnMut(usize, &mut T) -> bool>(&mut self, mut f: F)
     where
