@@ -4,7 +4,7 @@ ghost use Rattle.clru_list.specs.PlaceList.{item_at, without};
 
 use clru_list::{FixedSizeList, PushError};
 
-/// Joins the line at its end. The answer is the ticket: the place, which is this one's until he leaves.
+/// Joins the line at its end, and returns the ticket: the place, which is this person's until he leaves.
 pub fn join(line: &mut FixedSizeList<u64>, who: u64) -> Result<usize, PushError<u64>>
     ensures joined { IfOk result (λ ticket. line.new.entries ≡ line.old.entries ++ (ticket, who) ∷ []) }
     ensures kept { OnErr result (line.new ≡ line.old) }

@@ -4,7 +4,7 @@ ghost use Rattle.std.specs.Map.{lookup};
 
 use clru::CLruCache;
 
-/// Remembers the size of a page, and answers what was forgotten for it. A look-up then finds the size.
+/// Remembers the size of a page, and returns the pair that was dropped for it. A look-up then finds the size.
 pub fn remember(
     sizes: &mut CLruCache<u64, u64>,
     page: u64,
