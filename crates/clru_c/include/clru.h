@@ -4,11 +4,11 @@
  * numbers of pages, hashes of names, codes of a column all do. Nothing outlives a call, and no call prints, waits or ends the
  * process.
  *
- * What each call writes is proved of its code in Rattle (the clauses stand in src/exports.rt). Nothing checks that a caller does
- * what he owes. This header is written by hand; tools/test/from_c calls each function and sees each code.
+ * What each call writes is proved of its code in Rattle (the clauses are in src/exports.rt). Nothing checks that a caller keeps
+ * to the list below. This header is written by hand; tools/test/from_c calls each function and sees each code.
  *
- * What the caller owes:
- * - Each pointer is valid for its length, aligned for its type, and not NULL, not even where the length is 0. An array that is
+ * What the caller must keep to:
+ * - Each pointer is valid for its length, aligned for its type, and not NULL, not even if the length is 0. An array that is
  *   written overlaps no other argument. Arrays are shorter than 2^63 bytes.
  * - Each bool of an array that is passed in is 0 or 1: zero the array first.
  * - No other thread writes the arrays during a call, and none reads those that are written. Calls on arrays of their own may run
@@ -16,13 +16,13 @@
  * - malloc, realloc and free come from one allocator, which aligns a block to each power of two up to 16 that divides its size.
  * - No call from a signal handler, nor in the forked child of a process that has threads.
  *
- * The seed: 0, 0 hashes keys with a fixed seed, which is the fastest. Whoever picks the keys can then have a call take time that
- * grows with the square of their number. Against an attacker give two secret words, as from getrandom: the keys are then hashed
- * by SipHash-1-3 under them. The answers are the same.
+ * The seed: 0, 0 hashes keys with a fixed seed, which is the fastest. Whoever picks the keys can then make a call take time that
+ * grows with the square of their number. Against an attacker pass two secret words, as from getrandom: the keys are then hashed
+ * by SipHash-1-3 under them. The results are the same.
  *
- * Every call answers CLRU_OK or why it didn't answer. With any other code nothing was written, which is proved too. Where several
- * of the others apply, the least is answered, but that CLRU_NO_MEMORY comes last: it is answered where memory was refused before
- * the call came to what it would have answered. So each input has one answer, or CLRU_NO_MEMORY. Built and tried on Linux x86-64.
+ * Every call returns a code. Unless it is CLRU_OK, nothing was written, which is proved too. If several other codes apply, the call
+ * returns the least of them except CLRU_NO_MEMORY, which it returns only if memory was refused before the call found its code. So
+ * one input always gives the same code, or CLRU_NO_MEMORY. Built and tried on Linux x86-64.
  *
  * Memory is what a call holds when it holds the most, as counted by examples/memory.c for 65 to 70,000 keys: also while a table
  * doubles, and the old one stands beside the new one. All of it is freed when the call returns.
@@ -46,7 +46,7 @@
 #define CLRU_NO_CAPACITY 1u  /* a capacity or a room was 0 */
 #define CLRU_WRONG_LENGTH 2u /* arrays that belong together have unequal lengths */
 #define CLRU_NO_MEMORY 3u    /* memory was refused */
-#define CLRU_TOO_LARGE 4u    /* the sizes of all requests together pass 2^64 - 1 */
+#define CLRU_TOO_LARGE 4u    /* the sizes of all requests together exceed 2^64 - 1 */
 #define CLRU_TOO_SMALL 5u    /* a capacity was less than the greatest size */
 
 #ifdef __cplusplus
@@ -55,12 +55,11 @@ extern "C" {
 
 /* Which requests hit in an LRU cache of the capacity, in keys, that starts empty, and how many don't.
  *
- * hits has as many elements as keys: true where the request hits. *misses is the number of the others.
+ * hits has as many elements as keys: true if the request hits. *misses is the number of the others.
  *
- * Proved: a request hits exactly where its key was requested before, and fewer than capacity distinct keys since (a stack distance
- * that begins at 1 is that number and 1). And for h from 1 to capacity the misses are at most capacity / (capacity - h + 1) times
- * those of each way that starts empty, holds at most h keys, and takes in each key that is asked for and no other, also of one that
- * knows all requests beforehand.
+ * Proved: a request hits exactly if its key was requested before, and fewer than capacity distinct keys since (the stack distance
+ * is that number plus 1). And for h from 1 to capacity the misses are at most capacity / (capacity - h + 1) times those of each
+ * policy that starts empty, holds at most h keys, and takes in each requested key and no other, even if it knows all requests.
  *
  * Codes: CLRU_NO_CAPACITY, CLRU_WRONG_LENGTH, CLRU_NO_MEMORY.
  * Cost: a look-up for each request. Memory: a byte for each request, and a cache of as many entries as there are keys, capacity at
@@ -75,19 +74,19 @@ uint32_t clru_hits_at(const uint64_t *keys, size_t keys_len, size_t capacity, ui
  *
  * Proved: misses[i] is the number of requests that don't hit, as clru_hits_at says it, at capacity i + 1.
  *
- * Codes: CLRU_NO_MEMORY, and never where there are no keys.
+ * Codes: CLRU_NO_MEMORY, but never without keys.
  * Cost: for each request a look-up, and steps that go with the logarithm of their number. Memory: 20 to 43 bytes for each 64
  * requests, and 68 to 137 bytes for each distinct key. */
 uint32_t clru_misses_by_capacity(const uint64_t *keys, size_t keys_len, uint64_t seed_low, uint64_t seed_high,
                                  size_t *misses, size_t misses_len, size_t *distinct);
 
-/* The least number of misses for each of the rooms, which are capacities in keys: that of the best way to choose what to drop,
- * which may know all requests beforehand. A way takes in each key that is asked for and no other. One that may let a key pass by
- * misses no fewer than the least with room for one key more.
+/* The least possible misses for each of the rooms, which are capacities in keys: the fewest of any policy that takes in each
+ * requested key and no other, even if it knows all requests. A policy that may bypass keys misses no fewer than the least with
+ * room for one more key.
  *
- * least has as many elements as rooms: least[i] is for room rooms[i]. Rooms may stand in any order, and twice.
+ * least has as many elements as rooms: least[i] is for room rooms[i]. Rooms may come in any order, and twice.
  *
- * Proved: some way that starts empty has least[i] misses, and none has fewer; one that starts with keys has at most rooms[i]
+ * Proved: some policy that starts empty has least[i] misses, and none has fewer; one that starts with keys has at most rooms[i]
  * fewer; LRU of that capacity has no fewer.
  *
  * Codes: CLRU_NO_CAPACITY, CLRU_WRONG_LENGTH, CLRU_NO_MEMORY.
@@ -96,24 +95,24 @@ uint32_t clru_misses_by_capacity(const uint64_t *keys, size_t keys_len, uint64_t
 uint32_t clru_least_by_room(const uint64_t *keys, size_t keys_len, const size_t *rooms, size_t rooms_len,
                             uint64_t seed_low, uint64_t seed_high, size_t *least, size_t least_len);
 
-/* The misses where keys have sizes: the requests that miss at each of the capacities, and the size that they miss.
+/* The misses by size: the requests that miss at each of the capacities, and their size.
  *
  * A capacity is a sum of sizes, in bytes say. sizes has as many elements as keys: sizes[i] is the size of what request i asks for.
  * A key that comes with another size is another object, so that a size never changes: two sizes of one key are two objects. Neither
- * is a hit for the other, they take room side by side, and both count in *distinct_size. A size of 0 counts as 1.
+ * is a hit for the other, both take room, and both count in *distinct_size. A size of 0 counts as 1.
  *
  * misses and missed_sizes have as many elements as capacities: misses[i] is the number of requests that miss at capacities[i], and
- * missed_sizes[i] the sum of their sizes. Capacities may stand in any order, and twice. *distinct_size is the sum of the sizes of
- * the distinct objects: from that capacity on both stay the same, and the missed size is that sum. It can be had alone, with
- * arrays of length 0.
+ * missed_sizes[i] the sum of their sizes. Capacities may come in any order, and twice. *distinct_size is the sum of the sizes of
+ * the distinct objects: from that capacity on both stay the same, and the missed size is that sum. For it alone pass arrays of
+ * length 0.
  *
- * Proved: a request hits exactly where its object was requested before, and its size and those of the distinct objects since are
- * at most the capacity together; misses[i] is the number of the others, missed_sizes[i] the sum of their sizes. That is an LRU
- * cache that drops what was not used for longest until the rest fits. One of a capacity below the greatest size can't take in
- * some object, and there is no answer then.
+ * Proved: a request hits exactly if its object was requested before, and its size plus those of the distinct objects since is at
+ * most the capacity; misses[i] is the number of the others, missed_sizes[i] the sum of their sizes. That is an LRU cache that
+ * drops the least recently used objects until the rest fits. A cache whose capacity is below the greatest size can't take in some
+ * object; then the code is CLRU_TOO_SMALL.
  *
- * Codes: CLRU_NO_CAPACITY, CLRU_WRONG_LENGTH, CLRU_NO_MEMORY, CLRU_TOO_LARGE, CLRU_TOO_SMALL. Proved too: CLRU_TOO_LARGE is
- * answered only where the sizes (0 as 1) pass 2^64 - 1 together, CLRU_TOO_SMALL only where they don't and a capacity is less than
+ * Codes: CLRU_NO_CAPACITY, CLRU_WRONG_LENGTH, CLRU_NO_MEMORY, CLRU_TOO_LARGE, CLRU_TOO_SMALL. Proved too: the code is
+ * CLRU_TOO_LARGE only if the sizes (0 as 1) exceed 2^64 - 1 together, CLRU_TOO_SMALL only if they don't and a capacity is less than
  * the greatest size, and CLRU_OK in neither case.
  * Cost: for each request a look-up, and steps that go with the logarithm of their number; then two searches for each capacity.
  * Memory: 96 to 177 bytes for each request of another object, and 48 to 81 bytes for each of one that was requested before. */
