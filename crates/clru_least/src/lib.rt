@@ -4,7 +4,7 @@
 //! fewer of them than the number that this crate answers, and one misses as many. Beside the misses of a replay it says how
 //! much another policy that takes in each key it is asked for, and no other, could gain at the very most.
 //!
-//! Contracts say it by schedules, the keys held before each request, and name no method. A policy that may let a key pass by
+//! Contracts say it by schedules, the keys held before each request, and name no method. A policy that may bypass keys
 //! misses no fewer than the least with room for one key more (`law_least`).
 #![tactic(auto)]
 

@@ -26,24 +26,24 @@ fn newline_in(bytes: &[u8]) -> Option<usize>
     bytes.iter().position(|byte| *byte == b'\n')
 }
 
-/// How many of the eight bytes from `start` on stand before the first newline.
+/// Returns how many of the eight bytes from `start` on are before the first newline.
 fn first_of_eight(bytes: &[u8], start: usize) -> usize
     requires { start + 8 ≤ length bytes.now }
     ensures { IsFirstOfEight bytes.now start 0 result }
 {
-    let at = or_here(bytes, start, 7, 8);
-    let at = or_here(bytes, start, 6, at);
-    let at = or_here(bytes, start, 5, at);
-    let at = or_here(bytes, start, 4, at);
-    let at = or_here(bytes, start, 3, at);
-    let at = or_here(bytes, start, 2, at);
-    let at = or_here(bytes, start, 1, at);
-    or_here(bytes, start, 0, at)
+    let at = first_newline_from(bytes, start, 7, 8);
+    let at = first_newline_from(bytes, start, 6, at);
+    let at = first_newline_from(bytes, start, 5, at);
+    let at = first_newline_from(bytes, start, 4, at);
+    let at = first_newline_from(bytes, start, 3, at);
+    let at = first_newline_from(bytes, start, 2, at);
+    let at = first_newline_from(bytes, start, 1, at);
+    first_newline_from(bytes, start, 0, at)
 }
 
-/// The same of those from `index` on, by what is known of those behind it.
+/// Returns the same of those from `index` on. `behind` is the result for those after it.
 #[inline(always)]
-fn or_here(bytes: &[u8], start: usize, index: usize, behind: usize) -> usize
+fn first_newline_from(bytes: &[u8], start: usize, index: usize, behind: usize) -> usize
     requires within { start + index < length bytes.now }
     requires eight { index < 8 }
     requires behind { IsFirstOfEight bytes.now start (index + 1) behind }
