@@ -3,7 +3,7 @@ ghost use Rattle.std.specs.Prelude.{length};
 
 use clru::WeightScale;
 
-/// Bytes weigh as many as there are.
+/// Weighs bytes by their number.
 #[derive(Clone, Copy, Drop)]
 pub struct ByLength;
 

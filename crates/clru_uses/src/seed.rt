@@ -6,7 +6,7 @@ use std::hash::RandomState;
 use std::io;
 use std::random::RandomSource;
 
-/// A cache for keys that others pick: who does not know the seed can't pick keys that hash alike.
+/// Makes a cache for strangers' keys: without the seed nobody can pick keys that hash alike.
 pub fn for_keys_of_others(
     rt: &impl RandomSource,
     alloc: Global,
