@@ -84,7 +84,7 @@ pub fn replay<K: Eq + Hash + Drop, S: BuildHasher + Drop, A: Allocator + Copy>(
     Ok(Replay { marks, misses })
 }
 
-/// Puts the key, with `true` as its value if it was held before. It must not need memory.
+/// Puts the key, returns whether it was held before, and stores that as its value. It must not need memory.
 fn request<K: Eq + Hash + Drop, S: BuildHasher, A: Allocator + Copy>(
     cache: &mut CLruCache<K, bool, S, ZeroWeightScale, A>,
     key: K,
