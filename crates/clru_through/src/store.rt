@@ -123,7 +123,7 @@ impl<
         self.cache.weight()
     }
 
-    /// Returns what the number of held values and their total weight never pass together.
+    /// Returns the bound on the number of held values plus their total weight.
     /// Cost: a read.
     pub fn capacity(&self) -> usize
         ensures capacity { result ≡ self.now.cache.capacity }
