@@ -1,22 +1,43 @@
-use Rattle.std.proofs.Common.{Ok, Err, refl, subst}
-use Rattle.std.proofs.lemmas.Result.{err_from_is_err_and}
+use Rattle.std.proofs.Common.{Ok, Err, IsSomeAnd, refl, subst}
+use Rattle.clru_through.specs.Given.{loaded_value}
 use Rattle.clru_through.specs.Steps.{Loads}
-use Rattle.clru_through.proofs.Fronts.{front_loaded}
+use Rattle.clru_through.proofs.Fronts.{front_loaded, kept_seen, loads_seen}
 use Rattle.clru_through.proofs.store.Through.get.Goals as goal
 
-pub returns-in_err-value-clause-step : goal.returns-in_err-value-clause-step
-returns-in_err-value-clause-step g c =
-    let p = err_from_is_err_and c.from_residual.result c.from_residual.ensures.1 in
-    rw p.1 (c.load.new.self, Err c.in_err-value.field-0.0, c.in_err-value.ensures.step, p.2)
+pub returns-in-Err : goal.returns-in-Err
+returns-in-Err g c =
+    let weight = g.W.WeightScale.weight in let fetches = g.R.Fetch.fetches in let key = c.args.key in
+    let load = c.in-Err.ensures in let error = c.in-Err.error in let after = c.self-in-Err.view_is in
+    let step = loads_seen c.self.view_is after g.K.PartialEq.eq weight fetches key (Err error) load.step in
+    let seen = loads_seen c.self.view_is refl g.K.PartialEq.eq weight fetches key (Err error) load.step in
+    let same = c.insert.ensures.value in (
+      (refl, λ _. tt, ((Err error, step, same), kept_seen c.self.view_is after g.R.Fetch.promised load.kept)),
+      record { leaves = tt; step = (c.load.new.self, (Err error, seen, same)); value = tt },
+    )
 
-pub returns-in-Passed-clause-step : goal.returns-in-Passed-clause-step
-returns-in-Passed-clause-step g c = (c.load.new.self, Ok c.in_ok-value.field-0, c.in_ok-value.ensures.step, rw c.in-Passed.is refl)
+pub returns-in-Ok-Passed : goal.returns-in-Ok-Passed
+returns-in-Ok-Passed g c =
+    let weight = g.W.WeightScale.weight in let fetches = g.R.Fetch.fetches in let key = c.args.key in
+    let load = c.in-Ok-Passed.ensures in let loaded = c.in-Ok-Passed.field-0 in let after = c.self-in-Ok-Passed.view_is in
+    let step = loads_seen c.self.view_is after g.K.PartialEq.eq weight fetches key (Ok loaded) load.step in
+    let seen = loads_seen c.self.view_is refl g.K.PartialEq.eq weight fetches key (Ok loaded) load.step in
+    let is = c.in-Ok-Passed.field-0-is in let same = c.insert-in-Ok-Passed.ensures.value in
+    let value = rw is at load.value in (
+      (refl, λ _. tt, ((Ok loaded, step, rw is same), kept_seen c.self.view_is after g.R.Fetch.promised load.kept)),
+      record { leaves = tt; step = (c.load.new.self, (Ok loaded, seen, rw is same)); value = rw (same, ← c.self.view_is) value },
+    )
 
-pub returns-in-Some-clause-step : goal.returns-in-Some-clause-step
-returns-in-Some-clause-step g c =
-    let eq = g.K.PartialEq.eq in let old = c.args.self.now in let weight = g.W.WeightScale.weight old.cache.scale in
-    let fetches = g.R.Fetch.fetches in let new = c.load.new.self in
-    let step = subst (λ loaded. Loads eq weight fetches old c.args.key (Ok loaded) new) c.in-Held.is c.in_ok-value.ensures.step in
-    let shown = front_loaded eq g.met.K.Eq.laws weight fetches old c.args.key new c.in-Held.fetched step c.front.result
-    (c.in-Some.field-0-0, c.in-Some.value) c.front.ensures.entry c.in-Some.is in
-    (new, Ok c.in_ok-value.field-0, c.in_ok-value.ensures.step, rw c.in-Held.is shown)
+pub returns-in-Some : goal.returns-in-Some
+returns-in-Some g c =
+    let eq = g.K.PartialEq.eq in let weight = g.W.WeightScale.weight in let fetches = g.R.Fetch.fetches in let key = c.args.key in
+    let load = c.in-Ok-Held.ensures in let loaded = c.in-Ok-Held.field-0 in let new = c.load.new.self in
+    let is = c.in-Ok-Held.field-0-is in let old = c.args.self.now in
+    let step = loads_seen {new = new} c.self.view_is refl eq weight fetches key (Ok loaded) load.step in
+    let held = subst (λ l. Loads eq (weight old.cache.scale) fetches old key (Ok l) new) is step in
+    let shown = front_loaded eq g.met.K.Eq.laws (weight old.cache.scale) fetches old key new c.in-Ok-Held.field-0-0 held
+    c.front.result (c.in-Some.field-0-0, c.in-Some.value) c.front.ensures.entry c.in-Some.is in
+    let value = subst (λ l. IsSomeAnd (loaded_value (eq key) new.cache.entries l)
+    (λ v. g.R.Fetch.keeps (g.R.Fetch.promised c.self.inside.source key) v)) is load.value in (
+      (refl, λ _. tt, ((Ok loaded, step, rw is shown), kept_seen {new = new} c.self.view_is refl g.R.Fetch.promised load.kept)),
+      record { leaves = tt; step = (new, (Ok loaded, step, rw is shown)); value = rw (← c.self.view_is) (rw shown at value) },
+    )
