@@ -1,4 +1,4 @@
--- What stands first after a load, and what a get leaves.
+-- What stands first after a load.
 use Rattle.std.proofs.Common.{◌≡◌, ℕ, Bool, Option, Some, None, Result, Ok, Err, slice_get, refl, sym, ap, ◌∙◌}
 use Rattle.std.specs.Borrow.{Bor}
 use Rattle.std.specs.Cmp.{IsEquivalence}
@@ -7,7 +7,6 @@ use Rattle.std.specs.Map.Iter.{deref_pair}
 use Rattle.std.specs.Option.{option_map}
 use Rattle.clru_through.specs.Steps.{TakesAnswer, LoadsBy, Loads}
 use Rattle.clru_through.specs.Store.{Store}
-use Rattle.clru_through.specs.declared.answer.Loaded.{Loaded}
 use Rattle.clru_through.specs.declared.answer.Loaded.TheVariants.{Held}
 use Rattle.clru_through.proofs.Sourced.{entry_of}
 
@@ -39,15 +38,3 @@ module _ {K V W R E : Type 0} (eq : K → K → Bool) (laws : IsEquivalence eq) 
       → option_map deref_pair front ≡ slice_get new.cache.entries 0 → front ≡ Some e → lookup (eq x) new.cache.entries ≡ Some e.1.now
   front_loaded f step front e is some =
       shown front e (lookup (eq x) new.cache.entries) (ap (option_map (λ e. e.1)) is ∙ first_loaded f step) some
-
-module _ {K V W R : Type 0} {old seen new inside : Store K V W R} (before : seen ≡ old) (after : inside ≡ new) where
-  -- a load between stores as they are seen is one between the stores
-  pub loads_seen : {E : Type 0} (eq : K → K → Bool) (weight : W → K → V → ℕ) (fetches : R → K → Result V E → R → Type 0) (x : K)
-      (loaded : Result (Loaded V) E) → Loads eq (weight seen.cache.scale) fetches seen x loaded new
-      → Loads eq (weight old.cache.scale) fetches old x loaded inside
-  loads_seen eq weight fetches x loaded step = rw (← before, after) step
-
-  -- and so is what their sources keep
-  pub kept_seen : {P : Type 0} (promised : R → K → P) → ((k : K) → promised new.source k ≡ promised seen.source k)
-      → (k : K) → promised inside.source k ≡ promised old.source k
-  kept_seen promised kept k = rw (← before, after) (kept k)

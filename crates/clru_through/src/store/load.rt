@@ -75,8 +75,7 @@ impl<
             × IsGot K.eq (W.weight self.old.cache.scale) R.fetches self.old key result after }
         ensures value { IfOk result (λ answer. R.keeps (R.promised self.old.source key) (answer_value answer)) }
     {
-        self.passed = None;
-        self.failed = None;
+        self.forget();
         match self.load(key) {
             Err(error) => Err(self.failed.insert(error)),
             Ok(Loaded::Passed(value)) => Ok(Answer::Passed(self.passed.insert(value))),
@@ -85,6 +84,17 @@ impl<
                 None => unreachable!(),
             },
         }
+    }
+
+    /// Drops what the latest `get` passed on or failed with.
+    fn forget(&mut self)
+    where
+        V: Drop,
+        E: Drop,
+        ensures { self.new ≡ self.old }
+    {
+        self.passed = None;
+        self.failed = None;
     }
 
     /// Returns the value that the latest `get` passed on, and keeps it no longer. The store stays as it is.
