@@ -162,7 +162,7 @@ impl Subject for Plain {
     }
 
     fn fault(&self) -> Option<Fault> {
-        fault_of(self.world, &self.cache)
+        fault_of(self.world, &self.cache, 0)
     }
 }
 
@@ -180,6 +180,6 @@ impl Subject for Weighted {
     }
 
     fn fault(&self) -> Option<Fault> {
-        fault_of(self.world, &self.cache)
+        fault_of(self.world, &self.cache, 0)
     }
 }

@@ -75,6 +75,8 @@ type Any<S, A> = Through<Key, Value, Failed, Origin, S, Scale, A>;
 struct Store {
     world: &'static World,
     through: Option<Counted>,
+    /// The values that the store keeps beside its cache: one after a `get` that passed it on.
+    passed: u64,
 }
 
 /// Runs a block: makes the store of its first line, and the calls of the others.
@@ -107,7 +109,11 @@ fn filled(world: &'static World, answers: &mut Answers) -> Option<Store> {
     let mut through = Through::new(cache, Origin { world, unit });
     load(world, &mut through, answers);
     let through = Some(through);
-    Some(Store { world, through })
+    Some(Store {
+        world,
+        through,
+        passed: 0,
+    })
 }
 
 fn load<S: BuildHasher, A: Allocator + Copy>(
@@ -136,12 +142,15 @@ impl Subject for Store {
             return;
         }
         if name == "into_parts" {
+            self.passed = 0;
             match self.through.take() {
                 Some(store) => say_parts(store, out),
                 None => words.note(Wrong::NothingMade),
             }
         } else if let Some(store) = &mut self.through {
-            called(store, world, name, words, out);
+            if !got(store, &mut self.passed, world, name, words, out) {
+                called(store, world, name, words, out);
+            }
         } else {
             words.note(Wrong::NothingMade);
         }
@@ -149,7 +158,7 @@ impl Subject for Store {
 
     fn fault(&self) -> Option<Fault> {
         match &self.through {
-            Some(store) => fault_of(self.world, store.cache()),
+            Some(store) => fault_of(self.world, store.cache(), self.passed),
             None => None,
         }
     }
@@ -178,6 +187,31 @@ fn say_parts<S: BuildHasher + Drop, A: Allocator + Copy>(store: Any<S, A>, out: 
     out.count("; fetches ", source.world.fetched.get() as usize);
 }
 
+/// Makes a `get`, or a call that takes what the latest one passed on or failed with. Answers `false` where the name is none of
+/// these.
+fn got<S: BuildHasher, A: Allocator + Copy>(
+    store: &mut Any<S, A>,
+    passed: &mut u64,
+    world: &'static World,
+    name: &str,
+    words: &mut Words,
+    out: &mut Out,
+) -> bool {
+    match name {
+        "get" => *passed = say_answer(store.get(Key::next(world, words)), out),
+        "take_passed" => {
+            *passed = 0;
+            say_popped(store.take_passed(), out);
+        }
+        "take_error" => out.say(match store.take_error() {
+            Some(Failed) => "failed",
+            None => "none",
+        }),
+        _ => return false,
+    }
+    true
+}
+
 /// Makes a call that leaves the store.
 fn called<S: BuildHasher, A: Allocator + Copy>(
     store: &mut Any<S, A>,
@@ -204,7 +238,6 @@ fn looked_up<S: BuildHasher, A: Allocator + Copy>(
 ) -> bool {
     match name {
         "load" => say_loaded(store.load(Key::next(world, words)), out),
-        "get" => say_answer(store.get(Key::next(world, words)), out),
         "put" | "is_too_heavy" => fit(store, name, Key::next(world, words), out),
         "hit" => out.truth(store.hit(&Key::next(world, words))),
         "peek" => say_value(store.peek(&Key::next(world, words)), out),
@@ -242,13 +275,17 @@ fn say_loaded(loaded: Result<Loaded<Value>, Failed>, out: &mut Out) {
     }
 }
 
-/// what a `get` did,
-fn say_answer(answer: Result<Answer<'_, Value>, Failed>, out: &mut Out) {
-    match &answer {
+/// what a `get` did, of which the answer is how many values it passed on,
+fn say_answer(answer: Result<Answer<'_, Value>, &Failed>, out: &mut Out) -> u64 {
+    match answer {
         Ok(Answer::Held(value)) => say_of("held ", value, out),
-        Ok(Answer::Passed(value)) => say_of("passed ", value, out),
+        Ok(Answer::Passed(value)) => {
+            say_of("passed ", value, out);
+            return 1;
+        }
         Err(Failed) => out.say("failed"),
     }
+    0
 }
 
 /// and what a put did.

@@ -16,9 +16,11 @@ const MOST: usize = 100;
 pub(crate) fn fault_of<S: BuildHasher, W: WeightScale<Key, Value>, A: Allocator + Copy>(
     world: &World,
     cache: &Any<S, W, A>,
+    values_beside: u64,
 ) -> Option<Fault> {
     let len = cache.len();
-    if world.owned.blocks() != (len as u64).saturating_mul(2) {
+    let owned = (len as u64).saturating_mul(2);
+    if world.owned.blocks() != owned.saturating_add(values_beside) {
         return Some(Fault::Blocks);
     }
     if len.saturating_add(cache.weight()) > cache.capacity() {

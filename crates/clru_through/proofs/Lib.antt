@@ -1,4 +1,5 @@
 pub mod Fronts
 pub mod LoadRuns
 pub mod Looking
+pub mod SizedLoadRuns
 pub mod Sourced

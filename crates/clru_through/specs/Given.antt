@@ -1,5 +1,6 @@
 -- The value that an answer stands for. Public clauses cite it.
 use Rattle.std.specs.Prelude.{◌≡◌, Bool, true, ⊤, List, Option, Some, Result, Ok, Err}
+use Rattle.std.specs.Borrow.{Bor}
 use Rattle.std.specs.Map.{lookup}
 use Rattle.clru_through.specs.declared.answer.Answer.{Answer}
 use Rattle.clru_through.specs.declared.answer.Answer.TheVariants as lent
@@ -21,21 +22,21 @@ abbrev pub IsHeld : {V : Type 0} → Loaded V → Type 0
 IsHeld (Held fetched) = ⊤
 IsHeld (Passed v) = ⊥
 
--- the lent value, or the one that is passed on
+-- the value, held or passed on
 abbrev pub answer_value : {V : Type 0} → Answer V → V
 answer_value (lent.Held v) = v.now
-answer_value (lent.Passed v) = v
+answer_value (lent.Passed v) = v.now
 
 -- the answer stands for what the load gave, where `held` is what is held of the key after it
 abbrev pub StandsFor : {V : Type 0} → Option V → Loaded V → Answer V → Type 0
 StandsFor held (Held fetched) (lent.Held v) = held ≡ Some v.now
 StandsFor held (Held fetched) (lent.Passed w) = ⊥
 StandsFor held (Passed v) (lent.Held w) = ⊥
-StandsFor held (Passed v) (lent.Passed w) = w ≡ v
+StandsFor held (Passed v) (lent.Passed w) = w.now ≡ v
 
 -- the same, where the load may have failed
-abbrev pub IsAnswerOf : {V E : Type 0} → Option V → Result (Loaded V) E → Result (Answer V) E → Type 0
+abbrev pub IsAnswerOf : {V E : Type 0} → Option V → Result (Loaded V) E → Result (Answer V) (Bor E) → Type 0
 IsAnswerOf held (Ok loaded) (Ok answer) = StandsFor held loaded answer
 IsAnswerOf held (Ok loaded) (Err e) = ⊥
 IsAnswerOf held (Err d) (Ok answer) = ⊥
-IsAnswerOf held (Err d) (Err e) = e ≡ d
+IsAnswerOf held (Err d) (Err e) = e.now ≡ d

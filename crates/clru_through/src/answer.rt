@@ -6,8 +6,8 @@ pub enum Answer<'a, V> {
     /// It is held, and lent.
     Held(&'a V),
 
-    /// It is not held: it was too heavy, or no memory was found.
-    Passed(V),
+    /// It is not held: it was too heavy, or no memory was found. The store keeps it until the next `get`, and lends it.
+    Passed(&'a V),
 }
 
 /// What became of the value of a key.

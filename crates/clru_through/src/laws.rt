@@ -1,15 +1,19 @@
 //! The law of the store: a function that does nothing at run time, and whose contract is a statement about loads.
-ghost use Rattle.clru_through.specs.LoadRuns.{LoadsFetchMisses, LoadsFetchWhereMissed};
+ghost use Rattle.clru_through.specs.LoadRuns.{LoadsFetchMissedSize, LoadsFetchMisses, LoadsFetchWhereMissed, LoadsFetchWhereMissedBySize, MissedAreMisses};
 
-use crate::source::Source;
+use crate::source::Fetch;
 use clru::WeightScale;
 
-/// Does nothing at run time. Its contract says when a store fetches whose cache is empty at first and whose pairs weigh nothing:
-/// of keys that are loaded one after the other, none refused and no value passed on, exactly those whose request misses at the
-/// cache's capacity. So it fetches as often as `replay` counts misses there.
+/// Does nothing at run time. Its contract says when a store fetches whose cache is empty at first, of keys that are loaded one
+/// after the other, none refused and no value passed on: exactly for the requests that miss at the cache's capacity, in their
+/// order, each once. If pairs weigh nothing, these are as many as `replay` counts there; if each pair weighs what its key does,
+/// they are those that miss by size, and the size of what is fetched is the missed size.
 ///
 /// No other call changes the store in between.
-pub fn law_loads<K: Eq, V, E, R: Source<K, V, E>, W: WeightScale<K, V>>()
+pub fn law_loads<K: Eq, V, E, R: Fetch<K, V, E, M>, W: WeightScale<K, V>, M>()
     ensures fetched { LoadsFetchWhereMissed K.eq W.weight R.fetches }
     ensures fetches { LoadsFetchMisses K.eq W.weight R.fetches }
+    ensures count { MissedAreMisses K.eq }
+    ensures fetched_by_size { LoadsFetchWhereMissedBySize K.eq W.weight R.fetches }
+    ensures fetched_size { LoadsFetchMissedSize K.eq W.weight R.fetches }
 {}

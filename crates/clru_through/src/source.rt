@@ -25,7 +25,7 @@ pub trait Source<K: Eq, V, E> {
 /// as those of files.
 ///
 /// Of the value of a key it promises something, and each fetch of the key that succeeds gives a value that keeps that.
-pub trait Fetch<K: Eq, V, E, M> {
+pub trait Fetch<K: Eq, V, E, M>: Sealed<K, V, E, M> {
     // What can be promised of a value: a type of one's own, as a length. `⊤` promises nothing.
     ghost Promise: { Type 0 };
 
@@ -53,6 +53,15 @@ pub struct ByValue;
 
 /// The store's source is a `Fetch` of one's own, which promises what it can.
 pub struct ByPromise;
+
+/// Limits which types can be a `Fetch`: at `ByValue` each `Source` and no other type, at `ByPromise` each type.
+///
+/// No other crate can name it. So none can write a `Fetch` at `ByValue` whose promise is less than the value.
+pub trait Sealed<K: Eq, V, E, M> {}
+
+impl<K: Eq, V, E, R: Source<K, V, E>> Sealed<K, V, E, ByValue> for R {}
+
+impl<K: Eq, V, E, R> Sealed<K, V, E, ByPromise> for R {}
 
 // What is promised is the value.
 impl<K: Eq, V, E, R: Source<K, V, E>> Fetch<K, V, E, ByValue> for R {

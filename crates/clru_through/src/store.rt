@@ -29,13 +29,16 @@ pub struct Through<
 > {
     cache: CLruCache<K, V, S, W, A>,
     source: R,
-    marks: PhantomData<(E, M)>,
+    // What the latest `get` passed on, and what it failed with. The model shows neither.
+    passed: Option<V>,
+    failed: Option<E>,
+    mark: PhantomData<M>,
 }
 
 impl<
     K: Eq + Hash + Drop,
     V: Drop,
-    E,
+    E: Drop,
     R: Fetch<K, V, E, M> + Drop,
     S: BuildHasher + Drop,
     W,
@@ -50,10 +53,14 @@ where
         let Through {
             cache,
             source,
-            marks: _,
+            passed,
+            failed,
+            mark: _,
         } = self;
         drop(cache);
         drop(source);
+        drop(passed);
+        drop(failed);
     }
 }
 
@@ -100,7 +107,9 @@ impl<
         Through {
             cache,
             source,
-            marks: PhantomData,
+            passed: None,
+            failed: None,
+            mark: PhantomData,
         }
     }
 

@@ -44,43 +44,44 @@ pub fn twice<E, R: Source<u64, u64, E>, W: WeightScale<u64, u64>>(
     Ok((first, second))
 }
 
-/// The values of two pages, each by one get, of a source whose values are the same in each of its states: both are the
-/// source's. What the store ends as a get does not tell, so the premise carries the values from the first to the second.
-pub fn got_both<E, R: Source<u64, u64, E>, W: WeightScale<u64, u64>>(
+/// Gets two pages, one after the other: both values are the source's.
+pub fn got_both<E: Drop, R: Source<u64, u64, E>, W: WeightScale<u64, u64>>(
     store: &mut Through<u64, u64, E, R, DefaultState, W>,
     first: u64,
     second: u64,
-) -> Result<(u64, u64), E>
-    requires constant { (s t : R) (k : ℕ) → R.value s k ≡ R.value t k }
-    ensures first { IfOk result (λ both. R.value store.old.source first ≡ Some both.0) }
-    ensures second { IfOk result (λ both. R.value store.old.source second ≡ Some both.1) }
+) -> Option<(u64, u64)>
+    ensures first { IfSome result (λ both. R.value store.old.source first ≡ Some both.0) }
+    ensures second { IfSome result (λ both. R.value store.old.source second ≡ Some both.1) }
 {
     let first = got(store, first)?;
     let second = got(store, second)?;
-    Ok((first, second))
+    Some((first, second))
 }
 
-/// The value of a page, got twice from such a source: both are the same.
-pub fn got_twice<E, R: Source<u64, u64, E>, W: WeightScale<u64, u64>>(
+/// Gets a page twice: both values are the same, whether the page is held in between or not.
+pub fn got_twice<E: Drop, R: Source<u64, u64, E>, W: WeightScale<u64, u64>>(
     store: &mut Through<u64, u64, E, R, DefaultState, W>,
     page: u64,
-) -> Result<(u64, u64), E>
-    requires constant { (s t : R) (k : ℕ) → R.value s k ≡ R.value t k }
-    ensures { IfOk result (λ both. both.0 ≡ both.1) }
+) -> Option<(u64, u64)>
+    ensures { IfSome result (λ both. both.0 ≡ both.1) }
 {
     got_both(store, page, page)
 }
 
-/// The value of a page, by one get.
-fn got<E, R: Source<u64, u64, E>, W: WeightScale<u64, u64>>(
+/// Gets a page. The result is its value, or `None` if the fetch fails.
+pub fn got<E: Drop, R: Source<u64, u64, E>, W: WeightScale<u64, u64>>(
     store: &mut Through<u64, u64, E, R, DefaultState, W>,
     page: u64,
-) -> Result<u64, E>
-    ensures { IfOk result (λ value. R.value store.old.source page ≡ Some value) }
+) -> Option<u64>
+    ensures value { IfSome result (λ value. R.value store.old.source page ≡ Some value) }
+    ensures kept { (k : ℕ) → R.value store.new.source k ≡ R.value store.old.source k }
+    ensures step { (loaded : Result (Loaded ℕ) E)
+        × Loads nat_eq (W.weight store.old.cache.scale) R.fetches store.old page loaded store.new }
 {
-    match store.get(page)? {
-        Answer::Held(value) => Ok(*value),
-        Answer::Passed(value) => Ok(value),
+    match store.get(page) {
+        Ok(Answer::Held(value)) => Some(*value),
+        Ok(Answer::Passed(value)) => Some(*value),
+        Err(_) => None,
     }
 }
 

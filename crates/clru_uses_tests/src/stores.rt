@@ -10,7 +10,7 @@ use clru_uses::of_stores::loads::fetches_of_all;
 use clru_uses::of_stores::parts::{made_again, store_before};
 use clru_uses::of_stores::tiers::{Tier, value_through_two};
 use clru_uses::of_stores::{
-    fetches_of, got_both, got_twice, load_beside, room_of, twice, value_of,
+    fetches_of, got, got_both, got_twice, load_beside, room_of, twice, value_of,
 };
 use ration::{capacity_of, equal};
 use std::alloc::Global;
@@ -41,7 +41,7 @@ fn store_of(alloc: Global, capacity: NonZeroUsize) -> Store {
 #[test]
 fn callers_of_a_store_get_its_values(rt: HostRuntime) {
     let mut store = store_of(rt.alloc(), NonZeroUsize::MIN);
-    equal!(rt; values(&mut store), (Ok(6), Ok((8, 8)), Ok((10, 12)), Ok((14, 14))));
+    equal!(rt; values(&mut store), (Ok(6), Ok((8, 8)), Some((10, 12)), Some((14, 14)), None));
     equal!(rt; fetches(&mut store), (Ok(1), Ok(0), Err(()), 0));
     equal!(rt; failures(&mut store), (Err(Some(18)), Err(None), Ok(())));
 }
@@ -54,14 +54,16 @@ fn values(
 ) -> (
     Fetched<u64>,
     Fetched<(u64, u64)>,
-    Fetched<(u64, u64)>,
-    Fetched<(u64, u64)>,
+    Option<(u64, u64)>,
+    Option<(u64, u64)>,
+    Option<u64>,
 ) {
     (
         value_of(store, 3),
         twice(store, 4),
         got_both(store, 5, 6),
         got_twice(store, 7),
+        got(store, 100),
     )
 }
 

@@ -1,14 +1,16 @@
 //! The calls that look for a key.
-ghost use Rattle.std.specs.Prelude.{◌≡◌, Option, Some, None, Result, slice_get, IfOk, IfErr, IfSome, IsFalse, IsTrue, IsSomeAnd, is_none, is_some};
+ghost use Rattle.std.specs.Prelude.{◌≡◌, Some, None, slice_get, IfOk, IfErr, IfSome, IsFalse, IsTrue, IsSomeAnd, is_none, is_some};
+ghost use Rattle.std.specs.Borrow.{sem};
 ghost use Rattle.std.specs.Option.{option_copied, option_map};
 ghost use Rattle.std.specs.Map.{lookup};
 ghost use Rattle.std.specs.Map.Iter.{deref_pair};
 ghost use Rattle.clru.specs.Cache.{with_entries};
 ghost use Rattle.clru_model.specs.Entries.{touch};
-ghost use Rattle.clru_through.specs.Given.{IsAnswerOf, IsHeld, answer_value, loaded_value, was_fetched};
+ghost use Rattle.clru_through.specs.Ends.{ends_loaded};
+ghost use Rattle.clru_through.specs.Given.{IsHeld, answer_value, loaded_value, was_fetched};
 ghost use Rattle.clru_through.specs.Store.{KeepsFor, Store, store};
+ghost use Rattle.clru_through.specs.Got.{IsGot};
 ghost use Rattle.clru_through.specs.Steps.{Loads, Takes};
-ghost use Rattle.clru_through.specs.declared.answer.Loaded.{Loaded};
 
 use crate::answer::{Answer, Loaded};
 use crate::source::Fetch;
@@ -59,24 +61,56 @@ impl<
 
     /// Returns the value of the key, and makes it the most recently used one. It is fetched first if it is not held.
     ///
-    /// It is a load and a look at its front. No clause says what store it leaves, or that it fetches once; rows show both.
-    /// Cost: one hash and a walk along one chain; where the key is not held, also a fetch and what a `put_with_weight` costs.
-    pub fn get(&mut self, key: K) -> Result<Answer<'_, V>, E>
+    /// It loads the key, and lends what the load returns. The store keeps a value that was passed on, or the error of a failed
+    /// fetch, until the next `get`; `take_passed` and `take_error` hand them out.
+    /// Cost: that of a load.
+    pub fn get(&mut self, key: K) -> Result<Answer<'_, V>, &E>
     where
         K: Drop,
         V: Drop,
+        E: Drop,
+        ensures* leaves { sem 𝓛 (ends_loaded K.row V.row E.row R.row S.row W.row A.row M.row S.Hasher.row K.Hash R.Fetch
+            S.BuildHasher S.Hasher.Hasher W.WeightScale A.Allocator self.entry key result) }
+        ensures step { (after : Store K V W R)
+            × IsGot K.eq (W.weight self.old.cache.scale) R.fetches self.old key result after }
         ensures value { IfOk result (λ answer. R.keeps (R.promised self.old.source key) (answer_value answer)) }
-        ensures step { (after : Store K V W R) × (loaded : Result (Loaded V) E)
-            × Loads K.eq (W.weight self.old.cache.scale) R.fetches self.old key loaded after
-            × IsAnswerOf (lookup (K.eq key) after.cache.entries) loaded result }
     {
-        match self.load(key)? {
-            Loaded::Passed(value) => Ok(Answer::Passed(value)),
-            Loaded::Held { .. } => match self.front() {
+        self.forget();
+        match self.load(key) {
+            Err(error) => Err(self.failed.insert(error)),
+            Ok(Loaded::Passed(value)) => Ok(Answer::Passed(self.passed.insert(value))),
+            Ok(Loaded::Held { .. }) => match self.front() {
                 Some((_, value)) => Ok(Answer::Held(value)),
                 None => unreachable!(),
             },
         }
+    }
+
+    /// Drops what the latest `get` passed on or failed with.
+    fn forget(&mut self)
+    where
+        V: Drop,
+        E: Drop,
+        ensures { self.new ≡ self.old }
+    {
+        self.passed = None;
+        self.failed = None;
+    }
+
+    /// Returns the value that the latest `get` passed on, and keeps it no longer. The store stays as it is.
+    /// Cost: a move.
+    pub fn take_passed(&mut self) -> Option<V>
+        ensures { self.new ≡ self.old }
+    {
+        self.passed.take()
+    }
+
+    /// Returns the error that the latest `get` failed with, and keeps it no longer. The store stays as it is.
+    /// Cost: a move.
+    pub fn take_error(&mut self) -> Option<E>
+        ensures { self.new ≡ self.old }
+    {
+        self.failed.take()
     }
 
     /// Makes the value of the key the most recently used one if it is held, and returns whether it is. Nothing is fetched.

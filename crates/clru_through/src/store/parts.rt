@@ -35,17 +35,24 @@ impl<
         &self.source
     }
 
-    /// Takes the store apart.
+    /// Takes the store apart. What the latest `get` passed on or failed with is dropped.
     /// Cost: a move.
     pub fn into_parts(self) -> (CLruCache<K, V, S, W, A>, R)
+    where
+        V: Drop,
+        E: Drop,
         ensures parts { result ≡ (self.cache, self.source) }
         ensures from_source { AllKeep R.keeps (R.promised self.source) self.cache.entries }
     {
         let Through {
             cache,
             source,
-            marks: _,
+            passed,
+            failed,
+            mark: _,
         } = self;
+        drop(passed);
+        drop(failed);
         (cache, source)
     }
 }

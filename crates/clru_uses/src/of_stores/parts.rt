@@ -17,7 +17,7 @@ pub fn store_before<E, R: Source<u64, u64, E>>(
 }
 
 /// A store that was taken apart and made again is the same.
-pub fn made_again<E, R: Source<u64, u64, E>, W: WeightScale<u64, u64>>(
+pub fn made_again<E: Drop, R: Source<u64, u64, E>, W: WeightScale<u64, u64>>(
     store: Through<u64, u64, E, R, DefaultState, W>,
 ) -> Through<u64, u64, E, R, DefaultState, W>
     ensures { result ≡ store }

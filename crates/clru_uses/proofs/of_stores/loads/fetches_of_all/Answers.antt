@@ -1,8 +1,7 @@
-use Rattle.std.proofs.Common.{◌≡◌, ◌+◌, ◌≤◌, Bool, true, false, [], ◌∷◌, ◌++◌, nat_eq, take, cond, refl, sym, ap, ◌∙◌, subst, arith, take_all}
+use Rattle.std.proofs.Common.{◌≡◌, ◌+◌, ◌≤◌, Bool, true, false, [], ◌∷◌, ◌++◌, nat_eq, take, cond, refl, sym, ap, ◌∙◌, arith, take_all}
 use Rattle.std.proofs.lemmas.Cmp.{nat_eq_equiv}
 use Rattle.std.proofs.lemmas.List.{take_more}
 use Rattle.std.proofs.lemmas.List.Sums.{sum_by_push}
-use Rattle.clru_through.specs.LoadRuns.{IsFetched}
 use Rattle.clru_through.proofs.LoadRuns.{IsLoadRun-push, fetch_count}
 use Rattle.clru_uses.proofs.of_stores.loads.fetches_of_all.Goals as goal
 use mir.Val.{bool_byte}
@@ -19,7 +18,7 @@ pub loop-page-preserved : goal.loop-page-preserved
 loop-page-preserved g c =
     let before = c.loop-page.invariant in let i = c.loop-page.page-index in let f = c.in-Ok-Held.fetched in
     let pages = c.args.pages.now in let step = rw c.in-Ok-Held.field-0-is at c.in-Ok-Held.ensures.step in
-    let run = IsLoadRun-push nat_eq nat_eq_equiv g.W.WeightScale.weight g.R.Source.fetches c.args.store.now c.loop-page.store
+    let run = IsLoadRun-push nat_eq nat_eq_equiv g.W.WeightScale.weight g.R.Fetch.fetches c.args.store.now c.loop-page.store
     c.load.new.self (take i pages) before.1 _ f before.3 step in (
       omega (arith, byte_le f),
       before.1 ++ f ∷ [],
@@ -41,6 +40,4 @@ returns-clause-fetched g c =
     let end = c.loop-page.invariant in let pages = c.args.pages.now in let old = c.args.store.now in
     let whole : take c.loop-page.page-index pages ≡ pages = take_all c.loop-page.page-index pages c.loop-page-test.false in
     let run = rw whole at end.3 in
-    subst (λ n. IsFetched g.R.Source.fetches n old.source c.loop-page.store.source) (sym (returns-clause-count g c))
-    (c.law_loads.ensures.fetches old c.loop-page.store pages end.1
-    (c.requires.weightless old.cache.scale) c.requires.empty run)
+    c.law_loads.ensures.fetches old c.loop-page.store pages end.1 (c.requires.weightless old.cache.scale) c.requires.empty run

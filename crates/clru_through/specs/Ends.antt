@@ -1,0 +1,29 @@
+-- What a store ends as, once what a call lends has ended. Public clauses cite it.
+use Rattle.std.specs.Prelude.{◌≡◌, ⊤, Result}
+use Rattle.std.specs.Borrow.{Fml, RattleType, Bor, MutBor, follows_so}
+use Rattle.std.specs.HashMap.Lent.{HashMembers}
+use Rattle.std.specs.declared.alloc.Allocator as alloc
+use Rattle.std.specs.declared.hash.Hasher as hasher
+use Rattle.std.specs.declared.hash.BuildHasher as builder
+use mathlib.Core.Option.{none}
+use Rattle.clru_model.specs.declared.weight.WeightScale as scale
+use Rattle.clru_through.specs.Got.{IsGot}
+use Rattle.clru_through.specs.Store.{Store}
+use Rattle.clru_through.specs.contracts.store.Through.{the_row}
+use Rattle.clru_through.specs.declared.answer.Answer.{Answer}
+use Rattle.clru_through.specs.declared.source.Fetch as fetch
+
+module _ (K V E R S W A M H : RattleType) (key : HashMembers K.Denot) (source : fetch.Ghosts R.Denot K.Denot V.Denot E.Denot M.Denot)
+    (build : builder.Ghosts S.Denot H.Denot) (hash : hasher.Ghosts H.Denot) (weighs : scale.Ghosts W.Denot K.Denot V.Denot)
+    (heap : alloc.Ghosts A.Denot) where
+  -- the store's type, as the logic holds it
+  abbrev pub store_row : RattleType
+  store_row = the_row K V E R S W A M H (record { eq = key.eq }) (record { hash_input = key.hash_input }) source
+      build hash weighs heap
+
+  module _ (c : MutBor (Store K.Denot V.Denot W.Denot R.Denot)) where
+    -- it ends as some load of x leaves it, whose result this one lends, and the source keeps its promises
+    abbrev pub ends_loaded : K.Denot → Result (Answer V.Denot) (Bor E.Denot) → Fml
+    ends_loaded x result = follows_so store_row store_row c.ghost_name none (λ _ _. ⊤)
+        (λ n. IsGot key.eq (weighs.weight c.now.cache.scale) source.fetches c.now x result n
+        × ((k : K.Denot) → source.promised n.source k ≡ source.promised c.now.source k))
