@@ -1,7 +1,11 @@
 pub mod Due
+pub mod FloorOf
 pub mod Furthest
 pub mod Held
 pub mod Laters
+pub mod Prices
 pub mod Queue
+pub mod Reusing
+pub mod Sums
 pub mod Until
 pub mod Walking
