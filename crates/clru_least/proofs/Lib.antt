@@ -6,6 +6,7 @@ pub mod Laters
 pub mod Prices
 pub mod Queue
 pub mod Reusing
+pub mod SizeSums
 pub mod Sums
 pub mod Until
 pub mod Walking

@@ -1,11 +1,10 @@
 -- What a floor is seen as, and its number at a room. Public clauses cite it.
-use Rattle.std.specs.Prelude.{◌≡◌, ℕ, zero, suc, ◌+◌, ◌-◌, ◌*◌, ◌/◌, ◌<◌, ◌≤◌, nat_le, nat_lt, Bool, if◌then◌else◌, List, length, take, slice_index_or, refl}
+use Rattle.std.specs.Prelude.{◌≡◌, ℕ, zero, suc, ◌+◌, ◌-◌, ◌*◌, ◌/◌, ◌<◌, ◌≤◌, nat_le, nat_lt, Bool, if◌then◌else◌, List, length, take, All, slice_index_or, refl}
 use Rattle.std.specs.Coded.{Coded, code_by, coded×, coded_list, coded_ℕ}
 use Rattle.std.specs.List.{prefix_len, sum_by}
 use Rattle.std.specs.List.Sorted.{IsPermutation, IsNonDecreasingBy}
 use Rattle.clru_model.specs.Floor.{floor_misses, floor_missed_size}
-use Rattle.clru_least.specs.Reuses.{reuse, volume_of}
-use Rattle.clru_least.specs.declared.floors.FloorStep.{FloorStep}
+use Rattle.clru_least.specs.declared.size_floor.FloorStep.{FloorStep}
 use Rattle.clru_least.specs.declared.reuse.Reuse.{Reuse}
 
 -- the sum of the least volume, of the two least, and so on; and the number of requests
@@ -75,19 +74,35 @@ hit_size_at paid steps k = (step_before steps k).size + next_part paid steps k
 abbrev pub size_floor_at : FlooredBySize → ℕ → ℕ
 size_floor_at f h = f.size - hit_size_at (h * f.requests) f.steps (prefix_len (λ s. nat_le s.volume (h * f.requests)) f.steps)
 
--- the steps of sorted requests whose keys came before
-pub record AreSteps (reuses : List Reuse) (steps : List FloorStep) : Type 0 where
-  pub same_length : length steps ≡ length reuses
-  pub at : (i : ℕ) → i < length reuses → slice_index_or steps i (floor_step 0 0 0)
-      ≡ floor_step (slice_index_or reuses i (reuse 0 0)).gap (sum_by (λ r. r.size) (take (suc i) reuses)) (sum_by volume_of (take (suc i) reuses))
+-- the step of a request whose key came before, with nothing summed up
+abbrev pub own_step : Reuse → FloorStep
+own_step r = floor_step r.gap r.size 0
 
--- what holds of each floor by size
-pub record IsSoundBySize (f : FlooredBySize) : Type 0 where
-  pub reuses : List Reuse
-  pub rising : IsNonDecreasingBy (λ r. r.gap) reuses
-  pub gaps : (i : ℕ) → i < length reuses → 1 ≤ (slice_index_or reuses i (reuse 0 0)).gap
-  pub steps : AreSteps reuses f.steps
-  pub sizes : sum_by (λ r. r.size) reuses ≤ f.size
+-- the volume of such a step
+abbrev pub own_volume : FloorStep → ℕ
+own_volume s = s.gap * s.size
+
+-- the sizes and the volumes of the first of those, summed up
+pub record AreSteps (own steps : List FloorStep) : Type 0 where
+  pub same_length : length steps ≡ length own
+  pub at : (i : ℕ) → i < length own → slice_index_or steps i (floor_step 0 0 0)
+      ≡ floor_step (slice_index_or own i (floor_step 0 0 0)).gap (sum_by (λ s. s.size) (take (suc i) own)) (sum_by own_volume (take (suc i) own))
+
+-- what holds of the steps of each floor by size
+pub record AreSound (steps : List FloorStep) (size : ℕ) : Type 0 where
+  pub own : List FloorStep
+  pub gaps : All (λ s. 1 ≤ s.gap) own
+  pub summed : AreSteps own steps
+  pub sizes : sum_by (λ s. s.size) own ≤ size
+
+-- the floor of these steps, in whatever order, of so many requests and of this size in all
+pub record IsFloorOfSteps (steps : List FloorStep) (requests size : ℕ) (f : FlooredBySize) : Type 0 where
+  pub own : List FloorStep
+  pub permutation : IsPermutation steps own
+  pub rising : IsNonDecreasingBy (λ s. s.gap) own
+  pub summed : AreSteps own f.steps
+  pub requests_in_all : f.requests ≡ requests
+  pub size_in_all : f.size ≡ size
 
 module _ {K : Type 0} (eq : K → K → Bool) (weight : K → ℕ) where
   -- at each room it is the floor of the misses of these requests

@@ -77,11 +77,3 @@ fn sum_up(numbers: &mut [u128])
         *number = sum;
     }
 }
-
-/// A gap, and the sums of the sizes and of the volumes up to there.
-#[derive(Clone, Copy)]
-pub(crate) struct FloorStep {
-    pub(crate) gap: usize,
-    pub(crate) size: usize,
-    pub(crate) volume: u128,
-}

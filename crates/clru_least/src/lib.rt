@@ -16,6 +16,7 @@ mod foresight;
 mod next_uses;
 mod pass;
 mod reuse;
+mod size_floor;
 
 pub use clru_model::{DefaultState, law_floor, law_least};
 pub use floor_error::FloorRequestError;
@@ -23,4 +24,5 @@ pub use floor_pass::FloorPass;
 pub use floors::Floor;
 pub use foresight::{Foresight, least};
 pub use pass::ForesightPass;
+pub use size_floor::SizeFloor;
 pub use std::num::NonZeroUsize;
