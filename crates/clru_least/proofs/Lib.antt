@@ -6,6 +6,7 @@ pub mod Laters
 pub mod Prices
 pub mod Queue
 pub mod Reusing
+pub mod SizeFloorOf
 pub mod SizeSums
 pub mod Sums
 pub mod Until

@@ -1,13 +1,14 @@
 //! `FloorPass`, which takes requests one by one for a floor of their misses, and holds no key.
 ghost use Rattle.std.specs.Prelude.{◌≡◌, ℕ, List, ◌+◌, ◌^◌, ◌<◌, ◌≤◌, ◌↔◌, [], ◌∷◌, map, reverse, IfOk, IfSome, OnOk, OnErr, IsOk};
 ghost use Rattle.std.specs.Result.{IsErrAnd};
-ghost use Rattle.clru_least.specs.FloorNumbers.{IsFloorOf};
+ghost use Rattle.clru_least.specs.FloorNumbers.{IsFloorOf, IsSizeFloorOf, own_step};
 ghost use Rattle.clru_least.specs.Passes.{IsLatestOf};
 ghost use Rattle.clru_least.specs.Reuses.{IsFloorPass, IsTooLarge, volume_of};
 
 use crate::floor_error::FloorRequestError;
 use crate::floors::Floor;
 use crate::reuse::Reuse;
+use crate::size_floor::{FloorStep, SizeFloor};
 use std::alloc::{AllocError, Allocator, Global};
 use std::marker::{Model, PhantomData};
 
@@ -120,6 +121,26 @@ impl<K: Eq, A: Allocator + Copy> FloorPass<K, A> {
         let volumes = volumes_of(self.alloc, &self.reuses)?;
         Ok(Floor::from_volumes(volumes, self.requests))
     }
+
+    /// Returns a floor of the size that is missed of the requests so far.
+    ///
+    /// Memory may be refused; without requests none is asked for.
+    /// Cost: a sort of the gaps; memory for 32 bytes for each request whose key came before.
+    pub fn size_floor(&self) -> Result<SizeFloor<A>, AllocError>
+        ensures floor { (w : K → ℕ) (past : List K) → IsFloorPass K.eq w past self.now
+            → IfOk result (IsSizeFloorOf K.eq w (reverse past)) }
+        ensures never_refused { (w : K → ℕ) → IsFloorPass K.eq w [] self.now → IsOk result }
+    {
+        if self.reuses.is_empty() {
+            return Ok(SizeFloor::from_steps(
+                Vec::new(self.alloc),
+                self.requests,
+                self.size,
+            ));
+        }
+        let steps = steps_of(self.alloc, &self.reuses)?;
+        Ok(SizeFloor::from_steps(steps, self.requests, self.size))
+    }
 }
 
 /// The volume of each.
@@ -132,6 +153,29 @@ fn volumes_of<A: Allocator + Copy>(alloc: A, reuses: &[Reuse]) -> Result<Vec<u12
             |reuse: &Reuse| -> u128
                 ensures { result ≡ volume_of reuse.now }
             { reuse.gap as u128 * reuse.size as u128 },
+        )
+        .collect(alloc)
+}
+
+/// The step of each, with nothing summed up.
+fn steps_of<A: Allocator + Copy>(
+    alloc: A,
+    reuses: &[Reuse],
+) -> Result<Vec<FloorStep, A>, AllocError>
+    ensures { IfOk result (λ v. v.items ≡ map own_step reuses.now) }
+{
+    reuses
+        .iter()
+        .map(
+            |reuse: &Reuse| -> FloorStep
+                ensures { result ≡ own_step reuse.now }
+            {
+                FloorStep {
+                    gap: reuse.gap,
+                    size: reuse.size,
+                    volume: 0,
+                }
+            },
         )
         .collect(alloc)
 }
