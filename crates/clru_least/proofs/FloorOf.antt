@@ -8,11 +8,11 @@ use Rattle.std.proofs.lemmas.List.Sums.{sum_by-cons, sum_by_more, prefix_len-le-
 use Rattle.std.proofs.lemmas.Nat.{div_below}
 use Rattle.std.specs.List.{AllByRecursion, Contains, prefix_len, sum_by}
 use Rattle.std.specs.List.Sorted.{IsPermutation, IsNonDecreasingBy}
-use Rattle.clru_model.specs.Floor.{most_hits, spared_after, volumes_after, floor_misses}
+use Rattle.clru_model.specs.Floor.{most_hits, volumes_after, floor_misses}
 use Rattle.clru_model.specs.Requests.{distinct}
 use Rattle.clru_least.proofs.Prices.{spared, greatest_all, greatest_part}
 use Rattle.clru_least.proofs.Reusing.{reuses_many, volumes_are, spared_volumes, each_volume}
-use Rattle.clru_least.specs.FloorNumbers.{Floored, floor_at, AreSums, IsFloorOfVolumes, IsFloorOf}
+use Rattle.clru_least.specs.FloorNumbers.{Floored, AreSums, IsFloorOfVolumes, IsFloorOf}
 use Rattle.clru_least.specs.Reuses.{Reused, reuses_after, volume_of, IsFloorPass}
 
 -- of the numbers each counts once
@@ -37,7 +37,7 @@ module _ (b : ℕ) (ns sums : List ℕ) (are : AreSums ns sums) where
   stopped : (k : ℕ) → k ≡ prefix_len (λ v. nat_le v b) sums → k < length ns → b < sum_by (λ n. n) (take (k + 1) ns)
   stopped k is inside =
       let fails = leb-false (get_or sums k 0) b
-          (subst (λ j. nat_le (get_or sums j 0) b ≡ false) (sym is) (prefix_len_stops (λ v. nat_le v b) sums 0 (omega (arith, is, inside, are.same_length)))) in
+      (subst (λ j. nat_le (get_or sums j 0) b ≡ false) (sym is) (prefix_len_stops (λ v. nat_le v b) sums 0 (omega (arith, is, inside, are.same_length)))) in
       let next : suc k ≡ k + 1 = omega arith in
       omega (arith, fails, are.sums_up k inside, ap (λ j. sum_by (λ n. n) (take j ns)) next)
 
@@ -52,7 +52,7 @@ module _ {K : Type 0} (eq : K → K → Bool) (weight : K → ℕ) where
       let k : ℕ = prefix_len (λ v. nat_le v b) sums in
       let few = prefix_len-le-length (λ v. nat_le v b) sums in
       let said : (g : ℕ) → most_hits eq weight (λ _. 1) h g rs ≡ (spared (λ v. v) (λ _. 1) g ts + b) / g =
-          λ g. ap (λ a. (a + b) / g) (spared_volumes eq weight g [] rs ∙ sym (sum_by-IsPermutation (λ v. g * 1 - v * 1) vs ts moved)) in
+      λ g. ap (λ a. (a + b) / g) (spared_volumes eq weight g [] rs ∙ sym (sum_by-IsPermutation (λ v. g * 1 - v * 1) vs ts moved)) in
       let pays = paid b ts sums are k refl in
       elim (cases_lt k (length ts)) [
         | inl less ↦
@@ -60,16 +60,16 @@ module _ {K : Type 0} (eq : K → K → Bool) (weight : K → ℕ) where
             let stops = stopped b ts sums are k refl less in
             let pos : 1 ≤ t = positive vs (each_volume eq weight [] rs) (Contains-permutation ts vs t (IsPermutation-sym vs ts moved) (Contains-get_or ts k 0 less)) in
             let most = greatest_part (λ v. v) (λ _. 1) (length rs) b (λ g. most_hits eq weight (λ _. 1) h g rs) ts said k (distinct eq (reverse rs)) 0 vs
-                rising less (omega (arith, once (take k ts), pays)) (omega (arith, once (take (k + 1) ts), stops)) (omega (arith, ones ts, many))
-                (each_volume eq weight [] rs) pos (Contains-permutation ts vs t (IsPermutation-sym vs ts moved) (Contains-get_or ts k 0 less)) in
+            rising less (omega (arith, once (take k ts), pays)) (omega (arith, once (take (k + 1) ts), stops)) (omega (arith, ones ts, many))
+            (each_volume eq weight [] rs) pos (Contains-permutation ts vs t (IsPermutation-sym vs ts moved) (Contains-get_or ts k 0 less)) in
             let next = sum_by_more (λ n. n) ts k 0 less in
             let none : (b - sum_by (λ v. v * 1) (take k ts)) / t < 1 =
-                div_below (b - sum_by (λ v. v * 1) (take k ts)) t 1 pos (omega (arith, once (take k ts), next, stops, pays)) in
+            div_below (b - sum_by (λ v. v * 1) (take k ts)) t 1 pos (omega (arith, once (take k ts), next, stops, pays)) in
             most ∙ omega (arith, none, ones (take k ts), length-take-le k ts (omega (arith, less)))
         | inr more ↦
             let all : take k ts ≡ ts = take_all k ts more in
             let most = greatest_all (λ v. v) (λ _. 1) (length rs) b (λ g. most_hits eq weight (λ _. 1) h g rs) ts said (distinct eq (reverse rs)) vs
-                (omega (arith, once ts, pays, ap (λ l. sum_by (λ n. n) l) all)) (omega (arith, ones ts, many)) (each_volume eq weight [] rs) in
+            (omega (arith, once ts, pays, ap (λ l. sum_by (λ n. n) l) all)) (omega (arith, ones ts, many)) (each_volume eq weight [] rs) in
             most ∙ omega (arith, few, more, are.same_length, many)
       ]
     where
@@ -85,5 +85,5 @@ module _ {K : Type 0} (eq : K → K → Bool) (weight : K → ℕ) where
       let long = ap (λ l. length l) (from ∙ ap (λ l. map volume_of l) is.reuses) ∙ length-map (reuses_after eq weight [] rs) volume_of in
       let turned = ap (distinct eq) (reverse-reverse past) in
       let floor = floor_of_sorted h rs of.sorted f.volumes (subst (λ l. IsPermutation l of.sorted) same of.permutation) of.rising of.sums
-          (omega (arith, long, length_permutation vs of.sorted of.permutation, turned, reuses_many eq weight past, length-reverse past)) in
+      (omega (arith, long, length_permutation vs of.sorted of.permutation, turned, reuses_many eq weight past, length-reverse past)) in
       ap (λ m. m - prefix_len (λ v. nat_le v (h * m)) f.volumes) n ∙ sym floor

@@ -1,8 +1,8 @@
 -- The hits that a budget pays for, the cheapest first, beside the most that any price says.
-use Rattle.std.proofs.Common.{◌≡◌, ℕ, zero, suc, ◌+◌, ◌-◌, ◌*◌, ◌/◌, ◌%◌, ◌<◌, ◌≤◌, List, [], ◌∷◌, length, get_or, take, drop, map, inl, inr, refl, sym, ap, ◌∙◌, subst, arith, mul-le-mul_left, mul-le-mul_right}
+use Rattle.std.proofs.Common.{◌≡◌, ℕ, zero, suc, ◌+◌, ◌-◌, ◌*◌, ◌/◌, ◌%◌, ◌<◌, ◌≤◌, List, [], ◌∷◌, length, get_or, take, drop, inl, inr, refl, sym, ap, ◌∙◌, subst, arith, mul-le-mul_left, mul-le-mul_right}
 use Rattle.std.proofs.Math.Nat.{max-le}
 use Rattle.std.proofs.lemmas.Bool.{cases_lt}
-use Rattle.std.proofs.lemmas.List.{get_or-take, get_or-drop, get_or_default, length-take-le, length-drop, take_all}
+use Rattle.std.proofs.lemmas.List.{get_or-take, get_or-drop, get_or_default, length-take-le, length-drop}
 use Rattle.std.proofs.lemmas.List.Sums.{sum_by-cons, sum_by-take-drop, sum_by-drop_more, sum_by_more, sum_by-take-le}
 use Rattle.std.proofs.lemmas.Nat.{div_below, le-div, div-add-mod'}
 use Rattle.std.specs.List.{AllByRecursion, Contains, sum_by}
@@ -91,15 +91,15 @@ module _ {T : Type 0} (price worth : T → ℕ) where
       let g : ℕ = price (get_or ts k d) in
       let few : length (take k ts) ≡ k = length-take-le k ts (omega (arith, inside)) in
       let front = spared_below g (take k ts) (λ i e low.
-          let lt : i < k = omega (arith, low, few) in
-          let up = rising i k d (omega (arith, lt)) inside in
-          let at = ap price (get_or-take k ts i e lt ∙ get_or_default ts i e d (omega (arith, lt, inside))) in
-          omega (arith, up, at)) in
+      let lt : i < k = omega (arith, low, few) in
+      let up = rising i k d (omega (arith, lt)) inside in
+      let at = ap price (get_or-take k ts i e lt ∙ get_or_default ts i e d (omega (arith, lt, inside))) in
+      omega (arith, up, at)) in
       let back = spared_above g (drop k ts) (λ i e low.
-          let lt : k + i < length ts = omega (arith, low, length-drop k ts) in
-          let up = rising k (k + i) d (omega arith) lt in
-          let at = ap price (get_or-drop k ts i e ∙ get_or_default ts (k + i) e d lt) in
-          omega (arith, up, at)) in
+      let lt : k + i < length ts = omega (arith, low, length-drop k ts) in
+      let up = rising k (k + i) d (omega arith) lt in
+      let at = ap price (get_or-drop k ts i e ∙ get_or_default ts (k + i) e d lt) in
+      omega (arith, up, at)) in
       let cut = sum_by-take-drop (λ t. g * worth t - price t * worth t) ts k in
       omega (arith, front, back, cut)
 
@@ -122,7 +122,7 @@ module _ {T : Type 0} (price worth : T → ℕ) where
         → sum_by cost (take k ts) ≤ b → b < sum_by cost (take (k + 1) ts) → s - sum_by worth ts ≡ n → AllByRecursion (λ g. 1 ≤ g) gs
         → 1 ≤ price (get_or ts k d) → Contains gs (price (get_or ts k d))
         → greatest_of (λ g. s - most g) n gs
-            ≡ s - (sum_by worth (take k ts) + (b - sum_by cost (take k ts)) / price (get_or ts k d))
+        ≡ s - (sum_by worth (take k ts) + (b - sum_by cost (take k ts)) / price (get_or ts k d))
     greatest_part k n d gs rising inside fits stops first some pos among =
         let p : ℕ = price (get_or ts k d) in
         let whole : ℕ = sum_by worth (take k ts) in

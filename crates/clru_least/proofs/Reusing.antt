@@ -1,5 +1,5 @@
 -- The requests whose keys came before: after one more request, and the sums over them that a floor takes.
-use Rattle.std.proofs.Common.{◌≡◌, ℕ, suc, ◌+◌, ◌-◌, ◌*◌, ◌^◌, ◌<◌, ◌≤◌, Bool, true, false, cond, List, [], ◌∷◌, ◌++◌, length, map, reverse, append-nil, Option, Some, None, refl, sym, ap, ◌∙◌, subst, arith, mul-le-mul_left, mul-le-mul_right}
+use Rattle.std.proofs.Common.{◌≡◌, ℕ, ◌+◌, ◌-◌, ◌*◌, ◌^◌, ◌<◌, ◌≤◌, Bool, true, false, List, [], ◌∷◌, ◌++◌, length, map, reverse, append-nil, Option, Some, None, IfSome, refl, sym, ap, ◌∙◌, subst, arith, mul-le-mul_left, mul-le-mul_right}
 use Rattle.std.proofs.Math.Nat.{mul-le-mul}
 use Rattle.std.proofs.lemmas.List.{length-append, reverse-append, reverse-reverse}
 use Rattle.std.proofs.lemmas.List.Sums.{sum_by-cons, sum_by_push}
@@ -21,7 +21,7 @@ module _ {K : Type 0} (eq : K → K → Bool) (weight : K → ℕ) where
   reuses_push past [] x = refl
   reuses_push past (y ∷ ys) x =
       let rest = reuses_push (y ∷ past) ys x
-          ∙ ap (λ l. reuses_after eq weight (y ∷ past) ys ++ reuses_after eq weight l (x ∷ [])) (sym (reverse-cons-append eq y ys past)) in
+      ∙ ap (λ l. reuses_after eq weight (y ∷ past) ys ++ reuses_after eq weight l (x ∷ [])) (sym (reverse-cons-append eq y ys past)) in
       split (holds eq y past) (λ t. rw t (ap (λ l. reuse (gap eq y past) (1 + weight y) ∷ l) rest)) (λ f. rw f rest)
 
   reuses-cons : (x : K) (past : List K) → reuses_after eq weight [] (reverse (x ∷ past))
@@ -29,7 +29,7 @@ module _ {K : Type 0} (eq : K → K → Bool) (weight : K → ℕ) where
   reuses-cons x past =
       ap (reuses_after eq weight []) (reverse-append (x ∷ []) past) ∙ reuses_push [] (reverse past) x
       ∙ ap (λ l. reuses_after eq weight [] (reverse past) ++ reuses_after eq weight l (x ∷ []))
-        (append-nil (reverse (reverse past)) ∙ reverse-reverse past)
+      (append-nil (reverse (reverse past)) ∙ reverse-reverse past)
 
   reuses-new : (x : K) (past : List K) → holds eq x past ≡ false
       → reuses_after eq weight [] (reverse (x ∷ past)) ≡ reuses_after eq weight [] (reverse past)
@@ -72,10 +72,10 @@ module _ {K : Type 0} (eq : K → K → Bool) (weight : K → ℕ) where
       let rest = reuses_many past in
       split (holds eq x past)
       (λ t. let longer = ap (λ l. length l) (reuses-again x past t)
-          ∙ length-append (reuses_after eq weight [] (reverse past)) (reuse (gap eq x past) (1 + weight x) ∷ []) in
-        let same : distinct eq (x ∷ past) ≡ distinct eq past = rw t refl in omega (arith, rest, longer, same))
+      ∙ length-append (reuses_after eq weight [] (reverse past)) (reuse (gap eq x past) (1 + weight x) ∷ []) in
+      let same : distinct eq (x ∷ past) ≡ distinct eq past = rw t refl in omega (arith, rest, longer, same))
       (λ f. let longer = ap (λ l. length l) (reuses-new x past f) in
-        let more : distinct eq (x ∷ past) ≡ 1 + distinct eq past = rw f refl in omega (arith, rest, longer, more))
+      let more : distinct eq (x ∷ past) ≡ 1 + distinct eq past = rw f refl in omega (arith, rest, longer, more))
 
   pub reuses_size : (past : List K) → sum_by (λ r. r.size) (reuses_after eq weight [] (reverse past)) + total eq weight past
       ≡ sum_by (λ x. 1 + weight x) past
@@ -85,10 +85,10 @@ module _ {K : Type 0} (eq : K → K → Bool) (weight : K → ℕ) where
       let all = sum_by-cons (λ y. 1 + weight y) x past in
       split (holds eq x past)
       (λ t. let longer = ap (λ l. sum_by (λ r. r.size) l) (reuses-again x past t)
-          ∙ sum_by_push (λ r. r.size) (reuses_after eq weight [] (reverse past)) (reuse (gap eq x past) (1 + weight x)) in
-        let same : total eq weight (x ∷ past) ≡ total eq weight past = rw t refl in omega (arith, rest, longer, same, all))
+      ∙ sum_by_push (λ r. r.size) (reuses_after eq weight [] (reverse past)) (reuse (gap eq x past) (1 + weight x)) in
+      let same : total eq weight (x ∷ past) ≡ total eq weight past = rw t refl in omega (arith, rest, longer, same, all))
       (λ f. let longer = ap (λ l. sum_by (λ r. r.size) l) (reuses-new x past f) in
-        let more : total eq weight (x ∷ past) ≡ (1 + weight x) + total eq weight past = rw f refl in omega (arith, rest, longer, more, all))
+      let more : total eq weight (x ∷ past) ≡ (1 + weight x) + total eq weight past = rw f refl in omega (arith, rest, longer, more, all))
 
   pub volumes_are : (past rs : List K) → volumes_after eq weight past rs ≡ map volume_of (reuses_after eq weight past rs)
   volumes_are past [] = refl
@@ -117,8 +117,11 @@ module _ {K : Type 0} (eq : K → K → Bool) (weight : K → ℕ) where
   spared_sizes g past (x ∷ rs) =
       let rest = spared_sizes g (x ∷ past) rs in
       split (holds eq x past)
-      (λ t. rw t (omega (arith, rest,
-          sum_by-cons (λ r. g * r.size - r.gap * r.size) (reuse (gap eq x past) (1 + weight x)) (reuses_after eq weight (x ∷ past) rs))))
+      (λ t. rw t (omega (
+        arith,
+        rest,
+        sum_by-cons (λ r. g * r.size - r.gap * r.size) (reuse (gap eq x past) (1 + weight x)) (reuses_after eq weight (x ∷ past) rs),
+      )))
       (λ f. rw f (omega (arith, rest)))
 
   -- each gap is one at least
@@ -170,3 +173,9 @@ volumes_fit p sound =
 pub empty_of_length : {X : Type 0} (xs : List X) → length xs ≡ 0 → xs ≡ []
 empty_of_length [] e = refl
 empty_of_length (x ∷ xs) e = absurd (omega (arith, e))
+
+-- and it is before the end
+pub latest_before : {K : Type 0} (eq : K → K → Bool) (past : List K) (x : K) (n : ℕ) (latest : Option ℕ) → n ≡ length past → IsLatestOf eq past x latest
+    → IfSome latest (λ p. p < n)
+latest_before eq past x n None many of = tt
+latest_before eq past x n (Some p) many of = omega (arith, many, of.position)

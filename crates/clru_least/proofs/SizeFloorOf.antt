@@ -14,7 +14,7 @@ use Rattle.clru_least.proofs.Reusing.{reuses_size, gaps_are, spared_sizes, each_
 use Rattle.clru_least.proofs.SizeSums.{size_before, volume_before, paid_before, stopped_next}
 use Rattle.clru_least.specs.declared.reuse.Reuse.{Reuse}
 use Rattle.clru_least.specs.declared.size_floor.FloorStep.{FloorStep}
-use Rattle.clru_least.specs.FloorNumbers.{FlooredBySize, floor_step, own_step, own_volume, step_before, next_part, hit_size_at, size_floor_at, AreSteps, IsFloorOfSteps, IsSizeFloorOf}
+use Rattle.clru_least.specs.FloorNumbers.{FlooredBySize, floor_step, own_step, own_volume, step_before, next_part, hit_size_at, AreSteps, IsFloorOfSteps, IsSizeFloorOf}
 use Rattle.clru_least.specs.Reuses.{Reused, reuses_after, volume_of, IsFloorPass, IsSoundFloor}
 
 -- a sum over steps is that over what they are of
@@ -53,7 +53,7 @@ module _ (b : ℕ) (ts steps : List FloorStep) (are : AreSteps ts steps) where
       let volume_is = volume_before b ts steps are k (omega (arith, inside)) in
       let size_is = size_before b ts steps are k (omega (arith, inside)) in
       let part : next_part b steps k ≡ (b - sum_by own_volume (take k ts)) / (get_or ts k (floor_step 0 0 0)).gap =
-          some ∙ ap (λ g. (b - (step_before steps k).volume) / g) gap_is ∙ ap (λ v. (b - v) / (get_or ts k (floor_step 0 0 0)).gap) volume_is in
+      some ∙ ap (λ g. (b - (step_before steps k).volume) / g) gap_is ∙ ap (λ v. (b - v) / (get_or ts k (floor_step 0 0 0)).gap) volume_is in
       omega (arith, part, size_is)
 
 module _ {K : Type 0} (eq : K → K → Bool) (weight : K → ℕ) where
@@ -62,7 +62,7 @@ module _ {K : Type 0} (eq : K → K → Bool) (weight : K → ℕ) where
       → IsNonDecreasingBy (λ s. s.gap) ts → AreSteps ts steps
       → sum_by (λ s. s.size) ts + total eq weight (reverse rs) ≡ sum_by (λ x. 1 + weight x) rs
       → floor_missed_size eq weight h rs
-        ≡ sum_by (λ x. 1 + weight x) rs - hit_size_at (h * length rs) steps (prefix_len (λ s. nat_le s.volume (h * length rs)) steps)
+      ≡ sum_by (λ x. 1 + weight x) rs - hit_size_at (h * length rs) steps (prefix_len (λ s. nat_le s.volume (h * length rs)) steps)
   size_floor_of_sorted h rs ts steps moved rising are all =
       let b : ℕ = h * length rs in
       let reuses = reuses_after eq weight [] rs in
@@ -70,8 +70,8 @@ module _ {K : Type 0} (eq : K → K → Bool) (weight : K → ℕ) where
       let k : ℕ = prefix_len (λ s. nat_le s.volume b) steps in
       let few = prefix_len-le-length (λ s. nat_le s.volume b) steps in
       let said : (g : ℕ) → most_hits eq weight (λ x. 1 + weight x) h g rs ≡ (spared (λ s. s.gap) (λ s. s.size) g ts + b) / g =
-          λ g. ap (λ a. (a + b) / g) (spared_sizes eq weight g [] rs ∙ sym (sum_own (λ s. g * s.size - s.gap * s.size) reuses)
-            ∙ sym (sum_by-IsPermutation (λ s. g * s.size - s.gap * s.size) (map own_step reuses) ts moved)) in
+      λ g. ap (λ a. (a + b) / g) (spared_sizes eq weight g [] rs ∙ sym (sum_own (λ s. g * s.size - s.gap * s.size) reuses)
+      ∙ sym (sum_by-IsPermutation (λ s. g * s.size - s.gap * s.size) (map own_step reuses) ts moved)) in
       let pays = paid_before b ts steps are k refl in
       let volume = volume_before b ts steps are k few in
       let some = each_gap eq weight [] rs in
@@ -81,14 +81,14 @@ module _ {K : Type 0} (eq : K → K → Bool) (weight : K → ℕ) where
             let pos = positive gs some among in
             let stops = stopped_next b ts steps are k refl (omega (arith, less, are.same_length)) in
             let most = greatest_part (λ s. s.gap) (λ s. s.size) (sum_by (λ x. 1 + weight x) rs) b (λ g. most_hits eq weight (λ x. 1 + weight x) h g rs) ts said
-                k (total eq weight (reverse rs)) (floor_step 0 0 0) gs rising less (omega (arith, pays, volume))
-                (omega (arith, stops, sum_by_more own_volume ts k (floor_step 0 0 0) less)) (omega (arith, all)) some pos among in
+            k (total eq weight (reverse rs)) (floor_step 0 0 0) gs rising less (omega (arith, pays, volume))
+            (omega (arith, stops, sum_by_more own_volume ts k (floor_step 0 0 0) less)) (omega (arith, all)) some pos among in
             most ∙ ap (λ m. sum_by (λ x. 1 + weight x) rs - m) (sym (paid_more b ts steps are k less))
         | inr more ↦
             let whole : k ≡ length ts = omega (arith, few, more, are.same_length) in
             let most = greatest_all (λ s. s.gap) (λ s. s.size) (sum_by (λ x. 1 + weight x) rs) b (λ g. most_hits eq weight (λ x. 1 + weight x) h g rs) ts said
-                (total eq weight (reverse rs)) gs
-                (omega (arith, pays, volume, ap (λ l. sum_by own_volume l) (take_all k ts more))) (omega (arith, all)) some in
+            (total eq weight (reverse rs)) gs
+            (omega (arith, pays, volume, ap (λ l. sum_by own_volume l) (take_all k ts more))) (omega (arith, all)) some in
             most ∙ omega (arith, all, paid_first b ts steps are k whole)
       ]
     where
@@ -103,7 +103,7 @@ module _ {K : Type 0} (eq : K → K → Bool) (weight : K → ℕ) where
           let there = Contains-get_or (map (λ s. s.gap) ts) k 0 long in
           let here = subst (λ g. Contains (map (λ s. s.gap) ts) g) (get_or-map (λ s. s.gap) ts k (floor_step 0 0 0) 0 less) there in
           let back = IsPermutation-sym (map (λ s. s.gap) (map own_step reuses)) (map (λ s. s.gap) ts)
-              (IsPermutation-map (λ s. s.gap) (map own_step reuses) ts moved) in
+          (IsPermutation-map (λ s. s.gap) (map own_step reuses) ts moved) in
           subst (λ l. Contains l (get_or ts k (floor_step 0 0 0)).gap) (gaps_own reuses ∙ sym (gaps_are eq weight [] rs))
           (Contains-permutation (map (λ s. s.gap) ts) (map (λ s. s.gap) (map own_step reuses)) (get_or ts k (floor_step 0 0 0)).gap back here)
 
@@ -114,11 +114,11 @@ module _ {K : Type 0} (eq : K → K → Bool) (weight : K → ℕ) where
       let same : own ≡ map own_step (reuses_after eq weight [] rs) = from ∙ ap (λ l. map own_step l) is.reuses in
       let n : f.requests ≡ length rs = omega (arith, of.requests_in_all, is.requests, length-reverse past) in
       let a : f.size ≡ sum_by (λ x. 1 + weight x) rs =
-          omega (arith, of.size_in_all, is.size, sum_by-IsPermutation (λ x. 1 + weight x) past rs (IsPermutation-reverse past)) in
+      omega (arith, of.size_in_all, is.size, sum_by-IsPermutation (λ x. 1 + weight x) past rs (IsPermutation-reverse past)) in
       let sizes = sum_by-IsPermutation (λ s. s.size) own of.own of.permutation ∙ ap (λ l. sum_by (λ s. s.size) l) same
-          ∙ sum_own (λ s. s.size) (reuses_after eq weight [] rs) in
+      ∙ sum_own (λ s. s.size) (reuses_after eq weight [] rs) in
       let turned = ap (total eq weight) (reverse-reverse past) in
       let floor = size_floor_of_sorted h rs of.own f.steps (subst (λ l. IsPermutation l of.own) same of.permutation) of.rising of.summed
-          (omega (arith, sizes, turned, reuses_size eq weight past, sum_by-IsPermutation (λ x. 1 + weight x) past rs (IsPermutation-reverse past))) in
+      (omega (arith, sizes, turned, reuses_size eq weight past, sum_by-IsPermutation (λ x. 1 + weight x) past rs (IsPermutation-reverse past))) in
       ap (λ m. f.size - hit_size_at (h * m) f.steps (prefix_len (λ s. nat_le s.volume (h * m)) f.steps)) n
       ∙ ap (λ m. m - hit_size_at (h * length rs) f.steps (prefix_len (λ s. nat_le s.volume (h * length rs)) f.steps)) a ∙ sym floor

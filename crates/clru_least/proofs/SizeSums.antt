@@ -1,10 +1,10 @@
 -- The sizes and the volumes of the first steps of a list, summed up, and how many of them are paid for.
-use Rattle.std.proofs.Common.{◌≡◌, ℕ, zero, suc, ◌+◌, ◌-◌, ◌*◌, ◌/◌, ◌%◌, ◌<◌, ◌≤◌, ◌≢◌, nat_le, leb-true, Bool, false, List, [], ◌∷◌, length, get_or, set, take, inl, inr, refl, sym, ap, ◌∙◌, subst, arith, get_or-set_other, get_or-set_same}
+use Rattle.std.proofs.Common.{◌≡◌, ℕ, zero, suc, ◌+◌, ◌-◌, ◌*◌, ◌/◌, ◌<◌, ◌≤◌, ◌≢◌, nat_le, leb-true, false, List, length, get_or, set, take, inl, inr, refl, sym, ap, ◌∙◌, subst, arith, get_or-set_other, get_or-set_same}
 use Rattle.std.proofs.lemmas.Bool.{cases_lt, leb-false}
 use Rattle.std.proofs.lemmas.List.{get_or_default}
 use Rattle.std.proofs.lemmas.List.Elements.{All-get_or}
-use Rattle.std.proofs.lemmas.List.Sums.{sum_by_more, sum_by-take-le, prefix_len-le-length, prefix_len_passes, prefix_len_stops}
-use Rattle.std.proofs.lemmas.Nat.{div_below, div-add-mod'}
+use Rattle.std.proofs.lemmas.List.Sums.{sum_by_more, sum_by-take-le, prefix_len_passes, prefix_len_stops}
+use Rattle.std.proofs.lemmas.Nat.{div_below}
 use Rattle.std.specs.List.{prefix_len, sum_by}
 use Rattle.std.specs.List.Sorted.{IsNonDecreasingBy}
 use Rattle.clru_least.proofs.Sums.{take_rises}
@@ -32,7 +32,7 @@ module _ (old now : List FloorStep) (size volume i : ℕ) (inside : i < length o
       omega (arith, at.volumes, ap own_volume (at.rest i (omega arith)), sum_by_more own_volume old i none inside, sum_by-take-le own_volume old (i + 1))
 
   pub step_more : length now ≡ length old → (v : FloorStep) → v ≡ floor_step (get_or now i none).gap (size + (get_or now i none).size)
-        (volume + (get_or now i none).gap * (get_or now i none).size)
+      (volume + (get_or now i none).gap * (get_or now i none).size)
       → AreStepsUpTo old (set now i v) (size + (get_or now i none).size) (volume + (get_or now i none).gap * (get_or now i none).size) (i + 1)
   step_more len v is =
       let here = at.rest i (omega arith) in
@@ -40,9 +40,9 @@ module _ (old now : List FloorStep) (size volume i : ℕ) (inside : i < length o
       let w = sum_by_more own_volume old i none inside in
       let next : suc i ≡ i + 1 = omega arith in
       let size_is : size + (get_or now i none).size ≡ sum_by (λ s. s.size) (take (suc i) old) =
-          omega (arith, at.sizes, s, ap (λ s. s.size) here, ap (λ k. sum_by (λ s. s.size) (take k old)) next) in
+      omega (arith, at.sizes, s, ap (λ s. s.size) here, ap (λ k. sum_by (λ s. s.size) (take k old)) next) in
       let volume_is : volume + (get_or now i none).gap * (get_or now i none).size ≡ sum_by own_volume (take (suc i) old) =
-          omega (arith, at.volumes, w, ap own_volume here, ap (λ k. sum_by own_volume (take k old)) next) in
+      omega (arith, at.volumes, w, ap own_volume here, ap (λ k. sum_by own_volume (take k old)) next) in
       let gap_is = ap (λ s. s.gap) here in
       let whole : v ≡ floor_step (get_or old i none).gap (sum_by (λ s. s.size) (take (suc i) old)) (sum_by own_volume (take (suc i) old)) = cc in
       record {
@@ -53,7 +53,7 @@ module _ (old now : List FloorStep) (size volume i : ℕ) (inside : i < length o
           | inl lt ↦ let ne : j ≢ i = omega (arith, lt) in get_or-set_other now i j v none ne ∙ at.done j lt
           | inr ge ↦ let same : i ≡ j = omega (arith, ge, low) in
               subst (λ k. get_or (set now i v) k none
-                ≡ floor_step (get_or old k none).gap (sum_by (λ s. s.size) (take (suc k) old)) (sum_by own_volume (take (suc k) old))) same
+              ≡ floor_step (get_or old k none).gap (sum_by (λ s. s.size) (take (suc k) old)) (sum_by own_volume (take (suc k) old))) same
               (get_or-set_same now i v none (omega (arith, len, inside)) ∙ whole)
         ];
       }
@@ -86,7 +86,7 @@ module _ (b : ℕ) (own steps : List FloorStep) (are : AreSteps own steps) where
   stopped_next k is inside =
       let low : k < length own = omega (arith, inside, are.same_length) in
       let fails = leb-false (get_or steps k none).volume b
-          (subst (λ j. nat_le (get_or steps j none).volume b ≡ false) (sym is) (prefix_len_stops (λ s. nat_le s.volume b) steps none (omega (arith, is, inside)))) in
+      (subst (λ j. nat_le (get_or steps j none).volume b ≡ false) (sym is) (prefix_len_stops (λ s. nat_le s.volume b) steps none (omega (arith, is, inside)))) in
       let next : suc k ≡ k + 1 = omega arith in
       omega (arith, fails, ap (λ s. s.volume) (are.at k low), sum_by_more own_volume own k none low, ap (λ j. sum_by own_volume (take j own)) next)
 
@@ -109,8 +109,14 @@ hit_within b size steps sound k before e is inside =
     let low : k < length sound.own = omega (arith, inside, sound.summed.same_length) in
     let some = All-get_or (λ s. 1 ≤ s.gap) sound.own k none low sound.gaps in
     subst (λ s. s.size + (b - s.volume) / (get_or steps k none).gap ≤ size) (sym e)
-    (omega (arith, part_within b sound.own steps sound.summed k is inside some, size_before b sound.own steps sound.summed k (omega (arith, inside)),
-        sum_by_more (λ s. s.size) sound.own k none low, sum_by-take-le (λ s. s.size) sound.own (k + 1), sound.sizes))
+    (omega (
+      arith,
+      part_within b sound.own steps sound.summed k is inside some,
+      size_before b sound.own steps sound.summed k (omega (arith, inside)),
+      sum_by_more (λ s. s.size) sound.own k none low,
+      sum_by-take-le (λ s. s.size) sound.own (k + 1),
+      sound.sizes,
+    ))
 
 pub first_within : (size : ℕ) (steps : List FloorStep) (sound : AreSound steps size) (k : ℕ) (before : FloorStep) → before ≡ step_before steps k
     → k ≤ length steps → before.size ≤ size

@@ -22,7 +22,7 @@ use std::marker::{Model, PhantomData};
 /// Memory is 16 bytes for each request whose key came before.
 pub struct FloorPass<K: Eq, A: Allocator + Copy = Global> {
     reuses: Vec<Reuse, A>,
-    requests: usize,
+    pub(crate) requests: usize,
     size: usize,
     alloc: A,
     keys: PhantomData<K>,
@@ -132,11 +132,7 @@ impl<K: Eq, A: Allocator + Copy> FloorPass<K, A> {
         ensures never_refused { (w : K → ℕ) → IsFloorPass K.eq w [] self.now → IsOk result }
     {
         if self.reuses.is_empty() {
-            return Ok(SizeFloor::from_steps(
-                Vec::new(self.alloc),
-                self.requests,
-                self.size,
-            ));
+            return Ok(SizeFloor::from_steps(Vec::new(self.alloc), self.requests, self.size));
         }
         let steps = steps_of(self.alloc, &self.reuses)?;
         Ok(SizeFloor::from_steps(steps, self.requests, self.size))

@@ -15,7 +15,7 @@ use std::num::NonZeroUsize;
 pub struct Floor<A: Allocator = Global> {
     // The sum of the least volume, of the two least, and so on.
     volumes: Vec<u128, A>,
-    requests: usize,
+    pub(crate) requests: usize,
 }
 
 impl<A: Allocator> Model for Floor<A> {

@@ -10,6 +10,7 @@
 
 mod debug;
 mod floor_error;
+mod floor_keys;
 mod floor_pass;
 mod floors;
 mod foresight;
@@ -18,8 +19,9 @@ mod pass;
 mod reuse;
 mod size_floor;
 
-pub use clru_model::{DefaultState, law_floor, law_least};
+pub use clru_model::{DefaultState, WeightScale, ZeroWeightScale, law_floor, law_least};
 pub use floor_error::FloorRequestError;
+pub use floor_keys::floor;
 pub use floor_pass::FloorPass;
 pub use floors::Floor;
 pub use foresight::{Foresight, least};

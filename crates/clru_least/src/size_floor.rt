@@ -14,7 +14,7 @@ use std::num::NonZeroUsize;
 #[derive(Drop)]
 pub struct SizeFloor<A: Allocator = Global> {
     steps: Vec<FloorStep, A>,
-    requests: usize,
+    pub(crate) requests: usize,
     size: usize,
 }
 

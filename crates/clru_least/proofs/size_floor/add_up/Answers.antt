@@ -1,5 +1,5 @@
 use Rattle.std.proofs.Common.{refl, arith}
-use Rattle.clru_least.proofs.SizeSums.{size_fits, volume_fits, step_more}
+use Rattle.clru_least.proofs.SizeSums.{step_more}
 use Rattle.clru_least.proofs.size_floor.add_up.Goals as goal
 
 pub loop-step-preserved : goal.loop-step-preserved

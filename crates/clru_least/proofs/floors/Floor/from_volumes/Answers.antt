@@ -1,4 +1,4 @@
-use Rattle.std.proofs.Common.{refl, sym, ap, length, ◌∙◌, subst, arith, rules}
+use Rattle.std.proofs.Common.{refl, sym, ap, length, ◌∙◌, subst, arith}
 use Rattle.std.proofs.lemmas.List.Sorted.{IsNonDecreasingBy-from_sort, length_permutation}
 use Rattle.clru_least.proofs.Sums.{sums_rise, written_back}
 use Rattle.clru_least.specs.FloorNumbers.{AreSums}

@@ -1,4 +1,4 @@
-use Rattle.std.proofs.Common.{◌≤◌, refl, sym, ap, length, ◌∙◌, subst, arith, rules}
+use Rattle.std.proofs.Common.{◌≤◌, refl, sym, ◌∙◌, subst, arith, rules}
 use Rattle.std.proofs.lemmas.List.Sorted.{All-permutation, IsNonDecreasingBy-from_sort_by_key, sum_by-IsPermutation}
 use Rattle.clru_least.proofs.Sums.{written_back}
 use Rattle.clru_least.specs.FloorNumbers.{AreSteps}
