@@ -63,12 +63,19 @@ class Places:
             self.hashed += held
         return True
 
+    def make_heads_for(self, places, held):
+        """Heads for so many places or for more, where memory for more is found."""
+        if places <= self.heads:
+            return True
+        wanted = self.index_places_for(places)
+        return self.make_heads(wanted, held) or places < wanted and self.make_heads(places, held)
+
     def ready(self, held):
         """Finds memory for one more, where there is room and each place is taken. What was found stays where more is refused."""
         if held == self.capacity or held < self.count:
             return True
         grown = self.grown()
-        if self.indexed and grown > self.heads and not self.make_heads(self.index_places_for(grown), held):
+        if self.indexed and not self.make_heads_for(grown, held):
             return False
         if grown > self.nodes:
             if not self.memory.grants():

@@ -61,7 +61,7 @@ extern "C" {
  * is that number plus 1). And for h from 1 to capacity the misses are at most capacity / (capacity - h + 1) times those of each
  * policy that starts empty, holds at most h keys, and takes in each requested key and no other, even if it knows all requests.
  *
- * Codes: CLRU_NO_CAPACITY, CLRU_WRONG_LENGTH, CLRU_NO_MEMORY.
+ * Codes: CLRU_NO_CAPACITY, CLRU_WRONG_LENGTH, CLRU_NO_MEMORY, which it never answers where there are no keys.
  * Cost: a look-up for each request. Memory: a byte for each request, and a cache of as many entries as there are keys, capacity at
  * most, 44 to 56 bytes each. */
 uint32_t clru_hits_at(const uint64_t *keys, size_t keys_len, size_t capacity, uint64_t seed_low, uint64_t seed_high,

@@ -1,5 +1,5 @@
 //! Answers that are written into arrays of the caller. Each call writes where it answers `OK`, and nothing where it doesn't.
-ghost use Rattle.std.specs.Prelude.{◌≡◌, ◌≢◌, [], length, nat_eq, Contains, IfOk};
+ghost use Rattle.std.specs.Prelude.{◌≡◌, ◌≢◌, [], length, nat_eq, Contains, IfOk, IsOk};
 ghost use Rattle.std.specs.Int.NonZero.{non_zero_usize_get};
 ghost use Rattle.clru_c.specs.Arrays.{AreHits, IsCurve, AreLeast, IsLeastOf};
 ghost use Rattle.clru_c.specs.Codes.{IsCode};
@@ -26,6 +26,7 @@ pub(crate) fn hits_at<S: BuildHasher + Drop, A: Allocator + Copy>(
     ensures hits { result ≡ OK → AreHits nat_eq capacity keys.now hits.new missed.new }
     ensures left { result ≢ OK → (hits.new ≡ hits.old) × (missed.new ≡ missed.old) }
     ensures codes { IsCode (capacity ≡ 0) (length hits.old ≡ length keys.now) result }
+    ensures never_refused { keys.now ≡ [] → result ≢ NO_MEMORY }
 {
     let Some(capacity) = NonZeroUsize::new(capacity) else {
         return NO_CAPACITY;
@@ -49,7 +50,8 @@ fn replay_of<S: BuildHasher + Drop, A: Allocator + Copy>(
     keys: &[u64],
     hash_builder: S,
 ) -> Result<Replay<A>, NoMemory>
-    ensures { IfOk result (λ r. AreHits nat_eq (non_zero_usize_get capacity) keys.now r.marks.items r.misses) }
+    ensures hits { IfOk result (λ r. AreHits nat_eq (non_zero_usize_get capacity) keys.now r.marks.items r.misses) }
+    ensures never_refused { keys.now ≡ [] → IsOk result }
 {
     replay_slice(alloc, capacity, keys, hash_builder)
 }

@@ -8,7 +8,7 @@ ghost use Rattle.clru_c.specs.Codes.{IsCode};
 ghost use Rattle.clru_c.specs.Objects.{AreSizedMisses, IsSizedCode};
 
 use crate::arrays::{hits_at, least_by_room, misses_by_capacity};
-use crate::codes::OK;
+use crate::codes::{NO_MEMORY, OK};
 use crate::keyed::seeded;
 use crate::sized::misses_by_size;
 use clru::DefaultState;
@@ -28,6 +28,8 @@ pub extern "C" fn clru_hits_at(
     ensures hits { result ≡ OK → AreHits nat_eq capacity keys.now hits.new misses.new }
     ensures left { result ≢ OK → (hits.new ≡ hits.old) × (misses.new ≡ misses.old) }
     ensures codes { IsCode (capacity ≡ 0) (length hits.old ≡ length keys.now) result }
+    ensures never_refused { keys.now ≡ [] → result ≢ NO_MEMORY }
+    ensures length { length hits.new ≡ length hits.old }
 {
     match seeded(seed_low, seed_high) {
         None => hits_at(alloc, keys, capacity, hits, misses, DefaultState),
@@ -97,6 +99,8 @@ pub extern "C" fn clru_misses_by_size(
     ensures left { result ≢ OK → (misses.new ≡ misses.old) × (missed_sizes.new ≡ missed_sizes.old)
         × (distinct_size.new ≡ distinct_size.old) }
     ensures codes { IsSizedCode keys.now sizes.now capacities.now misses.old missed_sizes.old result }
+    ensures length { length misses.new ≡ length misses.old }
+    ensures length_of_sizes { length missed_sizes.new ≡ length missed_sizes.old }
 {
     let (sums, size) = (missed_sizes, distinct_size);
     match seeded(seed_low, seed_high) {

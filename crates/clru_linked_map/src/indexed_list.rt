@@ -2,7 +2,7 @@
 //!
 //! Each key has a bucket, which its hash picks, and the places of the keys of one bucket are linked to a chain. Clauses here
 //! name places, buckets and links; those of the map's calls speak of its entries alone.
-ghost use Rattle.std.specs.Prelude.{◌≡◌, ℕ, ◌<◌, ◌≤◌, true, false, length, None, IfSome, IfNone, OnOk, OnErr};
+ghost use Rattle.std.specs.Prelude.{◌≡◌, ℕ, ◌<◌, ◌≤◌, true, false, length, None, IfOk, IfSome, IfNone, OnOk, OnErr};
 ghost use Rattle.std.specs.Map.{lookup_entry};
 ghost use Rattle.clru_list.specs.PlaceList.{without, IsValid};
 ghost use Rattle.clru_list.specs.Places.{nowhere};
@@ -193,13 +193,27 @@ impl<K: Eq + Hash, V, S: BuildHasher, A: Allocator + Copy> IndexedList<K, V, S, 
         if places <= self.index.link_count() {
             return Ok(());
         }
-        self.index = self.index.empty_resized(self.index_places_for(places))?;
+        self.index = self.empty_index_for(places)?;
         self.relink();
         Ok(())
     }
 
-    /// Returns for how many places buckets are made if so many are wanted. From a quarter of the capacity on it is all of it,
-    /// so that no key is chained anew once more while the map fills up.
+    /// Makes empty buckets for so many places, or for more if there is memory for them.
+    fn empty_index_for(&self, places: usize) -> Result<HashIndex<A>, NoMemory>
+        ensures free { IfOk result (λ x. (h : ℕ) → number_in x.firsts h ≡ 0) }
+        ensures linked { IfOk result (λ x. places ≤ length x.links) }
+        ensures spread { IfOk result (λ x. length x.links ≤ length x.firsts) }
+        ensures named { IfOk result (λ x. length x.links ≤ x.bound) }
+    {
+        let wanted = self.index_places_for(places);
+        match self.index.empty_resized(wanted) {
+            Err(_) if places < wanted => self.index.empty_resized(places),
+            made => made,
+        }
+    }
+
+    /// Returns for how many places buckets are made, if memory allows, where so many are needed. From a quarter of the capacity
+    /// on it is all of it, so that no key is chained anew once more while the map fills up.
     fn index_places_for(&self, places: usize) -> usize
         ensures { places ≤ result }
     {

@@ -1,6 +1,16 @@
--- What a look-up that finds nothing says.
-use Rattle.std.proofs.Common.{◌≡◌, false, Option, Some, None, is_some, refl}
+-- What a look-up that finds nothing says, and which lines are paths.
+use Rattle.std.proofs.Common.{◌≡◌, Bool, true, false, Option, Some, None, is_some, refl, List, ℕ}
+use Rattle.std.specs.Str.{IsUtf8, is_utf8}
+use Rattle.std.proofs.lemmas.Str.{IsUtf8-from_is_utf8}
 
 pub none_of : {V : Type 0} (o : Option V) → is_some o ≡ false → o ≡ None
 none_of None absent = refl
 none_of (Some v) absent = cc
+
+false_unless : (b : Bool) → (b ≡ true → ⊥) → b ≡ false
+false_unless true unless = absurd (unless refl)
+false_unless false unless = refl
+
+-- of a line that is no UTF-8
+pub no_path : (line : List ℕ) → ¬ (IsUtf8 line) → is_utf8 line ≡ false
+no_path line none = false_unless (is_utf8 line) (λ is. none (IsUtf8-from_is_utf8 line is))

@@ -1,11 +1,12 @@
 //! Why a path has no page.
+ghost use Rattle.std.specs.Prelude.{Some};
+ghost use Rattle.clru_pages.specs.Serving.{fault_text};
 
 use std::fmt;
 use std::io::{self, ErrorKind};
 
 #[derive(Clone, Copy, PartialEq)]
 pub enum Fault {
-    NoText,
     Outside,
     Missing,
     Unreadable,
@@ -17,9 +18,10 @@ pub enum Fault {
 }
 
 impl fmt::Display for Fault {
+    ghost output = { λ fault. Some (fault_text fault) };
+
     fn fmt<W: fmt::Write>(&self, f: &mut fmt::Formatter<W>) -> fmt::Result {
         f.write_str(match self {
-            Fault::NoText => "the path is no text",
             Fault::Outside => "outside of the folder",
             Fault::Missing => "missing",
             Fault::Unreadable => "not readable",

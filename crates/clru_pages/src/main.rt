@@ -2,9 +2,11 @@
 #![tactic(auto)]
 
 mod checksum;
+mod counts;
 mod fault;
 mod folder;
 mod serve;
+mod served;
 
 use crate::folder::Folder;
 use crate::serve::{pages_of, run};
@@ -55,7 +57,7 @@ fn answered(rt: &HostRuntime) -> io::Result<()> {
         "hits {}, fetches {}, unasked {}; {held} of {capacity} bytes held in {} pages",
         counts.hits,
         counts.fetches,
-        counts.unasked,
+        counts.no_text.saturating_add(counts.no_memory),
         pages.len()
     )?;
     output.flush()

@@ -1,14 +1,17 @@
 //! Paths one after the other, each answered by its page.
-ghost use Rattle.std.specs.Prelude.{◌≡◌, ◌+◌, ◌-◌, IfOk, None, is_some, length, true};
+ghost use Rattle.std.specs.Prelude.{◌≡◌, ◌+◌, ◌-◌, ℕ, IfNone, IfOk, IfSome, List, None, OnOk, count_by, false, flat_map, is_some, length, not, true};
 ghost use Rattle.clru_lines.specs.Lines.{lines_of};
-ghost use Rattle.clru_pages.specs.Serving.{is_hit, is_fetch, is_failure};
+ghost use Rattle.clru_pages.specs.Serving.{is_hit, is_fetch, is_no_text, is_failure, line_of, AreServed, AreCounted};
+ghost use Rattle.std.specs.Io.KnownBytes.{Appends};
 ghost use Rattle.std.specs.Map.{lookup};
-ghost use Rattle.std.specs.Str.{bytes_eq};
+ghost use Rattle.std.specs.Str.{bytes_eq, is_utf8};
 ghost use Rattle.std.specs.String.{string_bytes};
 
 use crate::checksum::checksum;
+use crate::counts::Counts;
 use crate::fault::Fault;
 use crate::folder::{Folder, Page};
+use crate::served::{Served, Told};
 use clru::{CLruCache, DefaultState, NonZeroUsize, WeightScale};
 use clru_lines::next_line;
 use clru_through::{ByPromise, Loaded, Through};
@@ -49,32 +52,6 @@ pub fn pages_of<'f, R: Files>(
     Through::new(CLruCache::with_scale(alloc, capacity, ByBytes), folder)
 }
 
-/// What is told of a page.
-#[derive(Clone, Copy)]
-pub struct Told {
-    pub length: usize,
-    pub checksum: u32,
-}
-
-/// What became of a request.
-#[derive(Clone, Copy)]
-pub enum Served {
-    /// The page was held, and no file was opened.
-    Hit(Told),
-    /// It was fetched, or could not be.
-    Fetched(Result<Told, Fault>),
-    /// The store was not asked.
-    Unasked(Fault),
-}
-
-/// How requests were answered.
-#[derive(Clone, Copy)]
-pub struct Counts {
-    pub hits: usize,
-    pub fetches: usize,
-    pub unasked: usize,
-}
-
 /// The page of the path that a line is. What is held is read from no file, and a request that fails leaves what is held.
 #[tactic(auto, using(crate::proofs::Looking::none_of))]
 fn serve<'f, R: Files>(pages: &mut Pages<'f, R>, alloc: Global, line: &[u8]) -> Served
@@ -82,21 +59,34 @@ fn serve<'f, R: Files>(pages: &mut Pages<'f, R>, alloc: Global, line: &[u8]) -> 
         is_some (lookup (λ path. bytes_eq line.now (string_bytes path)) pages.old.cache.entries) ≡ true }
     ensures fetch { is_fetch result ≡ true →
         lookup (λ path. bytes_eq line.now (string_bytes path)) pages.old.cache.entries ≡ None }
+    ensures no_text { is_no_text result ≡ not (is_utf8 line.now) }
     ensures failure { is_failure result ≡ true → pages.new.cache.entries ≡ pages.old.cache.entries }
 {
-    let Ok(path) = str::from_utf8(line) else {
-        return Served::Unasked(Fault::NoText);
+    let Some(path) = path_of(line) else {
+        return Served::NoText;
     };
     if pages.hit(path) {
         return Served::Hit(first_of(pages));
     }
     let Ok(key) = String::from_str(alloc, path) else {
-        return Served::Unasked(Fault::Memory);
+        return Served::NoMemory;
     };
     match pages.load(key) {
         Err(fault) => Served::Fetched(Err(fault)),
         Ok(Loaded::Passed(page)) => Served::Fetched(Ok(about(&page))),
         Ok(Loaded::Held { .. }) => Served::Fetched(Ok(first_of(pages))),
+    }
+}
+
+/// The path that a line is, unless it is no text.
+fn path_of(line: &[u8]) -> Option<&str>
+    ensures path { IfSome result (λ path. path.now ≡ line.now) }
+    ensures text { IfSome result (λ _. is_utf8 line.now ≡ true) }
+    ensures no_text { IfNone result (is_utf8 line.now ≡ false) }
+{
+    match str::from_utf8(line) {
+        Ok(path) => Some(path),
+        Err(_) => None,
     }
 }
 
@@ -119,45 +109,37 @@ fn about(page: &Page) -> Told {
     }
 }
 
-/// Writes what became of a request.
-fn write_served<W: Write>(output: &mut W, path: &str, served: Served) -> io::Result<()> {
-    let (told, how) = match served {
-        Served::Hit(told) => (told, "held"),
-        Served::Fetched(Ok(told)) => (told, "fetched"),
-        Served::Fetched(Err(fault)) | Served::Unasked(fault) => {
-            return writeln!(output, "{path}: {fault}");
-        }
-    };
-    writeln!(
-        output,
-        "{path}: {} bytes, {:08x}, {how}",
-        told.length, told.checksum
-    )
+/// Writes the line of a request.
+fn write_served<W: Write>(
+    output: &mut W,
+    alloc: Global,
+    line: &[u8],
+    served: Served,
+) -> io::Result<()>
+    ensures { OnOk result (Appends (W.contents output.old) (W.contents output.new) (line_of (line.now, served))) }
+{
+    let path = String::from_utf8_lossy(alloc, line)?;
+    writeln!(output, "{path}: {served}")
 }
 
-/// Answers the path of each line.
+/// Serves the path of each line, and writes a line of each.
 pub fn run<'f, R: Files, W: Write>(
     pages: &mut Pages<'f, R>,
     alloc: Global,
     input: &[u8],
     output: &mut W,
 ) -> io::Result<Counts>
-    ensures requests { IfOk result (λ c. c.hits + c.fetches + c.unasked ≡ length (lines_of input.now)) }
+    ensures paths { IfOk result (λ c. c.hits + c.fetches + c.no_memory ≡ count_by is_utf8 (lines_of input.now)) }
+    ensures others { IfOk result (λ c. c.no_text ≡ count_by (λ line. not (is_utf8 line)) (lines_of input.now)) }
+    ensures written { IfOk result (λ c. (requests : List (List ℕ × Served)) × AreServed input.now requests
+        × AreCounted requests c × Appends (W.contents output.old) (W.contents output.new) (flat_map line_of requests)) }
 {
-    let mut counts = Counts {
-        hits: 0,
-        fetches: 0,
-        unasked: 0,
-    };
+    let mut counts = Counts::new();
     let mut left = input;
     'lines: while let Some((line, rest)) = next_line(left) {
         let served = serve(pages, alloc, line);
-        match served {
-            Served::Hit(_) => counts.hits += 1,
-            Served::Fetched(_) => counts.fetches += 1,
-            Served::Unasked(_) => counts.unasked += 1,
-        }
-        write_served(output, &String::from_utf8_lossy(alloc, line)?, served)?;
+        counts.add(served);
+        write_served(output, alloc, line, served)?;
         left = rest;
     }
     Ok(counts)

@@ -8,14 +8,13 @@ returns-clause-indexed g c =
       chained = c.relink.ensures.chained;
       held = omega (arith, ap (λ l. length l.entries) list, ap (λ l. l.places) list, old.held);
       spread = omega (arith, same.index.buckets, same.index.links, new.spread);
-      linked = omega (arith, ap (λ l. l.places) list, same.index.links, new.linked, c.index_places_for.ensures, c.if-places-link_count.false, c.link_count.ensures.count, old.linked);
+      linked = omega (arith, ap (λ l. l.places) list, same.index.links, new.linked, c.if-places-link_count.false, c.link_count.ensures.count, old.linked);
       named = omega (
         arith,
         ap (λ l. l.places) list,
         same.index.bound,
         new.linked,
         new.named,
-        c.index_places_for.ensures,
         c.if-places-link_count.false,
         c.link_count.ensures.count,
         old.linked,
