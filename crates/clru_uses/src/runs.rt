@@ -1,5 +1,5 @@
 //! Whole runs, of puts and of look-ups that are followed by a put, by the contracts of the calls and `law_requests` alone.
-ghost use Rattle.std.specs.Prelude.{◌≡◌, [], not, nat_eq, IfOk, IfSome};
+ghost use Rattle.std.specs.Prelude.{◌≡◌, ◌+◌, [], not, length, nat_eq, IfOk, IfSome};
 ghost use Rattle.std.specs.List.{count_by};
 ghost use Rattle.clru_model.specs.Schedule.{IsCompetitive};
 ghost use Rattle.clru_model.specs.Requests.{marks, misses};
@@ -53,4 +53,28 @@ pub fn pages_fetched(
         }
     }
     Ok(fetched)
+}
+
+/// Puts each key in turn into an empty cache, and returns how many pairs were dropped: the misses that left no entry. `None` is
+/// for want of memory.
+pub fn dropped_by_puts<K: Eq + Hash + Drop>(
+    cache: &mut CLruCache<K, ()>,
+    keys: Vec<K>,
+) -> Option<usize>
+    requires empty { cache.old.entries ≡ [] }
+    ensures { IfSome result (λ n. n + length cache.new.entries ≡ misses K.eq cache.old.capacity keys.items) }
+{
+    law_requests::<K, ()>();
+    // It tells that the capacity is no 0.
+    let _ = cache.len();
+    let mut dropped = 0;
+    for key in keys {
+        let Ok(put) = cache.put(key, ()) else {
+            return None;
+        };
+        if put.dropped.is_some() {
+            dropped += 1;
+        }
+    }
+    Some(dropped)
 }
