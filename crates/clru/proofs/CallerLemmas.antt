@@ -14,7 +14,7 @@ use Rattle.clru.specs.EntryMut.{index_of, length-with_value_at, index, pair, wit
 use Rattle.clru.specs.declared.entry.End.TheVariants.{Front, Back}
 use Rattle.clru.specs.declared.entry.EntryMut.{EntryMut}
 pub use Rattle.clru_model.proofs.Dropping.{length-weighted_drops}
-pub use Rattle.clru_model.proofs.EachEntry.{All-found, All-plain_put, All-touch, All-weighted_put, All-without}
+pub use Rattle.clru_model.proofs.EachEntry.{All-lookup, All-plain_put, All-touch, All-weighted_put, All-without}
 pub use Rattle.clru_model.proofs.Ends.{last_of-push}
 pub use Rattle.clru_model.proofs.GrowingRuns.{Runs, Runs-push, Runs-length, CountedRuns, CountedRuns-push}
 pub use Rattle.clru_model.proofs.GrowingRuns.{DroppedRuns, DroppedRuns-none, DroppedRuns-push, marks_where-push}

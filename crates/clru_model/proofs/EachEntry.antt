@@ -6,7 +6,7 @@ use Rattle.std.proofs.lemmas.Option.{same_Some}
 use Rattle.std.specs.Cmp.{IsEquivalence}
 use Rattle.std.specs.List.{All, AllByRecursion}
 use Rattle.std.specs.Map.{lookup, lookup_entry}
-use Rattle.std.specs.Option.{option_map_or}
+use Rattle.std.specs.Option.{IfSome, option_map_or}
 use Rattle.clru_model.specs.Entries.{without, touch, plain_put, weighted_put}
 use Rattle.clru_model.proofs.Cases.{split}
 use Rattle.clru_model.proofs.Fitting.{sublist_fit}
@@ -24,12 +24,13 @@ module _ {K V : Type 0} (P : K × V → Type 0) where
       (λ t. let is : f ≡ e = same_Some f e (rw t at h) in rw (← is) (t, all.0))
       (λ t. found_entry test es e all.1 (rw t at h))
 
-  -- of the entry that a search finds
-  pub All-found : (test : K → Bool) (es : List (K × V)) {v : V} → All P es → lookup test es ≡ Some v → (k : K) × (test k ≡ true) × P (k, v)
-  All-found test [] all h = cc
-  All-found test (e ∷ es) {v} all h = split (test e.0)
-      (λ t. let is : e.1 ≡ v = same_Some e.1 v (rw t at h) in (e.0, t, rw (← is) (All-head P e es all)))
-      (λ t. All-found test es (All-tail P e es all) (rw t at h))
+  -- of the entry of a key that is found, so that something is true of its value
+  pub All-lookup : (Q : V → Type 0) (test : K → Bool) (es : List (K × V)) → All P es → ((k : K) (v : V) → test k ≡ true → P (k, v) → Q v)
+      → IfSome (lookup test es) Q
+  All-lookup Q test [] all tells = tt
+  All-lookup Q test (e ∷ es) all tells = split (test e.0)
+      (λ t. rw t (tells e.0 e.1 t (All-head P e es all)))
+      (λ t. rw t (All-lookup Q test es (All-tail P e es all) tells))
 
   module _ {X : Type 0} (eq : X → K → Bool) (x : X) (es : List (K × V)) (all : All P es) where
     -- after a removal

@@ -14,7 +14,7 @@ pub struct Stamped {
 }
 
 /// Returns a page's text with its stamp.
-pub fn stamped(page: u64, text: u64) -> Stamped
+pub fn with_stamp(page: u64, text: u64) -> Stamped
     ensures { result.stamp ≡ (page + result.text) % 2 ^ 64 }
 {
     Stamped {
@@ -32,7 +32,7 @@ pub fn put_stamped(
     requires { All HasTrueStamp cache.old.entries }
     ensures { All HasTrueStamp cache.new.entries }
 {
-    cache.put(page, stamped(page, text))?;
+    cache.put(page, with_stamp(page, text))?;
     Ok(())
 }
 
@@ -45,7 +45,7 @@ pub fn put_stamped_by_weight(
     requires { All HasTrueStamp cache.old.entries }
     ensures { All HasTrueStamp cache.new.entries }
 {
-    cache.put_with_weight(page, stamped(page, text), |_, _| {})?;
+    cache.put_with_weight(page, with_stamp(page, text), |_, _| {})?;
     Ok(())
 }
 
