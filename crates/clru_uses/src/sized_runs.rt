@@ -46,10 +46,12 @@ pub fn texts_found<W: WeightScale<usize, usize>>(
     ensures bound { (weight : ℕ → ℕ) → ((page text : ℕ) → W.weight cache.old.scale page text ≡ weight page)
         → IfSome result (λ found. IsCompetitiveBySize nat_eq weight cache.old.capacity (keys_of requests.items)
         (size_of_misses weight found.items (keys_of requests.items))) }
-    ensures changing_high { (high : ℕ → ℕ) (i : ℕ) → ((page text : ℕ) → W.weight cache.old.scale page text ≤ high page)
+    ensures changing_high { (low high : ℕ → ℕ) (i : ℕ)
+        → ((page text : ℕ) → (low page ≤ W.weight cache.old.scale page text) × (W.weight cache.old.scale page text ≤ high page))
         → slice_get (marks_by_size nat_eq high cache.old.capacity (keys_of requests.items)) i ≡ Some true
         → IfSome result (λ found. slice_get found.items i ≡ Some true) }
-    ensures changing_low { (low : ℕ → ℕ) (i : ℕ) → ((page text : ℕ) → low page ≤ W.weight cache.old.scale page text)
+    ensures changing_low { (low high : ℕ → ℕ) (i : ℕ)
+        → ((page text : ℕ) → (low page ≤ W.weight cache.old.scale page text) × (W.weight cache.old.scale page text ≤ high page))
         → IfSome result (λ found. slice_get found.items i ≡ Some true
         → slice_get (marks_by_size nat_eq low cache.old.capacity (keys_of requests.items)) i ≡ Some true) }
 {
@@ -81,7 +83,11 @@ pub fn light_pages_held<W: WeightScale<usize, ()>>(
     let mut held = Vec::new(alloc);
     for page in pages {
         match cache.put_with_weight(page, (), |_, _| {}) {
-            Ok(before) => held.push(before.is_some()).ok()?,
+            Ok(before) => {
+                if held.push(before.is_some()).is_err() {
+                    return None;
+                }
+            }
             Err(PutError::TooHeavy(_, ())) => {}
             Err(PutError::NoMemory(_, ())) => return None,
         }
