@@ -14,8 +14,11 @@ use Rattle.clru.specs.EntryMut.{index_of, length-with_value_at, index, pair, wit
 use Rattle.clru.specs.declared.entry.End.TheVariants.{Front, Back}
 use Rattle.clru.specs.declared.entry.EntryMut.{EntryMut}
 pub use Rattle.clru_model.proofs.Dropping.{length-weighted_drops}
+pub use Rattle.clru_model.proofs.EachEntry.{All-lookup, All-plain_put, All-touch, All-weighted_put, All-without}
 pub use Rattle.clru_model.proofs.Ends.{last_of-push}
-pub use Rattle.clru_model.proofs.GrowingRuns.{Runs, Runs-push, CountedRuns, CountedRuns-push, IsGetOr-held, IsGetOr-missed, touch-none}
+pub use Rattle.clru_model.proofs.GrowingRuns.{Runs, Runs-push, Runs-length, CountedRuns, CountedRuns-push}
+pub use Rattle.clru_model.proofs.GrowingRuns.{DroppedRuns, DroppedRuns-none, DroppedRuns-push, marks_where-push}
+pub use Rattle.clru_model.proofs.GrowingRuns.{IsGetOr-held, IsGetOr-missed, touch-none}
 pub use Rattle.clru_model.proofs.Lookups.{length-touch, length-without, length-plain_put, missed-without}
 pub use Rattle.clru_model.proofs.Lookups.{lookup-plain_put, lookup-lent, lookup-without, lookup-removed, lookup-touch, lookup-put_beside}
 pub use Rattle.clru_model.proofs.PutSteps.{fit-weightless, IsPut-plain, IsPut-weightless}

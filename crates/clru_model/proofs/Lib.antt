@@ -11,6 +11,7 @@ pub mod Distances
 pub mod Distinct
 pub mod DistinctByPosition
 pub mod Dropping
+pub mod EachEntry
 pub mod Ends
 pub mod EntryRows
 pub mod Finding

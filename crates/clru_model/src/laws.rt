@@ -49,7 +49,7 @@ pub fn law_spans_by_position<K: Eq>()
 
 /// Does nothing at run time. Its contract says that a replay of a greater capacity hits wherever one of a lesser capacity
 /// does.
-pub fn law_greater_capacity<K: Eq>()
+pub fn law_growth<K: Eq>()
     ensures grows { HitsGrow K.eq }
     ensures misses { MissesFall K.eq }
 {}

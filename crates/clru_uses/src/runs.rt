@@ -1,6 +1,8 @@
 //! Whole runs, of puts and of look-ups that are followed by a put, by the contracts of the calls and `law_requests` alone.
-ghost use Rattle.std.specs.Prelude.{◌≡◌, [], not, nat_eq, IfOk, IfSome};
+ghost use Rattle.std.specs.Prelude.{◌≡◌, ◌+◌, ◌≤◌, [], not, length, nat_eq, IfOk, IfSome, OnSome};
 ghost use Rattle.std.specs.List.{count_by};
+ghost use Rattle.std.specs.Option.{option_to_list};
+ghost use Rattle.clru_model.specs.Entries.{plain_put, plain_drop};
 ghost use Rattle.clru_model.specs.Schedule.{IsCompetitive};
 ghost use Rattle.clru_model.specs.Requests.{marks, misses};
 
@@ -53,4 +55,38 @@ pub fn pages_fetched(
         }
     }
     Ok(fetched)
+}
+
+/// Puts each key in turn into an empty cache, and returns how many pairs were dropped: the misses that left no entry. `None` is
+/// for want of memory.
+pub fn dropped_by_puts<K: Eq + Hash + Drop>(
+    cache: &mut CLruCache<K, ()>,
+    keys: Vec<K>,
+) -> Option<usize>
+    requires empty { cache.old.entries ≡ [] }
+    ensures { IfSome result (λ n. n + length cache.new.entries ≡ misses K.eq cache.old.capacity keys.items) }
+{
+    law_requests::<K, ()>();
+    // It tells that the capacity is no 0.
+    let _ = cache.len();
+    let mut dropped = 0;
+    for key in keys {
+        dropped += number_dropped(cache, key)?;
+    }
+    Some(dropped)
+}
+
+/// Puts a key, and returns how many pairs that dropped, one or none. `None` is for want of memory.
+fn number_dropped<K: Eq + Hash + Drop>(cache: &mut CLruCache<K, ()>, key: K) -> Option<usize>
+    ensures dropped { IfSome result (λ n.
+        n ≡ length (option_to_list (plain_drop K.eq cache.old.capacity key cache.old.entries))) }
+    ensures few { IfSome result (λ n. n ≤ 1) }
+    ensures entries { OnSome result
+        (cache.new.entries ≡ plain_put K.eq cache.old.capacity key tt cache.old.entries) }
+    ensures capacity { cache.new.capacity ≡ cache.old.capacity }
+{
+    match cache.put(key, ()) {
+        Ok(put) => Some(usize::from(put.dropped.is_some())),
+        Err(_) => None,
+    }
 }

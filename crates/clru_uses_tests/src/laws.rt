@@ -2,8 +2,8 @@
 
 use clru::{
     CLruCache, DefaultState, NonZeroUsize, ZeroWeightScale, law_by_position, law_dropped,
-    law_greater_capacity, law_inclusion, law_longest_fit, law_requests, law_schedules_by_position,
-    law_size_bound, law_sizes,
+    law_greater_capacity, law_growth, law_inclusion, law_longest_fit, law_requests,
+    law_schedules_by_position, law_size_bound, law_sizes,
 };
 use clru_curve::{law_bounds, law_distances, law_parts, law_spans_by_position};
 use clru_least::{law_floor, law_least};
@@ -18,6 +18,7 @@ use std::test::Fail;
 fn laws_do_nothing() {
     law_by_position::<&'static str>();
     law_schedules_by_position::<&'static str>();
+    law_growth::<&'static str>();
     law_greater_capacity::<&'static str>();
     law_inclusion::<u64, &'static str>();
     law_longest_fit::<u64, &'static str>();

@@ -1,5 +1,5 @@
 use Rattle.clru_model.proofs.Growing.{marks_grow, misses_fall}
-use Rattle.clru_model.proofs.laws.law_greater_capacity.Goals as goal
+use Rattle.clru_model.proofs.laws.law_growth.Goals as goal
 
 pub returns-clause-grows : goal.returns-clause-grows
 returns-clause-grows g c k l i requests more = marks_grow g.K.PartialEq.eq more requests i
