@@ -1,0 +1,48 @@
+-- Requests with times, where entries expire: which of them hit. A request is a pair of a key and a time, in any unit. Public
+-- clauses cite them.
+use Rattle.std.specs.Prelude.{◌≡◌, ℕ, ◌-◌, ◌≤◌, Bool, true, false, if◌then◌else◌, not, ◌&&◌, nat_le, Option, None, List, [], ◌∷◌}
+use Rattle.std.specs.List.{count_by}
+use Rattle.std.specs.Map.{keys_of, lookup}
+use Rattle.std.specs.Option.{option_map_or}
+use Rattle.clru_model.specs.Requests.{hit, marks}
+use Rattle.clru_model.specs.Sizes.{hit_by_size, marks_by_size}
+
+-- a time span is at most the limit, if there is one
+abbrev pub is_in_limit : Option ℕ → ℕ → Bool
+is_in_limit limit n = option_map_or (λ most. nat_le n most) limit true
+
+-- what is within the first limit is within the second
+abbrev pub IsLimitBelow : Option ℕ → Option ℕ → Type 0
+IsLimitBelow less more = (n : ℕ) → is_in_limit less n ≡ true → is_in_limit more n ≡ true
+
+module _ {K : Type 0} (eq : K → K → Bool) where
+  -- the requests, the latest first, have one of the key of r, and r comes within the limit after the latest such one, or earlier
+  abbrev pub is_recent : Option ℕ → K × ℕ → List (K × ℕ) → Bool
+  is_recent limit r rs = option_map_or (λ time. is_in_limit limit (r.1 - time)) (lookup (eq r.0) rs) false
+
+  -- where entries are idle and have an age within these limits, and keys hit without them
+  module _ (hits : K → List K → Bool) (idle age : Option ℕ) where
+    -- r hits without the limits, comes soon enough after the latest request of its key and after its latest fetch
+    abbrev pub aged_hit : K × ℕ → (past fetches : List (K × ℕ)) → Bool
+    aged_hit r past fetches = hits r.0 (keys_of past) && is_recent idle r past && is_recent age r fetches
+
+    -- for each request in order whether it hits, after the requests of the past, of which the fetches did not, the latest first
+    abbrev pub aged_marks_after : (past fetches rs : List (K × ℕ)) → List Bool
+    aged_marks_after past fetches [] = []
+    aged_marks_after past fetches (r ∷ rs) = if aged_hit r past fetches
+        then true ∷ aged_marks_after (r ∷ past) fetches rs
+        else false ∷ aged_marks_after (r ∷ past) (r ∷ fetches) rs
+
+    -- for each request in order whether it hits
+    abbrev pub aged_marks : List (K × ℕ) → List Bool
+    aged_marks rs = aged_marks_after [] [] rs
+
+    -- how many requests don't hit
+    abbrev pub aged_misses : List (K × ℕ) → ℕ
+    aged_misses rs = count_by not (aged_marks rs)
+
+  -- greater limits and a greater capacity have no more misses
+  abbrev pub AgedMissesFall : Type 0
+  AgedMissesFall = (k l : ℕ) (idle longer_idle age longer_age : Option ℕ) (requests : List (K × ℕ)) → k ≤ l
+      → IsLimitBelow idle longer_idle → IsLimitBelow age longer_age
+      → aged_misses (hit eq l) longer_idle longer_age requests ≤ aged_misses (hit eq k) idle age requests
