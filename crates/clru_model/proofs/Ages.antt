@@ -8,12 +8,14 @@ use Rattle.std.proofs.lemmas.Option.{same_Some}
 use Rattle.std.specs.Cmp.{IsEquivalence}
 use Rattle.std.specs.List.{count_by}
 use Rattle.std.specs.Map.{keys_of, lookup}
-use Rattle.clru_model.specs.Ages.{is_in_limit, IsLimitBelow, is_recent, aged_hit, aged_marks_after, aged_misses, AgedMissesFall}
+use Rattle.clru_model.specs.Ages.{is_in_limit, IsLimitBelow, is_recent, aged_hit, aged_marks_after, aged_misses, AgedMissesFall, AgedMissesBySizeFall}
 use Rattle.clru_model.specs.Requests.{hit}
+use Rattle.clru_model.specs.Sizes.{hit_by_size}
 use Rattle.clru_model.proofs.Cases.{split}
 use Rattle.clru_model.proofs.Distinct.{same_right}
 use Rattle.clru_model.proofs.Growing.{hit_grows}
 use Rattle.clru_model.proofs.Marks.{count_by-not-cons}
+use Rattle.clru_model.proofs.Spans.{hit_by_size_grows}
 
 -- no time is within each limit
 pub in_limit-zero : (limit : Option ℕ) → is_in_limit limit 0 ≡ true
@@ -187,7 +189,7 @@ module _ {K : Type 0} (eq : K → K → Bool) (laws : IsEquivalence eq) where
         (λ f. stays less used (r ∷ more) refl refl (times_of-other eq x r.0 (keys_of more) f) (rw f refl))
 
   -- what comes soon enough does under a greater limit
-  recent_grows : (less more : Option ℕ) → IsLimitBelow less more → (r : K × ℕ) (rs : List (K × ℕ))
+  pub recent_grows : (less more : Option ℕ) → IsLimitBelow less more → (r : K × ℕ) (rs : List (K × ℕ))
       → is_recent eq less r rs ≡ true → is_recent eq more r rs ≡ true
   recent_grows less more below r rs recent =
       let (time, found, within) = recent_at eq less r rs recent in rw found (below (r.1 - time) within)
@@ -257,3 +259,8 @@ module _ {K : Type 0} (eq : K → K → Bool) (laws : IsEquivalence eq) where
   pub aged_misses_fall : AgedMissesFall eq
   aged_misses_fall k l idle longer_idle age longer_age rs more idle_below age_below =
       aged_misses_fall_by_hits (hit eq k) (hit eq l) idle longer_idle age longer_age (λ x past h. hit_grows eq more past x h) idle_below age_below rs
+
+  pub aged_misses_by_size_fall : AgedMissesBySizeFall eq
+  aged_misses_by_size_fall weight c d idle longer_idle age longer_age rs more idle_below age_below =
+      aged_misses_fall_by_hits (hit_by_size eq weight c) (hit_by_size eq weight d) idle longer_idle age longer_age
+      (λ x past h. hit_by_size_grows eq weight more past x h) idle_below age_below rs

@@ -6,8 +6,8 @@ pub mod Bypass
 pub mod BypassRows
 pub mod Cases
 pub mod ChangingWeights
-pub mod Cuts
 pub mod Counting
+pub mod Cuts
 pub mod Distances
 pub mod Distinct
 pub mod DistinctByPosition
@@ -23,6 +23,7 @@ pub mod GetRuns
 pub mod Growing
 pub mod GrowingRuns
 pub mod Hits
+pub mod IdleMarks
 pub mod Inclusion
 pub mod KeyedRuns
 pub mod Least

@@ -1,11 +1,13 @@
 -- Requests with times, where entries expire: which of them hit. A request is a pair of a key and a time, in any unit. Public
 -- clauses cite them.
-use Rattle.std.specs.Prelude.{◌≡◌, ℕ, ◌-◌, ◌≤◌, Bool, true, false, if◌then◌else◌, not, ◌&&◌, nat_le, Option, None, List, [], ◌∷◌}
+use Rattle.std.specs.Prelude.{◌≡◌, ℕ, ◌-◌, ◌≤◌, Bool, true, false, if◌then◌else◌, not, ◌&&◌, nat_le, Option, None, List, [], ◌∷◌, map}
 use Rattle.std.specs.List.{count_by}
 use Rattle.std.specs.Map.{keys_of, lookup}
 use Rattle.std.specs.Option.{option_map_or}
+use Rattle.clru_model.specs.Distances.{distance, is_below}
 use Rattle.clru_model.specs.Requests.{hit, marks}
-use Rattle.clru_model.specs.Sizes.{hit_by_size, marks_by_size}
+use Rattle.clru_model.specs.Sizes.{span, hit_by_size, marks_by_size}
+use Rattle.clru_model.specs.Spans.{is_within}
 
 -- a time span is at most the limit, if there is one
 abbrev pub is_in_limit : Option ℕ → ℕ → Bool
@@ -41,8 +43,44 @@ module _ {K : Type 0} (eq : K → K → Bool) where
     abbrev pub aged_misses : List (K × ℕ) → ℕ
     aged_misses rs = count_by not (aged_marks rs)
 
+  -- for each request in order how far back the latest one of its key is, by this measure, unless that came too long before
+  module _ (measure : K → List K → Option ℕ) (idle : Option ℕ) where
+    abbrev pub reuses_after : (past rs : List (K × ℕ)) → List (Option ℕ)
+    reuses_after past [] = []
+    reuses_after past (r ∷ rs) = (if is_recent idle r past then measure r.0 (keys_of past) else None) ∷ reuses_after (r ∷ past) rs
+
+    abbrev pub reuses_within : List (K × ℕ) → List (Option ℕ)
+    reuses_within rs = reuses_after [] rs
+
+  -- without limits the marks are those of the keys
+  abbrev pub UnlimitedMarksAreMarks : Type 0
+  UnlimitedMarksAreMarks = (k : ℕ) (requests : List (K × ℕ))
+      → aged_marks (hit eq k) None None requests ≡ marks eq k (keys_of requests)
+
+  -- and so by size
+  abbrev pub UnlimitedMarksAreMarksBySize : Type 0
+  UnlimitedMarksAreMarksBySize = (weight : K → ℕ) (c : ℕ) (requests : List (K × ℕ))
+      → aged_marks (hit_by_size eq weight c) None None requests ≡ marks_by_size eq weight c (keys_of requests)
+
+  -- with an idle limit alone, a request that comes too late is as a first one, and the others have their distances
+  abbrev pub IdleMarksAreBelow : Type 0
+  IdleMarksAreBelow = (k : ℕ) (idle : Option ℕ) (requests : List (K × ℕ))
+      → aged_marks (hit eq k) idle None requests ≡ map (is_below k) (reuses_within (distance eq) idle requests)
+
+  -- or spans
+  abbrev pub IdleMarksAreWithin : Type 0
+  IdleMarksAreWithin = (weight : K → ℕ) (c : ℕ) (idle : Option ℕ) (requests : List (K × ℕ))
+      → aged_marks (hit_by_size eq weight c) idle None requests ≡ map (is_within c) (reuses_within (span eq weight) idle requests)
+
   -- greater limits and a greater capacity have no more misses
   abbrev pub AgedMissesFall : Type 0
   AgedMissesFall = (k l : ℕ) (idle longer_idle age longer_age : Option ℕ) (requests : List (K × ℕ)) → k ≤ l
       → IsLimitBelow idle longer_idle → IsLimitBelow age longer_age
       → aged_misses (hit eq l) longer_idle longer_age requests ≤ aged_misses (hit eq k) idle age requests
+
+  -- and so do a greater size and greater limits
+  abbrev pub AgedMissesBySizeFall : Type 0
+  AgedMissesBySizeFall = (weight : K → ℕ) (c d : ℕ) (idle longer_idle age longer_age : Option ℕ) (requests : List (K × ℕ)) → c ≤ d
+      → IsLimitBelow idle longer_idle → IsLimitBelow age longer_age
+      → aged_misses (hit_by_size eq weight d) longer_idle longer_age requests
+      ≤ aged_misses (hit_by_size eq weight c) idle age requests
