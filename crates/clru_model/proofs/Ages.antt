@@ -14,6 +14,7 @@ use Rattle.clru_model.specs.Sizes.{hit_by_size}
 use Rattle.clru_model.proofs.Cases.{split}
 use Rattle.clru_model.proofs.Distinct.{same_right}
 use Rattle.clru_model.proofs.Growing.{hit_grows}
+use Rattle.clru_model.proofs.Lookups.{lookup-same}
 use Rattle.clru_model.proofs.Marks.{count_by-not-cons}
 use Rattle.clru_model.proofs.Spans.{hit_by_size_grows}
 
@@ -48,6 +49,12 @@ module _ {K : Type 0} (eq : K → K → Bool) where
   recent_at limit r (q ∷ rs) h = split (eq r.0 q.0)
       (λ t. (q.1, rw t refl, rw t at h))
       (λ f. let (time, found, within) = recent_at limit r rs (rw f at h) in (time, rw f found, within))
+
+  -- what comes soon enough does under a greater limit
+  pub recent_grows : (less more : Option ℕ) → IsLimitBelow less more → (r : K × ℕ) (rs : List (K × ℕ))
+      → is_recent eq less r rs ≡ true → is_recent eq more r rs ≡ true
+  recent_grows less more below r rs recent =
+      let (time, found, within) = recent_at less r rs recent in rw found (below (r.1 - time) within)
 
   module _ (hits : K → List K → Bool) (idle age : Option ℕ) (r : K × ℕ) (past fetches : List (K × ℕ)) where
     -- what a hit is
@@ -92,11 +99,6 @@ module _ {K : Type 0} (eq : K → K → Bool) (laws : IsEquivalence eq) where
       let ih = length_from_times ks rest (λ z. omega (arith, times_of-cons eq z k ks, counts z, fewer z)) in
       omega (arith, ih, shorter)
 
-  -- keys that are the same have the same latest request
-  pub lookup_same : {V : Type 0} (x y : K) (es : List (K × V)) → eq x y ≡ true → lookup (eq x) es ≡ lookup (eq y) es
-  lookup_same x y [] same = refl
-  lookup_same x y (e ∷ es) same = rw (laws.congr x y e.0 same, lookup_same x y es same) refl
-
   -- how two caches stand at a key x: the requests that they missed, the latest first, and the requests by which the first one
   -- takes the age of x. The second one has fetched x no more often, and if as often, then no earlier than that request; and
   -- that request came within the second one's limit after its fetch, or earlier
@@ -119,7 +121,7 @@ module _ {K : Type 0} (eq : K → K → Bool) (laws : IsEquivalence eq) where
       → (time : ℕ) → lookup (eq x) next ≡ Some time → time ≤ r.1
   moved_time r used next x moves same time found = elim moves [
     | inl again ↦ let now : Some r.1 ≡ Some time = rw (again, same) at found in omega (arith, same_Some r.1 time now)
-    | inr stays ↦ stays.1 time (sym (lookup_same x r.0 used same) ∙ rw stays.0 at found)
+    | inr stays ↦ stays.1 time (lookup-same laws x r.0 same used ∙ rw stays.0 at found)
   ]
 
   module _ (limit : Option ℕ) (r : K × ℕ) (x : K) (less used more : List (K × ℕ)) (ahead : IsAhead limit less used more x) where
@@ -155,7 +157,7 @@ module _ {K : Type 0} (eq : K → K → Bool) (laws : IsEquivalence eq) where
             | inl again ↦ let now : Some r.1 ≡ Some time = rw (again, t) at found in
                 let (fetched, at_fetched, within) = recent_at eq limit r more recent in (
                   fetched,
-                  lookup_same x r.0 more t ∙ at_fetched,
+                  sym (lookup-same laws x r.0 t more) ∙ at_fetched,
                   λ as_often. absurd (omega (arith, as_often, ahead.fewer, one)),
                   rw (sym (same_Some r.1 time now)) within,
                 )
@@ -168,9 +170,9 @@ module _ {K : Type 0} (eq : K → K → Bool) (laws : IsEquivalence eq) where
     second_misses : is_recent eq limit r used ≡ true → is_recent eq limit r more ≡ false → IsAhead limit less used (r ∷ more) x
     second_misses recent old = split (eq x r.0)
         (λ t. let (u, at_u, within_u) = recent_at eq limit r used recent in
-        let at_x : lookup (eq x) used ≡ Some u = lookup_same x r.0 used t ∙ at_u in
+        let at_x : lookup (eq x) used ≡ Some u = sym (lookup-same laws x r.0 t used) ∙ at_u in
         let (fetched, at_fetched, first, within) = ahead.near u at_x in
-        let there : lookup (eq r.0) more ≡ Some fetched = sym (lookup_same x r.0 more t) ∙ at_fetched in
+        let there : lookup (eq r.0) more ≡ Some fetched = lookup-same laws x r.0 t more ∙ at_fetched in
         let past : is_in_limit limit (r.1 - fetched) ≡ false = rw there at old in
         let older = in_limit-apart limit (r.1 - u) (r.1 - fetched) within_u past in
         let later = in_limit-apart limit (u - fetched) (r.1 - fetched) within past in
@@ -187,12 +189,6 @@ module _ {K : Type 0} (eq : K → K → Bool) (laws : IsEquivalence eq) where
               (r.1, rw t refl, λ _. before, no_later time before);
         })
         (λ f. stays less used (r ∷ more) refl refl (times_of-other eq x r.0 (keys_of more) f) (rw f refl))
-
-  -- what comes soon enough does under a greater limit
-  pub recent_grows : (less more : Option ℕ) → IsLimitBelow less more → (r : K × ℕ) (rs : List (K × ℕ))
-      → is_recent eq less r rs ≡ true → is_recent eq more r rs ≡ true
-  recent_grows less more below r rs recent =
-      let (time, found, within) = recent_at eq less r rs recent in rw found (below (r.1 - time) within)
 
   -- at the end, who is ahead at each key has missed no more
   ahead_is_shorter : (limit : Option ℕ) (less used more : List (K × ℕ)) → ((x : K) → IsAhead limit less used more x)
@@ -212,7 +208,7 @@ module _ {K : Type 0} (eq : K → K → Bool) (laws : IsEquivalence eq) where
         split (is_recent eq age_more r more)
         (λ u. cc (
           aged_hit_from eq hits_more idle_more age_more r past more (grows r.0 (keys_of past) hit)
-              (recent_grows idle idle_more idle_below r past idle_hit) u,
+              (recent_grows eq idle idle_more idle_below r past idle_hit) u,
           n,
         ))
         (λ v. v)
@@ -226,7 +222,7 @@ module _ {K : Type 0} (eq : K → K → Bool) (laws : IsEquivalence eq) where
         split (aged_hit eq hits_more idle_more age_more r past more)
         (λ u. omega (arith, falls_after (r ∷ past) less more rs ahead, first, misses-hit eq hits_more idle_more age_more r past more rs u))
         (λ n. let (hit, soon, young) = aged_hit_parts eq hits idle age r past less t in
-        let recent = recent_grows age age_more age_below r less young in
+        let recent = recent_grows eq age age_more age_below r less young in
         let old = second_is_old past less more r t n in
         omega (
           arith,

@@ -15,25 +15,26 @@ use Rattle.clru_model.proofs.Distances.{hits_below, marks_below}
 use Rattle.clru_model.proofs.Distinct.{holds_same}
 use Rattle.clru_model.proofs.Spans.{hits_within, marks_within}
 
-module _ {K : Type 0} (eq : K → K → Bool) (laws : IsEquivalence eq) where
-  -- each key that was requested was fetched
-  abbrev AreFetched : (past fetches : List (K × ℕ)) → Type 0
-  AreFetched past fetches = (x : K) → holds eq x (keys_of past) ≡ true → holds eq x (keys_of fetches) ≡ true
-
+module _ {K : Type 0} (eq : K → K → Bool) where
   -- without a limit a request is soon enough where its key came before
-  recent_unlimited : (r : K × ℕ) (rs : List (K × ℕ)) → is_recent eq None r rs ≡ holds eq r.0 (keys_of rs)
+  pub recent_unlimited : (r : K × ℕ) (rs : List (K × ℕ)) → is_recent eq None r rs ≡ holds eq r.0 (keys_of rs)
   recent_unlimited r [] = refl
   recent_unlimited r (q ∷ rs) = split (eq r.0 q.0) (λ t. rw t refl) (λ f. rw f (recent_unlimited r rs))
 
   recent_holds : (limit : Option ℕ) (r : K × ℕ) (rs : List (K × ℕ)) → is_recent eq limit r rs ≡ true → holds eq r.0 (keys_of rs) ≡ true
-  recent_holds limit r rs recent = sym (recent_unlimited r rs) ∙ recent_grows eq laws limit None (λ n within. refl) r rs recent
+  recent_holds limit r rs recent = sym (recent_unlimited r rs) ∙ recent_grows eq limit None (λ n within. refl) r rs recent
+
+module _ {K : Type 0} (eq : K → K → Bool) (laws : IsEquivalence eq) where
+  -- each key that was requested was fetched
+  abbrev AreFetched : (past fetches : List (K × ℕ)) → Type 0
+  AreFetched past fetches = (x : K) → holds eq x (keys_of past) ≡ true → holds eq x (keys_of fetches) ≡ true
 
   module _ (hits : K → List K → Bool) (idle : Option ℕ) where
     -- with an idle limit alone
     idle_hit : (r : K × ℕ) (past fetches : List (K × ℕ)) → AreFetched past fetches
         → aged_hit eq hits idle None r past fetches ≡ (hits r.0 (keys_of past) && is_recent eq idle r past)
     idle_hit r past fetches all = split (is_recent eq idle r past)
-        (λ t. let young : is_recent eq None r fetches ≡ true = recent_unlimited r fetches ∙ all r.0 (recent_holds idle r past t) in
+        (λ t. let young : is_recent eq None r fetches ≡ true = recent_unlimited eq r fetches ∙ all r.0 (recent_holds eq idle r past t) in
         rw (t, young) (split (hits r.0 (keys_of past)) (λ u. rw u refl) (λ v. rw v refl)))
         (λ f. rw f (split (hits r.0 (keys_of past)) (λ u. rw u refl) (λ v. rw v refl)))
 
@@ -48,7 +49,7 @@ module _ {K : Type 0} (eq : K → K → Bool) (laws : IsEquivalence eq) where
           (λ t. rw t (split (test (measure r.0 (keys_of past))) (λ u. rw u refl) (λ v. rw v refl)))
           (λ f. rw (f, none) (split (test (measure r.0 (keys_of past))) (λ u. rw u refl) (λ v. rw v refl)))) in
           split (aged_hit eq hits idle None r past fetches)
-          (λ t. let held = (let (hit, soon, young) = aged_hit_parts eq hits idle None r past fetches t in recent_holds None r fetches young) in
+          (λ t. let held = (let (hit, soon, young) = aged_hit_parts eq hits idle None r past fetches t in recent_holds eq None r fetches young) in
           let rest = idle_marks_after (r ∷ past) fetches rs
           (λ x h. split (eq x r.0) (λ u. holds_same eq laws x r.0 (keys_of fetches) u ∙ held) (λ v. all x (rw v at h))) in
           rw (t, sym here ∙ t) (ap (λ ms. true ∷ ms) rest))
@@ -67,7 +68,7 @@ module _ {K : Type 0} (eq : K → K → Bool) (laws : IsEquivalence eq) where
   module _ (measure : K → List K → Option ℕ) (came : (x : K) (past : List K) → holds eq x past ≡ false → measure x past ≡ None) where
     reuse_unlimited : (r : K × ℕ) (past : List (K × ℕ))
         → cond (is_recent eq None r past) (measure r.0 (keys_of past)) None ≡ measure r.0 (keys_of past)
-    reuse_unlimited r past = rw (recent_unlimited r past) (split (holds eq r.0 (keys_of past))
+    reuse_unlimited r past = rw (recent_unlimited eq r past) (split (holds eq r.0 (keys_of past))
         (λ t. rw t refl)
         (λ f. rw f (sym (came r.0 (keys_of past) f))))
 
