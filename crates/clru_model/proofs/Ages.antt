@@ -33,13 +33,13 @@ module _ {K : Type 0} (eq : K → K → Bool) where
   abbrev pub times_of : K → List K → ℕ
   times_of x ks = count_by (eq x) ks
 
-  times_of-cons : (x y : K) (ks : List K) → times_of x (y ∷ ks) ≡ cond (eq x y) 1 0 + times_of x ks
+  pub times_of-cons : (x y : K) (ks : List K) → times_of x (y ∷ ks) ≡ cond (eq x y) 1 0 + times_of x ks
   times_of-cons x y ks = sum_by-cons (λ k. cond (eq x k) 1 0) y ks
 
-  times_of-same : (x y : K) (ks : List K) → eq x y ≡ true → times_of x (y ∷ ks) ≡ suc (times_of x ks)
+  pub times_of-same : (x y : K) (ks : List K) → eq x y ≡ true → times_of x (y ∷ ks) ≡ suc (times_of x ks)
   times_of-same x y ks t = times_of-cons x y ks ∙ rw t (omega arith)
 
-  times_of-other : (x y : K) (ks : List K) → eq x y ≡ false → times_of x (y ∷ ks) ≡ times_of x ks
+  pub times_of-other : (x y : K) (ks : List K) → eq x y ≡ false → times_of x (y ∷ ks) ≡ times_of x ks
   times_of-other x y ks f = times_of-cons x y ks ∙ rw f (omega arith)
 
   -- a request that comes soon enough has one before it
@@ -102,13 +102,13 @@ module _ {K : Type 0} (eq : K → K → Bool) (laws : IsEquivalence eq) where
   -- how two caches stand at a key x: the requests that they missed, the latest first, and the requests by which the first one
   -- takes the age of x. The second one has fetched x no more often, and if as often, then no earlier than that request; and
   -- that request came within the second one's limit after its fetch, or earlier
-  record IsAhead (limit : Option ℕ) (less used more : List (K × ℕ)) (x : K) : Type 0 where
-    fewer : times_of eq x (keys_of more) ≤ times_of eq x (keys_of less)
-    near : (time : ℕ) → lookup (eq x) used ≡ Some time → (fetched : ℕ) × (lookup (eq x) more ≡ Some fetched)
+  pub record IsAhead (limit : Option ℕ) (less used more : List (K × ℕ)) (x : K) : Type 0 where
+    pub fewer : times_of eq x (keys_of more) ≤ times_of eq x (keys_of less)
+    pub near : (time : ℕ) → lookup (eq x) used ≡ Some time → (fetched : ℕ) × (lookup (eq x) more ≡ Some fetched)
         × (times_of eq x (keys_of more) ≡ times_of eq x (keys_of less) → time ≤ fetched) × (is_in_limit limit (time - fetched) ≡ true)
 
   -- at a request r the age starts again, or stays where its time is no later
-  abbrev Moves : K × ℕ → (used next : List (K × ℕ)) → Type 0
+  abbrev pub Moves : K × ℕ → (used next : List (K × ℕ)) → Type 0
   Moves r used next = (next ≡ r ∷ used) ⊎ ((next ≡ used) × ((time : ℕ) → lookup (eq r.0) used ≡ Some time → time ≤ r.1))
 
   moved_apart : (r : K × ℕ) (used next : List (K × ℕ)) (x : K) → Moves r used next → eq x r.0 ≡ false → lookup (eq x) next ≡ lookup (eq x) used
@@ -139,7 +139,7 @@ module _ {K : Type 0} (eq : K → K → Bool) (laws : IsEquivalence eq) where
           (fetched, f ∙ at_fetched, λ as_often. first (sym m ∙ as_often ∙ l), within);
     }
 
-    both_miss : (used' : List (K × ℕ)) → Moves r used used' → IsAhead limit (r ∷ less) used' (r ∷ more) x
+    pub both_miss : (used' : List (K × ℕ)) → Moves r used used' → IsAhead limit (r ∷ less) used' (r ∷ more) x
     both_miss used' moves = split (eq x r.0)
         (λ t. record {
           fewer = omega (arith, ahead.fewer, times_of-same eq x r.0 (keys_of less) t, times_of-same eq x r.0 (keys_of more) t);
@@ -149,7 +149,7 @@ module _ {K : Type 0} (eq : K → K → Bool) (laws : IsEquivalence eq) where
         (λ f. stays (r ∷ less) used' (r ∷ more) (times_of-other eq x r.0 (keys_of less) f) (moved_apart r used used' x moves f)
         (times_of-other eq x r.0 (keys_of more) f) (rw f refl))
 
-    first_misses : (used' : List (K × ℕ)) → Moves r used used' → is_recent eq limit r more ≡ true → IsAhead limit (r ∷ less) used' more x
+    pub first_misses : (used' : List (K × ℕ)) → Moves r used used' → is_recent eq limit r more ≡ true → IsAhead limit (r ∷ less) used' more x
     first_misses used' moves recent = split (eq x r.0)
         (λ t. let one = times_of-same eq x r.0 (keys_of less) t in record {
           fewer = omega (arith, ahead.fewer, one);
@@ -167,7 +167,7 @@ module _ {K : Type 0} (eq : K → K → Bool) (laws : IsEquivalence eq) where
         })
         (λ f. stays (r ∷ less) used' more (times_of-other eq x r.0 (keys_of less) f) (moved_apart r used used' x moves f) refl refl)
 
-    second_misses : is_recent eq limit r used ≡ true → is_recent eq limit r more ≡ false → IsAhead limit less used (r ∷ more) x
+    pub second_misses : is_recent eq limit r used ≡ true → is_recent eq limit r more ≡ false → IsAhead limit less used (r ∷ more) x
     second_misses recent old = split (eq x r.0)
         (λ t. let (u, at_u, within_u) = recent_at eq limit r used recent in
         let at_x : lookup (eq x) used ≡ Some u = sym (lookup-same laws x r.0 t used) ∙ at_u in
@@ -191,7 +191,7 @@ module _ {K : Type 0} (eq : K → K → Bool) (laws : IsEquivalence eq) where
         (λ f. stays less used (r ∷ more) refl refl (times_of-other eq x r.0 (keys_of more) f) (rw f refl))
 
   -- at the end, who is ahead at each key has missed no more
-  ahead_is_shorter : (limit : Option ℕ) (less used more : List (K × ℕ)) → ((x : K) → IsAhead limit less used more x)
+  pub ahead_is_shorter : (limit : Option ℕ) (less used more : List (K × ℕ)) → ((x : K) → IsAhead limit less used more x)
       → length more ≤ length less
   ahead_is_shorter limit less used more ahead =
       let keys = length_from_times (keys_of more) (keys_of less) (λ x. (ahead x).fewer) in

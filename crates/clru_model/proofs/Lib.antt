@@ -48,6 +48,7 @@ pub mod Spans
 pub mod SpansByPosition
 pub mod Sublists
 pub mod Summing
+pub mod Versions
 pub mod Views
 pub mod Wanted
 pub mod Weights

@@ -1,12 +1,12 @@
 -- Requests with times, where entries expire: which of them hit. A request is a pair of a key and a time, in any unit. Public
 -- clauses cite them.
-use Rattle.std.specs.Prelude.{◌≡◌, ℕ, ◌-◌, ◌≤◌, Bool, true, false, if◌then◌else◌, not, ◌&&◌, nat_le, Option, None, List, [], ◌∷◌, map}
+use Rattle.std.specs.Prelude.{◌≡◌, ℕ, ◌-◌, ◌≤◌, Bool, true, false, if◌then◌else◌, not, ◌&&◌, ⊤, nat_le, nat_eq, Option, None, List, [], ◌∷◌, map}
 use Rattle.std.specs.List.{count_by}
 use Rattle.std.specs.Map.{keys_of, lookup}
 use Rattle.std.specs.Option.{option_map_or}
 use Rattle.clru_model.specs.Distances.{distance, is_below}
 use Rattle.clru_model.specs.Entries.{touch}
-use Rattle.clru_model.specs.Requests.{hit, marks}
+use Rattle.clru_model.specs.Requests.{hit, marks, misses}
 use Rattle.clru_model.specs.Runs.{IsRunOf, IsPut}
 use Rattle.clru_model.specs.Sizes.{span, hit_by_size, marks_by_size}
 use Rattle.clru_model.specs.Spans.{is_within}
@@ -18,6 +18,11 @@ is_in_limit limit n = option_map_or (λ most. nat_le n most) limit true
 -- what is within the first limit is within the second
 abbrev pub IsLimitBelow : Option ℕ → Option ℕ → Type 0
 IsLimitBelow less more = (n : ℕ) → is_in_limit less n ≡ true → is_in_limit more n ≡ true
+
+-- the times of requests never fall, and none is before the given one
+abbrev pub NeverFall : {K : Type 0} → ℕ → List (K × ℕ) → Type 0
+NeverFall start [] = ⊤
+NeverFall start (r ∷ rs) = (start ≤ r.1) × NeverFall r.1 rs
 
 module _ {K : Type 0} (eq : K → K → Bool) where
   -- the requests, the latest first, have one of the key of r, and r comes within the limit after the latest such one, or earlier
@@ -54,6 +59,21 @@ module _ {K : Type 0} (eq : K → K → Bool) where
     abbrev pub reuses_within : List (K × ℕ) → List (Option ℕ)
     reuses_within rs = reuses_after [] rs
 
+  -- a recipe for an age limit: each key with its version, the number of its fetches, each where the one before is too old
+  module _ (age : Option ℕ) where
+    abbrev pub versioned_after : (fetches rs : List (K × ℕ)) → List (K × ℕ)
+    versioned_after fetches [] = []
+    versioned_after fetches (r ∷ rs) = if is_recent age r fetches
+        then (r.0, count_by (eq r.0) (keys_of fetches)) ∷ versioned_after fetches rs
+        else (r.0, count_by (eq r.0) (keys_of (r ∷ fetches))) ∷ versioned_after (r ∷ fetches) rs
+
+    abbrev pub versioned : List (K × ℕ) → List (K × ℕ)
+    versioned rs = versioned_after [] rs
+
+  -- keys with a version are the same where both are
+  abbrev pub is_same_version : K × ℕ → K × ℕ → Bool
+  is_same_version p q = eq p.0 q.0 && nat_eq p.1 q.1
+
   -- without limits the marks are those of the keys
   abbrev pub UnlimitedMarksAreMarks : Type 0
   UnlimitedMarksAreMarks = (k : ℕ) (requests : List (K × ℕ))
@@ -86,6 +106,11 @@ module _ {K : Type 0} (eq : K → K → Bool) where
       → IsLimitBelow idle longer_idle → IsLimitBelow age longer_age
       → aged_misses (hit_by_size eq weight d) longer_idle longer_age requests
       ≤ aged_misses (hit_by_size eq weight c) idle age requests
+
+  -- if times never fall, the recipe has no fewer misses
+  abbrev pub VersionsMissMore : Type 0
+  VersionsMissMore = (k : ℕ) (age : Option ℕ) (requests : List (K × ℕ)) → NeverFall 0 requests
+      → aged_misses (hit eq k) None age requests ≤ misses is_same_version k (versioned age requests)
 
 -- where values tell when they were fetched
 module _ {K V : Type 0} (eq : K → K → Bool) (fetched_at : V → ℕ) (age : Option ℕ) where
