@@ -10,7 +10,7 @@ use Rattle.clru_model.proofs.Marks.{count_by-not-cons}
 
 module _ {K : Type 0} (eq : K → K → Bool) {k l : ℕ} (more : k ≤ l) where
   -- what hits still does
-  hit_grows : (past : List K) (x : K) → hit eq k x past ≡ true → hit eq l x past ≡ true
+  pub hit_grows : (past : List K) (x : K) → hit eq k x past ≡ true → hit eq l x past ≡ true
   hit_grows past x h =
       let n : ℕ = distinct eq (since eq x past) in
       let parts = and_parts (holds eq x past) (ltb n k) h in

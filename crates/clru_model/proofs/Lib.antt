@@ -1,3 +1,5 @@
+pub mod AgedRuns
+pub mod Ages
 pub mod Bound
 pub mod Bounds
 pub mod ByPosition
@@ -5,8 +7,8 @@ pub mod Bypass
 pub mod BypassRows
 pub mod Cases
 pub mod ChangingWeights
-pub mod Cuts
 pub mod Counting
+pub mod Cuts
 pub mod Distances
 pub mod Distinct
 pub mod DistinctByPosition
@@ -23,6 +25,7 @@ pub mod GetRuns
 pub mod Growing
 pub mod GrowingRuns
 pub mod Hits
+pub mod IdleMarks
 pub mod Inclusion
 pub mod KeyedRuns
 pub mod Least
@@ -46,6 +49,7 @@ pub mod Spans
 pub mod SpansByPosition
 pub mod Sublists
 pub mod Summing
+pub mod Versions
 pub mod Views
 pub mod Wanted
 pub mod Weights

@@ -15,7 +15,7 @@ use Rattle.clru_model.proofs.Finding.{with_front-touch, with_front-set_value}
 
 module _ {K V : Type 0} (eq : K → K → Bool) where
   -- a key is held or not
-  by_entry : {G : Type 0} (x : K) (es : List (K × V)) → (IsHeld (eq x) es → G) → (IsMissed (eq x) es → G) → G
+  pub by_entry : {G : Type 0} (x : K) (es : List (K × V)) → (IsHeld (eq x) es → G) → (IsMissed (eq x) es → G) → G
   by_entry {G} x es held missed = (elim (lookup_entry (eq x) es) as (λ o. lookup_entry (eq x) es ≡ o → G) [
     | None ↦ λ h. missed (missed_at (eq x) (sym h))
     | Some e ↦ λ h. held (held_at (eq x) (sym h))

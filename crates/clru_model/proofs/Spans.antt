@@ -37,7 +37,7 @@ module _ {K : Type 0} (eq : K → K → Bool) (weight : K → ℕ) where
 
   module _ {c d : ℕ} (more : c ≤ d) where
     -- what hits still does at a greater size
-    hit_by_size_grows : (past : List K) (x : K) → hit_by_size eq weight c x past ≡ true → hit_by_size eq weight d x past ≡ true
+    pub hit_by_size_grows : (past : List K) (x : K) → hit_by_size eq weight c x past ≡ true → hit_by_size eq weight d x past ≡ true
     hit_by_size_grows past x h =
         let n : ℕ = 1 + weight x + total eq weight (since eq x past) in
         let parts = and_parts (holds eq x past) (leb n c) h in

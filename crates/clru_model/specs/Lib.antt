@@ -1,3 +1,4 @@
+pub mod Ages
 pub mod Bounds
 pub mod ByPosition
 pub mod Bypass

@@ -43,18 +43,19 @@ module _ {K V : Type 0} (weight : K → V → ℕ) (c : ℕ) where
   AreTaken [] = ⊤
   AreTaken (call ∷ calls) = IsTaken call × AreTaken calls
 
-module _ {K V : Type 0} (step : K → List (K × V) → List (K × V) → Type 0) where
-  -- the first of the later lists is one that a step at x leaves
-  abbrev pub StepsTo : List (K × V) → K → List (List (K × V)) → Type 0
-  StepsTo es x [] = ⊥
-  StepsTo es x (next ∷ later) = step x es next
+module _ {R K V : Type 0} (step : R → List (K × V) → List (K × V) → Type 0) where
+  -- the first of the later lists is one that a step at the request r leaves
+  abbrev pub StepsTo : List (K × V) → R → List (List (K × V)) → Type 0
+  StepsTo es r [] = ⊥
+  StepsTo es r (next ∷ later) = step r es next
 
   -- the entries before each request and at the end, where each request in turn is a step
-  abbrev pub IsRunOf : List (List (K × V)) → List K → Type 0
+  abbrev pub IsRunOf : List (List (K × V)) → List R → Type 0
   IsRunOf [] requests = ⊥
   IsRunOf (es ∷ later) [] = later ≡ []
-  IsRunOf (es ∷ later) (x ∷ requests) = StepsTo es x later × IsRunOf later requests
+  IsRunOf (es ∷ later) (r ∷ requests) = StepsTo es r later × IsRunOf later requests
 
+module _ {K V : Type 0} (step : K → List (K × V) → List (K × V) → Type 0) where
   -- a step as caches are used: a look-up of x, and, where x is not held, this step
   pub record IsGetOr (eq : K → K → Bool) (x : K) (es next : List (K × V)) : Type 0 where
     pub held : holds eq x (keys_of es) ≡ true → next ≡ touch eq x es

@@ -1,4 +1,6 @@
 //! Laws of the definitions that the contracts cite. They do nothing at run time.
+ghost use Rattle.clru_model.specs.Ages.{UnlimitedMarksAreMarks, UnlimitedMarksAreMarksBySize, IdleMarksAreBelow, IdleMarksAreWithin};
+ghost use Rattle.clru_model.specs.Ages.{AgedMissesFall, AgedMissesBySizeFall, VersionsMissMore, AgedStepsHit};
 ghost use Rattle.clru_model.specs.Distances.{HitsAreBelow, MarksAreBelow, RoomForAllMissesFirst};
 ghost use Rattle.clru_model.specs.Laws.{TrueMarksAreHits, OneMarkForEach, MissesAreFalseMarks, DistinctCountsFirst};
 ghost use Rattle.clru_model.specs.Laws.{SchedulesAreByPosition, FalseMarksAreMisses, ScheduleMissesAreByPosition};
@@ -193,4 +195,25 @@ pub fn law_bounds<K: Eq>()
     ensures size_at_most_all { NoMoreSizeMisses K.eq }
     ensures above_keys { SizesMissMore K.eq }
     ensures below_keys { RoomForGreatestMissesLess K.eq }
+{}
+
+/// Does nothing at run time. Its contract says which requests hit if entries expire: those that hit without expiry, whose key was
+/// requested within the idle limit and fetched, by a request that missed, within the age limit.
+///
+/// Without limits these are the hits of `replay`. With an idle limit alone, requests that come too late are as first ones, and one
+/// list of distances has the marks at every capacity. Misses fall with both limits and with the capacity. If times never fall, keys
+/// with a version that changes when their fetch is too old miss no less.
+///
+/// A cache of weight zero, empty at first, whose values tell when they were fetched, holds a value within the age limit before
+/// each request exactly where the request hits. At each request it looks such a value up, or else puts one that was fetched at that
+/// time, and no other call changes it.
+pub fn law_ages<K: Eq, V>()
+    ensures unlimited { UnlimitedMarksAreMarks K.eq }
+    ensures unlimited_by_size { UnlimitedMarksAreMarksBySize K.eq }
+    ensures idle { IdleMarksAreBelow K.eq }
+    ensures idle_by_size { IdleMarksAreWithin K.eq }
+    ensures falls { AgedMissesFall K.eq }
+    ensures falls_by_size { AgedMissesBySizeFall K.eq }
+    ensures versions { VersionsMissMore K.eq }
+    ensures steps { AgedStepsHit K.eq V }
 {}
