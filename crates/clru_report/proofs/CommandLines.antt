@@ -10,7 +10,8 @@ use Rattle.std.proofs.lemmas.List.Sums.{fails_before_first}
 use Rattle.std.proofs.lemmas.Str.Pattern.{IsSplitOnceResult, split_once_first}
 use Rattle.std.specs.List.{after_first, before_first, position_or_len, slice_split}
 use Rattle.std.specs.Option.{option_and_then}
-use Rattle.clru_report.specs.CommandLine.{number_in, numbers_and}
+use Rattle.clru_report.specs.CommandLine.{Asked, Reading, go_on, number_in, numbers_and, read_word, read_words}
+use Rattle.clru_report.specs.declared.arguments.Value.{Value}
 
 abbrev is_comma : ℕ → Bool
 is_comma b = b == 44
@@ -78,3 +79,17 @@ one_more f p xs now i v d within so is =
 pub all_done : (p : ℕ → ℕ) (xs ys : List ℕ) (i : ℕ) → length xs ≤ i → ys ≡ map p (take i xs) ++ drop i xs → ys ≡ map p xs
 all_done p xs ys i past so =
     so ∙ ap (λ l. map p l ++ drop i xs) (take_all i xs past) ∙ ap (λ l. map p xs ++ l) (drop_all i xs past) ∙ append-nil (map p xs)
+
+-- the next word is read before those behind it
+pub next_word : {S : Type 0} (text : S → List ℕ) (words : List S) (i : ℕ) (item : S) (word : List ℕ) (next : Option Value)
+    (asked : Asked) (whole after : Reading) → i < length words → item ≡ get_or words i item → word ≡ text item
+    → whole ≡ read_words (drop i (map text words)) next asked → read_word next word asked ≡ after
+    → whole ≡ go_on (read_words (drop (i + 1) (map text words))) after
+next_word text words i item word next asked whole after within is shown so leads =
+    let all = map text words in
+    let first : get_or all i [] ≡ word = get_or-map text words i item [] within ∙ sym (ap text is) ∙ sym shown in
+    let cut : drop i all ≡ get_or all i [] ∷ drop (i + 1) all =
+    rw add-one (drop-cons all i [] (omega (arith, within, length-map words text))) in
+    so ∙ ap (λ l. read_words l next asked) cut
+    ∙ ap (λ w. go_on (read_words (drop (i + 1) all)) (read_word next w asked)) first
+    ∙ ap (go_on (read_words (drop (i + 1) all))) leads
