@@ -1,7 +1,8 @@
 //! What a page calls.
-ghost use Rattle.std.specs.Prelude.{◌≡◌, ◌⊎◌, ◌≤◌, length, take};
+ghost use Rattle.std.specs.Prelude.{◌≡◌, ◌⊎◌, ◌<◌, ◌≤◌, ℕ, List, length, take};
 ghost use Rattle.std.specs.Borrow.{Bor};
-ghost use Rattle.clru_page.specs.Answers.{HasNoReport, IsNote, IsReportOf};
+ghost use Rattle.clru_page.specs.Answers.{HasNoReport, IsTextOf, reading_of};
+ghost use Rattle.clru_report.specs.Arguments.{IsRefusedLine};
 
 use crate::answer::answer;
 use crate::text::tell;
@@ -34,9 +35,17 @@ pub extern "C" fn report(
     text: &mut [u8],
     written: &mut usize,
 ) -> u32
-    ensures answer { result ≡ 0
-        → IsNote (take written.new text.new) ⊎ IsReportOf (Bor LentBlock) log.now (take written.new text.new) }
-    ensures refused { result ≡ 6 → HasNoReport (Bor LentBlock) log.now }
+    // The text is what the arguments ask for, of the log.
+    ensures answer { result ≡ 0 → IsTextOf (Bor LentBlock) (reading_of arguments.now) log.now (take written.new text.new) }
+    // The arguments are refused, or a capacity that they name is.
+    ensures wrong { result ≡ 2 → IsRefusedLine (reading_of arguments.now)
+        ⊎ HasNoReport (Bor LentBlock) 2 (reading_of arguments.now) log.now }
+    // What the arguments ask for is longer than the room.
+    ensures short { result ≡ 5 → (whole : List ℕ)
+        × IsTextOf (Bor LentBlock) (reading_of arguments.now) log.now whole × (length text.new < length whole) }
+    // The log has no report of the kind that the arguments ask for.
+    ensures refused { result ≡ 6 → HasNoReport (Bor LentBlock) 6 (reading_of arguments.now) log.now }
+    ensures codes { result ≤ 6 }
     ensures within { written.new ≤ length text.new }
     ensures length { length text.new ≡ length text.old }
 {
