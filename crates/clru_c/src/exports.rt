@@ -149,7 +149,15 @@ pub extern "C" fn clru_floor_by_size(
     ensures codes { IsFloorCode keys.now sizes.now rooms.now misses.old missed_sizes.old result }
 {
     match seeded(seed_low, seed_high) {
-        None => floor_by_size(alloc, keys, sizes, rooms, misses, missed_sizes, DefaultState),
+        None => floor_by_size(
+            alloc,
+            keys,
+            sizes,
+            rooms,
+            misses,
+            missed_sizes,
+            DefaultState,
+        ),
         Some(state) => floor_by_size(&alloc, keys, sizes, rooms, misses, missed_sizes, state),
     }
 }
