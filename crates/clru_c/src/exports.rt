@@ -148,16 +148,9 @@ pub extern "C" fn clru_floor_by_size(
     ensures left { result ≢ OK → (misses.new ≡ misses.old) × (missed_sizes.new ≡ missed_sizes.old) }
     ensures codes { IsFloorCode keys.now sizes.now rooms.now misses.old missed_sizes.old result }
 {
+    let sums = missed_sizes;
     match seeded(seed_low, seed_high) {
-        None => floor_by_size(
-            alloc,
-            keys,
-            sizes,
-            rooms,
-            misses,
-            missed_sizes,
-            DefaultState,
-        ),
-        Some(state) => floor_by_size(&alloc, keys, sizes, rooms, misses, missed_sizes, state),
+        None => floor_by_size(alloc, keys, sizes, rooms, misses, sums, DefaultState),
+        Some(state) => floor_by_size(&alloc, keys, sizes, rooms, misses, sums, state),
     }
 }
