@@ -127,7 +127,11 @@ fn sized_of<S: BuildHasher + Copy, A: Allocator + Copy>(
 }
 
 /// The keys of a list, with their weights.
-pub(crate) fn heavy_of(world: &'static World, texts: &[&'static str], words: &mut Words) -> Vec<Heavy> {
+pub(crate) fn heavy_of(
+    world: &'static World,
+    texts: &[&'static str],
+    words: &mut Words,
+) -> Vec<Heavy> {
     let mut keys: Vec<Heavy> = Vec::new(world.alloc);
     for text in texts {
         if keys.push((text, weight_of(text, words))).is_err() {

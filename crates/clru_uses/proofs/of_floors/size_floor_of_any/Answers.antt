@@ -9,7 +9,7 @@ returns-clause-none_fewer g c same schedule serves =
     let h = non_zero_usize_get c.args.room in let eq = g.K.PartialEq.eq in
     let w = λ (x : g.row.K.Denot). g.W.WeightScale.weight c.args.scale x tt in
     let is = subst (λ rs. IsFloorOf eq w rs c.in-Ok-floor.bound) (reverse-reverse c.args.keys.now)
-        (c.in-Ok-floor.ensures.floor w (reverse c.args.keys.now) c.in-Ok.ensures.taken) in
+    (c.in-Ok-floor.ensures.floor w (reverse c.args.keys.now) c.in-Ok.ensures.taken) in
     omega (arith, c.misses.ensures, is h, c.law_floor.ensures.misses w h schedule c.args.keys.now same serves)
 
 pub returns-clause-none_less : goal.returns-clause-none_less
@@ -17,5 +17,5 @@ returns-clause-none_less g c same schedule serves =
     let h = non_zero_usize_get c.args.room in let eq = g.K.PartialEq.eq in
     let w = λ (x : g.row.K.Denot). g.W.WeightScale.weight c.args.scale x tt in
     let is = subst (λ rs. IsSizeFloorOf eq w rs c.in-Ok-size_floor.size_bound) (reverse-reverse c.args.keys.now)
-        (c.in-Ok-size_floor.ensures.floor w (reverse c.args.keys.now) c.in-Ok.ensures.taken) in
+    (c.in-Ok-size_floor.ensures.floor w (reverse c.args.keys.now) c.in-Ok.ensures.taken) in
     omega (arith, c.missed_size.ensures, is h, c.law_floor.ensures.missed_size w h schedule c.args.keys.now same serves)
