@@ -162,8 +162,8 @@ fn refuse_each(alloc: Global, block: &[Line], head: Head, hash: Hash, answers: &
     }
 }
 
-/// Calls the lines with the first request for memory refused, with the second, and so on until none is. A call that meets the
-/// refusal is made again, and all others answer as before.
+/// Calls the lines with the first request for memory refused, with the second, and so on until none is. A call that finds
+/// no memory then is made again, and all others answer as before.
 fn each_refused(
     alloc: Global,
     lines: &[Line],
