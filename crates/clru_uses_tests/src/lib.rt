@@ -26,6 +26,8 @@ mod performed;
 #[cfg(test)]
 mod printed;
 #[cfg(test)]
+mod runs;
+#[cfg(test)]
 mod shown;
 #[cfg(test)]
 mod stores;
