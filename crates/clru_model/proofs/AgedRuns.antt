@@ -1,18 +1,18 @@
 -- Caches whose values tell when they were fetched hold, before each request, what the definition of hits with an age says.
-use Rattle.std.proofs.Common.{◌≡◌, ℕ, zero, suc, ◌-◌, ◌≤◌, Bool, true, false, cond, ◌⊎◌, inl, inr, Option, Some, None, List, [], ◌∷◌, length, take, is_some}
+use Rattle.std.proofs.Common.{◌≡◌, ℕ, zero, suc, ◌-◌, ◌≤◌, Bool, true, false, ◌⊎◌, inl, inr, Option, Some, None, List, [], ◌∷◌, length, take, is_some}
 use Rattle.std.proofs.Common.{refl, sym, ap, ◌∙◌, arith}
 use Rattle.std.proofs.lemmas.Bool.{and_parts}
 use Rattle.std.proofs.lemmas.Map.Made.{is_some-lookup}
 use Rattle.std.proofs.lemmas.Option.{same_Some}
 use Rattle.std.specs.Cmp.{IsEquivalence}
-use Rattle.std.specs.Map.{keys_of, lookup, remove_entry}
-use Rattle.clru_model.specs.Ages.{is_in_limit, is_recent, aged_hit, aged_marks_after, is_fresh, IsAgedStep, fresh_before, AgedStepsHit}
+use Rattle.std.specs.Map.{keys_of, lookup}
+use Rattle.clru_model.specs.Ages.{is_recent, aged_hit, aged_marks_after, is_fresh, IsAgedStep, fresh_before, AgedStepsHit}
 use Rattle.clru_model.specs.Entries.{without, touch}
-use Rattle.clru_model.specs.Requests.{holds, distinct, since, hit}
+use Rattle.clru_model.specs.Requests.{holds, hit}
 use Rattle.clru_model.specs.Runs.{IsRunOf, IsPut}
 use Rattle.clru_model.proofs.Cases.{split}
 use Rattle.clru_model.proofs.Distinct.{same_right}
-use Rattle.clru_model.proofs.Finding.{IsHeld, IsMissed, touch-held}
+use Rattle.clru_model.proofs.Finding.{IsHeld, touch-held}
 use Rattle.clru_model.proofs.Hits.{HoldsHits, HoldsHits_none, HoldsHits_held, HoldsHits_put}
 use Rattle.clru_model.proofs.Lookups.{by_entry, lookup-same}
 use Rattle.clru_model.proofs.PutSteps.{length-put}

@@ -1,6 +1,6 @@
 -- The recipe for an age limit, where keys have versions, misses no less.
-use Rattle.std.proofs.Common.{◌≡◌, ℕ, suc, ◌+◌, ◌<◌, ◌≤◌, Bool, true, false, cond, not, ◌⊎◌, inl, inr, Option, Some, None, List, [], ◌∷◌, ◌++◌, length}
-use Rattle.std.proofs.Common.{ltb, ltb-true, lt-ltb, refl, sym, ap, ◌∙◌, arith}
+use Rattle.std.proofs.Common.{◌≡◌, ℕ, ◌+◌, ◌≤◌, Bool, true, false, not, ◌⊎◌, inl, inr, Option, Some, None, List, [], ◌∷◌, length}
+use Rattle.std.proofs.Common.{ltb, ltb-true, lt-ltb, refl, ap, ◌∙◌, arith}
 use Rattle.std.proofs.lemmas.Bool.{and_parts, and_from, eqb-true, or_left, or_right}
 use Rattle.std.proofs.lemmas.Option.{same_Some}
 use Rattle.std.specs.Prelude.{nat_eq}
@@ -77,8 +77,8 @@ module _ {K : Type 0} (eq : K → K → Bool) (laws : IsEquivalence eq) (k : ℕ
   times_grow r fetches next grows x = elim grows [
     | inl stays ↦ rw stays (omega arith)
     | inr one ↦ rw one (split (eq x r.0)
-    (λ t. omega (arith, times_of-same eq x r.0 (keys_of fetches) t))
-    (λ f. omega (arith, times_of-other eq x r.0 (keys_of fetches) f)))
+        (λ t. omega (arith, times_of-same eq x r.0 (keys_of fetches) t))
+        (λ f. omega (arith, times_of-other eq x r.0 (keys_of fetches) f)))
   ]
 
   -- after a request with its version
@@ -94,8 +94,8 @@ module _ {K : Type 0} (eq : K → K → Bool) (laws : IsEquivalence eq) (k : ℕ
     before = λ x time found. elim grows [
       | inl stays ↦ omega (arith, later, recipe.before x time (rw stays at found))
       | inr one ↦ split (eq x r.0)
-      (λ t. let now : Some r.1 ≡ Some time = rw (one, t) at found in omega (arith, same_Some r.1 time now))
-      (λ f. let past : lookup (eq x) fetches ≡ Some time = rw (one, f) at found in omega (arith, later, recipe.before x time past))
+          (λ t. let now : Some r.1 ≡ Some time = rw (one, t) at found in omega (arith, same_Some r.1 time now))
+          (λ f. let past : lookup (eq x) fetches ≡ Some time = rw (one, f) at found in omega (arith, later, recipe.before x time past))
     ];
   }
 
@@ -134,14 +134,23 @@ module _ {K : Type 0} (eq : K → K → Bool) (laws : IsEquivalence eq) (k : ℕ
       (λ f. let came : is_recent eq None r past ≡ true = recent_unlimited eq r past ∙ (and_parts (holds eq r.0 (keys_of past)) _ hits).0 in
       let old : is_recent eq age r more ≡ false = split (is_recent eq age r more)
       (λ young. cc (aged_hit_from eq (hit eq k) None age r past more hits came young, f)) (λ v. v) in
-      omega (arith, after (r ∷ more) (λ x. second_misses eq laws age r x less used more (ahead x) recent old),
-      misses-miss eq (hit eq k) None age r past more rs f))))
+      omega (
+        arith,
+        after (r ∷ more) (λ x. second_misses eq laws age r x less used more (ahead x) recent old),
+        misses-miss eq (hit eq k) None age r past more rs f,
+      ))))
       (λ m. rw (m, count_by-not-cons false ms) (split (aged_hit eq (hit eq k) None age r past more)
       (λ u. let (hits, soon, young) = aged_hit_parts eq (hit eq k) None age r past more u in
-      omega (arith, rest (r ∷ less) more (λ x. first_misses eq laws age r x less used more (ahead x) next moves young),
-      misses-hit eq (hit eq k) None age r past more rs u))
-      (λ f. omega (arith, rest (r ∷ less) (r ∷ more) (λ x. both_miss eq laws age r x less used more (ahead x) next moves),
-      misses-miss eq (hit eq k) None age r past more rs f))))
+      omega (
+        arith,
+        rest (r ∷ less) more (λ x. first_misses eq laws age r x less used more (ahead x) next moves young),
+        misses-hit eq (hit eq k) None age r past more rs u,
+      ))
+      (λ f. omega (
+        arith,
+        rest (r ∷ less) (r ∷ more) (λ x. both_miss eq laws age r x less used more (ahead x) next moves),
+        misses-miss eq (hit eq k) None age r past more rs f,
+      ))))
 
   versions_after : (start : ℕ) (past used versions less more rs : List (K × ℕ)) → NeverFall start rs
       → IsRecipe start past used versions → ((x : K) → IsAhead eq laws age less used more x)
@@ -151,8 +160,12 @@ module _ {K : Type 0} (eq : K → K → Bool) (laws : IsEquivalence eq) (k : ℕ
   versions_after start past used versions less more (r ∷ rs) rises recipe ahead = split (is_recent eq age r used)
       (λ t. rw t (one_request past used versions less more r rs used (times_of eq r.0 (keys_of used)) ahead
       (inr (refl, λ time found. omega (arith, recipe.before r.0 time found, rises.0)))
-      (λ h. (refl, t, rw recipe.keys at (hit_coarser eq laws (is_same_version eq)
-      (λ p q same. (and_parts (eq p.0 q.0) (nat_eq p.1 q.1) same).0) k (r.0, times_of eq r.0 (keys_of used)) versions h)))
+      (λ h. (
+        refl,
+        t,
+        rw recipe.keys at (hit_coarser eq laws (is_same_version eq)
+            (λ p q same. (and_parts (eq p.0 q.0) (nat_eq p.1 q.1) same).0) k (r.0, times_of eq r.0 (keys_of used)) versions h),
+      ))
       (λ less' more' ahead'. versions_after r.1 (r ∷ past) used ((r.0, times_of eq r.0 (keys_of used)) ∷ versions) less' more' rs rises.1
       (recipe_next start past used versions r used recipe rises.0 (inl refl)) ahead')))
       (λ f. rw f (one_request past used versions less more r rs (r ∷ used) (times_of eq r.0 (keys_of (r ∷ used))) ahead (inl refl)
@@ -162,6 +175,9 @@ module _ {K : Type 0} (eq : K → K → Bool) (laws : IsEquivalence eq) (k : ℕ
 
 module _ {K : Type 0} (eq : K → K → Bool) (laws : IsEquivalence eq) where
   pub versions_miss_more : VersionsMissMore eq
-  versions_miss_more k age rs rises = omega (arith, versions_after eq laws k age 0 [] [] [] [] [] rs rises
-      (record { keys = refl; low = λ x n held. cc; before = λ x time found. cc })
-      (λ x. record { fewer = omega arith; near = λ time found. cc }))
+  versions_miss_more k age rs rises = omega (
+    arith,
+    versions_after eq laws k age 0 [] [] [] [] [] rs rises
+        (record { keys = refl; low = λ x n held. cc; before = λ x time found. cc })
+        (λ x. record { fewer = omega arith; near = λ time found. cc }),
+  )

@@ -16,8 +16,8 @@ mod weight;
 pub use error::{PutError, TryPutError};
 pub use hasher::DefaultState;
 pub use laws::{
-    law_ages, law_bounds, law_by_position, law_distances, law_floor, law_greater_capacity, law_inclusion,
-    law_least, law_longest_fit, law_parts, law_requests, law_schedules_by_position, law_size_bound,
-    law_sizes, law_spans_by_position,
+    law_ages, law_bounds, law_by_position, law_distances, law_floor, law_greater_capacity,
+    law_inclusion, law_least, law_longest_fit, law_parts, law_requests, law_schedules_by_position,
+    law_size_bound, law_sizes, law_spans_by_position,
 };
 pub use weight::{WeightScale, ZeroWeightScale};
