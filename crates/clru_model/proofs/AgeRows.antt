@@ -1,10 +1,11 @@
 -- Small lists of requests with times, worked out by hand: the definitions compute to them. The keys a and b are 0 and 1.
-use Rattle.std.proofs.Common.{◌≡◌, ℕ, true, false, Some, None, List, [], ◌∷◌, refl, arith}
+use Rattle.std.proofs.Common.{◌≡◌, ℕ, true, false, Some, None, List, [], ◌∷◌, slice_get, refl, sym, ap, arith}
+use Rattle.std.proofs.lemmas.Option.{same_Some}
 use Rattle.std.specs.Prelude.{nat_eq}
 use Rattle.clru_model.specs.Ages.{NeverFall, aged_marks, aged_misses, reuses_within, versioned, is_same_version, IsAgedStep, fresh_before}
 use Rattle.clru_model.specs.Distances.{distance}
 use Rattle.clru_model.specs.Requests.{hit, marks, misses}
-use Rattle.clru_model.specs.Runs.{IsRunOf}
+use Rattle.clru_model.specs.Runs.{IsRunOf, IsPut}
 use Rattle.clru_model.specs.Sizes.{hit_by_size}
 
 -- a at 0, 4, 10, 11, 21: an age of 10 is still within the limit of 10, one of 11 is not, and the age starts again with a fetch
@@ -68,18 +69,33 @@ misses_of_versions_of_falls_back = refl
 turns_never_fall : NeverFall 0 turns
 turns_never_fall = search arith
 
+first_value : {p e : ℕ × ℕ} {es rest : List (ℕ × ℕ)} → p ∷ es ≡ e ∷ rest → e.1 ≡ p.1
+first_value {p} {e} is = ap (λ (q : ℕ × ℕ). q.1) (sym (same_Some p e (ap (λ l. slice_get l 0) is)))
+
 -- the turns at capacity 1, where a value is the time of its fetch
 abbrev turns_run : List (List (ℕ × ℕ))
 turns_run = [] ∷ ((0, 0) ∷ []) ∷ ((1, 5) ∷ []) ∷ ((0, 8) ∷ []) ∷ ((0, 8) ∷ []) ∷ []
 
-turns_are_a_run : IsRunOf (IsAgedStep nat_eq (λ v. v) (Some 10) 1) turns_run turns
+turns_are_a_run : IsRunOf (IsAgedStep nat_eq (λ v. v) (Some 10) (IsPut nat_eq 1)) turns_run turns
 turns_are_a_run = (
-  record { fresh = λ t. cc; stale = λ _. (record { key = 0; value = 0; same = refl; entries = refl }, refl) },
+  record {
+    fresh = λ t. cc;
+    stale = λ _. record { key = 0; value = 0; same = refl; entries = refl };
+    fetched = λ _ e rest is. first_value is;
+  },
   (
-    record { fresh = λ t. cc; stale = λ _. (record { key = 1; value = 5; same = refl; entries = refl }, refl) },
+    record {
+      fresh = λ t. cc;
+      stale = λ _. record { key = 1; value = 5; same = refl; entries = refl };
+      fetched = λ _ e rest is. first_value is;
+    },
     (
-      record { fresh = λ t. cc; stale = λ _. (record { key = 0; value = 8; same = refl; entries = refl }, refl) },
-      (record { fresh = λ _. refl; stale = λ f. cc }, refl),
+      record {
+        fresh = λ t. cc;
+        stale = λ _. record { key = 0; value = 8; same = refl; entries = refl };
+        fetched = λ _ e rest is. first_value is;
+      },
+      (record { fresh = λ _. refl; stale = λ f. cc; fetched = λ f. cc }, refl),
     ),
   ),
 )
