@@ -2,7 +2,8 @@
 use Rattle.std.proofs.Common.{◌≡◌, ℕ, true, false, Some, None, List, [], ◌∷◌, slice_get, refl, sym, ap, arith}
 use Rattle.std.proofs.lemmas.Option.{same_Some}
 use Rattle.std.specs.Prelude.{nat_eq}
-use Rattle.clru_model.specs.Ages.{NeverFall, aged_marks, aged_misses, reuses_within, versioned, is_same_version, IsAgedStep, fresh_before}
+use Rattle.clru_model.specs.Ages.{NeverFall, aged_marks, aged_misses, reuses_within, versioned, is_same_version}
+use Rattle.clru_model.specs.AgedRuns.{IsAgedStep, fresh_before}
 use Rattle.clru_model.specs.Distances.{distance}
 use Rattle.clru_model.specs.Requests.{hit, marks, misses}
 use Rattle.clru_model.specs.Runs.{IsRunOf, IsPut}

@@ -7,7 +7,8 @@ use Rattle.std.proofs.lemmas.Map.Made.{is_some-lookup}
 use Rattle.std.proofs.lemmas.Option.{same_Some}
 use Rattle.std.specs.Cmp.{IsEquivalence}
 use Rattle.std.specs.Map.{keys_of, lookup}
-use Rattle.clru_model.specs.Ages.{is_recent, aged_hit, aged_marks_after, is_fresh, IsAgedStep, fresh_before, AgedPutsHit, SizedAgedPutsHit}
+use Rattle.clru_model.specs.Ages.{is_recent, aged_hit, aged_marks_after}
+use Rattle.clru_model.specs.AgedRuns.{is_fresh, IsAgedStep, fresh_before, AgedPutsHit, SizedAgedPutsHit}
 use Rattle.clru_model.specs.Entries.{without, touch, size_of, fit}
 use Rattle.clru_model.specs.Requests.{holds, hit, marks_after}
 use Rattle.clru_model.specs.Runs.{IsRunOf, IsGetOr, IsPut, held_before}

@@ -1,6 +1,7 @@
 //! Laws of the definitions that the contracts cite. They do nothing at run time.
 ghost use Rattle.clru_model.specs.Ages.{UnlimitedMarksAreMarks, UnlimitedMarksAreMarksBySize, IdleMarksAreBelow, IdleMarksAreWithin};
-ghost use Rattle.clru_model.specs.Ages.{AgedMissesFall, AgedMissesBySizeFall, VersionsMissMore, AgedPutsHit, SizedAgedPutsHit};
+ghost use Rattle.clru_model.specs.Ages.{AgedMissesFall, AgedMissesBySizeFall, VersionsMissMore};
+ghost use Rattle.clru_model.specs.AgedRuns.{AgedPutsHit, SizedAgedPutsHit};
 ghost use Rattle.clru_model.specs.Distances.{HitsAreBelow, MarksAreBelow, RoomForAllMissesFirst};
 ghost use Rattle.clru_model.specs.Laws.{TrueMarksAreHits, OneMarkForEach, MissesAreFalseMarks, DistinctCountsFirst};
 ghost use Rattle.clru_model.specs.Laws.{SchedulesAreByPosition, FalseMarksAreMisses, ScheduleMissesAreByPosition};
