@@ -1,7 +1,7 @@
 -- Requests with times: greater limits and a greater capacity miss no more.
 use Rattle.std.proofs.Common.{◌≡◌, ℕ, suc, ◌+◌, ◌-◌, ◌<◌, ◌≤◌, Bool, true, false, cond, not, ◌&&◌, ◌⊎◌, inl, inr, Option, Some, None, List, [], ◌∷◌, length}
 use Rattle.std.proofs.Common.{leb, leb-true, refl, sym, ap, ◌∙◌, arith}
-use Rattle.std.proofs.lemmas.Bool.{and_parts, and_from, le-leb, leb-false}
+use Rattle.std.proofs.lemmas.Bool.{and_parts, le-leb, leb-false}
 use Rattle.std.proofs.lemmas.List.Sums.{sum_by-cons}
 use Rattle.std.proofs.lemmas.Map.Entries.{length-keys_of}
 use Rattle.std.proofs.lemmas.Option.{same_Some}
@@ -27,6 +27,13 @@ in_limit-zero (Some most) = le-leb 0 most (omega arith)
 pub in_limit-apart : (limit : Option ℕ) (a b : ℕ) → is_in_limit limit a ≡ true → is_in_limit limit b ≡ false → a < b
 in_limit-apart None a b within past = cc
 in_limit-apart (Some most) a b within past = omega (arith, leb-true a most within, leb-false b most past)
+
+-- a greater number is a greater limit, and none is the greatest
+pub limit_below : (m n : ℕ) → m ≤ n → IsLimitBelow (Some m) (Some n)
+limit_below m n more span within = le-leb span n (omega (arith, more, leb-true span m within))
+
+pub limit_below_none : (limit : Option ℕ) → IsLimitBelow limit None
+limit_below_none limit span within = refl
 
 module _ {K : Type 0} (eq : K → K → Bool) where
   -- how many of the keys are the same as x

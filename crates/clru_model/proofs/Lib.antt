@@ -1,3 +1,4 @@
+pub mod AgeRows
 pub mod AgedRuns
 pub mod Ages
 pub mod Bound

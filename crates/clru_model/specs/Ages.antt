@@ -1,13 +1,11 @@
--- Requests with times, where entries expire: which of them hit. A request is a pair of a key and a time, in any unit. Public
--- clauses cite them.
+-- Requests with times, where entries expire: which of them hit. A request is a pair of a key and a time, in any unit. No cache is
+-- in sight here. Public clauses cite them.
 use Rattle.std.specs.Prelude.{◌≡◌, ℕ, ◌-◌, ◌≤◌, Bool, true, false, if◌then◌else◌, not, ◌&&◌, ⊤, nat_le, nat_eq, Option, None, List, [], ◌∷◌, map}
 use Rattle.std.specs.List.{count_by}
 use Rattle.std.specs.Map.{keys_of, lookup}
 use Rattle.std.specs.Option.{option_map_or}
 use Rattle.clru_model.specs.Distances.{distance, is_below}
-use Rattle.clru_model.specs.Entries.{touch}
 use Rattle.clru_model.specs.Requests.{hit, marks, misses}
-use Rattle.clru_model.specs.Runs.{IsRunOf, IsPut}
 use Rattle.clru_model.specs.Sizes.{span, hit_by_size, marks_by_size}
 use Rattle.clru_model.specs.Spans.{is_within}
 
@@ -111,28 +109,3 @@ module _ {K : Type 0} (eq : K → K → Bool) where
   abbrev pub VersionsMissMore : Type 0
   VersionsMissMore = (k : ℕ) (age : Option ℕ) (requests : List (K × ℕ)) → NeverFall 0 requests
       → aged_misses (hit eq k) None age requests ≤ misses is_same_version k (versioned age requests)
-
--- where values tell when they were fetched
-module _ {K V : Type 0} (eq : K → K → Bool) (fetched_at : V → ℕ) (age : Option ℕ) where
-  -- the key of r is held with a value whose age is within the limit
-  abbrev pub is_fresh : K × ℕ → List (K × V) → Bool
-  is_fresh r es = option_map_or (λ value. is_in_limit age (r.1 - fetched_at value)) (lookup (eq r.0) es) false
-
-  -- the entries after a request at the capacity k: after a look-up of a fresh value, or else after a put of one that is fetched
-  -- at that time
-  pub record IsAgedStep (k : ℕ) (r : K × ℕ) (es next : List (K × V)) : Type 0 where
-    pub fresh : is_fresh r es ≡ true → next ≡ touch eq r.0 es
-    pub stale : is_fresh r es ≡ false → (put : IsPut eq k r.0 es next) × (fetched_at put.value ≡ r.1)
-
-  -- for each request in order whether its key is held fresh before it
-  abbrev pub fresh_before : List (List (K × V)) → List (K × ℕ) → List Bool
-  fresh_before [] requests = []
-  fresh_before (es ∷ later) [] = []
-  fresh_before (es ∷ later) (r ∷ requests) = is_fresh r es ∷ fresh_before later requests
-
-module _ {K : Type 0} (eq : K → K → Bool) (V : Type 0) where
-  -- a run of such steps from the empty list holds a fresh value before each request exactly where the request hits
-  abbrev pub AgedStepsHit : Type 0
-  AgedStepsHit = (fetched_at : V → ℕ) (age : Option ℕ) (k : ℕ) (requests : List (K × ℕ)) (later : List (List (K × V))) → 1 ≤ k
-      → IsRunOf (IsAgedStep eq fetched_at age k) ([] ∷ later) requests
-      → fresh_before eq fetched_at age ([] ∷ later) requests ≡ aged_marks eq (hit eq k) None age requests

@@ -1,3 +1,4 @@
+pub mod AgedRuns
 pub mod Ages
 pub mod Bounds
 pub mod ByPosition

@@ -1,6 +1,7 @@
 //! Laws of the definitions that the contracts cite. They do nothing at run time.
 ghost use Rattle.clru_model.specs.Ages.{UnlimitedMarksAreMarks, UnlimitedMarksAreMarksBySize, IdleMarksAreBelow, IdleMarksAreWithin};
-ghost use Rattle.clru_model.specs.Ages.{AgedMissesFall, AgedMissesBySizeFall, VersionsMissMore, AgedStepsHit};
+ghost use Rattle.clru_model.specs.Ages.{AgedMissesFall, AgedMissesBySizeFall, VersionsMissMore};
+ghost use Rattle.clru_model.specs.AgedRuns.{AgedPutsHit, SizedAgedPutsHit};
 ghost use Rattle.clru_model.specs.Distances.{HitsAreBelow, MarksAreBelow, RoomForAllMissesFirst};
 ghost use Rattle.clru_model.specs.Laws.{TrueMarksAreHits, OneMarkForEach, MissesAreFalseMarks, DistinctCountsFirst};
 ghost use Rattle.clru_model.specs.Laws.{SchedulesAreByPosition, FalseMarksAreMisses, ScheduleMissesAreByPosition};
@@ -197,16 +198,17 @@ pub fn law_bounds<K: Eq>()
     ensures below_keys { RoomForGreatestMissesLess K.eq }
 {}
 
-/// Does nothing at run time. Its contract says which requests hit if entries expire: those that hit without expiry, whose key was
-/// requested within the idle limit and fetched, by a request that missed, within the age limit.
+/// Does nothing at run time. Its contract says which requests hit if entries expire: those that would hit anyway, and whose key had
+/// its latest request within the idle limit and its latest fetch within the age limit. A fetch is a request that misses.
 ///
-/// Without limits these are the hits of `replay`. With an idle limit alone, requests that come too late are as first ones, and one
-/// list of distances has the marks at every capacity. Misses fall with both limits and with the capacity. If times never fall, keys
-/// with a version that changes when their fetch is too old miss no less.
+/// Without limits these are the hits of `replay`. With an idle limit alone, a reuse that comes too late counts as a first request, so
+/// one list of distances has the marks at every capacity. Misses fall with the capacity and with both limits. The marks of one
+/// capacity are not among those of a greater one, because a hit keeps the older fetch. If times never fall, requests for keys with a
+/// version, which changes with each fetch of a cache without bound, miss at least as often.
 ///
-/// A cache of weight zero, empty at first, whose values tell when they were fetched, holds a value within the age limit before
-/// each request exactly where the request hits. At each request it looks such a value up, or else puts one that was fetched at that
-/// time, and no other call changes it.
+/// A cache whose values tell when they were fetched holds, before each request, a value within the age limit exactly if the request
+/// hits. It is empty at first. At each request it looks such a value up, or else puts one that was fetched at that time. No put is
+/// refused, and no other call changes the cache.
 pub fn law_ages<K: Eq, V>()
     ensures unlimited { UnlimitedMarksAreMarks K.eq }
     ensures unlimited_by_size { UnlimitedMarksAreMarksBySize K.eq }
@@ -215,5 +217,6 @@ pub fn law_ages<K: Eq, V>()
     ensures falls { AgedMissesFall K.eq }
     ensures falls_by_size { AgedMissesBySizeFall K.eq }
     ensures versions { VersionsMissMore K.eq }
-    ensures steps { AgedStepsHit K.eq V }
+    ensures puts { AgedPutsHit K.eq V }
+    ensures puts_by_size { SizedAgedPutsHit K.eq V }
 {}

@@ -1,4 +1,4 @@
-use Rattle.clru_model.proofs.AgedRuns.{aged_steps_hit}
+use Rattle.clru_model.proofs.AgedRuns.{aged_puts_hit, sized_aged_puts_hit}
 use Rattle.clru_model.proofs.Ages.{aged_misses_fall, aged_misses_by_size_fall}
 use Rattle.clru_model.proofs.IdleMarks.{unlimited_marks, unlimited_marks_by_size, idle_marks_below, idle_marks_within}
 use Rattle.clru_model.proofs.Versions.{versions_miss_more}
@@ -25,5 +25,8 @@ returns-clause-falls_by_size g c = aged_misses_by_size_fall g.K.PartialEq.eq g.m
 pub returns-clause-versions : goal.returns-clause-versions
 returns-clause-versions g c = versions_miss_more g.K.PartialEq.eq g.met.K.Eq.laws
 
-pub returns-clause-steps : goal.returns-clause-steps
-returns-clause-steps g c = aged_steps_hit g.K.PartialEq.eq g.row.V.Denot g.met.K.Eq.laws
+pub returns-clause-puts : goal.returns-clause-puts
+returns-clause-puts g c = aged_puts_hit g.K.PartialEq.eq g.row.V.Denot g.met.K.Eq.laws
+
+pub returns-clause-puts_by_size : goal.returns-clause-puts_by_size
+returns-clause-puts_by_size g c = sized_aged_puts_hit g.K.PartialEq.eq g.row.V.Denot g.met.K.Eq.laws
