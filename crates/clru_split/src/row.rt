@@ -27,3 +27,32 @@ pub(crate) fn cheapest(all: usize, prices: &[Option<usize>], before: &[u128], un
     }
     (least, choice)
 }
+
+/// The next row: at each number of units the least that misses, with one more curve at these prices. The units that its part
+/// has there come behind the choices.
+pub(crate) fn next_row<A: Allocator + Copy>(
+    alloc: A,
+    all: usize,
+    prices: &[Option<usize>],
+    before: &[u128],
+    choices: &mut Vec<usize, A>,
+) -> Result<Vec<u128, A>, AllocError>
+    requires priced { length prices.now ≡ length before.now }
+    requires all { slice_index_or prices.now 0 None ≡ Some all }
+    requires fits { (j : ℕ) → j < length before.now → slice_index before.now j + 2 ^ 64 ≤ 2 ^ 128 }
+    ensures length { IfOk result (λ row. length row.items ≡ length before.now) }
+    ensures least { IfOk result (λ row. (added : List ℕ) × (choices.new.items ≡ choices.old.items ++ added)
+        × (length added ≡ length before.now)
+        × ((j : ℕ) → j < length before.now → IsMinimum (λ x. slice_index_or prices.now x None) before.now j
+            (slice_index row.items j) (slice_index added j))) }
+    ensures grows { IfOk result (λ row. (j : ℕ) → j < length before.now
+        → slice_index row.items j < slice_index before.now j + 2 ^ 64) }
+{
+    let mut row = Vec::new(alloc);
+    for units in 0..before.len() {
+        let (least, choice) = cheapest(all, prices, before, units);
+        row.push(least)?;
+        choices.push(choice)?;
+    }
+    Ok(row)
+}
