@@ -29,12 +29,12 @@ pub fn split<C: Curve, A: Allocator + Copy>(
     if curves.is_empty() {
         return Ok(Vec::new(alloc));
     }
-    let units = budget / step.get();
-    let Some(width) = units.checked_add(1) else {
+    let step = step.get();
+    let Some(width) = (budget / step).checked_add(1) else {
         return Err(AllocError);
     };
-    let choices = choices(alloc, step.get(), width, curves)?;
-    follow(alloc, step.get(), width, curves, &choices)
+    let choices = choices(alloc, step, width, curves)?;
+    follow(alloc, step, width, curves, &choices)
 }
 
 /// For each curve, the last one first, the units that lead to a best split, at each number of units below `width`.

@@ -24,6 +24,14 @@ bounds-choices-unread g c =
     c.loop.counter c.loop.unread c.loop.left c.loop-test.true c.loop.invariant.within c.loop.invariant.left c.loop.invariant.chosen in
     omega (arith, next.room, c.loop.invariant.within, c.loop.invariant.left)
 
+pub offset_bounds-choices-unread : goal.offset_bounds-choices-unread
+offset_bounds-choices-unread g c =
+    let next = is_next g.C.Curve.all g.C.Curve.missed c.args.step c.args.curves.now c.args.choices.now c.args.width
+    c.loop.counter c.loop.unread c.loop.left c.loop-test.true c.loop.invariant.within c.loop.invariant.left c.loop.invariant.chosen in
+    let inside : c.loop.unread - c.args.width + c.loop.left < length c.args.choices.now =
+    omega (arith, next.room, c.loop.invariant.within, c.loop.invariant.left) in
+    omega (arith, inside)
+
 pub overflow_mul-units : goal.overflow_mul-units
 overflow_mul-units g c =
     let next = is_next g.C.Curve.all g.C.Curve.missed c.args.step c.args.curves.now c.args.choices.now c.args.width
