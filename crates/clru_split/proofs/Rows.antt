@@ -1,12 +1,12 @@
 -- One row more leads to the best splits of one curve more.
-use Rattle.std.proofs.Common.{◌≡◌, ℕ, zero, suc, ◌+◌, ◌-◌, ◌*◌, ◌/◌, ◌^◌, ◌<◌, ◌≤◌, List, [], ◌∷◌, ◌++◌, length, get_or, drop, Option, Some, None, inl, inr, refl, sym, ap, ◌∙◌, subst, arith}
+use Rattle.std.proofs.Common.{◌≡◌, ℕ, ◌+◌, ◌-◌, ◌*◌, ◌/◌, ◌<◌, ◌≤◌, List, [], ◌∷◌, ◌++◌, length, get_or, Option, Some, None, inl, inr, refl, sym, ap, ◌∙◌, subst, arith}
 use Rattle.std.specs.Prelude.{sum, IsSome, unwrap_or}
 use Rattle.std.proofs.lemmas.Bool.{cases_lt}
-use Rattle.std.proofs.lemmas.List.{length_push, get_or_append_left, get_or_push}
+use Rattle.std.proofs.lemmas.List.{get_or_append_left, get_or_push}
 use Rattle.std.proofs.lemmas.List.Sums.{sum_by-cons}
 use Rattle.std.proofs.lemmas.Nat.{mul-le, le-div}
 use Rattle.std.proofs.Math.Nat.{add-mul, div-mul-le_self}
-use Rattle.clru_split.specs.Splits.{missed_at, IsPart, AreParts, total_missed, IsSplit, IsBestSplit}
+use Rattle.clru_split.specs.Splits.{missed_at, AreParts, total_missed, IsSplit, IsBestSplit}
 use Rattle.clru_split.specs.Rows.{IsMinimum, IsLeastAt, IsRow, Leads, AreChoices}
 
 -- what holds at each index of two lists still does when each has one more

@@ -6,10 +6,12 @@
 #![tactic(auto)]
 
 mod best;
+mod class;
 mod curve;
 mod row;
 
 
+pub use class::Class;
 pub use curve::Curve;
 pub use best::split;
 pub use std::num::NonZeroUsize;

@@ -1,4 +1,4 @@
-use Rattle.std.proofs.Common.{◌≡◌, ℕ, List, ◌-◌, ◌*◌, ◌<◌, ◌≤◌, ◌++◌, length, take, drop}
+use Rattle.std.proofs.Common.{ℕ, List, ◌-◌, ◌*◌, ◌<◌, ◌≤◌, ◌++◌, length, take, drop}
 use Rattle.clru_split.specs.Splits.{IsBestSplit}
 use Rattle.clru_split.specs.Rows.{AreChoices}
 use Rattle.clru_split.proofs.best.follow.Given as goal

@@ -1,4 +1,4 @@
-use Rattle.std.proofs.Common.{◌≡◌, ℕ, ◌+◌, ◌^◌, ◌<◌, ◌∷◌, ◌++◌, [], length, get_or, Some, None, sym, ap, ◌∙◌, subst, arith}
+use Rattle.std.proofs.Common.{ℕ, ◌+◌, ◌^◌, ◌<◌, ◌∷◌, ◌++◌, [], length, get_or, None, ap, ◌∙◌}
 use Rattle.std.proofs.lemmas.List.{append_assoc, length_push}
 use Rattle.clru_split.specs.Rows.{IsMinimum}
 use Rattle.clru_split.proofs.Rows.{both_more}
