@@ -8,10 +8,12 @@
 mod best;
 mod class;
 mod curve;
+mod laws;
 mod row;
 
 
 pub use class::Class;
 pub use curve::Curve;
 pub use best::split;
+pub use laws::law_split;
 pub use std::num::NonZeroUsize;
