@@ -1,0 +1,4 @@
+pub mod Apart
+pub mod Classes
+pub mod Rows
+pub mod Splits
