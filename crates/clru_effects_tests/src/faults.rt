@@ -170,7 +170,7 @@ fn within(
     let options = Options {
         capacities: Capacities::Usual,
         sizes,
-        least,
+        least: least && !sizes,
         sample: Sample::Whole,
         form: Form::Table,
         look: plain(),

@@ -24,6 +24,9 @@ use lent_block::{LentBlock, Loan};
 /// - 6: a line has no size, or the sizes are too large together.
 ///
 /// Lines are hashed under a seed, the words `low` and `high`; the answer is the same under each.
+///
+/// The caller owes that `loan` is aligned to 16 and has as many bytes as it says, and that it, `arguments`, `log`, `text` and
+/// `written` do not overlap. No clause can ask for it: here a slice is its bytes, and has no address.
 #[unsafe(no_mangle)]
 #[allow(too_many_arguments)]
 pub extern "C" fn report(
