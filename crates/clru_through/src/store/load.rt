@@ -75,7 +75,7 @@ impl<
             × IsGot K.eq (W.weight self.old.cache.scale) R.fetches self.old key result after }
         ensures value { IfOk result (λ answer. R.keeps (R.promised self.old.source key) (answer_value answer)) }
     {
-        self.forget();
+        self.drop_lent();
         match self.load(key) {
             Err(error) => Err(self.failed.insert(error)),
             Ok(Loaded::Passed(value)) => Ok(Answer::Passed(self.passed.insert(value))),
@@ -87,7 +87,7 @@ impl<
     }
 
     /// Drops what the latest `get` passed on or failed with.
-    fn forget(&mut self)
+    fn drop_lent(&mut self)
     where
         V: Drop,
         E: Drop,
