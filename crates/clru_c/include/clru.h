@@ -105,8 +105,8 @@ uint32_t clru_least_by_room(const uint64_t *keys, size_t keys_len, const size_t 
  * together; the gap of a request is how many positions after the latest request of its key it comes.
  *
  * Codes: CLRU_NO_CAPACITY, CLRU_WRONG_LENGTH, CLRU_NO_MEMORY.
- * Cost: a look-up for each request, a sort, and a search for each room. Memory: 32 to 64 bytes for each request whose key came
- * before, and meanwhile a table of the keys. */
+ * Cost: a look-up for each request, a sort, and a search for each room. Memory: 31 to 71 bytes for each request of a floor in
+ * keys. */
 uint32_t clru_floor_by_room(const uint64_t *keys, size_t keys_len, const size_t *rooms, size_t rooms_len,
                             uint64_t seed_low, uint64_t seed_high, size_t *floors, size_t floors_len);
 
@@ -147,8 +147,8 @@ uint32_t clru_misses_by_size(const uint64_t *keys, size_t keys_len, const size_t
  *
  * Codes: CLRU_NO_CAPACITY, CLRU_WRONG_LENGTH, CLRU_NO_MEMORY, CLRU_TOO_LARGE. Proved too: CLRU_TOO_LARGE is answered only where
  * the sizes (0 as 1) pass 2^64 - 1 together, and CLRU_OK only where they don't.
- * Cost: a look-up for each request, two sorts, and two searches for each room. Memory: 64 to 96 bytes for each request whose
- * object came before, 16 for each request, and meanwhile a table of the objects. */
+ * Cost: a look-up for each request, two sorts, and two searches for each room. Memory: 51 to 96 bytes for each request of floors
+ * by size. */
 uint32_t clru_floor_by_size(const uint64_t *keys, size_t keys_len, const size_t *sizes, size_t sizes_len,
                             const size_t *rooms, size_t rooms_len, uint64_t seed_low, uint64_t seed_high,
                             size_t *misses, size_t misses_len, size_t *missed_sizes, size_t missed_sizes_len);
