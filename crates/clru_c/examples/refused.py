@@ -58,6 +58,8 @@ def main():
         seen("values to unpack", clru.floor_by_room, [1, 2], [1], seed)
         seen("values to unpack", clru.floor_by_size, [1, 2], [3, 4], [8], seed)
         seen("values to unpack", clru.misses_by_size, [1, 2], [3, 4], [8], seed)
+    if clru._words((5, 6)) != (5, 6):
+        sys.exit("refused: the words of a seed in another order")
     seen("", clru.hits_at, [1, 2, 3, 1], ctypes.c_size_t(2))
     wanted = [False, False, True], 2, [3, 2, 2], 2, [3], [2], [3, 2], [16, 11], 11, [3, 2], [15, 11]
     if answered() != wanted:

@@ -67,6 +67,8 @@ impl<A: Allocator + Copy> HashIndex<A> {
         ensures linked { IfOk result (λ x. places ≤ length x.links) }
         ensures spread { IfOk result (λ x. length x.links ≤ length x.firsts) }
         ensures named { IfOk result (λ x. length x.links ≤ x.bound) }
+        ensures narrow { 0 < places → places ≤ limit → IfOk result (λ x. length x.firsts ≤ 2 ^ 31
+            → x.tags + length x.firsts ≡ 2 ^ 31) }
         ensures never_refused { places ≡ 0 → IsOk result }
     {
         if places == 0 {
@@ -321,7 +323,8 @@ fn low_in<A: Allocator + Copy>(words: &PackedNumbers<A>) -> usize
 
 /// Returns whether so many buckets, for so many places, have 4 bytes each.
 fn fits_narrow(places: usize, size: usize, limit: usize) -> bool
-    ensures { result ≡ true → size ≤ 2 ^ 31 }
+    ensures fits { result ≡ true → size ≤ 2 ^ 31 }
+    ensures wide { result ≡ false → places ≤ limit → 2 ^ 31 < size }
 {
     places <= limit && size <= MORE_BIT_32
 }
