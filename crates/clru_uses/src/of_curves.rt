@@ -12,6 +12,7 @@ use clru_curve::{
     DefaultState, NonZeroUsize, WeightScale, law_bounds, law_spans_by_position, miss_curve,
     sized_curve,
 };
+use clru_model::law_growth;
 use std::alloc::Global;
 
 /// The number of requests that hit. First requests are not among them. `None` is for want of memory.
@@ -22,6 +23,24 @@ pub fn hits_at(alloc: Global, pages: &[usize], capacity: NonZeroUsize) -> Option
     law_bounds::<usize>();
     match miss_curve(alloc, pages, DefaultState) {
         Ok(curve) => Some(pages.len() - curve.misses(capacity)),
+        Err(_) => None,
+    }
+}
+
+/// Returns how many misses more room saves. `None` is for want of memory.
+pub fn misses_saved(
+    alloc: Global,
+    pages: &[usize],
+    room: NonZeroUsize,
+    more: NonZeroUsize,
+) -> Option<usize>
+    requires { non_zero_usize_get room ≤ non_zero_usize_get more }
+    ensures { IfSome result (λ n. n + misses nat_eq (non_zero_usize_get more) pages.now
+        ≡ misses nat_eq (non_zero_usize_get room) pages.now) }
+{
+    law_growth::<usize>();
+    match miss_curve(alloc, pages, DefaultState) {
+        Ok(curve) => Some(curve.misses(room) - curve.misses(more)),
         Err(_) => None,
     }
 }

@@ -1,4 +1,4 @@
-use Rattle.std.proofs.Common.{rules, ◌≡◌, ℕ, ◌<◌, ◌≤◌, [], ◌∷◌, ◌++◌, List, Bool, true, false, cond, nat_eq, nat_lt, is_some, refl, sym, ap, ◌∙◌, arith}
+use Rattle.std.proofs.Common.{rules, ◌≡◌, ℕ, ◌<◌, ◌≤◌, [], ◌∷◌, ◌++◌, cond, nat_eq, nat_lt, is_some, refl, sym, ap, ◌∙◌, arith}
 use Rattle.std.proofs.Common.{append-nil, lt-ltb, le-ltb}
 use Rattle.std.proofs.lemmas.Bool.{eqb-true}
 use Rattle.std.proofs.lemmas.Iterator.Adapters.{YieldsList-from_vec}

@@ -1,13 +1,12 @@
-use Rattle.std.proofs.Common.{rules, ◌≡◌, ℕ, [], ◌∷◌, ◌++◌, List, nat_eq, sym, ap, ◌∙◌, subst, arith}
+use Rattle.std.proofs.Common.{rules, ◌≡◌, ℕ, [], ◌∷◌, ◌++◌, List, true, not, nat_eq, sym, ap, ◌∙◌, subst, arith}
 use Rattle.std.proofs.lemmas.Iterator.Adapters.{YieldsList-from_vec}
 use Rattle.std.proofs.lemmas.Iterator.Consumers.{YieldsList-end}
 use Rattle.std.proofs.lemmas.List.{map-append, map-id}
 use Rattle.std.proofs.lemmas.Bool.{eqb-true}
-use Rattle.std.specs.List.{slice_get}
+use Rattle.std.specs.List.{count_by, slice_get}
 use Rattle.std.specs.Map.{keys_of}
-use Rattle.clru_model.specs.Runs.{IsGetOr}
-use Rattle.clru_model.specs.SizedRuns.{IsSizedPut}
-use Rattle.clru_model.specs.Sizes.{marks_by_size}
+use Rattle.clru_model.specs.Runs.{IsGetOr, held_before}
+use Rattle.clru_model.specs.SizedRuns.{IsSizedPut, IsSizedPutRun}
 use Rattle.clru.proofs.CallerLemmas.{Runs, Runs-push}
 use Rattle.clru_uses.proofs.sized_runs.texts_found.Goals as goal
 
@@ -28,34 +27,32 @@ loop-page-preserved g c =
       scale = c.found_or_put.ensures.scale ∙ before.scale;
     }
 
-pub returns-clause-changing_high : goal.returns-clause-changing_high
-returns-clause-changing_high g c low high i between hit =
+pub returns : goal.returns
+returns g c =
     let r = c.loop-page.invariant.runs in
-    let pages = keys_of c.loop-page.yielded in
     let cache = c.args.cache.now in
-    let weight = g.W.WeightScale.weight cache.scale in
+    let capacity = cache.capacity in
+    let pair_weight = g.W.WeightScale.weight cache.scale in
+    let pages = keys_of c.args.requests.items in
     let gives = YieldsList-from_vec {s = c.into_iter-page-iterator.result} c.args.requests.items (search rules) (search rules) in
     let whole = YieldsList-end gives c.loop-page.yielded c.loop-page.page-iterator c.loop-page.yielded_by c.next.result c.next.new.self
     c.in-None.is c.next.ensures.steps in
-    let all : keys_of c.args.requests.items ≡ pages = ap keys_of (sym whole.0 ∙ map-id c.loop-page.yielded) in
-    let puts = c.law_sizes.ensures.gets_or_puts weight cache.capacity pages [] r.later (omega arith) r.run in
-    ap (λ ms. slice_get ms i) r.held_are
-    ∙ c.law_sizes.ensures.changing_high low high weight cache.capacity i pages r.later (λ x y e. ap low (eqb-true x y e))
-    (λ x y e. ap high (eqb-true x y e)) (λ j key value rest at. between key value) puts
-    (ap (λ ks. slice_get (marks_by_size nat_eq high cache.capacity ks) i) (sym all) ∙ hit)
-
-pub returns-clause-changing_low : goal.returns-clause-changing_low
-returns-clause-changing_low g c low high i between found =
-    let r = c.loop-page.invariant.runs in
-    let pages = keys_of c.loop-page.yielded in
-    let cache = c.args.cache.now in
-    let weight = g.W.WeightScale.weight cache.scale in
-    let gives = YieldsList-from_vec {s = c.into_iter-page-iterator.result} c.args.requests.items (search rules) (search rules) in
-    let whole = YieldsList-end gives c.loop-page.yielded c.loop-page.page-iterator c.loop-page.yielded_by c.next.result c.next.new.self
-    c.in-None.is c.next.ensures.steps in
-    let all : keys_of c.args.requests.items ≡ pages = ap keys_of (sym whole.0 ∙ map-id c.loop-page.yielded) in
-    let puts = c.law_sizes.ensures.gets_or_puts weight cache.capacity pages [] r.later (omega arith) r.run in
-    ap (λ ks. slice_get (marks_by_size nat_eq low cache.capacity ks) i) all
-    ∙ c.law_sizes.ensures.changing_low low high weight cache.capacity i pages r.later (λ x y e. ap low (eqb-true x y e))
-    (λ x y e. ap high (eqb-true x y e)) (λ j key value rest at. between key value) puts
-    (ap (λ ms. slice_get ms i) (sym r.held_are) ∙ found)
+    let all : keys_of c.loop-page.yielded ≡ pages = ap keys_of (sym (map-id c.loop-page.yielded) ∙ whole.0) in
+    let law = c.law_sizes.ensures in
+    let puts = law.gets_or_puts pair_weight capacity (keys_of c.loop-page.yielded) [] r.later (omega arith) r.run in
+    let run = subst (λ ks. IsSizedPutRun nat_eq pair_weight capacity ([] ∷ r.later) ks) all puts in
+    let held : c.loop-page.found.items ≡ held_before nat_eq ([] ∷ r.later) pages = r.held_are ∙ ap (held_before nat_eq ([] ∷ r.later)) all in
+    let same = λ (weight : ℕ → ℕ) (x y : ℕ) (e : nat_eq x y ≡ true). ap weight (eqb-true x y e) in
+    let hits = λ (weight : ℕ → ℕ) (by_page : (page text : ℕ) → pair_weight page text ≡ weight page).
+    held ∙ law.puts weight pair_weight capacity pages r.later (same weight) (λ i key value rest at. by_page key value) run in
+    record {
+      hits = hits;
+      misses = λ weight by_page. ap (count_by not) (hits weight by_page);
+      bound = λ weight by_page. rw held
+          (c.law_size_bound.ensures.puts weight pair_weight capacity pages r.later (same weight) (λ i key value rest at. by_page key value) run);
+      changing_high = λ low high i between hit. ap (λ ms. slice_get ms i) held
+          ∙ law.changing_high low high pair_weight capacity i pages r.later (same low) (same high) (λ j key value rest at. between key value) run hit;
+      changing_low = λ low high i between found.
+          law.changing_low low high pair_weight capacity i pages r.later (same low) (same high) (λ j key value rest at. between key value) run
+          (ap (λ ms. slice_get ms i) (sym held) ∙ found);
+    }
