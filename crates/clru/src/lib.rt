@@ -24,7 +24,7 @@ mod replays;
 pub use cache::{CLruCache, Put};
 pub use clru_list::NoMemory;
 pub use clru_model::{
-    DefaultState, PutError, TryPutError, WeightScale, ZeroWeightScale, law_by_position,
+    DefaultState, PutError, TryPutError, WeightScale, ZeroWeightScale, law_ages, law_by_position,
     law_greater_capacity, law_growth, law_inclusion, law_longest_fit, law_requests,
     law_schedules_by_position, law_size_bound, law_sizes,
 };

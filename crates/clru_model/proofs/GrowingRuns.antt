@@ -17,18 +17,19 @@ abbrev pub last_of : {X : Type 0} → X → List X → X
 last_of x [] = x
 last_of x (y ∷ ys) = last_of y ys
 
-last_of-push : {X : Type 0} (x : X) (ys : List X) (z : X) → last_of x (ys ++ z ∷ []) ≡ z
+pub last_of-push : {X : Type 0} (x : X) (ys : List X) (z : X) → last_of x (ys ++ z ∷ []) ≡ z
 last_of-push x [] z = refl
 last_of-push x (y ∷ ys) z = last_of-push y ys z
 
-module _ {K V : Type 0} (eq : K → K → Bool) (step : K → List (K × V) → List (K × V) → Type 0) where
-  run_push : (first : List (K × V)) (later : List (List (K × V))) (rs : List K) (x : K) (next : List (K × V))
-      → IsRunOf step (first ∷ later) rs → step x (last_of first later) next → IsRunOf step (first ∷ (later ++ next ∷ [])) (rs ++ x ∷ [])
-  run_push first [] [] x next run made = (made, refl)
-  run_push first (l ∷ later) [] x next run made = cc
-  run_push first [] (y ∷ rs) x next run made = absurd run.0
-  run_push first (l ∷ later) (y ∷ rs) x next run made = (run.0, run_push l later rs x next run.1 made)
+module _ {R K V : Type 0} (step : R → List (K × V) → List (K × V) → Type 0) where
+  pub run_push : (first : List (K × V)) (later : List (List (K × V))) (rs : List R) (r : R) (next : List (K × V))
+      → IsRunOf step (first ∷ later) rs → step r (last_of first later) next → IsRunOf step (first ∷ (later ++ next ∷ [])) (rs ++ r ∷ [])
+  run_push first [] [] r next run made = (made, refl)
+  run_push first (l ∷ later) [] r next run made = cc
+  run_push first [] (q ∷ rs) r next run made = absurd run.0
+  run_push first (l ∷ later) (q ∷ rs) r next run made = (run.0, run_push l later rs r next run.1 made)
 
+module _ {K V : Type 0} (eq : K → K → Bool) (step : K → List (K × V) → List (K × V) → Type 0) where
   held_push : (first : List (K × V)) (later : List (List (K × V))) (rs : List K) (x : K) (next : List (K × V)) → IsRunOf step (first ∷ later) rs
       → held_before eq (first ∷ (later ++ next ∷ [])) (rs ++ x ∷ [])
       ≡ held_before eq (first ∷ later) rs ++ holds eq x (keys_of (last_of first later)) ∷ []
@@ -74,7 +75,7 @@ module _ {K V : Type 0} (eq : K → K → Bool) (step : K → List (K × V) → 
       → before ≡ is_some (lookup (eq x) es) → step x es next → held' ≡ held ++ before ∷ [] → Runs (rs ++ x ∷ []) next held'
   Runs-push {rs} {es} {next} {held} x before r is made pushed = record {
     later = r.later ++ next ∷ [];
-    run = run_push [] r.later rs x next r.run (rw r.ends made);
+    run = run_push step [] r.later rs x next r.run (rw r.ends made);
     ends = last_of-push [] r.later next;
     held_are = pushed ∙ ap (λ bs. bs ++ before ∷ []) r.held_are
         ∙ ap (λ b. held_before eq ([] ∷ r.later) rs ++ b ∷ []) (is ∙ is_some-lookup (eq x) es ∙ ap (λ l. holds eq x (keys_of l)) (sym r.ends))

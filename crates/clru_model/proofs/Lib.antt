@@ -24,6 +24,7 @@ pub mod FloorRows
 pub mod Forms
 pub mod GetRuns
 pub mod Growing
+pub mod GrowingAgedRuns
 pub mod GrowingRuns
 pub mod Hits
 pub mod IdleMarks

@@ -1,12 +1,13 @@
-//! Whole runs, of puts and of look-ups that are followed by a put, by the contracts of the calls and `law_requests` alone.
-ghost use Rattle.std.specs.Prelude.{◌≡◌, ◌+◌, ◌≤◌, [], not, length, nat_eq, IfOk, IfSome, OnSome};
+//! Whole runs, of puts and of look-ups that are followed by a put, by the contracts of the calls, `law_requests` and `law_ages` alone.
+ghost use Rattle.std.specs.Prelude.{◌≡◌, ◌+◌, ◌-◌, ◌≤◌, Some, None, false, [], not, length, nat_eq, IfOk, IfSome, OnSome};
 ghost use Rattle.std.specs.List.{count_by};
-ghost use Rattle.std.specs.Option.{option_to_list};
+ghost use Rattle.std.specs.Option.{option_map_or, option_to_list};
+ghost use Rattle.clru_model.specs.Ages.{is_in_limit, aged_misses};
 ghost use Rattle.clru_model.specs.Entries.{plain_put, plain_drop};
 ghost use Rattle.clru_model.specs.Schedule.{IsCompetitive};
-ghost use Rattle.clru_model.specs.Requests.{marks, misses};
+ghost use Rattle.clru_model.specs.Requests.{hit, marks, misses};
 
-use clru::{CLruCache, law_requests};
+use clru::{CLruCache, law_ages, law_requests};
 use std::alloc::Global;
 use std::hash::Hash;
 
@@ -88,5 +89,39 @@ fn number_dropped<K: Eq + Hash + Drop>(cache: &mut CLruCache<K, ()>, key: K) -> 
     match cache.put(key, ()) {
         Ok(put) => Some(usize::from(put.dropped.is_some())),
         Err(_) => None,
+    }
+}
+
+/// The same of pages that expire: a page is fetched again if its fetch was more than `age` before. Each request is a page and the
+/// time, in any unit, and the cache holds the time of each page's fetch.
+pub fn aged_pages_fetched(
+    cache: &mut CLruCache<usize, usize>,
+    requests: Vec<(usize, usize)>,
+    age: usize,
+) -> Result<usize, (usize, usize)>
+    requires empty { cache.old.entries ≡ [] }
+    ensures misses { IfOk result (λ n. n ≡ aged_misses nat_eq (hit nat_eq cache.old.capacity) None (Some age) requests.items) }
+{
+    law_ages::<usize, usize>();
+    // It tells that the capacity is no 0.
+    let _ = cache.len();
+    let mut fetched = 0;
+    for (page, now) in requests {
+        let time = cache.get(&page).copied();
+        if !is_within(age, time, now) {
+            fetched += 1;
+            cache.put(page, now)?;
+        }
+    }
+    Ok(fetched)
+}
+
+/// Returns whether there is a time, at most `age` before now.
+fn is_within(age: usize, time: Option<usize>, now: usize) -> bool
+    ensures { result ≡ option_map_or (λ t. is_in_limit (Some age) (now - t)) time false }
+{
+    match time {
+        Some(time) => now.saturating_sub(time) <= age,
+        None => false,
     }
 }
