@@ -32,6 +32,7 @@ pub mod scale;
 pub mod seed;
 pub mod sized_curves;
 pub mod sizes;
+pub mod splits;
 pub mod store;
 pub mod texts;
 pub mod walks;
