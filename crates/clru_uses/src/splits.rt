@@ -19,7 +19,7 @@ pub fn room_for_each(
     ensures within { IfOk result (λ room. room.0 + room.1 ≤ budget) }
     ensures best { IfOk result (λ room. (p i : ℕ) → p * non_zero_usize_get step + i * non_zero_usize_get step ≤ budget
         → misses nat_eq room.0 pages.now + misses nat_eq room.1 images.now
-            ≤ misses nat_eq (p * non_zero_usize_get step) pages.now + misses nat_eq (i * non_zero_usize_get step) images.now) }
+        ≤ misses nat_eq (p * non_zero_usize_get step) pages.now + misses nat_eq (i * non_zero_usize_get step) images.now) }
 {
     let of_pages = miss_curve(alloc, pages, DefaultState)?;
     let of_images = miss_curve(alloc, images, DefaultState)?;

@@ -28,6 +28,8 @@ mod printed;
 #[cfg(test)]
 mod shown;
 #[cfg(test)]
+mod splits;
+#[cfg(test)]
 mod stores;
 #[cfg(test)]
 mod walks;
