@@ -55,7 +55,7 @@ module _ {K : Type 0} (eq : K → K → Bool) (laws : IsEquivalence eq) (mine th
       → ((z : K) → holds eq z ks ≡ true → mine z) → ((z : K) → holds eq z ls ≡ true → theirs z)
       → IsBoth eq m ks ls → IsSchedule eq a (ks ∷ later) (x ∷ us) → length ls ≤ b
       → ((next : List K) (after : List (List K)) → ((z : K) → holds eq z next ≡ true → mine z) → IsSchedule eq a (next ∷ after) us
-          → IsFrom eq (a + b) (next ++ ls) rs (schedule_misses eq (next ∷ after) us + n))
+      → IsFrom eq (a + b) (next ++ ls) rs (schedule_misses eq (next ∷ after) us + n))
       → IsFrom eq (a + b) m (x ∷ rs) (schedule_misses eq (ks ∷ later) (x ∷ us) + n)
   step a b n x m ks ls [] us rs is all_mine all_theirs b2 sched few rest = absurd sched.1
   step a b n x m ks ls (next ∷ after) us rs is all_mine all_theirs b2 sched few rest =
@@ -125,7 +125,7 @@ module _ {K : Type 0} (eq : K → K → Bool) (laws : IsEquivalence eq) (test : 
       → IsAttained eq (a + b) rs (n + k)
   merged_attained a b n k rs s t =
       let on = merged a b rs [] [] [] s.schedule t.schedule (λ z h. let bad : false ≡ true = h in cc) (λ z h. let bad : false ≡ true = h in cc)
-          (both eq [] []) s.serves t.serves in
+      (both eq [] []) s.serves t.serves in
       record { schedule = on.later; serves = on.serves; misses = omega (arith, on.misses, s.misses, t.misses) }
 
   -- a filter of a filter
@@ -170,7 +170,7 @@ module _ {K : Type 0} (eq : K → K → Bool) (laws : IsEquivalence eq) (class :
       → IsAttained eq (sum cs) (from_class i rs) (misses_apart eq class i cs rs)
   attained_apart [] i rs some inside =
       let none = filter_none eq laws (λ x. nat_le i (class x)) (λ x y e. ap (λ j. nat_le i j) (respects x y e)) rs
-          (λ x h. before_class i (class x) 0 refl (inside x h)) in
+      (λ x h. before_class i (class x) 0 refl (inside x h)) in
       rw none (record { schedule = []; serves = (omega arith, refl); misses = refl })
   attained_apart (c ∷ cs) i rs some inside =
       let mine = λ (x : K). nat_eq (class x) i in let from = λ (x : K). nat_le i (class x) in

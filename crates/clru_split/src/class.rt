@@ -9,6 +9,7 @@ use std::marker::Model;
 use std::num::NonZeroUsize;
 
 /// A curve by keys, with the number of its requests, which all miss where no cache is. A clause sees both.
+#[derive(Drop)]
 pub struct Class<'a, A: Allocator = Global> {
     requests: usize,
     curve: &'a MissCurve<A>,

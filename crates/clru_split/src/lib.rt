@@ -11,9 +11,8 @@ mod curve;
 mod laws;
 mod row;
 
-
+pub use best::split;
 pub use class::Class;
 pub use curve::Curve;
-pub use best::split;
 pub use laws::law_split;
 pub use std::num::NonZeroUsize;

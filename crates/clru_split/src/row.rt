@@ -6,7 +6,12 @@ use std::alloc::{AllocError, Allocator};
 
 /// The least sum of a price and of what is in the row at the units that are left, and the units of that price. Of several that
 /// are least it is the one with the fewest units. `all` is the price of no units.
-pub(crate) fn cheapest(all: usize, prices: &[Option<usize>], before: &[u128], units: usize) -> (u128, usize)
+pub(crate) fn cheapest(
+    all: usize,
+    prices: &[Option<usize>],
+    before: &[u128],
+    units: usize,
+) -> (u128, usize)
     requires inside { units < length before.now }
     requires priced { length prices.now ≡ length before.now }
     requires all { slice_index_or prices.now 0 None ≡ Some all }
@@ -44,7 +49,7 @@ pub(crate) fn next_row<A: Allocator + Copy>(
     ensures least { IfOk result (λ row. (added : List ℕ) × (choices.new.items ≡ choices.old.items ++ added)
         × (length added ≡ length before.now)
         × ((j : ℕ) → j < length before.now → IsMinimum (λ x. slice_index_or prices.now x None) before.now j
-            (slice_index row.items j) (slice_index added j))) }
+        (slice_index row.items j) (slice_index added j))) }
     ensures grows { IfOk result (λ row. (j : ℕ) → j < length before.now
         → slice_index row.items j < slice_index before.now j + 2 ^ 64) }
 {

@@ -35,6 +35,7 @@ pub mod seed;
 pub mod sized_curves;
 pub mod sized_runs;
 pub mod sizes;
+pub mod splits;
 pub mod stamps;
 pub mod store;
 pub mod texts;

@@ -30,6 +30,8 @@ mod runs;
 #[cfg(test)]
 mod shown;
 #[cfg(test)]
+mod splits;
+#[cfg(test)]
 mod stores;
 #[cfg(test)]
 mod walks;

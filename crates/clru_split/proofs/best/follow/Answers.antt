@@ -37,8 +37,11 @@ overflow_mul-units g c =
     let next = is_next g.C.Curve.all g.C.Curve.missed c.args.step c.args.curves.now c.args.choices.now c.args.width
     c.loop.counter c.loop.unread c.loop.left c.loop-test.true c.loop.invariant.within c.loop.invariant.left c.loop.invariant.chosen in
     let few = next.leads.within in
-    omega (arith, part_fits c.args.step c.args.width (get_or c.args.choices.now (c.loop.unread - c.args.width + c.loop.left) 0) (2 ^ 64)
-        (omega (arith, few, c.loop.invariant.left)) c.requires.fits)
+    omega (
+      arith,
+      part_fits c.args.step c.args.width (get_or c.args.choices.now (c.loop.unread - c.args.width + c.loop.left) 0) (2 ^ 64)
+          (omega (arith, few, c.loop.invariant.left)) c.requires.fits,
+    )
 
 pub overflow_sub-left-in-loop : goal.overflow_sub-left-in-loop
 overflow_sub-left-in-loop g c =
@@ -59,7 +62,7 @@ loop-preserved g c =
       best = λ ks b.
           let more = next.leads.best ks b in
           let whole = c.loop.invariant.best (k ∷ ks)
-              (subst (λ cs. IsBestSplit g.C.Curve.all g.C.Curve.missed step (c.loop.left * step) cs (k ∷ ks)) (sym next.first) more) in
+          (subst (λ cs. IsBestSplit g.C.Curve.all g.C.Curve.missed step (c.loop.left * step) cs (k ∷ ks)) (sym next.first) more) in
           subst (λ l. IsBestSplit g.C.Curve.all g.C.Curve.missed step ((c.args.width - 1) * step) c.args.curves.now l)
           (sym (ap (λ l. l ++ ks) c.in_ok-push.ensures.items ∙ append_assoc caps (k ∷ []) ks)) whole;
     }
@@ -69,8 +72,8 @@ returns g c =
     let step = c.args.step in let curves = c.args.curves.now in
     let none = drop_all c.loop.counter curves (omega (arith, c.loop-test.false)) in
     let whole = c.loop.invariant.best []
-        (subst (λ cs. IsBestSplit g.C.Curve.all g.C.Curve.missed step (c.loop.left * step) cs []) (sym none)
-        (best_none g.C.Curve.all g.C.Curve.missed step (c.loop.left * step))) in
+    (subst (λ cs. IsBestSplit g.C.Curve.all g.C.Curve.missed step (c.loop.left * step) cs []) (sym none)
+    (best_none g.C.Curve.all g.C.Curve.missed step (c.loop.left * step))) in
     subst (λ l. IsBestSplit g.C.Curve.all g.C.Curve.missed step ((c.args.width - 1) * step) curves l)
     (append-nil c.loop.capacities.items) whole
 

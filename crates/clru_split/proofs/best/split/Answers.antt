@@ -14,7 +14,7 @@ returns-clause-best g c =
     (λ l. IsBestSplit g.C.Curve.all g.C.Curve.missed step ((c.in-Some.width - 1) * step) c.args.curves.now l.items)
     (λ l. IsBestSplit g.C.Curve.all g.C.Curve.missed (non_zero_usize_get c.args.step) c.args.budget c.args.curves.now l.items)
     (λ l b.
-        subst (λ s. IsBestSplit g.C.Curve.all g.C.Curve.missed s c.args.budget c.args.curves.now l.items) c.get-step.ensures.value
-        (best_of_budget g.C.Curve.all g.C.Curve.missed step c.get-step.ensures.nonzero c.args.budget c.args.curves.now l.items
-        (subst (λ n. IsBestSplit g.C.Curve.all g.C.Curve.missed step (n * step) c.args.curves.now l.items) whole b)))
+    subst (λ s. IsBestSplit g.C.Curve.all g.C.Curve.missed s c.args.budget c.args.curves.now l.items) c.get-step.ensures.value
+    (best_of_budget g.C.Curve.all g.C.Curve.missed step c.get-step.ensures.nonzero c.args.budget c.args.curves.now l.items
+    (subst (λ n. IsBestSplit g.C.Curve.all g.C.Curve.missed step (n * step) c.args.curves.now l.items) whole b)))
     c.follow.ensures
