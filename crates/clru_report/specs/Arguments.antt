@@ -87,13 +87,19 @@ module _ {A : Type 0} where
   -- what a draft holds, as numbers and bytes
   abbrev pub asked_by : Draft A → Asked
   asked_by draft = record {
-    named = map non_zero_usize_get draft.named.items; all = draft.all; sizes = draft.sizes; least = draft.least;
-    svg = draft.svg; summary = draft.summary;
+    named = map non_zero_usize_get draft.named.items;
+    all = draft.all;
+    sizes = draft.sizes;
+    least = draft.least;
+    svg = draft.svg;
+    summary = draft.summary;
     sample = option_map non_zero_usize_get draft.sample;
     sampled = option_map non_zero_usize_get draft.sampled;
     requests = option_map non_zero_usize_get draft.requests;
-    title = option_map string_bytes draft.look.title; unit = option_map string_bytes draft.look.unit;
-    from = option_map non_zero_usize_get draft.look.from; to = option_map non_zero_usize_get draft.look.to;
+    title = option_map string_bytes draft.look.title;
+    unit = option_map string_bytes draft.look.unit;
+    from = option_map non_zero_usize_get draft.look.from;
+    to = option_map non_zero_usize_get draft.look.to;
   }
 
   -- the capacities are all, or those of these numbers for one key in n, or the usual ones

@@ -26,8 +26,19 @@ pub record Asked : Type 0 where
 -- nothing
 abbrev pub nothing : Asked
 nothing = record {
-  named = []; all = false; sizes = false; least = false; svg = false; summary = false; sample = None; sampled = None;
-  requests = None; title = None; unit = None; from = None; to = None;
+  named = [];
+  all = false;
+  sizes = false;
+  least = false;
+  svg = false;
+  summary = false;
+  sample = None;
+  sampled = None;
+  requests = None;
+  title = None;
+  unit = None;
+  from = None;
+  to = None;
 }
 
 -- f of a value, if there is one

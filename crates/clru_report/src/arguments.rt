@@ -268,9 +268,7 @@ fn no_value(value: Value) -> &'static str {
         Value::Title | Value::Unit => {
             "--title and --unit want a text: write --title 'May, all servers'"
         }
-        Value::From | Value::To => {
-            "--from and --to want a capacity: write --from 1000 --to 1M"
-        }
+        Value::From | Value::To => { "--from and --to want a capacity: write --from 1000 --to 1M" }
     }
 }
 
