@@ -42,8 +42,8 @@ fn counts(heap: &Rationed<Global>, drawn: &Cell<u64>) -> Counts {
 
 #[test]
 fn each_refusal_ends_an_extend(rt: HostRuntime) -> Result<(), Fail> {
-    // Below 20 the first growth would make the index for all, and the second ask once.
-    let twenty = capacity_of(20)?;
+    // Below 68 a growth would ask for the index for all, and where that is refused once more.
+    let hundred = capacity_of(100)?;
     for n in 0..=2 * REQUESTS {
         let heap = Rationed::new(rt.alloc());
         let stored = stored_after(n);
@@ -52,7 +52,7 @@ fn each_refusal_ends_an_extend(rt: HostRuntime) -> Result<(), Fail> {
         } else {
             Ok(())
         };
-        equal!(rt; ends(&heap, twenty, n), (back, counts_after(n), true), n);
+        equal!(rt; ends(&heap, hundred, n), (back, counts_after(n), true), n);
         equal!(rt; heap.blocks(), 0, n);
     }
     Ok(())
@@ -83,6 +83,28 @@ fn goes_on(cache: &mut Plain, stored: u64, drawn: &Cell<u64>) -> bool {
         && extends(cache, stored, 9, drawn).is_ok()
         && holds_those_below(cache, 9)
         && takes_out_those_below(cache, 9)
+}
+
+// What an extend replaces or drops is gone before the next item is drawn: besides the index and the entries there is one value.
+#[test]
+fn an_extend_drops_before_it_draws(rt: HostRuntime) -> Result<(), Fail> {
+    let heap = Rationed::new(rt.alloc());
+    equal!(rt; most_blocks_at_draws(&heap, capacity_of(1)?), 3);
+    equal!(rt; heap.blocks(), 0);
+    Ok(())
+}
+
+/// The most blocks there are at a draw of an item, where each key comes twice in a row.
+fn most_blocks_at_draws(heap: &Rationed<Global>, capacity: NonZeroUsize) -> u64 {
+    let most = Cell::new(0);
+    let mut cache = CLruCache::new(heap, capacity);
+    let _ = cache.extend((0..6u64).map(|number| {
+        most.set(most.get().max(heap.blocks()));
+        let mut value = Vec::new(heap);
+        let _ = value.push(number);
+        (number / 2, value)
+    }));
+    most.get()
 }
 
 /// Collects the keys below `end`, each with ten more as its value, and counts those that are drawn.

@@ -103,7 +103,7 @@ fn a_report_is_written_whole_or_its_fault_is_told(rt: HostRuntime) {
     }
 }
 
-/// Makes a run whose request behind the first n is refused, and answers whether there was one.
+/// Makes a run whose requests behind the first n are refused, and answers whether there was one.
 fn refused_after<'h>(
     rt: &impl Abort,
     heap: &'h Rationed<Global>,
@@ -112,7 +112,7 @@ fn refused_after<'h>(
     input: &[u8],
     mut written: Vec<u8>,
 ) -> bool {
-    heap.refuse_one_after(n);
+    heap.refuse_after(n);
     let mut reader = input;
     let outcome = run(heap, options, &mut reader, &mut written, DefaultState);
     equal!(rt; heap.blocks(), 0, n);

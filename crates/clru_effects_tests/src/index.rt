@@ -9,12 +9,13 @@ use std::test::Fail;
 const NONE: u64 = 9;
 
 /// The limit, the first capacity, the keys that are put then, the second capacity, how many requests of the next put are met before
-/// one is refused, and then: the bytes of these requests, and those that are held at last.
+/// all are refused, and then: the bytes of these requests, and those that are held at last.
 type Row = (usize, usize, u64, usize, u64, u64, u64);
 
 // A growth past the limit asks for buckets that can name the new places, for these, and for the upper halves of their links.
 static GROWTHS: &[Row] = &[
-    (255, 600, 64, 600, 0, 24576, 48576),
+    // (here the index for all 600 is asked for, and then that for 256)
+    (255, 600, 64, 600, 0, 30720, 48576),
     (255, 600, 64, 600, 1, 32768, 48576),
     (255, 600, 64, 600, 2, 34816, 48576),
     (255, 200, 200, 600, 0, 24576, 48576),
@@ -50,7 +51,7 @@ fn grows(heap: &Rationed<Global>, row: Row) -> (bool, u64, bool, u64) {
     let full = kept.fill(0, filled);
     kept.resize(capacity);
     let asked = heap.asked_bytes();
-    heap.refuse_one_after(refused);
+    heap.refuse_after(refused);
     let stored = kept.put(filled, filled.wrapping_add(10));
     let asked = heap.asked_bytes().wrapping_sub(asked);
     heap.refuse_none();
