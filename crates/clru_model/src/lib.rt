@@ -16,10 +16,9 @@ mod weight;
 pub use error::{PutError, TryPutError};
 pub use hasher::DefaultState;
 /// `law_growth`, by another name.
-pub use laws::law_growth as law_greater_capacity;
 pub use laws::{
-    law_bounds, law_by_position, law_distances, law_floor, law_growth, law_inclusion, law_least,
-    law_longest_fit, law_parts, law_requests, law_schedules_by_position, law_size_bound, law_sizes,
-    law_spans_by_position,
+    law_bounds, law_by_position, law_distances, law_floor, law_growth,
+    law_growth as law_greater_capacity, law_inclusion, law_least, law_longest_fit, law_parts,
+    law_requests, law_schedules_by_position, law_size_bound, law_sizes, law_spans_by_position,
 };
 pub use weight::{WeightScale, ZeroWeightScale};

@@ -76,8 +76,8 @@ fn heavy_pages_change_nothing(rt: HostRuntime) -> Result<(), Fail> {
 /// Whether the three light pages were held as without the heavy one.
 fn holds_the_light(alloc: Global, capacity: NonZeroUsize, pages: Vec<usize>) -> bool {
     let mut cache = CLruCache::with_scale(alloc, capacity, ByPage);
-    light_pages_held(alloc, &mut cache, pages)
-        .is_some_and(|held| held.as_slice() == [false, false, true].as_slice())
+    light_pages_held(alloc, &mut cache, pages).is_some_and(|held| held.as_slice()
+        == [false, false, true].as_slice())
 }
 
 #[test]
@@ -115,7 +115,7 @@ fn stamps_stay_true(rt: HostRuntime) -> Result<(), Fail> {
 }
 
 /// The stamps of a page that was put, of one that was not, and of one that was put by its weight.
-fn stamps_of(cache: &mut CLruCache<u64, Stamped>) -> (Option<u64>, Option<u64>, Option<u64>) 
+fn stamps_of(cache: &mut CLruCache<u64, Stamped>) -> (Option<u64>, Option<u64>, Option<u64>)
     requires { cache.old.entries ≡ [] }
 {
     let _ = stamps::put_stamped(cache, 1, 10);
