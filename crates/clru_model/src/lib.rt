@@ -15,7 +15,6 @@ mod weight;
 
 pub use error::{PutError, TryPutError};
 pub use hasher::DefaultState;
-/// `law_growth`, by another name.
 pub use laws::{
     law_bounds, law_by_position, law_distances, law_floor, law_growth,
     law_growth as law_greater_capacity, law_inclusion, law_least, law_longest_fit, law_parts,
