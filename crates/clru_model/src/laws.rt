@@ -52,6 +52,8 @@ pub fn law_spans_by_position<K: Eq>()
 
 /// Does nothing at run time. Its contract says that a replay of a greater capacity hits wherever one of a lesser capacity
 /// does.
+///
+/// `law_greater_capacity` is its second name.
 pub fn law_growth<K: Eq>()
     ensures grows { HitsGrow K.eq }
     ensures misses { MissesFall K.eq }

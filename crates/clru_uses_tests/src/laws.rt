@@ -136,6 +136,7 @@ fn curves_and_the_least_of_pages(rt: HostRuntime) -> Result<(), Fail> {
     let curves = (
         of_curves::hits_at(rt.alloc(), PAGES, three),
         of_curves::misses_between(rt.alloc(), PAGES, two),
+        of_curves::misses_saved(rt.alloc(), PAGES, two, three),
         of_curves::size_hit(rt.alloc(), PAGES, sizes::ByPage, seven),
         of_curves::size_of_pages(rt.alloc(), PAGES, sizes::ByPage),
     );
@@ -143,7 +144,7 @@ fn curves_and_the_least_of_pages(rt: HostRuntime) -> Result<(), Fail> {
         of_least::least_of_any(rt.alloc(), two, PAGES, DefaultState).ok(),
         of_least::misses_above_least(rt.alloc(), two, PAGES, DefaultState).ok(),
     );
-    equal!(rt; curves, (Some(2), Some(5), Some(5), Some(7)));
+    equal!(rt; curves, (Some(2), Some(5), Some(2), Some(5), Some(7)));
     equal!(rt; least, (Some(4), Some(5)));
     let floors = (
         of_floors::floor_of_any(rt.alloc(), two, PAGES, DefaultState).ok(),
