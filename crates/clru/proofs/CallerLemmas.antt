@@ -15,7 +15,7 @@ use Rattle.clru.specs.declared.entry.End.TheVariants.{Front, Back}
 use Rattle.clru.specs.declared.entry.EntryMut.{EntryMut}
 pub use Rattle.clru_model.proofs.Dropping.{length-weighted_drops}
 pub use Rattle.clru_model.proofs.Ends.{last_of-push}
-pub use Rattle.clru_model.proofs.GrowingAgedRuns.{CountedAgedRuns, CountedAgedRuns-push, IsAgedStep-fresh, IsPut-touched}
+pub use Rattle.clru_model.proofs.GrowingAgedRuns.{CountedAgedRuns, CountedAgedRuns-push, IsAgedStep-fresh, IsAgedStep-stale}
 pub use Rattle.clru_model.proofs.GrowingRuns.{Runs, Runs-push, CountedRuns, CountedRuns-push, IsGetOr-held, IsGetOr-missed, touch-none}
 pub use Rattle.clru_model.proofs.Lookups.{length-touch, length-without, length-plain_put, missed-without}
 pub use Rattle.clru_model.proofs.Lookups.{lookup-plain_put, lookup-lent, lookup-without, lookup-removed, lookup-touch, lookup-put_beside}
