@@ -1,17 +1,20 @@
 -- Runs of a cache whose values tell when they were fetched, that get longer by one step at their end, with how many requests found
 -- no fresh value.
-use Rattle.std.proofs.Common.{◌≡◌, ℕ, ◌+◌, Bool, true, cond, not, Option, List, [], ◌∷◌, ◌++◌, is_some, refl, sym, ap, ◌∙◌}
+use Rattle.std.proofs.Common.{◌≡◌, ℕ, ◌+◌, Bool, true, false, cond, not, Option, List, [], ◌∷◌, ◌++◌, is_some, slice_get, refl, sym, ap, ◌∙◌}
 use Rattle.std.proofs.lemmas.Map.Made.{is_some-lookup}
+use Rattle.std.proofs.lemmas.Option.{same_Some}
+use Rattle.std.specs.Cmp.{IsEquivalence}
 use Rattle.std.specs.List.{count_by}
 use Rattle.std.specs.Map.{keys_of}
 use Rattle.clru_model.specs.AgedRuns.{is_fresh, IsAgedStep, fresh_before}
-use Rattle.clru_model.specs.Entries.{touch}
+use Rattle.clru_model.specs.Entries.{touch, plain_put}
 use Rattle.clru_model.specs.Requests.{holds}
 use Rattle.clru_model.specs.Runs.{IsRunOf, IsPut}
-use Rattle.clru_model.proofs.Finding.{touch-held, touch-missed}
+use Rattle.clru_model.proofs.Finding.{touch-held, touch-missed, plain_put-held, plain_put-missed}
 use Rattle.clru_model.proofs.GrowingRuns.{last_of, last_of-push, run_push}
 use Rattle.clru_model.proofs.Lookups.{by_entry}
 use Rattle.clru_model.proofs.Marks.{count_by-not-push}
+use Rattle.clru_model.proofs.PutSteps.{IsPut-plain}
 
 module _ {K V : Type 0} (eq : K → K → Bool) (fetched_at : V → ℕ) (age : Option ℕ) (put : K → List (K × V) → List (K × V) → Type 0) where
   fresh_push : (first : List (K × V)) (later : List (List (K × V))) (rs : List (K × ℕ)) (r : K × ℕ) (next : List (K × V))
@@ -62,3 +65,20 @@ module _ {K V : Type 0} (eq : K → K → Bool) (k : ℕ) (x : K) (es next : Lis
         entries = rw held (rw h.passes at there);
       })
       (λ m. rw (touch-missed eq x m) at put)
+
+module _ {K V : Type 0} (eq : K → K → Bool) (laws : IsEquivalence eq) (k : ℕ) where
+  -- the first value after a plain put is the one that was put
+  plain_put-first : (x : K) (v : V) (es : List (K × V)) (e : K × V) (rest : List (K × V)) → plain_put eq k x v es ≡ e ∷ rest → e.1 ≡ v
+  plain_put-first x v es e rest is = by_entry eq x es
+      (λ h. sym (ap (λ (p : K × V). p.1) (same_Some (h.entry.0, v) e (ap (λ l. slice_get l 0) (sym (plain_put-held eq x h k v) ∙ is)))))
+      (λ m. sym (ap (λ (p : K × V). p.1) (same_Some (x, v) e (ap (λ l. slice_get l 0) (sym (plain_put-missed eq x m k v) ∙ is)))))
+
+  -- a look-up that finds no fresh value, and a plain put of one that was fetched at that time
+  pub IsAgedStep-stale : (fetched_at : V → ℕ) (age : Option ℕ) (r : K × ℕ) (v : V) (es next : List (K × V))
+      → is_fresh eq fetched_at age r es ≡ false → fetched_at v ≡ r.1 → next ≡ plain_put eq k r.0 v (touch eq r.0 es)
+      → IsAgedStep eq fetched_at age (IsPut eq k) r es next
+  IsAgedStep-stale fetched_at age r v es next stale now made = record {
+    fresh = λ t. cc;
+    stale = λ f. IsPut-touched eq k r.0 es next (IsPut-plain eq laws k r.0 v (touch eq r.0 es) next made);
+    fetched = λ f e rest is. ap fetched_at (plain_put-first r.0 v (touch eq r.0 es) e rest (sym made ∙ is)) ∙ now;
+  }
