@@ -17,10 +17,17 @@ module _ {K : Type 0} (eq : K → K → Bool) where
   abbrev pub RespectsKeys : (K → ℕ) → Type 0
   RespectsKeys class = (x y : K) → eq x y ≡ true → class x ≡ class y
 
-  -- one cache of k keys misses at most k / (k - h + 1) times as much as caches for each class do that have h keys together,
-  -- and one key at least each
+  -- one cache of k keys misses at most k / (k - h) times as much as caches for each class that have h keys together; of those
+  -- without room each request misses
   abbrev pub OneIsNearMany : Type 0
   OneIsNearMany = (class : K → ℕ) (capacities : List ℕ) (k : ℕ) (requests : List K)
+      → RespectsKeys class → ((x : K) → holds eq x requests ≡ true → class x < length capacities)
+      → sum capacities < k
+      → (k - sum capacities) * misses eq k requests ≤ k * misses_apart class 0 capacities requests
+
+  -- and k / (k - h + 1) times as much, if each of them has room for a key
+  abbrev pub OneIsNearerMany : Type 0
+  OneIsNearerMany = (class : K → ℕ) (capacities : List ℕ) (k : ℕ) (requests : List K)
       → RespectsKeys class → ((x : K) → holds eq x requests ≡ true → class x < length capacities)
       → All (λ c. 1 ≤ c) capacities → 1 ≤ length capacities → sum capacities ≤ k
       → (k - sum capacities + 1) * misses eq k requests ≤ k * misses_apart class 0 capacities requests

@@ -1,9 +1,10 @@
 //! A law of the definitions, which does nothing at run time.
-ghost use Rattle.clru_split.specs.Apart.{OneIsNearMany};
+ghost use Rattle.clru_split.specs.Apart.{OneIsNearMany, OneIsNearerMany};
 
-/// Does nothing at run time. Its contract says that one cache for all requests, if it has room for as many keys as caches for
-/// each class together or more, misses at most `k / (k - h + 1)` times as much as they do: `k` is its capacity, `h` the sum of
-/// theirs. Equal keys are of one class, and each of the caches has room for one key at least.
+/// Does nothing at run time. Its contract says that one cache of `k` keys for all requests misses at most `k / (k - h)` times as
+/// much as caches for each class do that have `h < k` keys together, where capacity 0 misses each request; and at most
+/// `k / (k - h + 1)` times as much, for `h ≤ k`, if each of them has room for a key. Equal keys are of one class.
 pub fn law_split<K: Eq>()
     ensures near { OneIsNearMany K.eq }
+    ensures nearer { OneIsNearerMany K.eq }
 {}
