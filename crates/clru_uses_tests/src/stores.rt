@@ -3,10 +3,10 @@ ghost use Rattle.std.specs.Prelude.{◌*◌, Some, ⊤};
 ghost use Rattle.std.specs.Cmp.Rules.{comparing};
 ghost use Rattle.std.proofs.Common.{rules};
 
-use clru::{CLruCache, NonZeroUsize, ZeroWeightScale};
+use clru::{CLruCache, NonZeroUsize, WeightScale, ZeroWeightScale};
 use clru_through::{Source, Through};
 use clru_uses::of_stores::changing::{Tickets, ticket_of};
-use clru_uses::of_stores::loads::fetches_of_all;
+use clru_uses::of_stores::loads::{are_all_held, fetches_of_all};
 use clru_uses::of_stores::parts::{made_again, store_before};
 use clru_uses::of_stores::tiers::{Tier, value_through_two};
 use clru_uses::of_stores::{
@@ -97,6 +97,28 @@ fn a_store_fetches_what_a_replay_misses(rt: HostRuntime) -> Result<(), Fail> {
     equal!(rt; fetches_of_all(&mut store, &[1, 2, 1, 3, 2]), Some(4));
     store.clear();
     equal!(rt; fetches_of_all(&mut store, &[1, 100]), None);
+    Ok(())
+}
+
+/// A page weighs its number.
+#[derive(Clone, Copy)]
+struct ByNumber;
+
+impl WeightScale<u64, u64> for ByNumber {
+    ghost weight = { λ _ page _. page };
+
+    fn weight(&self, page: &u64, _value: &u64) -> usize {
+        *page as usize
+    }
+}
+
+#[test]
+fn a_store_by_size_holds_what_is_light(rt: HostRuntime) -> Result<(), Fail> {
+    let cache = CLruCache::with_scale(rt.alloc(), capacity_of(6)?, ByNumber);
+    let mut store = Through::new(cache, Doubles);
+    equal!(rt; (are_all_held(&mut store, &[1, 2, 1, 3]), store.len()), (true, 2));
+    store.clear();
+    equal!(rt; are_all_held(&mut store, &[1, 6]), false);
     Ok(())
 }
 
