@@ -154,7 +154,7 @@ module _ {K : Type 0} (eq : K → K → Bool) (laws : IsEquivalence eq) (serves 
       → IsFrom eq serves (a + b) [] rs (n + k)
   merged_reached a b n k rs s t =
       let on = merged a b rs [] [] [] s.later t.later (λ z h. let bad : false ≡ true = h in cc) (λ z h. let bad : false ≡ true = h in cc)
-          (both eq [] []) s.sched t.sched in
+      (both eq [] []) s.sched t.sched in
       record { later = on.later; sched = on.sched; misses = omega (arith, on.misses, s.misses, t.misses) }
 
 -- a filter of a filter
@@ -207,7 +207,7 @@ module _ {K : Type 0} (eq : K → K → Bool) (laws : IsEquivalence eq) (serves 
       let mine = λ (x : K). nat_eq (class x) i in let from = λ (x : K). nat_le i (class x) in
       let here = each 0 0 (omega arith) (of_class eq class i rs) in
       let rest = reached_apart cs (suc i) rs (λ j d low us. each (suc j) d (omega (arith, low)) us)
-          (λ x h. let low = inside x h in omega (arith, low)) in
+      (λ x h. let low = inside x h in omega (arith, low)) in
       let one : filter mine (from_class i rs) ≡ of_class eq class i rs = filter_both mine from mine (λ x. this_class i (class x)) rs in
       let more : filter (λ x. not (mine x)) (from_class i rs) ≡ from_class (suc i) rs =
       filter_both (λ x. not (mine x)) from (λ x. nat_le (suc i) (class x)) (λ x. later_class i (class x)) rs in
@@ -243,8 +243,12 @@ module _ {K : Type 0} (eq : K → K → Bool) (laws : IsEquivalence eq) where
       record {
         later = [] ∷ rest.later;
         sched = (omega arith, refl, rest.sched);
-        misses = rw (hit-zero eq past x) (omega (arith, count_by-not-cons false (schedule_marks eq ([] ∷ rest.later) us),
-            count_by-not-cons false (marks_after eq 0 (x ∷ past) us), rest.misses));
+        misses = rw (hit-zero eq past x) (omega (
+          arith,
+          count_by-not-cons false (schedule_marks eq ([] ∷ rest.later) us),
+          count_by-not-cons false (marks_after eq 0 (x ∷ past) us),
+          rest.misses,
+        ));
       }
 
   bypass_from : (c : ℕ) (us : List K) → IsFrom eq (ServesOrPasses eq) c [] us (misses eq c us)
@@ -272,6 +276,6 @@ module _ {K : Type 0} (eq : K → K → Bool) (laws : IsEquivalence eq) where
   pub one_is_nearer_many : OneIsNearerMany eq
   one_is_nearer_many class cs k rs respects inside some long fits =
       let at = reached_all eq laws (Serves eq) (takes_each eq) class respects cs rs
-          (λ j d low us. replay_from (get_or cs j d) us (some j d low)) inside in
+      (λ j d low us. replay_from (get_or cs j d) us (some j d low)) inside in
       let near = competitive eq laws k rs (sum cs) at.later (sum_some cs some long) fits at.sched in
       rw at.misses at near
