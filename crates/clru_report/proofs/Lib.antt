@@ -1,5 +1,6 @@
 mod CapacityLemmas
 mod Falls
+mod CommandLines
 mod FaultLemmas
 mod Forms
 mod KneeLemmas
@@ -12,4 +13,5 @@ mod SizeViews
 mod SizedKnees
 mod SizedReports
 mod SizedSamples
+mod SortedSets
 mod TakenLines

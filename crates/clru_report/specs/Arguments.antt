@@ -1,98 +1,151 @@
--- What the words of a command line ask for, once all are read. No public clause cites it.
-use Rattle.std.specs.Prelude.{◌≡◌, Bool, true, false, not, ◌&&◌, ◌||◌, List, [], ◌∷◌, None, Some, IsSomeAnd, if◌then◌else◌}
+-- Which options arguments stand for, once all are read. Public clauses cite it.
+use Rattle.std.specs.Prelude.{◌≡◌, ℕ, ◌/◌, Bool, true, false, not, ◌&&◌, ◌||◌, List, [], ◌∷◌, map, max, Option, None, Some, if◌then◌else◌, string_bytes, ⊤}
+use Rattle.std.specs.Int.NonZero.{non_zero_usize_get}
+use Rattle.std.specs.List.{Contains}
+use Rattle.std.specs.List.Sorted.{IsStrictlyIncreasing}
+use Rattle.std.specs.Option.{is_none, is_some, option_map}
+use Rattle.clru_report.specs.CommandLine.{Asked, Reading, asks, help, version, wrong}
 use Rattle.clru_report.specs.declared.arguments.Command.{Command}
 use Rattle.clru_report.specs.declared.arguments.Command.TheVariants.{Help, Version, Report}
 use Rattle.clru_report.specs.declared.arguments.Draft.{Draft}
+use Rattle.clru_report.specs.declared.arguments.Step.{Step}
+use Rattle.clru_report.specs.declared.arguments.Step.TheVariants as step
 use Rattle.clru_report.specs.declared.arguments.Refusal.{Refusal}
 use Rattle.clru_report.specs.declared.arguments.Refusal.TheVariants.{Wrong, Memory}
 use Rattle.clru_report.specs.declared.options.Capacities.{Capacities}
 use Rattle.clru_report.specs.declared.options.Capacities.TheVariants.{Usual, Each, Named}
 use Rattle.clru_report.specs.declared.options.Form.{Form}
 use Rattle.clru_report.specs.declared.options.Form.TheVariants.{Table, Picture, Summary}
-use Rattle.std.specs.Int.NonZero.{non_zero_usize_get}
-use Rattle.std.specs.Option.{is_none, is_some}
 use Rattle.clru_report.specs.declared.options.Look.{Look}
 use Rattle.clru_report.specs.declared.options.Options.{Options}
 use Rattle.clru_report.specs.declared.options.Sample.{Sample}
 use Rattle.clru_report.specs.declared.options.Sample.TheVariants.{Whole, OneIn, Taken}
 
-abbrev pub is_each : {A : Type 0} → Capacities A → Bool
-is_each Usual = false
-is_each Each = true
-is_each (Named named) = false
-
-abbrev pub is_named : {A : Type 0} → Capacities A → Bool
-is_named Usual = false
-is_named Each = false
-is_named (Named named) = true
-
+-- some capacity is named
 abbrev pub is_some_of : {X : Type 0} → List X → Bool
 is_some_of [] = false
 is_some_of (x ∷ xs) = true
 
+abbrev pub form_of : Asked → Form
+form_of asked = if asked.summary then Summary else (if asked.svg then Picture else Table)
+
+-- the sample that is asked for, where no two exclude one another
+abbrev pub IsSampleOf : Asked → Sample → Type 0
+IsSampleOf asked Whole = (asked.sample ≡ None) × ((is_some asked.sampled && is_some asked.requests) ≡ false)
+IsSampleOf asked (OneIn n) = asked.sample ≡ Some (non_zero_usize_get n)
+IsSampleOf asked (Taken n all) =
+    (asked.sample ≡ None) × (asked.sampled ≡ Some (non_zero_usize_get n)) × (asked.requests ≡ Some all)
+
+-- one key in so many is sampled
+abbrev pub one_in : Sample → ℕ
+one_in Whole = 1
+one_in (OneIn n) = non_zero_usize_get n
+one_in (Taken n all) = non_zero_usize_get n
+
+-- a capacity as one of a sample: so many times less, at least 1
+abbrev pub part_of : ℕ → ℕ → ℕ
+part_of n capacity = max 1 (capacity / n)
+
+-- the numbers of a list, each once and in ascending order
+pub record IsSortedSet (numbers sorted : List ℕ) : Type 0 where
+  pub ascending : IsStrictlyIncreasing sorted
+  pub each : (n : ℕ) → Contains numbers n → Contains sorted n
+  pub no_more : (n : ℕ) → Contains sorted n → Contains numbers n
+
+-- something is asked for that no summary has
+abbrev pub wants_rows : Asked → Bool
+wants_rows asked = asked.all || is_some_of asked.named || asked.least || asked.svg
+
+-- something is asked for that pictures alone have
+abbrev pub wants_look : Asked → Bool
+wants_look asked = is_some asked.title || is_some asked.unit || is_some asked.from || is_some asked.to
+
+-- no two of the flags exclude one another, those of a sample aside
+abbrev pub forms_go_together : Asked → Bool
+forms_go_together asked = not (asked.all && is_some_of asked.named)
+    && (not (asked.summary && wants_rows asked) && (not (asked.sizes && asked.least) && not (wants_look asked && not asked.svg)))
+
+-- two samples are asked for
+abbrev pub wants_two : Asked → Bool
+wants_two asked = is_some asked.sample && is_some asked.sampled
+
+-- of one that was taken before it is not said of how many requests, or that is said of none
+abbrev pub is_half_told : Asked → Bool
+is_half_told asked = (is_some asked.sampled && is_none asked.requests) || (is_some asked.requests && is_none asked.sampled)
+
+-- something is asked for that no sample has
+abbrev pub wants_more : Asked → Bool
+wants_more asked = (is_some asked.sample || is_some asked.sampled) && asked.least
+
+abbrev pub samples_go_together : Asked → Bool
+samples_go_together asked = not (wants_two asked) && (not (is_half_told asked) && not (wants_more asked))
+
+abbrev pub go_together : Asked → Bool
+go_together asked = forms_go_together asked && samples_go_together asked
+
 module _ {A : Type 0} where
-  -- some capacity is named
-  abbrev pub names_some : Draft A → Bool
-  names_some draft = is_some_of draft.named.items
+  -- what a draft holds, as numbers and bytes
+  abbrev pub asked_by : Draft A → Asked
+  asked_by draft = record {
+    named = map non_zero_usize_get draft.named.items; all = draft.all; sizes = draft.sizes; least = draft.least;
+    svg = draft.svg; summary = draft.summary;
+    sample = option_map non_zero_usize_get draft.sample;
+    sampled = option_map non_zero_usize_get draft.sampled;
+    requests = option_map non_zero_usize_get draft.requests;
+    title = option_map string_bytes draft.look.title; unit = option_map string_bytes draft.look.unit;
+    from = option_map non_zero_usize_get draft.look.from; to = option_map non_zero_usize_get draft.look.to;
+  }
 
-  abbrev pub form_of : Draft A → Form
-  form_of draft = if draft.summary then Summary else (if draft.svg then Picture else Table)
+  -- the capacities are all, or those of these numbers for one key in n, or the usual ones
+  abbrev pub AreCapacitiesOf : Bool → List ℕ → ℕ → Capacities A → Type 0
+  AreCapacitiesOf all numbers n Usual = (all ≡ false) × (numbers ≡ [])
+  AreCapacitiesOf all numbers n Each = all ≡ true
+  AreCapacitiesOf all numbers n (Named named) = (all ≡ false) × (is_some_of numbers ≡ true)
+      × IsSortedSet (map (part_of n) numbers) (map non_zero_usize_get named.items)
 
-  -- the sample that is asked for, where no two exclude one another
-  abbrev pub IsSampleOf : Draft A → Sample → Type 0
-  IsSampleOf draft Whole = (draft.sample ≡ None) × ((is_some draft.sampled && is_some draft.requests) ≡ false)
-  IsSampleOf draft (OneIn n) = draft.sample ≡ Some n
-  IsSampleOf draft (Taken n all) =
-      (draft.sample ≡ None) × (draft.sampled ≡ Some n) × IsSomeAnd draft.requests (λ r. non_zero_usize_get r ≡ all)
+  -- title, unit and ends of the axis
+  pub record IsLookOf (asked : Asked) (look : Look A) : Type 0 where
+    pub title : option_map string_bytes look.title ≡ asked.title
+    pub unit : option_map string_bytes look.unit ≡ asked.unit
+    pub from : option_map non_zero_usize_get look.from ≡ asked.from
+    pub to : option_map non_zero_usize_get look.to ≡ asked.to
 
-  -- something is asked for that no summary has
-  abbrev pub wants_rows : Draft A → Bool
-  wants_rows draft = draft.all || names_some draft || draft.least || draft.svg
+  -- the options are those that are asked for
+  pub record AreOf (asked : Asked) (options : Options A) : Type 0 where
+    pub form : options.form ≡ form_of asked
+    pub sizes : options.sizes ≡ asked.sizes
+    pub least : options.least ≡ asked.least
+    pub sample : IsSampleOf asked options.sample
+    pub look : IsLookOf asked options.look
+    pub capacities : AreCapacitiesOf asked.all asked.named (one_in options.sample) options.capacities
 
-  -- something is asked for that pictures alone have
-  abbrev pub wants_look : Look A → Bool
-  wants_look look = is_some look.title || is_some look.unit || is_some look.from || is_some look.to
+  -- a report is asked for, and these are its options
+  abbrev pub GivesOptions : Reading → Options A → Type 0
+  GivesOptions help options = ⊥
+  GivesOptions version options = ⊥
+  GivesOptions wrong options = ⊥
+  GivesOptions (asks next asked) options = (go_together asked ≡ true) × AreOf asked options
 
-  -- no two of the flags exclude one another, those of a sample aside
-  abbrev pub forms_go_together : Draft A → Bool
-  forms_go_together draft = not (draft.all && names_some draft)
-      && (not (draft.summary && wants_rows draft) && (not (draft.sizes && draft.least) && not (wants_look draft.look && not draft.svg)))
+  -- the arguments ask for this command
+  abbrev pub IsAskedFor : Reading → Command A → Type 0
+  IsAskedFor reading Help = reading ≡ help
+  IsAskedFor reading Version = reading ≡ version
+  IsAskedFor reading (Report options) = GivesOptions reading options
 
-  -- two samples are asked for
-  abbrev pub wants_two : Draft A → Bool
-  wants_two draft = is_some draft.sample && is_some draft.sampled
-
-  -- of one that was taken before it is not said of how many requests, or that is said of none
-  abbrev pub is_half_told : Draft A → Bool
-  is_half_told draft = (is_some draft.sampled && is_none draft.requests) || (is_some draft.requests && is_none draft.sampled)
-
-  -- something is asked for that no sample has
-  abbrev pub wants_more : Draft A → Bool
-  wants_more draft = (is_some draft.sample || is_some draft.sampled) && draft.least
-
-  abbrev pub samples_go_together : Draft A → Bool
-  samples_go_together draft = not (wants_two draft) && (not (is_half_told draft) && not (wants_more draft))
-
-  abbrev pub go_together : Draft A → Bool
-  go_together draft = forms_go_together draft && samples_go_together draft
-
-  -- the options are those of the flags
-  pub record AreOf (draft : Draft A) (options : Options A) : Type 0 where
-    pub form : options.form ≡ form_of draft
-    pub sizes : options.sizes ≡ draft.sizes
-    pub least : options.least ≡ draft.least
-    pub sample : IsSampleOf draft options.sample
-    pub look : options.look ≡ draft.look
-    pub each : is_each options.capacities ≡ draft.all
-    pub named : is_named options.capacities ≡ names_some draft
-
-  -- a report with the options of these flags is asked for
-  abbrev pub AsksFor : Draft A → Command A → Type 0
-  AsksFor draft Help = ⊥
-  AsksFor draft Version = ⊥
-  AsksFor draft (Report options) = AreOf draft options
-
-  -- the words are wrong, and memory did not run out
+  -- the arguments are wrong, and memory did not run out
   abbrev pub is_wrong : Refusal A → Bool
   is_wrong (Wrong line) = true
   is_wrong Memory = false
+
+-- what a step of a draft shows of a reading
+abbrev pub reading_after : Step → Asked → Reading
+reading_after step.Help asked = help
+reading_after step.Version asked = version
+reading_after (step.Next next) asked = asks next asked
+
+-- the arguments ask for nothing: one is wrong, or two do not go together
+abbrev pub IsRefusedLine : Reading → Type 0
+IsRefusedLine help = ⊥
+IsRefusedLine version = ⊥
+IsRefusedLine wrong = ⊤
+IsRefusedLine (asks next asked) = go_together asked ≡ false

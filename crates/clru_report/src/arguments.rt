@@ -1,7 +1,10 @@
 //! What the arguments ask for.
-ghost use Rattle.std.specs.Prelude.{◌≡◌, true, false, IfErr, IfOk, OnOk};
-ghost use Rattle.std.specs.Option.{is_none};
-ghost use Rattle.clru_report.specs.Arguments.{AsksFor, form_of as form_by, forms_go_together, go_together, is_each, is_named, is_some_of, is_half_told, is_wrong, IsSampleOf, samples_go_together, wants_look, wants_more, wants_rows, wants_two};
+ghost use Rattle.std.specs.Prelude.{◌≡◌, ◌<◌, ◌≤◌, ◌++◌, ◌==◌, true, false, None, Some, IfErr, IfOk, IsSomeAnd, [], ◌∷◌, length, map, OnOk, string_bytes};
+ghost use Rattle.std.specs.Int.NonZero.{non_zero_usize_get};
+ghost use Rattle.std.specs.List.{slice_split};
+ghost use Rattle.std.specs.Option.{is_none, option_map};
+ghost use Rattle.clru_report.specs.Arguments.{AreCapacitiesOf, asked_by, form_of as form_by, forms_go_together, go_together, is_half_told, is_wrong, IsAskedFor, IsRefusedLine, IsSampleOf, IsSortedSet, one_in as one_in_by, part_of, samples_go_together, reading_after, wants_look, wants_more, wants_rows, wants_two};
+ghost use Rattle.clru_report.specs.CommandLine.{decimal_unit_of as decimal_unit_by, number_in, numbers_and, read_all, read_word, unit_of as unit_by, value_behind, with_argument, with_flag, with_value_of, asks, nothing, wrong as is_not_read};
 
 use crate::options::{Capacities, Form, Look, Options, Sample};
 use clru_lines::capacity_of;
@@ -44,10 +47,9 @@ struct Draft<A: Allocator> {
     look: Look<A>,
 }
 
-// What the word after an argument is.
+// What follows an argument.
 #[derive(Clone, Copy, PartialEq, Eq)]
-enum Follows {
-    Nothing,
+enum Value {
     Capacities,
     Sample,
     Sampled,
@@ -58,43 +60,44 @@ enum Follows {
     To,
 }
 
+// What one word leads to.
+#[derive(Clone, Copy)]
+enum Step {
+    Help,
+    Version,
+    // The next word is this value, or else an argument.
+    Next(Option<Value>),
+}
+
 /// Reads the words after the program's name, which are in any order. What follows `--help` or `--version` is not read.
 ///
-/// It refuses the first word that is no argument, and else arguments that do not go together. No clause says what the words ask
-/// for.
+/// It refuses the first word that is no argument, and else arguments that do not go together.
 pub fn command_of<S: AsStr, A: Allocator + Copy>(
     alloc: A,
     words: &[S],
-) -> Result<Command<A>, Refusal<A>> {
+) -> Result<Command<A>, Refusal<A>>
+    ensures command { IfOk result (λ command. IsAskedFor (read_all (map S.text words.now)) command) }
+    ensures refused { IfErr result (λ refusal. is_wrong refusal ≡ true → IsRefusedLine (read_all (map S.text words.now))) }
+{
     let mut draft = draft_of(alloc);
-    let mut follows = Follows::Nothing;
+    let mut next = None;
     for word in words {
-        let word = word.as_str();
-        if follows != Follows::Nothing {
-            take_value(alloc, &mut draft, follows, word)?;
-            follows = Follows::Nothing;
-            continue;
-        }
-        match word {
-            "--help" | "-h" => return Ok(Command::Help),
-            "--version" | "-V" => return Ok(Command::Version),
-            _ => follows = follows_of(word),
-        }
-        if follows == Follows::Nothing && !take_flag(&mut draft, word) {
-            match word.strip_prefix("--at=") {
-                Some(capacities) => name_capacities(alloc, &mut draft.named, capacities)?,
-                None => return Err(unknown(alloc, word)),
-            }
+        match read_one(alloc, &mut draft, next, word.as_str())? {
+            Step::Help => return Ok(Command::Help),
+            Step::Version => return Ok(Command::Version),
+            Step::Next(value) => next = value,
         }
     }
-    match follows {
-        Follows::Nothing => finish(alloc, draft),
-        _ => Err(wrong(alloc, no_value(follows))),
+    match next {
+        None => finish(alloc, draft),
+        Some(value) => Err(wrong(alloc, no_value(value))),
     }
 }
 
 // Nothing is asked for.
-fn draft_of<A: Allocator + Copy>(alloc: A) -> Draft<A> {
+fn draft_of<A: Allocator + Copy>(alloc: A) -> Draft<A>
+    ensures { asked_by result ≡ nothing }
+{
     Draft {
         named: Vec::new(alloc),
         all: false,
@@ -114,22 +117,89 @@ fn draft_of<A: Allocator + Copy>(alloc: A) -> Draft<A> {
     }
 }
 
-fn follows_of(word: &str) -> Follows {
+// One word: an argument, or the value of the one before it.
+fn read_one<A: Allocator + Copy>(
+    alloc: A,
+    draft: &mut Draft<A>,
+    next: Option<Value>,
+    word: &str,
+) -> Result<Step, Refusal<A>>
+    ensures step { IfOk result (λ step. read_word next word.now (asked_by draft.old) ≡ reading_after step (asked_by draft.new)) }
+    ensures refused { IfErr result (λ refusal. is_wrong refusal ≡ true
+        → read_word next word.now (asked_by draft.old) ≡ is_not_read) }
+{
+    match next {
+        None => read_argument(alloc, draft, word),
+        Some(value) => {
+            take_value(alloc, draft, value, word)?;
+            Ok(Step::Next(None))
+        }
+    }
+}
+
+fn read_argument<A: Allocator + Copy>(
+    alloc: A,
+    draft: &mut Draft<A>,
+    word: &str,
+) -> Result<Step, Refusal<A>>
+    ensures step { IfOk result (λ step. read_word None word.now (asked_by draft.old) ≡ reading_after step (asked_by draft.new)) }
+    ensures refused { IfErr result (λ refusal. is_wrong refusal ≡ true
+        → read_word None word.now (asked_by draft.old) ≡ is_not_read) }
+{
+    if word == "--help" || word == "-h" {
+        return Ok(Step::Help);
+    }
+    if word == "--version" || word == "-V" {
+        return Ok(Step::Version);
+    }
+    if let Some(value) = value_of(word) {
+        return Ok(Step::Next(Some(value)));
+    }
+    take_argument(alloc, draft, word)?;
+    Ok(Step::Next(None))
+}
+
+// An argument that no value follows.
+fn take_argument<A: Allocator + Copy>(
+    alloc: A,
+    draft: &mut Draft<A>,
+    word: &str,
+) -> Result<(), Refusal<A>>
+    ensures argument { OnOk result (with_argument word.now (asked_by draft.old) ≡ Some (asked_by draft.new)) }
+    ensures refused { IfErr result (λ refusal. is_wrong refusal ≡ true
+        → with_argument word.now (asked_by draft.old) ≡ None) }
+{
+    if take_flag(draft, word) {
+        return Ok(());
+    }
+    match word.strip_prefix("--at=") {
+        Some(capacities) => name_capacities(alloc, &mut draft.named, capacities),
+        None => Err(unknown(alloc, word)),
+    }
+}
+
+// The value that follows an argument, if one does.
+fn value_of(word: &str) -> Option<Value>
+    ensures { result ≡ value_behind word.now }
+{
     match word {
-        "--at" => Follows::Capacities,
-        "--sample" => Follows::Sample,
-        "--sampled" => Follows::Sampled,
-        "--requests" => Follows::Requests,
-        "--title" => Follows::Title,
-        "--unit" => Follows::Unit,
-        "--from" => Follows::From,
-        "--to" => Follows::To,
-        _ => Follows::Nothing,
+        "--at" => Some(Value::Capacities),
+        "--sample" => Some(Value::Sample),
+        "--sampled" => Some(Value::Sampled),
+        "--requests" => Some(Value::Requests),
+        "--title" => Some(Value::Title),
+        "--unit" => Some(Value::Unit),
+        "--from" => Some(Value::From),
+        "--to" => Some(Value::To),
+        _ => None,
     }
 }
 
 // Answers whether the word is an argument that stands alone.
-fn take_flag<A: Allocator>(draft: &mut Draft<A>, word: &str) -> bool {
+fn take_flag<A: Allocator>(draft: &mut Draft<A>, word: &str) -> bool
+    ensures flag { result ≡ true → with_flag word.now (asked_by draft.old) ≡ Some (asked_by draft.new) }
+    ensures none { result ≡ false → (with_flag word.now (asked_by draft.old) ≡ None) × (asked_by draft.new ≡ asked_by draft.old) }
+{
     match word {
         "--all" => draft.all = true,
         "--sizes" => draft.sizes = true,
@@ -144,24 +214,30 @@ fn take_flag<A: Allocator>(draft: &mut Draft<A>, word: &str) -> bool {
 fn take_value<A: Allocator + Copy>(
     alloc: A,
     draft: &mut Draft<A>,
-    follows: Follows,
+    value: Value,
     word: &str,
-) -> Result<(), Refusal<A>> {
-    match follows {
-        Follows::Nothing => {}
-        Follows::Capacities => name_capacities(alloc, &mut draft.named, word)?,
-        Follows::Sample => draft.sample = Some(number_named(alloc, follows, word)?),
-        Follows::Sampled => draft.sampled = Some(number_named(alloc, follows, word)?),
-        Follows::Requests => draft.requests = Some(number_named(alloc, follows, word)?),
-        Follows::Title => draft.look.title = Some(text_of(alloc, word)?),
-        Follows::Unit => draft.look.unit = Some(text_of(alloc, word)?),
-        Follows::From => draft.look.from = Some(number_named(alloc, follows, word)?),
-        Follows::To => draft.look.to = Some(number_named(alloc, follows, word)?),
+) -> Result<(), Refusal<A>>
+    ensures value { OnOk result (with_value_of value word.now (asked_by draft.old) ≡ Some (asked_by draft.new)) }
+    ensures refused { IfErr result (λ refusal. is_wrong refusal ≡ true
+        → with_value_of value word.now (asked_by draft.old) ≡ None) }
+{
+    match value {
+        Value::Capacities => name_capacities(alloc, &mut draft.named, word)?,
+        Value::Sample => draft.sample = Some(number_named(alloc, value, word)?),
+        Value::Sampled => draft.sampled = Some(number_named(alloc, value, word)?),
+        Value::Requests => draft.requests = Some(number_named(alloc, value, word)?),
+        Value::Title => draft.look.title = Some(text_of(alloc, word)?),
+        Value::Unit => draft.look.unit = Some(text_of(alloc, word)?),
+        Value::From => draft.look.from = Some(number_named(alloc, value, word)?),
+        Value::To => draft.look.to = Some(number_named(alloc, value, word)?),
     }
     Ok(())
 }
 
-fn text_of<A: Allocator + Copy>(alloc: A, word: &str) -> Result<String<A>, Refusal<A>> {
+fn text_of<A: Allocator + Copy>(alloc: A, word: &str) -> Result<String<A>, Refusal<A>>
+    ensures text { IfOk result (λ text. string_bytes text ≡ word.now) }
+    ensures refused { IfErr result (λ refusal. is_wrong refusal ≡ false) }
+{
     match String::from_str(alloc, word) {
         Ok(text) => Ok(text),
         Err(_) => Err(Refusal::Memory),
@@ -170,27 +246,29 @@ fn text_of<A: Allocator + Copy>(alloc: A, word: &str) -> Result<String<A>, Refus
 
 fn number_named<A: Allocator + Copy>(
     alloc: A,
-    follows: Follows,
+    value: Value,
     word: &str,
-) -> Result<NonZeroUsize, Refusal<A>> {
+) -> Result<NonZeroUsize, Refusal<A>>
+    ensures number { IfOk result (λ number. number_in word.now ≡ Some (non_zero_usize_get number)) }
+    ensures refused { IfErr result (λ refusal. is_wrong refusal ≡ true → number_in word.now ≡ None) }
+{
     match capacity_named(word) {
         Some(number) => Ok(number),
-        None => Err(wrong(alloc, no_value(follows))),
+        None => Err(wrong(alloc, no_value(value))),
     }
 }
 
 // What is wrong where the word is not there, or is none of those.
-fn no_value(follows: Follows) -> &'static str {
-    match follows {
-        Follows::Nothing => "",
-        Follows::Capacities => NO_CAPACITIES,
-        Follows::Sample | Follows::Sampled | Follows::Requests => {
+fn no_value(value: Value) -> &'static str {
+    match value {
+        Value::Capacities => NO_CAPACITIES,
+        Value::Sample | Value::Sampled | Value::Requests => {
             "--sample, --sampled and --requests want a number: write --sample 100, or --sampled 100 --requests 500M"
         }
-        Follows::Title | Follows::Unit => {
+        Value::Title | Value::Unit => {
             "--title and --unit want a text: write --title 'May, all servers'"
         }
-        Follows::From | Follows::To => {
+        Value::From | Value::To => {
             "--from and --to want a capacity: write --from 1000 --to 1M"
         }
     }
@@ -202,46 +280,87 @@ const NO_CAPACITIES: &str = "--at wants capacities: write --at 100,1000";
 fn name_capacities<A: Allocator + Copy>(
     alloc: A,
     named: &mut Vec<NonZeroUsize, A>,
-    word: &str,
-) -> Result<(), Refusal<A>> {
-    for part in word.split(',') {
-        match capacity_named(part) {
-            Some(capacity) => {
-                let Ok(()) = named.push(capacity) else {
-                    return Err(Refusal::Memory);
-                };
-            }
-            None => return Err(no_capacity(alloc, part)),
-        }
+    list: &str,
+) -> Result<(), Refusal<A>>
+    ensures numbers { OnOk result (numbers_and (map non_zero_usize_get named.old.items) (slice_split (λ b. b == 44) list.now)
+        ≡ Some (map non_zero_usize_get named.new.items)) }
+    ensures refused { IfErr result (λ refusal. is_wrong refusal ≡ true
+        → numbers_and (map non_zero_usize_get named.old.items) (slice_split (λ b. b == 44) list.now) ≡ None) }
+{
+    let mut left = list;
+    'parts: while let Some((part, rest)) = left.split_once(',') {
+        name_capacity(alloc, named, part)?;
+        left = rest;
     }
-    Ok(())
+    name_capacity(alloc, named, left)
 }
 
-// What may stand behind a number.
-static UNITS: &[(&str, usize)] = &[
-    ("KiB", 1 << 10),
-    ("MiB", 1 << 20),
-    ("GiB", 1 << 30),
-    ("K", 1_000),
-    ("M", 1_000_000),
-    ("G", 1_000_000_000),
-];
-
-fn capacity_named(word: &str) -> Option<NonZeroUsize> {
-    for (unit, size) in UNITS {
-        if let Some(digits) = word.strip_suffix(*unit) {
-            let number = capacity_of(digits.as_bytes())?;
-            return NonZeroUsize::new(number.get().checked_mul(*size)?);
-        }
+fn name_capacity<A: Allocator + Copy>(
+    alloc: A,
+    named: &mut Vec<NonZeroUsize, A>,
+    part: &str,
+) -> Result<(), Refusal<A>>
+    ensures number { OnOk result (numbers_and (map non_zero_usize_get named.old.items) (part.now ∷ [])
+        ≡ Some (map non_zero_usize_get named.new.items)) }
+    ensures refused { IfErr result (λ refusal. is_wrong refusal ≡ true
+        → numbers_and (map non_zero_usize_get named.old.items) (part.now ∷ []) ≡ None) }
+{
+    let Some(capacity) = capacity_named(part) else {
+        return Err(no_capacity(alloc, part));
+    };
+    match named.push(capacity) {
+        Ok(()) => Ok(()),
+        Err(_) => Err(Refusal::Memory),
     }
-    capacity_of(word.as_bytes())
+}
+
+// What a word names: digits, and a unit behind them or none.
+fn capacity_named(word: &str) -> Option<NonZeroUsize>
+    ensures { option_map non_zero_usize_get result ≡ number_in word.now }
+{
+    let (letters, unit) = unit_of(word);
+    let bytes = word.as_bytes();
+    let number = capacity_of(&bytes[..bytes.len() - letters])?;
+    NonZeroUsize::new(number.get().checked_mul(unit)?)
+}
+
+// How many letters of a unit a word ends in, and what the unit counts.
+fn unit_of(word: &str) -> (usize, usize)
+    ensures value { result ≡ unit_by word.now }
+    ensures within { result.0 ≤ length word.now }
+    ensures positive { 0 < result.1 }
+{
+    if word.ends_with("KiB") {
+        (3, 1 << 10)
+    } else if word.ends_with("MiB") {
+        (3, 1 << 20)
+    } else if word.ends_with("GiB") {
+        (3, 1 << 30)
+    } else {
+        decimal_unit_of(word)
+    }
+}
+
+fn decimal_unit_of(word: &str) -> (usize, usize)
+    ensures value { result ≡ decimal_unit_by word.now }
+    ensures within { result.0 ≤ length word.now }
+    ensures positive { 0 < result.1 }
+{
+    if word.ends_with("K") {
+        (1, 1_000)
+    } else if word.ends_with("M") {
+        (1, 1_000_000)
+    } else if word.ends_with("G") {
+        (1, 1_000_000_000)
+    } else {
+        (0, 1)
+    }
 }
 
 // Once all words are read, since the order of words is free.
 fn finish<A: Allocator + Copy>(alloc: A, draft: Draft<A>) -> Result<Command<A>, Refusal<A>>
-    ensures options { IfOk result (λ command. AsksFor draft command) }
-    ensures together { OnOk result (go_together draft ≡ true) }
-    ensures refused { IfErr result (λ refusal. is_wrong refusal ≡ true → go_together draft ≡ false) }
+    ensures options { IfOk result (λ command. IsAskedFor (asks None (asked_by draft)) command) }
+    ensures refused { IfErr result (λ refusal. is_wrong refusal ≡ true → go_together (asked_by draft) ≡ false) }
 {
     if let Some(line) = conflict_of(&draft) {
         return Err(wrong(alloc, line));
@@ -279,8 +398,7 @@ fn capacities_of<A: Allocator>(
     all: bool,
     sample: Sample,
 ) -> Capacities<A>
-    ensures each { all ≡ true → is_each result ≡ true × is_named result ≡ false }
-    ensures named { all ≡ false → is_each result ≡ false × is_named result ≡ is_some_of named.items }
+    ensures { AreCapacitiesOf all (map non_zero_usize_get named.items) (one_in_by sample) result }
 {
     if all {
         return Capacities::Each;
@@ -288,25 +406,46 @@ fn capacities_of<A: Allocator>(
     if named.is_empty() {
         return Capacities::Usual;
     }
-    let one_in = match sample {
-        Sample::Whole => NonZeroUsize::MIN,
-        Sample::OneIn(one_in) => one_in,
-        Sample::Taken(one_in, _) => one_in,
-    };
-    for capacity in named.iter_mut() {
-        *capacity = parts_of(*capacity, one_in);
-    }
-    named.sort_unstable();
-    named.dedup();
+    take_parts(&mut named, one_in_of(sample));
+    sort_and_dedup(&mut named);
     Capacities::Named(named)
 }
 
-fn parts_of(capacity: NonZeroUsize, one_in: NonZeroUsize) -> NonZeroUsize {
+// One key in how many is read.
+fn one_in_of(sample: Sample) -> NonZeroUsize
+    ensures { non_zero_usize_get result ≡ one_in_by sample }
+{
+    match sample {
+        Sample::Whole => NonZeroUsize::MIN,
+        Sample::OneIn(one_in) => one_in,
+        Sample::Taken(one_in, _) => one_in,
+    }
+}
+
+fn take_parts<A: Allocator>(named: &mut Vec<NonZeroUsize, A>, one_in: NonZeroUsize)
+    ensures { map non_zero_usize_get named.new.items
+        ≡ map (part_of (non_zero_usize_get one_in)) (map non_zero_usize_get named.old.items) }
+{
+    for index in 0..named.len() {
+        named[index] = parts_of(named[index], one_in);
+    }
+}
+
+fn parts_of(capacity: NonZeroUsize, one_in: NonZeroUsize) -> NonZeroUsize
+    ensures { non_zero_usize_get result ≡ part_of (non_zero_usize_get one_in) (non_zero_usize_get capacity) }
+{
     NonZeroUsize::new(capacity.get() / one_in.get()).unwrap_or(NonZeroUsize::MIN)
 }
 
+fn sort_and_dedup<A: Allocator>(named: &mut Vec<NonZeroUsize, A>)
+    ensures { IsSortedSet (map non_zero_usize_get named.old.items) (map non_zero_usize_get named.new.items) }
+{
+    named.sort_unstable();
+    named.dedup();
+}
+
 fn form_of<A: Allocator>(draft: &Draft<A>) -> Form
-    ensures { result ≡ form_by draft.now }
+    ensures { result ≡ form_by (asked_by draft.now) }
 {
     if draft.summary {
         Form::Summary
@@ -318,7 +457,7 @@ fn form_of<A: Allocator>(draft: &Draft<A>) -> Form
 }
 
 fn sample_of<A: Allocator>(draft: &Draft<A>) -> Sample
-    ensures { IsSampleOf draft.now result }
+    ensures { IsSampleOf (asked_by draft.now) result }
 {
     if let Some(one_in) = draft.sample {
         return Sample::OneIn(one_in);
@@ -333,7 +472,7 @@ fn sample_of<A: Allocator>(draft: &Draft<A>) -> Sample
 
 // Which arguments do not go together, those of a sample aside.
 fn conflict_of<A: Allocator>(draft: &Draft<A>) -> Option<&'static str>
-    ensures { is_none result ≡ forms_go_together draft.now }
+    ensures { is_none result ≡ forms_go_together (asked_by draft.now) }
 {
     if draft.all && !draft.named.is_empty() {
         return Some("--all and --at do not go together: leave one out");
@@ -348,14 +487,14 @@ fn conflict_of<A: Allocator>(draft: &Draft<A>) -> Option<&'static str>
             "--least and --sizes do not go together: the least in bytes is too hard to compute, so leave one out",
         );
     }
-    if asks_for_look(&draft.look) && !draft.svg {
+    if asks_for_look(draft) && !draft.svg {
         return Some("--title, --unit, --from and --to are of a picture: write --svg as well");
     }
     None
 }
 
 fn conflict_of_sample<A: Allocator>(draft: &Draft<A>) -> Option<&'static str>
-    ensures { is_none result ≡ samples_go_together draft.now }
+    ensures { is_none result ≡ samples_go_together (asked_by draft.now) }
 {
     if asks_for_two(draft) {
         return Some("--sample and --sampled do not go together: leave one out");
@@ -372,14 +511,14 @@ fn conflict_of_sample<A: Allocator>(draft: &Draft<A>) -> Option<&'static str>
 }
 
 fn asks_for_two<A: Allocator>(draft: &Draft<A>) -> bool
-    ensures { result ≡ wants_two draft.now }
+    ensures { result ≡ wants_two (asked_by draft.now) }
 {
     draft.sample.is_some() && draft.sampled.is_some()
 }
 
 // Of a sample that was taken before it has to be said of how many requests, and of no other one.
 fn tells_half<A: Allocator>(draft: &Draft<A>) -> bool
-    ensures { result ≡ is_half_told draft.now }
+    ensures { result ≡ is_half_told (asked_by draft.now) }
 {
     (draft.sampled.is_some() && draft.requests.is_none())
         || (draft.requests.is_some() && draft.sampled.is_none())
@@ -387,20 +526,21 @@ fn tells_half<A: Allocator>(draft: &Draft<A>) -> bool
 
 // Whether something is asked for that no sample has.
 fn asks_for_more<A: Allocator>(draft: &Draft<A>) -> bool
-    ensures { result ≡ wants_more draft.now }
+    ensures { result ≡ wants_more (asked_by draft.now) }
 {
     (draft.sample.is_some() || draft.sampled.is_some()) && draft.least
 }
 
-fn asks_for_look<A: Allocator>(look: &Look<A>) -> bool
-    ensures { result ≡ wants_look look.now }
+fn asks_for_look<A: Allocator>(draft: &Draft<A>) -> bool
+    ensures { result ≡ wants_look (asked_by draft.now) }
 {
+    let look = &draft.look;
     look.title.is_some() || look.unit.is_some() || look.from.is_some() || look.to.is_some()
 }
 
 // Whether something is asked for that no summary has.
 fn asks_for_rows<A: Allocator>(draft: &Draft<A>) -> bool
-    ensures { result ≡ wants_rows draft.now }
+    ensures { result ≡ wants_rows (asked_by draft.now) }
 {
     draft.all || !draft.named.is_empty() || draft.least || draft.svg
 }
