@@ -1,7 +1,13 @@
 pub mod Due
+pub mod FloorOf
 pub mod Furthest
 pub mod Held
 pub mod Laters
+pub mod Prices
 pub mod Queue
+pub mod Reusing
+pub mod SizeFloorOf
+pub mod SizeSums
+pub mod Sums
 pub mod Until
 pub mod Walking

@@ -1,3 +1,6 @@
+pub mod FloorErrors
+pub mod FloorNumbers
 pub mod Next
 pub mod Passes
 pub mod Queue
+pub mod Reuses

@@ -9,11 +9,22 @@
 #![tactic(auto)]
 
 mod debug;
+mod floor_error;
+mod floor_keys;
+mod floor_pass;
+mod floors;
 mod foresight;
 mod next_uses;
 mod pass;
+mod reuse;
+mod size_floor;
 
-pub use clru_model::{DefaultState, law_floor, law_least};
+pub use clru_model::{DefaultState, WeightScale, ZeroWeightScale, law_floor, law_least};
+pub use floor_error::FloorRequestError;
+pub use floor_keys::floor;
+pub use floor_pass::FloorPass;
+pub use floors::Floor;
 pub use foresight::{Foresight, least};
 pub use pass::ForesightPass;
+pub use size_floor::SizeFloor;
 pub use std::num::NonZeroUsize;
