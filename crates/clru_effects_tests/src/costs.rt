@@ -57,6 +57,7 @@ fn costs_of(
         capacities: Capacities::Usual,
         sizes: flags.0,
         least: flags.1,
+        floor: false,
         sample,
         form,
         look: plain(),

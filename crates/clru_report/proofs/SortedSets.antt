@@ -49,5 +49,5 @@ module _ {X : Type 0} (f : X → ℕ) where
         ascending = rw is (IsStrictlyIncreasing-dedup (map f ys) (sorted-map ys sorted));
         each = λ n h. rw is (Contains-dedup_nat (map f ys) n (Contains-permutation (map f xs) (map f ys) n same h));
         no_more = λ n h. Contains-permutation (map f ys) (map f xs) n (IsPermutation-sym (map f xs) (map f ys) same)
-        (Contains-from_dedup eqb (map f ys) n (rw is at h));
+            (Contains-from_dedup eqb (map f ys) n (rw is at h));
       }

@@ -28,13 +28,13 @@ pub(crate) fn text_by_keys<A: Allocator + Copy>(
     least: bool,
     counts: Counts,
 ) -> Result<String<A>, AllocError>
-    ensures { IfOk result (λ text. IsTextByKeys options.now.form least counts rows.now (string_bytes text)) }
+    ensures { IfOk result (λ text. IsTextByKeys options.now.form least options.now.floor counts rows.now (string_bytes text)) }
 {
     let requests = counts.requests;
     match options.form {
-        Form::Table => table_of(alloc, rows, requests, least),
+        Form::Table => table_of(alloc, rows, requests, least, options.floor),
         Form::Picture => {
-            let table = table_of(alloc, rows, requests, least)?;
+            let table = table_of(alloc, rows, requests, least, options.floor)?;
             let curve = curve.as_slice();
             picture_by_keys(alloc, curve, counts.one_in, requests, options, rows, &table)
         }
