@@ -26,8 +26,7 @@ neighbours in this table: other rows may give another mark.
                  one that knows all requests beforehand; in keys alone
     --floor      a floor of the misses as well: no policy has fewer, also one
                  that lets requested keys bypass the cache; of a sample it is
-                 told as misses are; a picture has it in its table; in keys
-                 alone
+                 told as misses are; in keys alone
     --svg        a picture in place of the table; with --sizes it has a line
                  for the bytes as well
     --title TEXT, --unit TEXT, --from N, --to N

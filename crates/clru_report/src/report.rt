@@ -90,7 +90,7 @@ fn report_of_all<R: Read, S: BuildHasher + Drop, A: Allocator + Copy>(
         distinct: curve.distinct(),
         bytes,
     };
-    match text_by_keys(alloc, options, &curve, &rows, options.least, counts) {
+    match text_by_keys(alloc, options, &curve, &floor, &rows, options.least, counts) {
         Ok(text) => Ok(text),
         Err(_) => Err(ReadError::Memory),
     }

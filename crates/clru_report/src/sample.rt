@@ -68,7 +68,7 @@ pub(crate) fn text_of_sample<A: Allocator + Copy>(
         distinct,
         bytes,
     };
-    text_by_keys(alloc, options, curve, &rows, false, counts)
+    text_by_keys(alloc, options, curve, floor, &rows, false, counts)
 }
 
 // The rows that the options ask for, each as one of all requests.
