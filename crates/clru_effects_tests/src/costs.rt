@@ -53,10 +53,15 @@ fn costs_of(
 ) -> Result<(u64, u64, u64), Fail> {
     let count = Cell::new(0);
     let heap = Rationed::new(alloc);
+    // Only a whole log by keys can have the least.
+    let least = match sample {
+        Sample::Whole => flags.1 && !flags.0,
+        _ => false,
+    };
     let options = Options {
         capacities: Capacities::Usual,
         sizes: flags.0,
-        least: flags.1,
+        least,
         floor: false,
         sample,
         form,

@@ -172,7 +172,7 @@ fn within(
     let options = Options {
         capacities: Capacities::Usual,
         sizes,
-        least,
+        least: least && !sizes,
         floor: false,
         sample: Sample::Whole,
         form: Form::Table,

@@ -65,7 +65,8 @@ fn a_map_prints_nothing_of_its_entries(rt: HostRuntime) -> Result<(), Fail> {
 fn the_allocator_prints_its_counts(rt: HostRuntime) -> Result<(), Fail> {
     let heap = Rationed::new(rt.alloc());
     let held = Box::new(&heap, 7u64)?;
-    let text = "Rationed { asked: 1, refused: 0, blocks: 1, held_bytes: 8 }";
+    drop(Box::new(&heap, 7u64)?);
+    let text = "Rationed { asked: 2, refused: 0, blocks: 1, held_bytes: 8 }";
     equal!(rt; (*held, shows(rt.alloc(), &heap, text)?), (7, true));
     Ok(())
 }

@@ -1,19 +1,36 @@
--- What the answer of a call says of the log. A is the type of the allocator's handle, which options hold.
-use Rattle.std.specs.Prelude.{◌≡◌, ◌⊎◌, ℕ, List}
+-- What the result of a call says of its arguments and of the log. A is the type of the allocator's handle, which options hold.
+use Rattle.std.specs.Prelude.{◌≡◌, ℕ, not, List, bytes_eq, codes, if◌then◌else◌}
+use Rattle.std.specs.List.{filter}
+use Rattle.std.specs.Str.{is_utf8}
+use Rattle.std.specs.Str.Lines.{lines}
+use Rattle.clru_report.specs.Arguments.{GivesOptions, IsRefusedLine}
+use Rattle.clru_report.specs.CommandLine.{Asked, Reading, asks, help, read_all, version, wrong}
 use Rattle.clru_report.specs.Report.{IsReport}
 use Rattle.clru_report.specs.Refusals.{IsRefused}
+use Rattle.clru_lines.specs.Faults.{status_of}
 use Rattle.clru_lines.specs.declared.fault.Fault.{Fault}
 use Rattle.clru_report.specs.declared.options.Options.{Options}
 use Rattle.clru_report.specs.declared.help.TheConstants.{HELP, VERSION}
 
--- the text is what `--help` or `--version` prints
-unfoldable pub IsNote : List ℕ → Type 0
-IsNote text = (text ≡ HELP.now) ⊎ (text ≡ VERSION.now)
+-- each line is an argument, but for `--progress`, which asks nothing of a report
+abbrev pub words_in : List ℕ → List (List ℕ)
+words_in text = filter (λ word. not (bytes_eq word (codes "--progress"))) (lines text)
 
--- the text is the report of the log that some options ask for
-abbrev pub IsReportOf : Type 0 → List ℕ → List ℕ → Type 0
-IsReportOf A log text = (options : Options A) × IsReport options log text
+-- what the bytes come to as arguments
+unfoldable pub reading_of : List ℕ → Reading
+reading_of bytes = if is_utf8 bytes then read_all (words_in bytes) else wrong
 
--- by some options the log has no report, for a reason that is one of its lines or a capacity
-abbrev pub HasNoReport : Type 0 → List ℕ → Type 0
-HasNoReport A log = (options : Options A) × (fault : Fault) × IsRefused fault options log
+-- the text that a reading of arguments asks for, of a log
+unfoldable pub IsTextOf : Type 0 → Reading → List ℕ → List ℕ → Type 0
+IsTextOf A help log text = text ≡ HELP.now
+IsTextOf A version log text = text ≡ VERSION.now
+IsTextOf A wrong log text = ⊥
+IsTextOf A (asks next asked) log text = (options : Options A) × GivesOptions (asks next asked) options × IsReport options log text
+
+-- these options have no report of the log, for a reason that has this exit status
+abbrev pub IsRefusedWith : {A : Type 0} → ℕ → Options A → List ℕ → Type 0
+IsRefusedWith status options log = (fault : Fault) × IsRefused fault options log × (status_of fault ≡ status)
+
+-- a report is asked for, and the log has none
+abbrev pub HasNoReport : Type 0 → ℕ → Reading → List ℕ → Type 0
+HasNoReport A status reading log = (options : Options A) × GivesOptions reading options × IsRefusedWith status options log

@@ -1,10 +1,12 @@
 //! What the words ask for, of the log.
-ghost use Rattle.std.specs.Prelude.{◌≡◌, ◌⊎◌, ◌≤◌, length, take};
-ghost use Rattle.clru_page.specs.Answers.{HasNoReport, IsNote, IsReportOf};
+ghost use Rattle.std.specs.Prelude.{◌≡◌, ◌⊎◌, ◌<◌, ◌≤◌, ℕ, List, true, IfErr, IfOk, length, map, take};
+ghost use Rattle.clru_page.specs.Answers.{HasNoReport, IsRefusedWith, IsTextOf, reading_of, words_in};
+ghost use Rattle.clru_report.specs.Arguments.{is_wrong, IsAskedFor, IsRefusedLine};
+ghost use Rattle.clru_report.specs.Report.{IsReport};
 
 use crate::text::{put_whole, say, tell};
-use clru_report::{Command, Fault, HELP, Options, Refusal, VERSION, command_of, run};
-use std::alloc::Allocator;
+use clru_report::{Command, Fault, HELP, Options, Refusal, VERSION, command_of, make_report};
+use std::alloc::{AllocError, Allocator};
 use std::hash::BuildHasher;
 
 /// The answer of the program, in the memory of an allocator.
@@ -16,9 +18,11 @@ pub(crate) fn answer<S: BuildHasher + Copy, A: Allocator + Copy>(
     text: &mut [u8],
     written: &mut usize,
 ) -> u32
-    ensures answer { result ≡ 0
-        → IsNote (take written.new text.new) ⊎ IsReportOf A log.now (take written.new text.new) }
-    ensures refused { result ≡ 6 → HasNoReport A log.now }
+    ensures answer { result ≡ 0 → IsTextOf A (reading_of arguments.now) log.now (take written.new text.new) }
+    ensures wrong { result ≡ 2 → IsRefusedLine (reading_of arguments.now) ⊎ HasNoReport A 2 (reading_of arguments.now) log.now }
+    ensures short { result ≡ 5 → (whole : List ℕ) × IsTextOf A (reading_of arguments.now) log.now whole × (length text.new < length whole) }
+    ensures refused { result ≡ 6 → HasNoReport A 6 (reading_of arguments.now) log.now }
+    ensures codes { result ≤ 6 }
     ensures within { written.new ≤ length text.new }
     ensures length { length text.new ≡ length text.old }
 {
@@ -44,34 +48,43 @@ fn run_report<S: BuildHasher + Copy, A: Allocator + Copy>(
     text: &mut [u8],
     written: &mut usize,
 ) -> u32
-    ensures report { result ≡ 0 → IsReportOf A log.now (take written.new text.new) }
-    ensures refused { result ≡ 6 → HasNoReport A log.now }
+    ensures report { result ≡ 0 → IsReport options.now log.now (take written.new text.new) }
+    ensures small { result ≡ 2 → IsRefusedWith 2 options.now log.now }
+    ensures short { result ≡ 5 → (whole : List ℕ) × IsReport options.now log.now whole × (length text.new < length whole) }
+    ensures refused { result ≡ 6 → IsRefusedWith 6 options.now log.now }
+    ensures codes { result ≤ 6 }
     ensures within { written.new ≤ length text.new }
     ensures length { length text.new ≡ length text.old }
 {
     let mut left = log;
-    let mut report = Vec::new(alloc);
-    match run(alloc, options, &mut left, &mut report, hash_builder) {
-        Ok(()) => put_whole(&report, text, written),
+    match make_report(alloc, options, &mut left, hash_builder) {
+        Ok(report) => put_whole(report.as_bytes(), text, written),
         Err(fault) => tell(fault, text, written),
     }
 }
 
-// What the arguments ask for. `--progress` asks nothing of the report.
-fn parse_args<A: Allocator + Copy>(alloc: A, arguments: &[u8]) -> Result<Command<A>, Refusal<A>> {
-    let lines = match std::str::from_utf8(arguments) {
-        Ok(lines) => lines,
+// What the arguments ask for.
+fn parse_args<A: Allocator + Copy>(alloc: A, arguments: &[u8]) -> Result<Command<A>, Refusal<A>>
+    ensures command { IfOk result (λ command. IsAskedFor (reading_of arguments.now) command) }
+    ensures refused { IfErr result (λ refusal. is_wrong refusal ≡ true → IsRefusedLine (reading_of arguments.now)) }
+{
+    let text = match std::str::from_utf8(arguments) {
+        Ok(text) => text,
         Err(_) => return Err(no_text(alloc)),
     };
-    let mut words = Vec::new(alloc);
-    for word in lines.lines() {
-        if word != "--progress" {
-            let Ok(()) = words.push(word) else {
-                return Err(Refusal::Memory);
-            };
-        }
+    match words_of(alloc, text) {
+        Ok(words) => command_of(alloc, &words),
+        Err(_) => Err(Refusal::Memory),
     }
-    command_of(alloc, &words)
+}
+
+// Each line is an argument. `--progress` asks nothing of the report.
+fn words_of<A: Allocator>(alloc: A, text: &str) -> Result<Vec<&str, A>, AllocError>
+    ensures { IfOk result (λ words. map (λ word. word.now) words.items ≡ words_in text.now) }
+{
+    text.lines()
+        .filter(|word| *word != "--progress")
+        .collect(alloc)
 }
 
 fn no_text<A: Allocator>(alloc: A) -> Refusal<A> {

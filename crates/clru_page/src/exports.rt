@@ -1,7 +1,8 @@
 //! What a page calls.
-ghost use Rattle.std.specs.Prelude.{◌≡◌, ◌⊎◌, ◌≤◌, length, take};
+ghost use Rattle.std.specs.Prelude.{◌≡◌, ◌⊎◌, ◌<◌, ◌≤◌, ℕ, List, length, take};
 ghost use Rattle.std.specs.Borrow.{Bor};
-ghost use Rattle.clru_page.specs.Answers.{HasNoReport, IsNote, IsReportOf};
+ghost use Rattle.clru_page.specs.Answers.{HasNoReport, IsTextOf, reading_of};
+ghost use Rattle.clru_report.specs.Arguments.{IsRefusedLine};
 
 use crate::answer::answer;
 use crate::text::tell;
@@ -23,6 +24,9 @@ use lent_block::{LentBlock, Loan};
 /// - 6: a line has no size, or the sizes are too large together.
 ///
 /// Lines are hashed under a seed, the words `low` and `high`; the answer is the same under each.
+///
+/// The caller owes that `loan` is aligned to 16 and has as many bytes as it says, and that it, `arguments`, `log`, `text` and
+/// `written` do not overlap. No clause can ask for it: here a slice is its bytes, and has no address.
 #[unsafe(no_mangle)]
 #[allow(too_many_arguments)]
 pub extern "C" fn report(
@@ -34,9 +38,17 @@ pub extern "C" fn report(
     text: &mut [u8],
     written: &mut usize,
 ) -> u32
-    ensures answer { result ≡ 0
-        → IsNote (take written.new text.new) ⊎ IsReportOf (Bor LentBlock) log.now (take written.new text.new) }
-    ensures refused { result ≡ 6 → HasNoReport (Bor LentBlock) log.now }
+    // The text is what the arguments ask for, of the log.
+    ensures answer { result ≡ 0 → IsTextOf (Bor LentBlock) (reading_of arguments.now) log.now (take written.new text.new) }
+    // The arguments are refused, or a capacity that they name is.
+    ensures wrong { result ≡ 2 → IsRefusedLine (reading_of arguments.now)
+        ⊎ HasNoReport (Bor LentBlock) 2 (reading_of arguments.now) log.now }
+    // What the arguments ask for is longer than the room.
+    ensures short { result ≡ 5 → (whole : List ℕ)
+        × IsTextOf (Bor LentBlock) (reading_of arguments.now) log.now whole × (length text.new < length whole) }
+    // The log has no report of the kind that the arguments ask for.
+    ensures refused { result ≡ 6 → HasNoReport (Bor LentBlock) 6 (reading_of arguments.now) log.now }
+    ensures codes { result ≤ 6 }
     ensures within { written.new ≤ length text.new }
     ensures length { length text.new ≡ length text.old }
 {

@@ -68,6 +68,14 @@ static CALLS: &[(usize, &str, &str, usize, u32, &str)] = &[
         2,
         "clru_mrc: --at wants capacities: write --at 100,1000\n",
     ),
+    (
+        ENOUGH,
+        "--at\n5 K",
+        TEN,
+        256,
+        2,
+        "clru_mrc: \"5 K\" is no capacity: name numbers from 1 to 18446744073709551615, as in --at 100,1000 or 64MiB\n",
+    ),
     (64, "", TEN, 256, 3, "clru_mrc: memory ran out\n"),
     (16, "--svg", TEN, 256, 3, "clru_mrc: memory ran out\n"),
     (

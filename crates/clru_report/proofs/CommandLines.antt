@@ -1,5 +1,5 @@
 -- How the arguments of a command line are read.
-use Rattle.std.proofs.Common.{◌≡◌, ℕ, zero, suc, ◌+◌, ◌<◌, ◌≤◌, ◌-◌, Bool, true, false, cond, List, [], ◌∷◌, ◌++◌, Option, None, Some, map, take, drop, length, get_or, take_all, drop-cons, add-one, length-append, append_assoc, refl, sym, ap, ◌∙◌, rules, arith, lit<}
+use Rattle.std.proofs.Common.{◌≡◌, ℕ, ◌+◌, ◌<◌, ◌≤◌, Bool, false, List, [], ◌∷◌, ◌++◌, Option, None, Some, map, take, drop, length, get_or, take_all, drop-cons, add-one, length-append, append_assoc, refl, sym, ap, ◌∙◌, rules, arith, lit<}
 use Rattle.std.specs.Prelude.{◌==◌}
 use denote.Ref.{Bor}
 use Rattle.std.proofs.Math.ListN.{set}

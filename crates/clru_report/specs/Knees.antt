@@ -13,8 +13,8 @@ beyond a b c = (a.misses - c.misses) * (b.capacity - a.capacity) - (a.misses - b
 abbrev pub is_knee : ℕ → Point → Point → Point → Bool
 is_knee whole a b c = nat_lt 0 (beyond a b c) && nat_le (whole * (b.capacity - a.capacity) / 50) (beyond a b c)
 
--- for each unit more is saved from a to c than from c to b, by b / a times or more: so a curve that falls as 1 / capacity does, or slower,
--- is nowhere sharp
+-- for each unit more is saved from a to c than from c to b, by b / a times or more: so a curve that falls exactly as 1 / capacity is
+-- sharp everywhere, and one that falls more slowly nowhere, unless rounding down makes both sides equal
 abbrev pub is_sharp : Point → Point → Point → Bool
 is_sharp a b c = nat_le ((c.misses - b.misses) * (c.capacity - a.capacity) / max 1 a.capacity)
     ((a.misses - c.misses) * (b.capacity - c.capacity) / max 1 b.capacity)

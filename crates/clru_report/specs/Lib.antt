@@ -1,5 +1,6 @@
 pub mod Arguments
 pub mod Capacities
+pub mod Choices
 pub mod CommandLine
 pub mod Faults
 pub mod Knees

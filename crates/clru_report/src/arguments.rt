@@ -342,17 +342,23 @@ fn unit_of(word: &str) -> (usize, usize)
     }
 }
 
+const THOUSAND: usize = 1_000;
+
+const MILLION: usize = 1_000_000;
+
+const BILLION: usize = 1_000_000_000;
+
 fn decimal_unit_of(word: &str) -> (usize, usize)
     ensures value { result ≡ decimal_unit_by word.now }
     ensures within { result.0 ≤ length word.now }
     ensures positive { 0 < result.1 }
 {
     if word.ends_with("K") {
-        (1, 1_000)
+        (1, THOUSAND)
     } else if word.ends_with("M") {
-        (1, 1_000_000)
+        (1, MILLION)
     } else if word.ends_with("G") {
-        (1, 1_000_000_000)
+        (1, BILLION)
     } else {
         (0, 1)
     }

@@ -2,8 +2,10 @@
 //!
 //! [`command_of`] reads the words of a command line. What they ask for of an input is a table, a summary or a picture, in keys
 //! or by size, and [`run`] takes it from a reader to a writer: for each of both whose bytes std knows its contract says which
-//! text is written of which input, or why none is. [`exit_status`] makes a status of its answer.
+//! text is written of which input, or why none is. [`make_report`] returns the text itself. [`exit_status`] makes a status of a
+//! result.
 //!
+//! `specs/CommandLine` says what the words ask for, and `specs/Arguments` which options these are.
 //! `specs/Report` and `specs/SizedReport` say what a report is, and `specs/Refusals` which inputs have none.
 #![tactic(auto)]
 
@@ -32,5 +34,6 @@ pub use help::{HELP, VERSION};
 pub use options::{Capacities, Form, Look, Options, Sample};
 pub use output::write_report;
 pub use program::run;
+pub use report::make_report;
 pub use sized::size_of;
 pub use std::num::NonZeroUsize;

@@ -1,4 +1,6 @@
 //! What a report is asked to have.
+ghost use Rattle.std.specs.Prelude.{◌≡◌, true, false};
+ghost use Rattle.clru_report.specs.Choices.{AreAscending, is_whole};
 
 use std::alloc::{Allocator, Global};
 use std::num::NonZeroUsize;
@@ -11,7 +13,7 @@ pub enum Capacities<A: Allocator = Global> {
     Usual,
     /// 1, or the greatest size, and each from there on at which there are fewer misses than at the one before.
     Each,
-    /// These, in this order. By size none is to be below the greatest size; of a sample those below the greatest size that is
+    /// These, each greater than the one before. By size none is to be below the greatest size; of a sample those below the greatest size that is
     /// kept have no row.
     Named(Vec<NonZeroUsize, A>),
 }
@@ -62,7 +64,8 @@ pub struct Options<A: Allocator = Global> {
     /// Whether each line of the input begins with a size, and capacities are sums of sizes.
     pub sizes: bool,
 
-    /// Whether each line of the table has the least possible misses. By size none has them, and of a sample.
+    /// Whether each line of the table has the least possible misses. By size and of a sample they are not known, so options that
+    /// ask for both have no proof.
     pub least: bool,
 
     /// Whether each line of the table has a floor of the misses: no policy has fewer, also one that bypasses keys. By size none
@@ -76,4 +79,9 @@ pub struct Options<A: Allocator = Global> {
     pub form: Form,
 
     pub look: Look<A>,
+
+    // The least possible misses are those of all requests, by keys.
+    ghost least_of_all: { least ≡ true → (sizes ≡ false) × (is_whole sample ≡ true) },
+
+    ghost ascending: { AreAscending capacities },
 }

@@ -19,8 +19,9 @@ use std::hash::BuildHasher;
 use std::io::Read;
 use std::num::NonZeroUsize;
 
-/// The report of all that a reader gives.
-pub(crate) fn make_report<R: Read, S: BuildHasher + Copy, A: Allocator + Copy>(
+/// Returns the report of all that a reader gives. Lines are hashed with `hash_builder`: the report is the same under each that is
+/// lawful.
+pub fn make_report<R: Read, S: BuildHasher + Copy, A: Allocator + Copy>(
     alloc: A,
     options: &Options<A>,
     reader: &mut R,

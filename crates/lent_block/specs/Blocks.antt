@@ -22,6 +22,10 @@ pub record Region : Type 0 where
 abbrev pub IsPiece : Region → Ptr → ℕ → ℕ → Type 0
 IsPiece r p at n = (p ≡ block_ptr r.object at) × (r.start ≤ at) × (at + n ≤ r.start + r.size) × (r.size < 2 ^ 64)
 
+-- the region is the n bytes from p on
+abbrev pub IsRegionOf : Region → Ptr → ℕ → Type 0
+IsRegionOf r p n = (p ≡ block_ptr r.object r.start) × (r.size ≡ n)
+
 -- n bytes, as units of 16 that are aligned to 16
 abbrev pub units_of : ℕ → Ty
 units_of n = ty_array (ty_int w128) (n / 16)

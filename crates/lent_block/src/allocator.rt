@@ -1,9 +1,9 @@
 //! The allocator.
-ghost use Rattle.std.specs.Prelude.{◌≡◌, ◌+◌, ◌^◌, ◌<◌, ◌≤◌, ◌%◌, List, IfSome};
+ghost use Rattle.std.specs.Prelude.{◌≡◌, ◌+◌, ◌^◌, ◌<◌, ◌≤◌, ◌%◌, ℕ, List, IfSome};
 ghost use Rattle.std.specs.Allocator.{FitsBlock, block_with_items, resized_if_ok};
 ghost use denote.RawPtr.{count_of};
 ghost use types.Logic.{sem};
-ghost use Rattle.lent_block.specs.Blocks.{IsPiece, block_token, taken_by};
+ghost use Rattle.lent_block.specs.Blocks.{IsPiece, IsRegionOf, block_token, taken_by};
 
 use crate::free::{Free, units};
 use crate::loan::{Loan, UNIT};
@@ -24,14 +24,18 @@ pub struct LentBlock {
 
 impl LentBlock {
     /// All of the memory is free.
-    pub fn new(loan: Loan) -> LentBlock {
+    pub fn new(loan: Loan) -> LentBlock
+        ensures { IsRegionOf result.slot loan.ptr loan.size }
+    {
         LentBlock {
             slot: Slot::new(Free::lent(loan)),
         }
     }
 
     /// How many bytes are left above the last block.
-    pub fn left(&self) -> usize {
+    pub fn left(&self) -> usize
+        ensures { result ≤ self.now.slot.size }
+    {
         let Some(free) = self.slot.replace(None) else {
             return 0;
         };
@@ -41,7 +45,9 @@ impl LentBlock {
     }
 
     /// What is left: all of the memory where each block was given back while it was the last.
-    pub fn into_loan(self) -> Option<Loan> {
+    pub fn into_loan(self) -> Option<Loan>
+        ensures { IfSome result (λ loan. (at : ℕ) × IsPiece self.slot loan.ptr at loan.size) }
+    {
         let LentBlock { slot } = self;
         let Free { piece, left: _ } = slot.into_inner()?;
         Some(piece.into_loan())

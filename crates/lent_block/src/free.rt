@@ -1,6 +1,6 @@
 //! What is free: all above the last block.
 ghost use Rattle.std.specs.Prelude.{◌≡◌, ◌+◌, ◌-◌, ◌^◌, ◌<◌, ◌≤◌, ◌%◌, MatchResult};
-ghost use Rattle.lent_block.specs.Blocks.{taken_by};
+ghost use Rattle.lent_block.specs.Blocks.{IsRegionOf, taken_by};
 
 use crate::loan::{Loan, UNIT};
 use crate::piece::Piece;
@@ -24,7 +24,8 @@ pub(crate) fn units(size: usize) -> usize
 impl Free {
     /// All of the memory is free.
     pub(crate) fn lent(loan: Loan) -> Free
-        ensures { result.left ≡ loan.size }
+        ensures left { result.left ≡ loan.size }
+        ensures region { IsRegionOf result.piece.region loan.ptr loan.size }
     {
         let (piece, left) = Piece::lent(loan);
         Free { piece, left }

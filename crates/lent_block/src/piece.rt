@@ -1,7 +1,7 @@
 //! Pieces of the memory: what raw pointers do stands in this file, in `slot` and in the two functions of `Allocator`.
 ghost use Rattle.std.specs.Prelude.{◌≡◌, ℕ, ◌+◌, ◌-◌, ◌%◌, ◌≤◌, MatchResult};
 ghost use denote.RawPtr.{count_of};
-ghost use Rattle.lent_block.specs.Blocks.{Region, IsPiece, bytes_at};
+ghost use Rattle.lent_block.specs.Blocks.{Region, IsPiece, IsRegionOf, bytes_at};
 
 use crate::loan::Loan;
 use std::marker::Model;
@@ -23,7 +23,7 @@ impl Model for Piece {
 impl Piece {
     /// All of the memory, and its size.
     pub(crate) fn lent(loan: Loan) -> (Piece, usize)
-        ensures { (result.0.size ≡ loan.size) × (result.1 ≡ loan.size) }
+        ensures { (result.0.size ≡ loan.size) × (result.1 ≡ loan.size) × IsRegionOf result.0.region loan.ptr loan.size }
     {
         let Loan { ptr, size } = loan;
         (Piece { ptr, size }, size)

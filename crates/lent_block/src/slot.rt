@@ -41,7 +41,9 @@ impl Slot {
         }
     }
 
-    pub(crate) fn into_inner(self) -> Option<Free> {
+    pub(crate) fn into_inner(self) -> Option<Free>
+        ensures { IfSome result (λ f. f.piece.region ≡ self) }
+    {
         let Slot { free } = self;
         free
     }

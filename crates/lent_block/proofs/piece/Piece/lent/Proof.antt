@@ -23,7 +23,7 @@ use Rattle.std.proofs.alloc.Calls.{Goes-blank}
 use Rattle.std.proofs.raw_atomic.Walks.{proved_at, leaves}
 use Rattle.lent_block.proofs.Values.{pair_of, pair_val, sized_val, sized_own, sized_told, sized_made}
 use Rattle.lent_block.proofs.Walks.{slot_at}
-use Rattle.lent_block.specs.Blocks.{Region, bytes_at}
+use Rattle.lent_block.specs.Blocks.{IsRegionOf, Region, bytes_at}
 use Rattle.lent_block.specs.contracts.piece.Piece as piece
 use Rattle.lent_block.specs.contracts.piece.Piece.lent.{ended, clauses}
 use Rattle.lent_block.specs.contracts.piece.Piece.lent.Key.{name as #self}
@@ -47,12 +47,12 @@ lent_spec 𝓤 𝓛 𝓜 𝓡 wired =
     let n = x.size in
     let told = sized_told x.ptr n vss.0 are.0.0 in
     let fits = told.1 in
-    let Said : Type 0 = (n ≡ n) × (n ≡ n) in
     qed 𝓛 ((raw (alive 𝓛 En₀.signature z.0.0 z.0.1) ⊛ ‵ (owns (types_at En₀.signature.params z.0.0) a vss)) ∷ ‵ ftrue ∷ []) ∵ move ! (1 ∷ []) $ drop ! $ split ! $ move ! (1 ∷ []) $
     fsplit ! $ fsplit ! $ drop ! $ move ! (1 ∷ []) $ drop ! $ in_a_block ! x.ptr (λ u. bytes_at u n) (id⊢ 𝓤 (never 𝓤)) (λ b o is.
     -- [the bytes; the tokens]
     let p : Ptr = block_ptr b o in
     let r : Region = record { object = b; start = o; size = n } in
+    let Said : Type 0 = (n ≡ n) × (n ≡ n) × IsRegionOf r x.ptr n in
     let y : (piece.the_row).Denot = record { ptr = p; size = n; region = r; at = o; placed = (refl, omega arith, omega arith, fits) } in
     regoal ! (λ (us : List Val). prop (WpFn 𝓤 H C Λ fn us Post)) (λ i. (told.0 ∙ ap (λ (u : Ptr). sized_val u n ∷ []) is) i ++ []) refl $
     enter ! C Λ fn (sized_val p n ∷ []) Post $
@@ -64,5 +64,5 @@ lent_spec 𝓤 𝓛 𝓜 𝓡 wired =
     returns ! (look_at ! 0 refl) $ free_all ! refl $
     use0 𝓛 (‵ (sized_own p n (sized_val p n ∷ []))) (sized_made 𝓛 p n fits) $ fjoin ! $ flt_i ! n (2 ^ 64) fits $ feq_i ! (List Val) (vint w64 n ∷ []) (vint w64 n ∷ []) refl $ fjoin ! $ move ! (1 ∷ 0 ∷ []) $
     use2 𝓛 (‵ ((Tuple (piece.the_row ∷ usize ∷ [])).own_val (y, n) (pair_val (sized_val p n) (vint w64 n) ∷ []))) (pair_of 𝓛 piece.the_row usize y n (sized_val p n) (vint w64 n)) $
-    use0 𝓛 (raw (fact 𝓤 Said)) (fact_i 𝓤 Said (emp 𝓤) (refl, refl)) $ nothing ! $ nothing ! $ fjoin ! $ move ! (3 ∷ 0 ∷ 2 ∷ 1 ∷ []) $
+    use0 𝓛 (raw (fact 𝓤 Said)) (fact_i 𝓤 Said (emp 𝓤) (refl, refl, (is, refl))) $ nothing ! $ nothing ! $ fjoin ! $ move ! (3 ∷ 0 ∷ 2 ∷ 1 ∷ []) $
     by ! (leaves 𝓛 En₀ stays c z (pair_val (sized_val p n) (vint w64 n)) (y, n) (tt, tt) (tt, tt)))))

@@ -2,11 +2,12 @@
 use Rattle.std.proofs.Common.{List, [], ◌∷◌, ◌++◌, refl}
 use mir.Syntax.{Fn}
 use mir.Val.{Val}
-use base.Logic.{SProp}
+use base.Logic.{SProp, emp}
 use base.Fml.{ftrue}
 use prog.Wp.{Env, WpFn}
+use contract.Monad.{fact, fact_i}
 use contract.Running.{tables}
-use types.Kit.{‵, raw, ◌⊛◌, prop, ◌$◌, ◌∵◌, !, qed, by, move, drop, split, regoal, fsplit, fjoin}
+use types.Kit.{‵, raw, ◌⊛◌, prop, ◌$◌, ◌∵◌, !, qed, by, move, drop, use0, split, regoal, fsplit, fjoin}
 use types.Part.{whole, sub}
 use types.Run.{stop, fld, of_opd, returns, enter}
 use types.ByLocal.{alloc_all, pass_all, free_all, look_at, get, get_in, sets, env}
@@ -19,7 +20,7 @@ use Rattle.std.proofs.alloc.Calls.{Goes-blank}
 use Rattle.std.proofs.cell.Inside.{round}
 use Rattle.std.proofs.ResultValues.{and_tt}
 use Rattle.std.proofs.raw_atomic.Walks.{proved_at, leaves}
-use Rattle.lent_block.proofs.Cell.{contents_out}
+use Rattle.lent_block.proofs.Cell.{Over, contents_out}
 use Rattle.lent_block.proofs.Walks.{slot_at}
 use Rattle.lent_block.specs.contracts.slot.Slot.into_inner.{ended, clauses}
 use Rattle.lent_block.specs.contracts.slot.Slot.into_inner.Key.{name as #self}
@@ -48,5 +49,5 @@ into_inner_spec 𝓤 𝓛 𝓜 𝓡 wired =
     sets ! (of_opd ! (get_in ! (fld ! refl (stop !)) (sub ! 0 refl (whole !)))) refl typed $
     sets ! (of_opd ! (get ! refl)) refl typed $
     returns ! (look_at ! 0 refl) $ free_all ! refl $
-    nothing ! $ nothing ! $ nothing ! $ fjoin ! $ move ! (3 ∷ 0 ∷ 2 ∷ 1 ∷ []) $
+    use0 𝓛 (raw (fact 𝓤 (Over a.0 x))) (fact_i 𝓤 (Over a.0 x) (emp 𝓤) over) $ nothing ! $ nothing ! $ fjoin ! $ move ! (3 ∷ 0 ∷ 2 ∷ 1 ∷ []) $
     by ! (leaves 𝓛 En₀ stays c z (v) (x) (tt, tt) (tt, tt)))))
