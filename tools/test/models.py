@@ -505,6 +505,56 @@ def searched(keys, room):
     return min(fewest.values())
 
 
+def searched_by_size(requests, room):
+    """The fewest misses, and the least size of misses, of any way to hold keys of at most this size together, which may bypass requested
+    keys, by trying all of them."""
+    sizes, bits = dict(requests), {key: 1 << at for at, key in enumerate(dict(requests))}
+    held_size = [sum(takes for key, takes in sizes.items() if held & bits[key]) for held in range(1 << len(bits))]
+    for worth in (lambda takes: 1), (lambda takes: takes):
+        least = {0: 0}
+        for key, takes in requests:
+            after = {}
+            for held, cost in least.items():
+                cost += 0 if held & bits[key] else worth(takes)
+                may = rest = held | bits[key]
+                while True:
+                    if held_size[rest] <= room:
+                        after[rest] = min(cost, after.get(rest, cost))
+                    if not rest:
+                        break
+                    rest = (rest - 1) & may
+            least = after
+        yield min(least.values())
+
+
+def floor_of(requests, room):
+    """The floors of the misses and of the missed size, by their definition: the greatest that a price of a hit says, which is one of the
+    volumes, and for the size one of the gaps."""
+    latest, reuses = {}, []
+    for at, (key, takes) in enumerate(requests):
+        if key in latest:
+            reuses.append((at - latest[key], takes))
+        latest[key] = at
+    count, whole, paid = len(requests), sum(takes for _, takes in requests), room * len(requests)
+    firsts = {key: takes for key, takes in reversed(requests)}
+    misses = [count - (sum(max(price - gap * takes, 0) for gap, takes in reuses) + paid) // price for price in {gap * takes for gap, takes in reuses}]
+    sizes = [whole - (sum(max(price * takes - gap * takes, 0) for gap, takes in reuses) + paid) // price for price in {gap for gap, _ in reuses}]
+    return max([len(firsts), *misses]), max([sum(firsts.values()), *sizes])
+
+
+def floors_of(requests):
+    """Both floors with room for 1, 2 and so on, up to where they stay the same."""
+    last, said = floor_of(requests, MAX), ""
+    for room in range(1, MOST + 1):
+        floor = floor_of(requests, room)
+        said += "{}{} of size {}".format(", " if said else "", *floor)
+        if floor == last:
+            break
+    else:
+        said += " .. {} of size {}".format(*last)
+    return said + (f"; 3 keys {floor_of(requests, 3)[0]}" if all(takes == 1 for _, takes in requests) else "")
+
+
 class List:
     """A list of pairs of a place and an item, the front first. Free places are taken again, the last one that came free first."""
 

@@ -108,6 +108,31 @@ static void see_least(void) {
     }
 }
 
+static const struct {
+    const char *what;
+    size_t rooms_len, rooms[MOST], floors_len;
+    uint32_t code;
+    size_t floors[MOST];
+} of_floors[] = {
+    {"floors", 4, {2, 1, 5, SIZE_MAX}, 4, CLRU_OK, {5, 6, 5, 5}},
+    {"floors with room 0, and too short", 2, {2, 0}, 1, CLRU_NO_CAPACITY, {0}},
+    {"floors too long", 1, {2}, 2, CLRU_WRONG_LENGTH, {0}},
+};
+
+static void see_floors(void) {
+    for (size_t row = 0; row < sizeof of_floors / sizeof *of_floors; row++) {
+        for (size_t seed = 0; seed < SEEDS; seed++) {
+            Arrays wanted = before;
+            if (of_floors[row].code == CLRU_OK) {
+                memcpy(wanted.misses, of_floors[row].floors, of_floors[row].floors_len * sizeof *of_floors[row].floors);
+            }
+            uint32_t code = clru_floor_by_room(keys, KEYS, of_floors[row].rooms, of_floors[row].rooms_len, seeds[seed].low,
+                                               seeds[seed].high, found.misses, of_floors[row].floors_len);
+            see(of_floors[row].what, seed, code, of_floors[row].code, &wanted);
+        }
+    }
+}
+
 /* How large each of the ten is: a 2, b 3, c 4, d 5, e 1, but for the last a, of size 0, which is an object of its own. */
 #define SIZES {2, 3, 2, 4, 3, 2, 5, 0, 3, 1}
 #define EIGHTH ((size_t)1 << 61)
@@ -150,11 +175,44 @@ static void see_by_size(void) {
     }
 }
 
+static const struct {
+    const char *what;
+    size_t sizes_len, sizes[KEYS], rooms_len, rooms[MOST], misses_len, missed_sizes_len;
+    uint32_t code;
+    size_t misses[MOST], missed_sizes[MOST];
+} floors_by_size[] = {
+    {"floors by size", KEYS, SIZES, 3, {4, 1, SIZE_MAX}, 3, 3, CLRU_OK, {6, 8, 6}, {16, 22, 16}},
+    {"floors by size at 0", KEYS, SIZES, 2, {9, 0}, 2, 2, CLRU_NO_CAPACITY, {0}, {0}},
+    {"floors of two sizes", 2, {1, 2}, 2, {9, 9}, 2, 2, CLRU_WRONG_LENGTH, {0}, {0}},
+    {"floors of the missed size too short", KEYS, SIZES, 2, {9, 9}, 2, 1, CLRU_WRONG_LENGTH, {0}, {0}},
+    {"floors by a size too large", KEYS, {2, 3, 2, 4, SIZE_MAX, 2, 5, 0, 3, 1}, 2, {9, 9}, 2, 2, CLRU_TOO_LARGE, {0}, {0}},
+};
+
+static void see_floors_by_size(void) {
+    for (size_t row = 0; row < sizeof floors_by_size / sizeof *floors_by_size; row++) {
+        for (size_t seed = 0; seed < SEEDS; seed++) {
+            Arrays wanted = before;
+            if (floors_by_size[row].code == CLRU_OK) {
+                size_t bytes = floors_by_size[row].rooms_len * sizeof *floors_by_size[row].misses;
+                memcpy(wanted.misses, floors_by_size[row].misses, bytes);
+                memcpy(wanted.missed_sizes, floors_by_size[row].missed_sizes, bytes);
+            }
+            uint32_t code = clru_floor_by_size(keys, KEYS, floors_by_size[row].sizes, floors_by_size[row].sizes_len,
+                                               floors_by_size[row].rooms, floors_by_size[row].rooms_len, seeds[seed].low,
+                                               seeds[seed].high, found.misses, floors_by_size[row].misses_len,
+                                               found.missed_sizes, floors_by_size[row].missed_sizes_len);
+            see(floors_by_size[row].what, seed, code, floors_by_size[row].code, &wanted);
+        }
+    }
+}
+
 int main(void) {
     found = before;
     see_hits();
     see_misses();
     see_least();
+    see_floors();
     see_by_size();
+    see_floors_by_size();
     return faults != 0;
 }

@@ -17,7 +17,11 @@ int main() {
         && misses[2] == missed && missed == 5 && distinct == 5 && least[0] == 5 && hits[2] && !hits[3]
         && clru_misses_by_size(keys.data(), keys.size(), sizes.data(), sizes.size(), &rooms[0], 1, 1, 2, misses.data(), 1,
                                missed_sizes.data(), 1, &size) == CLRU_OK
-        && size == 10 && misses[0] == 10 && missed_sizes[0] == 20;
+        && size == 10 && misses[0] == 10 && missed_sizes[0] == 20
+        && clru_floor_by_room(keys.data(), keys.size(), rooms.data(), 1, 1, 2, least.data(), 1) == CLRU_OK && least[0] == 5
+        && clru_floor_by_size(keys.data(), keys.size(), sizes.data(), sizes.size(), &rooms[0], 1, 1, 2, misses.data(), 1,
+                              missed_sizes.data(), 1) == CLRU_OK
+        && misses[0] == 5 && missed_sizes[0] == 10;
     if (!answered) {
         std::fputs("called: a number from C++ is not as it has to be\n", stderr);
     }

@@ -94,7 +94,13 @@ static uint32_t by_size(size_t sizes_len, size_t misses_len, size_t missed_sizes
                                missed_sizes_len, &number);
 }
 
-/* The same, where one size or one capacity is another one. */
+/* The floors by size, with so many places of each array. */
+static uint32_t floor_by_size(size_t sizes_len, size_t misses_len, size_t missed_sizes_len) {
+    return clru_floor_by_size(keys, KEYS, sizes, sizes_len, capacities, KEYS, 0, 0, misses, misses_len, missed_sizes,
+                              missed_sizes_len);
+}
+
+/* The misses by size, where one size or one capacity is another one. */
 static uint32_t by_size_with(size_t *place, size_t value) {
     size_t before = *place;
     *place = value;
@@ -110,6 +116,9 @@ static void codes_of_sizes(void) {
     expect(by_size(KEYS - 1, KEYS, KEYS) == CLRU_WRONG_LENGTH, "too few sizes");
     expect(by_size(KEYS, KEYS - 1, KEYS) == CLRU_WRONG_LENGTH, "misses by size too short");
     expect(by_size(KEYS, KEYS, KEYS - 1) == CLRU_WRONG_LENGTH, "missed sizes too short");
+    expect(floor_by_size(KEYS - 1, KEYS, KEYS) == CLRU_WRONG_LENGTH, "too few sizes for floors");
+    expect(floor_by_size(KEYS, KEYS - 1, KEYS) == CLRU_WRONG_LENGTH, "floors by size too short");
+    expect(floor_by_size(KEYS, KEYS, KEYS - 1) == CLRU_WRONG_LENGTH, "floors of the missed size too short");
     expect(by_size_with(&sizes[KEYS - 1], SIZE_MAX) == CLRU_TOO_LARGE, "sizes that pass 2^64 - 1, and capacities less than the greatest");
     capacities[0] = 1;
     expect(by_size(KEYS, KEYS, KEYS) == CLRU_TOO_SMALL, "the first capacity less than the greatest size");
@@ -127,6 +136,8 @@ static void codes_of_arguments(void) {
     expect(clru_least_by_room(keys, KEYS, (size_t[]){3, 0}, 2, 0, 0, least, 2) == CLRU_NO_CAPACITY, "a room of 0");
     expect(clru_least_by_room(keys, KEYS, rooms, 2, 0, 0, least, 1) == CLRU_WRONG_LENGTH, "least too short");
     expect(clru_least_by_room(keys, KEYS, rooms, 1, 0, 0, least, 2) == CLRU_WRONG_LENGTH, "least too long");
+    expect(clru_floor_by_room(keys, KEYS, (size_t[]){3, 0}, 2, 0, 0, least, 2) == CLRU_NO_CAPACITY, "a room of 0 for a floor");
+    expect(clru_floor_by_room(keys, KEYS, rooms, 2, 0, 0, least, 1) == CLRU_WRONG_LENGTH, "floors too short");
     expect(untouched(), "something was written with a code");
 }
 
@@ -138,6 +149,10 @@ static uint32_t call(int which, uint64_t low) {
         return clru_misses_by_capacity(keys, KEYS, low, 0, misses, KEYS, &number);
     case 2:
         return clru_misses_by_size(keys, KEYS, sizes, KEYS, capacities, KEYS, low, 0, misses, KEYS, missed_sizes, KEYS, &number);
+    case 3:
+        return clru_floor_by_room(keys, KEYS, rooms, 2, low, 0, least, 2);
+    case 4:
+        return clru_floor_by_size(keys, KEYS, sizes, KEYS, capacities, KEYS, low, 0, misses, KEYS, missed_sizes, KEYS);
     default:
         return clru_least_by_room(keys, KEYS, rooms, 2, low, 0, least, 2);
     }
@@ -147,11 +162,12 @@ static uint32_t call(int which, uint64_t low) {
 static const struct {
     const char *name;
     size_t requests, bytes;
-} needs[4] = {{"hits", 3, 644}, {"misses", 20, 24656}, {"misses by size", 30, 57104}, {"least", 30, 28976}};
+} needs[6] = {{"hits", 3, 644}, {"misses", 20, 24656}, {"misses by size", 30, 57104}, {"floors", 33, 39176}, {"floors by size", 35, 56920},
+              {"least", 30, 28976}};
 
 /* Refuses each request for memory in turn with all behind it, until the call meets no refusal. */
 static void code_of_refused_memory(uint64_t low) {
-    for (int which = 0; which < 4; which++) {
+    for (int which = 0; which < 6; which++) {
         for (size_t granted = 0;; granted++) {
             reset();
             asked = asked_bytes = 0;
@@ -205,6 +221,7 @@ static void no_keys(void) {
     expect(clru_misses_by_capacity(keys, 0, 0, 0, misses, 2, &number) == CLRU_OK && number == 0 && misses[1] == 0, "no keys");
     expect(clru_hits_at(keys, 0, 5, 0, 0, hits, 0, &number) == CLRU_OK && number == 0, "hits of no keys");
     expect(clru_least_by_room(keys, 0, rooms, 2, 0, 0, least, 2) == CLRU_OK && least[0] == 0, "the least of no keys");
+    expect(clru_floor_by_room(keys, 0, rooms, 2, 0, 0, least, 2) == CLRU_OK && least[0] == 0, "the floor of no keys");
     expect(clru_misses_by_size(keys, 0, sizes, 0, capacities, 1, 0, 0, misses, 1, missed_sizes, 1, &number) == CLRU_OK
                && number == 0 && misses[0] == 0 && missed_sizes[0] == 0, "misses by size of no keys");
 }

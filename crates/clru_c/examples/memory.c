@@ -167,6 +167,22 @@ static Range of_least(void) {
     return range;
 }
 
+/* Those by size take the objects too. */
+static Range of_floors(int are_by_size) {
+    Range range = nothing();
+    size_t room = 3;
+    for (size_t count = 65; count <= MANY; count = next(count)) {
+        for (size_t distinct = 1; distinct <= count; distinct += count - 1) {
+            fill(count, distinct);
+            uint32_t code = are_by_size
+                ? clru_floor_by_size(keys, count, sizes, count, &room, 1, 0, 0, misses, 1, missed_sizes, 1)
+                : clru_floor_by_room(keys, count, &room, 1, 0, 0, misses, 1);
+            take(&range, (double)held_by(code) / count);
+        }
+    }
+    return range;
+}
+
 /* What each call asks for at 70,000 distinct keys, exactly. */
 static void see_asked(const char *name, size_t requests, size_t all) {
     if (asked != requests || asked_bytes != all) {
@@ -201,5 +217,7 @@ int main(void) {
     print("by size: ", object, "bytes for each request of another object");
     print("by size: ", sized, "bytes for each of one that was requested before");
     print("least: ", of_least(), "bytes for each request");
+    print("floors: ", of_floors(0), "bytes for each request of a floor in keys");
+    print("floors: ", of_floors(1), "bytes for each request of floors by size");
     return faults != 0;
 }

@@ -32,16 +32,20 @@ def answered():
     hits, misses = clru.hits_at([1, 2, 1], 2)
     curve, distinct = clru.misses_by_capacity(clru.numbered(["a", "b", "a"]), 3)
     missed = clru.misses_by_size([1, 2, 1], [5, 6, 5], [6, 11])
-    return list(hits), misses, list(curve), distinct, list(clru.least_by_room([1, 2, 1], [1])), list(missed[0]), list(missed[1]), missed[2]
+    floors = clru.floor_by_size([1, 2, 1], [5, 6, 5], [1, 6])
+    by_room = list(clru.least_by_room([1, 2, 1], [1])), list(clru.floor_by_room([1, 2, 1], [1]))
+    return list(hits), misses, list(curve), distinct, *by_room, list(missed[0]), list(missed[1]), missed[2], list(floors[0]), list(floors[1])
 
 
 def main():
     clru.load(sys.argv[1])
     half = 2**63
     seen("is 0", clru.least_by_room, [1, 2], [0])
+    seen("is 0", clru.floor_by_room, [1, 2], [0])
     seen("lengths", too_short)
     seen("memory", clru._check, 3)
     seen("pass 2^64 - 1", clru.misses_by_size, [1, 2], [half, half], [half])
+    seen("pass 2^64 - 1", clru.floor_by_size, [1, 2], [half, half], [half])
     seen("less than the greatest", clru.misses_by_size, [1, 2], [3, 4], [3])
     seen("from 0 to 2^64 - 1", clru.misses_by_capacity, [1, 2**64 + 1], 2)
     seen("from 0 to 2^64 - 1", clru.misses_by_capacity, [1, -1], 2)
@@ -51,9 +55,11 @@ def main():
         seen("values to unpack", clru.hits_at, [1, 2], 2, seed)
         seen("values to unpack", clru.misses_by_capacity, [1, 2], 2, seed)
         seen("values to unpack", clru.least_by_room, [1, 2], [1], seed)
+        seen("values to unpack", clru.floor_by_room, [1, 2], [1], seed)
+        seen("values to unpack", clru.floor_by_size, [1, 2], [3, 4], [8], seed)
         seen("values to unpack", clru.misses_by_size, [1, 2], [3, 4], [8], seed)
     seen("", clru.hits_at, [1, 2, 3, 1], ctypes.c_size_t(2))
-    wanted = [False, False, True], 2, [3, 2, 2], 2, [3], [3, 2], [16, 11], 11
+    wanted = [False, False, True], 2, [3, 2, 2], 2, [3], [2], [3, 2], [16, 11], 11, [3, 2], [15, 11]
     if answered() != wanted:
         sys.exit(f"refused: {answered()}, and not {wanted}")
     if list(clru.hits_at([], 1)[0]) or clru.misses_by_capacity([], 0)[1]:

@@ -96,6 +96,21 @@ uint32_t clru_misses_by_capacity(const uint64_t *keys, size_t keys_len, uint64_t
 uint32_t clru_least_by_room(const uint64_t *keys, size_t keys_len, const size_t *rooms, size_t rooms_len,
                             uint64_t seed_low, uint64_t seed_high, size_t *least, size_t least_len);
 
+/* A floor of the misses for each of the rooms, which are capacities in keys: no policy misses fewer, even if it bypasses requested
+ * keys and knows all requests beforehand. Unlike the least it is not always reached, but all rooms cost one sort.
+ *
+ * floors has as many elements as rooms: floors[i] is for room rooms[i]. Rooms may stand in any order, and twice.
+ *
+ * Proved: no schedule that starts empty and holds at most rooms[i] keys has fewer misses than floors[i], so neither has the least.
+ * floors[i] is the number of requests less the most hits whose gaps, the least first, are at most rooms[i] times that number
+ * together; the gap of a request is how many positions after the latest request of its key it comes.
+ *
+ * Codes: CLRU_NO_CAPACITY, CLRU_WRONG_LENGTH, CLRU_NO_MEMORY.
+ * Cost: a look-up for each request, a sort, and a search for each room. Memory: 31 to 71 bytes for each request of a floor in
+ * keys. */
+uint32_t clru_floor_by_room(const uint64_t *keys, size_t keys_len, const size_t *rooms, size_t rooms_len,
+                            uint64_t seed_low, uint64_t seed_high, size_t *floors, size_t floors_len);
+
 /* The misses where keys have sizes: the requests that miss at each of the capacities, and the size that they miss.
  *
  * A capacity is a sum of sizes, in bytes say. sizes has as many elements as keys: sizes[i] is the size of what request i asks for.
@@ -121,6 +136,23 @@ uint32_t clru_misses_by_size(const uint64_t *keys, size_t keys_len, const size_t
                              const size_t *capacities, size_t capacities_len, uint64_t seed_low, uint64_t seed_high,
                              size_t *misses, size_t misses_len, size_t *missed_sizes, size_t missed_sizes_len,
                              size_t *distinct_size);
+
+/* The floors where keys have sizes: for each of the rooms one of the misses, and one of the missed size. No policy with that room
+ * for the sizes of the keys held misses fewer, or less, even if it bypasses requested keys.
+ *
+ * sizes, and objects, are those of clru_misses_by_size. misses and missed_sizes have as many elements as rooms. A room may be less
+ * than the greatest size.
+ *
+ * Proved: no schedule that starts empty, and whose held objects have at most the size rooms[i] together, misses fewer than
+ * misses[i], nor less of the size than missed_sizes[i].
+ *
+ * Codes: CLRU_NO_CAPACITY, CLRU_WRONG_LENGTH, CLRU_NO_MEMORY, CLRU_TOO_LARGE. Proved too: CLRU_TOO_LARGE is answered only where
+ * the sizes (0 as 1) pass 2^64 - 1 together, and CLRU_OK only where they don't.
+ * Cost: a look-up for each request, two sorts, and two searches for each room. Memory: 51 to 96 bytes for each request of floors
+ * by size. */
+uint32_t clru_floor_by_size(const uint64_t *keys, size_t keys_len, const size_t *sizes, size_t sizes_len,
+                            const size_t *rooms, size_t rooms_len, uint64_t seed_low, uint64_t seed_high,
+                            size_t *misses, size_t misses_len, size_t *missed_sizes, size_t missed_sizes_len);
 
 #ifdef __cplusplus
 }

@@ -1,3 +1,4 @@
 mod Below
+mod Floored
 mod Marked
 mod Objects

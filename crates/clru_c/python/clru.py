@@ -68,6 +68,22 @@ def misses_by_size(keys, sizes, capacities, seed=SEED):
     return misses, missed_sizes, distinct_size.value
 
 
+def floor_by_room(keys, rooms, seed=SEED):
+    """A floor of the misses for each of the rooms, in keys: no policy misses fewer, even if it bypasses keys."""
+    keys, rooms = _numbers(keys), _numbers(rooms)
+    floors = _zeros(len(rooms))
+    _call("clru_floor_by_room", keys, rooms, *_words(seed), floors)
+    return floors
+
+
+def floor_by_size(keys, sizes, rooms, seed=SEED):
+    """A floor of the misses and one of the missed size for each of the rooms, which are sums of sizes."""
+    keys, sizes, rooms = _numbers(keys), _numbers(sizes), _numbers(rooms)
+    misses, missed_sizes = _zeros(len(rooms)), _zeros(len(rooms))
+    _call("clru_floor_by_size", keys, sizes, rooms, *_words(seed), misses, missed_sizes)
+    return misses, missed_sizes
+
+
 def numbered(names):
     """An array that has a number for each of the names, the same one for equal names."""
     numbers = {}

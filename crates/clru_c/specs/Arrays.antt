@@ -1,7 +1,9 @@
 -- What stands in arrays of answers. Public clauses cite them.
-use Rattle.std.specs.Prelude.{◌≡◌, ℕ, suc, ◌<◌, ◌≤◌, Bool, List, length, slice_index, reverse}
+use Rattle.std.specs.Prelude.{◌≡◌, ℕ, suc, ◌<◌, ◌≤◌, Bool, List, [], ◌∷◌, length, slice_index, reverse}
 use Rattle.clru_model.specs.Requests.{distinct, marks, misses}
-use Rattle.clru_model.specs.Schedule.{IsCompetitive, IsCompetitiveFromAnyStart}
+use Rattle.clru_model.specs.Floor.{floor_misses, floor_missed_size, IsBypassScheduleBySize}
+use Rattle.clru_model.specs.Schedule.{schedule_misses, IsCompetitive, IsCompetitiveFromAnyStart}
+use Rattle.clru_model.specs.SizedSchedule.{schedule_missed_size}
 use Rattle.clru_model.specs.Least.{IsLeast, IsNearFromAnyStart}
 
 -- at each index below n stands a number of which P holds at that index
@@ -34,3 +36,24 @@ module _ {K : Type 0} (eq : K → K → Bool) where
   -- at each index the least number of misses for the room at that index
   abbrev pub AreLeast : List K → List ℕ → List ℕ → Type 0
   AreLeast requests rooms array = AreBelow (λ i n. IsLeastOf requests (slice_index rooms i) n) array (length array)
+
+  module _ (weight : K → ℕ) where
+    -- what is known of a floor n of the misses, where the keys held have room for this size together
+    pub record IsFloorFor (requests : List K) (room n : ℕ) : Type 0 where
+      pub exact : n ≡ floor_misses eq weight room requests
+      pub none_fewer : (schedule : List (List K)) → IsBypassScheduleBySize eq weight room ([] ∷ schedule) requests
+          → n ≤ schedule_misses eq ([] ∷ schedule) requests
+
+    -- what is known of a floor n of the missed size
+    pub record IsSizeFloorFor (requests : List K) (room n : ℕ) : Type 0 where
+      pub exact : n ≡ floor_missed_size eq weight room requests
+      pub none_less : (schedule : List (List K)) → IsBypassScheduleBySize eq weight room ([] ∷ schedule) requests
+          → n ≤ schedule_missed_size eq weight ([] ∷ schedule) requests
+
+    -- at each index a floor of the misses for the room at that index
+    abbrev pub AreFloors : List K → List ℕ → List ℕ → Type 0
+    AreFloors requests rooms array = AreBelow (λ i n. IsFloorFor requests (slice_index rooms i) n) array (length array)
+
+    -- at each index a floor of the missed size for the room at that index
+    abbrev pub AreSizeFloors : List K → List ℕ → List ℕ → Type 0
+    AreSizeFloors requests rooms array = AreBelow (λ i n. IsSizeFloorFor requests (slice_index rooms i) n) array (length array)

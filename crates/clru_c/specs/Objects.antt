@@ -37,3 +37,12 @@ pub record IsSizedCode (keys sizes capacities misses missed_sizes : List ℕ) (c
   pub none_too_small : code ≡ OK
       → EachIndex capacities (λ i. greatest_of weight_of (reverse (zip keys sizes)) < slice_index capacities i)
   pub known : code ≤ TOO_SMALL
+
+-- the code of a call for floors by size, where sizes stand beside the keys and two arrays of answers beside the rooms: too large is the
+-- sum of all sizes
+pub record IsFloorCode (keys sizes rooms misses missed_sizes : List ℕ) (code : ℕ) : Type 0 where
+  pub arguments : IsOfArguments (Contains rooms 0)
+      ((length sizes ≡ length keys) × (length misses ≡ length rooms) × (length missed_sizes ≡ length rooms)) code
+  pub too_large : code ≡ TOO_LARGE → 2 ^ 64 ≤ size_of_all weight_of (zip keys sizes)
+  pub not_too_large : code ≡ OK → size_of_all weight_of (zip keys sizes) < 2 ^ 64
+  pub known : code ≤ TOO_LARGE

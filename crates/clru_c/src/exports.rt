@@ -3,12 +3,13 @@
 //! Calls for the two kinds of seeds share no code, since one takes the allocator by reference: what has one caller is inlined.
 ghost use Rattle.std.specs.Prelude.{◌≡◌, ◌≢◌, [], length, nat_eq, Contains};
 ghost use Rattle.std.specs.List.{zip};
-ghost use Rattle.clru_c.specs.Arrays.{AreHits, IsCurve, AreLeast};
+ghost use Rattle.clru_c.specs.Arrays.{AreFloors, AreHits, AreLeast, AreSizeFloors, IsCurve};
 ghost use Rattle.clru_c.specs.Codes.{IsCode};
-ghost use Rattle.clru_c.specs.Objects.{AreSizedMisses, IsSizedCode};
+ghost use Rattle.clru_c.specs.Objects.{AreSizedMisses, IsFloorCode, IsSizedCode, same_object, weight_of};
 
 use crate::arrays::{hits_at, least_by_room, misses_by_capacity};
 use crate::codes::OK;
+use crate::floors::{floor_by_room, floor_by_size};
 use crate::keyed::seeded;
 use crate::sized::misses_by_size;
 use clru::DefaultState;
@@ -105,5 +106,51 @@ pub extern "C" fn clru_misses_by_size(
             misses_by_size(alloc, keys, sizes, capacities, misses, sums, size, state)
         }
         Some(state) => misses_by_size(&alloc, keys, sizes, capacities, misses, sums, size, state),
+    }
+}
+
+/// Writes a floor of the misses for each room.
+#[unsafe(no_mangle)]
+pub extern "C" fn clru_floor_by_room(
+    alloc: Global,
+    keys: &[u64],
+    rooms: &[usize],
+    seed_low: u64,
+    seed_high: u64,
+    floors: &mut [usize],
+) -> u32
+    ensures floors { result ≡ OK → AreFloors nat_eq (λ _. 0) keys.now rooms.now floors.new }
+    ensures left { result ≢ OK → floors.new ≡ floors.old }
+    ensures codes { IsCode (Contains rooms.now 0) (length floors.old ≡ length rooms.now) result }
+    ensures length { length floors.new ≡ length floors.old }
+{
+    match seeded(seed_low, seed_high) {
+        None => floor_by_room(alloc, keys, rooms, floors, DefaultState),
+        Some(state) => floor_by_room(&alloc, keys, rooms, floors, state),
+    }
+}
+
+/// Writes a floor of the misses and one of the missed size for each of the rooms, where each key comes with a size.
+#[unsafe(no_mangle)]
+pub extern "C" fn clru_floor_by_size(
+    alloc: Global,
+    keys: &[u64],
+    sizes: &[usize],
+    rooms: &[usize],
+    seed_low: u64,
+    seed_high: u64,
+    misses: &mut [usize],
+    missed_sizes: &mut [usize],
+) -> u32
+    ensures misses { result ≡ OK → AreFloors same_object weight_of (zip keys.now sizes.now) rooms.now misses.new }
+    ensures missed_sizes { result ≡ OK
+        → AreSizeFloors same_object weight_of (zip keys.now sizes.now) rooms.now missed_sizes.new }
+    ensures left { result ≢ OK → (misses.new ≡ misses.old) × (missed_sizes.new ≡ missed_sizes.old) }
+    ensures codes { IsFloorCode keys.now sizes.now rooms.now misses.old missed_sizes.old result }
+{
+    let sums = missed_sizes;
+    match seeded(seed_low, seed_high) {
+        None => floor_by_size(alloc, keys, sizes, rooms, misses, sums, DefaultState),
+        Some(state) => floor_by_size(&alloc, keys, sizes, rooms, misses, sums, state),
     }
 }

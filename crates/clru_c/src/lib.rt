@@ -6,5 +6,6 @@
 mod arrays;
 mod codes;
 mod exports;
+mod floors;
 mod keyed;
 mod sized;

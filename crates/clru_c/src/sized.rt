@@ -14,7 +14,7 @@ use std::num::NonZeroUsize;
 
 /// A key with a size weighs the size less 1, so that its entry takes the size; one of size 0 takes 1.
 #[derive(Clone, Copy, Drop)]
-struct SizeScale;
+pub(crate) struct SizeScale;
 
 impl WeightScale<(u64, usize), ()> for SizeScale {
     ghost weight = { λ _ object _. weight_of object };
@@ -121,7 +121,7 @@ fn write_misses<A: Allocator>(
 }
 
 /// Each key beside its size.
-fn objects_of<A: Allocator>(
+pub(crate) fn objects_of<A: Allocator>(
     alloc: A,
     keys: &[u64],
     sizes: &[usize],

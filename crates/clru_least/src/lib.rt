@@ -1,4 +1,4 @@
-//! The least possible misses of a list of requests.
+//! The least possible misses of a list of requests, and floors of what every policy misses of it.
 //!
 //! Room for some number of keys, and a list of requests that is known beforehand: no way of choosing what to drop misses
 //! fewer of them than the number that this crate answers, and one misses as many. Beside the misses of a replay it says how
@@ -6,6 +6,9 @@
 //!
 //! Contracts say it by schedules, the keys held before each request, and name no method. A policy that may let a key pass by
 //! misses no fewer than the least with room for one key more (`law_least`).
+//!
+//! A floor of what every policy misses, also of those that bypass keys, and also where keys have sizes, comes from one sort for all
+//! rooms: `floor`, `FloorPass` (`law_floor`).
 #![tactic(auto)]
 
 mod debug;

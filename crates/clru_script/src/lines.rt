@@ -15,7 +15,7 @@ pub(crate) struct Line {
 }
 
 /// What begins a block of lines.
-const SUBJECTS: [&str; 15] = [
+const SUBJECTS: [&str; 16] = [
     "cache",
     "costs",
     "list",
@@ -26,6 +26,7 @@ const SUBJECTS: [&str; 15] = [
     "distances",
     "sizes",
     "spans",
+    "floor",
     "least",
     "foresight",
     "makers",

@@ -7,6 +7,7 @@ mod calls;
 mod closures;
 mod costs;
 mod fault;
+mod floors;
 mod foresight;
 mod head;
 mod lines;

@@ -74,11 +74,11 @@ fn requested<S: BuildHasher + Drop, A: Allocator + Copy>(
 }
 
 /// A key with its weight behind a colon.
-type Heavy = (&'static str, usize);
+pub(crate) type Heavy = (&'static str, usize);
 
 /// A key weighs what stands behind its colon.
 #[derive(Clone, Copy)]
-struct ByColon;
+pub(crate) struct ByColon;
 
 impl WeightScale<Heavy, ()> for ByColon {
     ghost weight = { λ _ key _. key.1 };
@@ -127,7 +127,11 @@ fn sized_of<S: BuildHasher + Copy, A: Allocator + Copy>(
 }
 
 /// The keys of a list, with their weights.
-fn heavy_of(world: &'static World, texts: &[&'static str], words: &mut Words) -> Vec<Heavy> {
+pub(crate) fn heavy_of(
+    world: &'static World,
+    texts: &[&'static str],
+    words: &mut Words,
+) -> Vec<Heavy> {
     let mut keys: Vec<Heavy> = Vec::new(world.alloc);
     for text in texts {
         if keys.push((text, weight_of(text, words))).is_err() {

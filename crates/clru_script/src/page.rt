@@ -137,7 +137,7 @@ fn run(world: &'static World, block: &[Line], answers: &mut Answers) {
         "list" => list::run(world, lines, answers),
         "store" => store::run(world, lines, answers),
         "store_costs" => store::run_costs(world, lines, answers),
-        "replay" | "misses" | "sizes" | "least" => requests::run(world, block, answers),
+        "replay" | "misses" | "sizes" | "floor" | "least" => requests::run(world, block, answers),
         "distances" => passes::run_distances(world, lines, answers),
         "spans" => passes::run_spans(world, lines, answers),
         "foresight" => foresight::run(world, first, lines, answers),

@@ -2,6 +2,7 @@
 
 use crate::answers::Answers;
 use crate::fault::Fault;
+use crate::floors::floor_of;
 use crate::lines::Line;
 use crate::misses::{misses_of, sizes_of};
 use crate::out::Out;
@@ -32,6 +33,7 @@ impl Subject for Requests {
             "replay" => replayed(world, words, out),
             "misses" => misses_of(world, &read_keys(world, words), out),
             "sizes" => sizes_of(world, &read_keys(world, words), words, out),
+            "floor" => floor_of(world, &read_keys(world, words), words, out),
             "least" => least_of(world, &read_keys(world, words), out),
             _ => words.note(Wrong::NoSuchCall),
         }

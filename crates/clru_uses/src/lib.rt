@@ -19,6 +19,7 @@ pub mod lists;
 pub mod lookups;
 pub mod makers;
 pub mod of_curves;
+pub mod of_floors;
 pub mod of_least;
 pub mod of_lists;
 pub mod of_stores;

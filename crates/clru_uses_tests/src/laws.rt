@@ -9,7 +9,7 @@ use clru_curve::{law_bounds, law_distances, law_parts, law_spans_by_position};
 use clru_least::{law_floor, law_least};
 use clru_runs::{law_included_runs, law_put_runs, law_sized_put_runs};
 use clru_uses::of_least::least_by_position;
-use clru_uses::{of_curves, of_least, runs, sizes};
+use clru_uses::{of_curves, of_floors, of_least, runs, sizes};
 use ration::{capacity_of, equal};
 use std::alloc::Global;
 use std::test::Fail;
@@ -144,5 +144,10 @@ fn curves_and_the_least_of_pages(rt: HostRuntime) -> Result<(), Fail> {
     );
     equal!(rt; curves, (Some(2), Some(5), Some(5), Some(7)));
     equal!(rt; least, (Some(4), Some(5)));
+    let floors = (
+        of_floors::floor_of_any(rt.alloc(), two, PAGES, DefaultState).ok(),
+        of_floors::size_floor_of_any(rt.alloc(), seven, PAGES, sizes::ByPage, DefaultState).ok(),
+    );
+    equal!(rt; floors, (Some(3), Some((3, 7))));
     Ok(())
 }

@@ -1,4 +1,4 @@
-use Rattle.std.proofs.Common.{rules, ◌≡◌, length, nat_eq, slice_index, ◌∙◌, subst, arith}
+use Rattle.std.proofs.Common.{rules, ◌≡◌, nat_eq, slice_index, ◌∙◌, subst, arith}
 use Rattle.std.specs.Int.NonZero.{non_zero_usize_get}
 use Rattle.std.proofs.lemmas.List.{length-set}
 use Rattle.clru_c.specs.Arrays.{IsLeastOf}
