@@ -62,6 +62,7 @@ fn costs_of(
         capacities: Capacities::Usual,
         sizes: flags.0,
         least,
+        floor: false,
         sample,
         form,
         look: plain(),

@@ -17,14 +17,14 @@ module _ {A : Type 0} (options : Options A) (input : List ℕ) where
   abbrev lines : List (List ℕ)
   lines = lines_of input
 
-  pub form_of_all : (form : Form) (counts : Counts) (rows : List Row) (text : List ℕ) → IsTextByKeys form options.least counts rows text
-      → AreRows bytes_eq lines (has_rows form && options.least) (capacities_asked options lines) rows
+  pub form_of_all : (form : Form) (counts : Counts) (rows : List Row) (text : List ℕ) → IsTextByKeys form options.least options.floor counts rows text
+      → AreRows bytes_eq lines (has_rows form && options.least) (has_rows form && options.floor) (capacities_asked options lines) rows
       → counts.requests ≡ length lines → counts.distinct ≡ distinct bytes_eq (reverse lines) → counts.bytes ≡ length input
       → IsInForm form options input text
-  form_of_all Table counts rows text t rowed counted kinds in_bytes = (rows, rowed, t ∙ ap (λ n. table_text options.least n rows) counted)
+  form_of_all Table counts rows text t rowed counted kinds in_bytes = (rows, rowed, t ∙ ap (λ n. table_text options.least options.floor n rows) counted)
   form_of_all Picture counts rows text t rowed counted kinds in_bytes = (
-    table_text options.least counts.requests rows,
-    (rows, rowed, ap (λ n. table_text options.least n rows) counted),
+    table_text options.least options.floor counts.requests rows,
+    (rows, rowed, ap (λ n. table_text options.least options.floor n rows) counted),
     t,
   )
   form_of_all Summary counts rows text t rowed counted kinds in_bytes =
@@ -33,11 +33,12 @@ module _ {A : Type 0} (options : Options A) (input : List ℕ) where
       ∙ ap (summary_text (length lines) (distinct bytes_eq (reverse lines))) in_bytes
 
   pub form_of_sample : (n : ℕ) (kept : List (List ℕ)) (form : Form) (counts : Counts) (rows : List Row) (text : List ℕ)
-      → IsTextByKeys form false counts rows text → AreRowsOfSample options n counts.requests kept rows
+      → IsTextByKeys form false options.floor counts rows text
+      → AreRowsOfSample options (has_rows form && options.floor) n counts.requests kept rows
       → counts.distinct ≡ times n (2 ^ 64 - 1) (distinct bytes_eq (reverse kept)) → counts.bytes ≡ length input
       → IsInFormOfSample form options n counts.requests kept input text
   form_of_sample n kept Table counts rows text t rowed kinds in_bytes = (rows, rowed, t)
-  form_of_sample n kept Picture counts rows text t rowed kinds in_bytes = (table_text false counts.requests rows, (rows, rowed, refl), t)
+  form_of_sample n kept Picture counts rows text t rowed kinds in_bytes = (table_text false options.floor counts.requests rows, (rows, rowed, refl), t)
   form_of_sample n kept Summary counts rows text t rowed kinds in_bytes =
       t ∙ ap (λ k. summary_text counts.requests k counts.bytes) kinds
       ∙ ap (summary_text counts.requests (times n (2 ^ 64 - 1) (distinct bytes_eq (reverse kept)))) in_bytes

@@ -2,6 +2,7 @@ mod CapacityLemmas
 mod Falls
 mod CommandLines
 mod FaultLemmas
+mod FloorViews
 mod Forms
 mod KneeLemmas
 mod LeastLemmas

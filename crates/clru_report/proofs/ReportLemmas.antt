@@ -15,6 +15,11 @@ pub on_ok_map : {T E P Q : Type 0} (r : Result T E) → (P → Q) → OnOk r P �
 on_ok_map (Ok x) f p = f p
 on_ok_map (Err e) f p = p
 
+-- what an answer shows of each it shows of all
+pub on_ok_all : {T E X : Type 0} (H P : X → Type 0) (r : Result T E) → ((x : X) → H x → OnOk r (P x)) → OnOk r ((x : X) → H x → P x)
+on_ok_all H P (Ok t) f = f
+on_ok_all H P (Err e) f = tt
+
 pub none_map : {X P Q : Type 0} (o : Option X) → (P → Q) → IfNone o P → IfNone o Q
 none_map None f p = f p
 none_map (Some x) f p = p

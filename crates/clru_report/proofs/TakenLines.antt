@@ -13,11 +13,12 @@ use Rattle.clru_lines.specs.declared.lines.OwnedKey.{OwnedKey}
 use Rattle.clru_report.proofs.SizeViews.{curve-view, size-view}
 use Rattle.clru_curve.specs.Curves.{HasMissesOf}
 use Rattle.clru_curve.specs.Passes.{IsPass, Pass}
-use Rattle.clru_least.specs.Passes.{IsForesight, IsLatestOf}
+use Rattle.clru_least.specs.Passes.{IsLatestOf}
+use Rattle.clru_least.specs.Reuses.{Reused}
 use Rattle.clru_model.proofs.Views.{distinct-map, map-reverse, misses-map}
 use Rattle.clru_model.specs.Requests.{distinct}
 use Rattle.std.proofs.lemmas.List.{reverse-reverse}
-use Rattle.clru_report.specs.Passes.{HasTaken, HasTakenFor, HasTakenKey, HasTakenLines, HaveTakenLines, IsForeseenFor, line_of, same_line, weight_of_key}
+use Rattle.clru_report.specs.Passes.{HasFloorPass, HasForesight, HasTaken, HasTakenFor, HasTakenKey, HasTakenLines, IsForeseenFor, line_of, same_line, weight_of_key}
 use Rattle.clru_report.specs.Refusals.{IsFirstWithout}
 use Rattle.clru_report.specs.Sizes.{HaveSizes, size_of_line, size_of_lines, weight_of_line}
 
@@ -37,43 +38,41 @@ pub key_taken : {A : Type 0} (past : List (OwnedKey A)) (key : OwnedKey A) (line
 key_taken past key line next is taken = record { key = key; is = is; taken = taken }
 
 -- the latest request of a key is that of each other key of its line
-latest_alike : {A : Type 0} (past : List (OwnedKey A)) (x y : OwnedKey A) (latest : Option ℕ) → line_of x ≡ line_of y
+pub latest_alike : {A : Type 0} (past : List (OwnedKey A)) (x y : OwnedKey A) (latest : Option ℕ) → line_of x ≡ line_of y
     → IsLatestOf same_line past x latest → IsLatestOf same_line past y latest
 latest_alike past x y latest is of = record {
   known = of.known ∙ ap (λ l. list_any (λ z. bytes_eq l (line_of z)) past) is;
   position = subst (λ l. IfSome latest (λ p. p + 1 + length (take_while (λ z. not (bytes_eq l (line_of z))) past) ≡ length past)) is of.position;
 }
 
--- where the pass and the foresight took one more key, they took its line
-pub lines_taken : {A : Type 0} (lines : List (List ℕ)) (pass : Pass (OwnedKey A)) (later : List ℕ) (all : HaveTakenLines lines pass later)
-    (x : OwnedKey A) (latest : Option ℕ) (next : Pass (OwnedKey A)) (after : List ℕ) → IsLatestOf same_line all.past x latest
-    → ((past : List (OwnedKey A)) (y : OwnedKey A) → IsForesight same_line past later → IsLatestOf same_line past y latest
-    → IsForesight same_line (y ∷ past) after) → HasTakenKey all.past (line_of x) next → HaveTakenLines (lines ++ line_of x ∷ []) next after
-lines_taken lines pass later all x latest next after of step one = record {
-  past = one.key ∷ all.past;
-  shown = one_more lines all.past one.key (line_of x) all.shown one.is;
-  taken = one.taken;
-  foreseen = step all.past one.key all.foreseen (latest_alike all.past x one.key latest (sym one.is) of);
-}
+-- what is asked for beside the pass took these lines
+module _ {A : Type 0} (lines : List (List ℕ)) (past : List (OwnedKey A)) (shown : map line_of (reverse past) ≡ lines) where
+  foreseen_by : (least : Bool) (later : Option (List ℕ)) → HasForesight least past later → IsForeseenFor A least lines later
+  foreseen_by least None h = h
+  foreseen_by least (Some later) h = (h.0, record { past = past; shown = shown; taken = h.1 })
 
--- with a foresight or without one, the pass took the lines, and so did the foresight
-module _ {A : Type 0} (least : Bool) (lines : List (List ℕ)) (pass : Pass (OwnedKey A)) where
-  pub taken_for : (later : Option (List ℕ)) → HasTakenFor least lines pass later → HasTakenLines lines pass
-  taken_for None t = t.1
-  taken_for (Some later) t = record { past = t.1.past; shown = t.1.shown; taken = t.1.taken }
-
-  pub foreseen_for : (later : Option (List ℕ)) → HasTakenFor least lines pass later → IsForeseenFor A least lines later
-  foreseen_for None t = t.0
-  foreseen_for (Some later) t = (t.0, record { past = t.1.past; shown = t.1.shown; taken = t.1.foreseen })
-
-module _ {A : Type 0} (lines : List (List ℕ)) (pass : Pass (OwnedKey A)) (taken : HasTakenLines lines pass) where
-  pub line_taken : (line : List ℕ) (next : Pass (OwnedKey A)) → HasTakenKey taken.past line next → HasTakenLines (lines ++ line ∷ []) next
-  line_taken line next one = record {
-    past = one.key ∷ taken.past;
-    shown = one_more lines taken.past one.key line taken.shown one.is;
+module _ {A : Type 0} (least floored : Bool) (lines : List (List ℕ)) (pass : Pass (OwnedKey A)) (later : Option (List ℕ))
+    (reused : Option Reused) (all : HasTakenFor least floored lines pass later reused) where
+  -- one more line
+  pub one_taken : (line : List ℕ) (next : Pass (OwnedKey A)) (after : Option (List ℕ)) (more : Option Reused)
+      → ((same : OwnedKey A) → line_of same ≡ line → HasForesight least (same ∷ all.past) after)
+      → ((same : OwnedKey A) → line_of same ≡ line → HasFloorPass floored (same ∷ all.past) more)
+      → HasTakenKey all.past line next → HasTakenFor least floored (lines ++ line ∷ []) next after more
+  one_taken line next after more foreseen noted one = record {
+    past = one.key ∷ all.past;
+    shown = one_more lines all.past one.key line all.shown one.is;
     taken = one.taken;
+    foreseen = foreseen one.key one.is;
+    floored = noted one.key one.is;
   }
 
+  pub taken_for : HasTakenLines lines pass
+  taken_for = record { past = all.past; shown = all.shown; taken = all.taken }
+
+  pub foreseen_for : IsForeseenFor A least lines later
+  foreseen_for = foreseen_by lines all.past all.shown least later all.foreseen
+
+module _ {A : Type 0} (lines : List (List ℕ)) (pass : Pass (OwnedKey A)) (taken : HasTakenLines lines pass) where
   module _ (curve : List ℕ) where
     pub misses_taken : ((past : List (OwnedKey A)) → IsPass same_line past pass → HasMissesOf same_line (reverse past) curve)
         → HasMissesOf bytes_eq lines curve

@@ -54,7 +54,11 @@ pub record IsSortedSet (numbers sorted : List ℕ) : Type 0 where
 
 -- something is asked for that no summary has
 abbrev pub wants_rows : Asked → Bool
-wants_rows asked = asked.all || is_some_of asked.named || asked.least || asked.svg
+wants_rows asked = asked.all || is_some_of asked.named || asked.least || asked.floor || asked.svg
+
+-- something is asked for that is told by keys alone
+abbrev pub wants_keys : Asked → Bool
+wants_keys asked = asked.least || asked.floor
 
 -- something is asked for that pictures alone have
 abbrev pub wants_look : Asked → Bool
@@ -63,7 +67,7 @@ wants_look asked = is_some asked.title || is_some asked.unit || is_some asked.fr
 -- no two of the flags exclude one another, those of a sample aside
 abbrev pub forms_go_together : Asked → Bool
 forms_go_together asked = not (asked.all && is_some_of asked.named)
-    && (not (asked.summary && wants_rows asked) && (not (asked.sizes && asked.least) && not (wants_look asked && not asked.svg)))
+    && (not (asked.summary && wants_rows asked) && (not (asked.sizes && wants_keys asked) && not (wants_look asked && not asked.svg)))
 
 -- two samples are asked for
 abbrev pub wants_two : Asked → Bool
@@ -91,6 +95,7 @@ module _ {A : Type 0} where
     all = draft.all;
     sizes = draft.sizes;
     least = draft.least;
+    floor = draft.floor;
     svg = draft.svg;
     summary = draft.summary;
     sample = option_map non_zero_usize_get draft.sample;
@@ -121,6 +126,7 @@ module _ {A : Type 0} where
     pub form : options.form ≡ form_of asked
     pub sizes : options.sizes ≡ asked.sizes
     pub least : options.least ≡ asked.least
+    pub floor : options.floor ≡ asked.floor
     pub sample : IsSampleOf asked options.sample
     pub look : IsLookOf asked options.look
     pub capacities : AreCapacitiesOf asked.all asked.named (one_in options.sample) options.capacities

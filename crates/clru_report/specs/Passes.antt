@@ -6,6 +6,8 @@ use Rattle.clru_curve.specs.SizedPasses.{PassBySize, IsSizedPass}
 use Rattle.clru_curve.specs.Curves.{HasMissesOf}
 use Rattle.clru_curve.specs.Passes.{IsPass, Pass}
 use Rattle.clru_least.specs.Passes.{IsForesight}
+use Rattle.clru_least.specs.FloorNumbers.{Floored, IsFloorOf}
+use Rattle.clru_least.specs.Reuses.{IsFloorPass, Reused}
 use Rattle.clru_lines.specs.Lines.{lines_of}
 use Rattle.clru_lines.specs.declared.lines.OwnedKey.{OwnedKey}
 use Rattle.clru_model.specs.Requests.{distinct, misses}
@@ -58,6 +60,10 @@ has_rows Summary = false
 abbrev pub wants_least : {A : Type 0} → Options A → Bool
 wants_least options = has_rows options.form && options.least
 
+-- and so are rows with the floor
+abbrev pub wants_floor : {A : Type 0} → Options A → Bool
+wants_floor options = has_rows options.form && options.floor
+
 -- the curve by size of the lines of an input that a sample keeps, with the number, the size and the bytes of all lines, each of
 -- which has a size
 pub record IsSizedCurveOfKept (n : ℕ) (input : List ℕ) (curve : CurveBySize) (requests size bytes : ℕ) : Type 0 where
@@ -86,27 +92,38 @@ pub record HasForeseen (A : Type 0) (lines : List (List ℕ)) (later : List ℕ)
   pub shown : map line_of (reverse past) ≡ lines
   pub taken : IsForesight same_line past later
 
--- the pass and the foresight took these lines
-pub record HaveTakenLines {A : Type 0} (lines : List (List ℕ)) (pass : Pass (OwnedKey A)) (later : List ℕ) : Type 0 where
+-- the foresight is there if it was asked for, and took these keys
+abbrev pub HasForesight : {A : Type 0} → Bool → List (OwnedKey A) → Option (List ℕ) → Type 0
+HasForesight least past None = least ≡ false
+HasForesight least past (Some later) = (least ≡ true) × IsForesight same_line past later
+
+-- and so is the pass for a floor, where each key takes one place
+abbrev pub HasFloorPass : {A : Type 0} → Bool → List (OwnedKey A) → Option Reused → Type 0
+HasFloorPass floor past None = floor ≡ false
+HasFloorPass floor past (Some reused) = (floor ≡ true) × IsFloorPass same_line (λ _. 0) past reused
+
+-- the pass took these lines, and so did what is asked for beside it
+pub record HasTakenFor {A : Type 0} (least floor : Bool) (lines : List (List ℕ)) (pass : Pass (OwnedKey A))
+    (later : Option (List ℕ)) (reused : Option Reused) : Type 0 where
   pub past : List (OwnedKey A)
   pub shown : map line_of (reverse past) ≡ lines
   pub taken : IsPass same_line past pass
-  pub foreseen : IsForesight same_line past later
-
--- the same where the foresight is there if it was asked for
-abbrev pub HasTakenFor : {A : Type 0} → Bool → List (List ℕ) → Pass (OwnedKey A) → Option (List ℕ) → Type 0
-HasTakenFor least lines pass None = (least ≡ false) × HasTakenLines lines pass
-HasTakenFor least lines pass (Some later) = (least ≡ true) × HaveTakenLines lines pass later
+  pub foreseen : HasForesight least past later
+  pub floored : HasFloorPass floor past reused
 
 abbrev pub IsForeseenFor : Type 0 → Bool → List (List ℕ) → Option (List ℕ) → Type 0
 IsForeseenFor A least lines None = least ≡ false
 IsForeseenFor A least lines (Some later) = (least ≡ true) × HasForeseen A lines later
 
+abbrev pub IsFloorFor : Bool → List (List ℕ) → Option Floored → Type 0
+IsFloorFor floor lines None = floor ≡ false
+IsFloorFor floor lines (Some floored) = (floor ≡ true) × IsFloorOf bytes_eq (λ _. 0) lines floored
+
 -- the text in the form, with these rows and numbers
-abbrev pub IsTextByKeys : Form → Bool → Counts → List Row → List ℕ → Type 0
-IsTextByKeys Table least counts rows text = text ≡ table_text least counts.requests rows
-IsTextByKeys Picture least counts rows text = HasTable (table_text least counts.requests rows) text
-IsTextByKeys Summary least counts rows text = text ≡ summary_text counts.requests counts.distinct counts.bytes
+abbrev pub IsTextByKeys : Form → Bool → Bool → Counts → List Row → List ℕ → Type 0
+IsTextByKeys Table least floor counts rows text = text ≡ table_text least floor counts.requests rows
+IsTextByKeys Picture least floor counts rows text = HasTable (table_text least floor counts.requests rows) text
+IsTextByKeys Summary least floor counts rows text = text ≡ summary_text counts.requests counts.distinct counts.bytes
 
 -- the pass took these lines, each of which has a size
 pub record HasTaken {A : Type 0} (lines : List (List ℕ)) (pass : PassBySize (OwnedKey A)) : Type 0 where

@@ -1,8 +1,9 @@
 -- What is written for an input. The numbers are those of the definitions of requests and schedules: no cache is in sight.
-use Rattle.std.specs.Prelude.{◌≡◌, ℕ, ◌-◌, ◌^◌, Bool, true, false, List, length, map, reverse, None, IsSomeAnd, bytes_eq}
+use Rattle.std.specs.Prelude.{◌≡◌, ℕ, ◌-◌, ◌^◌, Bool, true, false, List, length, map, reverse, None, Some, IsSomeAnd, bytes_eq}
 use Rattle.std.specs.Int.NonZero.{non_zero_usize_get}
 use Rattle.std.specs.List.{All}
 use Rattle.clru_model.specs.Requests.{distinct, misses}
+use Rattle.clru_model.specs.Floor.{floor_misses}
 use Rattle.clru_model.specs.Least.{IsLeast}
 use Rattle.clru_lines.specs.Lines.{lines_of}
 use Rattle.clru_report.specs.Capacities.{capacities_of}
@@ -22,20 +23,26 @@ module _ {K : Type 0} (eq : K → K → Bool) (requests : List K) where
   HasLeast true row = IsSomeAnd row.least (IsLeast eq (capacity_of_row row) requests)
   HasLeast false row = row.least ≡ None
 
+  -- and so does the floor of what every schedule misses, also one that lets keys pass by, where each key takes one place
+  abbrev pub HasFloor : Bool → Row → Type 0
+  HasFloor true row = row.floor ≡ Some (floor_misses eq (λ _. 0) (capacity_of_row row) requests)
+  HasFloor false row = row.floor ≡ None
+
   -- a row of the requests
-  abbrev pub IsRow : Bool → Row → Type 0
-  IsRow least row = (row.misses ≡ misses eq (capacity_of_row row) requests) × HasLeast least row
+  abbrev pub IsRow : Bool → Bool → Row → Type 0
+  IsRow least floor row =
+      (row.misses ≡ misses eq (capacity_of_row row) requests) × HasLeast least row × HasFloor floor row
 
   -- one such row for each capacity, in order
-  abbrev pub AreRows : Bool → List ℕ → List Row → Type 0
-  AreRows least capacities rows = (map capacity_of_row rows ≡ capacities) × All (IsRow least) rows
+  abbrev pub AreRows : Bool → Bool → List ℕ → List Row → Type 0
+  AreRows least floor capacities rows = (map capacity_of_row rows ≡ capacities) × All (IsRow least floor) rows
 
 -- the table of these requests, where two keys are the same if their bytes are
 abbrev pub IsTable : {A : Type 0} → Options A → List (List ℕ) → List ℕ → Type 0
 IsTable options requests text = (rows : List Row)
-    × AreRows bytes_eq requests options.least
+    × AreRows bytes_eq requests options.least options.floor
     (capacities_of options.capacities (λ c. misses bytes_eq c requests) (distinct bytes_eq (reverse requests))) rows
-    × (text ≡ table_text options.least (length requests) rows)
+    × (text ≡ table_text options.least options.floor (length requests) rows)
 
 -- a picture that has the table in its description; of what is drawn no clause says anything
 abbrev pub IsPicture : {A : Type 0} → Options A → List (List ℕ) → List ℕ → Type 0
@@ -48,16 +55,16 @@ IsInForm Summary options input text =
     text ≡ summary_text (length (lines_of input)) (distinct bytes_eq (reverse (lines_of input))) (length input)
 
 -- the rows that kept requests tell of all, of which there are so many; the capacities that are asked for are those for the kept ones
-abbrev pub AreRowsOfSample : {A : Type 0} → Options A → ℕ → ℕ → List (List ℕ) → List Row → Type 0
-AreRowsOfSample options n all kept shown = (rows : List Row)
-    × AreRows bytes_eq kept false
+abbrev pub AreRowsOfSample : {A : Type 0} → Options A → Bool → ℕ → ℕ → List (List ℕ) → List Row → Type 0
+AreRowsOfSample options floor n all kept shown = (rows : List Row)
+    × AreRows bytes_eq kept false floor
     (capacities_of options.capacities (λ c. misses bytes_eq c kept) (distinct bytes_eq (reverse kept))) rows
     × (map numbers_of shown ≡ map (numbers_times n all) rows)
 
 -- the table of such rows
 abbrev pub IsTableOfSample : {A : Type 0} → Options A → ℕ → ℕ → List (List ℕ) → List ℕ → Type 0
 IsTableOfSample options n all kept text =
-    (shown : List Row) × AreRowsOfSample options n all kept shown × (text ≡ table_text false all shown)
+    (shown : List Row) × AreRowsOfSample options options.floor n all kept shown × (text ≡ table_text false options.floor all shown)
 
 abbrev pub IsPictureOfSample : {A : Type 0} → Options A → ℕ → ℕ → List (List ℕ) → List ℕ → Type 0
 IsPictureOfSample options n all kept text =

@@ -1,5 +1,6 @@
 -- A sample of the requests: which lines are kept, and what a number of the kept ones says of all. Public clauses cite it.
 use Rattle.std.specs.Prelude.{ℕ, ◌*◌, ◌%◌, ◌-◌, ◌^◌, ◌==◌, Bool, List, min, Option, None, bit_xor, filter, fold}
+use Rattle.std.specs.Option.{option_map}
 use Rattle.clru_report.specs.SizedTables.{capacity_of_sized_row}
 use Rattle.clru_report.specs.Tables.{capacity_of_row}
 use Rattle.clru_report.specs.declared.rows.Row.{Row}
@@ -20,14 +21,15 @@ kept_of n lines = filter (is_kept n) lines
 abbrev pub times : ℕ → ℕ → ℕ → ℕ
 times n bound number = min (number * n) bound
 
--- what stands in a row: capacity, misses and least possible misses
-abbrev pub numbers_of : Row → ℕ × (ℕ × Option ℕ)
-numbers_of row = (capacity_of_row row, (row.misses, row.least))
+-- what stands in a row: capacity, misses, least possible misses and floor
+abbrev pub numbers_of : Row → ℕ × (ℕ × (Option ℕ × Option ℕ))
+numbers_of row = (capacity_of_row row, (row.misses, (row.least, row.floor)))
 
--- the same as told of all requests, from a row of the kept ones: n times the capacity and the misses, these at most all; the least
--- of all is not known from a sample
-abbrev pub numbers_times : ℕ → ℕ → Row → ℕ × (ℕ × Option ℕ)
-numbers_times n all row = (times n (2 ^ 64 - 1) (capacity_of_row row), (times n all row.misses, None))
+-- the same as told of all requests, from a row of the kept ones: n times the capacity, the misses and the floor, these at most all;
+-- the least of all is not known from a sample
+abbrev pub numbers_times : ℕ → ℕ → Row → ℕ × (ℕ × (Option ℕ × Option ℕ))
+numbers_times n all row =
+    (times n (2 ^ 64 - 1) (capacity_of_row row), (times n all row.misses, (None, option_map (times n all) row.floor)))
 
 -- what stands in a row by size: capacity, misses and their size
 abbrev pub sized_numbers_of : SizedRow → ℕ × (ℕ × ℕ)

@@ -35,16 +35,17 @@ abbrev pub row_end : ℕ → ℕ → Bool → List ℕ
 row_end saved added knee = codes "," ++ (fraction_text (millionths saved added) ++ (codes ","
     ++ (decimal (if knee then 1 else 0) ++ codes "\n")))
 
--- the least possible misses, where they are there, and the end of a line
-abbrev pub with_least : Option ℕ → List ℕ → List ℕ
-with_least None end = end
-with_least (Some n) end = codes "," ++ (decimal n ++ end)
+-- a number, where it is there, and the end of a line
+abbrev pub with_number : Option ℕ → List ℕ → List ℕ
+with_number None end = end
+with_number (Some n) end = codes "," ++ (decimal n ++ end)
 
--- capacity, misses and miss ratio, and what follows of a row behind the point of the one before
+-- capacity, misses and miss ratio, the least and the floor if they are there, and what follows of a row behind the point of the one before
 abbrev pub row_line : ℕ → Point → Bool → Row → List ℕ
 row_line requests before knee row = decimal (capacity_of_row row) ++ (codes "," ++ (decimal row.misses ++ (codes ","
     ++ (fraction_text (millionths row.misses requests)
-    ++ with_least row.least (row_end (before.misses - row.misses) (capacity_of_row row - before.capacity) knee)))))
+    ++ with_number row.least (with_number row.floor
+    (row_end (before.misses - row.misses) (capacity_of_row row - before.capacity) knee))))))
 
 -- the lines of these rows; a knee is one by the row before it and the one behind it
 abbrev pub rows_text : ℕ → ℕ → Point → List Row → List ℕ
@@ -53,14 +54,17 @@ rows_text requests whole before (row ∷ rows) =
     row_line requests before (is_knee_before whole before (point_of_row row) (first_point rows)) row
     ++ rows_text requests whole (point_of_row row) rows
 
-abbrev pub header_line : Bool → List ℕ
-header_line least = if least then codes "capacity,misses,miss_ratio,least_misses,saved_per_key,knee\n"
-    else codes "capacity,misses,miss_ratio,saved_per_key,knee\n"
+abbrev pub header_line : Bool → Bool → List ℕ
+header_line least floor = if least
+    then (if floor then codes "capacity,misses,miss_ratio,least_misses,floor_misses,saved_per_key,knee\n"
+    else codes "capacity,misses,miss_ratio,least_misses,saved_per_key,knee\n")
+    else (if floor then codes "capacity,misses,miss_ratio,floor_misses,saved_per_key,knee\n"
+    else codes "capacity,misses,miss_ratio,saved_per_key,knee\n")
 
 -- the table with these rows; with room for nothing all requests miss
-abbrev pub table_text : Bool → ℕ → List Row → List ℕ
-table_text least requests rows =
-    header_line least ++ rows_text requests (misses_of_point (first_point rows)) (point 0 requests) rows
+abbrev pub table_text : Bool → Bool → ℕ → List Row → List ℕ
+table_text least floor requests rows =
+    header_line least floor ++ rows_text requests (misses_of_point (first_point rows)) (point 0 requests) rows
 
 -- the summary of so many requests for so many keys
 abbrev pub summary_text : ℕ → ℕ → ℕ → List ℕ

@@ -39,6 +39,7 @@ struct Draft<A: Allocator> {
     all: bool,
     sizes: bool,
     least: bool,
+    floor: bool,
     svg: bool,
     summary: bool,
     sample: Option<NonZeroUsize>,
@@ -103,6 +104,7 @@ fn draft_of<A: Allocator + Copy>(alloc: A) -> Draft<A>
         all: false,
         sizes: false,
         least: false,
+        floor: false,
         svg: false,
         summary: false,
         sample: None,
@@ -204,6 +206,7 @@ fn take_flag<A: Allocator>(draft: &mut Draft<A>, word: &str) -> bool
         "--all" => draft.all = true,
         "--sizes" => draft.sizes = true,
         "--least" => draft.least = true,
+        "--floor" => draft.floor = true,
         "--svg" => draft.svg = true,
         "--summary" => draft.summary = true,
         _ => return false,
@@ -379,6 +382,7 @@ fn finish<A: Allocator + Copy>(alloc: A, draft: Draft<A>) -> Result<Command<A>, 
         all,
         sizes,
         least,
+        floor,
         svg: _,
         summary: _,
         sample: _,
@@ -390,6 +394,7 @@ fn finish<A: Allocator + Copy>(alloc: A, draft: Draft<A>) -> Result<Command<A>, 
         capacities: capacities_of(named, all, sample),
         sizes,
         least,
+        floor,
         sample,
         form,
         look,
@@ -491,6 +496,9 @@ fn conflict_of<A: Allocator>(draft: &Draft<A>) -> Option<&'static str>
             "--least and --sizes do not go together: the least in bytes is too hard to compute, so leave one out",
         );
     }
+    if draft.sizes && draft.floor {
+        return Some("--floor and --sizes do not go together: the floor is told by keys alone");
+    }
     if asks_for_look(draft) && !draft.svg {
         return Some("--title, --unit, --from and --to are of a picture: write --svg as well");
     }
@@ -546,7 +554,7 @@ fn asks_for_look<A: Allocator>(draft: &Draft<A>) -> bool
 fn asks_for_rows<A: Allocator>(draft: &Draft<A>) -> bool
     ensures { result ≡ wants_rows (asked_by draft.now) }
 {
-    draft.all || !draft.named.is_empty() || draft.least || draft.svg
+    draft.all || !draft.named.is_empty() || draft.least || draft.floor || draft.svg
 }
 
 fn wrong<A: Allocator + Copy>(alloc: A, line: &str) -> Refusal<A> {

@@ -68,6 +68,10 @@ pub struct Options<A: Allocator = Global> {
     /// ask for both have no proof.
     pub least: bool,
 
+    /// Whether each line of the table has a floor of the misses: no policy has fewer, also one that bypasses keys. By size none
+    /// has it.
+    pub floor: bool,
+
     /// Capacities are those of the sample; what is written is of all requests: capacities, misses and keys so many times as
     /// many, of misses no more than requests, and of their size no more than that of all.
     pub sample: Sample,

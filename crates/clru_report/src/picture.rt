@@ -77,6 +77,9 @@ fn draw<W: Write, A: Allocator>(text: &mut W, plot: &Plot<A>, look: &Look<A>) ->
     for line in plot.lines.iter() {
         draw_floor(text, line)?;
     }
+    if let Some(line) = &plot.below {
+        draw_line(text, &scale, line)?;
+    }
     for line in plot.lines.iter() {
         draw_line(text, &scale, line)?;
     }

@@ -2,7 +2,7 @@
 ghost use Rattle.std.specs.Prelude.{◌≡◌, true, false, IfErr, IfOk, string_bytes};
 ghost use Rattle.clru_lines.specs.Whole.{ReadWhole};
 ghost use Rattle.clru_report.specs.Faults.{is_of_writing};
-ghost use Rattle.clru_report.specs.Passes.{wants_least};
+ghost use Rattle.clru_report.specs.Passes.{wants_floor, wants_least};
 ghost use Rattle.clru_report.specs.Refusals.{is_of_input, IsRefused};
 ghost use Rattle.clru_report.specs.Report.{IsInForm, IsReport, IsReportByKeys};
 
@@ -73,14 +73,16 @@ fn report_of_all<R: Read, S: BuildHasher + Drop, A: Allocator + Copy>(
 {
     let one_in = NonZeroUsize::MIN;
     let least = asks_for_least(options);
-    let (curve, foresight, requests, bytes) = curve_by_keys(
+    let floored = asks_for_floor(options);
+    let (curve, foresight, floor, requests, bytes) = curve_by_keys(
         alloc,
         one_in,
         least,
+        floored,
         reader,
         hash_builder,
     )?;
-    let Ok(rows) = rows_of_all(alloc, options, &curve, &foresight) else {
+    let Ok(rows) = rows_of_all(alloc, options, &curve, &foresight, &floor) else {
         return Err(ReadError::Memory);
     };
     let counts = Counts {
@@ -89,7 +91,7 @@ fn report_of_all<R: Read, S: BuildHasher + Drop, A: Allocator + Copy>(
         distinct: curve.distinct(),
         bytes,
     };
-    match text_by_keys(alloc, options, &curve, &rows, options.least, counts) {
+    match text_by_keys(alloc, options, &curve, &floor, &rows, options.least, counts) {
         Ok(text) => Ok(text),
         Err(_) => Err(ReadError::Memory),
     }
@@ -100,6 +102,15 @@ fn asks_for_least<A: Allocator>(options: &Options<A>) -> bool
 {
     match options.form {
         Form::Table | Form::Picture => options.least,
+        Form::Summary => false,
+    }
+}
+
+fn asks_for_floor<A: Allocator>(options: &Options<A>) -> bool
+    ensures { result ≡ wants_floor options.now }
+{
+    match options.form {
+        Form::Table | Form::Picture => options.floor,
         Form::Summary => false,
     }
 }
@@ -115,8 +126,16 @@ fn report_of_sample<R: Read, S: BuildHasher + Drop, A: Allocator + Copy>(
     ensures { IfOk result (λ text. ReadWhole (R.remaining reader.old) (R.remaining reader.new)
         (λ input. IsReportByKeys (Sample.OneIn one_in) options.now input (string_bytes text))) }
 {
-    let (curve, _, requests, bytes) = curve_by_keys(alloc, one_in, false, reader, hash_builder)?;
-    match text_of_sample(alloc, options, &curve, one_in, requests, bytes) {
+    let floored = asks_for_floor(options);
+    let (curve, _, floor, requests, bytes) = curve_by_keys(
+        alloc,
+        one_in,
+        false,
+        floored,
+        reader,
+        hash_builder,
+    )?;
+    match text_of_sample(alloc, options, &curve, &floor, one_in, requests, bytes) {
         Ok(text) => Ok(text),
         Err(_) => Err(ReadError::Memory),
     }
@@ -135,8 +154,16 @@ fn report_of_sampled<R: Read, S: BuildHasher + Drop, A: Allocator + Copy>(
         (λ input. IsReportByKeys (Sample.Taken one_in requests) options.now input (string_bytes text))) }
 {
     let all = NonZeroUsize::MIN;
-    let (curve, _, _, bytes) = curve_by_keys(alloc, all, false, reader, hash_builder)?;
-    match text_of_sample(alloc, options, &curve, one_in, requests, bytes) {
+    let floored = asks_for_floor(options);
+    let (curve, _, floor, _, bytes) = curve_by_keys(
+        alloc,
+        all,
+        false,
+        floored,
+        reader,
+        hash_builder,
+    )?;
+    match text_of_sample(alloc, options, &curve, &floor, one_in, requests, bytes) {
         Ok(text) => Ok(text),
         Err(_) => Err(ReadError::Memory),
     }

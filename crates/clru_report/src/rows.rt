@@ -3,15 +3,16 @@ ghost use Rattle.std.specs.Prelude.{◌≡◌, ◌<◌, ℕ, List, Bool, None, t
 ghost use Rattle.std.specs.Int.NonZero.{non_zero_usize_get};
 ghost use Rattle.std.specs.Str.{bytes_eq};
 ghost use Rattle.clru_curve.specs.Curves.{HasMissesOf, misses_at};
+ghost use Rattle.clru_least.specs.FloorNumbers.{IsFloorOf};
 ghost use Rattle.clru_model.specs.Requests.{distinct};
-ghost use Rattle.clru_report.specs.Passes.{capacities_asked, HasForeseen, IsForeseenFor};
+ghost use Rattle.clru_report.specs.Passes.{capacities_asked, HasForeseen, IsFloorFor, IsForeseenFor};
 ghost use Rattle.clru_report.specs.Report.{AreRows};
 ghost use Rattle.clru_report.specs.Tables.{capacity_of_row};
 
 use crate::capacities::capacities_for;
 use crate::options::Options;
 use clru_curve::MissCurve;
-use clru_least::ForesightPass;
+use clru_least::{Floor, ForesightPass};
 use clru_lines::OwnedKey;
 use std::alloc::{AllocError, Allocator};
 use std::num::NonZeroUsize;
@@ -24,17 +25,20 @@ pub struct Row {
 
     /// The least possible misses, where they are asked for.
     pub least: Option<usize>,
+
+    /// What every policy misses at least, also one that bypasses keys, where it is asked for.
+    pub floor: Option<usize>,
 }
 
-/// The rows that the options ask for, over the curve of requests; none has the least possible misses.
-pub(crate) fn rows_for<A: Allocator + Copy>(
+// The rows that the options ask for, over the curve of requests, with their misses alone.
+fn rows_for<A: Allocator + Copy>(
     alloc: A,
     options: &Options<A>,
     curve: &MissCurve<A>,
 ) -> Result<Vec<Row, A>, AllocError>
     ensures { (lines : List (List ℕ)) → HasMissesOf bytes_eq lines curve.now
         → length curve.now ≡ distinct bytes_eq (reverse lines)
-        → IfOk result (λ rows. AreRows bytes_eq lines false (capacities_asked options.now lines) rows.items) }
+        → IfOk result (λ rows. AreRows bytes_eq lines false false (capacities_asked options.now lines) rows.items) }
 {
     let capacities = capacities_for(alloc, &options.capacities, curve.as_slice())?;
     rows_at(alloc, curve, &capacities)
@@ -47,7 +51,7 @@ fn rows_at<A: Allocator>(
     capacities: &[NonZeroUsize],
 ) -> Result<Vec<Row, A>, AllocError>
     ensures { (lines : List (List ℕ)) → HasMissesOf bytes_eq lines curve.now
-        → IfOk result (λ rows. AreRows bytes_eq lines false (map non_zero_usize_get capacities.now) rows.items) }
+        → IfOk result (λ rows. AreRows bytes_eq lines false false (map non_zero_usize_get capacities.now) rows.items) }
 {
     let mut rows = Vec::new(alloc);
     for capacity in capacities {
@@ -61,6 +65,7 @@ fn row_at<A: Allocator>(curve: &MissCurve<A>, capacity: NonZeroUsize) -> Row
     ensures positive { 0 < capacity_of_row result }
     ensures misses { result.misses ≡ misses_at curve.now (non_zero_usize_get capacity) }
     ensures least { result.least ≡ None }
+    ensures floor { result.floor ≡ None }
 {
     // It tells that the capacity is no 0.
     let _ = capacity.get();
@@ -68,21 +73,65 @@ fn row_at<A: Allocator>(curve: &MissCurve<A>, capacity: NonZeroUsize) -> Row
         capacity,
         misses: curve.misses(capacity),
         least: None,
+        floor: None,
     }
 }
 
-/// The rows that the options ask for, of all requests; the foresight tells the least possible misses.
+/// The rows that the options ask for, over the curve of requests, and with their floor if it is there.
+pub(crate) fn rows_and_floor<A: Allocator + Copy>(
+    alloc: A,
+    options: &Options<A>,
+    curve: &MissCurve<A>,
+    floor: &Option<Floor<A>>,
+) -> Result<Vec<Row, A>, AllocError>
+    ensures { (lines : List (List ℕ)) (floored : Bool) → HasMissesOf bytes_eq lines curve.now
+        → length curve.now ≡ distinct bytes_eq (reverse lines) → IsFloorFor floored lines floor.now
+        → IfOk result (λ rows. AreRows bytes_eq lines false floored (capacities_asked options.now lines) rows.items) }
+{
+    let rows = rows_for(alloc, options, curve)?;
+    match floor {
+        None => Ok(rows),
+        Some(floor) => rows_with_floor(alloc, floor, &rows),
+    }
+}
+
+// The rows with the floor.
+fn rows_with_floor<A: Allocator + Copy>(
+    alloc: A,
+    floor: &Floor<A>,
+    rows: &[Row],
+) -> Result<Vec<Row, A>, AllocError>
+    ensures { (lines : List (List ℕ)) (capacities : List ℕ) → IsFloorOf bytes_eq (λ _. 0) lines floor.now
+        → AreRows bytes_eq lines false false capacities rows.now
+        → IfOk result (λ found. AreRows bytes_eq lines false true capacities found.items) }
+{
+    let mut found = Vec::new(alloc);
+    for row in rows {
+        found.push(Row {
+            capacity: row.capacity,
+            misses: row.misses,
+            least: row.least,
+            floor: Some(floor.misses(row.capacity)),
+        })?;
+    }
+    Ok(found)
+}
+
+/// The rows that the options ask for, of all requests; the foresight tells the least possible misses, and the floor what every
+/// policy misses.
 pub(crate) fn rows_of_all<A: Allocator + Copy>(
     alloc: A,
     options: &Options<A>,
     curve: &MissCurve<A>,
     foresight: &Option<ForesightPass<OwnedKey<A>, A>>,
+    floor: &Option<Floor<A>>,
 ) -> Result<Vec<Row, A>, AllocError>
-    ensures { (lines : List (List ℕ)) (least : Bool) → HasMissesOf bytes_eq lines curve.now
+    ensures { (lines : List (List ℕ)) (least floored : Bool) → HasMissesOf bytes_eq lines curve.now
         → length curve.now ≡ distinct bytes_eq (reverse lines) → IsForeseenFor A least lines foresight.now
-        → IfOk result (λ rows. AreRows bytes_eq lines least (capacities_asked options.now lines) rows.items) }
+        → IsFloorFor floored lines floor.now
+        → IfOk result (λ rows. AreRows bytes_eq lines least floored (capacities_asked options.now lines) rows.items) }
 {
-    let rows = rows_for(alloc, options, curve)?;
+    let rows = rows_and_floor(alloc, options, curve, floor)?;
     match foresight {
         None => Ok(rows),
         Some(foresight) => rows_with_least(alloc, foresight, &rows),
@@ -95,9 +144,9 @@ fn rows_with_least<A: Allocator + Copy>(
     foresight: &ForesightPass<OwnedKey<A>, A>,
     rows: &[Row],
 ) -> Result<Vec<Row, A>, AllocError>
-    ensures { (lines : List (List ℕ)) (capacities : List ℕ) → HasForeseen A lines foresight.now
-        → AreRows bytes_eq lines false capacities rows.now
-        → IfOk result (λ found. AreRows bytes_eq lines true capacities found.items) }
+    ensures { (lines : List (List ℕ)) (floored : Bool) (capacities : List ℕ) → HasForeseen A lines foresight.now
+        → AreRows bytes_eq lines false floored capacities rows.now
+        → IfOk result (λ found. AreRows bytes_eq lines true floored capacities found.items) }
 {
     let mut found = Vec::new(alloc);
     for row in rows {
@@ -106,6 +155,7 @@ fn rows_with_least<A: Allocator + Copy>(
             capacity: row.capacity,
             misses: row.misses,
             least: Some(least),
+            floor: row.floor,
         })?;
     }
     Ok(found)

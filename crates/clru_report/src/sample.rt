@@ -1,17 +1,20 @@
 //! The text of a report of which one key in some number was kept.
-ghost use Rattle.std.specs.Prelude.{◌≡◌, ℕ, List, length, map, reverse, IfOk, string_bytes};
+ghost use Rattle.std.specs.Prelude.{◌≡◌, ℕ, Bool, List, length, map, reverse, IfOk, string_bytes};
 ghost use Rattle.std.specs.Int.NonZero.{non_zero_usize_get};
+ghost use Rattle.std.specs.Option.{option_map};
 ghost use Rattle.std.specs.Str.{bytes_eq};
 ghost use Rattle.clru_curve.specs.Curves.{HasMissesOf};
 ghost use Rattle.clru_model.specs.Requests.{distinct};
+ghost use Rattle.clru_report.specs.Passes.{IsFloorFor, wants_floor};
 ghost use Rattle.clru_report.specs.Report.{AreRowsOfSample, IsInFormOfSample};
 ghost use Rattle.clru_report.specs.Samples.{fnv, is_kept as is_kept_by, numbers_of, numbers_times, times as times_of};
 
 use crate::options::{Form, Options};
-use crate::rows::{Row, rows_for};
+use crate::rows::{Row, rows_and_floor};
 use crate::table::summary_of;
 use crate::text::{Counts, text_by_keys};
 use clru_curve::MissCurve;
+use clru_least::Floor;
 use std::alloc::{AllocError, Allocator};
 use std::num::NonZeroUsize;
 
@@ -43,12 +46,14 @@ pub(crate) fn text_of_sample<A: Allocator + Copy>(
     alloc: A,
     options: &Options<A>,
     curve: &MissCurve<A>,
+    floor: &Option<Floor<A>>,
     one_in: NonZeroUsize,
     requests: usize,
     bytes: usize,
 ) -> Result<String<A>, AllocError>
     ensures { (input : List ℕ) (kept : List (List ℕ)) → HasMissesOf bytes_eq kept curve.now
-        → length curve.now ≡ distinct bytes_eq (reverse kept) → bytes ≡ length input
+        → length curve.now ≡ distinct bytes_eq (reverse kept) → IsFloorFor (wants_floor options.now) kept floor.now
+        → bytes ≡ length input
         → IfOk result (λ text. IsInFormOfSample options.now.form options.now (non_zero_usize_get one_in) requests kept
         input (string_bytes text)) }
 {
@@ -56,14 +61,14 @@ pub(crate) fn text_of_sample<A: Allocator + Copy>(
     if let Form::Summary = options.form {
         return summary_of(alloc, requests, distinct, bytes);
     }
-    let rows = rows_of_sample(alloc, options, curve, one_in, requests)?;
+    let rows = rows_of_sample(alloc, options, curve, floor, one_in, requests)?;
     let counts = Counts {
         one_in,
         requests,
         distinct,
         bytes,
     };
-    text_by_keys(alloc, options, curve, &rows, false, counts)
+    text_by_keys(alloc, options, curve, floor, &rows, false, counts)
 }
 
 // The rows that the options ask for, each as one of all requests.
@@ -71,14 +76,15 @@ fn rows_of_sample<A: Allocator + Copy>(
     alloc: A,
     options: &Options<A>,
     curve: &MissCurve<A>,
+    floor: &Option<Floor<A>>,
     one_in: NonZeroUsize,
     requests: usize,
 ) -> Result<Vec<Row, A>, AllocError>
-    ensures { (kept : List (List ℕ)) → HasMissesOf bytes_eq kept curve.now
-        → length curve.now ≡ distinct bytes_eq (reverse kept)
-        → IfOk result (λ shown. AreRowsOfSample options.now (non_zero_usize_get one_in) requests kept shown.items) }
+    ensures { (kept : List (List ℕ)) (floored : Bool) → HasMissesOf bytes_eq kept curve.now
+        → length curve.now ≡ distinct bytes_eq (reverse kept) → IsFloorFor floored kept floor.now
+        → IfOk result (λ shown. AreRowsOfSample options.now floored (non_zero_usize_get one_in) requests kept shown.items) }
 {
-    let rows = rows_for(alloc, options, curve)?;
+    let rows = rows_and_floor(alloc, options, curve, floor)?;
     rows_times(alloc, &rows, one_in, requests)
 }
 
@@ -97,9 +103,20 @@ fn rows_times<A: Allocator>(
             capacity: row.capacity.saturating_mul(one_in),
             misses: times(one_in, requests, row.misses),
             least: None,
+            floor: times_some(one_in, requests, row.floor),
         })?;
     }
     Ok(shown)
+}
+
+// The same of a number that may not be there.
+fn times_some(one_in: NonZeroUsize, bound: usize, number: Option<usize>) -> Option<usize>
+    ensures { result ≡ option_map (times_of (non_zero_usize_get one_in) bound) number }
+{
+    match number {
+        Some(number) => Some(times(one_in, bound, number)),
+        None => None,
+    }
 }
 
 /// So many times a number, and at most the bound.

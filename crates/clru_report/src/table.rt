@@ -1,7 +1,7 @@
 //! The text of a table, and that of the summary.
 ghost use Rattle.std.specs.Prelude.{◌≡◌, ◌-◌, drop, if◌then◌else◌, IfOk, string_bytes};
 ghost use Rattle.clru_report.specs.Knees.{is_knee_before};
-ghost use Rattle.clru_report.specs.Tables.{capacity_of_row, first_point, misses_of_point, point_of_row, row_end, row_line, summary_text, table_text};
+ghost use Rattle.clru_report.specs.Tables.{capacity_of_row, first_point, misses_of_point, point_of_row, header_line, row_end, row_line, summary_text, table_text, with_number as with_number_text};
 
 use crate::fraction::ratio_of;
 use crate::knees::{Point, is_knee, is_sharp};
@@ -14,15 +14,12 @@ pub(crate) fn table_of<A: Allocator + Copy>(
     rows: &[Row],
     requests: usize,
     least: bool,
+    floor: bool,
 ) -> Result<String<A>, AllocError>
-    ensures { IfOk result (λ text. string_bytes text ≡ table_text least requests rows.now) }
+    ensures { IfOk result (λ text. string_bytes text ≡ table_text least floor requests rows.now) }
 {
     let mut text = String::new(alloc);
-    text.push_str(if least {
-        "capacity,misses,miss_ratio,least_misses,saved_per_key,knee\n"
-    } else {
-        "capacity,misses,miss_ratio,saved_per_key,knee\n"
-    })?;
+    text.push_str(header_of(least, floor))?;
     let whole = misses_at_first(point_in(rows, 0));
     let mut before = Point {
         capacity: 0,
@@ -37,6 +34,22 @@ pub(crate) fn table_of<A: Allocator + Copy>(
         before = here;
     }
     Ok(text)
+}
+
+fn header_of(least: bool, floor: bool) -> &'static str
+    ensures { result.now ≡ header_line least floor }
+{
+    if least {
+        if floor {
+            "capacity,misses,miss_ratio,least_misses,floor_misses,saved_per_key,knee\n"
+        } else {
+            "capacity,misses,miss_ratio,least_misses,saved_per_key,knee\n"
+        }
+    } else if floor {
+        "capacity,misses,miss_ratio,floor_misses,saved_per_key,knee\n"
+    } else {
+        "capacity,misses,miss_ratio,saved_per_key,knee\n"
+    }
 }
 
 // The point of the row of an index, where it is there.
@@ -95,9 +108,22 @@ fn line_of<A: Allocator + Copy>(
     let saved = before.misses.saturating_sub(misses);
     let added = capacity.saturating_sub(before.capacity);
     let end = end_of(alloc, saved, added, knee)?;
-    match row.least {
-        Some(least) => format!(in alloc; "{capacity},{misses},{ratio},{least}{end}"),
-        None => format!(in alloc; "{capacity},{misses},{ratio}{end}"),
+    let from_floor = with_number(alloc, row.floor, end)?;
+    let from_least = with_number(alloc, row.least, from_floor)?;
+    format!(in alloc; "{capacity},{misses},{ratio}{from_least}")
+}
+
+// The end of a line, behind a number if it is there.
+fn with_number<A: Allocator + Copy>(
+    alloc: A,
+    number: Option<usize>,
+    end: String<A>,
+) -> Result<String<A>, AllocError>
+    ensures { IfOk result (λ text. string_bytes text ≡ with_number_text number (string_bytes end)) }
+{
+    match number {
+        Some(number) => format!(in alloc; ",{number}{end}"),
+        None => Ok(end),
     }
 }
 

@@ -7,6 +7,7 @@ use crate::picture::picture_by_keys;
 use crate::rows::Row;
 use crate::table::{summary_of, table_of};
 use clru_curve::MissCurve;
+use clru_least::Floor;
 use std::alloc::{AllocError, Allocator};
 use std::num::NonZeroUsize;
 
@@ -24,19 +25,20 @@ pub(crate) fn text_by_keys<A: Allocator + Copy>(
     alloc: A,
     options: &Options<A>,
     curve: &MissCurve<A>,
+    floor: &Option<Floor<A>>,
     rows: &[Row],
     least: bool,
     counts: Counts,
 ) -> Result<String<A>, AllocError>
-    ensures { IfOk result (λ text. IsTextByKeys options.now.form least counts rows.now (string_bytes text)) }
+    ensures { IfOk result (λ text. IsTextByKeys options.now.form least options.now.floor counts rows.now (string_bytes text)) }
 {
     let requests = counts.requests;
     match options.form {
-        Form::Table => table_of(alloc, rows, requests, least),
+        Form::Table => table_of(alloc, rows, requests, least, options.floor),
         Form::Picture => {
-            let table = table_of(alloc, rows, requests, least)?;
+            let table = table_of(alloc, rows, requests, least, options.floor)?;
             let curve = curve.as_slice();
-            picture_by_keys(alloc, curve, counts.one_in, requests, options, rows, &table)
+            picture_by_keys(alloc, curve, floor, counts, options, rows, &table)
         }
         Form::Summary => summary_of(alloc, requests, counts.distinct, counts.bytes),
     }

@@ -7,22 +7,26 @@ use super::plot::{Line, Plot};
 use crate::options::{Capacities, Options};
 use crate::rows::Row;
 use crate::sample::times;
+use crate::text::Counts;
+use clru_least::Floor;
 use std::alloc::{AllocError, Allocator};
 use std::num::NonZeroUsize;
 
-/// The picture of the misses at 1, 2 and so on, with a dot for each row that has the least possible ones, and a ring for each
-/// capacity that was named. Where the curve is of one key in some number, it shows what that says of all requests, as rows do.
+/// The picture of the misses at 1, 2 and so on, with a line for their floor if it is there, a dot for each row that has the
+/// least possible ones, and a ring for each capacity that was named. Where the curve is of one key in some number, it shows what that says of all requests, as rows do.
 pub(crate) fn picture_by_keys<A: Allocator + Copy>(
     alloc: A,
     curve: &[usize],
-    one_in: NonZeroUsize,
-    requests: usize,
+    floor: &Option<Floor<A>>,
+    counts: Counts,
     options: &Options<A>,
     rows: &[Row],
     table: &str,
 ) -> Result<String<A>, AllocError>
     ensures { IfOk result (λ text. HasTable table.now (string_bytes text)) }
 {
+    let one_in = counts.one_in;
+    let requests = counts.requests;
     let greatest = rows.iter().map(|row| row.capacity.get()).max();
     let distinct = times(one_in, usize::MAX, curve.len());
     let look = &options.look;
@@ -53,6 +57,10 @@ pub(crate) fn picture_by_keys<A: Allocator + Copy>(
         unit: "keys",
         ends: (first.get(), last),
         lines,
+        below: match floor {
+            Some(floor) => Some(line_below(alloc, floor, curve.len(), first, counts)?),
+            None => None,
+        },
         least: if options.least {
             Some(dots_of(alloc, rows)?)
         } else {
@@ -60,6 +68,40 @@ pub(crate) fn picture_by_keys<A: Allocator + Copy>(
         },
     };
     picture_of(alloc, &plot, look, table)
+}
+
+// The line of the floor: what misses at the first capacity, and at each at which it falls.
+fn line_below<A: Allocator + Copy>(
+    alloc: A,
+    floor: &Floor<A>,
+    keys: usize,
+    first: NonZeroUsize,
+    counts: Counts,
+) -> Result<Line<A>, AllocError> {
+    let one_in = counts.one_in;
+    let requests = counts.requests;
+    let start = NonZeroUsize::new(first.get() / one_in.get()).unwrap_or(NonZeroUsize::MIN);
+    let mut steps = Vec::new(alloc);
+    let mut room = NonZeroUsize::MIN;
+    let mut last = floor.misses(room);
+    for _ in 0..keys {
+        let misses = floor.misses(room);
+        if misses != last {
+            let capacity = times(one_in, usize::MAX, room.get());
+            steps.push((capacity, times(one_in, requests, misses)))?;
+            last = misses;
+        }
+        room = room.saturating_add(1);
+    }
+    Ok(Line {
+        class: "below",
+        name: "floor",
+        whole: requests,
+        start: times(one_in, requests, floor.misses(start)),
+        steps,
+        floor: 0,
+        marks: Vec::new(alloc),
+    })
 }
 
 // The capacities at which the misses fall, and the misses there.

@@ -43,6 +43,7 @@ pub(crate) fn picture_by_size<A: Allocator + Copy>(
         unit: "units of size",
         ends: (first, last),
         lines: lines_of(alloc, curve, totals, first, capacities)?,
+        below: None,
         least: None,
     };
     picture_of(alloc, &plot, look, table)

@@ -1,7 +1,7 @@
 //! What stands above the axes: of what the picture is, and what its marks are.
 
 use super::numbers::write_number;
-use super::plot::Plot;
+use super::plot::{Line, Plot};
 use super::scale::LEFT;
 use super::words::write_words;
 use crate::options::Look;
@@ -10,6 +10,9 @@ use std::fmt::{self, Write};
 
 // From one line of the legend to the next.
 const STRIDE: u128 = 2200;
+
+// And to the one behind that of first requests.
+const BEYOND_FIRST: u128 = 2100;
 
 pub(super) fn draw_legend<W: Write, A: Allocator>(
     text: &mut W,
@@ -24,18 +27,27 @@ pub(super) fn draw_legend<W: Write, A: Allocator>(
     text.write_str("</text>\n")?;
     let mut left = LEFT;
     for line in plot.lines.iter() {
-        let class = line.class;
-        let name = line.name;
-        let beside = left.saturating_add(500);
-        write!(text, "<path class=\"{class}\" d=\"M{left} 375h400\"/>\n")?;
-        write!(text, "<text x=\"{beside}\" y=\"430\">{name}</text>\n")?;
+        draw_name(text, line, left)?;
         left = left.saturating_add(STRIDE);
     }
     if plot.least.is_some() {
         text.write_str("<circle class=\"least\" cx=\"2050\" cy=\"375\" r=\"45\"/>\n")?;
         text.write_str("<text x=\"2170\" y=\"430\">least possible</text>\n")?;
     }
-    draw_floor(text, floor_of(plot))
+    draw_floor(text, floor_of(plot))?;
+    match &plot.below {
+        Some(line) => draw_name(text, line, floor_of(plot).saturating_add(BEYOND_FIRST)),
+        None => Ok(()),
+    }
+}
+
+// A piece of the line, and its name.
+fn draw_name<W: Write, A: Allocator>(text: &mut W, line: &Line<A>, left: u128) -> fmt::Result {
+    let class = line.class;
+    let name = line.name;
+    let beside = left.saturating_add(500);
+    write!(text, "<path class=\"{class}\" d=\"M{left} 375h400\"/>\n")?;
+    write!(text, "<text x=\"{beside}\" y=\"430\">{name}</text>\n")
 }
 
 // What a sample tells is no count.

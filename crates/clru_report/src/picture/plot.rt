@@ -45,6 +45,9 @@ pub(crate) struct Plot<A: Allocator> {
 
     pub(crate) lines: Vec<Line<A>, A>,
 
+    /// What every policy misses at least, where it is asked for.
+    pub(crate) below: Option<Line<A>>,
+
     /// The least possible misses at a capacity, where they are asked for.
     pub(crate) least: Option<Vec<(usize, usize), A>>,
 }

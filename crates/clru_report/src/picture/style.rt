@@ -13,6 +13,7 @@ pub(crate) const STYLE: &str = "<style>
 .clru_mrc .lru{stroke:#0b5cad;stroke-width:28;fill:none}
 .clru_mrc .bytes{stroke:#b3410e;stroke-width:28;stroke-dasharray:110 55;fill:none}
 .clru_mrc .floor{stroke:#666;stroke-width:14;stroke-dasharray:20 40;fill:none}
+.clru_mrc .below{stroke:#2a7a3b;stroke-width:14;fill:none}
 .clru_mrc .mark{fill:#fff;stroke-dasharray:none}
 .clru_mrc .least{fill:#b3410e}
 @media(max-width:500px){
@@ -28,6 +29,7 @@ pub(crate) const STYLE: &str = "<style>
 .clru_mrc .lru{stroke:#6cb2ff}
 .clru_mrc .bytes{stroke:#ff9a5c}
 .clru_mrc .floor{stroke:#999}
+.clru_mrc .below{stroke:#7fce8f}
 .clru_mrc .mark{fill:#161616}
 .clru_mrc .least{fill:#ff9a5c}
 }

@@ -7,7 +7,7 @@ use Rattle.clru_report.proofs.pass.curve_by_keys.Given as goal
 
 abbrev pub invariant-lines : goal.invariant-lines
 invariant-lines g l = (lines : List (List ℕ))
-    × HasTakenFor l.least (kept_of (non_zero_usize_get l.one_in) lines) l.pass l.foresight
+    × HasTakenFor l.least l.floored (kept_of (non_zero_usize_get l.one_in) lines) l.pass l.foresight l.reuses
     × HasTold (g.R.Read.remaining l.initial.reader) (g.R.Read.remaining l.reader) l.buffer lines
     × (l.requests ≡ length lines) × (l.requests < 2 ^ 64)
 

@@ -14,15 +14,16 @@ loop-capacity-preserved g c lines has =
     let more = ap (map non_zero_usize_get) (take_more cs i c.capacity-item.result (omega (arith, c.loop-capacity-test.true))
     ∙ ap (λ k. take i cs ++ k ∷ []) (sym c.capacity-item.is)) ∙ map-append non_zero_usize_get (take i cs) (c.capacity-item.result ∷ [])
     ∙ ap (λ k. map non_zero_usize_get (take i cs) ++ k ∷ []) (sym c.row_at.ensures.capacity) in
-    rows_more lines false (map non_zero_usize_get (take i cs)) (map non_zero_usize_get (take (i + 1) cs)) c.loop-capacity.rows.items
+    rows_more lines false false (map non_zero_usize_get (take i cs)) (map non_zero_usize_get (take (i + 1) cs)) c.loop-capacity.rows.items
     c.push.new.self.items row (c.loop-capacity.invariant lines has) c.in_ok-push.ensures.items more (
       c.row_at.ensures.misses ∙ ap (misses_at c.args.curve.now) (sym c.row_at.ensures.capacity)
           ∙ has (capacity_of_row row) c.row_at.ensures.positive,
       c.row_at.ensures.least,
+      c.row_at.ensures.floor,
     )
 
 pub returns : goal.returns
 returns g c lines has =
     let i = c.loop-capacity.capacity-index in let cs = c.args.capacities.now in
-    subst (λ ks. AreRows bytes_eq lines false (map non_zero_usize_get ks) c.loop-capacity.rows.items)
+    subst (λ ks. AreRows bytes_eq lines false false (map non_zero_usize_get ks) c.loop-capacity.rows.items)
     (take_all i cs (omega (arith, c.loop-capacity-test.false))) (c.loop-capacity.invariant lines has)

@@ -7,4 +7,4 @@ use Rattle.clru_report.proofs.rows.rows_at.Given as goal
 
 abbrev pub invariant-loop-capacity : goal.invariant-loop-capacity
 invariant-loop-capacity g l = (lines : List (List ℕ)) → HasMissesOf bytes_eq lines l.curve
-    → AreRows bytes_eq lines false (map non_zero_usize_get (take l.capacity-index l.capacities)) l.rows.items
+    → AreRows bytes_eq lines false false (map non_zero_usize_get (take l.capacity-index l.capacities)) l.rows.items

@@ -17,4 +17,4 @@ returns g c lines has many =
     ap (map non_zero_usize_get) c.deref.ensures.value ∙ c.in_ok-capacities.ensures in
     let chosen = taken ∙ ap of_curve c.as_slice.ensures
     ∙ capacities-alike (misses_at curve) (λ k. misses bytes_eq k lines) has asked (length curve) ∙ ap of_lines many in
-    subst (λ cs. IfOk c.rows_at.result (λ rows. AreRows bytes_eq lines false cs rows.items)) chosen (c.rows_at.ensures lines has)
+    subst (λ cs. IfOk c.rows_at.result (λ rows. AreRows bytes_eq lines false false cs rows.items)) chosen (c.rows_at.ensures lines has)

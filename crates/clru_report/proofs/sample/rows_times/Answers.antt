@@ -1,4 +1,4 @@
-use Rattle.std.proofs.Common.{◌≡◌, ℕ, ◌++◌, ◌∷◌, [], None, map, take, take_all, sym, ap, ◌∙◌, arith}
+use Rattle.std.proofs.Common.{◌≡◌, ℕ, ◌++◌, ◌∷◌, [], Option, None, map, take, take_all, sym, ap, ◌∙◌, arith}
 use Rattle.std.specs.Int.NonZero.{non_zero_usize_get}
 use Rattle.std.proofs.lemmas.List.{map-append, take_more}
 use Rattle.clru_report.specs.Samples.{numbers_of, numbers_times, times}
@@ -11,10 +11,12 @@ loop-row-preserved g c =
     let of_all = numbers_times n all in
     let more = take_more rows i row c.loop-row-test.true ∙ ap (λ r. take i rows ++ r ∷ []) (sym c.row-item.is) in
     let shown = ap (map numbers_of) c.in_ok-push.ensures.items ∙ map-append numbers_of c.loop-row.shown.items _ in
-    let numbers : (non_zero_usize_get c.saturating_mul.result, (c.times.result, None)) ≡ of_all row =
-    ap (λ (k : ℕ). (k, (c.times.result, None))) c.saturating_mul.ensures
-    ∙ ap (λ (k : ℕ). (times n 18446744073709551615 (non_zero_usize_get row.capacity), (k, None))) c.times.ensures in
-    shown ∙ ap (λ ns. ns ++ (non_zero_usize_get c.saturating_mul.result, (c.times.result, None)) ∷ []) c.loop-row.invariant
+    let capacity = times n 18446744073709551615 (non_zero_usize_get row.capacity) in
+    let numbers : (non_zero_usize_get c.saturating_mul.result, (c.times.result, (None, c.times_some.result))) ≡ of_all row =
+    ap (λ (k : ℕ). (k, (c.times.result, (None, c.times_some.result)))) c.saturating_mul.ensures
+    ∙ ap (λ (k : ℕ). (capacity, (k, (None, c.times_some.result)))) c.times.ensures
+    ∙ ap (λ (o : Option ℕ). (capacity, (times n all row.misses, (None, o)))) c.times_some.ensures in
+    shown ∙ ap (λ ns. ns ++ (non_zero_usize_get c.saturating_mul.result, (c.times.result, (None, c.times_some.result))) ∷ []) c.loop-row.invariant
     ∙ ap (λ x. map of_all (take i rows) ++ x ∷ []) numbers
     ∙ sym (ap (map of_all) more ∙ map-append of_all (take i rows) (row ∷ []))
 

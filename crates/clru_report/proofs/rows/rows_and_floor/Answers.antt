@@ -1,0 +1,21 @@
+use Rattle.std.proofs.Common.{false, None, Some, sym, subst}
+use Rattle.std.specs.Prelude.{bytes_eq}
+use Rattle.clru_report.specs.Passes.{IsFloorFor, capacities_asked}
+use Rattle.clru_report.specs.Report.{AreRows}
+use Rattle.clru_report.proofs.ReportLemmas.{ok_map}
+use Rattle.clru_report.proofs.rows.rows_and_floor.Goals as goal
+
+pub returns-in-Some : goal.returns-in-Some
+returns-in-Some g c lines floored has many of =
+    let capacities = capacities_asked c.args.options.now lines in
+    let given : IsFloorFor floored lines (Some c.in-Some.floor) = subst (IsFloorFor floored lines) c.in-Some.is of in
+    let rows = subst (AreRows bytes_eq lines false false capacities) (sym c.deref.ensures.value) (c.in_ok-rows.ensures lines has many) in
+    ok_map c.rows_with_floor.result
+    (λ found is. subst (λ b. AreRows bytes_eq lines false b capacities found.items) (sym given.0) is)
+    (c.rows_with_floor.ensures lines capacities given.1 rows)
+
+pub returns-in-None : goal.returns-in-None
+returns-in-None g c lines floored has many of =
+    let none : IsFloorFor floored lines None = subst (IsFloorFor floored lines) c.in-None.is of in
+    subst (λ b. AreRows bytes_eq lines false b (capacities_asked c.args.options.now lines) c.in_ok-rows.rows.items) (sym none)
+    (c.in_ok-rows.ensures lines has many)
