@@ -11,23 +11,23 @@ const KEYS: usize = 10;
 
 // Of a form, whether by size, and whether with the least: its requests for memory, and their bytes.
 static REQUESTS: &[(Form, bool, bool, u64, u64)] = &[
-    (Form::Table, false, false, 51, 69016),
+    (Form::Table, false, false, 51, 69080),
     (Form::Table, true, false, 70, 118890),
-    (Form::Table, false, true, 69, 113411),
-    (Form::Picture, false, false, 62, 86833),
-    (Form::Picture, true, false, 90, 186318),
-    (Form::Picture, false, true, 81, 132267),
-    (Form::Summary, false, false, 30, 68479),
+    (Form::Table, false, true, 77, 113637),
+    (Form::Picture, false, false, 62, 87817),
+    (Form::Picture, true, false, 90, 187238),
+    (Form::Picture, false, true, 89, 133413),
+    (Form::Summary, false, false, 30, 68543),
     (Form::Summary, true, false, 45, 117846),
-    (Form::Summary, false, true, 30, 68479),
+    (Form::Summary, false, true, 30, 68543),
 ];
 
 // The same of a sample, which keeps half of the keys: whether by size, its hashes too.
 static OF_SAMPLES: &[(Form, bool, u64, u64, u64)] = &[
-    (Form::Table, false, 514, 39, 68665),
+    (Form::Table, false, 514, 39, 68793),
     (Form::Table, true, 514, 57, 93739),
-    (Form::Picture, false, 514, 50, 86200),
-    (Form::Picture, true, 514, 76, 136542),
+    (Form::Picture, false, 514, 50, 87248),
+    (Form::Picture, true, 514, 76, 137462),
     (Form::Summary, false, 514, 19, 67888),
     (Form::Summary, true, 514, 37, 92743),
 ];
