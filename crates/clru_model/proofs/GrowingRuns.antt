@@ -99,7 +99,7 @@ module _ {K V : Type 0} (eq : K → K → Bool) (step : K → List (K × V) → 
   pub DroppedRuns-push : {k : ℕ} {rs : List K} {es next : List (K × V)} {dropped dropped' : ℕ} (x : K) → DroppedRuns k rs es dropped
       → step x es next → dropped' ≡ dropped + length (option_to_list (plain_drop eq k x es)) → DroppedRuns k (rs ++ x ∷ []) next dropped'
   DroppedRuns-push {k} {rs} {es} {next} {dropped} {dropped'} x r made more =
-      let run = run_push [] r.later rs x next r.run (rw r.last made) in
+      let run = run_push step [] r.later rs x next r.run (rw r.last made) in
       let last = last_of-push [] r.later next in
       let all = drops_push k [] r.later rs x next r.run in
       record {
