@@ -27,9 +27,9 @@ module _ {K : Type 0} (eq : K → K → Bool) where
   abbrev pub is_recent : Option ℕ → K × ℕ → List (K × ℕ) → Bool
   is_recent limit r rs = option_map_or (λ time. is_in_limit limit (r.1 - time)) (lookup (eq r.0) rs) false
 
-  -- where entries are idle and have an age within these limits, and keys hit without them
+  -- with a test of hits without times, such as `hit eq k`, a greatest idle time and a greatest age
   module _ (hits : K → List K → Bool) (idle age : Option ℕ) where
-    -- r hits without the limits, comes soon enough after the latest request of its key and after its latest fetch
+    -- the key of r hits without times, and its latest request and its latest fetch are recent
     abbrev pub aged_hit : K × ℕ → (past fetches : List (K × ℕ)) → Bool
     aged_hit r past fetches = hits r.0 (keys_of past) && is_recent idle r past && is_recent age r fetches
 
