@@ -97,6 +97,12 @@ static CALLS: &[(usize, &str, &str, usize, u32, &str)] = &[
     ),
 ];
 
+// The first bytes of an array, as many as there is room for.
+fn first(text: &mut [u8], room: usize) -> &mut [u8] {
+    let end = room.min(text.len());
+    &mut text[..end]
+}
+
 #[test]
 fn a_call_answers_as_the_program(rt: HostRuntime) {
     for (size, words, log, room, status, wanted) in CALLS {
@@ -109,7 +115,7 @@ fn a_call_answers_as_the_program(rt: HostRuntime) {
             log.as_bytes(),
             1,
             2,
-            &mut text[..*room],
+            first(&mut text, *room),
             &mut written,
         );
         equal(
