@@ -5,7 +5,7 @@ import re
 TOP = pathlib.Path(__file__).resolve().parent.parent.parent
 CRATES, SCRIPTS = TOP / "crates", TOP / "scripts"
 # Crates of tests and of examples; all others are the product.
-NO_PRODUCT = re.compile(r"ration|clru_(pages|script|uses)|\w+_tests")
+NO_PRODUCT = re.compile(r"ration|clru_(files|script|uses)|\w+_tests")
 FUNCTION = re.compile(r"(\s*)(pub(?:\([a-z]+\))? )?(?:const |extern \"C\" )*fn (\w+)")
 LEAVES_IMPL = re.compile(r"\}|(?:pub(?:\(\w+\))? )?(?:const |extern \"C\" )*(?:fn|trait|mod)\b")
 SUBJECTS = "cache costs list store store_costs replay misses distances sizes spans least foresight makers runs input".split()

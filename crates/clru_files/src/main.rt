@@ -1,0 +1,64 @@
+//! Answers the files of a folder, by their paths, through a cache of their bytes.
+#![tactic(auto)]
+
+mod checksum;
+mod counts;
+mod fault;
+mod folder;
+mod serve;
+mod served;
+
+use crate::folder::Folder;
+use crate::serve::{pages_of, run};
+use clru::NonZeroUsize;
+use clru_lines::{ReadError, read_input};
+use std::env;
+use std::io::{self, BufWriter, ErrorKind, Write};
+use std::process::ExitCode;
+
+fn main(rt: HostRuntime) -> ExitCode {
+    match answered(&rt) {
+        Ok(()) => ExitCode::SUCCESS,
+        Err(error) if error.kind() == ErrorKind::InvalidInput => told(
+            &rt,
+            "give FOLDER CAPACITY, and paths, a line each",
+        ),
+        Err(error) if error.kind() == ErrorKind::OutOfMemory => told(&rt, "out of memory"),
+        Err(_) => told(&rt, "a read or a write failed"),
+    }
+}
+
+fn told(rt: &HostRuntime, why: &str) -> ExitCode {
+    let _ = writeln!(rt.stderr(), "clru_files: {why}");
+    ExitCode::FAILURE
+}
+
+// The folder and the capacity that the arguments name, and the answers to the input's lines.
+fn answered(rt: &HostRuntime) -> io::Result<()> {
+    let mut words = env::args(rt)?.skip(1);
+    let (Some(root), Some(number), None) = (words.next(), words.next(), words.next()) else {
+        return Err(io::Error::from(ErrorKind::InvalidInput));
+    };
+    let Ok(capacity) = number.parse::<NonZeroUsize>() else {
+        return Err(io::Error::from(ErrorKind::InvalidInput));
+    };
+    let input = match read_input(rt.alloc(), &mut rt.stdin()) {
+        Ok(input) => input,
+        Err(ReadError::Memory) => return Err(io::Error::from(ErrorKind::OutOfMemory)),
+        Err(ReadError::Reading) => return Err(io::Error::from(ErrorKind::Other)),
+    };
+    let folder = Folder::new(rt, rt.alloc(), &root, capacity);
+    let mut pages = pages_of(rt.alloc(), capacity, folder);
+    let mut output = BufWriter::new(rt.alloc(), rt.stdout())?;
+    let counts = run(&mut pages, rt.alloc(), &input, &mut output)?;
+    let held = pages.len().saturating_add(pages.weight());
+    writeln!(
+        output,
+        "hits {}, fetches {}, unasked {}; {held} of {capacity} bytes held in {} pages",
+        counts.hits,
+        counts.fetches,
+        counts.no_text.saturating_add(counts.no_memory),
+        pages.len()
+    )?;
+    output.flush()
+}

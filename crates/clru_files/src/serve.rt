@@ -1,0 +1,146 @@
+//! Paths one after the other, each answered by its page.
+ghost use Rattle.std.specs.Prelude.{◌≡◌, ◌+◌, ◌-◌, ℕ, IfNone, IfOk, IfSome, List, None, OnOk, count_by, false, flat_map, is_some, length, not, true};
+ghost use Rattle.clru_lines.specs.Lines.{lines_of};
+ghost use Rattle.clru_files.specs.Serving.{is_hit, is_fetch, is_no_text, is_failure, line_of, AreServed, AreCounted};
+ghost use Rattle.std.specs.Io.KnownBytes.{Appends};
+ghost use Rattle.std.specs.Map.{lookup};
+ghost use Rattle.std.specs.Str.{bytes_eq, is_utf8};
+ghost use Rattle.std.specs.String.{string_bytes};
+
+use crate::checksum::checksum;
+use crate::counts::Counts;
+use crate::fault::Fault;
+use crate::folder::{Folder, Page};
+use crate::served::{Served, Told};
+use clru::{CLruCache, DefaultState, NonZeroUsize, WeightScale};
+use clru_lines::next_line;
+use clru_through::{ByPromise, Loaded, Through};
+use std::alloc::Global;
+use std::fs::Files;
+use std::io::{self, Write};
+
+/// A page takes its bytes of the capacity, and an empty one a byte: the entry itself counts for one.
+#[derive(Clone, Copy)]
+pub struct ByBytes;
+
+impl WeightScale<String, Page> for ByBytes {
+    ghost weight = { λ _ _ page. length page - 1 };
+
+    fn weight(&self, _path: &String, page: &Page) -> usize {
+        page.bytes.len().saturating_sub(1)
+    }
+}
+
+/// The pages that were asked for last.
+pub type Pages<'f, R> = Through<
+    String,
+    Page,
+    Fault,
+    Folder<'f, R>,
+    DefaultState,
+    ByBytes,
+    Global,
+    ByPromise,
+>;
+
+/// A store of the pages of a folder, of so many bytes.
+pub fn pages_of<'f, R: Files>(
+    alloc: Global,
+    capacity: NonZeroUsize,
+    folder: Folder<'f, R>,
+) -> Pages<'f, R> {
+    Through::new(CLruCache::with_scale(alloc, capacity, ByBytes), folder)
+}
+
+/// The page of the path that a line is. What is held is read from no file, and a request that fails leaves what is held.
+#[tactic(auto, using(crate::proofs::Looking::none_of))]
+fn serve<'f, R: Files>(pages: &mut Pages<'f, R>, alloc: Global, line: &[u8]) -> Served
+    ensures hit { is_hit result ≡ true →
+        is_some (lookup (λ path. bytes_eq line.now (string_bytes path)) pages.old.cache.entries) ≡ true }
+    ensures fetch { is_fetch result ≡ true →
+        lookup (λ path. bytes_eq line.now (string_bytes path)) pages.old.cache.entries ≡ None }
+    ensures no_text { is_no_text result ≡ not (is_utf8 line.now) }
+    ensures failure { is_failure result ≡ true → pages.new.cache.entries ≡ pages.old.cache.entries }
+{
+    let Some(path) = path_of(line) else {
+        return Served::NoText;
+    };
+    if pages.hit(path) {
+        return Served::Hit(first_of(pages));
+    }
+    let Ok(key) = String::from_str(alloc, path) else {
+        return Served::NoMemory;
+    };
+    match pages.load(key) {
+        Err(fault) => Served::Fetched(Err(fault)),
+        Ok(Loaded::Passed(page)) => Served::Fetched(Ok(about(&page))),
+        Ok(Loaded::Held { .. }) => Served::Fetched(Ok(first_of(pages))),
+    }
+}
+
+/// The path that a line is, unless it is no text.
+fn path_of(line: &[u8]) -> Option<&str>
+    ensures path { IfSome result (λ path. path.now ≡ line.now) }
+    ensures text { IfSome result (λ _. is_utf8 line.now ≡ true) }
+    ensures no_text { IfNone result (is_utf8 line.now ≡ false) }
+{
+    match str::from_utf8(line) {
+        Ok(path) => Some(path),
+        Err(_) => None,
+    }
+}
+
+/// What is told of the page that was asked for last.
+fn first_of<'f, R: Files>(pages: &Pages<'f, R>) -> Told {
+    match pages.front() {
+        Some((_, page)) => about(page),
+        // (it is called where one is held, so this is not met)
+        None => Told {
+            length: 0,
+            checksum: 0,
+        },
+    }
+}
+
+fn about(page: &Page) -> Told {
+    Told {
+        length: page.bytes.len(),
+        checksum: checksum(&page.bytes),
+    }
+}
+
+/// Writes the line of a request.
+fn write_served<W: Write>(
+    output: &mut W,
+    alloc: Global,
+    line: &[u8],
+    served: Served,
+) -> io::Result<()>
+    ensures { OnOk result (Appends (W.contents output.old) (W.contents output.new) (line_of (line.now, served))) }
+{
+    let path = String::from_utf8_lossy(alloc, line)?;
+    writeln!(output, "{path}: {served}")
+}
+
+/// Serves the path of each line, and writes a line of each.
+pub fn run<'f, R: Files, W: Write>(
+    pages: &mut Pages<'f, R>,
+    alloc: Global,
+    input: &[u8],
+    output: &mut W,
+) -> io::Result<Counts>
+    ensures paths { IfOk result (λ c. c.hits + c.fetches + c.no_memory ≡ count_by is_utf8 (lines_of input.now)) }
+    ensures others { IfOk result (λ c. c.no_text ≡ count_by (λ line. not (is_utf8 line)) (lines_of input.now)) }
+    ensures written { IfOk result (λ c. (requests : List (List ℕ × Served)) × AreServed input.now requests
+        × AreCounted requests c × Appends (W.contents output.old) (W.contents output.new) (flat_map line_of requests)) }
+{
+    let mut counts = Counts::new();
+    let mut left = input;
+    'lines: while let Some((line, rest)) = next_line(left) {
+        let served = serve(pages, alloc, line);
+        counts.add(served);
+        write_served(output, alloc, line, served)?;
+        left = rest;
+    }
+    Ok(counts)
+}

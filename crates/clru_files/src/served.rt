@@ -1,0 +1,48 @@
+//! What became of a request, and how it is told.
+ghost use Rattle.std.specs.Prelude.{Some};
+ghost use Rattle.clru_files.specs.Serving.{served_text, told_text};
+
+use crate::fault::Fault;
+use std::fmt;
+
+/// What is told of a page.
+#[derive(Clone, Copy)]
+pub struct Told {
+    pub length: usize,
+    pub checksum: u32,
+}
+
+impl fmt::Display for Told {
+    ghost output = { λ told. Some (told_text told) };
+
+    fn fmt<W: fmt::Write>(&self, f: &mut fmt::Formatter<W>) -> fmt::Result {
+        write!(f, "{} bytes, {:08x}", self.length, self.checksum)
+    }
+}
+
+/// What became of a request.
+#[derive(Clone, Copy)]
+pub enum Served {
+    /// The page was held, and no file was opened.
+    Hit(Told),
+    /// It was fetched, or could not be.
+    Fetched(Result<Told, Fault>),
+    /// The line is no text, so the store was not asked.
+    NoText,
+    /// No memory was found for the path, so the store was not asked.
+    NoMemory,
+}
+
+impl fmt::Display for Served {
+    ghost output = { λ served. Some (served_text served) };
+
+    fn fmt<W: fmt::Write>(&self, f: &mut fmt::Formatter<W>) -> fmt::Result {
+        match self {
+            Served::Hit(told) => write!(f, "{told}, held"),
+            Served::Fetched(Ok(told)) => write!(f, "{told}, fetched"),
+            Served::Fetched(Err(fault)) => write!(f, "{fault}"),
+            Served::NoText => f.write_str("the path is no text"),
+            Served::NoMemory => f.write_str("out of memory"),
+        }
+    }
+}
