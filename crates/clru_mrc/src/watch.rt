@@ -5,6 +5,9 @@ use clru_report::{Capacities, Options, Sample};
 use std::io::{self, Read};
 use std::time::{Duration, Instant};
 
+// Fewer hits than one in so many requests look odd.
+const FEW_HITS: u64 = 100;
+
 /// Hands on what a reader gives, and looks at it.
 #[derive(Drop)]
 pub(crate) struct Watch<'h, R> {
@@ -71,15 +74,13 @@ impl<'h, R: Read> Watch<'h, R> {
         }
     }
 
-    // What a sample misses is reckoned, so it does not tell that none hits.
+    // What a sample misses is reckoned, so it does not tell that few hit.
     fn warn_of_misses(&self, misses: Option<u64>, options: &Options) {
         let lines = self.lines.count;
         match (options.sample, &options.capacities) {
             (Sample::Whole, _) => {
-                if misses == Some(lines) && self.lines.are_many() {
-                    let _ = eprintln!(self.rt;
-                        "clru_mrc: none of {lines} requests hits at any of these capacities: is each line the whole line of a log?"
-                    );
+                if let Some(misses) = misses {
+                    self.warn_of_hits(lines.saturating_sub(misses));
                 }
             }
             (_, Capacities::Named(_)) if misses.is_none() => self.say(
@@ -92,6 +93,18 @@ impl<'h, R: Read> Watch<'h, R> {
             }
             _ => {}
         }
+    }
+
+    // Mostly such lines have a time in them.
+    fn warn_of_hits(&self, hits: u64) {
+        let lines = self.lines.count;
+        let are_few = hits.saturating_mul(FEW_HITS) < lines;
+        if !are_few || !self.lines.are_many() {
+            return;
+        }
+        let _ = eprintln!(self.rt;
+            "clru_mrc: only {hits} of {lines} requests hit, even at the greatest of these capacities: is each line the whole line of a log?"
+        );
     }
 
     fn say(&self, line: &str) {
