@@ -2,6 +2,7 @@
 
 use crate::lines::{Lines, instead_of_size, quoted};
 use clru_report::{Capacities, Options, Sample};
+use std::hash::RandomState;
 use std::io::{self, Read};
 use std::time::{Duration, Instant};
 
@@ -24,7 +25,13 @@ pub(crate) struct Watch<'h, R> {
 impl<'h, R: Read> Watch<'h, R> {
     /// It tells of progress where it is asked to and the clock can be read, and of a line without a size where each is to have
     /// one.
-    pub(crate) fn new(rt: &'h HostRuntime, inner: R, progress: bool, sizes: bool) -> Self {
+    pub(crate) fn new(
+        rt: &'h HostRuntime,
+        inner: R,
+        progress: bool,
+        sizes: bool,
+        seed: RandomState,
+    ) -> Self {
         let told = if progress {
             Instant::now(rt).ok()
         } else {
@@ -35,7 +42,7 @@ impl<'h, R: Read> Watch<'h, R> {
             inner,
             told,
             bytes: 0,
-            lines: Lines::new(rt, sizes),
+            lines: Lines::new(rt, sizes, seed),
             has_zero: false,
             is_packed: false,
         }
@@ -65,12 +72,21 @@ impl<'h, R: Read> Watch<'h, R> {
             );
         }
         self.warn_of_misses(misses, options);
+        self.warn_of_sizes();
         if let Some((count, line)) = self.lines.most_of_all() {
             if let Ok(key) = quoted(self.rt, line) {
                 let _ = eprintln!(self.rt;
                     "clru_mrc: {count} of {lines} requests or more are for one key, {key}"
                 );
             }
+        }
+    }
+
+    fn warn_of_sizes(&self) {
+        if let Some((several, keys)) = self.lines.several_sizes() {
+            let _ = eprintln!(self.rt;
+                "clru_mrc: {several} of {keys} keys came with several sizes, and each size counts as an object of its own: give each key the greatest one"
+            );
         }
     }
 
