@@ -85,7 +85,7 @@ impl<'h, R: Read> Watch<'h, R> {
     fn warn_of_sizes(&self) {
         if let Some((several, keys)) = self.lines.several_sizes() {
             let _ = eprintln!(self.rt;
-                "clru_mrc: {several} of {keys} keys came with several sizes, and each size counts as an object of its own: give each key the greatest one"
+                "clru_mrc: {several} of {keys} keys came with several sizes, and each size counts as an object of its own: give each key the greatest one, as LOGS.md shows"
             );
         }
     }
