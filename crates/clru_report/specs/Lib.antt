@@ -4,6 +4,7 @@ pub mod Choices
 pub mod CommandLine
 pub mod Faults
 pub mod Knees
+pub mod Numbers
 pub mod Passes
 pub mod Refusals
 pub mod Report

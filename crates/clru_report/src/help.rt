@@ -10,13 +10,16 @@ misses saved for each key since the row before (with --sizes missed bytes for
 each byte), and 1 if misses fall steeply just before this row. The mark depends
 on which rows are shown.
 
-    awk '{ print $7 }' access.log | clru_mrc
-    awk '{ print $7 }' access.log | clru_mrc --least --svg > curve.svg
-    awk '$9 == 200 && $10 != \"-\" { print $10, $7 }' access.log | clru_mrc --sizes
+    awk '$6 == \"\\\"GET\" && ($9 == 200 || $9 == 304) { print $7 }' access.log > keys
+    clru_mrc < keys
+    clru_mrc --least --svg < keys > curve.svg
+    awk '$6 == \"\\\"GET\" && $9 == 200 && $10 != \"-\" { print $10, $7 }' access.log > sized
+    clru_mrc --sizes --at 500MB,1.5GB < sized
 
     --at N,N,..  these capacities, in keys; else 1, 2, 5, 10, 20, 50 ..
-                 up to the number of distinct keys, and the knees; a number may
-                 end with K, M, G, KiB, MiB or GiB
+                 up to the number of distinct keys, and the knees; numbers may
+                 have units, and then decimals, as 500MB, 1.5G or 64MiB: K, M, G,
+                 T (also KB ..) by 1000, KiB, MiB, GiB, TiB by 1024
     --all        each capacity at which the misses fall
     --sizes      each line begins with the object's size and a blank, and is the
                  key as a whole; capacities are in bytes, from the greatest

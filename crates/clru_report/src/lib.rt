@@ -15,6 +15,7 @@ mod fault;
 mod fraction;
 mod help;
 mod knees;
+mod numbers;
 mod options;
 mod output;
 mod pass;

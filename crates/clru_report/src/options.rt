@@ -46,7 +46,7 @@ pub struct Look<A: Allocator = Global> {
     /// What stands above it, where it is not how many requests and keys there are.
     pub title: Option<String<A>>,
 
-    /// What capacities count, where it is not keys, or units of size.
+    /// What capacities count, where it is not keys, or bytes.
     pub unit: Option<String<A>>,
 
     /// Where the axis begins, where it is not at the least capacity.

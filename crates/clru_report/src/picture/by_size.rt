@@ -40,7 +40,7 @@ pub(crate) fn picture_by_size<A: Allocator + Copy>(
         requests: totals.requests,
         distinct: times(one_in, usize::MAX, distinct_of(curve)),
         one_in,
-        unit: "units of size",
+        unit: "bytes",
         ends: (first, last),
         lines: lines_of(alloc, curve, totals, first, capacities)?,
         below: None,
