@@ -22,6 +22,7 @@ pub mod Fitting
 pub mod Floor
 pub mod FloorRows
 pub mod Forms
+pub mod Fronts
 pub mod GetRuns
 pub mod Growing
 pub mod GrowingAgedRuns

@@ -13,6 +13,7 @@ pub mod errors;
 pub mod files;
 pub mod gains;
 pub mod hasher;
+pub mod idioms;
 pub mod lends;
 pub mod limits;
 pub mod lists;
@@ -40,6 +41,7 @@ pub mod stamps;
 pub mod store;
 pub mod texts;
 pub mod walks;
+pub mod watched;
 pub mod words;
 
 use clru::{CLruCache, DefaultState, WeightScale};
@@ -61,5 +63,5 @@ pub fn count(looks: &mut CLruCache<u64, u64>, page: u64) -> Option<u64>
 pub fn room_left<W: WeightScale<u64, u64>>(cache: &CLruCache<u64, u64, DefaultState, W>) -> usize
     ensures { result + size_of (W.weight cache.now.scale) cache.now.entries ≡ cache.now.capacity }
 {
-    cache.capacity() - cache.len() - cache.weight()
+    cache.capacity() - cache.size()
 }
