@@ -46,7 +46,7 @@ impl<K: Eq, A: Allocator + Copy> Model for ForesightPass<K, A> {
 
     ghost view = { λ p. p.later.numbers };
 
-    ghost invariant = { λ p. IsSound K.eq p.later.numbers };
+    ghost invariant = { λ p. IsSound K.eq p.later };
 }
 
 impl<K: Eq, A: Allocator + Copy> ForesightPass<K, A> {
