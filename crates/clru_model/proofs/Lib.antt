@@ -46,6 +46,7 @@ pub mod Rows
 pub mod RunRows
 pub mod SchedulesByPosition
 pub mod SizeRows
+pub mod SizedReplaySchedules
 pub mod SizedRuns
 pub mod Spans
 pub mod SpansByPosition

@@ -25,7 +25,7 @@ ghost use Rattle.clru_model.specs.Least.{LeastIsThere, LeastIsOne, LeastFalls, R
 ghost use Rattle.clru_model.specs.Least.{ReplayIsSchedule, LeastIsBelowReplay, ReplayIsNearLeast};
 ghost use Rattle.clru_model.specs.Bounds.{DistinctMiss, NoMoreMiss, NoMoreSizeMisses, SizesMissMore, RoomForGreatestMissesLess};
 ghost use Rattle.clru_model.specs.Bypass.{SchedulesMayPass, DistinctIsFloor, OneKeyMoreIsEnough};
-ghost use Rattle.clru_model.specs.Floor.{HitsArePaid, FloorIsBelow, SizeFloorIsBelow, FloorIsBelowLeast};
+ghost use Rattle.clru_model.specs.Floor.{HitsArePaid, FloorIsBelow, SizeFloorIsBelow, FloorIsBelowLeast, FloorIsBelowReplay, SizeFloorIsBelowReplay};
 
 /// Does nothing at run time. Its contract says that the hits, misses and numbers of distinct keys that the other contracts
 /// cite, which are defined by computing, are those that a sentence about positions describes.
@@ -171,12 +171,15 @@ pub fn law_size_bound<K: Eq, V>()
 
 /// Does nothing at run time. Its contract says that, if equal keys have equal weights, no schedule that starts empty misses less
 /// than the floor, in requests or in size, even if it bypasses requested keys. The reason is clause `paid`: a hit takes room at
-/// each position since the latest request of its key. If keys weigh nothing, the floor is at most the least possible misses.
+/// each position since the latest request of its key. If keys weigh nothing, the floor is at most the least possible misses. It is at
+/// most what LRU misses, which holds the keys whose span is at most the room.
 pub fn law_floor<K: Eq>()
     ensures paid { HitsArePaid K.eq }
     ensures misses { FloorIsBelow K.eq }
     ensures missed_size { SizeFloorIsBelow K.eq }
     ensures below_least { FloorIsBelowLeast K.eq }
+    ensures below_replay { FloorIsBelowReplay K.eq }
+    ensures size_below_replay { SizeFloorIsBelowReplay K.eq }
 {}
 
 /// Does nothing at run time. Its contract says that the two parts of a list, each counted from an empty cache, have at least the
