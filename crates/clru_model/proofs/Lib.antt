@@ -47,6 +47,7 @@ pub mod Rows
 pub mod RunRows
 pub mod SchedulesByPosition
 pub mod SizeRows
+pub mod SizedReplaySchedules
 pub mod SizedRuns
 pub mod Spans
 pub mod SpansByPosition

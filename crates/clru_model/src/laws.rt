@@ -25,7 +25,7 @@ ghost use Rattle.clru_model.specs.Least.{LeastIsThere, LeastIsOne, LeastFalls, R
 ghost use Rattle.clru_model.specs.Least.{ReplayIsSchedule, LeastIsBelowReplay, ReplayIsNearLeast};
 ghost use Rattle.clru_model.specs.Bounds.{DistinctMiss, NoMoreMiss, NoMoreSizeMisses, SizesMissMore, RoomForGreatestMissesLess};
 ghost use Rattle.clru_model.specs.Bypass.{SchedulesMayPass, DistinctIsFloor, OneKeyMoreIsEnough};
-ghost use Rattle.clru_model.specs.Floor.{HitsArePaid, FloorIsBelow, SizeFloorIsBelow, FloorIsBelowLeast};
+ghost use Rattle.clru_model.specs.Floor.{HitsArePaid, FloorIsBelow, SizeFloorIsBelow, FloorIsBelowLeast, FloorIsBelowReplay, SizeFloorIsBelowReplay};
 
 /// States what the hits, misses and numbers of distinct keys mean that other contracts cite. They are defined by computing; this
 /// describes the same by a sentence about positions.
@@ -162,12 +162,15 @@ pub fn law_size_bound<K: Eq, V>()
 
 /// States that no schedule that starts empty misses less than the floor, in requests or in size, even if it bypasses requested keys.
 /// Equal keys must have equal weights. The reason is clause `paid`: a hit takes room at each position since the latest request of its key.
-/// If keys weigh nothing, the floor is at most the least possible misses.
+/// If keys weigh nothing, the floor is at most the least possible misses. It is at most what LRU misses, which holds the keys whose span
+/// is at most the room.
 pub fn law_floor<K: Eq>()
     ensures paid { HitsArePaid K.eq }
     ensures misses { FloorIsBelow K.eq }
     ensures missed_size { SizeFloorIsBelow K.eq }
     ensures below_least { FloorIsBelowLeast K.eq }
+    ensures below_replay { FloorIsBelowReplay K.eq }
+    ensures size_below_replay { SizeFloorIsBelowReplay K.eq }
 {}
 
 /// States that two parts of a list, each counted from an empty cache, have at least the misses of the whole, and at most the capacity
