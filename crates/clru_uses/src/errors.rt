@@ -90,7 +90,7 @@ pub fn put_page_in_io(
 ) -> io::Result<Option<u64>>
     ensures replaced { IfOk result (λ old. old ≡ lookup (nat_eq page) sizes.old.entries) }
 {
-    let put = sizes.put(page, size).map_err(out_of_memory)?;
+    let put = sizes.put(page, size).map_err(|pair| out_of_memory(pair))?;
     Ok(put.replaced)
 }
 

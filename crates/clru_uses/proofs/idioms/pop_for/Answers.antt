@@ -1,4 +1,4 @@
-use Rattle.std.proofs.Common.{rules, ◌≡◌, ◌-◌, ◌≤◌, length, nat_eq, is_some, slice_get, false, refl, sym, ap, ◌∙◌, arith}
+use Rattle.std.proofs.Common.{rules, ◌≡◌, ◌-◌, length, nat_eq, is_some, slice_get, false, sym, ap, ◌∙◌, arith}
 use Rattle.std.proofs.lemmas.Option.{slice_get_past}
 use Rattle.std.specs.Map.{lookup}
 use Rattle.clru_uses.proofs.idioms.pop_for.Goals as goal
