@@ -239,7 +239,7 @@ fn looked_up<S: BuildHasher, A: Allocator + Copy>(
     match name {
         "load" => say_loaded(store.load(Key::next(world, words)), out),
         "put" | "is_too_heavy" => fit(store, name, Key::next(world, words), out),
-        "hit" => out.truth(store.hit(&Key::next(world, words))),
+        "hit" => say_value(store.hit(&Key::next(world, words)), out),
         "peek" => say_value(store.peek(&Key::next(world, words)), out),
         "pop" => {
             let value = store.pop(&Key::next(world, words));
