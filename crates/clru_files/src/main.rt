@@ -19,16 +19,19 @@ use std::process::ExitCode;
 fn main(rt: HostRuntime) -> ExitCode {
     match answered(&rt) {
         Ok(()) => ExitCode::SUCCESS,
-        Err(error) if error.kind() == ErrorKind::InvalidInput => told(
+        Err(error) if error.kind() == ErrorKind::InvalidInput => report_failure(
             &rt,
             "give FOLDER CAPACITY, and paths, a line each",
         ),
-        Err(error) if error.kind() == ErrorKind::OutOfMemory => told(&rt, "out of memory"),
-        Err(_) => told(&rt, "a read or a write failed"),
+        Err(error) if error.kind() == ErrorKind::OutOfMemory => report_failure(
+            &rt,
+            "out of memory",
+        ),
+        Err(_) => report_failure(&rt, "a read or a write failed"),
     }
 }
 
-fn told(rt: &HostRuntime, why: &str) -> ExitCode {
+fn report_failure(rt: &HostRuntime, why: &str) -> ExitCode {
     let _ = writeln!(rt.stderr(), "clru_files: {why}");
     ExitCode::FAILURE
 }

@@ -11,7 +11,7 @@ use crate::checksum::checksum;
 use crate::counts::Counts;
 use crate::fault::Fault;
 use crate::folder::{Folder, Page};
-use crate::served::{Served, Told};
+use crate::served::{PageSummary, Served};
 use clru::{CLruCache, DefaultState, NonZeroUsize, WeightScale};
 use clru_lines::next_line;
 use clru_through::{ByPromise, Loaded, Through};
@@ -53,7 +53,6 @@ pub fn pages_of<'f, R: Files>(
 }
 
 /// The page of the path that a line is. What is held is read from no file, and a request that fails leaves what is held.
-#[tactic(auto, using(crate::proofs::Looking::none_of))]
 fn serve<'f, R: Files>(pages: &mut Pages<'f, R>, alloc: Global, line: &[u8]) -> Served
     ensures hit { is_hit result ≡ true →
         is_some (lookup (λ path. bytes_eq line.now (string_bytes path)) pages.old.cache.entries) ≡ true }
@@ -65,16 +64,16 @@ fn serve<'f, R: Files>(pages: &mut Pages<'f, R>, alloc: Global, line: &[u8]) -> 
     let Some(path) = path_of(line) else {
         return Served::NoText;
     };
-    if pages.hit(path) {
-        return Served::Hit(first_of(pages));
+    if let Some(page) = pages.hit(path) {
+        return Served::Hit(summary_of(page));
     }
     let Ok(key) = String::from_str(alloc, path) else {
         return Served::NoMemory;
     };
     match pages.load(key) {
         Err(fault) => Served::Fetched(Err(fault)),
-        Ok(Loaded::Passed(page)) => Served::Fetched(Ok(about(&page))),
-        Ok(Loaded::Held { .. }) => Served::Fetched(Ok(first_of(pages))),
+        Ok(Loaded::Passed(page)) => Served::Fetched(Ok(summary_of(&page))),
+        Ok(Loaded::Held { .. }) => Served::Fetched(Ok(front_summary(pages))),
     }
 }
 
@@ -90,20 +89,20 @@ fn path_of(line: &[u8]) -> Option<&str>
     }
 }
 
-/// What is told of the page that was asked for last.
-fn first_of<'f, R: Files>(pages: &Pages<'f, R>) -> Told {
+/// Returns the summary of the page that was asked for last.
+fn front_summary<'f, R: Files>(pages: &Pages<'f, R>) -> PageSummary {
     match pages.front() {
-        Some((_, page)) => about(page),
+        Some((_, page)) => summary_of(page),
         // (it is called where one is held, so this is not met)
-        None => Told {
+        None => PageSummary {
             length: 0,
             checksum: 0,
         },
     }
 }
 
-fn about(page: &Page) -> Told {
-    Told {
+fn summary_of(page: &Page) -> PageSummary {
+    PageSummary {
         length: page.bytes.len(),
         checksum: checksum(&page.bytes),
     }

@@ -237,7 +237,7 @@ fn looked_up<S: BuildHasher, A: Allocator + Copy>(
         "refresh" => say_loaded(store.refresh(Key::next(world, words)), out),
         "load_unless" => say_loaded(load_unless(store, world, words), out),
         "put" | "is_too_heavy" => fit(store, name, Key::next(world, words), out),
-        "hit" => out.truth(store.hit(&Key::next(world, words))),
+        "hit" => say_value(store.hit(&Key::next(world, words)), out),
         "peek" => say_value(store.peek(&Key::next(world, words)), out),
         "pop" => {
             let value = store.pop(&Key::next(world, words));
