@@ -55,8 +55,7 @@ impl<
         if move_to_front_if_held(&mut self.cache, &key) {
             return Ok(Loaded::Held { fetched: false });
         }
-        let value = self.source.fetch(&key)?;
-        Ok(taken(&mut self.cache, key, value))
+        self.refresh(key)
     }
 
     /// Returns the value of the key, and makes it the most recently used one. It is fetched first if it is not held.
