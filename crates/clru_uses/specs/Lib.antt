@@ -1,1 +1,2 @@
+pub mod Clocked
 pub mod Stamps
