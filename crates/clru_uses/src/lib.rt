@@ -7,6 +7,7 @@ ghost use Rattle.std.specs.Map.{lookup};
 ghost use Rattle.clru_model.specs.Entries.{size_of};
 
 pub mod budget;
+pub mod clocked;
 pub mod curves;
 pub mod drops;
 pub mod errors;
