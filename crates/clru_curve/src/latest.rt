@@ -58,6 +58,9 @@ impl<A: Allocator + Copy> Latest<A> {
         if self.requests == usize::MAX {
             return Err(AllocError);
         }
+        if self.requests % BITS != 0 {
+            return Ok(());
+        }
         let number = self.requests / BITS;
         if ends_at(&self.blocks, number) {
             return Ok(());
