@@ -28,7 +28,7 @@ pub(crate) struct Latest<A: Allocator> {
     pub(crate) nodes: Vec<usize, A>,
     pub(crate) requests: usize,
     // From so many blocks on, those without bits are dropped before one more is made.
-    limit: usize,
+    pub(crate) limit: usize,
 }
 
 impl<A: Allocator + Copy> Latest<A> {
