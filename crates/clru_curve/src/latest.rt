@@ -28,7 +28,7 @@ pub(crate) struct Latest<A: Allocator> {
     pub(crate) nodes: Vec<usize, A>,
     pub(crate) requests: usize,
     // From so many blocks on, those without bits are dropped before one more is made.
-    limit: usize,
+    pub(crate) limit: usize,
 }
 
 impl<A: Allocator + Copy> Latest<A> {
@@ -57,6 +57,9 @@ impl<A: Allocator + Copy> Latest<A> {
     {
         if self.requests == usize::MAX {
             return Err(AllocError);
+        }
+        if self.requests % BITS != 0 {
+            return Ok(());
         }
         let number = self.requests / BITS;
         if ends_at(&self.blocks, number) {
