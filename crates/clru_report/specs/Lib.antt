@@ -7,6 +7,7 @@ pub mod Knees
 pub mod Passes
 pub mod Refusals
 pub mod Report
+pub mod RowLaws
 pub mod Samples
 pub mod SizedReport
 pub mod SizedTables
