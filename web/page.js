@@ -205,6 +205,7 @@ function showColumns() {
     $("least").disabled = !canLeast;
     $("least-words").classList.toggle("off", !canLeast);
     $("least-words").textContent = canLeast ? "The least possible misses as well" : "The least possible misses: not by bytes";
+    $("floor-words").textContent = canLeast ? "A floor for every policy as well" : "Floors for every policy as well: of misses and of missed bytes";
     $("answered-words").textContent = canLeast ? "Only GET answered with 200 or 304" : "Only GET answered with 200";
     $("head").replaceChildren(...(form.split ? headByColumns(cut) : headByLines()));
     if (cut) worker.postMessage({ sample: cut });
@@ -271,6 +272,7 @@ function wordsOf() {
     if ($("all").checked) words.push("--all");
     if ($("sizes").checked) words.push("--sizes");
     if ($("least").checked && !$("sizes").checked) words.push("--least");
+    if ($("floor").checked) words.push("--floor");
     return words;
 }
 
@@ -366,7 +368,7 @@ function showReport(answered) {
 const MOST_ROWS = 1000;
 const HEADINGS = {
     capacity: "Capacity", misses: "Misses", miss_ratio: "Miss ratio", least_misses: "Least possible", missed_bytes: "Missed bytes",
-    byte_miss_ratio: "Byte miss ratio", saved_per_key: "Saved per key", saved_per_byte: "Saved per byte", knee: "Knee",
+    floor_misses: "Floor", floor_missed_bytes: "Floor of bytes", byte_miss_ratio: "Byte miss ratio", saved_per_key: "Saved per key", saved_per_byte: "Saved per byte", knee: "Knee",
 };
 
 // A number as the table shows it: whole ones by thousands, what is saved by three digits, a knee by a mark.

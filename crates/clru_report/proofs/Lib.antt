@@ -7,6 +7,7 @@ mod Forms
 mod KneeLemmas
 mod LeastLemmas
 mod ReportLemmas
+mod RowLaws
 mod RowLemmas
 mod Samples
 mod SettledCurves

@@ -1,5 +1,5 @@
 -- From a curve and its rows to the report of the lines that it is of, and to why there is none.
-use Rattle.std.proofs.Common.{◌≡◌, ℕ, ◌+◌, ◌≤◌, Bool, true, false, cond, List, [], ◌∷◌, None, Some, min, length, reverse, refl, sym, ap, ◌∙◌, subst, arith}
+use Rattle.std.proofs.Common.{◌≡◌, ℕ, ◌+◌, ◌≤◌, Bool, true, false, cond, List, [], ◌∷◌, Option, None, Some, min, length, reverse, refl, sym, ap, ◌∙◌, subst, arith}
 use Rattle.std.specs.Prelude.{bytes_eq, ◌==◌}
 use Rattle.std.proofs.lemmas.Bool.{eqb-true}
 use Rattle.std.proofs.lemmas.List.Elements.{All-map, All-weaker}
@@ -7,19 +7,22 @@ use Rattle.std.specs.List.{All}
 use Rattle.clru_curve.specs.SizedCurves.{CurveBySize, IsSizedCurveOf, misses_within}
 use Rattle.clru_model.proofs.Cases.{split}
 use Rattle.clru_model.proofs.Spans.{room_misses_first}
+use Rattle.clru_least.specs.FloorNumbers.{size_floor_at}
+use Rattle.clru_model.specs.Floor.{floor_misses}
 use Rattle.clru_model.specs.Requests.{distinct, holds}
 use Rattle.clru_model.specs.Sizes.{total, misses_by_size}
 use Rattle.clru_report.specs.Capacities.{sized_capacities_of}
 use Rattle.clru_report.specs.Faults.{is_of_writing}
-use Rattle.clru_report.specs.Passes.{IsOfCapacities, IsRowOf, IsTableOf, capacities_on, distinct_in}
+use Rattle.clru_report.specs.Passes.{AreFloorsFor, IsOfCapacities, IsRowOf, IsTableOf, capacities_on, distinct_in, floors_at}
 use Rattle.clru_report.specs.Refusals.{IsRefusedFor, IsSaidOf, fault_beside, fault_from, fault_of, is_of_input, names_below}
-use Rattle.clru_report.specs.SizedReport.{IsSizedRow, IsSizedTable, distinct_size, summary_by_size}
-use Rattle.clru_report.specs.SizedTables.{capacity_of_sized_row, sized_summary_text, sized_table_text}
+use Rattle.clru_report.specs.SizedReport.{HasFloors, IsSizedRow, IsSizedTable, distinct_size, summary_by_size}
+use Rattle.clru_report.specs.SizedTables.{capacity_of_sized_row, row_floor, sized_summary_text, sized_table_text}
 use Rattle.clru_report.specs.Sizes.{HaveSizes, greatest_size, size_of_lines, weight_of_line}
 use Rattle.clru_lines.specs.declared.fault.Fault.{Fault}
 use Rattle.clru_lines.specs.declared.fault.Fault.TheVariants.{BadCapacity, Memory, Reading, Writing, Closed, NoSize, TooLarge, TooSmall}
 use Rattle.clru_report.specs.declared.options.Capacities.{Capacities}
 use Rattle.clru_report.specs.declared.options.Options.{Options}
+use Rattle.clru_report.specs.declared.sized.floors.Floors.{Floors}
 use Rattle.clru_report.specs.declared.sized.rows.SizedRow.{SizedRow}
 use Rattle.clru_report.proofs.CapacityLemmas.{none_below, sized-alike}
 use Rattle.clru_report.proofs.FaultLemmas.{none_beside, none_named, one_named, told_beside}
@@ -46,19 +49,35 @@ module _ (lines : List (List ℕ)) (curve : CurveBySize) (is : IsSizedCurveOf by
       ∙ ap (λ g. sized_capacities_of asked missing g curve.distinct_size) greatest_is
       ∙ ap (sized_capacities_of asked missing (greatest_size lines)) is.distinct_size
 
-  pub row_is : (row : SizedRow) → IsRowOf curve row → IsSizedRow lines row
-  row_is row r = record {
-    misses = r.misses ∙ is.misses (capacity_of_sized_row row);
-    missed_size = r.missed_size ∙ is.missed_size (capacity_of_sized_row row);
-    holds_each = omega (arith, r.answered, greatest_is);
-  }
+  -- where both floors are those of the lines, so are those of a row
+  floors_are : {A : Type 0} (floored : Bool) (floors : Option (Floors A)) (row : SizedRow) → AreFloorsFor floored lines floors
+      → row.floor ≡ floors_at floors (capacity_of_sized_row row) → HasFloors lines floored row
+  floors_are floored None row none at = subst (λ b. HasFloors lines b row) (sym none) at
+  floors_are floored (Some floors) row both at =
+      let c = capacity_of_sized_row row in
+      subst (λ b. HasFloors lines b row) (sym both.0)
+      (at ∙ ap (λ n. Some (row_floor n (size_floor_at floors.missed_size c))) (both.1 c)
+      ∙ ap (λ n. Some (row_floor (floor_misses bytes_eq weight_of_line c lines) n)) (both.2 c))
 
-  pub table_is : {A : Type 0} (options : Options A) (text : List ℕ) → IsTableOf curve (capacities_on curve options.capacities) text
-      → IsSizedTable options lines text
-  table_is options text t = (
+  module _ {A : Type 0} (floored : Bool) (floors : Option (Floors A)) (both : AreFloorsFor floored lines floors) where
+    pub row_is : (row : SizedRow) → IsRowOf curve floors row → IsSizedRow lines floored row
+    row_is row r = record {
+      misses = r.misses ∙ is.misses (capacity_of_sized_row row);
+      missed_size = r.missed_size ∙ is.missed_size (capacity_of_sized_row row);
+      floors = floors_are floored floors row both r.floor;
+      holds_each = omega (arith, r.answered, greatest_is);
+    }
+
+  pub table_is : {A : Type 0} (options : Options A) (floors : Option (Floors A)) (text : List ℕ) → AreFloorsFor options.floor lines floors
+      → IsTableOf curve floors options.floor (capacities_on curve options.capacities) text → IsSizedTable options lines text
+  table_is options floors text both t = (
     t.0,
-    (t.1.0 ∙ capacities_are options.capacities, All-weaker (IsRowOf curve) (IsSizedRow lines) row_is t.0 t.1.1),
-    t.2 ∙ ap (λ n. sized_table_text n curve.size t.0) is.requests_in_all ∙ ap (λ n. sized_table_text (length lines) n t.0) is.size,
+    (
+      t.1.0 ∙ capacities_are options.capacities,
+      All-weaker (IsRowOf curve floors) (IsSizedRow lines options.floor) (row_is options.floor floors both) t.0 t.1.1,
+    ),
+    t.2 ∙ ap (λ n. sized_table_text options.floor n curve.size t.0) is.requests_in_all
+        ∙ ap (λ n. sized_table_text options.floor (length lines) n t.0) is.size,
   )
 
   -- with room for all keys each misses once
@@ -86,10 +105,11 @@ module _ (lines : List (List ℕ)) (curve : CurveBySize) (is : IsSizedCurveOf by
       (distinct_size lines) (min n (distinct_size lines))) greatest_is
 
   -- rows have no fault
-  pub rows_free : {A : Type 0} (options : Options A) (text : List ℕ) → IsTableOf curve (capacities_on curve options.capacities) text
+  pub rows_free : {A : Type 0} (options : Options A) (floors : Option (Floors A)) (text : List ℕ)
+      → IsTableOf curve floors options.floor (capacities_on curve options.capacities) text
       → fault_from 1 0 lines ≡ None → fault_of options lines ≡ None
-  rows_free options text t free =
-      let high = All-weaker (IsRowOf curve) (λ row. greatest_size lines ≤ capacity_of_sized_row row)
+  rows_free options floors text t free =
+      let high = All-weaker (IsRowOf curve floors) (λ row. greatest_size lines ≤ capacity_of_sized_row row)
       (λ row r. omega (arith, r.answered, greatest_is)) t.0 t.1.1 in
       let all = subst (All (λ c. greatest_size lines ≤ c)) t.1.0 (All-map (λ c. greatest_size lines ≤ c) capacity_of_sized_row t.0 high) in
       told_beside options lines None free (none_beside options.form options.capacities (greatest_size lines)

@@ -8,6 +8,7 @@ pub mod Numbers
 pub mod Passes
 pub mod Refusals
 pub mod Report
+pub mod RowLaws
 pub mod Samples
 pub mod SizedReport
 pub mod SizedTables

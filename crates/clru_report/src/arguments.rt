@@ -448,9 +448,6 @@ fn conflict_of<A: Allocator>(draft: &Draft<A>) -> Option<&'static str>
             "--least and --sizes do not go together: the least in bytes is too hard to compute, so leave one out",
         );
     }
-    if draft.sizes && draft.floor {
-        return Some("--floor and --sizes do not go together: the floor is told by keys alone");
-    }
     if asks_for_look(draft) && !draft.svg {
         return Some("--title, --unit, --from and --to are of a picture: write --svg as well");
     }

@@ -28,8 +28,8 @@ on which rows are shown.
                  takes in each requested key and no other, even if it knows all
                  requests; only in keys
     --floor      also a floor of the misses: no policy has fewer, even one that
-                 bypasses requested keys; a sample scales it as it does misses;
-                 only in keys
+                 bypasses requested keys; with --sizes one of the missed bytes
+                 too; a sample scales both as it does misses
     --svg        a picture instead of the table; with --sizes it has a line
                  for the bytes too
     --title TEXT, --unit TEXT, --from N, --to N

@@ -6,6 +6,7 @@ pub returns-in-Ok-clause-picture : goal.returns-in-Ok-clause-picture
 returns-in-Ok-clause-picture g c =
     let drawn = c.in-Ok.ensures in (
       c.deref.result.now,
-      subst (λ t. IsTableOf c.args.curve.now (capacities_on c.args.curve.now c.args.capacities.now) t) (sym c.deref.ensures) c.in_ok-table.ensures.table,
+      subst (λ t. IsTableOf c.args.curve.now c.args.floors.now c.args.options.now.floor
+          (capacities_on c.args.curve.now c.args.options.now.capacities) t) (sym c.deref.ensures) c.in_ok-table.ensures.table,
       drawn,
     )
