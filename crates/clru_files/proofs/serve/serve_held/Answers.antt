@@ -3,7 +3,7 @@ use Rattle.std.specs.Map.{lookup}
 use Rattle.std.specs.Option.{option_copied}
 use Rattle.std.specs.Str.{bytes_eq}
 use Rattle.std.specs.String.{string_bytes}
-use Rattle.clru_files.proofs.serve.serve.Goals as goal
+use Rattle.clru_files.proofs.serve.serve_held.Goals as goal
 
 pub returns-in-Ok-Held-clause-fetch : goal.returns-in-Ok-Held-clause-fetch
 returns-in-Ok-Held-clause-fetch g c fetch =
