@@ -78,7 +78,9 @@ fn pages_are_admitted_and_copied(rt: HostRuntime) -> Result<(), Fail> {
     equal!(rt; admits(&mut seen, &mut pages), (2, Some(4)));
     equal!(rt; pops(&mut pages), (None, None, Some((3, 3))));
     let mut copy = CLruCache::new(rt.alloc(), capacity_of(9)?);
-    equal!(rt; idioms::copy_into(&pages, &mut copy), Ok(()));
+    let copied = pages.capacity() <= copy.capacity()
+        && idioms::copy_into(&pages, &mut copy).is_ok();
+    equal!(rt; copied, true);
     equal!(rt; ends(&copy), (Some((5, 5)), Some((4, 4))));
     Ok(())
 }
