@@ -38,44 +38,44 @@ class Memory:
 
 
 class Places:
-    """Places of a list, and heads where it is indexed: how many there is memory for, and in how many bytes."""
+    """Places of a list, and buckets where it is indexed: how many there is memory for, and in how many bytes."""
 
     def __init__(self, memory, capacity, reserve=0, limit=NARROW, indexed=True, bytes_each=112):
         self.memory, self.capacity, self.limit, self.indexed, self.bytes_each = memory, capacity, limit, indexed, bytes_each
         self.count = self.nodes = min(reserve, capacity)
-        self.upper = self.heads = self.heads_bytes = self.hashed = 0
-        self.made = self.count == 0 or (not indexed or self.make_heads(self.count, 0)) and memory.grants()
+        self.upper = self.buckets = self.index_bytes = self.hashed = 0
+        self.made = self.count == 0 or (not indexed or self.make_buckets(self.count, 0)) and memory.grants()
 
     def grown(self):
         return min(max(4 * self.count, 4), self.capacity)
 
     def index_places_for(self, places):
-        """For how many places heads are made: from a quarter of the capacity on for all of it."""
+        """For how many places buckets are made: from a quarter of the capacity on for all of it."""
         return places if places < self.capacity // 4 else max(places, self.capacity)
 
-    def make_heads(self, places, held):
-        """Heads that can name so many places; each held key is hashed again."""
-        if places > self.heads:
+    def make_buckets(self, places, held):
+        """Buckets that can name so many places; each held key is hashed again."""
+        if places > self.buckets:
             if not self.memory.grants():
                 return False
-            self.heads = 1 << (places - 1).bit_length()
-            self.heads_bytes = 3 * self.heads * (4 if places <= self.limit else 8)
+            self.buckets = 1 << (places - 1).bit_length()
+            self.index_bytes = 3 * self.buckets * (4 if places <= self.limit else 8)
             self.hashed += held
         return True
 
-    def make_heads_for(self, places, held):
-        """Heads for so many places or for more, where memory for more is found."""
-        if places <= self.heads:
+    def make_buckets_for(self, places, held):
+        """Buckets for so many places or for more, where memory for more is found."""
+        if places <= self.buckets:
             return True
         wanted = self.index_places_for(places)
-        return self.make_heads(wanted, held) or places < wanted and self.make_heads(places, held)
+        return self.make_buckets(wanted, held) or places < wanted and self.make_buckets(places, held)
 
     def ready(self, held):
         """Finds memory for one more, where there is room and each place is taken. What was found stays where more is refused."""
         if held == self.capacity or held < self.count:
             return True
         grown = self.grown()
-        if self.indexed and not self.make_heads_for(grown, held):
+        if self.indexed and not self.make_buckets_for(grown, held):
             return False
         if grown > self.nodes:
             if not self.memory.grants():
@@ -89,10 +89,10 @@ class Places:
         return True
 
     def bytes(self):
-        return self.bytes_each * self.nodes + 8 * self.upper + self.heads_bytes
+        return self.bytes_each * self.nodes + 8 * self.upper + self.index_bytes
 
     def blocks(self):
-        return sum(part > 0 for part in (self.nodes, self.upper, self.heads))
+        return sum(part > 0 for part in (self.nodes, self.upper, self.buckets))
 
 
 def number_of(word):

@@ -37,7 +37,7 @@ fn counts_after(requests: u64) -> Counts {
 }
 
 fn counts(heap: &Rationed<Global>, drawn: &Cell<u64>) -> Counts {
-    (drawn.get(), heap.asked(), heap.refused())
+    (drawn.get(), heap.requests(), heap.refused())
 }
 
 #[test]
@@ -162,14 +162,14 @@ fn extends_to_1000(heap: &Rationed<Global>, capacity: NonZeroUsize) -> (bool, us
     let drawn = Cell::new(0);
     let mut cache = CLruCache::new(heap, capacity);
     let extended = extends(&mut cache, 0, 1000, &drawn).is_ok();
-    (extended, cache.len(), heap.asked())
+    (extended, cache.len(), heap.requests())
 }
 
 /// The number of entries, the capacity, and the requests.
 fn collects_1000(heap: &Rationed<Global>) -> (usize, usize, u64) {
     let drawn = Cell::new(0);
     match collects(heap, 1000, &drawn) {
-        Ok(cache) => (cache.len(), cache.capacity(), heap.asked()),
+        Ok(cache) => (cache.len(), cache.capacity(), heap.requests()),
         Err(NoMemory) => (0, 0, 0),
     }
 }

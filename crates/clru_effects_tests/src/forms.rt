@@ -32,9 +32,9 @@ fn requests(heap: &Rationed<Global>, capacity: NonZeroUsize) -> Option<u64> {
 
 fn requests_of<'a>(heap: &'a Rationed<Global>, cache: &mut Texts<'a>, key: Key<'a>) -> Option<u64> {
     let _ = cache.put(key, 3);
-    let before = heap.asked();
+    let before = heap.requests();
     if looks(cache, "apple") {
-        Some(heap.asked().wrapping_sub(before))
+        Some(heap.requests().wrapping_sub(before))
     } else {
         None
     }
@@ -69,9 +69,9 @@ fn distances(heap: &Rationed<Global>) -> Option<(usize, u64)> {
     if !(is_first(heap, &mut pass, "apple") && is_first(heap, &mut pass, "banana")) {
         return None;
     }
-    let before = heap.asked();
+    let before = heap.requests();
     match pass.request_again("apple") {
-        Ok(Some(distance)) => Some((distance, heap.asked().wrapping_sub(before))),
+        Ok(Some(distance)) => Some((distance, heap.requests().wrapping_sub(before))),
         _ => None,
     }
 }
@@ -94,9 +94,9 @@ fn spans(heap: &Rationed<Global>) -> Option<(usize, u64)> {
     {
         return None;
     }
-    let before = heap.asked();
+    let before = heap.requests();
     match pass.request_again("apple", 1) {
-        Ok(Some(span)) => Some((span, heap.asked().wrapping_sub(before))),
+        Ok(Some(span)) => Some((span, heap.requests().wrapping_sub(before))),
         _ => None,
     }
 }

@@ -50,17 +50,17 @@ fn grows(heap: &Rationed<Global>, row: Row) -> (bool, u64, bool, u64) {
     let mut kept = Kept::new(heap, first, limit);
     let full = kept.fill(0, filled);
     kept.resize(capacity);
-    let asked = heap.asked_bytes();
+    let before = heap.requested_bytes();
     heap.refuse_after(refused);
     let stored = kept.put(filled, filled.wrapping_add(10));
-    let asked = heap.asked_bytes().wrapping_sub(asked);
+    let requested = heap.requested_bytes().wrapping_sub(before);
     heap.refuse_none();
     let left = stored == (refused == NONE) && kept.holds(0, filled.wrapping_add(stored as u64));
     let end = (capacity as u64).wrapping_add(100);
     let more = kept.fill(filled.wrapping_add(stored as u64), end);
     (
         full && left,
-        asked,
+        requested,
         more && kept.holds(100, end),
         heap.held_bytes(),
     )

@@ -86,16 +86,17 @@ fn lines_are_told_one_by_one_whatever_a_read_gives(rt: HostRuntime) {
         };
         let mut buffer = LineBuffer::new(rt.alloc());
         let mut line = Vec::new(rt.alloc());
-        let mut told = true;
+        let mut is_as_wanted = true;
         for wanted in *lines {
-            told = is_next(&mut buffer, &mut reader, &mut line, Some(wanted)) && told;
+            is_as_wanted = is_next(&mut buffer, &mut reader, &mut line, Some(wanted))
+                && is_as_wanted;
         }
         // The end is told again with no further call.
         for _ in 0..2 {
-            told = is_next(&mut buffer, &mut reader, &mut line, None) && told;
+            is_as_wanted = is_next(&mut buffer, &mut reader, &mut line, None) && is_as_wanted;
         }
         equal!(rt;
-            (told, buffer.bytes_read(), reader.calls, reader.least),
+            (is_as_wanted, buffer.bytes_read(), reader.calls, reader.least),
             (true, *bytes, pieces.len() + 1, 65_536)
         );
     }
@@ -110,11 +111,11 @@ fn a_line_may_be_longer_than_the_buffer(rt: HostRuntime) -> Result<(), Fail> {
         let mut reader = bytes.as_slice();
         let mut buffer = LineBuffer::new(rt.alloc());
         let mut line = Vec::new(rt.alloc());
-        let mut told = true;
+        let mut is_as_wanted = true;
         for wanted in [Some(&bytes[..length]), Some(b"b".as_slice()), None] {
-            told = is_next(&mut buffer, &mut reader, &mut line, wanted) && told;
+            is_as_wanted = is_next(&mut buffer, &mut reader, &mut line, wanted) && is_as_wanted;
         }
-        equal!(rt; (told, buffer.bytes_read()), (true, length + 2), length);
+        equal!(rt; (is_as_wanted, buffer.bytes_read()), (true, length + 2), length);
     }
     Ok(())
 }
@@ -144,8 +145,8 @@ fn memory_is_asked_for_once(rt: HostRuntime) {
     let mut buffer = LineBuffer::new(&heap);
     let mut line = Vec::new(&heap);
     for wanted in [b"abcdefgh".as_slice(), b"ab", b"abc"] {
-        let told = is_next(&mut buffer, &mut reader, &mut line, Some(wanted));
-        equal!(rt; (told, heap.asked()), (true, 2), wanted);
+        let is_as_wanted = is_next(&mut buffer, &mut reader, &mut line, Some(wanted));
+        equal!(rt; (is_as_wanted, heap.requests()), (true, 2), wanted);
     }
 }
 
@@ -197,8 +198,8 @@ fn a_text_is_written_whole_or_the_error_is_told(rt: HostRuntime) {
         ),
     ];
     for (text, error, wanted) in rows {
-        let (told, got) = written(rt.alloc(), text, error);
-        equal!(rt; told, wanted, text);
+        let (result, got) = written(rt.alloc(), text, error);
+        equal!(rt; result, wanted, text);
         equal!(rt; got.as_slice(), &text[..text.len().min(5)], text);
     }
 }

@@ -44,7 +44,7 @@ fn each_refusal_leaves_no_block(rt: HostRuntime) -> Result<(), Fail> {
             let made = makes(&heap, maker, four, 3).is_ok();
             // Nothing is asked again.
             equal!(rt;
-                (made, heap.asked(), heap.refused() == 0, heap.blocks()),
+                (made, heap.requests(), heap.refused() == 0, heap.blocks()),
                 (n == REQUESTS, REQUESTS.min(n + 1), made, 0),
                 (maker, n)
             );

@@ -30,7 +30,7 @@ fn numbers_widen(rt: HostRuntime) -> Result<(), NoMemory> {
 fn a_lone_zero_takes_no_memory(rt: HostRuntime) -> Result<(), NoMemory> {
     let heap = Rationed::new(rt.alloc());
     let mut numbers = PackedNumbers::one_zero(&heap);
-    equal!(rt; (numbers.len(), numbers.get(0), heap.asked()), (1, 0, 0));
+    equal!(rt; (numbers.len(), numbers.get(0), heap.requests()), (1, 0, 0));
     numbers.push(9)?;
     equal!(rt; (numbers.len(), numbers.get(0), numbers.get(1)), (2, 0, 9));
     Ok(())

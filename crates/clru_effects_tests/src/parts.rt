@@ -43,7 +43,7 @@ fn lent_by(cache: &Texts) -> (u64, usize, u64) {
     (
         cache.hasher().0.get(),
         cache.scale().weight(&1, &"abc"),
-        cache.allocator().asked(),
+        cache.allocator().requests(),
     )
 }
 
@@ -66,7 +66,7 @@ fn the_allocator_prints_its_counts(rt: HostRuntime) -> Result<(), Fail> {
     let heap = Rationed::new(rt.alloc());
     let held = Box::new(&heap, 7u64)?;
     drop(Box::new(&heap, 7u64)?);
-    let text = "Rationed { asked: 2, refused: 0, blocks: 1, held_bytes: 8 }";
+    let text = "Rationed { requests: 2, refused: 0, blocks: 1, held_bytes: 8 }";
     equal!(rt; (*held, shows(rt.alloc(), &heap, text)?), (7, true));
     Ok(())
 }

@@ -81,10 +81,10 @@ static LIMITS: &[Step] = &[
 
 fn counts(heap: &Rationed<Global>) -> (u64, u64, u64, u64, u64) {
     (
-        heap.asked(),
+        heap.requests(),
         heap.refused(),
         heap.blocks(),
-        heap.asked_bytes(),
+        heap.requested_bytes(),
         heap.held_bytes(),
     )
 }
@@ -122,8 +122,8 @@ fn is_right(heap: &Rationed<Global>, numbers: &mut Numbers, step: &Step) -> bool
             heap.limit_bytes(*bytes);
             true
         }
-        Counts(asked, refused, blocks, bytes, held) => {
-            counts(heap) == (*asked, *refused, *blocks, *bytes, *held)
+        Counts(requests, refused, blocks, bytes, held) => {
+            counts(heap) == (*requests, *refused, *blocks, *bytes, *held)
         }
     }
 }
@@ -163,7 +163,7 @@ fn twins<A: Allocator + Copy>(alloc: A) -> bool {
 
 /// Requests, those that were refused, and blocks.
 fn requests<A: Allocator + Copy>(heap: &Rationed<A>) -> (u64, u64, u64) {
-    (heap.asked(), heap.refused(), heap.blocks())
+    (heap.requests(), heap.refused(), heap.blocks())
 }
 
 #[test]

@@ -8,7 +8,7 @@ use crate::out::Out;
 use crate::pairs::{Hashing, Key, Scale, Value};
 use crate::plain::{pairs_of, plain};
 use crate::subject::{Subject, begin};
-use crate::whole::fault_of;
+use crate::whole::cache_fault;
 use crate::words::{Words, Wrong, capacity_of};
 use crate::world::World;
 use clru::{CLruCache, CLruCacheConfig, WeightScale, ZeroWeightScale};
@@ -162,7 +162,7 @@ impl Subject for Plain {
     }
 
     fn fault(&self) -> Option<Fault> {
-        fault_of(self.world, &self.cache, 0)
+        cache_fault(self.world, &self.cache, 0)
     }
 }
 
@@ -180,6 +180,6 @@ impl Subject for Weighted {
     }
 
     fn fault(&self) -> Option<Fault> {
-        fault_of(self.world, &self.cache, 0)
+        cache_fault(self.world, &self.cache, 0)
     }
 }

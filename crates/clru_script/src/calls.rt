@@ -222,7 +222,7 @@ fn retain<S: BuildHasher, W: WeightScale<Key, Value>, A: Allocator + Copy>(
     words: &mut Words,
 ) {
     let keep = Keep::read(words);
-    cache.retain(|key, value| keep.asked(world, key, value));
+    cache.retain(|key, value| keep.keeps_entry(world, key, value));
 }
 
 /// A put by weight, whose closure notes what it is handed.

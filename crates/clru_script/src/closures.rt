@@ -30,7 +30,7 @@ impl Keep {
     }
 
     /// Whether an entry is kept. The call is noted.
-    pub(crate) fn asked(self, world: &World, key: &Key, value: &Value) -> bool {
+    pub(crate) fn keeps_entry(self, world: &World, key: &Key, value: &Value) -> bool {
         world.note("keep", &key.text);
         self.keeps(value.number())
     }

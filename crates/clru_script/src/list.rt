@@ -5,7 +5,7 @@ use crate::fault::Fault;
 use crate::lines::Line;
 use crate::list::change::change;
 use crate::list::read::read;
-use crate::list::whole::fault_of;
+use crate::list::whole::list_fault;
 use crate::out::Out;
 use crate::subject::{Subject, run_lines};
 use crate::words::{Words, Wrong};
@@ -45,8 +45,8 @@ pub(crate) fn run(world: &'static World, lines: &[Line], answers: &mut Answers) 
     let cost = world.cost().since(before);
     let mut out = Out::new(world.alloc);
     out.say(if list.is_some() { "made" } else { "no memory" });
-    if cost.asked > 0 {
-        out.count(", requests ", cost.asked as usize);
+    if cost.requests > 0 {
+        out.count(", requests ", cost.requests as usize);
         out.count(", bytes ", cost.bytes as usize);
     }
     answers.add(out);
@@ -85,6 +85,6 @@ impl Subject for List {
     }
 
     fn fault(&self) -> Option<Fault> {
-        fault_of(&self.list)
+        list_fault(&self.list)
     }
 }

@@ -82,7 +82,7 @@ fn filled<S: BuildHasher, W: WeightScale<Key, Value>, A: Allocator + Copy>(
     out: &mut Out,
 ) {
     let cost = world.cost().since(before);
-    out.number(cost.asked as usize);
+    out.number(cost.requests as usize);
     out.count(" requests, ", cost.bytes as usize);
     out.say(" bytes");
     world.heap.refuse_after(0);

@@ -11,7 +11,7 @@ pub(crate) struct Out {
 
 /// An answer without items: a proof of a function that gives one is short, where it has many calls.
 #[derive(Clone, Copy)]
-pub(crate) enum Told {
+pub(crate) enum Outcome {
     Number(Option<usize>),
     Truth(bool),
     Word(&'static str),
@@ -19,10 +19,10 @@ pub(crate) enum Told {
     NoCall,
 }
 
-impl Told {
+impl Outcome {
     /// An item as a number, where there is one.
-    pub(crate) fn item(item: Option<u64>) -> Told {
-        Told::Number(match item {
+    pub(crate) fn item(item: Option<u64>) -> Outcome {
+        Outcome::Number(match item {
             Some(item) => Some(item as usize),
             None => None,
         })
@@ -76,12 +76,12 @@ impl Out {
     }
 
     /// What a call answered. Answers whether there was such a call.
-    pub(crate) fn told(&mut self, told: Told) -> bool {
-        match told {
-            Told::Number(number) => self.found(number),
-            Told::Truth(is) => self.truth(is),
-            Told::Word(word) => self.say(word),
-            Told::NoCall => return false,
+    pub(crate) fn outcome(&mut self, outcome: Outcome) -> bool {
+        match outcome {
+            Outcome::Number(number) => self.found(number),
+            Outcome::Truth(is) => self.truth(is),
+            Outcome::Word(word) => self.say(word),
+            Outcome::NoCall => return false,
         }
         true
     }

@@ -158,7 +158,7 @@ fn retain_mut<S: BuildHasher, A: Allocator + Copy>(
     let adds = words.passes("add");
     let more = if adds { words.number() } else { 0 };
     cache.retain_mut(|key, value| {
-        let kept = keep.asked(world, key, value);
+        let kept = keep.keeps_entry(world, key, value);
         if adds {
             value.set(value.number().saturating_add(more));
         }

@@ -105,9 +105,9 @@ fn run_of<S: BuildHasher, A: Allocator + Copy>(
     calls: Calls<A>,
     out: &mut Out,
 ) {
-    let (before, asked) = (world.cost(), world.owned.asked());
+    let (before, requests) = (world.cost(), world.owned.requests());
     match perform_all(owned, cache, calls) {
-        Ok(answers) => say_run(world, answers.as_slice(), before, asked, out),
+        Ok(answers) => say_run(world, answers.as_slice(), before, requests, out),
         Err(_) => out.is_short = true,
     }
 }
@@ -120,9 +120,9 @@ fn weighed_run_of<S: BuildHasher, A: Allocator + Copy>(
     calls: Vec<Call<usize, usize>, A>,
     out: &mut Out,
 ) {
-    let (before, asked) = (world.cost(), world.owned.asked());
+    let (before, requests) = (world.cost(), world.owned.requests());
     match perform_all(owned, cache, calls) {
-        Ok(answers) => say_run(world, answers.as_slice(), before, asked, out),
+        Ok(answers) => say_run(world, answers.as_slice(), before, requests, out),
         Err(_) => out.is_short = true,
     }
 }
@@ -132,7 +132,7 @@ fn say_run(
     world: &World,
     answers: &[Answer<usize, usize>],
     before: Cost,
-    asked: u64,
+    requests: u64,
     out: &mut Out,
 ) {
     let cost = world.cost().since(before);
@@ -143,10 +143,10 @@ fn say_run(
     if cost.hashed > 0 {
         out.count("; hashes ", cost.hashed as usize);
     }
-    if cost.asked > 0 {
-        out.count("; requests ", cost.asked as usize);
+    if cost.requests > 0 {
+        out.count("; requests ", cost.requests as usize);
     }
-    if world.owned.asked().wrapping_sub(asked) != 1 {
+    if world.owned.requests().wrapping_sub(requests) != 1 {
         out.say("; ? more than one request is made for the answers");
     }
 }
@@ -179,14 +179,14 @@ fn puts(
     out: &mut Out,
 ) {
     let calls = puts_below(world, words.number());
-    let asked = world.owned.asked();
+    let requests = world.owned.requests();
     let Ok(answers) = perform_all(&world.owned, cache, calls) else {
         out.is_short = true;
         return;
     };
-    let asked = world.owned.asked().wrapping_sub(asked);
+    let requests = world.owned.requests().wrapping_sub(requests);
     out.number(answers.len());
-    out.count(" answers by ", asked as usize);
+    out.count(" answers by ", requests as usize);
     out.count(" request, ", cache.len());
     out.say(" held");
 }

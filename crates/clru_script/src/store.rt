@@ -10,10 +10,10 @@ use crate::closures::Keep;
 use crate::costs::cost_of;
 use crate::fault::Fault;
 use crate::lines::Line;
-use crate::out::{Out, Told};
+use crate::out::{Out, Outcome};
 use crate::pairs::{Hashing, Key, Scale, Value};
 use crate::subject::{Subject, begin};
-use crate::whole::fault_of;
+use crate::whole::cache_fault;
 use crate::words::{Words, Wrong};
 use crate::world::{World, add};
 use clru_through::{Answer, ByPromise, Fetch, Loaded, Through};
@@ -154,7 +154,7 @@ impl Subject for Store {
 
     fn fault(&self) -> Option<Fault> {
         match &self.through {
-            Some(store) => fault_of(self.world, store.cache(), self.passed),
+            Some(store) => cache_fault(self.world, store.cache(), self.passed),
             None => None,
         }
     }
@@ -256,7 +256,7 @@ fn load_unless<S: BuildHasher, A: Allocator + Copy>(
 ) -> Result<Loaded<Value>, Failed> {
     let key = Key::next(world, words);
     let stale = Keep::read(words);
-    store.load_unless(key, |key, value| stale.asked(world, key, value))
+    store.load_unless(key, |key, value| stale.keeps_entry(world, key, value))
 }
 
 /// A call by a key and its value, `put` or `is_too_heavy`.
@@ -324,12 +324,12 @@ fn changed<S: BuildHasher, A: Allocator + Copy>(
         "resize" => store.resize(words.capacity()),
         "retain" => {
             let keep = Keep::read(words);
-            store.retain(|key, value| keep.asked(world, key, value));
+            store.retain(|key, value| keep.keeps_entry(world, key, value));
         }
         "source_mut" => store.source_mut().times = words.number(),
         "source" => out.count("fetches ", fetches_of(store)),
         "front" => say_found(store.front(), out),
-        _ => return out.told(told_of(store, name)),
+        _ => return out.outcome(outcome_of(store, name)),
     }
     out.or("done");
     true
@@ -341,11 +341,11 @@ fn fetches_of<S: BuildHasher, A: Allocator + Copy>(store: &Any<S, A>) -> usize {
 }
 
 /// What a call of the whole store tells.
-fn told_of<S: BuildHasher, A: Allocator + Copy>(store: &Any<S, A>, name: &str) -> Told {
+fn outcome_of<S: BuildHasher, A: Allocator + Copy>(store: &Any<S, A>, name: &str) -> Outcome {
     match name {
-        "len" => Told::Number(Some(store.len())),
-        "weight" => Told::Number(Some(store.weight())),
-        "capacity" => Told::Number(Some(store.capacity())),
-        _ => Told::NoCall,
+        "len" => Outcome::Number(Some(store.len())),
+        "weight" => Outcome::Number(Some(store.weight())),
+        "capacity" => Outcome::Number(Some(store.capacity())),
+        _ => Outcome::NoCall,
     }
 }

@@ -142,7 +142,7 @@ pub(crate) fn say_cost(cost: Cost, out: &mut Out) {
         ("comparisons ", cost.compared),
         ("weighings ", cost.weighed),
         ("fetches ", cost.fetched),
-        ("requests ", cost.asked),
+        ("requests ", cost.requests),
         ("bytes ", cost.bytes),
     ];
     for (name, count) in parts {

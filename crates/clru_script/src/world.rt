@@ -39,7 +39,7 @@ pub(crate) struct Cost {
     pub(crate) hashed: u64,
     pub(crate) weighed: u64,
     pub(crate) fetched: u64,
-    pub(crate) asked: u64,
+    pub(crate) requests: u64,
     pub(crate) bytes: u64,
 }
 
@@ -51,7 +51,7 @@ impl Cost {
             hashed: self.hashed.wrapping_sub(before.hashed),
             weighed: self.weighed.wrapping_sub(before.weighed),
             fetched: self.fetched.wrapping_sub(before.fetched),
-            asked: self.asked.wrapping_sub(before.asked),
+            requests: self.requests.wrapping_sub(before.requests),
             bytes: self.bytes.wrapping_sub(before.bytes),
         }
     }
@@ -105,8 +105,8 @@ impl World {
             hashed: self.hashed.get(),
             weighed: self.weighed.get(),
             fetched: self.fetched.get(),
-            asked: self.heap.asked(),
-            bytes: self.heap.asked_bytes(),
+            requests: self.heap.requests(),
+            bytes: self.heap.requested_bytes(),
         }
     }
 

@@ -66,7 +66,7 @@ module _ {C : Type 0} (all : C → ℕ) (missed : C → ℕ → Option ℕ) (ste
     least_of [] s = elim s.parts [ ]
     least_of (k ∷ ks) s =
         let part = s.parts.0 in let y = part.units in
-        let one = some_of (missed_at all missed c k) part.answers in
+        let one = some_of (missed_at all missed c k) part.has_number in
         let whole = sum-cons k ks in
         let fits : y * step ≤ n * step = omega (arith, part.multiple, whole, s.within) in
         let within : y ≤ n = units_fit step y n positive fits in
@@ -95,7 +95,7 @@ module _ {C : Type 0} (all : C → ℕ) (missed : C → ℕ → Option ℕ) (ste
           let whole = sum-cons (x * step) ks in
           record {
             split = record {
-              parts = (record { units = x; multiple = refl; answers = subst (λ o. IsSome o) (sym first) refl }, b.split.parts);
+              parts = (record { units = x; multiple = refl; has_number = subst (λ o. IsSome o) (sym first) refl }, b.split.parts);
               within = omega (arith, whole, b.split.within, units_left step x n min.within);
             };
             least = λ others s. omega (arith, least_of others s, total_of ks b);

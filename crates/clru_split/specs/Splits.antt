@@ -11,7 +11,7 @@ module _ {C : Type 0} (all : C → ℕ) (missed : C → ℕ → Option ℕ) wher
   pub record IsPart (step : ℕ) (c : C) (k : ℕ) : Type 0 where
     pub units : ℕ
     pub multiple : k ≡ units * step
-    pub answers : IsSome (missed_at c k)
+    pub has_number : IsSome (missed_at c k)
 
   -- a capacity for each curve
   abbrev pub AreParts : ℕ → List C → List ℕ → Type 0

@@ -19,9 +19,9 @@ use std::fmt;
 /// Requests and blocks so far, and the refusals to come.
 #[derive(Drop)]
 struct Book {
-    asked: Cell<u64>,
-    asked_bytes: Cell<u64>,
-    given: Cell<u64>,
+    requests: Cell<u64>,
+    requested_bytes: Cell<u64>,
+    granted: Cell<u64>,
     returned: Cell<u64>,
     held_bytes: Cell<u64>,
     /// The bytes that may be held at once.
@@ -43,9 +43,9 @@ impl<B: Allocator> Rationed<B> {
     /// Creates an allocator that refuses no request until it is told to.
     pub fn new(inner: B) -> Rationed<B> {
         let book = Book {
-            asked: Cell::new(0),
-            asked_bytes: Cell::new(0),
-            given: Cell::new(0),
+            requests: Cell::new(0),
+            requested_bytes: Cell::new(0),
+            granted: Cell::new(0),
             returned: Cell::new(0),
             held_bytes: Cell::new(0),
             limit_bytes: Cell::new(u64::MAX),
@@ -79,23 +79,29 @@ impl<B: Allocator> Rationed<B> {
     }
 
     /// Returns the number of requests so far, with refused ones.
-    pub fn asked(&self) -> u64 {
-        self.book.asked.get()
+    pub fn requests(&self) -> u64 {
+        self.book.requests.get()
     }
 
     /// Returns the bytes of the requests so far, with refused ones.
-    pub fn asked_bytes(&self) -> u64 {
-        self.book.asked_bytes.get()
+    pub fn requested_bytes(&self) -> u64 {
+        self.book.requested_bytes.get()
     }
 
     /// Returns the number of requests so far that got no memory, refused here or by the inner allocator.
     pub fn refused(&self) -> u64 {
-        self.book.asked.get().wrapping_sub(self.book.given.get())
+        self.book
+            .requests
+            .get()
+            .wrapping_sub(self.book.granted.get())
     }
 
     /// Returns the number of blocks handed out and not yet given back: 0 if nothing leaks.
     pub fn blocks(&self) -> u64 {
-        self.book.given.get().wrapping_sub(self.book.returned.get())
+        self.book
+            .granted
+            .get()
+            .wrapping_sub(self.book.returned.get())
     }
 
     /// Returns the bytes of those blocks.
@@ -107,7 +113,7 @@ impl<B: Allocator> Rationed<B> {
 impl<B: Allocator> fmt::Debug for Rationed<B> {
     fn fmt<W: fmt::Write>(&self, f: &mut fmt::Formatter<W>) -> fmt::Result {
         f.debug_struct("Rationed")
-            .field("asked", &self.asked())
+            .field("requests", &self.requests())
             .field("refused", &self.refused())
             .field("blocks", &self.blocks())
             .field("held_bytes", &self.held_bytes())
@@ -117,8 +123,8 @@ impl<B: Allocator> fmt::Debug for Rationed<B> {
 
 /// Counts a request of so many bytes, and returns whether it is to be refused.
 fn refuses(book: &Book, size: usize) -> bool {
-    add(&book.asked, 1);
-    add(&book.asked_bytes, size as u64);
+    add(&book.requests, 1);
+    add(&book.requested_bytes, size as u64);
     let limit = book.limit_bytes.get();
     if size as u64 > limit.saturating_sub(book.held_bytes.get()) {
         return true;
@@ -137,7 +143,7 @@ fn refuses(book: &Book, size: usize) -> bool {
 }
 
 fn hands_out(book: &Book, size: usize) {
-    add(&book.given, 1);
+    add(&book.granted, 1);
     add(&book.held_bytes, size as u64);
 }
 

@@ -78,8 +78,8 @@ fn a_run_asks_for_what_its_input_needs(rt: HostRuntime) -> Result<(), Fail> {
             &rt,
             (
                 outcome,
-                heap.asked(),
-                heap.asked_bytes(),
+                heap.requests(),
+                heap.requested_bytes(),
                 lengths.as_slice(),
             ),
             (Ok(()), requests, bytes, offers),

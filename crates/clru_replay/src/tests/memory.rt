@@ -21,7 +21,7 @@ fn each_refused_request_is_want_of_memory(rt: HostRuntime) {
         heap.refuse_one_after(n);
         let (outcome, written) = ran_over(rt.alloc(), &heap, FOUR);
         met_none = heap.refused() == 0;
-        let asked = heap.asked();
+        let asked = heap.requests();
         let wanted = if met_none {
             (Ok(()), FOUR_MISSES, asked)
         } else {
@@ -45,7 +45,7 @@ fn a_first_line_is_tested_before_other_memory_is_asked_for(rt: HostRuntime) {
         let (outcome, written) = ran_over(rt.alloc(), &heap, b"0\na\n");
         equal(
             &rt,
-            (outcome, heap.asked(), written.len()),
+            (outcome, heap.requests(), written.len()),
             (Err(wanted), 1, 0),
             n,
         );

@@ -2,7 +2,7 @@
 
 use crate::list::Numbers;
 use crate::list::lend::{retain, retain_mut, swap, writes};
-use crate::out::{Out, Told};
+use crate::out::{Out, Outcome};
 use crate::words::Words;
 use crate::world::World;
 use clru_list::PushError;
@@ -24,10 +24,10 @@ pub(crate) fn change<A: Allocator + Copy>(
         "retain_mut" => retain_mut(list, world, words),
         "get_mut" | "front_mut" | "back_mut" => lend(list, name, words, out),
         "iter_mut" => writes(list, words, out),
-        "pop_front" | "make_ready" | "clear" => return out.told(told_of(list, name, 0)),
+        "pop_front" | "make_ready" | "clear" => return out.outcome(outcome_of(list, name, 0)),
         _ => {
-            let told = told_of(list, name, words.number());
-            return out.told(told);
+            let outcome = outcome_of(list, name, words.number());
+            return out.outcome(outcome);
         }
     }
     true
@@ -50,23 +50,23 @@ fn fill<A: Allocator + Copy>(list: &mut Numbers<A>, len: usize, out: &mut Out) {
 }
 
 /// What a call tells, of a place or an index.
-fn told_of<A: Allocator + Copy>(list: &mut Numbers<A>, name: &str, number: usize) -> Told {
+fn outcome_of<A: Allocator + Copy>(list: &mut Numbers<A>, name: &str, number: usize) -> Outcome {
     match name {
-        "remove" => Told::item(list.remove(number)),
-        "pop_front" => Told::item(list.pop_front()),
-        "move_front" => Told::item(list.move_front(number).copied()),
-        "place_at" => Told::Number(list.place_at(number)),
-        "place_at_back" => Told::Number(list.place_at_back(number)),
-        "make_ready" if list.make_ready().is_ok() => Told::Word("done"),
-        "make_ready" => Told::Word("no memory"),
+        "remove" => Outcome::item(list.remove(number)),
+        "pop_front" => Outcome::item(list.pop_front()),
+        "move_front" => Outcome::item(list.move_front(number).copied()),
+        "place_at" => Outcome::Number(list.place_at(number)),
+        "place_at_back" => Outcome::Number(list.place_at_back(number)),
+        "make_ready" if list.make_ready().is_ok() => Outcome::Word("done"),
+        "make_ready" => Outcome::Word("no memory"),
         "clear" => {
             list.clear();
-            Told::Word("done")
+            Outcome::Word("done")
         }
         "bring_front" => bring_front(list, number),
         "move_back" => move_back(list, number),
         "resize" => resize(list, number),
-        _ => Told::NoCall,
+        _ => Outcome::NoCall,
     }
 }
 
@@ -89,28 +89,28 @@ fn say_pushed(pushed: Result<usize, PushError<u64>>, out: &mut Out) {
 }
 
 /// Brings the item at a place to the front, which asks that one is there.
-fn bring_front<A: Allocator + Copy>(list: &mut Numbers<A>, place: usize) -> Told {
+fn bring_front<A: Allocator + Copy>(list: &mut Numbers<A>, place: usize) -> Outcome {
     if list.get(place).is_none() {
-        return Told::Number(None);
+        return Outcome::Number(None);
     }
     list.bring_front(place);
-    Told::Word("done")
+    Outcome::Word("done")
 }
 
 /// Moves the item at a place to the back, which asks that one is there.
-fn move_back<A: Allocator + Copy>(list: &mut Numbers<A>, place: usize) -> Told {
+fn move_back<A: Allocator + Copy>(list: &mut Numbers<A>, place: usize) -> Outcome {
     if list.get(place).is_none() {
-        return Told::Number(None);
+        return Outcome::Number(None);
     }
     list.move_back(place);
-    Told::Word("done")
+    Outcome::Word("done")
 }
 
 /// Sets the capacity, which asks that the items fit.
-fn resize<A: Allocator + Copy>(list: &mut Numbers<A>, capacity: usize) -> Told {
+fn resize<A: Allocator + Copy>(list: &mut Numbers<A>, capacity: usize) -> Outcome {
     if list.len() > capacity {
-        return Told::Word("they do not fit");
+        return Outcome::Word("they do not fit");
     }
     list.resize(capacity);
-    Told::Word("done")
+    Outcome::Word("done")
 }

@@ -11,7 +11,7 @@ use std::mem;
 /// Keeps the items of a form.
 pub(crate) fn retain<A: Allocator + Copy>(list: &mut Numbers<A>, world: &World, words: &mut Words) {
     let keep = Keep::read(words);
-    list.retain(|place, item| asked(world, keep, place, *item));
+    list.retain(|place, item| keeps_item(world, keep, place, *item));
 }
 
 /// The same, which adds a number to each item, after it was looked at.
@@ -22,14 +22,14 @@ pub(crate) fn retain_mut<A: Allocator + Copy>(
 ) {
     let (keep, more) = (Keep::read(words), words.number() as u64);
     list.retain_mut(|place, item| {
-        let kept = asked(world, keep, place, *item);
+        let kept = keeps_item(world, keep, place, *item);
         *item = item.wrapping_add(more);
         kept
     });
 }
 
 /// Whether an item is kept. The call is noted with the item's place.
-fn asked(world: &World, keep: Keep, place: usize, item: u64) -> bool {
+fn keeps_item(world: &World, keep: Keep, place: usize, item: u64) -> bool {
     if let Ok(text) = place.to_string(world.alloc) {
         world.note("keep", &text);
     }

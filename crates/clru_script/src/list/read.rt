@@ -2,7 +2,7 @@
 
 use crate::calls::say_hint;
 use crate::list::Numbers;
-use crate::out::{Out, Told};
+use crate::out::{Out, Outcome};
 use crate::words::{Words, Wrong};
 use clru_list::FixedSizeListIter;
 use std::alloc::Allocator;
@@ -32,40 +32,40 @@ pub(crate) fn read<A: Allocator + Copy>(
         "list" => say_list(list, out),
         "iter" => walk(list, words, out),
         "get" | "item" | "next_idx" | "prev_idx" => {
-            let told = told_at(list, name, words.number());
-            return out.told(told);
+            let outcome = outcome_at(list, name, words.number());
+            return out.outcome(outcome);
         }
-        _ => return out.told(told_of(list, name)),
+        _ => return out.outcome(outcome_of(list, name)),
     }
     true
 }
 
 /// What a call of the whole list tells.
-fn told_of<A: Allocator + Copy>(list: &Numbers<A>, name: &str) -> Told {
+fn outcome_of<A: Allocator + Copy>(list: &Numbers<A>, name: &str) -> Outcome {
     match name {
-        "front" => Told::item(list.front().copied()),
-        "back" => Told::item(list.back().copied()),
-        "front_idx" => Told::Number(list.front_idx()),
-        "back_idx" => Told::Number(list.back_idx()),
-        "len" => Told::Number(Some(list.len())),
-        "capacity" => Told::Number(Some(list.capacity())),
-        "places" => Told::Number(Some(list.places())),
-        "grown_places" => Told::Number(Some(list.grown_places())),
-        "is_empty" => Told::Truth(list.is_empty()),
-        "is_full" => Told::Truth(list.is_full()),
-        _ => Told::NoCall,
+        "front" => Outcome::item(list.front().copied()),
+        "back" => Outcome::item(list.back().copied()),
+        "front_idx" => Outcome::Number(list.front_idx()),
+        "back_idx" => Outcome::Number(list.back_idx()),
+        "len" => Outcome::Number(Some(list.len())),
+        "capacity" => Outcome::Number(Some(list.capacity())),
+        "places" => Outcome::Number(Some(list.places())),
+        "grown_places" => Outcome::Number(Some(list.grown_places())),
+        "is_empty" => Outcome::Truth(list.is_empty()),
+        "is_full" => Outcome::Truth(list.is_full()),
+        _ => Outcome::NoCall,
     }
 }
 
 /// What a call tells of a place.
-fn told_at<A: Allocator + Copy>(list: &Numbers<A>, name: &str, place: usize) -> Told {
+fn outcome_at<A: Allocator + Copy>(list: &Numbers<A>, name: &str, place: usize) -> Outcome {
     match name {
-        "get" => Told::item(list.get(place).copied()),
+        "get" => Outcome::item(list.get(place).copied()),
         // `item` asks that one is there.
-        "item" if list.get(place).is_some() => Told::Number(Some(*list.item(place) as usize)),
-        "item" => Told::Number(None),
-        "next_idx" => Told::Number(list.next_idx(place)),
-        _ => Told::Number(list.prev_idx(place)),
+        "item" if list.get(place).is_some() => Outcome::Number(Some(*list.item(place) as usize)),
+        "item" => Outcome::Number(None),
+        "next_idx" => Outcome::Number(list.next_idx(place)),
+        _ => Outcome::Number(list.prev_idx(place)),
     }
 }
 

@@ -5,7 +5,7 @@ use crate::list::Numbers;
 use std::alloc::Allocator;
 
 /// What is wrong with a list, if anything: its walks from both ends, by an iterator and by places, its ends and its size.
-pub(crate) fn fault_of<A: Allocator + Copy>(list: &Numbers<A>) -> Option<Fault> {
+pub(crate) fn list_fault<A: Allocator + Copy>(list: &Numbers<A>) -> Option<Fault> {
     let len = list.len();
     if len > list.capacity() || list.is_full() != (len == list.capacity()) {
         return Some(Fault::Size);

@@ -27,9 +27,9 @@ of_class : (rs curve : List ℕ) → HasMissesOf nat_eq rs curve → (k : ℕ) �
 of_class rs curve is zero = sym (none_hit [] rs)
 of_class rs curve is (suc k) = is (suc k) (omega arith)
 
-answers_at : (c : ClassOf) (k : ℕ) → IsSome (missed_at all missed c k)
-answers_at c zero = refl
-answers_at c (suc k) = refl
+has_number_at : (c : ClassOf) (k : ℕ) → IsSome (missed_at all missed c k)
+has_number_at c zero = refl
+has_number_at c (suc k) = refl
 
 sum_two : (x y : ℕ) → sum (x ∷ y ∷ []) ≡ x + y
 sum_two x y = omega (arith, sum_by-cons (λ z. z) x (y ∷ []), sum_by-cons (λ z. z) y [])
@@ -44,8 +44,8 @@ best_of_two step budget pages images ps qs (k ∷ j ∷ z ∷ caps) c d x y has 
 best_of_two step budget pages images ps qs (k ∷ j ∷ []) c d x y has here cs ds b xs ys p i fits =
     let least = b.least (p * step ∷ i * step ∷ []) (record {
       parts = (
-        record { units = p; multiple = refl; answers = answers_at c (p * step) },
-        (record { units = i; multiple = refl; answers = answers_at d (i * step) }, tt),
+        record { units = p; multiple = refl; has_number = has_number_at c (p * step) },
+        (record { units = i; multiple = refl; has_number = has_number_at d (i * step) }, tt),
       );
       within = omega (arith, sum_two (p * step) (i * step), fits);
     }) in
