@@ -4,7 +4,7 @@ ghost use Rattle.clru_files.specs.Serving.{is_hit, is_fetch, is_no_text, is_no_m
 
 use crate::served::Served;
 
-/// How requests were answered. Of those that are no text, or found no memory, the store was not asked.
+/// How requests ended. Those that are no text, or found no memory, never reached the store.
 #[derive(Clone, Copy)]
 pub struct Counts {
     pub hits: usize,
@@ -14,7 +14,7 @@ pub struct Counts {
 }
 
 impl Counts {
-    /// No request was answered.
+    /// Creates the counts of no request.
     pub fn new() -> Self
         ensures { result ≡ record { hits = 0; fetches = 0; no_text = 0; no_memory = 0 } }
     {

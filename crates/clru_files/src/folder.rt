@@ -26,7 +26,7 @@ pub struct Page {
 }
 
 impl Page {
-    /// Whether the file says the same now.
+    /// Returns whether the file still says the same of itself.
     pub fn is_of(&self, now: Stat) -> bool
         ensures { IsTrue result ↔ (self.now.stat ≡ now) }
     {
@@ -34,7 +34,7 @@ impl Page {
     }
 }
 
-/// The files below a folder, of which none is read that has more bytes than the capacity.
+/// The files below a folder. A file that has more bytes than the capacity is not read.
 #[derive(Drop)]
 pub struct Folder<'f, R: Files> {
     files: &'f R,
@@ -65,7 +65,7 @@ impl<'f, R: Files> Folder<'f, R> {
         }
     }
 
-    /// What the file of a path says of itself now.
+    /// Returns what the file of a path says of itself now.
     pub fn stat_of(&self, path: &str) -> Result<Stat, Fault>
         ensures { IfOk result (λ stat. stat.length ≤ self.now.longest) }
     {

@@ -21,7 +21,8 @@ use std::alloc::Global;
 use std::fs::Files;
 use std::io::{self, Write};
 
-/// A page takes its bytes of the capacity, and an empty one a byte: the entry itself counts for one.
+/// The scale of pages. Beside the 1 of its entry a page weighs one less than its bytes, so it takes as much of the capacity as
+/// it has bytes; an empty page takes 1.
 #[derive(Clone, Copy)]
 pub struct ByBytes;
 
@@ -33,7 +34,7 @@ impl WeightScale<String, Page> for ByBytes {
     }
 }
 
-/// The pages that were asked for last.
+/// The pages that were requested last.
 pub type Pages<'f, R> = Through<
     String,
     Page,
@@ -45,7 +46,7 @@ pub type Pages<'f, R> = Through<
     ByPromise,
 >;
 
-/// A store of the pages of a folder, of so many bytes.
+/// Creates a store of the pages of a folder, with room for so many bytes.
 pub fn pages_of<'f, R: Files>(
     alloc: Global,
     capacity: NonZeroUsize,

@@ -12,9 +12,9 @@ use crate::size_floor::{FloorStep, SizeFloor};
 use std::alloc::{AllocError, Allocator, Global};
 use std::marker::{Model, PhantomData};
 
-/// A pass over requests, which takes them one by one, each with the position of the latest request of its key and its weight; no
-/// key is handed over. It returns a floor of what every policy misses of them, at any room. A `DistancePass` of `clru_curve` over
-/// the same requests knows the positions.
+/// A pass over requests. It takes of each request the weight of its key and the position of the latest request of that key, and
+/// never the key itself. It returns a floor of what every policy misses, for any room. A `DistancePass` of `clru_curve` over
+/// the same requests returns the positions.
 ///
 /// Clauses speak of the requests that it has taken by `IsFloorPass`, the latest first: there are none at first, and each request
 /// that is taken comes in front.

@@ -11,7 +11,7 @@ use std::hash::{BuildHasher, Hash};
 use std::marker::Model;
 use std::num::NonZeroUsize;
 
-/// A list of requests, with the position of the next request of each key. Made once, it answers the least number of misses for
+/// A list of requests, with the position of the next request of each key. It is made once, and returns the fewest misses for
 /// any room. It borrows the requests; a clause sees it as their list.
 #[derive(Drop)]
 pub struct Foresight<'a, K: Eq, A: Allocator + Copy> {

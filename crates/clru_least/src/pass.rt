@@ -12,9 +12,9 @@ use std::collections::BinaryHeap;
 use std::marker::{Model, PhantomData};
 use std::num::NonZeroUsize;
 
-/// A pass over requests, which takes them one by one, each with the position of the latest request of its key; no key is handed
-/// over. It answers for any room the least number of misses, as `Foresight` does. A `DistancePass` of `clru_curve` over the same
-/// requests knows the positions.
+/// A pass over requests. It takes of each request the position of the latest request of its key, and never the key itself. It
+/// returns the fewest misses for any room, as `Foresight` does. A `DistancePass` of `clru_curve` over the same requests returns
+/// the positions.
 ///
 /// Clauses speak of the requests that it has taken by `IsForesight`, the latest first: there are none at first, and each request
 /// that is taken comes in front.
@@ -76,7 +76,7 @@ impl<K: Eq, A: Allocator + Copy> ForesightPass<K, A> {
     /// Takes one more request: `latest` is the position of the latest request of its key, which is how many came before that one,
     /// or `None` where its key was not requested before.
     ///
-    /// Where memory is refused the pass has taken what it had.
+    /// If memory is refused, the pass is as before.
     /// Cost: two writes; one request for memory where there is no room for a number. Where numbers begin to take 8 bytes, one more,
     /// and a copy of each.
     pub fn request(&mut self, latest: Option<usize>) -> Result<(), AllocError>

@@ -210,8 +210,8 @@ impl<K: Eq + Hash, V, S: BuildHasher, A: Allocator + Copy> LinkedHashMap<K, V, S
         old
     }
 
-    /// Puts a new key, whose hash is given, with its value to the front, and returns the entry that went. If the map is full,
-    /// the last entry goes and gives its place; else a place is ready.
+    /// Puts a new key, whose hash is given, with its value to the front, and returns the entry that it drops. A full map drops
+    /// its last entry and reuses its place; otherwise a place must be ready.
     #[inline(always)]
     pub fn put_front(&mut self, hash: u64, key: K, value: V) -> Option<(K, V)>
         requires hash { hash ≡ hash_of K.Hash S.BuildHasher S.Hasher.Hasher self.old.builder key }

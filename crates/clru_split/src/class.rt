@@ -8,7 +8,7 @@ use std::alloc::{Allocator, Global};
 use std::marker::Model;
 use std::num::NonZeroUsize;
 
-/// A curve by keys, with the number of its requests, which all miss where no cache is. A clause sees both.
+/// A curve by keys, with the number of its requests. Without a cache all of them miss. A clause sees both.
 #[derive(Drop)]
 pub struct Class<'a, A: Allocator = Global> {
     requests: usize,
@@ -26,7 +26,7 @@ impl<'a, A: Allocator> Model for Class<'a, A> {
 }
 
 impl<'a, A: Allocator> Class<'a, A> {
-    /// Returns the class of a curve and of the number of its requests.
+    /// Creates a class from a curve and the number of its requests.
     /// Cost: none.
     pub fn new(requests: usize, curve: &'a MissCurve<A>) -> Self
         ensures { result ≡ class requests curve.now }

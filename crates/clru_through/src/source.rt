@@ -3,7 +3,7 @@ ghost use Rattle.std.specs.Prelude.{◌≡◌, Option, Some, Result, IfOk, IsTru
 
 /// A source of values, which may fail.
 ///
-/// A fetch that succeeds gives one value for one key, however often it is asked, and the same one for keys that are the same.
+/// Each fetch of a key that succeeds returns the same value, and equal keys have the same value.
 pub trait Source<K: Eq, V, E> {
     // What a fetch of the key gives if it succeeds. It is an `Option`, since some source fails at some key always.
     ghost value: { Self → K → Option V };
@@ -21,10 +21,9 @@ pub trait Source<K: Eq, V, E> {
     ghost same: { (s : Self) (x y : K) → IsTrue (K.eq x y) → value s x ≡ value s y };
 }
 
-/// What a store fetches from: at `ByValue` each `Source`; at `ByPromise` what gives values that need not be the same each time,
-/// as those of files.
+/// What a store fetches from: at `ByValue` a `Source`; at `ByPromise` a source whose values may change, as those of files do.
 ///
-/// Of the value of a key it promises something, and each fetch of the key that succeeds gives a value that keeps that.
+/// It promises something of each key's value, and each fetch that succeeds returns a value that keeps the promise.
 pub trait Fetch<K: Eq, V, E, M>: Sealed<K, V, E, M> {
     // What can be promised of a value: a type of one's own, as a length. `⊤` promises nothing.
     ghost Promise: { Type 0 };

@@ -45,7 +45,7 @@ impl Fetch<u64, Dated, (), ByPromise> for Origin {
     ghost same = { Prim.search (rules, comparing) };
 }
 
-/// The pages that were asked for last.
+/// The pages that were requested last.
 pub type Pages = Through<u64, Dated, (), Origin, DefaultState, ZeroWeightScale, Global, ByPromise>;
 
 /// Makes a store of so many pages. It takes no memory yet.
@@ -53,8 +53,8 @@ pub fn pages_of(alloc: Global, capacity: NonZeroUsize) -> Pages {
     Through::new(CLruCache::new(alloc, capacity), Origin { now: 0 })
 }
 
-/// The text of a page that was fetched at most so long ago, by the clock that is given. If that clock went back, a text from later
-/// counts as one from now.
+/// Returns the text of a page that was fetched at most so long ago, by the given clock. If that clock went back, a text from
+/// later counts as one from now.
 pub fn text_within(pages: &mut Pages, page: u64, now: u64, limit: u64) -> Result<Dated, ()>
     ensures recent { IfOk result (λ dated. now - dated.at ≤ limit) }
     ensures dated { IfOk result (IsOfItsTime page) }

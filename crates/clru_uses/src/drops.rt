@@ -39,7 +39,7 @@ fn write(disk: &mut [u64], page: usize, contents: u64)
     }
 }
 
-/// Remembers the size of a page by a scale, and answers how many pages were forgotten for it.
+/// Remembers the size of a page by a scale, and returns how many pages were forgotten for it.
 pub fn number_forgotten<W: WeightScale<u64, u64>>(
     sizes: &mut CLruCache<u64, u64, DefaultState, W>,
     page: u64,

@@ -94,7 +94,7 @@ pub fn put_page_in_io(
     Ok(put.replaced)
 }
 
-/// What a program prints of a refused pair, whatever its key and value are.
+/// Returns what a program prints of a refused pair, whatever its key and value are.
 pub fn message<K, V>(alloc: Global, why: &PutError<K, V>) -> Result<String, AllocError>
     ensures text { IfOk result (λ text. string_bytes text ≡ put_error_text why.now) }
 {

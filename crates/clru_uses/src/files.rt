@@ -64,7 +64,7 @@ impl<'a, R: Files + AllocGlobal> Fetch<String, Contents, io::Error, ByPromise> f
     ghost same = { Prim.search (rules, comparing) };
 }
 
-/// The files that were asked for last.
+/// The files that were requested last.
 pub type Shelf<'a, R> = Through<
     String,
     Contents,
@@ -82,7 +82,7 @@ pub fn files_of<R: Files + AllocGlobal>(rt: &R, capacity: NonZeroUsize) -> Shelf
     Through::new(cache, Disk { rt, reads: 0 })
 }
 
-/// The number of a file's bytes, and whether it was held. A file that is held is not read, and its path makes no `String`.
+/// Returns the number of a file's bytes, and whether it was held. A held file is not read, and no `String` is made of its path.
 pub fn size_of<R: Files + AllocGlobal>(
     files: &mut Shelf<'_, R>,
     path: &str,

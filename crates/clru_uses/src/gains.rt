@@ -9,7 +9,8 @@ use clru::{DefaultState, NonZeroUsize};
 use clru_least::Foresight;
 use std::alloc::{AllocError, Global};
 
-/// The misses of a cache on the requests, and the least of any that takes in each requested key, with as much room.
+/// Returns the misses of a cache on the requests, and the fewest misses of any policy with as much room that takes in each
+/// requested key.
 pub fn misses_and_least(
     alloc: Global,
     capacity: NonZeroUsize,

@@ -7,7 +7,7 @@ ghost use Rattle.clru_model.specs.Entries.{touch, with_value_at};
 
 use clru::{CLruCache, TryPutError};
 
-/// Gives a page another size, and answers whether it is remembered. A look-up then finds the new size.
+/// Gives a page another size, and returns whether it is remembered. A look-up then finds the new size.
 pub fn correct(sizes: &mut CLruCache<u64, u64>, page: u64, size: u64) -> bool
     ensures found { result ≡ is_some (lookup (nat_eq page) sizes.old.entries) }
     ensures written { IsTrue result → lookup (nat_eq page) sizes.new.entries ≡ Some size }
@@ -21,7 +21,7 @@ pub fn correct(sizes: &mut CLruCache<u64, u64>, page: u64, size: u64) -> bool
     }
 }
 
-/// Gives the page that was used last another size, and answers which one that is.
+/// Gives the page that was used last another size, and returns which one that is.
 pub fn correct_latest(sizes: &mut CLruCache<u64, u64>, size: u64) -> Option<u64>
     ensures page { result ≡ option_map (λ e. e.0) (slice_get sizes.old.entries 0) }
     ensures written { sizes.new ≡ with_entries sizes.old (with_value_at 0 size sizes.old.entries) }
@@ -38,8 +38,7 @@ pub fn double_last(sizes: &mut CLruCache<u64, u64>) -> Option<u64> {
     Some(*last.key())
 }
 
-/// Looks for a page by a put that can't succeed: a page that is not remembered leaves all as it was, also where the cache is
-/// full.
+/// Looks for a page by a put that can't succeed: if a page is not remembered, nothing changes, even if the cache is full.
 pub fn look_for(sizes: &mut CLruCache<u64, u64>, page: u64) -> Option<u64>
     ensures size { result ≡ lookup (nat_eq page) sizes.old.entries }
     ensures entries { sizes.new.entries ≡ touch nat_eq page sizes.old.entries }

@@ -60,7 +60,7 @@ pub fn count(looks: &mut CLruCache<u64, u64>, page: u64) -> Option<u64>
     }
 }
 
-/// The room that is left for entries and their weight.
+/// Returns the room that is left for entries and their weight.
 pub fn room_left<W: WeightScale<u64, u64>>(cache: &CLruCache<u64, u64, DefaultState, W>) -> usize
     ensures { result + size_of (W.weight cache.now.scale) cache.now.entries ≡ cache.now.capacity }
 {

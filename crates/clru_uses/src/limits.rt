@@ -8,8 +8,8 @@ use clru::{CLruCache, TryPutError};
 #[derive(Debug, Drop, PartialEq, Eq)]
 pub struct TooLarge;
 
-/// Adds to the size of a page, and answers the sum. A look-up then finds it. Where the sum is too large, the page keeps the
-/// size that it had.
+/// Adds to the size of a page, and returns the sum. A look-up then finds it. If the sum is too large, the page keeps the size
+/// that it had.
 pub fn grow(
     sizes: &mut CLruCache<u64, u64>,
     page: u64,

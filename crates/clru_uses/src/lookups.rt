@@ -4,7 +4,7 @@ ghost use Rattle.std.specs.Map.{lookup};
 
 use clru::CLruCache;
 
-/// Remembers the size of a page, and answers whether none was forgotten for it: then each other page has the size that it had.
+/// Remembers the size of a page, and returns whether none was forgotten for it: then each other page has the size that it had.
 pub fn remember_beside(
     sizes: &mut CLruCache<u64, u64>,
     page: u64,
@@ -21,7 +21,7 @@ pub fn remember_beside(
     }
 }
 
-/// Remembers the size of a page, and answers whether there is one page more than before.
+/// Remembers the size of a page, and returns whether there is one page more than before.
 pub fn remember_one_more(
     sizes: &mut CLruCache<u64, u64>,
     page: u64,
@@ -37,7 +37,7 @@ pub fn remember_one_more(
     }
 }
 
-/// Forgets a page, and answers how many are left. Each other page has the size that it had.
+/// Forgets a page, and returns how many are left. Each other page has the size that it had.
 pub fn forget(sizes: &mut CLruCache<u64, u64>, page: &u64) -> usize
     ensures number { result ≡ length sizes.new.entries }
     ensures others { (other : ℕ) → nat_eq page.now other ≡ false
@@ -60,7 +60,7 @@ pub fn look_at_both(sizes: &mut CLruCache<u64, u64>, page: &u64, other: &u64) ->
     sizes.peek(other).copied()
 }
 
-/// Looks at a page, and answers how many there are, as many as before.
+/// Looks at a page, and returns how many there are, as many as before.
 pub fn look_and_count(sizes: &mut CLruCache<u64, u64>, page: &u64) -> usize
     ensures { result ≡ length sizes.old.entries }
 {

@@ -15,7 +15,7 @@ use clru_curve::{
 use clru_model::law_growth;
 use std::alloc::Global;
 
-/// The number of requests that hit. First requests are not among them. `None` is for want of memory.
+/// Returns the number of requests that hit; first requests miss. `None` means that memory is refused.
 pub fn hits_at(alloc: Global, pages: &[usize], capacity: NonZeroUsize) -> Option<usize>
     ensures hits { IfSome result (λ n. n + misses nat_eq (non_zero_usize_get capacity) pages.now ≡ length pages.now) }
     ensures not_first { IfSome result (λ n. n + distinct nat_eq (reverse pages.now) ≤ length pages.now) }
@@ -45,8 +45,8 @@ pub fn misses_saved(
     }
 }
 
-/// The misses of pages that weigh nothing. As much room misses no fewer of pages that weigh something, and room for so many of
-/// the greatest no more. `None` is for want of memory.
+/// Returns the misses of pages that weigh nothing. If pages weigh something, as much room misses no fewer, and room for so many
+/// of the greatest page no more. `None` means that memory is refused.
 pub fn misses_between(alloc: Global, pages: &[usize], capacity: NonZeroUsize) -> Option<usize>
     ensures below { (weight : ℕ → ℕ)
         → IfSome result (λ n. n ≤ misses_by_size nat_eq weight (non_zero_usize_get capacity) pages.now) }
@@ -60,7 +60,7 @@ pub fn misses_between(alloc: Global, pages: &[usize], capacity: NonZeroUsize) ->
     }
 }
 
-/// The size of the requests that hit. `None` is for a refusal, and for a capacity that is not above each weight.
+/// Returns the size of the requests that hit, or `None` if the pass is refused or the capacity is not above each weight.
 pub fn size_hit<W: WeightScale<usize, ()> + Drop>(
     alloc: Global,
     pages: &[usize],
@@ -81,7 +81,7 @@ pub fn size_hit<W: WeightScale<usize, ()> + Drop>(
     }
 }
 
-/// The size of all pages, each by its first request. `None` is for a refusal.
+/// Returns the size of all pages, each by its first request, or `None` if the pass is refused.
 pub fn size_of_pages<W: WeightScale<usize, ()> + Drop>(
     alloc: Global,
     pages: &[usize],

@@ -14,8 +14,8 @@ use std::alloc::{AllocError, Allocator};
 use std::hash::{BuildHasher, Hash};
 use std::num::NonZeroUsize;
 
-/// Answers the least number. Some schedule, as positions describe it, misses the requests at so many positions, and none misses
-/// fewer.
+/// Returns the least number of misses. Some schedule, as positions describe it, misses the requests at so many positions, and
+/// none misses fewer.
 pub fn least_by_position<K: Eq + Hash, S: BuildHasher + Drop, A: Allocator + Copy>(
     alloc: A,
     room: NonZeroUsize,
@@ -33,8 +33,8 @@ pub fn least_by_position<K: Eq + Hash, S: BuildHasher + Drop, A: Allocator + Cop
     least(alloc, room, keys, hash_builder)
 }
 
-/// Answers the least number, which is no less than the number of distinct keys, and this where all have room. A schedule with
-/// room for one key less misses no fewer, also where it may let keys pass by.
+/// Returns the least number of misses, which is no less than the number of distinct keys, and equals it if all have room. A
+/// schedule with room for one key less misses no fewer, even if it bypasses keys.
 pub fn least_of_any<K: Eq + Hash, S: BuildHasher + Drop, A: Allocator + Copy>(
     alloc: A,
     room: NonZeroUsize,
@@ -51,7 +51,7 @@ pub fn least_of_any<K: Eq + Hash, S: BuildHasher + Drop, A: Allocator + Copy>(
     least(alloc, room, keys, hash_builder)
 }
 
-/// Answers the misses of a replay. There is a least number beside them, which nobody counted.
+/// Returns the misses of a replay. There is a least number beside them, which nobody counted.
 pub fn misses_above_least<K: Eq + Hash + Copy, S: BuildHasher + Drop, A: Allocator + Copy>(
     alloc: A,
     capacity: NonZeroUsize,

@@ -13,7 +13,7 @@ use clru::{DefaultState, WeightScale};
 use clru_through::{Answer, Loaded, Source, Through};
 use std::alloc::Global;
 
-/// The value of a page, by one load. The source keeps its values.
+/// Returns the value of a page, by one load. The source keeps its values.
 pub fn value_of<E, R: Source<u64, u64, E>, W: WeightScale<u64, u64>>(
     store: &mut Through<u64, u64, E, R, DefaultState, W, Global>,
     page: u64,
@@ -32,7 +32,7 @@ pub fn value_of<E, R: Source<u64, u64, E>, W: WeightScale<u64, u64>>(
     }
 }
 
-/// The value of a page, got twice: both are the same, whether it is held in between or not.
+/// Returns the value of a page, loaded twice: both are the same, whether it is held in between or not.
 pub fn twice<E, R: Source<u64, u64, E>, W: WeightScale<u64, u64>>(
     store: &mut Through<u64, u64, E, R, DefaultState, W, Global>,
     page: u64,
@@ -85,7 +85,7 @@ pub fn got<E: Drop, R: Source<u64, u64, E>, W: WeightScale<u64, u64>>(
     }
 }
 
-/// Loads a page, and answers how many fetches that was, which is one where the page was not held.
+/// Loads a page, and returns the number of its fetches, which is one if the page was not held.
 pub fn fetches_of<E, R: Source<u64, u64, E>, W: WeightScale<u64, u64>>(
     store: &mut Through<u64, u64, E, R, DefaultState, W>,
     page: u64,
@@ -98,14 +98,14 @@ pub fn fetches_of<E, R: Source<u64, u64, E>, W: WeightScale<u64, u64>>(
     }
 }
 
-/// The room that is left: what the values take never passes the capacity.
+/// Returns the room that is left: the values never take more than the capacity.
 pub fn room_of<E, R: Source<u64, u64, E>, W: WeightScale<u64, u64>>(
     store: &Through<u64, u64, E, R, DefaultState, W>,
 ) -> usize {
     store.capacity() - store.weight() - store.len()
 }
 
-/// The value of a page, if it is held: it is the source's.
+/// Returns the value of a page if it is held: it is the source's.
 pub fn held_of<E, R: Source<u64, u64, E>, W: WeightScale<u64, u64>>(
     store: &Through<u64, u64, E, R, DefaultState, W>,
     page: u64,
@@ -115,7 +115,7 @@ pub fn held_of<E, R: Source<u64, u64, E>, W: WeightScale<u64, u64>>(
     store.peek(&page).copied()
 }
 
-/// Loads a page. Where its fetch fails, the answer is what is held of another one, which is what was held before.
+/// Loads a page. If its fetch fails, returns what is held of another page, which is what was held before.
 pub fn load_beside<E: Drop, R: Source<u64, u64, E>, W: WeightScale<u64, u64>>(
     store: &mut Through<u64, u64, E, R, DefaultState, W, Global>,
     page: u64,

@@ -6,7 +6,7 @@ ghost use Rattle.clru_model.specs.Requests.{misses};
 use clru::{DefaultState, NonZeroUsize, replay};
 use std::alloc::{AllocError, Global};
 
-/// The misses of a cache of the capacity, which starts empty and is sent the requests.
+/// Returns the misses of a cache of the capacity, which starts empty and is sent the requests.
 pub fn misses_at(
     alloc: Global,
     capacity: NonZeroUsize,

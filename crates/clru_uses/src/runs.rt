@@ -11,8 +11,8 @@ use clru::{CLruCache, law_ages, law_requests};
 use std::alloc::Global;
 use std::hash::Hash;
 
-/// Puts each key in turn into an empty cache, and answers for each whether the cache held it before. `None` is for want of
-/// memory.
+/// Puts each key in turn into an empty cache, and returns for each whether the cache held it before. `None` means that memory
+/// is refused.
 pub fn held_before_puts<K: Eq + Hash + Drop>(
     alloc: Global,
     cache: &mut CLruCache<K, ()>,
@@ -92,8 +92,8 @@ fn number_dropped<K: Eq + Hash + Drop>(cache: &mut CLruCache<K, ()>, key: K) -> 
     }
 }
 
-/// The same of pages that expire: a page is fetched again if its fetch was more than `age` before. Each request is a page and the
-/// time, in any unit, and the cache holds the time of each page's fetch.
+/// Does the same with pages that expire: a page is fetched again if its fetch was more than `age` before. Each request is a
+/// page and the time, in any unit, and the cache holds the time of each page's fetch.
 pub fn aged_pages_fetched(
     cache: &mut CLruCache<usize, usize>,
     requests: Vec<(usize, usize)>,

@@ -28,8 +28,8 @@ impl WeightScale<usize, ()> for FileSizes<'_> {
     }
 }
 
-/// The bytes that a cache of so many bytes misses, which starts empty and is sent the requests for files of these sizes; or
-/// nothing where it has no room for the greatest of them.
+/// Returns the bytes that a cache of so many bytes misses, which starts empty and is sent the requests for files of these
+/// sizes, or `None` if it has no room for the greatest of them.
 pub fn missed_bytes(
     alloc: Global,
     requests: &[usize],

@@ -59,7 +59,8 @@ pub fn look_again<W: WeightScale<usize, usize>>(
     cache.get(page).copied()
 }
 
-/// Whether a request hits whose span, the least capacity at which it does, is this, told by the positions of the requests; and so where keys weigh nothing.
+/// Returns whether a request of this span, the least capacity at which it hits, hits at the capacity. The span follows from the
+/// positions of the requests, also if keys weigh nothing.
 pub fn hits_by_span<K: Eq>(least: usize, capacity: usize) -> bool
     ensures by_position { (weight : K → ℕ) (requests : List K) (i : ℕ) → IsSpanAt K.eq weight requests i least
         → slice_get (marks_by_size K.eq weight capacity requests) i ≡ Some result }

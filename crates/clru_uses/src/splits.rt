@@ -7,8 +7,8 @@ use clru_curve::{DefaultState, NoMemory, miss_curve};
 use clru_split::{Class, NonZeroUsize, split};
 use std::alloc::Global;
 
-/// The capacities of a cache for pages and of one for images, in multiples of the step and together within the budget, such
-/// that no others miss less together. At capacity 0 there is no cache, and each request misses.
+/// Returns the capacities of a cache for pages and of one for images, in multiples of the step and together within the budget,
+/// such that no others miss less together. At capacity 0 there is no cache, and each request misses.
 pub fn room_for_each(
     alloc: Global,
     step: NonZeroUsize,

@@ -46,7 +46,7 @@ impl Source<String, Page, AllocError> for Shelf {
     ghost same = { Prim.search (rules, comparing) };
 }
 
-/// The pages that were asked for last.
+/// The pages that were requested last.
 pub type Pages = Through<String, Page, AllocError, Shelf>;
 
 /// Makes a store of so many pages. It takes no memory yet.
@@ -54,7 +54,7 @@ pub fn pages_of(alloc: Global, capacity: NonZeroUsize) -> Pages {
     Through::new(CLruCache::new(alloc, capacity), Shelf { alloc, fetches: 0 })
 }
 
-/// The length of a page, and whether it was held.
+/// Returns the length of a page, and whether it was held.
 pub fn length_of(pages: &mut Pages, name: String) -> Result<(usize, bool), AllocError>
     ensures length { IfOk result (λ found. found.0 ≡ length (string_bytes name) + 1) }
     ensures held { IfOk result (λ found. found.1 ≡ is_some (lookup (string_eq name) pages.old.cache.entries)) }

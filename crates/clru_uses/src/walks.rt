@@ -7,7 +7,7 @@ ghost use Rattle.clru.specs.Cache.{with_entries};
 
 use clru::CLruCache;
 
-/// The sum of the sizes.
+/// Returns the sum of the sizes.
 pub fn total(sizes: &CLruCache<u64, u64>) -> u64
     requires { sum_by (λ e. e.1) sizes.now.entries < 2 ^ 64 }
     ensures { result ≡ sum_by (λ e. e.1) sizes.now.entries }
@@ -19,7 +19,7 @@ pub fn total(sizes: &CLruCache<u64, u64>) -> u64
     total
 }
 
-/// The sum of the sizes, from the page that was looked at longest ago.
+/// Returns the sum of the sizes, starting from the page that was looked at longest ago.
 pub fn total_backwards(sizes: &CLruCache<u64, u64>) -> u64
     requires { sum_by (λ e. e.1) sizes.now.entries < 2 ^ 64 }
     ensures { result ≡ sum_by (λ e. e.1) sizes.now.entries }
@@ -32,7 +32,7 @@ pub fn total_backwards(sizes: &CLruCache<u64, u64>) -> u64
     sum
 }
 
-/// The pages at the two ends; where there is one page, there is nothing at the other end.
+/// Returns the pages at the two ends. If there is only one page, the second result is `None`.
 pub fn ends(sizes: &CLruCache<u64, u64>) -> (Option<(u64, u64)>, Option<(u64, u64)>)
     ensures first { result.0 ≡ slice_get sizes.now.entries 0 }
     ensures last { 1 < length sizes.now.entries
@@ -68,7 +68,7 @@ pub fn halve_by_both_ends(sizes: &mut CLruCache<u64, u64>)
     }
 }
 
-/// The pages and their sizes, taken out of the cache, the one that was looked at longest ago first.
+/// Consumes the cache, and returns the page that was looked at longest ago, with its size.
 pub fn oldest(sizes: CLruCache<u64, u64>) -> Option<(u64, u64)>
     ensures { result ≡ slice_get sizes.entries (length sizes.entries - 1) }
 {

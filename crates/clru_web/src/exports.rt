@@ -10,12 +10,11 @@ use clru_lines::Seed;
 use clru_report::Fault;
 use lent_block::{LentBlock, Loan};
 
-/// What `clru_mrc` answers: `arguments` are its words, each a line of UTF-8, and `log` is its standard input.
+/// Does what `clru_mrc` does. `arguments` are its arguments, each a line of UTF-8, and `log` is its standard input.
 ///
-/// It answers the program's exit status, and writes into `text`, from its beginning, what the program writes to standard output, or
-/// where it fails the line that it writes to standard error, but for what a line without a size begins with, as much of it as there
-/// is room for. `written` is how many bytes that are. All memory that it takes is of the block `loan`, and none of it is used after
-/// the call.
+/// Returns the program's exit status. Writes to the beginning of `text` what the program writes to standard output, and to
+/// `written` how many bytes that are. If the program fails, it is the line for standard error, cut if there is no room, and
+/// without the quote of a line that has no size. All memory comes from the block `loan`, and none of it is used after the call.
 ///
 /// - 0: the text is the report, or what `--help` or `--version` prints.
 /// - 2: the words are refused, or a capacity is below the greatest size.
@@ -23,10 +22,10 @@ use lent_block::{LentBlock, Loan};
 /// - 5: `text` is too short for the report. With a longer one the same call may have another answer.
 /// - 6: a line has no size, or the sizes are too large together.
 ///
-/// Lines are hashed under a seed, the words `low` and `high`; the answer is the same under each.
+/// Lines are hashed under a seed, the words `low` and `high`; the result is the same under each.
 ///
-/// The caller owes that `loan` is aligned to 16 and has as many bytes as it says, and that it, `arguments`, `log`, `text` and
-/// `written` do not overlap. No clause can ask for it: here a slice is its bytes, and has no address.
+/// The caller must see to it that `loan` is aligned to 16 and has as many bytes as it says, and that it, `arguments`, `log`,
+/// `text` and `written` do not overlap. No clause can require this, because a slice here is its bytes, and has no address.
 #[unsafe(no_mangle)]
 #[allow(too_many_arguments)]
 pub extern "C" fn report(

@@ -16,8 +16,8 @@ use std::ptr::copy_nonoverlapping;
 
 /// An allocator over memory that was lent. Collections hold a `&` to it, as in `Vec::new(&heap)`.
 ///
-/// A request is refused where its bytes, rounded up to a multiple of 16, are not left, or where it asks for an alignment above
-/// 16. The last block grows where it stands, if its bytes are a multiple of 16. Cost: constant, but for values that move.
+/// A request is refused if its bytes, rounded up to a multiple of 16, are not left, or if it needs an alignment above 16. The
+/// last block grows in place if its bytes are a multiple of 16. Cost: constant, but for values that move.
 pub struct LentBlock {
     slot: Slot,
 }

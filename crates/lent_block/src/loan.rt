@@ -8,9 +8,9 @@ use std::marker::Model;
 /// What blocks are aligned to, and what sizes are rounded up to.
 pub(crate) const UNIT: usize = 16;
 
-/// `size` bytes from `ptr` on, aligned to 16, which nobody else reads or writes. What they hold says nothing.
+/// `size` bytes from `ptr` on, aligned to 16, which nobody else reads or writes. What they hold does not matter.
 ///
-/// Who lends them from outside has to see to that: it is what this type owns, and no code can check it.
+/// Whoever lends them from outside must see to that: this type owns the bytes, and no code can check it.
 #[repr(C)]
 #[derive(Drop)]
 pub struct Loan {

@@ -32,9 +32,9 @@ impl<
 > Through<K, V, E, R, S, W, A, M> {
     /// Makes the value of the key the most recently used one, and fetches it first if it is not held.
     ///
-    /// What does not fit beside a fetched value is dropped, the least recently used entry first. A value that weighs as much
-    /// as the capacity or more, and one for which no memory was found, is passed on, and no entry changes; nor does one where
-    /// the fetch fails, whose error comes out.
+    /// What does not fit beside a fetched value is dropped, the least recently used entry first. A value that weighs as much as
+    /// the capacity or more, and one for which no memory was found, is passed on, and no entry changes. If the fetch fails, no
+    /// entry changes either, and the load returns the error.
     ///
     /// The answer says whether it was fetched. After `Held` the value is that of `front`, and of `peek` of the key.
     /// Cost: one hash and a walk along one chain; where the key is not held, also a fetch and what a `put_with_weight` costs.

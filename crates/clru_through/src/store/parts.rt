@@ -29,7 +29,7 @@ impl<
         &self.cache
     }
 
-    /// Lends the source for reading, as what it counts.
+    /// Lends the source for reading, for example its counts.
     /// Cost: a read.
     pub fn source(&self) -> &R
         ensures { result.now ≡ self.now.source }
@@ -37,10 +37,9 @@ impl<
         &self.source
     }
 
-    /// Lends the source for writing, as what it is to know of the time. Nothing is fetched, and what is held stays.
+    /// Lends the source for writing, for example to tell it the time. Nothing is fetched, and what is held stays.
     ///
-    /// It asks that a source promises the same whatever is written to it. For another source take the store apart, and make it
-    /// again.
+    /// The source must promise the same, whatever is written to it. Otherwise take the store apart, and make it again.
     /// Cost: a read.
     pub fn source_mut(&mut self) -> &mut R
         requires same_promises { (s : R) (k : K) → R.promised s k ≡ R.promised self.old.source k }

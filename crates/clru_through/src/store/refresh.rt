@@ -26,7 +26,7 @@ impl<
 > Through<K, V, E, R, S, W, A, M> {
     /// Fetches the value of the key, whether one is held or not, and makes it the most recently used one.
     ///
-    /// It is what a load does with a key that is not held. So a held value stays where the fetch fails, and where the new one is
+    /// It does what a load does with a key that is not held. A held value stays if the fetch fails, or if the new value is
     /// passed on because it is too heavy.
     /// Cost: a fetch and what a `put_with_weight` costs.
     pub fn refresh(&mut self, key: K) -> Result<Loaded<V>, E>
@@ -49,8 +49,8 @@ impl<
     /// Makes the value of the key the most recently used one, and fetches it first if none is held or the closure says that the
     /// held one is stale.
     ///
-    /// The closure is called at the key and a held value. So it can ask the value's age, its version, or whether a file has
-    /// changed since. A stale value stays where the fetch fails, and where the new one is passed on.
+    /// The closure is called at the key and the held value. It can compare the value's age or version, or see whether a file
+    /// has changed. A stale value stays if the fetch fails, or if the new value is passed on.
     /// Cost: one hash and a walk along one chain; then that of a load, or for a stale value of a refresh.
     pub fn load_unless<F: FnMut(&K, &V) -> bool>(
         &mut self,

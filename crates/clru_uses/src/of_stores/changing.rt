@@ -32,7 +32,7 @@ impl Fetch<u64, u64, (), ByPromise> for Tickets {
     ghost same = { Prim.search (rules, comparing) };
 }
 
-/// The ticket of a page, by one load: its number is the page's or a greater one.
+/// Returns the ticket of a page, by one load: its number is the page's or a greater one.
 pub fn ticket_of<W: WeightScale<u64, u64>>(
     store: &mut Through<u64, u64, (), Tickets, DefaultState, W, Global, ByPromise>,
     page: u64,
@@ -42,7 +42,7 @@ pub fn ticket_of<W: WeightScale<u64, u64>>(
     given_of(store, page)
 }
 
-/// A value of a page, which keeps what is promised of it. Where one is held it is that one, and nothing is fetched.
+/// Returns a value of a page, which keeps what is promised of it. A held value is returned, and nothing is fetched.
 pub fn given_of<E, R: Fetch<u64, u64, E, M>, W: WeightScale<u64, u64>, M>(
     store: &mut Through<u64, u64, E, R, DefaultState, W, Global, M>,
     page: u64,

@@ -5,7 +5,7 @@ use clru::{CLruCache, DefaultState, NonZeroUsize, WeightScale};
 use clru_through::{Source, Through};
 use std::alloc::Global;
 
-/// An empty store before a source.
+/// Creates an empty store before a source.
 pub fn store_before<E, R: Source<u64, u64, E>>(
     alloc: Global,
     capacity: NonZeroUsize,
@@ -16,7 +16,7 @@ pub fn store_before<E, R: Source<u64, u64, E>>(
     Through::new(CLruCache::new(alloc, capacity), source)
 }
 
-/// A store that was taken apart and made again is the same.
+/// Takes a store apart and makes it again: it is the same.
 pub fn made_again<E: Drop, R: Source<u64, u64, E>, W: WeightScale<u64, u64>>(
     store: Through<u64, u64, E, R, DefaultState, W>,
 ) -> Through<u64, u64, E, R, DefaultState, W>

@@ -27,7 +27,7 @@ impl<E, R: Source<u64, u64, E>, W: WeightScale<u64, u64>> Source<u64, u64, E> fo
     ghost same = { λ tier. R.same tier.store.source };
 }
 
-/// The value of a page through two stores is that of the source behind both.
+/// Returns the value of a page through two stores: it is that of the source behind both.
 pub fn value_through_two<
     E,
     R: Source<u64, u64, E>,
