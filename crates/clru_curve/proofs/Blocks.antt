@@ -1,8 +1,7 @@
 -- Blocks of bits: their ones from a block on and from a bit on, and their numbers.
-use Rattle.std.proofs.Common.{◌≡◌, ◌≢◌, ℕ, zero, suc, ◌+◌, ◌*◌, ◌-◌, ◌/◌, ◌%◌, ◌^◌, ◌<◌, ◌≤◌, Bool, true, false, List, [], ◌∷◌, ◌++◌, length, get_or, set, take, inl, inr, refl, sym, ap, ◌∙◌, subst, arith, div-one}
+use Rattle.std.proofs.Common.{◌≡◌, ℕ, zero, suc, ◌+◌, ◌*◌, ◌-◌, ◌/◌, ◌^◌, ◌<◌, ◌≤◌, false, List, [], ◌∷◌, ◌++◌, length, set, take, inl, inr, refl, sym, ap, ◌∙◌, arith, div-one}
 use Rattle.std.proofs.lemmas.Bool.{cases_lt}
-use Rattle.std.proofs.lemmas.Nat.{shr-shr, mod_below, div-add-mod', shr_below, pow-add, pow_pos, div-mul-add}
-use Rattle.std.proofs.lemmas.List.{length_push}
+use Rattle.std.proofs.lemmas.Nat.{shr-shr, mod_below, div-add-mod', div-mul-add}
 use Rattle.std.specs.List.{filter}
 use Rattle.std.specs.Prelude.{count_ones}
 use Rattle.clru_model.proofs.Cases.{split}
@@ -10,7 +9,7 @@ use Rattle.clru_curve.specs.declared.numbered.Numbered.{Numbered}
 use Rattle.clru_curve.specs.Tree.{up_by, up_to, Falls}
 use Rattle.clru_curve.proofs.Bits.{ones-zero, ones_upper}
 use Rattle.clru_curve.proofs.Nodes.{falls_far}
-use Rattle.clru_curve.proofs.UpTo.{up_by-le, up_by-gt, up_to-le, up_to-gt}
+use Rattle.clru_curve.proofs.UpTo.{up_by-le, up_to-le, up_to-gt}
 use Rattle.clru_curve.specs.Latest.{blocks_from, ones_from}
 use Rattle.clru_curve.specs.Rising.{numbered, has_value, number_at, value_at, HasNumber, IsRising}
 use Rattle.clru_curve.proofs.Rising.{rising_at}

@@ -1,4 +1,4 @@
-use Rattle.std.proofs.Common.{◌≡◌, suc, ◌+◌, length, take, ◌∙◌, subst, arith}
+use Rattle.std.proofs.Common.{◌≡◌, suc, ◌+◌, take, ◌∙◌, subst, arith}
 use Rattle.clru_curve.specs.Latest.{blocks_from}
 use Rattle.clru_curve.specs.Tree.{IsCounted}
 use Rattle.clru_curve.proofs.Blocks.{blocks_from_take, take_fits}

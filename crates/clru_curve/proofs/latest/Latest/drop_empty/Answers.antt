@@ -1,8 +1,8 @@
-use Rattle.std.proofs.Common.{◌≡◌, ◌<◌, length, ap, ◌∙◌, subst, arith, rules}
+use Rattle.std.proofs.Common.{◌≡◌, length, ap, ◌∙◌, subst, arith, rules}
 use Rattle.std.proofs.lemmas.Fn.{filter_same}
 use Rattle.std.specs.List.{filter}
 use Rattle.clru_curve.specs.Latest.{blocks_from, ones_from}
-use Rattle.clru_curve.specs.Rising.{has_value, IsRising}
+use Rattle.clru_curve.specs.Rising.{has_value}
 use Rattle.clru_curve.specs.Tree.{IsCounted}
 use Rattle.clru_curve.proofs.Blocks.{blocks_from_filter, ones_from_filter}
 use Rattle.clru_curve.proofs.Rising.{length_filter, rising_filter}

@@ -1,4 +1,4 @@
-use Rattle.std.proofs.Common.{◌/◌, ◌%◌, sym, ap, ◌∙◌, subst, arith}
+use Rattle.std.proofs.Common.{◌/◌, ◌%◌, sym, ap, ◌∙◌, subst}
 use Rattle.clru_curve.specs.Latest.{ones_from}
 use Rattle.clru_curve.specs.Rising.{EndsAt, IsRising}
 use Rattle.clru_curve.proofs.Blocks.{ones_from_push}

@@ -1,4 +1,4 @@
-use Rattle.std.proofs.Common.{◌≡◌, suc, ◌+◌, ◌*◌, length, take, ◌∙◌, subst, arith}
+use Rattle.std.proofs.Common.{◌≡◌, suc, ◌+◌, ◌*◌, take, ◌∙◌, subst, arith}
 use Rattle.clru_curve.specs.LatestSizes.{sizes_from}
 use Rattle.clru_curve.specs.Tree.{IsCounted}
 use Rattle.clru_curve.proofs.Counted.{IsCounted-same}

@@ -3,7 +3,7 @@ use Rattle.std.specs.Map.{set_value}
 use Rattle.clru.specs.Cache.{with_entries}
 use Rattle.clru_model.proofs.Forms.{form_is}
 use Rattle.clru_curve.proofs.Forms.{key_at, found_as}
-use Rattle.clru_curve.proofs.LatestSizes.{total_zero, removed_less, total_push, grown_less, moved_lives, moved_totals, moved_less}
+use Rattle.clru_curve.proofs.LatestSizes.{total_zero, removed_less, moved_lives, moved_totals, moved_less}
 use Rattle.clru_curve.proofs.SizedPassing.{IsSizedPass-again, IsSoundBySize-again, span_none, span_some, size_there}
 use Rattle.clru_curve.specs.LatestSizes.{sizes_from, total_from, live_from, IsRemoved, IsSummed}
 use Rattle.clru_curve.specs.Rising.{numbered}

@@ -1,4 +1,4 @@
-use Rattle.std.proofs.Common.{◌∙◌, subst}
+use Rattle.std.proofs.Common.{subst}
 use Rattle.clru_curve.proofs.SizedPassing.{IsSizedPass-none, IsSoundBySize-none}
 use Rattle.clru_curve.specs.LatestSizes.{IsSummed}
 use Rattle.clru_curve.proofs.sized.pass.SizedPass.with_hasher.Goals as goal

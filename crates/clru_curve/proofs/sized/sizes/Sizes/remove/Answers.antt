@@ -1,4 +1,4 @@
-use Rattle.std.proofs.Common.{◌≡◌, suc, ◌*◌, ◌<◌, length, set, refl, sym, ap, ◌∙◌, subst, arith}
+use Rattle.std.proofs.Common.{◌≡◌, ◌*◌, ◌<◌, length, set, refl, sym, ap, ◌∙◌, subst, arith}
 use Rattle.clru_curve.specs.LatestSizes.{sizes_from, total_from}
 use Rattle.clru_curve.specs.Rising.{numbered, number_at, value_at, HasNumber}
 use Rattle.clru_curve.proofs.Latests.{written_back, block_read}
@@ -16,8 +16,7 @@ subtract_at-requires-clause-counted g c =
     let p = c.args.request in let i = c.place_of-at.result in let kept = c.requires.kept in
     let inside : i < length ss = omega (arith, c.place_of-at.ensures.inside, ap (λ l. length l) c.deref.ensures.value) in
     let word = block_read ss i i c.index.result.now refl inside c.index.ensures in
-    let size = ap (λ b. b.value) word in
-    (
+    let size = ap (λ b. b.value) word in (
       λ j. sizes_from (set ss i (numbered (number_at ss i) 0)) (16 * j),
       (
         λ j. blocks_fall (set ss i (numbered (number_at ss i) 0)) j,
