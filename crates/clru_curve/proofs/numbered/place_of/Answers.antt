@@ -1,13 +1,13 @@
 use Rattle.std.proofs.Common.{◌≡◌, ◌+◌, ◌-◌, ◌/◌, ◌<◌, inl, inr, ap, arith}
 use Rattle.std.proofs.lemmas.Bool.{cases_lt}
 use Rattle.std.proofs.lemmas.Nat.{div-add-mod', mod_below}
-use Rattle.clru_curve.specs.Latest.{number_at}
-use Rattle.clru_curve.proofs.Blocks.{rising_order}
-use Rattle.clru_curve.proofs.latest.block_at.Goals as goal
+use Rattle.clru_curve.specs.Rising.{number_at}
+use Rattle.clru_curve.proofs.Rising.{rising_order}
+use Rattle.clru_curve.proofs.numbered.place_of.Goals as goal
 
-pub loop-end-preserved-then-blocks-middle : goal.loop-end-preserved-then-blocks-middle
-loop-end-preserved-then-blocks-middle c =
-    let bs = c.args.blocks.now in let d = c.loop-end.end - c.loop-end.first in let m = c.loop-end.first + d / 2 in
+pub loop-end-preserved-then-values-middle : goal.loop-end-preserved-then-values-middle
+loop-end-preserved-then-values-middle c =
+    let bs = c.args.values.now in let d = c.loop-end.end - c.loop-end.first in let m = c.loop-end.first + d / 2 in
     let whole = div-add-mod' d 2 in let low = mod_below d 2 (omega arith) in
     let before : m < c.loop-end.end = omega (arith, whole, low, c.loop-end-test.true) in
     record {
@@ -18,7 +18,7 @@ loop-end-preserved-then-blocks-middle c =
             elim (cases_lt i m) [
               | inl lt ↦
                   let less = rising_order 0 bs c.requires.rising.0 i m c.requires.rising.1 lt (omega (arith, before, c.loop-end.invariant.within)) in
-                  absurd (omega (arith, less, same, c.if-blocks-middle.true))
+                  absurd (omega (arith, less, same, c.if-values-middle.true))
               | inr le ↦ le
             ],
             is.1,
@@ -27,7 +27,7 @@ loop-end-preserved-then-blocks-middle c =
 
 pub loop-end-preserved : goal.loop-end-preserved
 loop-end-preserved c =
-    let bs = c.args.blocks.now in let d = c.loop-end.end - c.loop-end.first in let m = c.loop-end.first + d / 2 in
+    let bs = c.args.values.now in let d = c.loop-end.end - c.loop-end.first in let m = c.loop-end.first + d / 2 in
     let whole = div-add-mod' d 2 in let low = mod_below d 2 (omega arith) in
     let before : m < c.loop-end.end = omega (arith, whole, low, c.loop-end-test.true) in
     let after : c.loop-end.first < m = omega (arith, whole, low, c.loop-end-test.true) in
@@ -42,10 +42,10 @@ loop-end-preserved c =
               | inr le ↦ elim (cases_lt m i) [
                 | inl gt ↦
                     let less = rising_order 0 bs c.requires.rising.0 m i c.requires.rising.1 gt inside in
-                    absurd (omega (arith, less, same, c.if-blocks-middle.false))
+                    absurd (omega (arith, less, same, c.if-values-middle.false))
                 | inr ge ↦
                     let here : m ≡ i = omega (arith, le, ge) in
-                    absurd (omega (arith, ap (number_at bs) here, same, c.if-blocks-middle.false))
+                    absurd (omega (arith, ap (number_at bs) here, same, c.if-values-middle.false))
               ]
             ],
           );
