@@ -45,12 +45,12 @@ counted_more n lines line size more pass next of sized sum taken = record {
 
 module _ (kept : List (List ℕ)) (curve : CurveBySize) (is : IsSizedCurveOf bytes_eq weight_of_line kept curve) where
   -- the capacities that the curve answers are those at which kept lines have rows
-  pub rows_kept : {A : Type 0} (options : Options A) (rows : List SizedRow)
-      → AreRowsOf curve (filter (λ c. nat_le (1 + curve.greatest_weight) c) (capacities_on curve options.capacities)) rows
-      → AreSizedRows kept (sized_capacities_of_sample options kept) rows
-  rows_kept options rows t = (
-    t.0 ∙ ap (λ g. filter (λ c. nat_le g c) (capacities_on curve options.capacities)) (greatest_is kept curve is)
-        ∙ ap (filter (λ c. nat_le (greatest_size kept) c)) (capacities_are kept curve is options.capacities),
+  pub rows_kept : {A : Type 0} (options : Options A) (table : List ℕ) (rows : List SizedRow)
+      → AreRowsOf curve (filter (λ c. nat_le (1 + curve.greatest_weight) c) (capacities_on curve options.capacities table)) rows
+      → AreSizedRows kept (sized_capacities_of_sample options kept table) rows
+  rows_kept options table rows t = (
+    t.0 ∙ ap (λ g. filter (λ c. nat_le g c) (capacities_on curve options.capacities table)) (greatest_is kept curve is)
+        ∙ ap (filter (λ c. nat_le (greatest_size kept) c)) (capacities_are kept curve is options.capacities table),
     All-weaker (IsRowOf curve) (IsSizedRow kept) (row_is kept curve is) rows t.1,
   )
 

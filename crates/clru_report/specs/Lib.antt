@@ -2,14 +2,15 @@ pub mod Arguments
 pub mod Capacities
 pub mod Choices
 pub mod CommandLine
+pub mod Faithful
 pub mod Faults
 pub mod Knees
 pub mod Passes
 pub mod Refusals
 pub mod Report
 pub mod Samples
+pub mod Scans
 pub mod SizedReport
 pub mod SizedTables
 pub mod Sizes
-pub mod Steps
 pub mod Tables

@@ -7,16 +7,16 @@ clru_mrc computes how many requests an LRU cache of each capacity would miss.
 Give it requests on standard input, one a line: the key is the line's bytes.
 It writes a table as CSV: capacity, misses, misses as a part of all requests,
 misses saved for each key since the row before (with --sizes missed bytes for
-each byte), and 1 if misses fall steeply just before this row. The mark depends
-on which rows are shown.
+each byte), and 1 if misses fall steeply just before this row, whichever rows
+are shown. Between the usual rows you may interpolate.
 
     awk '{ print $7 }' access.log | clru_mrc
     awk '{ print $7 }' access.log | clru_mrc --least --svg > curve.svg
     awk '$9 == 200 && $10 != \"-\" { print $10, $7 }' access.log | clru_mrc --sizes
 
     --at N,N,..  these capacities, in keys; else 1, 2, 5, 10, 20, 50 ..
-                 up to the number of distinct keys, and the knees; a number may
-                 end with K, M, G, KiB, MiB or GiB
+                 up to the number of distinct keys, and where falls begin and
+                 end; a number may end with K, M, G, KiB, MiB or GiB
     --all        each capacity at which the misses fall
     --sizes      each line begins with the object's size and a blank, and is the
                  key as a whole; capacities are in bytes, from the greatest

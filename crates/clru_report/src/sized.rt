@@ -3,13 +3,13 @@ ghost use Rattle.std.specs.Prelude.{◌≡◌, ℕ, List, true, false, IfOk, IfE
 ghost use Rattle.clru_lines.specs.Lines.{lines_of};
 ghost use Rattle.clru_report.specs.Faults.{is_of_writing};
 ghost use Rattle.clru_lines.specs.Whole.{ReadWhole};
-ghost use Rattle.clru_report.specs.Passes.{capacities_on, IsOfCapacities, IsSettled, IsSizedCurveOfKept, IsTableOf};
+ghost use Rattle.clru_report.specs.Passes.{IsOfAsked, IsSettled, IsSizedCurveOfKept, IsTableOf};
 ghost use Rattle.clru_report.specs.Refusals.{is_of_input, IsRefusedBy, IsRefusedFor};
 ghost use Rattle.clru_report.specs.SizedReport.{IsReportBySize, IsReportBySizeOf};
 ghost use Rattle.clru_report.specs.Tables.{HasTable};
 
 mod capacities;
-mod knees;
+mod faithful;
 mod line;
 mod pass;
 mod rows;
@@ -20,6 +20,7 @@ use crate::options::{Capacities, Form, Look, Options, Sample};
 use crate::picture::picture_by_size;
 use crate::sample::times;
 pub(crate) use capacities::first_capacity;
+use capacities::sized_usual_table;
 use clru_curve::SizedCurve;
 use clru_lines::Fault;
 pub use line::size_of;
@@ -160,12 +161,15 @@ fn sized_table_for<A: Allocator + Copy>(
     curve: &SizedCurve<A>,
 ) -> Result<String<A>, Fault>
     requires { IsSettled curve.now }
-    ensures table { IfOk result (λ text.
-        IsTableOf curve.now (capacities_on curve.now capacities.now) (string_bytes text)) }
-    ensures refused { IfErr result (λ fault. IsOfCapacities curve.now fault (capacities_on curve.now capacities.now)) }
+    ensures table { IfOk result (λ text. IsTableOf curve.now capacities.now (string_bytes text)) }
+    ensures refused { IfErr result (λ fault. is_of_input fault ≡ true → IsOfAsked curve.now fault capacities.now) }
+    ensures fault { IfErr result (λ fault. is_of_writing fault ≡ false) }
 {
-    let rows = sized_rows_for(alloc, curve, capacities)?;
-    match sized_table_of(alloc, &rows, curve.requests(), curve.size()) {
+    let Ok(table) = sized_usual_table(alloc, curve, curve.size()) else {
+        return Err(Fault::Memory);
+    };
+    let rows = sized_rows_for(alloc, curve, capacities, &table.capacities)?;
+    match sized_table_of(alloc, &rows, &table.knees, curve.requests(), curve.size()) {
         Ok(text) => Ok(text),
         Err(_) => Err(Fault::Memory),
     }
@@ -180,8 +184,9 @@ fn sized_picture_for<A: Allocator + Copy>(
 ) -> Result<String<A>, Fault>
     requires { IsSettled curve.now }
     ensures picture { IfOk result (λ text. (table : List ℕ)
-        × IsTableOf curve.now (capacities_on curve.now capacities.now) table × HasTable table (string_bytes text)) }
-    ensures refused { IfErr result (λ fault. IsOfCapacities curve.now fault (capacities_on curve.now capacities.now)) }
+        × IsTableOf curve.now capacities.now table × HasTable table (string_bytes text)) }
+    ensures refused { IfErr result (λ fault. is_of_input fault ≡ true → IsOfAsked curve.now fault capacities.now) }
+    ensures fault { IfErr result (λ fault. is_of_writing fault ≡ false) }
 {
     let table = sized_table_for(alloc, capacities, curve)?;
     let totals = Totals {
