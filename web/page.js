@@ -14,6 +14,7 @@ const FORMS = {
     commas: { name: "Columns, commas between (CSV)", split: "commas" },
     tabs: { name: "Columns, tabs between (TSV)", split: "tabs" },
     blanks: { name: "Columns, blanks between", split: "blanks" },
+    json: { name: "JSON, an object a line", split: "json" },
     lines: { name: "Each line as it is", split: null },
 };
 
@@ -24,6 +25,8 @@ let form = FORMS.lines;
 let asked = null;
 let report = null;
 let marks = null;
+// Whether a click holds the mark where it is.
+let pinned = false;
 // Runs are counted, so that what an earlier one still answers is let go.
 let turn = 0;
 let stopped = false;
@@ -47,6 +50,8 @@ const ANSWERS = {
     sampled(lines) { $("sample").textContent = lines.join("\n").trimEnd() || "(nothing: no line has these columns)"; },
     progress: showProgress,
     cut(cut) { asked.cut = cut; },
+    nothing() { showFault("No request is left to count.", notes(asked.cut).join(" ")); },
+    estimate(estimate) { asked.estimate = estimate; },
     report: showReport,
     marks: showMarks,
     fault({ kind, words }) {
@@ -95,11 +100,22 @@ function showHead(head) {
     }
     const guessed = guess();
     $("form").value = guessed;
-    $("seen").textContent = `${file.name}, ${bytesOf(file.size)}${head.packed ? ", packed by gzip" : ""}.` +
-        (head.lines.length ? " It begins:" : " It is empty.");
+    $("seen").textContent = `${file.name}, ${bytesOf(file.size)}${head.packed ? ", packed by gzip" : ""}. ${looksLike(guessed)}`;
     show("settings", true);
     takeForm(guessed);
     enter("ready");
+}
+
+// What the first lines look like, in words.
+function looksLike(guessed) {
+    const first = looked.lines[0]?.text;
+    if (first === undefined) return "It is empty.";
+    const begins = " It begins:";
+    if (guessed !== "lines") return `It looks like this: ${FORMS[guessed].name}.${begins}`;
+    if (/^\s*[[{]/.test(first)) return `It looks like JSON, but not with an object on each line, as jq -c writes it.${begins}`;
+    if (/^\s*</.test(first)) return `It looks like HTML or XML, and not like a log.${begins}`;
+    if (looked.lines.some(({ text }) => /[\0\ufffd]/.test(text))) return `It does not look like text.${begins}`;
+    return `Each line is taken as it is.${begins}`;
 }
 
 const isNumber = (word) => /^"?\d+"?$/.test(word);
@@ -112,6 +128,7 @@ function guess() {
     if (most("blanks", (it) => /^\[/.test(it[4]) && /^"/.test(it[6]))) return "vhost";
     if (most("blanks", (it) => /^\d+\.\d+$/.test(it[0]) && /^\w+\/\d{3}$/.test(it[3]))) return "squid";
     if (most("tabs", (it) => it.length > 15 && /^\d{4}-\d\d-\d\d$/.test(it[0]))) return "cloudfront";
+    if (most("json", (it) => it.length > 0)) return "json";
     const even = (split) => {
         const counts = new Set(lines.map(({ columns }) => columns[split].length));
         return counts.size === 1 && !counts.has(0) && !counts.has(1);
@@ -129,17 +146,21 @@ function takeForm(name) {
     form = FORMS[name];
     const columns = form.split ? looked.lines.map((line) => line.columns[form.split]) : [];
     const isColumns = form.split !== null && !form.keys;
-    const [first = [], second = []] = columns;
-    $("heading").checked = isColumns && !first.some(isNumber) && second.some(isNumber);
-    const suggested = isColumns ? suggestedColumns($("heading").checked ? first : [], $("heading").checked ? second : first) : form;
-    $("keys").value = suggested.keys || "";
-    $("size").value = suggested.size || "";
+    const [first = [], second = []] = name === "json" ? [looked.fields, ...columns] : columns;
+    const isNamed = name === "json" || (isColumns && !first.some(isNumber) && second.some(isNumber));
+    $("heading").checked = isNamed && name !== "json";
+    const suggested = isColumns ? suggestedColumns(isNamed ? first : [], isNamed ? second : first) : form;
+    const named = (column) => (name === "json" && looked.fields[column - 1]) || column || "";
+    $("keys").value = named(suggested.keys);
+    $("size").value = named(suggested.size);
+    $("keys-hint").textContent = `A click on a column's ${name === "json" ? "name" : "number"} takes it as the key. ` +
+        `Several columns, as ${name === "json" ? "host,uri" : "1,8"}, are joined with a blank between.`;
     $("sizes").checked = name === "lines" && looked.lines.length > 0 && looked.lines.every(isSized);
     $("answered").checked = form.method > 0;
     $("queries").checked = false;
     for (const id of ["keys-label", "keys-hint", "queries-label"]) show(id, form.split !== null);
     show("answered-label", form.method > 0);
-    show("heading-label", isColumns);
+    show("heading-label", isColumns && name !== "json");
     showColumns();
     const key = $("head").querySelector("th.key");
     if (key) $("head-frame").scrollLeft = key.offsetLeft + key.offsetWidth / 2 - $("head-frame").clientWidth / 2;
@@ -149,25 +170,30 @@ function takeForm(name) {
 function suggestedColumns(names, values) {
     const column = (words, holds) => words.findIndex((word, i) => holds(word, i + 1)) + 1;
     let size = column(names, (name) => /size|bytes|length/i.test(name));
-    const key = column(names, (name, i) => i !== size && /key|ur[il]|path|page|obj|item|\bid\b|_id/i.test(name)) ||
+    const isKey = (words) => column(names, (name, i) => i !== size && words.test(name));
+    const key = isKey(/ur[il]$|^path|[._]path$/i) || isKey(/key|ur[il]|path|page|obj|item|\bid\b|_id/i) ||
         column(values, (value, i) => i !== size && !/^"?[\d.]*"?$/.test(value)) || Math.min(2, values.length);
     size ||= column(values, (value, i) => i > key && isNumber(value));
     return { keys: String(key), size: String(size || "") };
 }
 
-const chosenKeys = () => $("keys").value.split(",").map((part) => Number(part.trim()));
-const chosenSize = () => ($("sizes").checked ? Number($("size").value.trim()) : 0);
+// A column by its number, or a field of JSON by its name.
+const columnOf = (word) => (form.split === "json" && looked.fields.indexOf(word.trim()) + 1) || Number(word.trim());
+const chosenKeys = () => $("keys").value.split(",").map(columnOf);
+const chosenSize = () => ($("sizes").checked ? columnOf($("size").value) : 0);
 
 // Which columns are wanted and where they stand; null where a field is no number of a column.
 function cutOf() {
     if (!form.split) return { split: null };
     const [keys, size] = [chosenKeys(), chosenSize()];
-    const isColumn = (column) => Number.isInteger(column) && column > 0 && column <= 200;
+    const most = form.split === "json" ? looked.fields.length : 200;
+    const isColumn = (column) => Number.isInteger(column) && column > 0 && column <= most;
     if (!keys.every(isColumn) || ($("sizes").checked && !isColumn(size))) return null;
     const answers = $("answered").checked && form.method ? (size ? ["200"] : ["200", "304"]) : [];
     return {
         split: form.split, keys, size, answers, method: form.method || 0, status: form.status || 0,
         heading: $("heading").checked && !form.keys, comments: Boolean(form.comments), queries: $("queries").checked,
+        fields: form.split === "json" ? looked.fields : [],
     };
 }
 
@@ -179,10 +205,20 @@ function showColumns() {
     $("least").disabled = !canLeast;
     $("least-words").classList.toggle("off", !canLeast);
     $("least-words").textContent = canLeast ? "The least possible misses as well" : "The least possible misses: not by bytes";
+    $("floor-words").textContent = canLeast ? "A floor for every policy as well" : "Floors for every policy as well: of misses and of missed bytes";
     $("answered-words").textContent = canLeast ? "Only GET answered with 200 or 304" : "Only GET answered with 200";
     $("head").replaceChildren(...(form.split ? headByColumns(cut) : headByLines()));
     if (cut) worker.postMessage({ sample: cut });
     else $("sample").textContent = "(name columns by their numbers)";
+    markStale();
+}
+
+// Whether the curve that is shown is one of other settings.
+const settings = () => JSON.stringify([cutOf(), wordsOf()]);
+
+function markStale() {
+    show("long-hint", $("all").checked && $("least").checked && !$("sizes").checked);
+    show("stale", report !== null && asked.settings !== settings());
 }
 
 function element(name, text, ...classes) {
@@ -200,17 +236,19 @@ function headByLines() {
 
 function headByColumns(cut) {
     const lines = looked.lines.map((line) => line.columns[form.split]);
-    const count = Math.max(0, ...lines.map((line) => line.length));
+    const names = form.split === "json" ? looked.fields : [];
+    const count = Math.max(names.length, ...lines.map((line) => line.length));
     const classOf = (column) => (cut?.keys.includes(column) ? "key" : cut?.size === column ? "size" : "");
     const [top, body] = [document.createElement("thead"), document.createElement("tbody")];
     const row = top.insertRow();
     for (let column = 1; column <= count; column++) {
         const cell = element("th", "", classOf(column));
-        const button = element("button", { key: `${column} key`, size: `${column} size` }[classOf(column)] || String(column));
+        const name = names[column - 1] ?? String(column);
+        const button = element("button", { key: `${name} key`, size: `${name} size` }[classOf(column)] || name);
         button.type = "button";
-        button.ariaLabel = `Take column ${column} as the key`;
+        button.ariaLabel = `Take ${names.length ? "field" : "column"} ${name} as the key`;
         button.onclick = () => {
-            $("keys").value = column;
+            $("keys").value = name;
             showColumns();
             $("head").querySelectorAll("button")[column - 1].focus();
         };
@@ -234,6 +272,7 @@ function wordsOf() {
     if ($("all").checked) words.push("--all");
     if ($("sizes").checked) words.push("--sizes");
     if ($("least").checked && !$("sizes").checked) words.push("--least");
+    if ($("floor").checked) words.push("--floor");
     return words;
 }
 
@@ -245,7 +284,7 @@ function run(event) {
         showFault("A column is a number from 1 on.", "Look at the fields of columns.");
         return;
     }
-    asked = { cut: null, words: wordsOf(), command: commandOf(cut, wordsOf()), clock: asked?.clock };
+    asked = { cut: null, words: wordsOf(), command: commandOf(cut, wordsOf()), settings: settings(), clock: asked?.clock };
     showProgress({ read: 0, size: file.size });
     // (the worker ends what it does for the last mark first)
     if (isBusy()) $("state").textContent = "Waiting for the last run to end";
@@ -276,16 +315,29 @@ function showProgress(progress) {
     }
     bar.removeAttribute("value");
     const begun = performance.now();
-    const tell = () => { $("state").textContent = `Counting, for ${Math.round((performance.now() - begun) / 1000)} s`; };
+    const tell = () => {
+        const seconds = (performance.now() - begun) / 1000;
+        $("state").textContent = `Counting, for ${Math.round(seconds)} s${wholeTime()}`;
+        if (asked.estimate) [bar.max, bar.value] = [asked.estimate.seconds, Math.min(seconds, asked.estimate.seconds)];
+    };
     tell();
     asked.clock = setInterval(tell, 1000);
 }
 
-const UNITS = ["bytes", "KiB", "MiB", "GiB", "TiB", "PiB"];
+// How long the least takes at each capacity, once that is known.
+function wholeTime() {
+    if (!asked.estimate) return "";
+    const { rows, seconds } = asked.estimate;
+    const time = seconds < 90 ? `${Math.round(seconds)} s` : seconds < 5400 ? `${Math.round(seconds / 60)} minutes` : `${Math.round(seconds / 3600)} hours`;
+    return `: the least possible at ${number(rows)} capacities takes about ${time} in all`;
+}
+
+// Powers of 1,000, as in the picture.
+const UNITS = ["bytes", "kB", "MB", "GB", "TB", "PB"];
 
 function bytesOf(count) {
     let unit = 0;
-    while (count >= 1024 && unit < UNITS.length - 1) [count, unit] = [count / 1024, unit + 1];
+    while (count >= 1000 && unit < UNITS.length - 1) [count, unit] = [count / 1000, unit + 1];
     return `${unit && count < 100 ? count.toFixed(1) : number(Math.round(count))} ${UNITS[unit]}`;
 }
 
@@ -302,24 +354,27 @@ function showReport(answered) {
     $("svg").textContent = report.svg;
     $("csv").textContent = report.csv;
     $("command").textContent = asked.command;
+    $("copy").textContent = COPY;
     $("notes").textContent = notes(asked.cut).join("\n");
     $("state").textContent = `Done: read in ${answered.seconds[0]} s, counted in ${answered.seconds[1]} s.`;
     showRows();
     for (const id of ["mark", "slide", "mark-hint"]) show(id, false);
     $("says").textContent = "";
     show("result", true);
+    markStale();
     enter("drawn");
 }
 
 const MOST_ROWS = 1000;
 const HEADINGS = {
     capacity: "Capacity", misses: "Misses", miss_ratio: "Miss ratio", least_misses: "Least possible", missed_bytes: "Missed bytes",
-    byte_miss_ratio: "Byte miss ratio", saved_per_key: "Saved per key", saved_per_byte: "Saved per byte", knee: "Knee",
+    floor_misses: "Floor", floor_missed_bytes: "Floor of bytes", byte_miss_ratio: "Byte miss ratio", saved_per_key: "Saved per key", saved_per_byte: "Saved per byte", knee: "Knee",
 };
 
-// A number as the table shows it: whole ones by thousands, a knee by a mark.
+// A number as the table shows it: whole ones by thousands, what is saved by three digits, a knee by a mark.
 function shown(name, word) {
     if (name === "knee") return word === "1" ? "\u2022" : "";
+    if (name.startsWith("saved")) return Number(word) < 100 ? String(Number(Number(word).toPrecision(3))) : number(Math.round(word));
     return word.includes(".") ? word : word.replace(/\B(?=(\d{3})+$)/g, ",");
 }
 
@@ -342,7 +397,7 @@ function notes(cut) {
     const said = [];
     const many = (count, one, more) => `${number(count)} of ${number(cut.lines)} lines ${count === 1 ? one : more}`;
     const { short = 0, sizeless = 0, answered = 0 } = cut.left || {};
-    if (short) said.push(`${many(short, "has", "have")} fewer columns, and ${short === 1 ? "is" : "are"} left out.`);
+    if (short) said.push(`${many(short, "lacks", "lack")} a column that is read, and ${short === 1 ? "is" : "are"} left out.`);
     if (answered) said.push(`${many(answered, "is", "are")} no GET with such an answer, and left out.`);
     if (sizeless) said.push(`${many(sizeless, "has", "have")} no size but -, and ${sizeless === 1 ? "is" : "are"} left out.`);
     const { lines = 0, empty = 0, returns = 0, zeros = 0 } = cut.odd || {};
@@ -386,17 +441,43 @@ const UNREAD = {
 
 // --- The same in a terminal ----------------------------------------------------------------------------------------------------
 
+const COPY = "Copy the command";
+
+// (a page that is a file may have no clipboard but that of the selection)
+async function copy() {
+    const { textContent: text } = $("command");
+    try {
+        await navigator.clipboard.writeText(text);
+    } catch {
+        getSelection().selectAllChildren($("command"));
+        document.execCommand("copy");
+    }
+    $("copy").textContent = "Copied";
+}
+
 const quoted = (word) => (/^[\w./,:+-]+$/.test(word) && !word.startsWith("-") ? word : `'${word.replace(/'/g, "'\\''")}'`);
 
 function commandOf(cut, words) {
     const name = quoted(file.name);
     const asks = ["clru_mrc", ...words.map((word) => (word.startsWith("--") ? word : quoted(word)))].join(" ");
     if (!cut.split) return looked.packed ? `zcat < ${name} | ${asks}` : `${asks} < ${name}`;
+    if (cut.split === "json") return (looked.packed ? `zcat < ${name} | ` : "") + `jq -Rr '${jqOf(cut)}'${looked.packed ? "" : ` < ${name}`} | ${asks}`;
     const hasQuotes = cut.split === "commas" && looked.lines.some(({ text }) => text.includes('"'));
     const unknown = hasQuotes ? "\n# (awk takes a comma in quotes for the end of a column)" : "";
     const awk = `awk ${{ blanks: "", tabs: "-F'\\t' ", commas: "-F, " }[cut.split]}'${awkOf(cut)}'`;
     const path = name.startsWith("-") || name.includes("=") ? `./${name}` : name;
     return (looked.packed ? `zcat < ${name} | ${awk} | ${asks}` : `${awk} ${path} | ${asks}`) + unknown;
+}
+
+// A field of JSON by its names, one in the other, as text in which a newline is a blank.
+function jqOf({ keys, size, fields, queries }) {
+    const path = (column) => `.${fields[column - 1].split(".").map((name) => JSON.stringify(name).replace(/'/g, "'\\''")).join(".")}`;
+    const text = 'tostring | gsub("\\n"; " ")';
+    const parts = keys.map((column) => `(${path(column)} | ${text}${queries ? ' | sub("\\\\?.*"; "")' : ""})`);
+    if (size) parts.unshift(`(${path(size)} | ${text})`);
+    const tests = [...keys, ...(size ? [size] : [])].map((column) => `${path(column)} != null`);
+    if (size) tests.push(`${path(size)} != "-"`);
+    return `fromjson? | objects | select(${tests.join(" and ")}) | [${parts.join(", ")}] | join(" ")`;
 }
 
 function awkOf({ split, keys, size, method, status, answers, heading, comments, queries }) {
@@ -408,7 +489,7 @@ function awkOf({ split, keys, size, method, status, answers, heading, comments, 
     }
     if (size) tests.push(`$${size} != "-"`);
     const cuts = queries ? keys.map((key) => `sub(/\\?.*/, "", $${key}); `).join("") : "";
-    const key = keys.map((column) => `$${column}`).join(" ");
+    const key = keys.map((column) => `$${column}`).join(", ");
     const returns = looked.lines.some((line) => line.returns) && split ? '{ sub(/\\r$/, "") } ' : "";
     return `${returns}${tests.filter(Boolean).join(" && ")} { ${cuts}print ${size ? `$${size}, ` : ""}${key} }`;
 }
@@ -429,6 +510,11 @@ function showMarks(found) {
     marks = found;
     for (const id of ["mark", "slide", "mark-hint"]) show(id, found !== null);
     if (!found) return;
+    pin(false);
+    const hits = found.requests - found.rows.at(-1)[1];
+    if (found.requests >= 1000 && hits * 100 < found.requests) {
+        $("notes").append(`\nOnly ${number(hits)} of ${number(found.requests)} requests hit, at any capacity: is the key a whole line, or does it have a time in it?`);
+    }
     const last = found.last > found.first ? found.last : found.first * 2;
     const [begin, length] = [logarithm(found.first), logarithm(last) - logarithm(found.first)];
     marks.across = found.rows.map(([capacity]) => LEFT + WIDTH * (logarithm(Math.min(capacity, last)) - begin) / length);
@@ -465,7 +551,7 @@ function say(capacity, misses, missedBytes) {
     const hits = requests - misses;
     const byBytes = missedBytes !== undefined;
     const unit = byBytes ? "bytes" : capacity === 1 ? "key" : "keys";
-    const rounded = byBytes && capacity >= 1024 ? ` (${bytesOf(capacity)})` : "";
+    const rounded = byBytes && capacity >= 1000 ? ` (${bytesOf(capacity)})` : "";
     const parts = [bold(`${number(capacity)} ${unit}${rounded}`), ": hit ratio ", bold(percent(hits, requests)), ", "];
     parts.push(bold(number(hits)), ` ${hits === 1 ? "miss" : "misses"} saved of ${number(requests)}`);
     if (byBytes) {
@@ -487,10 +573,28 @@ function nearest(x) {
     return low > 0 && x - marks.across[low - 1] < marks.across[low] - x ? low - 1 : low;
 }
 
-function follow(event) {
-    if (!marks) return;
+const pointedAt = (event) => {
     const { left, width } = $("plot").getBoundingClientRect();
-    moveTo(nearest((event.clientX - left) / width * 8000));
+    return nearest((event.clientX - left) / width * 8000);
+};
+
+function follow(event) {
+    if (marks && !pinned) moveTo(pointedAt(event));
+}
+
+// A click holds the mark there, and one at the held mark lets it go.
+function pin(held) {
+    pinned = held;
+    $("mark").classList.toggle("pinned", held);
+    $("pin-hint").textContent = held ? "It is pinned: click on it once more to let it go." : "A click pins it.";
+}
+
+function click(event) {
+    if (!marks) return;
+    const index = pointedAt(event);
+    const isThere = pinned && Math.abs(marks.across[index] - marks.across[marks.index]) < 120;
+    moveTo(index);
+    pin(!isThere);
 }
 
 const STEPS = { ArrowLeft: -1, ArrowDown: -1, ArrowRight: 1, ArrowUp: 1, PageDown: -20, PageUp: 20, Home: -Infinity, End: Infinity };
@@ -541,11 +645,13 @@ function begin() {
     };
     $("form").onchange = () => takeForm($("form").value);
     for (const id of ["keys", "size", "sizes", "heading", "answered", "queries"]) $(id).oninput = showColumns;
+    for (const id of ["at", "all", "least"]) $(id).oninput = markStale;
+    $("copy").onclick = copy;
     $("settings").onsubmit = run;
     $("stop").onclick = stop;
     $("plot").onpointermove = follow;
     $("plot").onpointerdown = (event) => {
-        follow(event);
+        click(event);
         $("slider").focus({ preventScroll: true });
         event.preventDefault();
     };

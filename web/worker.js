@@ -2,9 +2,10 @@
 // Reads a log, cuts its lines, and runs the program over what it cut, beside the page, which so stays alive.
 //
 // Messages to it: {module}, first of all; {look: file}, {sample: cut} and {run: {turn, file, cut, words}}. It answers with
-// {looked}, {sampled}, {progress}, {cut}, {report}, {marks} and {fault}, each of which the page knows by its name; those of a run have
-// its turn beside them.
-// A cut is {split, keys, size, heading, comments, method, status, answers, queries}: columns are counted from 1, 0 stands for none.
+// {looked}, {sampled}, {progress}, {cut}, {nothing}, {estimate}, {report}, {marks} and {fault}, each of which the page knows by its name;
+// those of a run have its turn beside them.
+// A cut is {split, keys, size, heading, comments, method, status, answers, queries, fields}: columns are counted from 1, 0 stands for
+// none; of JSON they are those of the fields.
 
 const CHUNK = 8 << 20;
 const HEAD = 256 << 10;
@@ -187,7 +188,11 @@ class Cutter {
             }
             this.out[this.used++] = BLANK;
         }
-        for (const key of cut.keys) this.writeKey(bytes, begins[key - 1], ends[key - 1]);
+        // (a blank between columns, or different ones could make one key)
+        cut.keys.forEach((key, i) => {
+            if (i > 0) this.out[this.used++] = BLANK;
+            this.writeKey(bytes, begins[key - 1], ends[key - 1]);
+        });
         this.out[this.used++] = NEWLINE;
     }
 
@@ -230,6 +235,49 @@ class Cutter {
         if (to - from === 1 && bytes[from] === DASH) return false;
         for (let at = from; at < to; at++) this.out[this.used++] = bytes[at];
         return true;
+    }
+}
+
+// Fields of an object, and of those in it by both names with a point between; what is no object has none.
+function fieldsOf(text) {
+    const found = new Map();
+    const note = (object, before) => {
+        for (const [name, value] of Object.entries(object)) {
+            if (name.includes(".")) continue;
+            if (value !== null && typeof value === "object") Array.isArray(value) || note(value, `${before}${name}.`);
+            else if (value !== null) found.set(before + name, String(value).replaceAll("\n", " "));
+        }
+    };
+    try {
+        const object = JSON.parse(text);
+        if (object !== null && typeof object === "object" && !Array.isArray(object)) note(object, "");
+    } catch {
+        // (a line that is cut short)
+    }
+    return found;
+}
+
+// The same of lines of JSON.
+class JsonCutter extends Cutter {
+    line(bytes, from, to) {
+        const { cut } = this;
+        this.lines++;
+        const fields = fieldsOf(new TextDecoder().decode(bytes.subarray(from, to)));
+        const keys = cut.keys.map((key) => fields.get(cut.fields[key - 1]));
+        if (keys.includes(undefined)) {
+            this.left.short++;
+            return;
+        }
+        const size = cut.size ? fields.get(cut.fields[cut.size - 1]) : "";
+        if (size === undefined || size === "-") {
+            this.left.sizeless++;
+            return;
+        }
+        const key = keys.map((word) => (cut.queries ? word.replace(/\?.*/, "") : word)).join(" ");
+        const line = new TextEncoder().encode(`${cut.size ? `${size} ` : ""}${key}\n`);
+        this.room(line.length);
+        this.out.set(line, this.used);
+        this.used += line.length;
     }
 }
 
@@ -413,10 +461,12 @@ async function look(file) {
         if (returns) to--;
         const line = head.subarray(from, to);
         const columns = Object.fromEntries(Object.keys(SPLITTERS).map((split) => [split, columnsOf(line, split)]));
-        lines.push({ text: worded(line), returns, columns });
+        lines.push({ text: worded(line), returns, columns, fields: fieldsOf(worded(line)) });
         from = (next < 0 ? head.length : next) + 1;
     }
-    return { lines, packed: await isPacked(file) };
+    const fields = [...new Set(lines.flatMap((line) => [...line.fields.keys()]))];
+    for (const line of lines) line.columns.json = line.fields.size ? fields.map((name) => line.fields.get(name) ?? "") : [];
+    return { lines, fields, packed: await isPacked(file) };
 }
 
 // What is read of the first lines, cut as it is to be.
@@ -430,7 +480,10 @@ function sampleOf(cut) {
     return text.split("\n").slice(0, 5);
 }
 
-const readerOf = (cut, emit) => (cut.split ? new Cutter(cut, emit) : new Passer(emit));
+function readerOf(cut, emit) {
+    if (!cut.split) return new Passer(emit);
+    return cut.split === "json" ? new JsonCutter(cut, emit) : new Cutter(cut, emit);
+}
 
 // Takes the log into the memory of a fresh module, unless it is the one that is there already.
 async function readLog(file, cut, say) {
@@ -451,11 +504,29 @@ async function readLog(file, cut, say) {
     [program, held] = [fresh, wanted];
 }
 
+// How long the least takes at each capacity: the time of the others, and for each of these that of one with it, less that of one without.
+function estimateFor(program, words) {
+    const timed = (asked) => {
+        const begun = performance.now();
+        const { text } = program.ask(asked);
+        return { rows: rowsOf(text), seconds: (performance.now() - begun) / 1000 };
+    };
+    const { rows, seconds } = timed(words.filter((word) => word !== "--least"));
+    const [middle] = rows[rows.length >> 1] ?? [1];
+    const row = timed(["--at", String(middle), "--least"]).seconds - timed(["--at", String(middle)]).seconds;
+    return { rows: rows.length, seconds: seconds + rows.length * Math.max(0, row) };
+}
+
 async function run({ file, cut, words }, say) {
     const begun = performance.now();
     await readLog(file, cut, say);
     const read = performance.now();
     say({ cut: counts, progress: null });
+    if (!counts.bytes) {
+        say({ nothing: true });
+        return;
+    }
+    if (words.includes("--all") && words.includes("--least")) say({ estimate: estimateFor(program, words) });
     const report = program.ask([...words, "--svg"]);
     const seconds = [read - begun, performance.now() - read].map((time) => (time / 1000).toFixed(1));
     say({ report: { ...report, seconds, memory: program.memory.buffer.byteLength } });

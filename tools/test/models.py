@@ -243,6 +243,9 @@ class Cache:
 
     call_put_with_weight_handing_to = call_put_with_weight
 
+    def call_put_with_weight_dropping(self, key, value):
+        return self.call_put_with_weight(key, value).partition(", dropped")[0]
+
     def call_extend(self, *words):
         for key, value in zip(words[::2], words[1::2]):
             if not self.put(key, value)[0]:
@@ -363,7 +366,7 @@ class Cache:
             return self.pops(name)
         if name in ("front", "back"):
             return shown(self.end(name))
-        counts = {"len": len(self.pairs), "weight": self.weight(), "capacity": self.capacity, "bytes": self.places.bytes()}
+        counts = {"len": len(self.pairs), "weight": self.weight(), "size": self.size(), "capacity": self.capacity, "bytes": self.places.bytes()}
         flags = {"is_empty": not self.pairs, "is_full": self.size() == self.capacity}
         if name == "blocks":
             return f"{2 * len(self.pairs)} of pairs, {self.places.blocks()} of places"

@@ -16,8 +16,9 @@ use Rattle.clru.specs.declared.entry.EntryMut.{EntryMut}
 pub use Rattle.clru_model.proofs.Dropping.{length-weighted_drops}
 pub use Rattle.clru_model.proofs.EachEntry.{All-lookup, All-plain_put, All-touch, All-weighted_put, All-without}
 pub use Rattle.clru_model.proofs.Ends.{last_of-push}
+pub use Rattle.clru_model.proofs.Fronts.{first_key, plain_put-before}
 pub use Rattle.clru_model.proofs.GrowingAgedRuns.{CountedAgedRuns, CountedAgedRuns-push, IsAgedStep-fresh, IsAgedStep-stale}
-pub use Rattle.clru_model.proofs.GrowingRuns.{Runs, Runs-push, Runs-length, CountedRuns, CountedRuns-push}
+pub use Rattle.clru_model.proofs.GrowingRuns.{Runs, Runs-push, Runs-length, CountedRuns, CountedRuns-push, run_ends}
 pub use Rattle.clru_model.proofs.GrowingRuns.{DroppedRuns, DroppedRuns-none, DroppedRuns-push, marks_where-push}
 pub use Rattle.clru_model.proofs.GrowingRuns.{IsGetOr-held, IsGetOr-missed, touch-none}
 pub use Rattle.clru_model.proofs.Lookups.{length-touch, length-without, length-plain_put, missed-without}

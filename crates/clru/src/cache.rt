@@ -120,6 +120,18 @@ where
         self.total
     }
 
+    /// Returns the number of entries plus their total weight, which the capacity bounds.
+    /// Cost: a read.
+    pub fn size(&self) -> usize
+        ensures size { result ≡ size_of (W.weight self.now.scale) self.now.entries }
+        ensures valid { IsValid K.eq (W.weight self.now.scale) self.now }
+    {
+        // Read for its clause alone.
+        let _capacity = self.map.capacity();
+        let len = self.map.len();
+        len + self.total
+    }
+
     /// Returns whether there is no entry.
     /// Cost: a read.
     pub fn is_empty(&self) -> bool
@@ -133,8 +145,6 @@ where
     pub fn is_full(&self) -> bool
         ensures { IsTrue result ↔ (size_of (W.weight self.now.scale) self.now.entries ≡ self.now.capacity) }
     {
-        let capacity = self.map.capacity();
-        let size = self.map.len() + self.total;
-        size == capacity
+        self.size() == self.map.capacity()
     }
 }

@@ -1,8 +1,8 @@
-//! A law of the contracts of the two puts. It does nothing at run time.
+//! A law of the contracts of the two puts: a function that does nothing.
 ghost use Rattle.clru.specs.Laws.{ReplacedIsAnswered, DroppedIsHandedOut};
 
-/// Does nothing at run time. Its contract compares the two puts of a pair at weight zero: a weighted put returns what a plain put
-/// into the same cache replaces, and `on_drop` is called exactly on what the plain put drops.
+/// States how the two puts of a pair at weight zero compare. A weighted put returns what a plain put into the same cache replaces, and
+/// calls `on_drop` exactly on what the plain put drops.
 ///
 /// Neither of the two is refused.
 pub fn law_dropped<K: Eq, V, W, F: FnMut(K, V)>()

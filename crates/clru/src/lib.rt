@@ -19,6 +19,7 @@ mod debug;
 mod entry;
 mod iter;
 mod laws;
+mod refused;
 mod replays;
 
 pub use cache::{CLruCache, Put};
@@ -34,5 +35,6 @@ pub use entry::EntryMut;
 pub use iter::CLruCacheIter;
 pub use iter::owned::CLruCacheIntoIter;
 pub use laws::law_dropped;
+pub use refused::out_of_memory;
 pub use replays::{Replay, replay, replay_slice};
 pub use std::num::NonZeroUsize;

@@ -126,7 +126,8 @@ static size_t curve_by_size(size_t count) {
     return held_by(clru_misses_by_size(keys, count, sizes, count, &capacity, 1, 0, 0, misses, 1, missed_sizes, 1, &number));
 }
 
-/* For each distinct key, where each is requested once; and for each request, where all are of one key. */
+/* For each distinct key, where each is requested once; for each 64 requests, where one is the latest of its key; and by size for each
+ * request, where all are of one key. */
 static void of_curves(Range *distinct, Range *request, Range *object, Range *sized) {
     for (size_t count = 65; count <= MANY; count = next(count)) {
         fill(count, count);
@@ -135,8 +136,12 @@ static void of_curves(Range *distinct, Range *request, Range *object, Range *siz
     }
     for (size_t count = 4096; count <= MANY; count = next(count)) {
         fill(count, 1);
-        take(request, 64.0 * curve(count) / count);
         take(sized, (double)curve_by_size(count) / count);
+        size_t rare = count / 64, often = rare * 64;
+        fill(rare + 1, rare + 1);
+        size_t of_keys = curve(rare + 1);
+        for (size_t i = 0; i < often; i++) keys[i] = i % 64 ? 0 : 1 + i / 64;
+        take(request, ((double)curve(often) - of_keys) / rare);
     }
 }
 
@@ -199,7 +204,7 @@ static void see_many(void) {
     held_by(clru_hits_at(keys, MANY, MANY, 0, 0, hits, MANY, &number));
     see_asked("hits", 3, 3882864);
     curve(MANY);
-    see_asked("misses", 63, 13694800);
+    see_asked("misses", 63, 13727536);
     curve_by_size(MANY);
     see_asked("misses by size", 57, 16977232);
     held_by(clru_least_by_room(keys, MANY, &room, 1, 0, 0, &least, 1));
@@ -213,7 +218,7 @@ int main(void) {
     of_curves(&distinct, &request, &object, &sized);
     see_mixed(distinct, request, object, sized);
     print("curve: ", distinct, "bytes for each distinct key");
-    print("curve: ", request, "bytes for each 64 requests");
+    print("curve: ", request, "bytes for each 64 requests with the latest of a key");
     print("by size: ", object, "bytes for each request of another object");
     print("by size: ", sized, "bytes for each of one that was requested before");
     print("least: ", of_least(), "bytes for each request");

@@ -4,6 +4,7 @@
     refused.py LIBCLRU.SO
 """
 import ctypes
+import io
 import pathlib
 import sys
 
@@ -37,8 +38,21 @@ def answered():
     return list(hits), misses, list(curve), distinct, *by_room, list(missed[0]), list(missed[1]), missed[2], list(floors[0]), list(floors[1])
 
 
+def sized():
+    """Keys with several sizes: two objects, one of the greatest size, or refused."""
+    keys, sizes = [1, 2, 1, 2, 1], [5, 6, 9, 6, 7]
+    if list(clru.one_size(keys, sizes)) != [9, 6, 9, 6, 9] or list(clru.one_size([1, 2], [3, 4], refuse=True)) != [3, 4]:
+        sys.exit(f"refused: one size of each key is {list(clru.one_size(keys, sizes))}")
+    several, one = (clru.misses_by_size(keys, it, [15, 27]) for it in (sizes, clru.one_size(keys, sizes)))
+    if (list(several[0]), several[2], list(one[0]), one[2]) != ([4, 4], 27, [2, 2], 15):
+        sys.exit(f"refused: the misses of several sizes are {several}, and of one {one}")
+    seen("the key 1 has the sizes 5 and 9: clru.one_size(keys, sizes)", clru.one_size, keys, sizes, True)
+    seen("lengths", clru.one_size, keys, [1])
+
+
 def main():
     clru.load(sys.argv[1])
+    sized()
     half = 2**63
     seen("is 0", clru.least_by_room, [1, 2], [0])
     seen("is 0", clru.floor_by_room, [1, 2], [0])
@@ -50,14 +64,20 @@ def main():
     seen("from 0 to 2^64 - 1", clru.misses_by_capacity, [1, 2**64 + 1], 2)
     seen("from 0 to 2^64 - 1", clru.misses_by_capacity, [1, -1], 2)
     seen("from 0 to 2^64 - 1", clru.hits_at, [1, 2], 2**64 + 1)
-    seen("", clru.misses_by_capacity, [1.5, 2], 2)
-    for seed in ((), (5,), (5, 6, 7)):
-        seen("values to unpack", clru.hits_at, [1, 2], 2, seed)
-        seen("values to unpack", clru.misses_by_capacity, [1, 2], 2, seed)
-        seen("values to unpack", clru.least_by_room, [1, 2], [1], seed)
-        seen("values to unpack", clru.floor_by_room, [1, 2], [1], seed)
-        seen("values to unpack", clru.floor_by_size, [1, 2], [3, 4], [8], seed)
-        seen("values to unpack", clru.misses_by_size, [1, 2], [3, 4], [8], seed)
+    seen("clru.numbered(keys)", clru.misses_by_capacity, [1.5, 2], 2)
+    seen("clru.numbered(keys)", clru.misses_by_capacity, ["a", "b"], 2)
+    for keys, what in ("text", "text"), (b"text", "text"), (io.StringIO("1\n2\n"), "file"):
+        seen(f"and not a {what}: clru.numbered(open(path))", clru.misses_by_capacity, keys, 2)
+    seen("text.splitlines()", clru.numbered, "text")
+    for count in 2**48, 2**63, 2**64 - 1:
+        seen(f"no memory for {count} results: ask for fewer", clru.misses_by_capacity, [1, 2], count)
+    for seed in ((), (5,), (5, 6, 7), 5):
+        seen("a seed is two numbers", clru.hits_at, [1, 2], 2, seed)
+        seen("a seed is two numbers", clru.misses_by_capacity, [1, 2], 2, seed)
+        seen("a seed is two numbers", clru.least_by_room, [1, 2], [1], seed)
+        seen("a seed is two numbers", clru.floor_by_room, [1, 2], [1], seed)
+        seen("a seed is two numbers", clru.floor_by_size, [1, 2], [3, 4], [8], seed)
+        seen("a seed is two numbers", clru.misses_by_size, [1, 2], [3, 4], [8], seed)
     if clru._words((5, 6)) != (5, 6):
         sys.exit("refused: the words of a seed in another order")
     seen("", clru.hits_at, [1, 2, 3, 1], ctypes.c_size_t(2))

@@ -75,8 +75,8 @@ uint32_t clru_hits_at(const uint64_t *keys, size_t keys_len, size_t capacity, ui
  * Proved: misses[i] is the number of requests that don't hit, as clru_hits_at says it, at capacity i + 1.
  *
  * Codes: CLRU_NO_MEMORY, but never without keys.
- * Cost: for each request a look-up, and steps that go with the logarithm of their number. Memory: 20 to 43 bytes for each 64
- * requests, and 68 to 137 bytes for each distinct key. */
+ * Cost: for each request a look-up, and steps that go with the logarithm of their number. Memory: 15 to 32 bytes for each 64
+ * requests with the latest of a key, and 68 to 137 bytes for each distinct key. */
 uint32_t clru_misses_by_capacity(const uint64_t *keys, size_t keys_len, uint64_t seed_low, uint64_t seed_high,
                                  size_t *misses, size_t misses_len, size_t *distinct);
 

@@ -27,6 +27,7 @@ CODES = {
     5: "a capacity is less than the greatest size",
 }
 SEED = (0, 0)
+TEXTS = (str, bytes, bytearray)
 _library = None
 
 
@@ -61,7 +62,8 @@ def least_by_room(keys, rooms, seed=SEED):
 
 
 def misses_by_size(keys, sizes, capacities, seed=SEED):
-    """The misses and the missed size at each of the capacities, which are sums of sizes, and the size of the distinct objects."""
+    """The misses and the missed size at each of the capacities, which are sums of sizes, and the size of the distinct objects. A key
+    with two sizes is two objects: see `one_size`."""
     keys, sizes, capacities = _numbers(keys), _numbers(sizes), _numbers(capacities)
     misses, missed_sizes, distinct_size = _zeros(len(capacities)), _zeros(len(capacities)), ctypes.c_size_t()
     _call("clru_misses_by_size", keys, sizes, capacities, *_words(seed), misses, missed_sizes, distinct_size)
@@ -85,9 +87,27 @@ def floor_by_size(keys, sizes, rooms, seed=SEED):
 
 
 def numbered(names):
-    """An array that has a number for each of the names, the same one for equal names."""
+    """An array that has a number for each of the names, the same one for equal names. A file gives its lines."""
+    if isinstance(names, TEXTS):
+        raise TypeError("a text is one name: give its lines, as in clru.numbered(text.splitlines())")
     numbers = {}
     return _numbers([numbers.setdefault(name, len(numbers)) for name in names])
+
+
+def one_size(keys, sizes, refuse=False):
+    """The sizes, where each key has the greatest that it came with: to the calls above two sizes of a key are two objects. With
+    `refuse` such a key is refused instead. (No proof is of this one.)"""
+    keys, sizes = _numbers(keys), _numbers(sizes)
+    if len(keys) != len(sizes):
+        raise ValueError(CODES[2])
+    greatest = {}
+    for key, size in zip(keys, sizes):
+        held = greatest.setdefault(key, size)
+        if refuse and held != size:
+            raise ValueError(f"the key {key} has the sizes {held} and {size}: clru.one_size(keys, sizes) takes the greatest")
+        if held < size:
+            greatest[key] = size
+    return _numbers([greatest[key] for key in keys])
 
 
 # Arguments as the calls take them: an array as a pointer and a length, a place for a count as a pointer, a number as a whole word, which
@@ -117,7 +137,10 @@ def _check(code):
 
 # A number that would be cut is refused, since keys would become one.
 def _whole(number):
-    number = operator.index(number)
+    try:
+        number = operator.index(number)
+    except TypeError:
+        raise TypeError(f"{number!r} is no integer: for keys that are none give clru.numbered(keys)") from None
     if not 0 <= number < 2**64:
         raise ValueError(f"{number} is no number from 0 to 2^64 - 1")
     return number
@@ -125,12 +148,18 @@ def _whole(number):
 
 # A seed of one word, or of three, would move all that is passed behind it.
 def _words(seed):
-    low, high = seed
+    try:
+        low, high = seed
+    except (TypeError, ValueError):
+        raise ValueError(f"a seed is two numbers, as in seed=(0, 0), and not {seed!r}") from None
     return _whole(low), _whole(high)
 
 
 def _numbers(values):
     """An array of 64-bit numbers in one aligned block."""
+    if isinstance(values, TEXTS) or hasattr(values, "read"):
+        what = "text" if isinstance(values, TEXTS) else "file"
+        raise TypeError(f"numbers are wanted, and not a {what}: clru.numbered(open(path)) gives each line of a file its number")
     if numpy is not None and isinstance(values, numpy.ndarray):
         if values.size and values.dtype.kind not in "iu":
             raise TypeError(f"an array must be of integers, not of {values.dtype}")
@@ -144,4 +173,8 @@ def _numbers(values):
 
 
 def _zeros(count, kind=ctypes.c_uint64):
-    return numpy.zeros(count, dtype=kind) if numpy is not None else (kind * count)()
+    try:
+        return numpy.zeros(count, dtype=kind) if numpy is not None else (kind * count)()
+    except (MemoryError, OverflowError, ValueError):
+        raise MemoryError(f"there is no memory for {count} results: ask for fewer, since from the number of distinct keys on "
+                          "the misses stay the same") from None

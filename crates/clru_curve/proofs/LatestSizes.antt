@@ -2,12 +2,12 @@
 use Rattle.std.proofs.Common.{◌≡◌, ℕ, zero, suc, ◌+◌, ◌*◌, ◌/◌, ◌<◌, ◌≤◌, List, [], ◌∷◌, ◌++◌, length, get_or, set, inl, inr, refl, ap, arith, length-set}
 use Rattle.std.proofs.lemmas.Bool.{cases_lt}
 use Rattle.std.proofs.lemmas.Nat.{mod_below, div-add-mod'}
-use Rattle.std.proofs.lemmas.List.{get_or_past, length_push}
+use Rattle.std.proofs.lemmas.List.{length_push}
 use Rattle.clru_curve.specs.LatestSizes.{sizes_from, IsSummed}
-use Rattle.clru_curve.specs.Tree.{up_by, node_after, Falls, IsCounted}
-use Rattle.clru_curve.proofs.Nodes.{falls_far, node_after-greater}
+use Rattle.clru_curve.specs.Tree.{up_by, Falls, IsCounted}
+use Rattle.clru_curve.proofs.Nodes.{falls_far}
 use Rattle.clru_curve.proofs.UpTo.{up_by-le, up_by-gt}
-use Rattle.clru_curve.proofs.Words.{get_or_push, IsCounted-same}
+use Rattle.clru_curve.proofs.Counted.{IsCounted-same, IsCounted-push}
 
 pub sizes_step : (ss : List ℕ) (j : ℕ) → sizes_from ss j ≡ get_or ss j 0 + sizes_from ss (suc j)
 sizes_step [] j = refl
@@ -53,22 +53,6 @@ up_by-block a j n =
       | inl gt ↦ omega (arith, up_by-gt a (16 * j) n gt, up_by-gt a j (n / 16) (omega (arith, whole, rest, gt)))
       | inr le ↦ omega (arith, up_by-le a (16 * j) n le, up_by-le a j (n / 16) (omega (arith, whole, rest, le)))
     ]
-
--- one more node, above nothing yet
-IsCounted-push : (f : ℕ → ℕ) (nodes : List ℕ) → IsCounted f nodes → IsCounted f (nodes ++ 0 ∷ [])
-IsCounted-push f nodes counted =
-    let longer = length_push nodes 0 in
-    record {
-      node = λ j some within.
-          let item = get_or_push nodes j in
-          let e : get_or (nodes ++ 0 ∷ []) j 0 + f (node_after j) ≡ f j = elim (cases_lt j (length nodes)) [
-            | inl lt ↦ let is = counted.node j some lt in omega (arith, item, is)
-            | inr past ↦
-                let less = node_after-greater j some in
-                omega (arith, item, get_or_past nodes j 0 past, counted.none j past, counted.none (node_after j) (omega arith))
-          ] in e;
-      none = λ j far. counted.none j (omega (arith, far, longer));
-    }
 
 pub IsSummed-none : IsSummed [] []
 IsSummed-none = record {

@@ -1,4 +1,6 @@
 pub mod Bits
+pub mod Blocks
+pub mod Counted
 pub mod Forms
 pub mod Histograms
 pub mod LatestSizes
@@ -12,4 +14,3 @@ pub mod SizedHits
 pub mod SizedPassing
 pub mod Totals
 pub mod UpTo
-pub mod Words

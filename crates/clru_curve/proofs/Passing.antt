@@ -1,5 +1,5 @@
 -- What a pass has taken, after one more request.
-use Rattle.std.proofs.Common.{◌≡◌, ℕ, suc, ◌+◌, ◌-◌, ◌%◌, ◌<◌, ◌≤◌, Bool, true, false, cond, List, [], ◌∷◌, ◌++◌, length, get_or, set, take, reverse, Option, Some, None, is_some, refl, sym, ap, ◌∙◌, subst, arith, take_all}
+use Rattle.std.proofs.Common.{◌≡◌, ℕ, suc, ◌+◌, ◌-◌, ◌<◌, ◌≤◌, Bool, true, false, cond, List, [], ◌∷◌, ◌++◌, length, get_or, set, take, reverse, Option, Some, None, is_some, refl, sym, ap, ◌∙◌, subst, arith, take_all}
 use Rattle.std.specs.Cmp.{IsEquivalence}
 use Rattle.std.specs.Prelude.{sum}
 use Rattle.std.specs.Map.{lookup, set_value}
@@ -11,10 +11,10 @@ use Rattle.clru_model.proofs.Distinct.{since-cons}
 use Rattle.clru_model.proofs.Finding.{missed, plain_put-missed}
 use Rattle.clru_curve.specs.Curves.{HasMissesOf}
 use Rattle.clru_model.specs.Distances.{distance}
+use Rattle.clru_curve.specs.declared.latest.Block.{Block}
 use Rattle.clru_curve.specs.Latest.{ones_from}
 use Rattle.clru_curve.specs.Tree.{up_to}
 use Rattle.clru_curve.specs.Passes.{Pass, pass, IsPass}
-use Rattle.clru_curve.proofs.Bits.{ones-zero, ones_upper}
 use Rattle.clru_curve.proofs.Histograms.{IsHistogram-none, IsHistogram-new, IsHistogram-again, distance_inside, distance_few, HasMissesOf-by}
 use Rattle.clru_curve.proofs.Ranks.{same_some, distinct_measures, IsRanked-new, IsRanked-again}
 
@@ -27,8 +27,8 @@ module _ {K : Type 0} (eq : K → K → Bool) where
       before = λ x p at. elim (absurd_none at) [ ];
       latest = λ x p at. elim (absurd_none at) [ ];
       rank = λ x p at. elim (absurd_none at) [ ];
-      falls = λ p. omega (arith, empty p, empty (suc p));
-      none = empty 0;
+      falls = λ p. omega arith;
+      none = refl;
       few = omega arith;
     };
     counted = IsHistogram-none eq;
@@ -39,13 +39,10 @@ module _ {K : Type 0} (eq : K → K → Bool) where
       absurd_none : {p : ℕ} → None ≡ Some p → ⊥
       absurd_none e = cc
 
-      empty : (p : ℕ) → ones_from [] p ≡ 0
-      empty p = omega (arith, ones_upper 0 (p % 64), ones-zero)
-
-  -- the same bits in other words
-  pub IsPass-same : (past : List K) (positions : List (K × ℕ)) (ws vs : List ℕ) (n : ℕ) (h : List ℕ) → ((p : ℕ) → ones_from vs p ≡ ones_from ws p)
-      → IsPass eq past (pass positions ws n h) → IsPass eq past (pass positions vs n h)
-  IsPass-same past positions ws vs n h same is = record {
+  -- the same bits in other blocks
+  pub IsPass-same : (past : List K) (positions : List (K × ℕ)) (bs cs : List Block) (n : ℕ) (h : List ℕ) → ((p : ℕ) → ones_from cs p ≡ ones_from bs p)
+      → IsPass eq past (pass positions bs n h) → IsPass eq past (pass positions cs n h)
+  IsPass-same past positions bs cs n h same is = record {
     ranked = record {
       known = is.ranked.known;
       before = is.ranked.before;
@@ -60,8 +57,8 @@ module _ {K : Type 0} (eq : K → K → Bool) where
     latest = is.latest;
   }
 
-module _ {K : Type 0} (eq : K → K → Bool) (laws : IsEquivalence eq) (past : List K) (positions : List (K × ℕ)) (ws : List ℕ) (n : ℕ) (h : List ℕ)
-    (x : K) (is : IsPass eq past (pass positions ws n h)) where
+module _ {K : Type 0} (eq : K → K → Bool) (laws : IsEquivalence eq) (past : List K) (positions : List (K × ℕ)) (bs : List Block) (n : ℕ) (h : List ℕ)
+    (x : K) (is : IsPass eq past (pass positions bs n h)) where
   -- a key that is not known was not requested
   not_held : lookup (eq x) positions ≡ None → holds eq x past ≡ false
   not_held absent = sym (is.ranked.known x) ∙ ap is_some absent
@@ -90,9 +87,9 @@ module _ {K : Type 0} (eq : K → K → Bool) (laws : IsEquivalence eq) (past : 
       let more : length (since eq y (x ∷ past)) ≡ suc (length (since eq y past)) = rw (since-cons eq y x past, back) refl in
       omega (arith, more, is.latest y q there))
 
-  pub IsPass-new : (c : ℕ) (vs : List ℕ) → lookup (eq x) positions ≡ None → length positions < c → ((p : ℕ) → ones_from vs p ≡ ones_from ws p + up_to p n)
-      → IsPass eq (x ∷ past) (pass (plain_put eq c x n positions) vs (n + 1) (h ++ 0 ∷ []))
-  IsPass-new c vs absent room counts =
+  pub IsPass-new : (c : ℕ) (cs : List Block) → lookup (eq x) positions ≡ None → length positions < c → ((p : ℕ) → ones_from cs p ≡ ones_from bs p + up_to p n)
+      → IsPass eq (x ∷ past) (pass (plain_put eq c x n positions) cs (n + 1) (h ++ 0 ∷ []))
+  IsPass-new c cs absent room counts =
       let put : plain_put eq c x n positions ≡ (x, n) ∷ positions =
       plain_put-missed eq x (missed (eq x) (sym (ap is_some absent))) c n ∙ ap (λ l. (x, n) ∷ l) (take_all (c - 1) positions (omega (arith, room))) in
       let one : n + 1 ≡ suc n = omega arith in
@@ -100,7 +97,7 @@ module _ {K : Type 0} (eq : K → K → Bool) (laws : IsEquivalence eq) (past : 
       λ y. ap (λ b. cond b (Some n) (lookup (eq y) positions)) (laws.symm y x) in
       rw (put, one) (record {
         ranked = IsRanked-new eq laws (λ x. 1) (distinct eq) (distinct_measures eq laws)
-            past positions ((x, n) ∷ positions) n (ones_from ws) (ones_from vs) x is.ranked moved (not_held absent) counts
+            past positions ((x, n) ∷ positions) n (ones_from bs) (ones_from cs) x is.ranked moved (not_held absent) counts
             (omega (arith, is.ranked.few));
         counted = IsHistogram-new eq laws past h x is.counted (not_held absent);
         requests = ap suc is.requests;
@@ -112,27 +109,27 @@ module _ {K : Type 0} (eq : K → K → Bool) (laws : IsEquivalence eq) (past : 
     was_held : holds eq x past ≡ true
     was_held = sym (is.ranked.known x) ∙ ap is_some found
 
-    pub distance_some : Some (ones_from ws (suc p)) ≡ distance eq x past
+    pub distance_some : Some (ones_from bs (suc p)) ≡ distance eq x past
     distance_some = rw was_held (ap (λ d. Some d) (is.ranked.rank x p found))
 
-    pub distance_below : ones_from ws (suc p) < length h
+    pub distance_below : ones_from bs (suc p) < length h
     distance_below = omega (arith, distance_inside eq laws past h x is.counted was_held, is.ranked.rank x p found)
 
-    pub number_few : get_or h (ones_from ws (suc p)) 0 ≤ n
+    pub number_few : get_or h (ones_from bs (suc p)) 0 ≤ n
     number_few =
         let few = distance_few eq laws past h x is.counted was_held in
         omega (arith, few, is.requests, ap (λ d. get_or h d 0) (is.ranked.rank x p found))
 
-    pub IsPass-again : (vs : List ℕ) → ((q : ℕ) → ones_from vs q + up_to q p ≡ ones_from ws q + up_to q n)
-        → IsPass eq (x ∷ past) (pass (set_value (eq x) positions n) vs (n + 1) (set h (ones_from ws (suc p)) (get_or h (ones_from ws (suc p)) 0 + 1)))
-    IsPass-again vs counts =
+    pub IsPass-again : (cs : List Block) → ((q : ℕ) → ones_from cs q + up_to q p ≡ ones_from bs q + up_to q n)
+        → IsPass eq (x ∷ past) (pass (set_value (eq x) positions n) cs (n + 1) (set h (ones_from bs (suc p)) (get_or h (ones_from bs (suc p)) 0 + 1)))
+    IsPass-again cs counts =
         let one : n + 1 ≡ suc n = omega arith in
         let rank = is.ranked.rank x p found in
         let moved : (y : K) → lookup (eq y) (set_value (eq x) positions n) ≡ cond (eq x y) (Some n) (lookup (eq y) positions) =
         λ y. lookup-set_value laws (eq x) (λ z w t. laws.congr x z w t) y n positions (rw found refl) in
         rw (one, rank) (record {
           ranked = IsRanked-again eq laws (λ x. 1) (distinct eq) (distinct_measures eq laws)
-              past positions (set_value (eq x) positions n) n (ones_from ws) (ones_from vs) x is.ranked moved p found counts
+              past positions (set_value (eq x) positions n) n (ones_from bs) (ones_from cs) x is.ranked moved p found counts
               (omega (arith, length-set_value (eq x) positions n, is.ranked.few));
           counted = IsHistogram-again eq laws past h x is.counted was_held;
           requests = ap suc is.requests;

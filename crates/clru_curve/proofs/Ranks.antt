@@ -193,3 +193,18 @@ module _ {K : Type 0} (eq : K → K → Bool) (laws : IsEquivalence eq) (size : 
         none = omega (arith, counts (suc n), after_last, up_by-gt (size x) (suc n) n (omega arith), up_by-gt (size x) (suc n) p (omega (arith, low)));
         few = few;
       }
+
+-- after one more request of x, the n-th of all, each key has a position that is that of its latest one
+pub latest_moved : {K : Type 0} (eq : K → K → Bool) → IsEquivalence eq → (past : List K) (positions moved : List (K × ℕ)) (n : ℕ) (x : K) → n ≡ length past
+    → ((y : K) (q : ℕ) → lookup (eq y) positions ≡ Some q → q + 1 + length (since eq y past) ≡ length past)
+    → ((y : K) → lookup (eq y) moved ≡ cond (eq x y) (Some n) (lookup (eq y) positions))
+    → (y : K) (q : ℕ) → lookup (eq y) moved ≡ Some q → q + 1 + length (since eq y (x ∷ past)) ≡ length (x ∷ past)
+latest_moved eq laws past positions moved n x counted latest are y q at = split (eq x y)
+    (λ t. let back : eq y x ≡ true = laws.symm y x ∙ t in
+    let here : Some n ≡ Some q = rw (are y, t) at at in
+    let none : length (since eq y (x ∷ past)) ≡ 0 = rw (since-cons eq y x past, back) refl in
+    omega (arith, same_some here, none, counted))
+    (λ f. let back : eq y x ≡ false = laws.symm y x ∙ f in
+    let there : lookup (eq y) positions ≡ Some q = rw (are y, f) at at in
+    let more : length (since eq y (x ∷ past)) ≡ suc (length (since eq y past)) = rw (since-cons eq y x past, back) refl in
+    omega (arith, more, latest y q there))

@@ -11,7 +11,7 @@ use Rattle.clru_model.specs.Entries.{plain_put}
 use Rattle.clru_model.specs.Requests.{holds, since}
 use Rattle.clru_model.specs.Sizes.{SameWeights, total, span}
 use Rattle.clru_curve.proofs.LatestSizes.{sizes_step, sizes_push, sizes_clear}
-use Rattle.clru_curve.proofs.Ranks.{IsRanked-new, IsRanked-again}
+use Rattle.clru_curve.proofs.Ranks.{same_some, IsRanked-new, IsRanked-again, latest_moved}
 use Rattle.clru_curve.proofs.SizedHits.{AreHits-none, AreHits-new, AreHits-again}
 use Rattle.clru_curve.proofs.Totals.{total_measures}
 use Rattle.clru_curve.proofs.UpTo.{up_by-le}
@@ -23,9 +23,6 @@ use Rattle.clru_curve.specs.Tree.{up_by}
 
 absurd_none : {p : ℕ} → None ≡ Some p → ⊥
 absurd_none e = cc
-
-same_some : {p q : ℕ} → Some p ≡ Some q → p ≡ q
-same_some e = cc
 
 module _ {K : Type 0} (eq : K → K → Bool) where
   -- before the first request
@@ -45,6 +42,7 @@ module _ {K : Type 0} (eq : K → K → Bool) where
     held = refl;
     size = refl;
     greatest = refl;
+    latest = λ x q at. elim (absurd_none at) [ ];
   }
 
   -- a size of the list as it was, with one more behind it
@@ -94,6 +92,7 @@ module _ {K : Type 0} (eq : K → K → Bool) (laws : IsEquivalence eq) (positio
             held = rw (not_held absent) (omega (arith, sizes_push ss (1 + weight x) 0, up_by-le (1 + weight x) 0 n (omega arith), is.held));
             size = omega (arith, is.size, sum_by-cons (λ y. 1 + weight y) x past);
             greatest = rw (greater, is.greatest, ← weighs) refl;
+            latest = latest_moved eq laws past positions ((x, n) ∷ positions) n x is.requests is.latest moved;
           })
 
       -- a key with a position was requested there
@@ -131,6 +130,7 @@ module _ {K : Type 0} (eq : K → K → Bool) (laws : IsEquivalence eq) (positio
               held = rw was_held (omega (arith, counts 0, up_by-le (1 + weight x) 0 n (omega arith), up_by-le (1 + weight x) 0 p (omega arith), is.held));
               size = omega (arith, is.size, sum_by-cons (λ y. 1 + weight y) x past);
               greatest = rw (greater, is.greatest, ← weighs) refl;
+              latest = latest_moved eq laws past positions (set_value (eq x) positions n) n x is.requests is.latest moved;
             })
 
   -- whatever the keys weigh

@@ -3,26 +3,27 @@ use Rattle.std.specs.Prelude.{◌≡◌, ℕ, ◌+◌, Bool, List, length, take,
 use Rattle.std.specs.Coded.{Coded, code_by, coded×, coded_list, coded_ℕ}
 use Rattle.std.specs.Map.{lookup}
 use Rattle.clru_model.specs.Requests.{distinct, misses, since}
-use Rattle.clru_curve.specs.Latest.{ones_from, IsLatest}
+use Rattle.clru_curve.specs.declared.latest.Block.{Block}
+use Rattle.clru_curve.specs.Latest.{block_code, ones_from, IsLatest}
 use Rattle.clru_curve.specs.Ranked.{IsRanked}
 
--- each key with the number of its latest request, a bit for each request, how many requests there were, and how many at each
+-- each key with the number of its latest request, blocks of bits for these, how many requests there were, and how many at each
 -- distance
 pub record Pass (K : Type 0) : Type 0 where
   pub positions : List (K × ℕ)
-  pub words : List ℕ
+  pub blocks : List Block
   pub requests : ℕ
   pub histogram : List ℕ
 
 module _ {K : Type 0} where
-  abbrev pub pass : List (K × ℕ) → List ℕ → ℕ → List ℕ → Pass K
-  pass ps ws n h = record { positions = ps; words = ws; requests = n; histogram = h }
+  abbrev pub pass : List (K × ℕ) → List Block → ℕ → List ℕ → Pass K
+  pass ps bs n h = record { positions = ps; blocks = bs; requests = n; histogram = h }
 
   abbrev pub pass_code : Coded K → Coded (Pass K)
   pass_code k =
-      code_by (List (K × ℕ) × (List ℕ × (ℕ × List ℕ)))
-      (coded× (coded_list (coded× k coded_ℕ)) (coded× (coded_list coded_ℕ) (coded× coded_ℕ (coded_list coded_ℕ))))
-      (λ p. (p.positions, (p.words, (p.requests, p.histogram)))) (λ t. pass t.0 t.1.0 t.1.1.0 t.1.1.1) (λ _. refl)
+      code_by (List (K × ℕ) × (List Block × (ℕ × List ℕ)))
+      (coded× (coded_list (coded× k coded_ℕ)) (coded× (coded_list block_code) (coded× coded_ℕ (coded_list coded_ℕ))))
+      (λ p. (p.positions, (p.blocks, (p.requests, p.histogram)))) (λ t. pass t.0 t.1.0 t.1.1.0 t.1.1.1) (λ _. refl)
 
 module _ {K : Type 0} (eq : K → K → Bool) where
   -- as many numbers as distinct keys, of which the first k sum up to the hits at capacity k
@@ -32,13 +33,13 @@ module _ {K : Type 0} (eq : K → K → Bool) where
 
   -- a pass that has taken these requests, the latest first
   pub record IsPass (past : List K) (p : Pass K) : Type 0 where
-    pub ranked : IsRanked eq (λ x. 1) (distinct eq) past p.positions p.requests (ones_from p.words)
+    pub ranked : IsRanked eq (λ x. 1) (distinct eq) past p.positions p.requests (ones_from p.blocks)
     pub counted : IsHistogram past p.histogram
     pub requests : p.requests ≡ length past
     pub latest : (x : K) (q : ℕ) → lookup (eq x) p.positions ≡ Some q → q + 1 + length (since eq x past) ≡ length past
 
   -- what holds of every pass: it has taken some requests
   pub record IsSound (nodes : List ℕ) (p : Pass K) : Type 0 where
-    pub latest : IsLatest p.words nodes p.requests
+    pub latest : IsLatest p.blocks nodes p.requests
     pub past : List K
     pub taken : IsPass past p

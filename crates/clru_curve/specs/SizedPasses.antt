@@ -9,7 +9,7 @@ use Rattle.clru_curve.specs.declared.sized.step.Step.{Step}
 use Rattle.clru_curve.specs.LatestSizes.{sizes_from, IsSummed}
 use Rattle.clru_curve.specs.Ranked.{IsRanked}
 use Rattle.clru_curve.specs.SizedCurves.{step_code, hits_within, size_of_all, greatest_of}
-use Rattle.clru_model.specs.Requests.{distinct}
+use Rattle.clru_model.specs.Requests.{distinct, since}
 use Rattle.clru_model.specs.Sizes.{total, misses_by_size, missed_size}
 
 -- each key with the number of its latest request; for each request the size of its key where it is the latest of it, else 0;
@@ -78,6 +78,7 @@ module _ {K : Type 0} (eq : K → K → Bool) where
       pub held : sizes_from p.sizes 0 ≡ total eq weight past
       pub size : p.size ≡ size_of_all weight past
       pub greatest : p.greatest ≡ greatest_of weight past
+      pub latest : (x : K) (q : ℕ) → lookup (eq x) p.positions ≡ Some q → q + 1 + length (since eq x past) ≡ length past
 
   -- what holds of every pass, whatever the keys weighed: no sum passes that of all sizes
   pub record IsSoundBySize (nodes : List ℕ) (p : PassBySize K) : Type 0 where

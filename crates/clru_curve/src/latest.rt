@@ -1,99 +1,187 @@
-//! For each request a bit, which is set if the request is the latest of its key.
-ghost use Rattle.std.specs.Prelude.{◌≡◌, ℕ, suc, ◌+◌, ◌*◌, ◌%◌, ◌^◌, ◌<◌, [], length, OnOk, IsOk};
-ghost use Rattle.clru_curve.specs.Latest.{ones_from, IsLatest};
-ghost use Rattle.clru_curve.specs.Tree.{up_to};
+//! For each request a bit, which is set if the request is the latest of its key. Blocks of bits without any that is set are dropped.
+ghost use Rattle.std.specs.Prelude.{◌≡◌, ℕ, suc, ◌+◌, ◌%◌, ◌/◌, ◌^◌, ◌<◌, [], true, false, OnOk, IsOk, length};
+ghost use Rattle.clru_curve.specs.Latest.{ones_from, blocks_from, has_bits, number_at, EndsAt, HasBlock, IsLatest, IsRising};
+ghost use Rattle.clru_curve.specs.Tree.{up_by, up_to, IsCounted};
 
 use crate::tree::{add_at, count_from, subtract_at};
 use std::alloc::{AllocError, Allocator};
 
-/// How many requests share a word.
+/// How many requests share a block.
 const BITS: usize = 64;
 
-/// The bits in words, and for each word a node, which counts the ones of some words from its own on.
+/// How many blocks there may be beyond half as many again as had bits when they were last looked through.
+const FEW: usize = 4;
+
+/// The bits of 64 requests, from 64 times the number on.
+#[derive(Clone, Copy)]
+pub(crate) struct Block {
+    pub(crate) number: usize,
+    pub(crate) bits: u64,
+}
+
+/// The blocks, and for each of them a node, which counts the bits of some blocks from its own on.
+///
+/// Blocks are dropped, not renumbered: a request keeps its number. So memory goes with the bits that are set.
 #[derive(Drop)]
 pub(crate) struct Latest<A: Allocator> {
-    pub(crate) words: Vec<u64, A>,
+    pub(crate) blocks: Vec<Block, A>,
     pub(crate) nodes: Vec<usize, A>,
     pub(crate) requests: usize,
+    // From so many blocks on, those without bits are dropped before one more is made.
+    pub(crate) limit: usize,
 }
 
 impl<A: Allocator + Copy> Latest<A> {
     pub(crate) fn new(alloc: A) -> Self
-        ensures kept { IsLatest result.words.items result.nodes.items result.requests }
-        ensures words { result.words.items ≡ [] }
+        ensures kept { IsLatest result.blocks.items result.nodes.items result.requests }
+        ensures blocks { result.blocks.items ≡ [] }
         ensures requests { result.requests ≡ 0 }
     {
         Latest {
-            words: Vec::new(alloc),
+            blocks: Vec::new(alloc),
             nodes: Vec::new(alloc),
             requests: 0,
+            limit: FEW,
         }
     }
 
     /// Makes room for one more request.
     pub(crate) fn make_ready(&mut self) -> Result<(), AllocError>
-        requires kept { IsLatest self.old.words.items self.old.nodes.items self.old.requests }
-        ensures kept { IsLatest self.new.words.items self.new.nodes.items self.new.requests }
-        ensures ones { (p : ℕ) → ones_from self.new.words.items p ≡ ones_from self.old.words.items p }
+        requires kept { IsLatest self.old.blocks.items self.old.nodes.items self.old.requests }
+        ensures kept { IsLatest self.new.blocks.items self.new.nodes.items self.new.requests }
+        ensures ones { (p : ℕ) → ones_from self.new.blocks.items p ≡ ones_from self.old.blocks.items p }
         ensures requests { self.new.requests ≡ self.old.requests }
-        ensures room { OnOk result (self.new.requests < 64 * length self.new.words.items) }
+        ensures room { OnOk result (EndsAt self.new.blocks.items (self.new.requests / 64)) }
         ensures countable { OnOk result (self.new.requests + 1 < 2 ^ 64) }
         ensures memory { 0 < self.old.requests % 64 → self.old.requests + 1 < 2 ^ 64 → IsOk result }
     {
         if self.requests == usize::MAX {
             return Err(AllocError);
         }
-        if self.requests / BITS < self.words.len() {
+        if self.requests % BITS != 0 {
             return Ok(());
         }
+        let number = self.requests / BITS;
+        if ends_at(&self.blocks, number) {
+            return Ok(());
+        }
+        self.drop_empty();
         let Ok(()) = self.nodes.reserve(1) else {
             return Err(AllocError);
         };
-        let Ok(()) = self.words.push(0) else {
+        let Ok(()) = self.blocks.push(Block { number, bits: 0 }) else {
             return Err(AllocError);
         };
         self.nodes.push_reserved(0);
         Ok(())
     }
 
+    /// Drops the blocks without bits, if there are many blocks. None is begun.
+    fn drop_empty(&mut self)
+        requires kept { IsLatest self.old.blocks.items self.old.nodes.items self.old.requests }
+        requires whole { self.old.requests % 64 ≡ 0 }
+        requires countable { self.old.requests + 1 < 2 ^ 64 }
+        ensures kept { IsLatest self.new.blocks.items self.new.nodes.items self.new.requests }
+        ensures ones { (p : ℕ) → ones_from self.new.blocks.items p ≡ ones_from self.old.blocks.items p }
+        ensures rising { (high : ℕ) → IsRising 0 self.old.blocks.items high → IsRising 0 self.new.blocks.items high }
+        ensures requests { self.new.requests ≡ self.old.requests }
+    {
+        if self.blocks.len() < self.limit {
+            return;
+        }
+        self.blocks.retain(
+            |block: &Block| -> bool
+                ensures { result ≡ has_bits block.now }
+            { block.bits != 0 },
+        );
+        let blocks = self.blocks.len();
+        self.nodes.truncate(blocks);
+        count_anew(&mut self.nodes, &self.blocks);
+        self.limit = (blocks / 2).saturating_add(blocks).saturating_add(FEW);
+    }
+
     /// One more request, the latest of its key.
     pub(crate) fn push(&mut self)
-        requires kept { IsLatest self.old.words.items self.old.nodes.items self.old.requests }
-        requires room { self.old.requests < 64 * length self.old.words.items }
+        requires kept { IsLatest self.old.blocks.items self.old.nodes.items self.old.requests }
+        requires room { EndsAt self.old.blocks.items (self.old.requests / 64) }
         requires countable { self.old.requests + 1 < 2 ^ 64 }
-        ensures kept { IsLatest self.new.words.items self.new.nodes.items self.new.requests }
-        ensures ones { (p : ℕ) → ones_from self.new.words.items p
-            ≡ ones_from self.old.words.items p + up_to p self.old.requests }
+        ensures kept { IsLatest self.new.blocks.items self.new.nodes.items self.new.requests }
+        ensures ones { (p : ℕ) → ones_from self.new.blocks.items p
+            ≡ ones_from self.old.blocks.items p + up_to p self.old.requests }
         ensures requests { self.new.requests ≡ self.old.requests + 1 }
     {
-        let word = self.requests / BITS;
-        self.words[word] += 1 << (self.requests % BITS);
-        add_at(&mut self.nodes, word, 1);
+        let last = self.blocks.len() - 1;
+        self.blocks[last].bits += 1 << (self.requests % BITS);
+        add_at(&mut self.nodes, last, 1);
         self.requests += 1;
     }
 
-    /// The request is no longer the latest of its key.
-    pub(crate) fn clear(&mut self, request: usize)
-        requires kept { IsLatest self.old.words.items self.old.nodes.items self.old.requests }
-        requires before { request < self.old.requests }
-        requires latest { ones_from self.old.words.items request ≡ suc (ones_from self.old.words.items (suc request)) }
-        ensures kept { IsLatest self.new.words.items self.new.nodes.items self.new.requests }
-        ensures ones { (p : ℕ) → ones_from self.old.words.items p ≡ ones_from self.new.words.items p + up_to p request }
+    /// The request is no longer the latest of its key. Returns how many later requests are the latest of theirs.
+    pub(crate) fn remove(&mut self, request: usize) -> usize
+        requires kept { IsLatest self.old.blocks.items self.old.nodes.items self.old.requests }
+        requires latest { ones_from self.old.blocks.items request ≡ suc (ones_from self.old.blocks.items (suc request)) }
+        ensures count { result ≡ ones_from self.old.blocks.items (suc request) }
+        ensures kept { IsLatest self.new.blocks.items self.new.nodes.items self.new.requests }
+        ensures ones { (p : ℕ) → ones_from self.old.blocks.items p ≡ ones_from self.new.blocks.items p + up_to p request }
         ensures requests { self.new.requests ≡ self.old.requests }
+        ensures room { EndsAt self.old.blocks.items (self.old.requests / 64)
+            → EndsAt self.new.blocks.items (self.new.requests / 64) }
     {
-        let word = request / BITS;
-        self.words[word] -= 1 << (request % BITS);
-        subtract_at(&mut self.nodes, word, 1);
+        let at = block_at(&self.blocks, request / BITS);
+        let above = (self.blocks[at].bits >> (request % BITS)) >> 1;
+        let count = above.count_ones() as usize + count_from(&self.nodes, at + 1);
+        self.blocks[at].bits -= 1 << (request % BITS);
+        subtract_at(&mut self.nodes, at, 1);
+        count
     }
+}
 
-    /// How many later requests are the latest of their keys.
-    pub(crate) fn count_after(&self, request: usize) -> usize
-        requires kept { IsLatest self.now.words.items self.now.nodes.items self.now.requests }
-        requires before { request < self.now.requests }
-        ensures { result ≡ ones_from self.now.words.items (suc request) }
-    {
-        let word = request / BITS;
-        let above = (self.words[word] >> (request % BITS)) >> 1;
-        above.count_ones() as usize + count_from(&self.nodes, word + 1)
+/// Whether the last block has this number.
+fn ends_at(blocks: &[Block], number: usize) -> bool
+    ensures yes { result ≡ true → EndsAt blocks.now number }
+    ensures no { result ≡ false → EndsAt blocks.now number → ⊥ }
+{
+    match blocks.last() {
+        Some(block) => block.number == number,
+        None => false,
+    }
+}
+
+/// The place of the block of this number, which there is.
+fn block_at(blocks: &[Block], number: usize) -> usize
+    requires there { HasBlock blocks.now number }
+    requires rising { (high : ℕ) × IsRising 0 blocks.now high }
+    ensures inside { result < length blocks.now }
+    ensures number { number_at blocks.now result ≡ number }
+{
+    // It is here unless blocks after it were dropped, and never before here.
+    let last = blocks.len() - 1;
+    let guess = last.saturating_sub(blocks[last].number.saturating_sub(number));
+    if blocks[guess].number == number {
+        return guess;
+    }
+    let mut first = 0;
+    let mut end = blocks.len();
+    while end - first > 1 {
+        let middle = first + (end - first) / 2;
+        if blocks[middle].number <= number {
+            first = middle;
+        } else {
+            end = middle;
+        }
+    }
+    first
+}
+
+/// Counts the bits of the blocks anew.
+fn count_anew(nodes: &mut [usize], blocks: &[Block])
+    requires length { length nodes.old ≡ length blocks.now }
+    requires few { blocks_from blocks.now 0 < 2 ^ 64 }
+    ensures length { length nodes.new ≡ length nodes.old }
+    ensures counted { IsCounted (blocks_from blocks.now) nodes.new }
+{
+    nodes.fill(0);
+    for at in 0..blocks.len() {
+        add_at(nodes, at, blocks[at].bits.count_ones() as usize);
     }
 }

@@ -4,10 +4,12 @@
 //!
 //! A pass notes for each key the number of its latest request, in a cache that drops nothing, and a bit for each request,
 //! which is set if that request is the latest of its key. The distance of a request is the number of bits after the one
-//! of its key; a Fenwick tree over the words of bits counts them. A request costs a look-up, and steps that grow as the
-//! logarithm of the number of requests; memory goes with the distinct keys, besides a quarter of a byte for each request.
+//! of its key; a Fenwick tree over the blocks counts them. A request costs a look-up, and steps that grow as the
+//! logarithm of the number of requests. Bits stand in blocks, and blocks without a set bit are dropped, so memory goes with the
+//! distinct keys.
 //!
-//! If keys weigh something, a sized pass does the same with a size instead of each bit, and sums instead of numbers of bits.
+//! If keys weigh something, a sized pass does the same with a size instead of each bit, and sums instead of numbers of bits; it
+//! keeps a size for each request.
 #![tactic(auto)]
 
 mod curve;

@@ -26,7 +26,8 @@ const FIRST_CAPACITY: usize = 64;
 /// Clauses describe the requests that it has taken, the latest first, by `IsPass`: none at first, then each taken request
 /// comes in front. It returns a curve at any time.
 ///
-/// Takes memory for a position in a cache and a number for each distinct key, and 16 bytes for each 64 requests.
+/// Takes memory for a position in a cache and a number for each distinct key, and 24 bytes for each block of 64 requests that has
+/// the latest of a key, and for half as many blocks more.
 pub struct DistancePass<K: Eq + Hash, S: BuildHasher = DefaultState, A: Allocator + Copy = Global> {
     pub(crate) positions: CLruCache<K, usize, S, ZeroWeightScale, A>,
     pub(crate) latest: Latest<A>,
@@ -54,10 +55,10 @@ impl<K: Eq + Hash, S: BuildHasher, A: Allocator + Copy> Model for DistancePass<K
 
     ghost coded = { pass_code K.code };
 
-    ghost view = { λ p. pass p.positions.entries p.latest.words.items p.latest.requests p.histogram.items };
+    ghost view = { λ p. pass p.positions.entries p.latest.blocks.items p.latest.requests p.histogram.items };
 
     ghost invariant = { λ p. IsSound K.eq p.latest.nodes.items
-        (pass p.positions.entries p.latest.words.items p.latest.requests p.histogram.items) };
+        (pass p.positions.entries p.latest.blocks.items p.latest.requests p.histogram.items) };
 }
 
 impl<K: Eq + Hash, A: Allocator + Copy> DistancePass<K, DefaultState, A> {
@@ -140,9 +141,8 @@ impl<K: Eq + Hash, S: BuildHasher, A: Allocator + Copy> DistancePass<K, S, A> {
         let Some(position) = move_position(&mut self.positions, key, here) else {
             return Ok(None);
         };
-        let distance = self.latest.count_after(position);
+        let distance = self.latest.remove(position);
         self.latest.push();
-        self.latest.clear(position);
         self.histogram[distance] += 1;
         Ok(Some(distance))
     }

@@ -9,26 +9,29 @@ use std::test::Fail;
 /// How many lines of a thousand are new.
 const KEYS: usize = 10;
 
-// Of a form, whether by size, and whether with the least: its requests for memory, and their bytes.
+// Of a form, whether by size, and whether with the least, or by size the floors: its requests for memory, and their bytes.
 static REQUESTS: &[(Form, bool, bool, u64, u64)] = &[
-    (Form::Table, false, false, 51, 69080),
-    (Form::Table, true, false, 70, 118890),
-    (Form::Table, false, true, 77, 113637),
-    (Form::Picture, false, false, 62, 87817),
-    (Form::Picture, true, false, 90, 187238),
-    (Form::Picture, false, true, 89, 133413),
-    (Form::Summary, false, false, 30, 68543),
+    (Form::Table, false, false, 49, 68920),
+    (Form::Table, true, false, 70, 118986),
+    (Form::Table, true, true, 92, 199630),
+    (Form::Table, false, true, 75, 113477),
+    (Form::Picture, false, false, 60, 87727),
+    (Form::Picture, true, false, 90, 187380),
+    (Form::Picture, true, true, 117, 272438),
+    (Form::Picture, false, true, 87, 133323),
+    (Form::Summary, false, false, 28, 68383),
     (Form::Summary, true, false, 45, 117846),
-    (Form::Summary, false, true, 30, 68543),
+    (Form::Summary, true, true, 45, 117846),
+    (Form::Summary, false, true, 28, 68383),
 ];
 
 // The same of a sample, which keeps half of the keys: whether by size, its hashes too.
 static OF_SAMPLES: &[(Form, bool, u64, u64, u64)] = &[
-    (Form::Table, false, 514, 39, 68793),
-    (Form::Table, true, 514, 57, 93739),
-    (Form::Picture, false, 514, 50, 87248),
-    (Form::Picture, true, 514, 76, 137462),
-    (Form::Summary, false, 514, 19, 67888),
+    (Form::Table, false, 514, 39, 68889),
+    (Form::Table, true, 514, 57, 93931),
+    (Form::Picture, false, 514, 50, 87414),
+    (Form::Picture, true, 514, 76, 137700),
+    (Form::Summary, false, 514, 19, 67984),
     (Form::Summary, true, 514, 37, 92743),
 ];
 
@@ -58,11 +61,12 @@ fn costs_of(
         Sample::Whole => flags.1 && !flags.0,
         _ => false,
     };
+    let floor = flags.0 && flags.1;
     let options = Options {
         capacities: Capacities::Usual,
         sizes: flags.0,
         least,
-        floor: false,
+        floor,
         sample,
         form,
         look: plain(),
@@ -80,7 +84,7 @@ fn each_form_hashes_a_line_as_often(rt: HostRuntime) -> Result<(), Fail> {
     // are made for 64 then, the capacity of a pass at first).
     let once = 1_000 + 2 * KEYS as u64 + 4;
     for (form, sizes, least, requests, bytes) in REQUESTS {
-        // The least looks each line up once more; a summary has none.
+        // The least and the floors look each line up once more; a summary has none.
         let again = if *least && *form != Form::Summary {
             1_000
         } else {

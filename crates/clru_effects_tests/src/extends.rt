@@ -211,3 +211,41 @@ fn collects_texts(heap: &Rationed<Global>, n: u64) -> bool {
     heap.refuse_after(n);
     CLruCache::from_iter(heap, DefaultState, pairs).is_ok()
 }
+
+/// Notes its digit when it is dropped.
+struct Noted<'a> {
+    digit: u64,
+    drops: &'a Cell<u64>,
+}
+
+impl Drop for Noted<'_> {
+    fn drop(self) {
+        let Noted { digit, drops } = self;
+        drops.set(drops.get().wrapping_mul(10).wrapping_add(digit));
+    }
+}
+
+#[test]
+fn a_refused_from_iter_drops_in_order(rt: HostRuntime) {
+    let heap = Rationed::new(rt.alloc());
+    equal!(rt; (drops_of_seven(&heap), heap.blocks()), (1123333, 0));
+}
+
+/// The digits of seven values in the order in which they are dropped, where the fifth is refused: 1 for those left of the
+/// iterator, 2 for the refused one, 3 for those that were put.
+fn drops_of_seven(heap: &Rationed<Global>) -> u64 {
+    let drops = Cell::new(0);
+    let mut pairs = Vec::new(heap);
+    for (key, digit) in [3, 3, 3, 3, 2, 1, 1].into_iter().enumerate() {
+        let _ = pairs.push((
+            key,
+            Noted {
+                digit,
+                drops: &drops,
+            },
+        ));
+    }
+    heap.refuse_after(REQUESTS);
+    let _ = CLruCache::from_iter(heap, DefaultState, pairs);
+    drops.get()
+}

@@ -31,7 +31,7 @@ fn by_size<A: Allocator>(form: Form) -> Options<A> {
         capacities: Capacities::Each,
         sizes: true,
         least: false,
-        floor: false,
+        floor: true,
         sample: Sample::Whole,
         form,
         look: plain(),

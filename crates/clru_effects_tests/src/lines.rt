@@ -1,5 +1,5 @@
-//! Each function of `clru_lines` once, but `capacity_of`, which rows of `report` call, and the errors that only what is called
-//! shows.
+//! Each function of `clru_lines` once, but `capacity_of` and `digits_of`, which rows of `report` call, and the errors that only what
+//! is called shows.
 
 use crate::fakes::{Breaking, Filling, Piecewise};
 use clru_lines::{

@@ -145,6 +145,6 @@ fn a_hit_by_a_text_makes_no_key(rt: HostRuntime) -> Result<(), Fail> {
 /// Whether two texts are found, and how many requests that makes.
 fn hits(heap: &Rationed<Global>, store: &mut Store) -> (bool, bool, u64) {
     let asked = heap.asked();
-    let (held, absent) = (store.hit("a"), store.hit("b"));
+    let (held, absent) = (store.hit("a").is_some(), store.hit("b").is_some());
     (held, absent, heap.asked().wrapping_sub(asked))
 }

@@ -1,11 +1,7 @@
--- What a look-up that finds nothing says, and which lines are paths.
-use Rattle.std.proofs.Common.{◌≡◌, Bool, true, false, Option, Some, None, is_some, refl, List, ℕ}
+-- Which lines are paths.
+use Rattle.std.proofs.Common.{◌≡◌, Bool, true, false, refl, List, ℕ}
 use Rattle.std.specs.Str.{IsUtf8, is_utf8}
 use Rattle.std.proofs.lemmas.Str.{IsUtf8-from_is_utf8}
-
-pub none_of : {V : Type 0} (o : Option V) → is_some o ≡ false → o ≡ None
-none_of None absent = refl
-none_of (Some v) absent = cc
 
 false_unless : (b : Bool) → (b ≡ true → ⊥) → b ≡ false
 false_unless true unless = absurd (unless refl)

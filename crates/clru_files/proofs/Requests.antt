@@ -26,13 +26,13 @@ path_by false none is = ap not (sym is)
 -- a request is a hit, fetches, or finds no memory, where its line is a path
 one_path : (r : Request) → IsServed r
     → cond (is_hit r.1) 1 0 + cond (is_fetch r.1) 1 0 + cond (is_no_memory r.1) 1 0 ≡ cond (is_utf8 r.0) 1 0
-one_path (line, Hit told) is = ap (λ b. cond b 1 0) (sym (path_by (is_utf8 line) false is))
+one_path (line, Hit summary) is = ap (λ b. cond b 1 0) (sym (path_by (is_utf8 line) false is))
 one_path (line, Fetched answer) is = ap (λ b. cond b 1 0) (sym (path_by (is_utf8 line) false is))
 one_path (line, NoText) is = ap (λ b. cond b 1 0) (sym (path_by (is_utf8 line) true is))
 one_path (line, NoMemory) is = ap (λ b. cond b 1 0) (sym (path_by (is_utf8 line) false is))
 
 one_other : (r : Request) → IsServed r → ◌≡◌ {A = ℕ} (cond (is_no_text r.1) 1 0) (cond (not (is_utf8 r.0)) 1 0)
-one_other (line, Hit told) is = ap (λ b. cond (not b) 1 0) (sym (path_by (is_utf8 line) false is))
+one_other (line, Hit summary) is = ap (λ b. cond (not b) 1 0) (sym (path_by (is_utf8 line) false is))
 one_other (line, Fetched answer) is = ap (λ b. cond (not b) 1 0) (sym (path_by (is_utf8 line) false is))
 one_other (line, NoText) is = ap (λ b. cond (not b) 1 0) (sym (path_by (is_utf8 line) true is))
 one_other (line, NoMemory) is = ap (λ b. cond (not b) 1 0) (sym (path_by (is_utf8 line) false is))
@@ -64,7 +64,7 @@ others_among (r ∷ rs) all = omega (
 -- each request is counted once
 pub one_more : (served : Served)
     → cond (is_hit served) 1 0 + cond (is_fetch served) 1 0 + cond (is_no_text served) 1 0 + cond (is_no_memory served) 1 0 ≡ 1
-one_more (Hit told) = refl
+one_more (Hit summary) = refl
 one_more (Fetched answer) = refl
 one_more NoText = refl
 one_more NoMemory = refl

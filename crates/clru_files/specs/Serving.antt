@@ -10,40 +10,40 @@ use Rattle.clru_files.specs.declared.fault.Fault.TheVariants.{Outside, Missing, 
 use Rattle.clru_files.specs.declared.counts.Counts.{Counts}
 use Rattle.clru_files.specs.declared.served.Served.{Served}
 use Rattle.clru_files.specs.declared.served.Served.TheVariants.{Hit, Fetched, NoText, NoMemory}
-use Rattle.clru_files.specs.declared.served.Told.{Told}
+use Rattle.clru_files.specs.declared.served.PageSummary.{PageSummary}
 
 -- the page was held
 abbrev pub is_hit : Served → Bool
-is_hit (Hit told) = true
+is_hit (Hit summary) = true
 is_hit (Fetched answer) = false
 is_hit NoText = false
 is_hit NoMemory = false
 
 -- one fetch was made
 abbrev pub is_fetch : Served → Bool
-is_fetch (Hit told) = false
+is_fetch (Hit summary) = false
 is_fetch (Fetched answer) = true
 is_fetch NoText = false
 is_fetch NoMemory = false
 
 -- no memory was found for the path
 abbrev pub is_no_memory : Served → Bool
-is_no_memory (Hit told) = false
+is_no_memory (Hit summary) = false
 is_no_memory (Fetched answer) = false
 is_no_memory NoText = false
 is_no_memory NoMemory = true
 
 -- the line is no path
 abbrev pub is_no_text : Served → Bool
-is_no_text (Hit told) = false
+is_no_text (Hit summary) = false
 is_no_text (Fetched answer) = false
 is_no_text NoText = true
 is_no_text NoMemory = false
 
--- no page is told of
+-- there is no page
 abbrev pub is_failure : Served → Bool
-is_failure (Hit told) = false
-is_failure (Fetched (Ok told)) = false
+is_failure (Hit summary) = false
+is_failure (Fetched (Ok summary)) = false
 is_failure (Fetched (Err fault)) = true
 is_failure NoText = true
 is_failure NoMemory = true
@@ -63,13 +63,13 @@ abbrev pub eight_digits : ℕ → List ℕ
 eight_digits n = padded_integral (format_spec 32 0 4 8 (2 ^ 64 - 1)) false [] (digits 16 false n)
 
 -- the length of a page and its checksum
-abbrev pub told_text : Told → List ℕ
-told_text told = decimal told.length ++ (codes " bytes, " ++ eight_digits told.checksum)
+abbrev pub summary_text : PageSummary → List ℕ
+summary_text summary = decimal summary.length ++ (codes " bytes, " ++ eight_digits summary.checksum)
 
--- what is told behind the path
+-- what stands behind the path
 abbrev pub served_text : Served → List ℕ
-served_text (Hit told) = told_text told ++ codes ", held"
-served_text (Fetched (Ok told)) = told_text told ++ codes ", fetched"
+served_text (Hit summary) = summary_text summary ++ codes ", held"
+served_text (Fetched (Ok summary)) = summary_text summary ++ codes ", fetched"
 served_text (Fetched (Err fault)) = fault_text fault
 served_text NoText = codes "the path is no text"
 served_text NoMemory = codes "out of memory"

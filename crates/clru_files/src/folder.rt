@@ -1,5 +1,5 @@
 //! A folder as a source of pages: the files below it, by their paths.
-ghost use Rattle.std.specs.Prelude.{◌≡◌, ◌≤◌, ℕ, List, IfOk, length};
+ghost use Rattle.std.specs.Prelude.{◌≡◌, ◌≤◌, ◌↔◌, ℕ, IfOk, IsTrue, length};
 ghost use Rattle.std.specs.Cmp.Rules.{comparing};
 ghost use Rattle.std.proofs.Common.{rules};
 
@@ -9,18 +9,29 @@ use clru_through::{ByPromise, Fetch};
 use std::alloc::Global;
 use std::fs::{self, File, Files};
 use std::io::Read;
-use std::marker::Model;
+use std::time::UNIX_EPOCH;
 
-/// The bytes of a file. A contract sees these alone.
+/// What a file says of itself: how many bytes it has, and the nanosecond of its last change, 0 where that is not known.
+#[derive(Clone, Copy)]
+pub struct Stat {
+    pub length: usize,
+    pub changed: u128,
+}
+
+/// The bytes of a file, and what it said of itself before they were read.
 #[derive(Drop)]
 pub struct Page {
     pub bytes: Vec<u8>,
+    pub stat: Stat,
 }
 
-impl Model for Page {
-    ghost Value = { List ℕ };
-
-    ghost view = { λ page. page.bytes.items };
+impl Page {
+    /// Whether the file says the same now.
+    pub fn is_of(&self, now: Stat) -> bool
+        ensures { IsTrue result ↔ (self.now.stat ≡ now) }
+    {
+        self.stat.length == now.length && self.stat.changed == now.changed
+    }
 }
 
 /// The files below a folder, of which none is read that has more bytes than the capacity.
@@ -54,11 +65,12 @@ impl<'f, R: Files> Folder<'f, R> {
         }
     }
 
-    /// How many bytes the file says that it has.
-    fn length_of(&self, place: &str) -> Result<usize, Fault>
-        ensures { IfOk result (λ length. length ≤ self.now.longest) }
+    /// What the file of a path says of itself now.
+    pub fn stat_of(&self, path: &str) -> Result<Stat, Fault>
+        ensures { IfOk result (λ stat. stat.length ≤ self.now.longest) }
     {
-        let about = fs::metadata(self.files, place)?;
+        let place = self.place_of(path)?;
+        let about = fs::metadata(self.files, place.as_str())?;
         if about.is_dir() {
             return Err(Fault::Folder);
         }
@@ -66,16 +78,22 @@ impl<'f, R: Files> Folder<'f, R> {
             return Err(Fault::Special);
         }
         match usize::try_from(about.len()) {
-            Ok(length) if length <= self.longest => Ok(length),
+            Ok(length) if length <= self.longest => Ok(Stat {
+                length,
+                changed: changed(&about),
+            }),
             _ => Err(Fault::TooLong),
         }
     }
 
     /// The bytes of a file that says it has so many, and not one more.
-    fn read(&self, place: &str, most: usize) -> Result<Page, Fault>
-        ensures { IfOk result (λ page. length page ≤ most) }
+    fn read(&self, path: &str, stat: Stat) -> Result<Page, Fault>
+        ensures length { IfOk result (λ page. length page.bytes.items ≤ stat.length) }
+        ensures stat { IfOk result (λ page. page.stat ≡ stat) }
     {
-        let file = File::open(self.files, place)?;
+        let most = stat.length;
+        let place = self.place_of(path)?;
+        let file = File::open(self.files, place.as_str())?;
         let Ok(mut bytes) = Vec::with_capacity(self.alloc, most.saturating_add(1)) else {
             return Err(Fault::Memory);
         };
@@ -84,7 +102,18 @@ impl<'f, R: Files> Folder<'f, R> {
         if bytes.len() > most {
             return Err(Fault::Longer);
         }
-        Ok(Page { bytes })
+        Ok(Page { bytes, stat })
+    }
+}
+
+/// The nanosecond of a file's last change, 0 where it is not known.
+fn changed(about: &fs::Metadata) -> u128 {
+    match about.modified() {
+        Ok(time) => match time.duration_since(UNIX_EPOCH) {
+            Ok(since) => since.as_nanos(),
+            Err(_) => 0,
+        },
+        Err(_) => 0,
     }
 }
 
@@ -94,14 +123,13 @@ impl<'f, R: Files> Fetch<String, Page, Fault, ByPromise> for Folder<'f, R> {
 
     ghost promised = { λ folder _. folder.longest };
 
-    ghost keeps = { λ longest page. length page ≤ longest };
+    ghost keeps = { λ longest page. length page.bytes.items ≤ longest };
 
     ghost fetches = { λ old _ _ new. new ≡ old };
 
     fn fetch(&mut self, path: &String) -> Result<Page, Fault> {
-        let place = self.place_of(path)?;
-        let length = self.length_of(&place)?;
-        self.read(&place, length)
+        let stat = self.stat_of(path)?;
+        self.read(path, stat)
     }
 
     ghost same = { Prim.search (rules, comparing) };

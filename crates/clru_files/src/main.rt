@@ -19,16 +19,19 @@ use std::process::ExitCode;
 fn main(rt: HostRuntime) -> ExitCode {
     match answered(&rt) {
         Ok(()) => ExitCode::SUCCESS,
-        Err(error) if error.kind() == ErrorKind::InvalidInput => told(
+        Err(error) if error.kind() == ErrorKind::InvalidInput => report_failure(
             &rt,
-            "give FOLDER CAPACITY, and paths, a line each",
+            "give FOLDER CAPACITY, --stat to see changes, and paths, a line each",
         ),
-        Err(error) if error.kind() == ErrorKind::OutOfMemory => told(&rt, "out of memory"),
-        Err(_) => told(&rt, "a read or a write failed"),
+        Err(error) if error.kind() == ErrorKind::OutOfMemory => report_failure(
+            &rt,
+            "out of memory",
+        ),
+        Err(_) => report_failure(&rt, "a read or a write failed"),
     }
 }
 
-fn told(rt: &HostRuntime, why: &str) -> ExitCode {
+fn report_failure(rt: &HostRuntime, why: &str) -> ExitCode {
     let _ = writeln!(rt.stderr(), "clru_files: {why}");
     ExitCode::FAILURE
 }
@@ -36,8 +39,13 @@ fn told(rt: &HostRuntime, why: &str) -> ExitCode {
 // The folder and the capacity that the arguments name, and the answers to the input's lines.
 fn answered(rt: &HostRuntime) -> io::Result<()> {
     let mut words = env::args(rt)?.skip(1);
-    let (Some(root), Some(number), None) = (words.next(), words.next(), words.next()) else {
+    let (Some(root), Some(number)) = (words.next(), words.next()) else {
         return Err(io::Error::from(ErrorKind::InvalidInput));
+    };
+    let by_stat = match words.next() {
+        None => false,
+        Some(word) if word.as_str() == "--stat" && words.next().is_none() => true,
+        Some(_) => return Err(io::Error::from(ErrorKind::InvalidInput)),
     };
     let Ok(capacity) = number.parse::<NonZeroUsize>() else {
         return Err(io::Error::from(ErrorKind::InvalidInput));
@@ -50,7 +58,7 @@ fn answered(rt: &HostRuntime) -> io::Result<()> {
     let folder = Folder::new(rt, rt.alloc(), &root, capacity);
     let mut pages = pages_of(rt.alloc(), capacity, folder);
     let mut output = BufWriter::new(rt.alloc(), rt.stdout())?;
-    let counts = run(&mut pages, rt.alloc(), &input, &mut output)?;
+    let counts = run(&mut pages, rt.alloc(), &input, by_stat, &mut output)?;
     let held = pages.len().saturating_add(pages.weight());
     writeln!(
         output,

@@ -1,19 +1,19 @@
-//! What became of a request, and how it is told.
+//! What became of a request, and how it is shown.
 ghost use Rattle.std.specs.Prelude.{Some};
-ghost use Rattle.clru_files.specs.Serving.{served_text, told_text};
+ghost use Rattle.clru_files.specs.Serving.{served_text, summary_text};
 
 use crate::fault::Fault;
 use std::fmt;
 
-/// What is told of a page.
+/// The length of a page and its checksum.
 #[derive(Clone, Copy)]
-pub struct Told {
+pub struct PageSummary {
     pub length: usize,
     pub checksum: u32,
 }
 
-impl fmt::Display for Told {
-    ghost output = { λ told. Some (told_text told) };
+impl fmt::Display for PageSummary {
+    ghost output = { λ summary. Some (summary_text summary) };
 
     fn fmt<W: fmt::Write>(&self, f: &mut fmt::Formatter<W>) -> fmt::Result {
         write!(f, "{} bytes, {:08x}", self.length, self.checksum)
@@ -24,9 +24,9 @@ impl fmt::Display for Told {
 #[derive(Clone, Copy)]
 pub enum Served {
     /// The page was held, and no file was opened.
-    Hit(Told),
+    Hit(PageSummary),
     /// It was fetched, or could not be.
-    Fetched(Result<Told, Fault>),
+    Fetched(Result<PageSummary, Fault>),
     /// The line is no text, so the store was not asked.
     NoText,
     /// No memory was found for the path, so the store was not asked.
@@ -38,8 +38,8 @@ impl fmt::Display for Served {
 
     fn fmt<W: fmt::Write>(&self, f: &mut fmt::Formatter<W>) -> fmt::Result {
         match self {
-            Served::Hit(told) => write!(f, "{told}, held"),
-            Served::Fetched(Ok(told)) => write!(f, "{told}, fetched"),
+            Served::Hit(summary) => write!(f, "{summary}, held"),
+            Served::Fetched(Ok(summary)) => write!(f, "{summary}, fetched"),
             Served::Fetched(Err(fault)) => write!(f, "{fault}"),
             Served::NoText => f.write_str("the path is no text"),
             Served::NoMemory => f.write_str("out of memory"),

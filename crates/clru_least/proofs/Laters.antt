@@ -1,11 +1,12 @@
 -- What a pass has noted of later requests: one more request, and the positions of the next ones.
-use Rattle.std.proofs.Common.{◌≡◌, ℕ, zero, suc, ◌+◌, ◌<◌, Bool, true, false, cond, eqb, ◌||◌, Option, Some, None, is_some, IfSome, map}
+use Rattle.std.proofs.Common.{◌≡◌, ℕ, zero, suc, ◌+◌, ◌^◌, ◌<◌, ◌≤◌, Bool, true, false, cond, eqb, ◌||◌, Option, Some, None, is_some, IfSome, map}
 use Rattle.std.proofs.Common.{List, [], ◌∷◌, ◌++◌, length, get_or, set, reverse, refl, sym, ap, ◌∙◌, subst, arith}
 use Rattle.std.proofs.lemmas.Bool.{eqb-true, or_left, or_right, or_parts}
 use Rattle.std.proofs.lemmas.Grind.{reverse_onto}
 use Rattle.std.proofs.lemmas.List.{length-reverse, set-append_left}
 use Rattle.std.specs.Borrow.{Bor}
 use Rattle.std.specs.Cmp.{IsEquivalence}
+use Rattle.clru_list.specs.Packed.{Packed, greatest_by}
 use Rattle.clru_model.specs.Requests.{holds, since}
 use Rattle.clru_model.proofs.Cases.{split}
 use Rattle.clru_model.proofs.Distinct.{holds-append, holds_same, since-cons}
@@ -13,6 +14,14 @@ use Rattle.clru_model.proofs.Positions.{holds-reverse}
 use Rattle.clru_least.specs.Next.{until, next_from}
 use Rattle.clru_least.specs.Passes.{next_or, later_at, later_from, IsForesight, IsLatestOf}
 use Rattle.clru_least.proofs.Until.{until_not_held}
+
+-- while there are fewer than 2^32 numbers, one more leaves them at 4 bytes each
+pub narrow_behind : (old wide new : Packed) → (length old.numbers < 2 ^ 32 → old.greatest ≡ greatest_by true)
+    → (length old.numbers ≤ old.greatest → wide ≡ old) → length new.numbers ≡ length old.numbers + 1 → new.greatest ≡ wide.greatest
+    → length new.numbers < 2 ^ 32 → new.greatest ≡ greatest_by true
+narrow_behind old wide new narrow stays more same few =
+    let before = narrow (omega (arith, more, few)) in
+    same ∙ ap (λ p. p.greatest) (stays (omega (arith, before, more, few))) ∙ before
 
 next_or_some : (n m : ℕ) → 0 < m → next_or n m ≡ m
 next_or_some n m h = split (eqb m 0) (λ t. absurd (omega (arith, eqb-true m 0 t, h))) (λ f. rw f refl)

@@ -1,5 +1,6 @@
 -- What a pass has taken, request by request, and the latest request of a key. Public clauses cite them.
-use Rattle.std.specs.Prelude.{◌≡◌, ℕ, ◌+◌, Bool, ◌==◌, if◌then◌else◌, List, [], ◌∷◌, length, reverse, Option, is_some, IfSome}
+use Rattle.std.specs.Prelude.{◌≡◌, ℕ, ◌+◌, ◌^◌, ◌<◌, Bool, true, ◌==◌, if◌then◌else◌, List, [], ◌∷◌, length, reverse, Option, is_some, IfSome}
+use Rattle.clru_list.specs.Packed.{Packed, greatest_by}
 use Rattle.clru_model.specs.Requests.{holds, since}
 use Rattle.clru_least.specs.Next.{until}
 
@@ -21,10 +22,11 @@ module _ {K : Type 0} (eq : K → K → Bool) where
   abbrev pub IsForesight : List K → List ℕ → Type 0
   IsForesight past later = later ≡ later_from 0 (reverse past)
 
-  -- what holds of every pass: it has taken some requests
-  pub record IsSound (later : List ℕ) : Type 0 where
+  -- what holds of every pass: it has taken some requests, and fewer than 2^32 take 4 bytes each
+  pub record IsSound (later : Packed) : Type 0 where
     pub past : List K
-    pub taken : IsForesight past later
+    pub taken : IsForesight past later.numbers
+    pub narrow : length later.numbers < 2 ^ 32 → later.greatest ≡ greatest_by true
 
   -- the position of the latest request of the key among those of the past, the latest first, or none
   pub record IsLatestOf (past : List K) (key : K) (latest : Option ℕ) : Type 0 where

@@ -66,8 +66,8 @@ impl<'a, K: Eq, A: Allocator + Copy> Foresight<'a, K, A> {
         Ok(Foresight { keys, pass })
     }
 
-    /// Answers the least number of misses that any way to choose what to drop has on the requests, with room for so many keys,
-    /// also one that knows all requests beforehand. It starts with nothing held, and takes in each requested key, and no other.
+    /// Returns the fewest misses of any policy with room for so many keys, even if it knows all requests beforehand. The policy
+    /// starts empty, and takes in each requested key and no other.
     ///
     /// One that starts with keys has at most `room` fewer; a replay of that capacity has no fewer.
     ///
@@ -84,9 +84,8 @@ impl<'a, K: Eq, A: Allocator + Copy> Foresight<'a, K, A> {
     }
 }
 
-/// Answers the least number of misses that any way to choose what to drop has on the requests, with room for so many keys,
-/// also one that knows all requests beforehand, where each key that is asked for is taken in, and no other: `Foresight` for
-/// one room.
+/// Returns the fewest misses of any policy with room for so many keys, even if it knows all requests beforehand: `Foresight` for
+/// one room. The policy takes in each requested key and no other.
 ///
 /// Memory may be refused; without keys none is asked for. The keys stay the caller's, and are hashed with `hash_builder`.
 /// Cost: that of `Foresight::new` and of one call of its `least`.

@@ -46,7 +46,7 @@ impl<K: Eq, A: Allocator + Copy> Model for ForesightPass<K, A> {
 
     ghost view = { λ p. p.later.numbers };
 
-    ghost invariant = { λ p. IsSound K.eq p.later.numbers };
+    ghost invariant = { λ p. IsSound K.eq p.later };
 }
 
 impl<K: Eq, A: Allocator + Copy> ForesightPass<K, A> {
@@ -97,9 +97,8 @@ impl<K: Eq, A: Allocator + Copy> ForesightPass<K, A> {
         }
     }
 
-    /// Answers the least number of misses that any way to choose what to drop has on the requests so far, with room for so many
-    /// keys, also one that knows all requests beforehand. It starts with nothing held, and takes in each requested key, and no
-    /// other.
+    /// Returns the fewest misses of any policy on the requests so far, with room for so many keys, even if it knows all requests
+    /// beforehand. The policy starts empty, and takes in each requested key and no other.
     ///
     /// One that starts with keys has at most `room` fewer; a replay of that capacity has no fewer.
     ///

@@ -1,5 +1,5 @@
 -- The lines of an input, and the numbers in words of an argument. Public clauses cite them.
-use Rattle.std.specs.Prelude.{ℕ, ◌^◌, Bool, ◌&&◌, List, [], ◌∷◌, length, ◌==◌, nat_lt, nat_le}
+use Rattle.std.specs.Prelude.{ℕ, ◌^◌, Bool, ◌&&◌, List, [], ◌∷◌, Option, None, Some, length, ◌==◌, nat_lt, nat_le, if◌then◌else◌}
 use Rattle.std.specs.List.{list_all, slice_split}
 use Rattle.std.specs.Char.{is_ascii_digit}
 use Rattle.std.specs.Str.Parse.{digits_value}
@@ -19,7 +19,14 @@ lines_of_parts (part ∷ next ∷ more) = part ∷ lines_of_parts (next ∷ more
 abbrev pub lines_of : List ℕ → List (List ℕ)
 lines_of bytes = lines_of_parts (slice_split (λ b. b == 10) bytes)
 
--- 1 to 20 digits and nothing else, with a value from 1 to the greatest `usize`
+-- 1 to 20 digits and nothing else
+abbrev pub are_digits : List ℕ → Bool
+are_digits word = nat_lt 0 (length word) && (nat_le (length word) 20 && list_all is_ascii_digit word)
+
+-- the number that such a word names
+abbrev pub digits_named : List ℕ → Option ℕ
+digits_named word = if are_digits word then Some (digits_value 10 word) else None
+
+-- such digits with a value from 1 to the greatest `usize`
 abbrev pub is_capacity : List ℕ → Bool
-is_capacity word = (nat_lt 0 (length word) && (nat_le (length word) 20 && list_all is_ascii_digit word))
-    && (nat_lt 0 (digits_value 10 word) && nat_lt (digits_value 10 word) (2 ^ 64))
+is_capacity word = are_digits word && (nat_lt 0 (digits_value 10 word) && nat_lt (digits_value 10 word) (2 ^ 64))

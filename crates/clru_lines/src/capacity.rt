@@ -1,8 +1,8 @@
-//! A capacity in decimal digits.
-ghost use Rattle.std.specs.Prelude.{◌≡◌, true, false, IfSome, IfNone};
+//! A number in decimal digits, and a capacity.
+ghost use Rattle.std.specs.Prelude.{◌≡◌, ◌<◌, ◌≤◌, ◌^◌, length, true, false, IfSome, IfNone};
 ghost use Rattle.std.specs.Int.NonZero.{non_zero_usize_get};
 ghost use Rattle.std.specs.Str.Parse.{digits_value};
-ghost use Rattle.clru_lines.specs.Lines.{is_capacity};
+ghost use Rattle.clru_lines.specs.Lines.{digits_named, is_capacity};
 
 use std::num::NonZeroUsize;
 
@@ -18,6 +18,15 @@ pub fn capacity_of(word: &[u8]) -> Option<NonZeroUsize>
     ensures value { IfSome result (λ capacity. non_zero_usize_get capacity ≡ digits_value 10 word.now) }
     ensures none { IfNone result (is_capacity word.now ≡ false) }
 {
+    NonZeroUsize::new(usize::try_from(digits_of(word)?).ok()?)
+}
+
+/// Returns the number that a word of 1 to 20 decimal digits names, or `None` for another word. Takes no memory.
+pub fn digits_of(word: &[u8]) -> Option<u128>
+    ensures value { result ≡ digits_named word.now }
+    ensures below { IfSome result (λ n. n < 10 ^ 20) }
+    ensures few { IfSome result (λ _. length word.now ≤ 20) }
+{
     if word.is_empty() || word.len() > MOST_DIGITS {
         return None;
     }
@@ -28,5 +37,5 @@ pub fn capacity_of(word: &[u8]) -> Option<NonZeroUsize>
         }
         value = value * 10 + (*digit - b'0') as u128;
     }
-    NonZeroUsize::new(usize::try_from(value).ok()?)
+    Some(value)
 }

@@ -1,7 +1,7 @@
 //! Lines of bytes, from a reader and to a writer: what the programs of this repository share.
 //!
 //! A program reads its input line by line by a [`LineBuffer`], or whole by [`read_input`], and takes its lines apart by
-//! [`next_line`] or [`keys_of`]; it reads a number of an argument or a line by [`capacity_of`], hashes its keys under a [`Seed`], and
+//! [`next_line`] or [`keys_of`]; it reads a number of an argument or a line by [`capacity_of`] or [`digits_of`], hashes its keys under a [`Seed`], and
 //! writes its text by [`write_text`]. Each says in its contract which bytes it took and which it gave, by what is known of the
 //! reader and the writer. A [`Fault`] says why a program failed, and [`exit_status`] how it ends.
 //!
@@ -19,7 +19,7 @@ mod output;
 mod seed;
 
 pub use buffer::LineBuffer;
-pub use capacity::capacity_of;
+pub use capacity::{capacity_of, digits_of};
 pub use fault::{Fault, exit_status};
 pub use input::{ReadError, read_input};
 pub use lines::{Key, OwnedKey, keys_of, next_line};

@@ -37,7 +37,8 @@ impl<A: Allocator + Copy> PackedNumbers<A> {
     /// Creates a list of no numbers.
     /// Cost: no request for memory.
     pub fn new(alloc: A) -> Self
-        ensures { result.numbers ≡ [] }
+        ensures numbers { result.numbers ≡ [] }
+        ensures greatest { result.greatest ≡ greatest_by true }
     {
         PackedNumbers {
             form: Form::Narrow(Vec::new(alloc)),
@@ -47,7 +48,8 @@ impl<A: Allocator + Copy> PackedNumbers<A> {
     /// Creates a list of no numbers, with memory for so many while they take 4 bytes each.
     /// Cost: one request for memory.
     pub fn with_memory(alloc: A, numbers: usize) -> Result<Self, NoMemory>
-        ensures { IfOk result (λ p. p.numbers ≡ []) }
+        ensures numbers { IfOk result (λ p. p.numbers ≡ []) }
+        ensures greatest { IfOk result (λ p. p.greatest ≡ greatest_by true) }
     {
         match Vec::with_capacity(alloc, numbers) {
             Ok(words) => Ok(PackedNumbers {

@@ -184,7 +184,7 @@ module _ {K : Type 0} (eq : K → K → Bool) (laws : IsEquivalence eq) where
       (λ no_y. rw no_y (split (hit eq j x past) (λ t. rw t refl) (λ f. rw f refl))))
 
   module _ (weight : K → ℕ) (same : SameWeights eq weight) where
-    same_size : SameWeights eq (λ x. 1 + weight x)
+    pub same_size : SameWeights eq (λ x. 1 + weight x)
     same_size x y e = ap (λ n. 1 + n) (same x y e)
 
     -- a list whose keys are all held in another is of no greater size

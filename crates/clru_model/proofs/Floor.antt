@@ -18,7 +18,7 @@ use Rattle.clru_model.proofs.Cases.{split}
 use Rattle.clru_model.proofs.Distinct.{others, holds-others, since-cons, held_of_all, sum_by_key, sum_mono}
 
 module _ {K : Type 0} (eq : K → K → Bool) (laws : IsEquivalence eq) (weight : K → ℕ) (same : SameWeights eq weight) where
-  since_same : (x y : K) (past : List K) → eq x y ≡ true → since eq x past ≡ since eq y past
+  pub since_same : (x y : K) (past : List K) → eq x y ≡ true → since eq x past ≡ since eq y past
   since_same x y [] e = refl
   since_same x y (z ∷ past) e =
       rw (since-cons eq x z past, since-cons eq y z past, laws.congr x y z e) (split (eq y z)

@@ -48,7 +48,7 @@ module _ {K V : Type 0} (eq : K → K → Bool) (step : K → List (K × V) → 
   drops_push k first (l ∷ later) (y ∷ rs) x next run = omega (arith, drops_push k l later rs x next run.1)
 
   -- after as many steps as there are keys a run has come to its end
-  run_ends : (first : List (K × V)) (later : List (List (K × V))) (rs : List K) → IsRunOf step (first ∷ later) rs
+  pub run_ends : (first : List (K × V)) (later : List (List (K × V))) (rs : List K) → IsRunOf step (first ∷ later) rs
       → slice_get (first ∷ later) (length rs) ≡ Some (last_of first later)
   run_ends first [] [] run = refl
   run_ends first (l ∷ later) [] run = cc

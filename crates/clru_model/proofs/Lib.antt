@@ -22,6 +22,7 @@ pub mod Fitting
 pub mod Floor
 pub mod FloorRows
 pub mod Forms
+pub mod Fronts
 pub mod GetRuns
 pub mod Growing
 pub mod GrowingAgedRuns
@@ -46,6 +47,7 @@ pub mod Rows
 pub mod RunRows
 pub mod SchedulesByPosition
 pub mod SizeRows
+pub mod SizedReplaySchedules
 pub mod SizedRuns
 pub mod Spans
 pub mod SpansByPosition

@@ -7,7 +7,7 @@ use Rattle.clru_model.specs.Least.{IsLeast}
 use Rattle.clru_model.specs.Requests.{holds, distinct, since}
 use Rattle.clru_model.specs.Schedule.{Schedules, schedule_misses}
 use Rattle.clru_model.specs.SizedSchedule.{schedule_missed_size}
-use Rattle.clru_model.specs.Sizes.{SameWeights, total}
+use Rattle.clru_model.specs.Sizes.{SameWeights, total, misses_by_size, missed_size}
 
 -- the greatest of the number n and of what f gives at the others
 abbrev pub greatest_of : (ℕ → ℕ) → ℕ → List ℕ → ℕ
@@ -85,3 +85,13 @@ module _ {K : Type 0} (eq : K → K → Bool) where
   -- where keys weigh nothing it is no more than the least possible misses
   abbrev pub FloorIsBelowLeast : Type 0
   FloorIsBelowLeast = (h n : ℕ) (requests : List K) → IsLeast eq h requests n → floor_misses eq (λ _. 0) h requests ≤ n
+
+  -- nor than what a replay at the same size misses
+  abbrev pub FloorIsBelowReplay : Type 0
+  FloorIsBelowReplay = (weight : K → ℕ) (c : ℕ) (requests : List K) → SameWeights eq weight
+      → floor_misses eq weight c requests ≤ misses_by_size eq weight c requests
+
+  -- nor is the floor of the missed size above the size that it misses
+  abbrev pub SizeFloorIsBelowReplay : Type 0
+  SizeFloorIsBelowReplay = (weight : K → ℕ) (c : ℕ) (requests : List K) → SameWeights eq weight
+      → floor_missed_size eq weight c requests ≤ missed_size eq weight c requests

@@ -1,11 +1,11 @@
-//! What a call that may want memory answers in place of a result.
+//! Errors of calls that may be refused memory.
 ghost use Rattle.std.specs.Prelude.{Some};
 ghost use Rattle.clru_model.specs.Errors.{put_error_debug, put_error_text, try_put_error_debug, try_put_error_text};
 
 use std::error::Error;
 use std::fmt;
 
-/// Why a weighted put was refused. The pair comes back, and no entry has changed.
+/// Says why a weighted put was refused. The pair comes back, and no entry has changed.
 ///
 /// It is an error, which `?` passes up:
 ///
@@ -46,13 +46,13 @@ impl<K, V> fmt::Display for PutError<K, V> {
 
 impl<K: Drop, V: Drop> Error for PutError<K, V> {}
 
-/// Why a put was refused whose closures may fail.
+/// Says why a put whose closures may fail was refused.
 #[derive(Drop, PartialEq, Eq)]
 pub enum TryPutError<K, T, E> {
     /// Memory for one more entry was refused. Key and data come back, no closure was called, and no entry has changed.
     NoMemory(K, T),
 
-    /// The closure that was called answered this error.
+    /// The closure that was called returned this error.
     Failed(E),
 }
 

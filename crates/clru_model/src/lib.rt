@@ -1,11 +1,11 @@
-//! The model of a cache, over lists alone: what the words of the contracts mean, the laws, and the lemmas on them.
+//! The model of a cache, over lists alone: the definitions that contracts cite, their laws and lemmas.
 //!
-//! `specs/` defines entry lists, requests, schedules and runs of calls, in whose words the contracts of the crates above speak.
-//! `proofs/` has what is true of them, for proofs above to cite. A law is a function that does nothing, whose contract says it.
+//! `specs/` defines entry lists, requests, schedules and runs of calls; the contracts of the crates above cite these. `proofs/` has
+//! what is true of them, for proofs above to cite. A law is a function that does nothing; its contract states the law.
 //!
-//! Here is also what a cache is made from beside its capacity, and what a refused put answers. A scale says what a pair
-//! weighs. A hash builder hashes keys where none is given. A refused put answers why it was refused, and gives back what it
-//! was given or what a closure answered. No call of this crate takes memory.
+//! The crate also has what a cache takes besides its capacity, and the errors of a refused put. A scale gives the weight of a pair.
+//! A hash builder hashes keys if no other is given. A refused put says why, and gives back what it was given or what a closure
+//! returned. No call of this crate takes memory.
 #![tactic(auto)]
 
 mod error;

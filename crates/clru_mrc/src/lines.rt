@@ -1,7 +1,9 @@
 //! What is noted of the lines of an input: how many there are, which one leads, and which is the first without a size.
 
+use crate::several::SizesOfKeys;
 use clru_report::size_of;
 use std::alloc::AllocError;
+use std::hash::RandomState;
 
 /// So many bytes of a line are kept. One that is longer counts as one that is like no other.
 const MOST: usize = 4096;
@@ -15,8 +17,8 @@ pub(crate) struct Lines {
     pub(crate) count: u64,
     pub(crate) empty: u64,
     pub(crate) returns: u64,
-    // Whether each is to begin with a size.
-    sizes: bool,
+    // The sizes of keys, where each line is to begin with one.
+    sizes: Option<SizesOfKeys>,
     // What is read of a line whose end is not read yet, and its last byte.
     begun: Vec<u8>,
     last: Option<u8>,
@@ -32,12 +34,16 @@ pub(crate) struct Lines {
 }
 
 impl Lines {
-    pub(crate) fn new(rt: &HostRuntime, sizes: bool) -> Lines {
+    pub(crate) fn new(rt: &HostRuntime, sizes: bool, seed: RandomState) -> Lines {
         Lines {
             count: 0,
             empty: 0,
             returns: 0,
-            sizes,
+            sizes: if sizes {
+                Some(SizesOfKeys::new(rt, seed))
+            } else {
+                None
+            },
             begun: Vec::new(rt.alloc()),
             last: None,
             is_long: false,
@@ -94,16 +100,26 @@ impl Lines {
             Some(b'\r') => self.returns = self.returns.saturating_add(1),
             Some(_) => {}
         }
-        // (the size stands among the bytes that are kept, or the line has none)
-        if self.sizes && self.odd_number == 0 && size_of(&self.begun).is_none() {
-            self.odd_number = self.count;
-            let beginning = self.begun.get(..SHOWN).unwrap_or(&self.begun);
-            let _ = self.odd.extend_from_slice(beginning);
-        }
+        self.note_size();
         self.vote();
         self.begun.clear();
         self.last = None;
         self.is_long = false;
+    }
+
+    // (the size stands among the bytes that are kept, or the line has none)
+    fn note_size(&mut self) {
+        let Some(sizes) = &mut self.sizes else {
+            return;
+        };
+        if self.odd_number == 0 && size_of(&self.begun).is_none() {
+            self.odd_number = self.count;
+            let beginning = self.begun.get(..SHOWN).unwrap_or(&self.begun);
+            let _ = self.odd.extend_from_slice(beginning);
+        }
+        if !self.is_long {
+            sizes.note(&self.begun);
+        }
     }
 
     fn vote(&mut self) {
@@ -132,6 +148,14 @@ impl Lines {
             Some((self.seen, self.leader.as_slice()))
         } else {
             None
+        }
+    }
+
+    /// How many keys came with several sizes, and how many there are, where it is more than one in a hundred.
+    pub(crate) fn several_sizes(&self) -> Option<(usize, usize)> {
+        match &self.sizes {
+            Some(sizes) => sizes.told(),
+            None => None,
         }
     }
 

@@ -2,8 +2,12 @@
 
 use crate::lines::{Lines, instead_of_size, quoted};
 use clru_report::{Capacities, Options, Sample};
+use std::hash::RandomState;
 use std::io::{self, Read};
 use std::time::{Duration, Instant};
+
+// Fewer hits than one in so many requests look odd.
+const FEW_HITS: u64 = 100;
 
 /// Hands on what a reader gives, and looks at it.
 #[derive(Drop)]
@@ -21,7 +25,13 @@ pub(crate) struct Watch<'h, R> {
 impl<'h, R: Read> Watch<'h, R> {
     /// It tells of progress where it is asked to and the clock can be read, and of a line without a size where each is to have
     /// one.
-    pub(crate) fn new(rt: &'h HostRuntime, inner: R, progress: bool, sizes: bool) -> Self {
+    pub(crate) fn new(
+        rt: &'h HostRuntime,
+        inner: R,
+        progress: bool,
+        sizes: bool,
+        seed: RandomState,
+    ) -> Self {
         let told = if progress {
             Instant::now(rt).ok()
         } else {
@@ -32,7 +42,7 @@ impl<'h, R: Read> Watch<'h, R> {
             inner,
             told,
             bytes: 0,
-            lines: Lines::new(rt, sizes),
+            lines: Lines::new(rt, sizes, seed),
             has_zero: false,
             is_packed: false,
         }
@@ -62,6 +72,7 @@ impl<'h, R: Read> Watch<'h, R> {
             );
         }
         self.warn_of_misses(misses, options);
+        self.warn_of_sizes();
         if let Some((count, line)) = self.lines.most_of_all() {
             if let Ok(key) = quoted(self.rt, line) {
                 let _ = eprintln!(self.rt;
@@ -71,15 +82,21 @@ impl<'h, R: Read> Watch<'h, R> {
         }
     }
 
-    // What a sample misses is reckoned, so it does not tell that none hits.
+    fn warn_of_sizes(&self) {
+        if let Some((several, keys)) = self.lines.several_sizes() {
+            let _ = eprintln!(self.rt;
+                "clru_mrc: {several} of {keys} keys came with several sizes, and each size counts as an object of its own: give each key the greatest one, as LOGS.md shows"
+            );
+        }
+    }
+
+    // What a sample misses is reckoned, so it does not tell that few hit.
     fn warn_of_misses(&self, misses: Option<u64>, options: &Options) {
         let lines = self.lines.count;
         match (options.sample, &options.capacities) {
             (Sample::Whole, _) => {
-                if misses == Some(lines) && self.lines.are_many() {
-                    let _ = eprintln!(self.rt;
-                        "clru_mrc: none of {lines} requests hits at any of these capacities: is each line the whole line of a log?"
-                    );
+                if let Some(misses) = misses {
+                    self.warn_of_hits(lines.saturating_sub(misses));
                 }
             }
             (_, Capacities::Named(_)) if misses.is_none() => self.say(
@@ -92,6 +109,18 @@ impl<'h, R: Read> Watch<'h, R> {
             }
             _ => {}
         }
+    }
+
+    // Mostly such lines have a time in them.
+    fn warn_of_hits(&self, hits: u64) {
+        let lines = self.lines.count;
+        let are_few = hits.saturating_mul(FEW_HITS) < lines;
+        if !are_few || !self.lines.are_many() {
+            return;
+        }
+        let _ = eprintln!(self.rt;
+            "clru_mrc: only {hits} of {lines} requests hit, even at the greatest of these capacities: is each line the whole line of a log?"
+        );
     }
 
     fn say(&self, line: &str) {

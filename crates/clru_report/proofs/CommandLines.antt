@@ -10,7 +10,8 @@ use Rattle.std.proofs.lemmas.List.Sums.{fails_before_first}
 use Rattle.std.proofs.lemmas.Str.Pattern.{IsSplitOnceResult, split_once_first}
 use Rattle.std.specs.List.{after_first, before_first, position_or_len, slice_split}
 use Rattle.std.specs.Option.{option_and_then}
-use Rattle.clru_report.specs.CommandLine.{Asked, Reading, go_on, number_in, numbers_and, read_word, read_words}
+use Rattle.clru_report.specs.CommandLine.{Asked, Reading, go_on, numbers_and, read_word, read_words}
+use Rattle.clru_report.specs.Numbers.{number_in}
 use Rattle.clru_report.specs.declared.arguments.Value.{Value}
 
 abbrev is_comma : ℕ → Bool

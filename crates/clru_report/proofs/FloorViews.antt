@@ -2,8 +2,11 @@
 use Rattle.std.proofs.Common.{◌≡◌, ℕ, suc, ◌+◌, ◌-◌, ◌*◌, ◌/◌, max, Bool, cond, List, [], ◌∷◌, length, map, reverse, refl, sym, ap, ◌∙◌}
 use Rattle.std.proofs.lemmas.List.{length-map}
 use Rattle.clru_model.proofs.Views.{same, distinct-map, holds-map, map-reverse, since-map}
-use Rattle.clru_model.specs.Floor.{floor_misses, gap, greatest_of, most_hits, spared_after, volume, volumes_after}
+use Rattle.clru_model.specs.Floor.{floor_misses, floor_missed_size, gap, gaps_after, greatest_of, most_hits, spared_after, volume, volumes_after}
 use Rattle.clru_model.specs.Requests.{distinct, holds}
+use Rattle.clru_model.specs.Sizes.{total}
+use Rattle.clru_report.proofs.SizeViews.{size-view, total-view}
+use Rattle.std.specs.List.{sum_by}
 
 greatest_alike : (f g : ℕ → ℕ) → ((v : ℕ) → f v ≡ g v) → (n : ℕ) (ms : List ℕ) → greatest_of f n ms ≡ greatest_of g n ms
 greatest_alike f g alike n [] = refl
@@ -57,3 +60,25 @@ module _ {X Y : Type 0} (eq : Y → Y → Bool) (weight : Y → ℕ) (view : X �
       (λ v. ap (λ n. n - most_hits eq weight (λ _. 1) h v (map view rs)) (length-map rs view)
       ∙ ap (λ k. length rs - k) (hits-view (λ _. 1) h v rs))
       (distinct (same eq view) (reverse rs)) (volumes_after (same eq view) seen [] rs)
+
+  gaps-view : (past rs : List X) → gaps_after eq (map view past) (map view rs) ≡ gaps_after (same eq view) past rs
+  gaps-view past [] = refl
+  gaps-view past (x ∷ rs) =
+      let later = gaps_after eq (map view (x ∷ past)) (map view rs) in
+      let held = holds (same eq view) x past in
+      ap (λ b. cond b (gap eq (view x) (map view past) ∷ later) later) (holds-map eq view x past)
+      ∙ ap (λ g. cond held (g ∷ later) later) (gap-view x past)
+      ∙ ap (λ gs. cond held (gap (same eq view) x past ∷ gs) gs) (gaps-view (x ∷ past) rs)
+
+  pub size_floor-view : (h : ℕ) (rs : List X) → floor_missed_size eq weight h (map view rs) ≡ floor_missed_size (same eq view) seen h rs
+  size_floor-view h rs =
+      let size = λ (y : Y). 1 + weight y in
+      let of_view = λ (g : ℕ). sum_by size (map view rs) - most_hits eq weight size h g (map view rs) in
+      let of_keys = λ (g : ℕ). sum_by (λ x. 1 + seen x) rs - most_hits (same eq view) seen (λ x. 1 + seen x) h g rs in
+      ap (greatest_of of_view (total eq weight (reverse (map view rs)))) (gaps-view [] rs)
+      ∙ ap (λ n. greatest_of of_view n (gaps_after (same eq view) [] rs))
+      (ap (total eq weight) (sym (map-reverse view rs)) ∙ total-view eq weight view (reverse rs))
+      ∙ greatest_alike of_view of_keys
+      (λ g. ap (λ n. n - most_hits eq weight size h g (map view rs)) (size-view eq weight view rs)
+      ∙ ap (λ k. sum_by (λ x. 1 + seen x) rs - k) (hits-view size h g rs))
+      (total (same eq view) seen (reverse rs)) (gaps_after (same eq view) [] rs)

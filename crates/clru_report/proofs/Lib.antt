@@ -8,6 +8,7 @@ mod Forms
 mod LeastLemmas
 mod OffLines
 mod ReportLemmas
+mod RowLaws
 mod RowLemmas
 mod Samples
 mod SettledCurves

@@ -14,7 +14,7 @@ module _ {X Y : Type 0} (eq : Y → Y → Bool) (weight : Y → ℕ) (view : X �
   seen x = weight (view x)
 
   -- the distinct views have the same size together
-  total-view : (ks : List X) → total eq weight (map view ks) ≡ total (same eq view) seen ks
+  pub total-view : (ks : List X) → total eq weight (map view ks) ≡ total (same eq view) seen ks
   total-view [] = refl
   total-view (x ∷ earlier) =
       ap (λ b. cond b (total eq weight (map view earlier)) (1 + weight (view x) + total eq weight (map view earlier)))

@@ -1,5 +1,5 @@
 -- From a curve and its rows to the report of the lines that it is of, and to why there is none.
-use Rattle.std.proofs.Common.{◌≡◌, ℕ, ◌+◌, ◌≤◌, Bool, true, false, cond, List, [], ◌∷◌, None, Some, min, length, reverse, refl, sym, ap, ◌∙◌, subst, arith}
+use Rattle.std.proofs.Common.{◌≡◌, ℕ, ◌+◌, ◌≤◌, Bool, true, false, cond, List, [], ◌∷◌, Option, None, Some, min, length, reverse, refl, sym, ap, ◌∙◌, subst, arith}
 use Rattle.std.specs.Prelude.{bytes_eq, ◌==◌}
 use Rattle.std.proofs.lemmas.Bool.{eqb-true}
 use Rattle.std.proofs.lemmas.List.Elements.{All-map, All-weaker}
@@ -7,21 +7,24 @@ use Rattle.std.specs.List.{All, AllByRecursion}
 use Rattle.clru_curve.specs.SizedCurves.{CurveBySize, IsSizedCurveOf, misses_within, missed_size_within}
 use Rattle.clru_model.proofs.Cases.{split}
 use Rattle.clru_model.proofs.Spans.{room_misses_first}
+use Rattle.clru_least.specs.FloorNumbers.{size_floor_at}
+use Rattle.clru_model.specs.Floor.{floor_misses}
 use Rattle.clru_model.specs.Requests.{distinct, holds}
 use Rattle.clru_model.specs.Sizes.{total, misses_by_size}
 use Rattle.clru_report.specs.Capacities.{sized_capacities_of, usual_from}
 use Rattle.clru_report.specs.Faithful.{IsFaithful}
 use Rattle.clru_report.specs.Knees.{knees}
 use Rattle.clru_report.specs.Faults.{is_of_writing}
-use Rattle.clru_report.specs.Passes.{IsOfAsked, IsOfCapacities, IsRowOf, IsTableOf, IsUsualOn, capacities_on, distinct_in}
+use Rattle.clru_report.specs.Passes.{AreFloorsFor, IsOfAsked, IsOfCapacities, IsRowOf, IsTableOf, IsUsualOn, capacities_on, distinct_in, floors_at}
 use Rattle.clru_report.specs.Refusals.{IsRefusedFor, IsSaidOf, fault_beside, fault_from, fault_of, is_of_input, names_below}
-use Rattle.clru_report.specs.SizedReport.{IsSizedRow, IsSizedTable, IsSizedUsualTable, distinct_size, missed_of, summary_by_size}
-use Rattle.clru_report.specs.SizedTables.{capacity_of_sized_row, sized_summary_text, sized_table_text}
+use Rattle.clru_report.specs.SizedReport.{HasFloors, IsSizedRow, IsSizedTable, IsSizedUsualTable, distinct_size, missed_of, summary_by_size}
+use Rattle.clru_report.specs.SizedTables.{capacity_of_sized_row, row_floor, sized_summary_text, sized_table_text}
 use Rattle.clru_report.specs.Sizes.{HaveSizes, greatest_size, size_of_lines, weight_of_line}
 use Rattle.clru_lines.specs.declared.fault.Fault.{Fault}
 use Rattle.clru_lines.specs.declared.fault.Fault.TheVariants.{BadCapacity, Memory, Reading, Writing, Closed, NoSize, TooLarge, TooSmall}
 use Rattle.clru_report.specs.declared.options.Capacities.{Capacities}
 use Rattle.clru_report.specs.declared.options.Options.{Options}
+use Rattle.clru_report.specs.declared.sized.floors.Floors.{Floors}
 use Rattle.clru_report.specs.declared.sized.rows.SizedRow.{SizedRow}
 use Rattle.clru_report.proofs.CapacityLemmas.{none_below, sized-alike, usual_from_some, usual_high}
 use Rattle.clru_report.proofs.FaithfulTables.{faithful_alike, knees_alike, table_from}
@@ -69,24 +72,39 @@ module _ (lines : List (List ℕ)) (curve : CurveBySize) (is : IsSizedCurveOf by
       table_from (missed_size_within curve) whole (1 + curve.greatest_weight) _ table u.faithful.added
       (usual_high (1 + curve.greatest_weight) curve.distinct_size)
 
-  pub row_is : (row : SizedRow) → IsRowOf curve row → IsSizedRow lines row
-  row_is row r = record {
-    misses = r.misses ∙ is.misses (capacity_of_sized_row row);
-    missed_size = r.missed_size ∙ is.missed_size (capacity_of_sized_row row);
-    holds_each = omega (arith, r.answered, greatest_is);
-  }
+  -- where both floors are those of the lines, so are those of a row
+  floors_are : {A : Type 0} (floored : Bool) (floors : Option (Floors A)) (row : SizedRow) → AreFloorsFor floored lines floors
+      → row.floor ≡ floors_at floors (capacity_of_sized_row row) → HasFloors lines floored row
+  floors_are floored None row none at = subst (λ b. HasFloors lines b row) (sym none) at
+  floors_are floored (Some floors) row both at =
+      let c = capacity_of_sized_row row in
+      subst (λ b. HasFloors lines b row) (sym both.0)
+      (at ∙ ap (λ n. Some (row_floor n (size_floor_at floors.missed_size c))) (both.1 c)
+      ∙ ap (λ n. Some (row_floor (floor_misses bytes_eq weight_of_line c lines) n)) (both.2 c))
 
-  pub table_is : {A : Type 0} (options : Options A) (text : List ℕ) → IsTableOf curve options.capacities text
-      → IsSizedTable options lines text
-  table_is options text t =
+  module _ {A : Type 0} (floored : Bool) (floors : Option (Floors A)) (both : AreFloorsFor floored lines floors) where
+    pub row_is : (row : SizedRow) → IsRowOf curve floors row → IsSizedRow lines floored row
+    row_is row r = record {
+      misses = r.misses ∙ is.misses (capacity_of_sized_row row);
+      missed_size = r.missed_size ∙ is.missed_size (capacity_of_sized_row row);
+      floors = floors_are floored floors row both r.floor;
+      holds_each = omega (arith, r.answered, greatest_is);
+    }
+
+  pub table_is : {A : Type 0} (options : Options A) (floors : Option (Floors A)) (text : List ℕ) → AreFloorsFor options.floor lines floors
+      → IsTableOf curve floors options.floor options.capacities text → IsSizedTable options lines text
+  table_is options floors text both t =
       let usual = usual_is curve.size t.table t.marked t.usual in (
         t.table,
         t.rows,
         subst (λ n. IsSizedUsualTable n lines t.table) is.size usual.0,
-        (t.rowed.0 ∙ capacities_are options.capacities t.table, All-weaker (IsRowOf curve) (IsSizedRow lines) row_is t.rows t.rowed.1),
-        t.is ∙ ap (λ n. sized_table_text n curve.size t.marked t.rows) is.requests_in_all
-            ∙ ap (λ ks. sized_table_text (length lines) curve.size ks t.rows) usual.1
-            ∙ ap (λ n. sized_table_text (length lines) n (knees (missed_of lines) n t.table) t.rows) is.size,
+        (
+          t.rowed.0 ∙ capacities_are options.capacities t.table,
+          All-weaker (IsRowOf curve floors) (IsSizedRow lines options.floor) (row_is options.floor floors both) t.rows t.rowed.1,
+        ),
+        t.is ∙ ap (λ n. sized_table_text options.floor n curve.size t.marked t.rows) is.requests_in_all
+            ∙ ap (λ ks. sized_table_text options.floor (length lines) curve.size ks t.rows) usual.1
+            ∙ ap (λ n. sized_table_text options.floor (length lines) n (knees (missed_of lines) n t.table) t.rows) is.size,
       )
 
   -- with room for all keys each misses once
@@ -114,10 +132,11 @@ module _ (lines : List (List ℕ)) (curve : CurveBySize) (is : IsSizedCurveOf by
       (distinct_size lines) (min n (distinct_size lines))) greatest_is
 
   -- rows have no fault
-  pub rows_free : {A : Type 0} (options : Options A) (text : List ℕ) → IsTableOf curve options.capacities text
+  pub rows_free : {A : Type 0} (options : Options A) (floors : Option (Floors A)) (text : List ℕ)
+      → IsTableOf curve floors options.floor options.capacities text
       → fault_from 1 0 lines ≡ None → fault_of options lines ≡ None
-  rows_free options text t free =
-      let high = All-weaker (IsRowOf curve) (λ row. greatest_size lines ≤ capacity_of_sized_row row)
+  rows_free options floors text t free =
+      let high = All-weaker (IsRowOf curve floors) (λ row. greatest_size lines ≤ capacity_of_sized_row row)
       (λ row r. omega (arith, r.answered, greatest_is)) t.rows t.rowed.1 in
       let all = subst (All (λ c. greatest_size lines ≤ c)) t.rowed.0 (All-map (λ c. greatest_size lines ≤ c) capacity_of_sized_row t.rows high) in
       told_beside options lines None free (none_beside options.form options.capacities (greatest_size lines)

@@ -1,20 +1,22 @@
 -- Of lines of which some are kept, and of the curve of the kept ones: one more line, and the report.
-use Rattle.std.proofs.Common.{◌≡◌, ℕ, ◌+◌, ◌-◌, ◌^◌, nat_le, List, [], ◌∷◌, ◌++◌, IsSome, min, length, reverse, ap, ◌∙◌, subst, arith}
+use Rattle.std.proofs.Common.{◌≡◌, ℕ, ◌+◌, ◌-◌, ◌^◌, nat_le, Bool, Option, List, [], ◌∷◌, ◌++◌, IsSome, min, length, reverse, ap, ◌∙◌, subst, arith}
 use Rattle.std.specs.Prelude.{bytes_eq}
 use Rattle.std.specs.List.{filter}
 use Rattle.std.proofs.lemmas.List.Elements.{All-push, All-weaker}
 use Rattle.std.proofs.lemmas.List.Sums.{sum_by-append, sum_by-cons}
 use Rattle.clru_curve.specs.SizedCurves.{CurveBySize, IsSizedCurveOf}
 use Rattle.clru_curve.specs.SizedPasses.{PassBySize}
+use Rattle.clru_least.specs.Reuses.{Reused}
 use Rattle.clru_lines.specs.declared.lines.OwnedKey.{OwnedKey}
 use Rattle.clru_lines.specs.Lines.{lines_of}
 use Rattle.clru_model.specs.Requests.{distinct}
-use Rattle.clru_report.specs.Passes.{AreRowsOf, HasTaken, HasTakenOf, IsRowOf, IsSizedCurveOfKept, capacities_on, distinct_in}
+use Rattle.clru_report.specs.Passes.{AreFloorsFor, AreRowsOf, HasTaken, HasTakenOf, IsRowOf, IsSizedCurveOfKept, capacities_on, distinct_in}
 use Rattle.clru_report.specs.Samples.{kept_of, times}
 use Rattle.clru_report.specs.SizedReport.{AreSizedRows, IsSizedRow, distinct_size, sized_capacities_of_sample, summary_by_size_of_sample}
 use Rattle.clru_report.specs.SizedTables.{sized_summary_text}
 use Rattle.clru_report.specs.Sizes.{greatest_size, size_of_line, size_of_lines, weight_of_line}
 use Rattle.clru_report.specs.declared.options.Options.{Options}
+use Rattle.clru_report.specs.declared.sized.floors.Floors.{Floors}
 use Rattle.clru_report.specs.declared.sized.rows.SizedRow.{SizedRow}
 use Rattle.clru_report.proofs.Samples.{all_kept}
 use Rattle.clru_report.proofs.SizedReports.{capacities_are, distinct_are, greatest_is, row_is}
@@ -34,10 +36,11 @@ size_more lines rest line = omega (
   sum_by-cons (λ x. 1 + weight_of_line x) line rest,
 )
 
-pub counted_more : {A : Type 0} (n : ℕ) (lines : List (List ℕ)) (line : List ℕ) (size more : ℕ) (pass next : PassBySize (OwnedKey A))
-    → HasTakenOf n lines size pass → IsSome (size_of_line line) → more ≡ size + (1 + weight_of_line line)
-    → HasTaken (kept_of n (lines ++ line ∷ [])) next → HasTakenOf n (lines ++ line ∷ []) more next
-counted_more n lines line size more pass next of sized sum taken = record {
+pub counted_more : {A : Type 0} (floored : Bool) (n : ℕ) (lines : List (List ℕ)) (line : List ℕ) (size more : ℕ)
+    (pass next : PassBySize (OwnedKey A)) (reused after : Option Reused)
+    → HasTakenOf floored n lines size pass reused → IsSome (size_of_line line) → more ≡ size + (1 + weight_of_line line)
+    → HasTaken floored (kept_of n (lines ++ line ∷ [])) next after → HasTakenOf floored n (lines ++ line ∷ []) more next after
+counted_more floored n lines line size more pass next reused after of sized sum taken = record {
   sizes = All-push (λ l. IsSome (size_of_line l)) lines line of.sizes sized;
   summed = omega (arith, sum, of.summed, size_more lines [] line);
   taken = taken;
@@ -45,13 +48,14 @@ counted_more n lines line size more pass next of sized sum taken = record {
 
 module _ (kept : List (List ℕ)) (curve : CurveBySize) (is : IsSizedCurveOf bytes_eq weight_of_line kept curve) where
   -- the capacities that the curve answers are those at which kept lines have rows
-  pub rows_kept : {A : Type 0} (options : Options A) (table : List ℕ) (rows : List SizedRow)
-      → AreRowsOf curve (filter (λ c. nat_le (1 + curve.greatest_weight) c) (capacities_on curve options.capacities table)) rows
-      → AreSizedRows kept (sized_capacities_of_sample options kept table) rows
-  rows_kept options table rows t = (
+  pub rows_kept : {A : Type 0} (options : Options A) (floors : Option (Floors A)) (table : List ℕ) (rows : List SizedRow)
+      → AreFloorsFor options.floor kept floors
+      → AreRowsOf curve floors (filter (λ c. nat_le (1 + curve.greatest_weight) c) (capacities_on curve options.capacities table)) rows
+      → AreSizedRows kept options.floor (sized_capacities_of_sample options kept table) rows
+  rows_kept options floors table rows both t = (
     t.0 ∙ ap (λ g. filter (λ c. nat_le g c) (capacities_on curve options.capacities table)) (greatest_is kept curve is)
         ∙ ap (filter (λ c. nat_le (greatest_size kept) c)) (capacities_are kept curve is options.capacities table),
-    All-weaker (IsRowOf curve) (IsSizedRow kept) (row_is kept curve is) rows t.1,
+    All-weaker (IsRowOf curve floors) (IsSizedRow kept options.floor) (row_is kept curve is options.floor floors both) rows t.1,
   )
 
   pub summary_kept : (input text : List ℕ) (n all size bytes : ℕ) → text ≡ sized_summary_text all

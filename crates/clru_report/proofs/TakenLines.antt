@@ -1,16 +1,14 @@
 -- What a pass knows that has taken lines: one more line, and the curve.
-use Rattle.std.proofs.Common.{◌≡◌, Bool, ℕ, ◌+◌, ◌≤◌, ◌^◌, List, None, [], ◌∷◌, ◌++◌, IsNone, IsSome, IfSome, Option, not, map, length, reverse, take, Some, refl, sym, ap, ◌∙◌, subst, arith}
+use Rattle.std.proofs.Common.{◌≡◌, Bool, ℕ, ◌+◌, List, None, [], ◌∷◌, ◌++◌, IsNone, IsSome, IfSome, Option, not, map, length, reverse, take, Some, refl, sym, ap, ◌∙◌, subst}
 use Rattle.std.specs.Prelude.{bytes_eq, IsSomeAnd}
 use Rattle.std.specs.List.{list_any, slice_get, take_while}
 use Rattle.std.proofs.lemmas.Grind.{reverse_onto}
 use Rattle.std.proofs.lemmas.List.{map-append}
 use Rattle.std.proofs.lemmas.List.Elements.{All-push}
-use Rattle.std.proofs.lemmas.List.Sorted.{sum_by-IsPermutation, IsPermutation-reverse}
-use Rattle.std.proofs.lemmas.List.Sums.{sum_by-append, sum_by-cons}
 use Rattle.clru_curve.specs.SizedCurves.{CurveBySize, IsSizedCurveOf}
 use Rattle.clru_curve.specs.SizedPasses.{PassBySize, IsSizedPass}
 use Rattle.clru_lines.specs.declared.lines.OwnedKey.{OwnedKey}
-use Rattle.clru_report.proofs.SizeViews.{curve-view, size-view}
+use Rattle.clru_report.proofs.SizeViews.{curve-view}
 use Rattle.clru_curve.specs.Curves.{HasMissesOf}
 use Rattle.clru_curve.specs.Passes.{IsPass, Pass}
 use Rattle.clru_least.specs.Passes.{IsLatestOf}
@@ -18,9 +16,9 @@ use Rattle.clru_least.specs.Reuses.{Reused}
 use Rattle.clru_model.proofs.Views.{distinct-map, map-reverse, misses-map}
 use Rattle.clru_model.specs.Requests.{distinct}
 use Rattle.std.proofs.lemmas.List.{reverse-reverse}
-use Rattle.clru_report.specs.Passes.{HasFloorPass, HasForesight, HasTaken, HasTakenFor, HasTakenKey, HasTakenLines, IsForeseenFor, line_of, same_line, weight_of_key}
+use Rattle.clru_report.specs.Passes.{HasFloorPass, HasForesight, HasTaken, HasTakenFor, HasTakenKey, HasTakenLines, HasTakenSized, IsForeseenFor, line_of, same_line, weight_of_key}
 use Rattle.clru_report.specs.Refusals.{IsFirstWithout}
-use Rattle.clru_report.specs.Sizes.{HaveSizes, size_of_line, size_of_lines, weight_of_line}
+use Rattle.clru_report.specs.Sizes.{HaveSizes, size_of_line, weight_of_line}
 
 -- one more key shows one more line
 shown_more : {A : Type 0} (key : OwnedKey A) (past : List (OwnedKey A))
@@ -56,7 +54,7 @@ module _ {A : Type 0} (least floored : Bool) (lines : List (List ℕ)) (pass : P
   -- one more line
   pub one_taken : (line : List ℕ) (next : Pass (OwnedKey A)) (after : Option (List ℕ)) (more : Option Reused)
       → ((same : OwnedKey A) → line_of same ≡ line → HasForesight least (same ∷ all.past) after)
-      → ((same : OwnedKey A) → line_of same ≡ line → HasFloorPass floored (same ∷ all.past) more)
+      → ((same : OwnedKey A) → line_of same ≡ line → HasFloorPass (λ _. 0) floored (same ∷ all.past) more)
       → HasTakenKey all.past line next → HasTakenFor least floored (lines ++ line ∷ []) next after more
   one_taken line next after more foreseen noted one = record {
     past = one.key ∷ all.past;
@@ -87,38 +85,23 @@ module _ {A : Type 0} (lines : List (List ℕ)) (pass : Pass (OwnedKey A)) (take
         ∙ ap (distinct bytes_eq) (sym (reverse-reverse (map line_of taken.past))
         ∙ ap reverse (sym (map-reverse line_of taken.past) ∙ taken.shown))
 
-module _ {A : Type 0} (lines : List (List ℕ)) (pass : PassBySize (OwnedKey A)) (taken : HasTaken lines pass) where
-  pub taken_more : (key : OwnedKey A) (line : List ℕ) (next : PassBySize (OwnedKey A)) → line_of key ≡ line
-      → IsSome (size_of_line line)
-      → ((past : List (OwnedKey A)) → IsSizedPass same_line weight_of_key past pass → IsSizedPass same_line weight_of_key (key ∷ past) next)
-      → HasTaken (lines ++ line ∷ []) next
-  taken_more key line next is size step = record {
-    past = key ∷ taken.past;
-    shown = one_more lines taken.past key line taken.shown is;
+pub sized_taken : {A : Type 0} (past : List (OwnedKey A)) (key : OwnedKey A) (line : List ℕ) (next : PassBySize (OwnedKey A))
+    → line_of key ≡ line → IsSizedPass same_line weight_of_key (key ∷ past) next → HasTakenSized past line next
+sized_taken past key line next is taken = record { key = key; is = is; taken = taken }
+
+module _ {A : Type 0} (floored : Bool) (lines : List (List ℕ)) (pass : PassBySize (OwnedKey A)) (reused : Option Reused)
+    (taken : HasTaken floored lines pass reused) where
+  -- one more line, which has a size
+  pub taken_more : (line : List ℕ) (next : PassBySize (OwnedKey A)) (more : Option Reused) → IsSome (size_of_line line)
+      → ((same : OwnedKey A) → line_of same ≡ line → HasFloorPass weight_of_line floored (same ∷ taken.past) more)
+      → HasTakenSized taken.past line next → HasTaken floored (lines ++ line ∷ []) next more
+  taken_more line next more size noted one = record {
+    past = one.key ∷ taken.past;
+    shown = one_more lines taken.past one.key line taken.shown one.is;
     sizes = All-push (λ l. IsSome (size_of_line l)) lines line taken.sizes size;
-    taken = step taken.past taken.taken;
+    taken = one.taken;
+    floored = noted one.key one.is;
   }
-
-  -- the pass knows the size of all
-  size_taken : pass.size ≡ size_of_lines lines
-  size_taken = omega (
-    arith,
-    taken.taken.size,
-    sum_by-IsPermutation (λ x. 1 + weight_of_key x) taken.past (reverse taken.past) (IsPermutation-reverse taken.past),
-    size-view bytes_eq weight_of_line line_of (reverse taken.past),
-    ap size_of_lines taken.shown,
-  )
-
-  -- with one more they are too large, and all lines are
-  pub too_large_more : (line : List ℕ) (rest : List (List ℕ)) → 2 ^ 64 ≤ pass.size + (1 + weight_of_line line)
-      → 2 ^ 64 ≤ size_of_lines (lines ++ line ∷ rest)
-  too_large_more line rest large = omega (
-    arith,
-    large,
-    size_taken,
-    sum_by-append (λ x. 1 + weight_of_line x) lines (line ∷ rest),
-    sum_by-cons (λ x. 1 + weight_of_line x) line rest,
-  )
 
   pub curve_taken : (curve : CurveBySize)
       → ((past : List (OwnedKey A)) → IsSizedPass same_line weight_of_key past pass → IsSizedCurveOf same_line weight_of_key (reverse past) curve)

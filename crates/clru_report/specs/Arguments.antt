@@ -56,10 +56,6 @@ pub record IsSortedSet (numbers sorted : List ℕ) : Type 0 where
 abbrev pub wants_rows : Asked → Bool
 wants_rows asked = asked.all || is_some_of asked.named || asked.least || asked.floor || asked.svg
 
--- something is asked for that is told by keys alone
-abbrev pub wants_keys : Asked → Bool
-wants_keys asked = asked.least || asked.floor
-
 -- something is asked for that pictures alone have
 abbrev pub wants_look : Asked → Bool
 wants_look asked = is_some asked.title || is_some asked.unit || is_some asked.from || is_some asked.to
@@ -67,7 +63,7 @@ wants_look asked = is_some asked.title || is_some asked.unit || is_some asked.fr
 -- no two of the flags exclude one another, those of a sample aside
 abbrev pub forms_go_together : Asked → Bool
 forms_go_together asked = not (asked.all && is_some_of asked.named)
-    && (not (asked.summary && wants_rows asked) && (not (asked.sizes && wants_keys asked) && not (wants_look asked && not asked.svg)))
+    && (not (asked.summary && wants_rows asked) && (not (asked.sizes && asked.least) && not (wants_look asked && not asked.svg)))
 
 -- two samples are asked for
 abbrev pub wants_two : Asked → Bool

@@ -1,9 +1,8 @@
 -- What the arguments of a command line ask for, read one after the other. Public clauses cite it.
-use Rattle.std.specs.Prelude.{ℕ, ◌-◌, ◌*◌, ◌^◌, ◌==◌, Bool, true, false, ◌||◌, nat_eq, nat_lt, List, [], ◌∷◌, ◌++◌, Option, None, Some, length, take, drop, codes, bytes_eq, if◌then◌else◌}
-use Rattle.std.specs.List.{ends_with, slice_split, starts_with}
+use Rattle.std.specs.Prelude.{ℕ, ◌==◌, Bool, true, false, ◌||◌, nat_eq, List, [], ◌∷◌, ◌++◌, Option, None, Some, drop, codes, bytes_eq, if◌then◌else◌}
+use Rattle.std.specs.List.{slice_split, starts_with}
 use Rattle.std.specs.Option.{option_and_then, option_or}
-use Rattle.std.specs.Str.Parse.{digits_value}
-use Rattle.clru_lines.specs.Lines.{is_capacity}
+use Rattle.clru_report.specs.Numbers.{number_in}
 use Rattle.clru_report.specs.declared.arguments.Value.{Value}
 use Rattle.clru_report.specs.declared.arguments.Value.TheVariants.{Capacities, Sample, Sampled, Requests, Title, Unit, From, To}
 
@@ -47,31 +46,6 @@ nothing = record {
 abbrev pub with_value : {X : Type 0} → (X → Asked) → Option X → Option Asked
 with_value f None = None
 with_value f (Some x) = Some (f x)
-
--- a number times a unit, where that is below 2 ^ 64
-abbrev pub in_units : ℕ → ℕ → Option ℕ
-in_units unit n = if nat_lt (n * unit) (2 ^ 64) then Some (n * unit) else None
-
--- the number that digits name, times a unit
-abbrev pub digits_in : ℕ → List ℕ → Option ℕ
-digits_in unit digits = if is_capacity digits then in_units unit (digits_value 10 digits) else None
-
--- how many letters of a unit a word ends in, and what the unit counts; none is one of one
-abbrev pub decimal_unit_of : List ℕ → ℕ × ℕ
-decimal_unit_of word =
-    if ends_with nat_eq word (codes "K") then (1, 10 ^ 3) else
-    (if ends_with nat_eq word (codes "M") then (1, 10 ^ 6) else
-    (if ends_with nat_eq word (codes "G") then (1, 10 ^ 9) else (0, 1)))
-
-abbrev pub unit_of : List ℕ → ℕ × ℕ
-unit_of word =
-    if ends_with nat_eq word (codes "KiB") then (3, 2 ^ 10) else
-    (if ends_with nat_eq word (codes "MiB") then (3, 2 ^ 20) else
-    (if ends_with nat_eq word (codes "GiB") then (3, 2 ^ 30) else decimal_unit_of word))
-
--- the number that a word names: digits, and behind them a unit or none
-abbrev pub number_in : List ℕ → Option ℕ
-number_in word = digits_in (unit_of word).1 (take (length word - (unit_of word).0) word)
 
 -- these numbers, and behind them those that the parts name, if each names one
 abbrev pub numbers_and : List ℕ → List (List ℕ) → Option (List ℕ)

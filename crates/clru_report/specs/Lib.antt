@@ -5,9 +5,11 @@ pub mod CommandLine
 pub mod Faithful
 pub mod Faults
 pub mod Knees
+pub mod Numbers
 pub mod Passes
 pub mod Refusals
 pub mod Report
+pub mod RowLaws
 pub mod Samples
 pub mod Scans
 pub mod SizedReport

@@ -6,7 +6,7 @@ use Rattle.clru_curve.specs.SizedPasses.{PassBySize, IsSizedPass}
 use Rattle.clru_curve.specs.Curves.{HasMissesOf}
 use Rattle.clru_curve.specs.Passes.{IsPass, Pass}
 use Rattle.clru_least.specs.Passes.{IsForesight}
-use Rattle.clru_least.specs.FloorNumbers.{Floored, IsFloorOf}
+use Rattle.clru_least.specs.FloorNumbers.{Floored, IsFloorOf, IsSizeFloorOf, floor_at, size_floor_at}
 use Rattle.clru_least.specs.Reuses.{IsFloorPass, Reused}
 use Rattle.clru_lines.specs.Lines.{lines_of}
 use Rattle.clru_lines.specs.declared.lines.OwnedKey.{OwnedKey}
@@ -18,7 +18,7 @@ use Rattle.clru_report.specs.Refusals.{IsFirstWithout, fault_from}
 use Rattle.clru_report.specs.Samples.{kept_of}
 use Rattle.clru_report.specs.Sizes.{HaveSizes, size_of_lines, weight_of_line}
 use Rattle.clru_report.specs.Tables.{HasTable, summary_text, table_text}
-use Rattle.clru_report.specs.SizedTables.{capacity_of_sized_row, sized_table_text}
+use Rattle.clru_report.specs.SizedTables.{capacity_of_sized_row, row_floor, sized_table_text}
 use Rattle.clru_lines.specs.declared.fault.Fault.{Fault}
 use Rattle.clru_lines.specs.declared.fault.Fault.TheVariants.{BadCapacity, Memory, Reading, Writing, Closed, NoSize, TooLarge, TooSmall}
 use Rattle.clru_report.specs.declared.options.Capacities.{Capacities}
@@ -27,6 +27,8 @@ use Rattle.clru_report.specs.declared.options.Form.TheVariants.{Table, Picture, 
 use Rattle.clru_report.specs.declared.options.Options.{Options}
 use Rattle.clru_report.specs.declared.rows.Row.{Row}
 use Rattle.clru_report.specs.declared.text.Counts.{Counts}
+use Rattle.clru_report.specs.declared.sized.floors.Floors.{Floors}
+use Rattle.clru_report.specs.declared.sized.floors.RowFloor.{RowFloor}
 use Rattle.clru_report.specs.declared.sized.rows.SizedRow.{SizedRow}
 
 -- the bytes of the line that a key is
@@ -94,10 +96,10 @@ abbrev pub HasForesight : {A : Type 0} → Bool → List (OwnedKey A) → Option
 HasForesight least past None = least ≡ false
 HasForesight least past (Some later) = (least ≡ true) × IsForesight same_line past later
 
--- and so is the pass for a floor, where each key takes one place
-abbrev pub HasFloorPass : {A : Type 0} → Bool → List (OwnedKey A) → Option Reused → Type 0
-HasFloorPass floor past None = floor ≡ false
-HasFloorPass floor past (Some reused) = (floor ≡ true) × IsFloorPass same_line (λ _. 0) past reused
+-- and so is the pass for a floor, where keys weigh what is said of their lines
+abbrev pub HasFloorPass : {A : Type 0} → (List ℕ → ℕ) → Bool → List (OwnedKey A) → Option Reused → Type 0
+HasFloorPass weight floor past None = floor ≡ false
+HasFloorPass weight floor past (Some reused) = (floor ≡ true) × IsFloorPass same_line (λ key. weight (line_of key)) past reused
 
 -- the pass took these lines, and so did what is asked for beside it
 pub record HasTakenFor {A : Type 0} (least floor : Bool) (lines : List (List ℕ)) (pass : Pass (OwnedKey A))
@@ -106,7 +108,7 @@ pub record HasTakenFor {A : Type 0} (least floor : Bool) (lines : List (List ℕ
   pub shown : map line_of (reverse past) ≡ lines
   pub taken : IsPass same_line past pass
   pub foreseen : HasForesight least past later
-  pub floored : HasFloorPass floor past reused
+  pub floored : HasFloorPass (λ _. 0) floor past reused
 
 abbrev pub IsForeseenFor : Type 0 → Bool → List (List ℕ) → Option (List ℕ) → Type 0
 IsForeseenFor A least lines None = least ≡ false
@@ -116,24 +118,43 @@ abbrev pub IsFloorFor : Bool → List (List ℕ) → Option Floored → Type 0
 IsFloorFor floor lines None = floor ≡ false
 IsFloorFor floor lines (Some floored) = (floor ≡ true) × IsFloorOf bytes_eq (λ _. 0) lines floored
 
+-- both floors by size are there if they are asked for
+abbrev pub AreFloorsFor : {A : Type 0} → Bool → List (List ℕ) → Option (Floors A) → Type 0
+AreFloorsFor floor lines None = floor ≡ false
+AreFloorsFor floor lines (Some floors) = (floor ≡ true)
+    × IsFloorOf bytes_eq weight_of_line lines floors.misses × IsSizeFloorOf bytes_eq weight_of_line lines floors.missed_size
+
+-- what they are at a capacity
+abbrev pub floors_at : {A : Type 0} → Option (Floors A) → ℕ → Option RowFloor
+floors_at None c = None
+floors_at (Some floors) c = Some (row_floor (floor_at floors.misses c) (size_floor_at floors.missed_size c))
+
 -- the text in the form, with these rows, knees and numbers
 abbrev pub IsTextByKeys : Form → Bool → Bool → Counts → List ℕ → List Row → List ℕ → Type 0
 IsTextByKeys Table least floor counts knees rows text = text ≡ table_text least floor counts.requests knees rows
 IsTextByKeys Picture least floor counts knees rows text = HasTable (table_text least floor counts.requests knees rows) text
 IsTextByKeys Summary least floor counts knees rows text = text ≡ summary_text counts.requests counts.distinct counts.bytes
 
--- the pass took these lines, each of which has a size
-pub record HasTaken {A : Type 0} (lines : List (List ℕ)) (pass : PassBySize (OwnedKey A)) : Type 0 where
+-- the pass took these lines, each of which has a size, and so did that for a floor if it is asked for
+pub record HasTaken {A : Type 0} (floor : Bool) (lines : List (List ℕ)) (pass : PassBySize (OwnedKey A)) (reused : Option Reused) : Type 0 where
   pub past : List (OwnedKey A)
   pub shown : map line_of (reverse past) ≡ lines
   pub sizes : HaveSizes lines
   pub taken : IsSizedPass same_line weight_of_key past pass
+  pub floored : HasFloorPass weight_of_line floor past reused
 
--- of these lines, each of which has a size, and which have that size together, the pass took those that a sample keeps
-pub record HasTakenOf {A : Type 0} (n : ℕ) (lines : List (List ℕ)) (size : ℕ) (pass : PassBySize (OwnedKey A)) : Type 0 where
+-- after these keys the pass took one more, of this line
+pub record HasTakenSized {A : Type 0} (past : List (OwnedKey A)) (line : List ℕ) (pass : PassBySize (OwnedKey A)) : Type 0 where
+  pub key : OwnedKey A
+  pub is : line_of key ≡ line
+  pub taken : IsSizedPass same_line weight_of_key (key ∷ past) pass
+
+-- of these lines, each of which has a size, and which have that size together, the passes took those that a sample keeps
+pub record HasTakenOf {A : Type 0} (floor : Bool) (n : ℕ) (lines : List (List ℕ)) (size : ℕ) (pass : PassBySize (OwnedKey A))
+    (reused : Option Reused) : Type 0 where
   pub sizes : HaveSizes lines
   pub summed : size ≡ size_of_lines lines
-  pub taken : HasTaken (kept_of n lines) pass
+  pub taken : HasTaken floor (kept_of n lines) pass reused
 
 -- why lines have no curve
 abbrev pub IsOfLines : Fault → List (List ℕ) → Type 0
@@ -157,15 +178,17 @@ abbrev pub distinct_in : CurveBySize → ℕ
 distinct_in curve = if curve.distinct_size == 0 then 0 else misses_within curve curve.distinct_size
 
 module _ (curve : CurveBySize) where
-  -- a row of the curve, which answers at its capacity
-  pub record IsRowOf (row : SizedRow) : Type 0 where
-    pub misses : row.misses ≡ misses_within curve (capacity_of_sized_row row)
-    pub missed_size : row.missed_size ≡ missed_size_within curve (capacity_of_sized_row row)
-    pub answered : curve.greatest_weight < capacity_of_sized_row row
+  module _ {A : Type 0} (floors : Option (Floors A)) where
+    -- a row of the curve, which answers at its capacity, and of the floors if they are there
+    pub record IsRowOf (row : SizedRow) : Type 0 where
+      pub misses : row.misses ≡ misses_within curve (capacity_of_sized_row row)
+      pub missed_size : row.missed_size ≡ missed_size_within curve (capacity_of_sized_row row)
+      pub floor : row.floor ≡ floors_at floors (capacity_of_sized_row row)
+      pub answered : curve.greatest_weight < capacity_of_sized_row row
 
-  -- one such row for each capacity, in order
-  abbrev pub AreRowsOf : List ℕ → List SizedRow → Type 0
-  AreRowsOf capacities rows = (map capacity_of_sized_row rows ≡ capacities) × All IsRowOf rows
+    -- one such row for each capacity, in order
+    abbrev pub AreRowsOf : List ℕ → List SizedRow → Type 0
+    AreRowsOf capacities rows = (map capacity_of_sized_row rows ≡ capacities) × All IsRowOf rows
 
   -- the usual table of the curve, and its knees
   pub record IsUsualOn (whole : ℕ) (table marked : List ℕ) : Type 0 where
@@ -177,14 +200,14 @@ module _ (curve : CurveBySize) where
   capacities_on capacities table = sized_capacities_of capacities (misses_within curve)
       (1 + curve.greatest_weight) curve.distinct_size table
 
-  -- the text of a table of such rows
-  pub record IsTableOf {A : Type 0} (capacities : Capacities A) (text : List ℕ) : Type 0 where
+  -- the text of a table of such rows, with the floors if they are there
+  pub record IsTableOf {A : Type 0} (floors : Option (Floors A)) (floor : Bool) (capacities : Capacities A) (text : List ℕ) : Type 0 where
     pub table : List ℕ
     pub marked : List ℕ
     pub rows : List SizedRow
     pub usual : IsUsualOn curve.size table marked
-    pub rowed : AreRowsOf (capacities_on capacities table) rows
-    pub is : text ≡ sized_table_text curve.requests curve.size marked rows
+    pub rowed : AreRowsOf floors (capacities_on capacities table) rows
+    pub is : text ≡ sized_table_text floor curve.requests curve.size marked rows
 
   -- why capacities have no rows
   abbrev pub IsOfCapacities : Fault → List ℕ → Type 0

@@ -1,8 +1,9 @@
 -- What is written for lines that begin with sizes, where capacities are sums of sizes. The numbers are those of the definitions
 -- of requests by size: no cache is in sight.
-use Rattle.std.specs.Prelude.{◌≡◌, ℕ, ◌-◌, ◌/◌, ◌^◌, ◌≤◌, nat_le, List, length, map, min, reverse, None, bytes_eq}
+use Rattle.std.specs.Prelude.{◌≡◌, ℕ, ◌-◌, ◌/◌, ◌^◌, ◌≤◌, nat_le, Bool, true, false, List, length, map, min, reverse, None, Some, bytes_eq}
 use Rattle.std.specs.Int.NonZero.{non_zero_usize_get}
 use Rattle.std.specs.List.{All, filter}
+use Rattle.clru_model.specs.Floor.{floor_misses, floor_missed_size}
 use Rattle.clru_model.specs.Requests.{distinct}
 use Rattle.clru_model.specs.Sizes.{total, misses_by_size, missed_size as missed_size_of}
 use Rattle.clru_report.specs.Capacities.{sized_capacities_of, usual_from}
@@ -11,7 +12,7 @@ use Rattle.clru_report.specs.Knees.{knees}
 use Rattle.clru_report.specs.Refusals.{fault_from, fault_of}
 use Rattle.clru_report.specs.Samples.{kept_of, sized_numbers_of, sized_numbers_times, times}
 use Rattle.clru_report.specs.Sizes.{HaveSizes, greatest_size, size_of_lines, weight_of_line}
-use Rattle.clru_report.specs.SizedTables.{capacity_of_sized_row, sized_summary_text, sized_table_text}
+use Rattle.clru_report.specs.SizedTables.{capacity_of_sized_row, row_floor, sized_summary_text, sized_table_text}
 use Rattle.clru_report.specs.Tables.{HasTable}
 use Rattle.clru_report.specs.declared.options.Form.{Form}
 use Rattle.clru_report.specs.declared.options.Form.TheVariants.{Table, Picture, Summary}
@@ -25,15 +26,22 @@ abbrev pub distinct_size : List (List ℕ) → ℕ
 distinct_size lines = total bytes_eq weight_of_line (reverse lines)
 
 module _ (lines : List (List ℕ)) where
+  -- the floors of what every schedule misses, also one that lets keys pass by, stand in a row where they are asked for
+  abbrev pub HasFloors : Bool → SizedRow → Type 0
+  HasFloors true row = row.floor ≡ Some (row_floor (floor_misses bytes_eq weight_of_line (capacity_of_sized_row row) lines)
+      (floor_missed_size bytes_eq weight_of_line (capacity_of_sized_row row) lines))
+  HasFloors false row = row.floor ≡ None
+
   -- a row of the requests: no line is greater than its capacity
-  pub record IsSizedRow (row : SizedRow) : Type 0 where
+  pub record IsSizedRow (floor : Bool) (row : SizedRow) : Type 0 where
     pub misses : row.misses ≡ misses_by_size bytes_eq weight_of_line (capacity_of_sized_row row) lines
     pub missed_size : row.missed_size ≡ missed_size_of bytes_eq weight_of_line (capacity_of_sized_row row) lines
+    pub floors : HasFloors floor row
     pub holds_each : greatest_size lines ≤ capacity_of_sized_row row
 
   -- one such row for each capacity, in order
-  abbrev pub AreSizedRows : List ℕ → List SizedRow → Type 0
-  AreSizedRows capacities rows = (map capacity_of_sized_row rows ≡ capacities) × All IsSizedRow rows
+  abbrev pub AreSizedRows : Bool → List ℕ → List SizedRow → Type 0
+  AreSizedRows floor capacities rows = (map capacity_of_sized_row rows ≡ capacities) × All (IsSizedRow floor) rows
 
 -- what misses at a capacity, in bytes
 abbrev pub missed_of : List (List ℕ) → ℕ → ℕ
@@ -52,8 +60,9 @@ sized_capacities_asked options lines table = sized_capacities_of options.capacit
 -- the table of these lines, each of which has a size; whatever its rows, the knees are those of the usual one
 abbrev pub IsSizedTable : {A : Type 0} → Options A → List (List ℕ) → List ℕ → Type 0
 IsSizedTable options lines text = (table : List ℕ) × (rows : List SizedRow) × IsSizedUsualTable (size_of_lines lines) lines table
-    × AreSizedRows lines (sized_capacities_asked options lines table) rows
-    × (text ≡ sized_table_text (length lines) (size_of_lines lines) (knees (missed_of lines) (size_of_lines lines) table) rows)
+    × AreSizedRows lines options.floor (sized_capacities_asked options lines table) rows
+    × (text ≡ sized_table_text options.floor (length lines) (size_of_lines lines)
+    (knees (missed_of lines) (size_of_lines lines) table) rows)
 
 -- a picture that has the table in its description; of what is drawn no clause says anything
 abbrev pub IsSizedPicture : {A : Type 0} → Options A → List (List ℕ) → List ℕ → Type 0
@@ -89,7 +98,8 @@ summary_by_size_of_sample input n all size kept = sized_summary_text all
 module _ {A : Type 0} (options : Options A) (n all size : ℕ) (kept : List (List ℕ)) where
   -- the rows of the kept lines, as told of all
   abbrev pub AreSizedRowsOfSample : List ℕ → List SizedRow → Type 0
-  AreSizedRowsOfSample table shown = (rows : List SizedRow) × AreSizedRows kept (sized_capacities_of_sample options kept table) rows
+  AreSizedRowsOfSample table shown = (rows : List SizedRow)
+      × AreSizedRows kept options.floor (sized_capacities_of_sample options kept table) rows
       × (map sized_numbers_of shown ≡ map (sized_numbers_times n all size) rows)
 
   -- the knees of the kept lines, as told of all
@@ -100,7 +110,7 @@ module _ {A : Type 0} (options : Options A) (n all size : ℕ) (kept : List (Lis
   abbrev pub IsSizedTableOfSample : List ℕ → Type 0
   IsSizedTableOfSample text = (table : List ℕ) × (shown : List SizedRow) × IsSizedUsualTable (size / n) kept table
       × AreSizedRowsOfSample table shown
-      × (text ≡ sized_table_text all size (sized_knees_of_sample table) shown)
+      × (text ≡ sized_table_text options.floor all size (sized_knees_of_sample table) shown)
 
   abbrev pub IsSizedPictureOfSample : List ℕ → Type 0
   IsSizedPictureOfSample text = (table : List ℕ) × IsSizedTableOfSample table × HasTable table text

@@ -1,21 +1,30 @@
 -- The text of a table by size. Public clauses cite it.
-use Rattle.std.specs.Prelude.{ℕ, ◌-◌, Bool, List, [], ◌∷◌, ◌++◌, codes, decimal}
+use Rattle.std.specs.Prelude.{ℕ, ◌-◌, Bool, if◌then◌else◌, List, [], ◌∷◌, ◌++◌, Option, None, Some, codes, decimal}
 use Rattle.std.specs.Int.NonZero.{non_zero_usize_get}
 use Rattle.clru_report.specs.Knees.{is_among}
 use Rattle.clru_report.specs.Tables.{fraction_text, millionths, row_end}
+use Rattle.clru_report.specs.declared.sized.floors.RowFloor.{RowFloor}
 use Rattle.clru_report.specs.declared.sized.rows.SizedRow.{SizedRow}
 
 abbrev pub capacity_of_sized_row : SizedRow → ℕ
 capacity_of_sized_row row = non_zero_usize_get row.capacity
 
--- capacity, misses and miss ratio, missed size and its ratio, of so many requests of this size in all, and how much less a row
--- misses than the one before, of that capacity and missed size
+abbrev pub row_floor : ℕ → ℕ → RowFloor
+row_floor n s = record { misses = n; missed_size = s }
+
+-- both floors, where they are there, and the end of a line
+abbrev pub with_floor : Option RowFloor → List ℕ → List ℕ
+with_floor None end = end
+with_floor (Some floor) end = codes "," ++ (decimal floor.misses ++ (codes "," ++ (decimal floor.missed_size ++ end)))
+
+-- capacity, misses and miss ratio, missed size and its ratio, of so many requests of this size in all, the floors if they are there,
+-- and how much less a row misses than the one before, of that capacity and missed size
 abbrev pub sized_row_line : ℕ → ℕ → ℕ → ℕ → Bool → SizedRow → List ℕ
 sized_row_line requests size capacity missed knee row = decimal (capacity_of_sized_row row) ++ (codes ","
     ++ (decimal row.misses ++ (codes ","
     ++ (fraction_text (millionths row.misses requests) ++ (codes "," ++ (decimal row.missed_size ++ (codes ","
     ++ (fraction_text (millionths row.missed_size size)
-    ++ row_end (missed - row.missed_size) (capacity_of_sized_row row - capacity) knee))))))))
+    ++ with_floor row.floor (row_end (missed - row.missed_size) (capacity_of_sized_row row - capacity) knee)))))))))
 
 -- the lines of these rows, behind a row of that capacity and missed size; those at a knee are marked
 abbrev pub sized_rows_text : ℕ → ℕ → List ℕ → ℕ → ℕ → List SizedRow → List ℕ
@@ -24,11 +33,14 @@ sized_rows_text requests size knees capacity missed (row ∷ rows) =
     sized_row_line requests size capacity missed (is_among knees (capacity_of_sized_row row)) row
     ++ sized_rows_text requests size knees (capacity_of_sized_row row) row.missed_size rows
 
+abbrev pub sized_header_line : Bool → List ℕ
+sized_header_line floor = if floor
+    then codes "capacity,misses,miss_ratio,missed_bytes,byte_miss_ratio,floor_misses,floor_missed_bytes,saved_per_byte,knee\n"
+    else codes "capacity,misses,miss_ratio,missed_bytes,byte_miss_ratio,saved_per_byte,knee\n"
+
 -- the table with these rows and knees; with room for nothing all is missed
-abbrev pub sized_table_text : ℕ → ℕ → List ℕ → List SizedRow → List ℕ
-sized_table_text requests size knees rows =
-    codes "capacity,misses,miss_ratio,missed_bytes,byte_miss_ratio,saved_per_byte,knee\n"
-    ++ sized_rows_text requests size knees 0 size rows
+abbrev pub sized_table_text : Bool → ℕ → ℕ → List ℕ → List SizedRow → List ℕ
+sized_table_text floor requests size knees rows = sized_header_line floor ++ sized_rows_text requests size knees 0 size rows
 
 -- numbers with commas between them
 abbrev pub three_numbers : ℕ → ℕ → ℕ → List ℕ

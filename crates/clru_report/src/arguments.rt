@@ -4,10 +4,11 @@ ghost use Rattle.std.specs.Int.NonZero.{non_zero_usize_get};
 ghost use Rattle.std.specs.List.{slice_split};
 ghost use Rattle.std.specs.Option.{is_none, option_map};
 ghost use Rattle.clru_report.specs.Arguments.{AreCapacitiesOf, asked_by, form_of as form_by, forms_go_together, go_together, is_half_told, is_wrong, IsAskedFor, IsRefusedLine, IsSampleOf, IsSortedSet, one_in as one_in_by, part_of, samples_go_together, reading_after, wants_look, wants_more, wants_rows, wants_two};
-ghost use Rattle.clru_report.specs.CommandLine.{decimal_unit_of as decimal_unit_by, number_in, numbers_and, read_all, read_word, unit_of as unit_by, value_behind, with_argument, with_flag, with_value_of, asks, nothing, wrong as is_not_read};
+ghost use Rattle.clru_report.specs.CommandLine.{numbers_and, read_all, read_word, value_behind, with_argument, with_flag, with_value_of, asks, nothing, wrong as is_not_read};
+ghost use Rattle.clru_report.specs.Numbers.{number_in};
 
+use crate::numbers::number_of_word;
 use crate::options::{Capacities, Form, Look, Options, Sample};
-use clru_lines::capacity_of;
 use std::alloc::{Allocator, Global};
 use std::convert::AsStr;
 use std::num::NonZeroUsize;
@@ -255,9 +256,9 @@ fn number_named<A: Allocator + Copy>(
     ensures number { IfOk result (λ number. number_in word.now ≡ Some (non_zero_usize_get number)) }
     ensures refused { IfErr result (λ refusal. is_wrong refusal ≡ true → number_in word.now ≡ None) }
 {
-    match capacity_named(word) {
+    match number_of_word(word) {
         Some(number) => Ok(number),
-        None => Err(wrong(alloc, no_value(value))),
+        None => Err(no_number(alloc, value, word)),
     }
 }
 
@@ -306,61 +307,12 @@ fn name_capacity<A: Allocator + Copy>(
     ensures refused { IfErr result (λ refusal. is_wrong refusal ≡ true
         → numbers_and (map non_zero_usize_get named.old.items) (part.now ∷ []) ≡ None) }
 {
-    let Some(capacity) = capacity_named(part) else {
+    let Some(capacity) = number_of_word(part) else {
         return Err(no_capacity(alloc, part));
     };
     match named.push(capacity) {
         Ok(()) => Ok(()),
         Err(_) => Err(Refusal::Memory),
-    }
-}
-
-// What a word names: digits, and a unit behind them or none.
-fn capacity_named(word: &str) -> Option<NonZeroUsize>
-    ensures { option_map non_zero_usize_get result ≡ number_in word.now }
-{
-    let (letters, unit) = unit_of(word);
-    let bytes = word.as_bytes();
-    let number = capacity_of(&bytes[..bytes.len() - letters])?;
-    NonZeroUsize::new(number.get().checked_mul(unit)?)
-}
-
-// How many letters of a unit a word ends in, and what the unit counts.
-fn unit_of(word: &str) -> (usize, usize)
-    ensures value { result ≡ unit_by word.now }
-    ensures within { result.0 ≤ length word.now }
-    ensures positive { 0 < result.1 }
-{
-    if word.ends_with("KiB") {
-        (3, 1 << 10)
-    } else if word.ends_with("MiB") {
-        (3, 1 << 20)
-    } else if word.ends_with("GiB") {
-        (3, 1 << 30)
-    } else {
-        decimal_unit_of(word)
-    }
-}
-
-const THOUSAND: usize = 1_000;
-
-const MILLION: usize = 1_000_000;
-
-const BILLION: usize = 1_000_000_000;
-
-fn decimal_unit_of(word: &str) -> (usize, usize)
-    ensures value { result ≡ decimal_unit_by word.now }
-    ensures within { result.0 ≤ length word.now }
-    ensures positive { 0 < result.1 }
-{
-    if word.ends_with("K") {
-        (1, THOUSAND)
-    } else if word.ends_with("M") {
-        (1, MILLION)
-    } else if word.ends_with("G") {
-        (1, BILLION)
-    } else {
-        (0, 1)
     }
 }
 
@@ -496,9 +448,6 @@ fn conflict_of<A: Allocator>(draft: &Draft<A>) -> Option<&'static str>
             "--least and --sizes do not go together: the least in bytes is too hard to compute, so leave one out",
         );
     }
-    if draft.sizes && draft.floor {
-        return Some("--floor and --sizes do not go together: the floor is told by keys alone");
-    }
     if asks_for_look(draft) && !draft.svg {
         return Some("--title, --unit, --from and --to are of a picture: write --svg as well");
     }
@@ -583,17 +532,30 @@ fn no_capacity<A: Allocator + Copy>(alloc: A, part: &str) -> Refusal<A> {
     if part.is_empty() {
         return wrong(
             alloc,
-            "--at has an empty number: write numbers with commas and no blanks, as in --at 100,1000",
+            "--at has an empty number: quote a list that has blanks, as in --at '500MB, 1.5G'",
         );
     }
     if part.starts_with("--") {
         return wrong(alloc, NO_CAPACITIES);
     }
-    let line = format!(in alloc;
-        "{part:?} is no capacity: name numbers from 1 to 18446744073709551615, as in --at 100,1000 or 64MiB"
-    );
+    let line = format!(in alloc; "{part:?} is no capacity: {UNDERSTOOD}");
     match line {
         Ok(line) => Refusal::Wrong(line),
         Err(_) => Refusal::Memory,
     }
 }
+
+// A word that is the next argument leaves the number out.
+fn no_number<A: Allocator + Copy>(alloc: A, value: Value, word: &str) -> Refusal<A> {
+    if word.is_empty() || word.starts_with("--") {
+        return wrong(alloc, no_value(value));
+    }
+    let line = format!(in alloc; "{word:?} is no number: {UNDERSTOOD}");
+    match line {
+        Ok(line) => Refusal::Wrong(line),
+        Err(_) => Refusal::Memory,
+    }
+}
+
+const UNDERSTOOD: &str =
+    "write 1 to 18446744073709551615, or with a unit 500MB, 1.5G or 64MiB (K, M, G, T or KB, MB, GB, TB by 1000; KiB, MiB, GiB, TiB by 1024)";

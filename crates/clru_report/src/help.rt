@@ -10,13 +10,17 @@ misses saved for each key since the row before (with --sizes missed bytes for
 each byte), and 1 if misses fall steeply just before this row, whichever rows
 are shown. Between the usual rows you may interpolate.
 
-    awk '{ print $7 }' access.log | clru_mrc
-    awk '{ print $7 }' access.log | clru_mrc --least --svg > curve.svg
-    awk '$9 == 200 && $10 != \"-\" { print $10, $7 }' access.log | clru_mrc --sizes
+    awk '$6 == \"\\\"GET\" && ($9 == 200 || $9 == 304) { print $7 }' access.log > keys
+    clru_mrc < keys
+    clru_mrc --least --svg < keys > curve.svg
+    awk '$6 == \"\\\"GET\" && $9 == 200 && $10 != \"-\" { print $10, $7 }' access.log > sized
+    clru_mrc --sizes --at 500MB,1.5GB < sized
 
     --at N,N,..  these capacities, in keys; else 1, 2, 5, 10, 20, 50 ..
                  up to the number of distinct keys, and where falls begin and
-                 end; a number may end with K, M, G, KiB, MiB or GiB
+                 end; numbers may have units, and then decimals, as 500MB, 1.5G
+                 or 64MiB: K, M, G, T (also KB ..) by 1000, KiB, MiB, GiB, TiB
+                 by 1024
     --all        each capacity at which the misses fall
     --sizes      each line begins with the object's size and a blank, and is the
                  key as a whole; capacities are in bytes, from the greatest
@@ -25,8 +29,8 @@ are shown. Between the usual rows you may interpolate.
                  takes in each requested key and no other, even if it knows all
                  requests; only in keys
     --floor      also a floor of the misses: no policy has fewer, even one that
-                 bypasses requested keys; a sample scales it as it does misses;
-                 only in keys
+                 bypasses requested keys; with --sizes one of the missed bytes
+                 too; a sample scales both as it does misses
     --svg        a picture instead of the table; with --sizes it has a line
                  for the bytes too
     --title TEXT, --unit TEXT, --from N, --to N

@@ -46,7 +46,7 @@ pub struct Look<A: Allocator = Global> {
     /// What stands above it, where it is not how many requests and keys there are.
     pub title: Option<String<A>>,
 
-    /// What capacities count, where it is not keys, or units of size.
+    /// What capacities count, where it is not keys, or bytes.
     pub unit: Option<String<A>>,
 
     /// Where the axis begins, where it is not at the least capacity.
@@ -68,8 +68,8 @@ pub struct Options<A: Allocator = Global> {
     /// ask for both have no proof.
     pub least: bool,
 
-    /// Whether each line of the table has a floor of the misses: no policy has fewer, also one that bypasses keys. By size it is not
-    /// told, so options that ask for both have no proof.
+    /// Whether each line of the table has a floor of the misses, and by size of the missed size: no policy misses less, also one
+    /// that bypasses keys.
     pub floor: bool,
 
     /// Capacities are those of the sample; what is written is of all requests: capacities, misses and keys so many times as
@@ -82,9 +82,6 @@ pub struct Options<A: Allocator = Global> {
 
     // The least possible misses are those of all requests, by keys.
     ghost least_of_all: { least ≡ true → (sizes ≡ false) × (is_whole sample ≡ true) },
-
-    // So is the floor by keys.
-    ghost floor_by_keys: { floor ≡ true → sizes ≡ false },
 
     ghost ascending: { AreAscending capacities },
 }

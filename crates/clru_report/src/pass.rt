@@ -80,7 +80,7 @@ pub(crate) fn curve_by_keys<R: Read, S: BuildHasher + Drop, A: Allocator + Copy>
 fn floor_of<A: Allocator + Copy>(
     reuses: &Option<FloorPass<OwnedKey<A>, A>>,
 ) -> Result<Option<Floor<A>>, AllocError>
-    ensures { (floored : Bool) (past : List (OwnedKey A)) → HasFloorPass floored past reuses.now
+    ensures { (floored : Bool) (past : List (OwnedKey A)) → HasFloorPass (λ _. 0) floored past reuses.now
         → IfOk result (IsFloorFor floored (map line_of (reverse past))) }
 {
     match reuses {
@@ -156,9 +156,9 @@ fn note_reuse<S: BuildHasher, A: Allocator + Copy>(
     reuses: &mut Option<FloorPass<OwnedKey<A>, A>>,
     key: &OwnedKey<A>,
 ) -> Result<(), AllocError>
-    requires { (floored : Bool) × (past : List (OwnedKey A)) × IsPass same_line past pass.now × HasFloorPass floored past reuses.old }
-    ensures { (floored : Bool) (past : List (OwnedKey A)) → IsPass same_line past pass.now → HasFloorPass floored past reuses.old
-        → OnOk result ((same : OwnedKey A) → line_of same ≡ line_of key.now → HasFloorPass floored (same ∷ past) reuses.new) }
+    requires { (floored : Bool) × (past : List (OwnedKey A)) × IsPass same_line past pass.now × HasFloorPass (λ _. 0) floored past reuses.old }
+    ensures { (floored : Bool) (past : List (OwnedKey A)) → IsPass same_line past pass.now → HasFloorPass (λ _. 0) floored past reuses.old
+        → OnOk result ((same : OwnedKey A) → line_of same ≡ line_of key.now → HasFloorPass (λ _. 0) floored (same ∷ past) reuses.new) }
 {
     match reuses {
         None => Ok(()),

@@ -109,7 +109,7 @@ fn asks_for_least<A: Allocator>(options: &Options<A>) -> bool
     }
 }
 
-fn asks_for_floor<A: Allocator>(options: &Options<A>) -> bool
+pub(crate) fn asks_for_floor<A: Allocator>(options: &Options<A>) -> bool
     ensures { result ≡ wants_floor options.now }
 {
     match options.form {

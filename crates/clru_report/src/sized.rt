@@ -3,26 +3,29 @@ ghost use Rattle.std.specs.Prelude.{◌≡◌, ℕ, List, true, false, IfOk, IfE
 ghost use Rattle.clru_lines.specs.Lines.{lines_of};
 ghost use Rattle.clru_report.specs.Faults.{is_of_writing};
 ghost use Rattle.clru_lines.specs.Whole.{ReadWhole};
-ghost use Rattle.clru_report.specs.Passes.{IsOfAsked, IsSettled, IsSizedCurveOfKept, IsTableOf};
+ghost use Rattle.clru_report.specs.Passes.{AreFloorsFor, IsOfAsked, IsSettled, IsSizedCurveOfKept, IsTableOf, wants_floor};
 ghost use Rattle.clru_report.specs.Refusals.{is_of_input, IsRefusedBy, IsRefusedFor};
 ghost use Rattle.clru_report.specs.SizedReport.{IsReportBySize, IsReportBySizeOf};
 ghost use Rattle.clru_report.specs.Tables.{HasTable};
 
 mod capacities;
 mod faithful;
+mod floors;
 mod line;
 mod pass;
 mod rows;
 mod sample;
 mod table;
 
-use crate::options::{Capacities, Form, Look, Options, Sample};
+use crate::options::{Form, Options, Sample};
 use crate::picture::picture_by_size;
+use crate::report::asks_for_floor;
 use crate::sample::times;
 pub(crate) use capacities::first_capacity;
 use capacities::sized_usual_table;
 use clru_curve::SizedCurve;
 use clru_lines::Fault;
+pub(crate) use floors::Floors;
 pub use line::size_of;
 use pass::curve_by_size;
 use rows::sized_rows_for;
@@ -72,8 +75,10 @@ fn sized_report_of_all<R: Read, S: BuildHasher + Drop, A: Allocator + Copy>(
         (λ input. IsRefusedFor fault options.now (lines_of input))) }
     ensures fault { IfErr result (λ fault. is_of_writing fault ≡ false) }
 {
-    let (curve, _, _, bytes) = curve_by_size(alloc, NonZeroUsize::MIN, reader, hash_builder)?;
-    text_by_size(alloc, options, &curve, bytes)
+    let one_in = NonZeroUsize::MIN;
+    let floored = asks_for_floor(options);
+    let (curve, _, _, bytes, floors) = curve_by_size(alloc, one_in, floored, reader, hash_builder)?;
+    text_by_size(alloc, options, &curve, &floors, bytes)
 }
 
 // Where the lines of one key in so many are taken, and all are counted.
@@ -90,13 +95,20 @@ fn sized_report_of_sample<R: Read, S: BuildHasher + Drop, A: Allocator + Copy>(
         (λ input. IsRefusedBy (Sample.OneIn one_in) fault options.now (lines_of input))) }
     ensures fault { IfErr result (λ fault. is_of_writing fault ≡ false) }
 {
-    let (curve, requests, size, bytes) = curve_by_size(alloc, one_in, reader, hash_builder)?;
+    let floored = asks_for_floor(options);
+    let (curve, requests, size, bytes, floors) = curve_by_size(
+        alloc,
+        one_in,
+        floored,
+        reader,
+        hash_builder,
+    )?;
     let totals = Totals {
         one_in,
         requests,
         size,
     };
-    match text_of_sized_sample(alloc, options, &curve, totals, bytes) {
+    match text_of_sized_sample(alloc, options, &curve, &floors, totals, bytes) {
         Ok(text) => Ok(text),
         Err(_) => Err(Fault::Memory),
     }
@@ -118,13 +130,14 @@ fn sized_report_of_sampled<R: Read, S: BuildHasher + Drop, A: Allocator + Copy>(
     ensures fault { IfErr result (λ fault. is_of_writing fault ≡ false) }
 {
     let all = NonZeroUsize::MIN;
-    let (curve, _, size, bytes) = curve_by_size(alloc, all, reader, hash_builder)?;
+    let floored = asks_for_floor(options);
+    let (curve, _, size, bytes, floors) = curve_by_size(alloc, all, floored, reader, hash_builder)?;
     let totals = Totals {
         one_in,
         requests,
         size: times(one_in, usize::MAX, size),
     };
-    match text_of_sized_sample(alloc, options, &curve, totals, bytes) {
+    match text_of_sized_sample(alloc, options, &curve, &floors, totals, bytes) {
         Ok(text) => Ok(text),
         Err(_) => Err(Fault::Memory),
     }
@@ -135,18 +148,19 @@ fn text_by_size<A: Allocator + Copy>(
     alloc: A,
     options: &Options<A>,
     curve: &SizedCurve<A>,
+    floors: &Option<Floors<A>>,
     bytes: usize,
 ) -> Result<String<A>, Fault>
     requires { IsSettled curve.now }
     ensures report { (input : List ℕ) (requests size : ℕ) → IsSizedCurveOfKept 1 input curve.now requests size bytes
-        → IfOk result (λ text. IsReportBySize options.now input (lines_of input) (string_bytes text)) }
+        → AreFloorsFor (wants_floor options.now) (lines_of input) floors.now → IfOk result (λ text. IsReportBySize options.now input (lines_of input) (string_bytes text)) }
     ensures refused { (input : List ℕ) (requests size : ℕ) → IsSizedCurveOfKept 1 input curve.now requests size bytes
         → IfErr result (λ fault. is_of_input fault ≡ true → IsRefusedFor fault options.now (lines_of input)) }
     ensures fault { IfErr result (λ fault. is_of_writing fault ≡ false) }
 {
     match options.form {
-        Form::Table => sized_table_for(alloc, &options.capacities, curve),
-        Form::Picture => sized_picture_for(alloc, &options.capacities, &options.look, curve),
+        Form::Table => sized_table_for(alloc, options, curve, floors),
+        Form::Picture => sized_picture_for(alloc, options, curve, floors),
         Form::Summary => match sized_summary_of(alloc, curve, bytes) {
             Ok(text) => Ok(text),
             Err(_) => Err(Fault::Memory),
@@ -157,19 +171,21 @@ fn text_by_size<A: Allocator + Copy>(
 // The table of a curve.
 fn sized_table_for<A: Allocator + Copy>(
     alloc: A,
-    capacities: &Capacities<A>,
+    options: &Options<A>,
     curve: &SizedCurve<A>,
+    floors: &Option<Floors<A>>,
 ) -> Result<String<A>, Fault>
     requires { IsSettled curve.now }
-    ensures table { IfOk result (λ text. IsTableOf curve.now capacities.now (string_bytes text)) }
-    ensures refused { IfErr result (λ fault. is_of_input fault ≡ true → IsOfAsked curve.now fault capacities.now) }
+    ensures table { IfOk result (λ text. IsTableOf curve.now floors.now options.now.floor options.now.capacities
+        (string_bytes text)) }
+    ensures refused { IfErr result (λ fault. is_of_input fault ≡ true → IsOfAsked curve.now fault options.now.capacities) }
     ensures fault { IfErr result (λ fault. is_of_writing fault ≡ false) }
 {
     let Ok(table) = sized_usual_table(alloc, curve, curve.size()) else {
         return Err(Fault::Memory);
     };
-    let rows = sized_rows_for(alloc, curve, capacities, &table.capacities)?;
-    match sized_table_of(alloc, &rows, &table.knees, curve.requests(), curve.size()) {
+    let rows = sized_rows_for(alloc, curve, floors, &options.capacities, &table.capacities)?;
+    match sized_table_of(alloc, &rows, &table.knees, curve.requests(), curve.size(), options.floor) {
         Ok(text) => Ok(text),
         Err(_) => Err(Fault::Memory),
     }
@@ -178,23 +194,23 @@ fn sized_table_for<A: Allocator + Copy>(
 // The picture of a curve, with its table.
 fn sized_picture_for<A: Allocator + Copy>(
     alloc: A,
-    capacities: &Capacities<A>,
-    look: &Look<A>,
+    options: &Options<A>,
     curve: &SizedCurve<A>,
+    floors: &Option<Floors<A>>,
 ) -> Result<String<A>, Fault>
     requires { IsSettled curve.now }
-    ensures picture { IfOk result (λ text. (table : List ℕ)
-        × IsTableOf curve.now capacities.now table × HasTable table (string_bytes text)) }
-    ensures refused { IfErr result (λ fault. is_of_input fault ≡ true → IsOfAsked curve.now fault capacities.now) }
+    ensures picture { IfOk result (λ text. (table : List ℕ) × IsTableOf curve.now floors.now options.now.floor
+        options.now.capacities table × HasTable table (string_bytes text)) }
+    ensures refused { IfErr result (λ fault. is_of_input fault ≡ true → IsOfAsked curve.now fault options.now.capacities) }
     ensures fault { IfErr result (λ fault. is_of_writing fault ≡ false) }
 {
-    let table = sized_table_for(alloc, capacities, curve)?;
+    let table = sized_table_for(alloc, options, curve, floors)?;
     let totals = Totals {
         one_in: NonZeroUsize::MIN,
         requests: curve.requests(),
         size: curve.size(),
     };
-    match picture_by_size(alloc, curve, totals, capacities, look, &table) {
+    match picture_by_size(alloc, curve, floors, totals, options, &table) {
         Ok(text) => Ok(text),
         Err(_) => Err(Fault::Memory),
     }

@@ -16,7 +16,7 @@ use Rattle.clru_runs.specs.declared.call.Answer.TheVariants.{Stored, Weighed, Le
 use Rattle.clru_runs.specs.declared.call.Attempt.{Attempt}
 use Rattle.clru_runs.specs.declared.call.Attempt.TheVariants.{Store, Fail}
 use Rattle.clru_runs.specs.declared.call.Call.{Call}
-use Rattle.clru_runs.specs.declared.call.Call.TheVariants.{PutWithWeight, Get, Peek, Contains, Len, Weight, Capacity, IsEmpty, IsFull, Front, Back, Nth, NthBack, Demote, Pop, PopFront, PopBack, Clear, Resize, Retain}
+use Rattle.clru_runs.specs.declared.call.Call.TheVariants.{PutWithWeight, Get, Peek, Contains, Len, Weight, Size, Capacity, IsEmpty, IsFull, Front, Back, Nth, NthBack, Demote, Pop, PopFront, PopBack, Clear, Resize, Retain}
 use Rattle.clru_runs.specs.declared.call.PlainCall.{PlainCall}
 use Rattle.clru_runs.specs.declared.call.PlainCall.TheVariants.{Put, PutOrModify, TryPutOrModify, GetMut, PeekMut, FrontMut, BackMut, RetainMut, Extend, Any}
 use Rattle.clru_runs.specs.declared.call.Weighing.{Weighing}
@@ -92,6 +92,7 @@ module _ {K V W : Type 0} where
     Step weight old (Contains x) answer new = (answer ≡ Flag (is_some (lookup (eq x) old.entries))) × (new ≡ old)
     Step weight old Len answer new = (answer ≡ Number (length old.entries)) × (new ≡ old)
     Step weight old Weight answer new = (answer ≡ Number (weight_of (weight old.scale) old.entries)) × (new ≡ old)
+    Step weight old Size answer new = (answer ≡ Number (size_of (weight old.scale) old.entries)) × (new ≡ old)
     Step weight old Capacity answer new = (answer ≡ Number old.capacity) × (new ≡ old)
     Step weight old IsEmpty answer new = (answer ≡ Flag (length old.entries == 0)) × (new ≡ old)
     Step weight old IsFull answer new = (answer ≡ Flag (size_of (weight old.scale) old.entries == old.capacity))

@@ -12,6 +12,9 @@ pub enum Call<K, V> {
     Contains(K),
     Len,
     Weight,
+
+    /// The number of entries plus their total weight.
+    Size,
     Capacity,
     IsEmpty,
     IsFull,

@@ -71,6 +71,7 @@ fn make<K: Eq + Hash + Drop, V: Copy, S: BuildHasher, W: WeightScale<K, V>, A: A
         Call::Contains(key) => Answer::Flag(cache.contains(&key)),
         Call::Len => Answer::Number(cache.len()),
         Call::Weight => Answer::Number(cache.weight()),
+        Call::Size => Answer::Number(cache.size()),
         Call::Capacity => Answer::Number(cache.capacity()),
         Call::IsEmpty => Answer::Flag(cache.is_empty()),
         Call::IsFull => Answer::Flag(cache.is_full()),

@@ -145,7 +145,7 @@ pub(crate) fn put_number<S: BuildHasher, W: WeightScale<Key, Value>, A: Allocato
         word.say("0");
     }
     let value = Value::new(world, &word.text);
-    cache.put_with_weight(key, value, |_, _| {}).is_ok()
+    cache.put_with_weight_dropping(key, value).is_ok()
 }
 
 impl Subject for Plain {

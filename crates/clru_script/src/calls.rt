@@ -203,6 +203,10 @@ fn change<S: BuildHasher, W: WeightScale<Key, Value>, A: Allocator + Copy>(
 ) -> bool {
     match name {
         "put_with_weight" | "put_with_weight_handing_to" => put(cache, world, name, words, out),
+        "put_with_weight_dropping" => {
+            let (key, value) = (Key::next(world, words), Value::next(world, words));
+            say_put(cache.put_with_weight_dropping(key, value), out);
+        }
         "resize" => cache.resize(words.capacity()),
         "retain" => retain(cache, world, words),
         _ => return arms::change(cache, world, name, words, out),

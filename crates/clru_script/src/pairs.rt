@@ -136,14 +136,15 @@ impl Value {
         Value::new(world, word)
     }
 
-    /// The word twice, as a value of this weight.
-    pub(crate) fn doubled(world: &'static World, word: &str, weight: usize) -> Value
-        ensures { result ≡ weight }
-    {
+    /// The word so many times, as a value that weighs its letters.
+    pub(crate) fn repeated(world: &'static World, word: &str, times: usize) -> Value {
         let mut text = owned(world, word);
-        if text.push_str(word).is_err() {
-            world.is_short.set(true);
+        for _ in 1..times {
+            if text.push_str(word).is_err() {
+                world.is_short.set(true);
+            }
         }
+        let weight = if world.head.weighs { text.len() } else { 0 };
         Value {
             text,
             weight,

@@ -90,7 +90,7 @@ fn filled<W: WeightScale<usize, usize> + Copy>(
     let head = world.head;
     let mut cache = made(world, head.capacity, head.reserve.unwrap_or(0), scale)?;
     for number in 0..head.filled {
-        if cache.put_with_weight(number, number, |_, _| {}).is_err() {
+        if cache.put_with_weight_dropping(number, number).is_err() {
             words.note(Wrong::NotFilled);
         }
     }

@@ -1,12 +1,12 @@
-//! Blocks of calls of a store, over a source whose value of a key is the key's letters twice.
-ghost use Rattle.std.specs.Prelude.{◌*◌, ◌+◌, ◌-◌, ◌/◌, ◌^◌, ◌≡◌, Some, min, ⊤};
-ghost use Rattle.std.specs.Int.Count.{count_leading_zeros};
+//! Blocks of calls of a store, over a source whose value of a key is the key's letters twice, or as often as it is told.
+ghost use Rattle.std.specs.Prelude.{⊤};
 ghost use Rattle.std.specs.Cmp.Rules.{comparing};
 ghost use Rattle.std.proofs.Common.{rules};
 
 use crate::answers::Answers;
 use crate::cache::made;
 use crate::calls::{read, say_found, say_list, say_popped, say_value};
+use crate::closures::Keep;
 use crate::costs::cost_of;
 use crate::fault::Fault;
 use crate::lines::Line;
@@ -16,7 +16,7 @@ use crate::subject::{Subject, begin};
 use crate::whole::fault_of;
 use crate::words::{Words, Wrong};
 use crate::world::{World, add};
-use clru_through::{Answer, Loaded, Source, Through};
+use clru_through::{Answer, ByPromise, Fetch, Loaded, Through};
 use ration::Rationed;
 use std::alloc::{Allocator, Global};
 use std::hash::BuildHasher;
@@ -25,30 +25,27 @@ use std::hash::BuildHasher;
 #[derive(Clone, Copy)]
 struct Failed;
 
-/// Gives each key twice.
+/// Gives each key so many times.
 #[derive(Drop)]
 struct Origin {
     world: &'static World,
-    /// What a letter of a key adds to the weight of its value.
-    unit: usize,
+    times: usize,
 }
 
 impl Origin {
-    /// The value of a key.
-    fn value(&self, key: &Key) -> Value
-        ensures { result ≡ min (self.now.unit * (8 - count_leading_zeros 64 key.now.number / 8)) (2 ^ 64 - 1) }
-    {
-        let letters = 8u32.saturating_sub(key.number.leading_zeros() / 8);
-        Value::doubled(
-            self.world,
-            &key.text,
-            self.unit.saturating_mul(letters as usize),
-        )
+    /// The value of a key, which weighs its letters.
+    fn value(&self, key: &Key) -> Value {
+        Value::repeated(self.world, &key.text, self.times)
     }
 }
 
-impl Source<Key, Value, Failed> for Origin {
-    ghost value = { λ s key. Some (min (s.unit * (8 - count_leading_zeros 64 key.number / 8)) (2 ^ 64 - 1)) };
+impl Fetch<Key, Value, Failed, ByPromise> for Origin {
+    // It may be told to give other values at any time, so nothing is promised.
+    ghost Promise = { ⊤ };
+
+    ghost promised = { λ _ _. tt };
+
+    ghost keeps = { λ _ _. ⊤ };
 
     ghost fetches = { λ _ _ _ _. ⊤ };
 
@@ -68,7 +65,7 @@ impl Source<Key, Value, Failed> for Origin {
 type Counted = Any<Hashing, &'static Rationed<Global>>;
 
 /// One over any hash builder and memory.
-type Any<S, A> = Through<Key, Value, Failed, Origin, S, Scale, A>;
+type Any<S, A> = Through<Key, Value, Failed, Origin, S, Scale, A, ByPromise>;
 
 /// A store with what its calls are made of, until it is taken apart.
 #[derive(Drop)]
@@ -105,8 +102,7 @@ fn filled(world: &'static World, answers: &mut Answers) -> Option<Store> {
     let mut cache = made(world, head.capacity, reserve, Scale { world })?;
     // It is empty. A store asks for that to be seen.
     cache.clear();
-    let unit = if head.weighs { 2 } else { 0 };
-    let mut through = Through::new(cache, Origin { world, unit });
+    let mut through = Through::new(cache, Origin { world, times: 2 });
     load(world, &mut through, answers);
     let through = Some(through);
     Some(Store {
@@ -221,7 +217,7 @@ fn called<S: BuildHasher, A: Allocator + Copy>(
     out: &mut Out,
 ) {
     if !looked_up(store, world, name, words, out)
-        && !changed(store, name, words, out)
+        && !changed(store, world, name, words, out)
         && !read(store.cache(), world, name, words, out)
     {
         words.note(Wrong::NoSuchCall);
@@ -238,8 +234,10 @@ fn looked_up<S: BuildHasher, A: Allocator + Copy>(
 ) -> bool {
     match name {
         "load" => say_loaded(store.load(Key::next(world, words)), out),
+        "refresh" => say_loaded(store.refresh(Key::next(world, words)), out),
+        "load_unless" => say_loaded(load_unless(store, world, words), out),
         "put" | "is_too_heavy" => fit(store, name, Key::next(world, words), out),
-        "hit" => out.truth(store.hit(&Key::next(world, words))),
+        "hit" => say_value(store.hit(&Key::next(world, words)), out),
         "peek" => say_value(store.peek(&Key::next(world, words)), out),
         "pop" => {
             let value = store.pop(&Key::next(world, words));
@@ -248,6 +246,17 @@ fn looked_up<S: BuildHasher, A: Allocator + Copy>(
         _ => return false,
     }
     true
+}
+
+/// A load that fetches again where the held value is of a form.
+fn load_unless<S: BuildHasher, A: Allocator + Copy>(
+    store: &mut Any<S, A>,
+    world: &'static World,
+    words: &mut Words,
+) -> Result<Loaded<Value>, Failed> {
+    let key = Key::next(world, words);
+    let stale = Keep::read(words);
+    store.load_unless(key, |key, value| stale.asked(world, key, value))
 }
 
 /// A call by a key and its value, `put` or `is_too_heavy`.
@@ -305,6 +314,7 @@ fn say_of(what: &str, value: &Value, out: &mut Out) {
 /// Makes a call of the whole store. Answers `false` where the name is none of these.
 fn changed<S: BuildHasher, A: Allocator + Copy>(
     store: &mut Any<S, A>,
+    world: &'static World,
     name: &str,
     words: &mut Words,
     out: &mut Out,
@@ -312,6 +322,11 @@ fn changed<S: BuildHasher, A: Allocator + Copy>(
     match name {
         "clear" => store.clear(),
         "resize" => store.resize(words.capacity()),
+        "retain" => {
+            let keep = Keep::read(words);
+            store.retain(|key, value| keep.asked(world, key, value));
+        }
+        "source_mut" => store.source_mut().times = words.number(),
         "source" => out.count("fetches ", fetches_of(store)),
         "front" => say_found(store.front(), out),
         _ => return out.told(told_of(store, name)),

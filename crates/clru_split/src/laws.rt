@@ -1,9 +1,9 @@
-//! A law of the definitions, which does nothing at run time.
+//! A law of the definitions: a function that does nothing.
 ghost use Rattle.clru_split.specs.Apart.{OneIsNearMany, OneIsNearerMany};
 
-/// Does nothing at run time. Its contract says that one cache of `k` keys for all requests misses at most `k / (k - h)` times as
-/// much as caches for each class do that have `h < k` keys together, where capacity 0 misses each request; and at most
-/// `k / (k - h + 1)` times as much, for `h ≤ k`, if each of them has room for a key. Equal keys are of one class.
+/// States how one cache for all requests compares with a cache for each class. One cache of `k` keys misses at most `k / (k - h)` times
+/// as much as caches that have `h < k` keys together, where capacity 0 misses each request. If each of them has room for a key, it misses
+/// at most `k / (k - h + 1)` times as much, for `h ≤ k`. Equal keys are of one class.
 pub fn law_split<K: Eq>()
     ensures near { OneIsNearMany K.eq }
     ensures nearer { OneIsNearerMany K.eq }

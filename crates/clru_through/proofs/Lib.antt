@@ -1,3 +1,4 @@
+pub mod Freshness
 pub mod Fronts
 pub mod LoadRuns
 pub mod Looking

@@ -1,14 +1,14 @@
 -- What the answer of a look-up says of the entries.
-use Rattle.std.proofs.Common.{◌≡◌, Bool, true, false, List, [], ◌∷◌, Option, Some, None, IsTrue, slice_get, refl, sym, ap, subst}
+use Rattle.std.proofs.Common.{◌≡◌, Bool, true, false, List, [], ◌∷◌, Option, Some, None, IsTrue, IsSomeAnd, slice_get, refl, sym, ap, subst}
 use Rattle.std.specs.Borrow.{Bor}
 use Rattle.std.specs.Map.{lookup}
 use Rattle.std.specs.Map.Iter.{deref_pair}
-use Rattle.std.specs.Option.{IfSome, is_some, option_copied, option_map}
+use Rattle.std.specs.Option.{IfNone, IfSome, is_some, option_copied, option_map}
 use Rattle.clru.specs.Cache.{Cache, with_entries}
 use Rattle.clru_model.specs.Entries.{touch}
 use Rattle.clru_model.proofs.Forms.{IsForm}
-use Rattle.clru_through.specs.Store.{AllKeep, KeepsFor}
-use Rattle.clru_through.proofs.Sourced.{KeepsFor-lookup, touch-absent}
+use Rattle.clru_through.specs.Store.{AllKeep, KeepsFor, store}
+use Rattle.clru_through.proofs.Sourced.{KeepsFor-lookup, first-touch, touch-absent}
 
 -- where it answers something, it answers a value
 pub is_there : {V : Type 0} (held : Option V) → is_some held ≡ true → (v : V) × (held ≡ Some v)
@@ -24,6 +24,18 @@ is_absent (Some v) held is none = cc
 pub with_entries-touch-absent : {X K V W : Type 0} (eq : X → K → Bool) (x : X) (c : Cache K V W) → lookup (eq x) c.entries ≡ None
     → with_entries c (touch eq x c.entries) ≡ c
 with_entries-touch-absent eq x c absent = ap (with_entries c) (touch-absent eq x c.entries absent)
+
+-- nor the store with that cache
+pub unchanged_if_none : {X K V W R : Type 0} (eq : X → K → Bool) (x : X) (c : Cache K V W) (source : R) (answer : Option (Bor V))
+    → option_copied answer ≡ lookup (eq x) c.entries → IfNone answer (store (with_entries c (touch eq x c.entries)) source ≡ store c source)
+unchanged_if_none eq x c source None is = ap (λ c. store c source) (with_entries-touch-absent eq x c (sym is))
+unchanged_if_none eq x c source (Some v) is = tt
+
+-- the value that a look-up answers then stands first
+pub first_if_some : {X K V : Type 0} (eq : X → K → Bool) (x : X) (es : List (K × V)) (answer : Option (Bor V))
+    → option_copied answer ≡ lookup (eq x) es → IfSome answer (λ v. IsSomeAnd (slice_get (touch eq x es) 0) (λ e. e.1 ≡ v.now))
+first_if_some eq x es None is = tt
+first_if_some eq x es (Some v) is = first-touch eq x es v.now (sym is) (λ w. w ≡ v.now) refl
 
 -- the value that a look-up by a form of a key answers keeps what is promised
 pub IfSome-lookup : {K P V : Type 0} {eq : K → K → Bool} {test : K → Bool} → IsForm eq test → (keeps : P → V → Type 0) {promised : K → P}

@@ -57,7 +57,7 @@ module _ {K P V : Type 0} (keeps : P → V → Type 0) (promised : K → P) wher
   pub AllKeep_given : (es : List (K × V)) → (es ≡ []) ⊎ AllKeep keeps promised es → AllKeep keeps promised es
   AllKeep_given es given = elim given [ inl empty ↦ rw empty AllKeep-nil | inr all ↦ all ]
 
-  AllKeep-sublist : (es fs : List (K × V)) → IsSublist fs es → AllKeep keeps promised fs → AllKeep keeps promised es
+  pub AllKeep-sublist : (es fs : List (K × V)) → IsSublist fs es → AllKeep keeps promised fs → AllKeep keeps promised es
   unfolding AllKeep
   AllKeep-sublist es fs less all = All-sublist (λ (d : K × V). keeps (promised d.0) d.1) less all
 

@@ -4,3 +4,4 @@ pub mod Got
 pub mod LoadRuns
 pub mod Steps
 pub mod Store
+pub mod Unless

@@ -7,6 +7,7 @@ ghost use Rattle.clru_through.specs.Store.{AllKeep, store};
 mod load;
 mod parts;
 mod put;
+mod refresh;
 mod remove;
 
 use crate::source::{ByValue, Fetch};

@@ -1,1 +1,3 @@
+pub mod Clocked
 pub mod Stamps
+pub mod Watched

@@ -3,11 +3,11 @@ ghost use Rattle.std.specs.Prelude.{◌≡◌, ◌≤◌, ◌↔◌, Err, Some, 
 ghost use Rattle.std.specs.Map.{lookup};
 ghost use Rattle.clru_model.specs.Errors.{put_error_text};
 
-use clru::{CLruCache, DefaultState, NoMemory, PutError, WeightScale};
+use clru::{CLruCache, DefaultState, NoMemory, PutError, WeightScale, out_of_memory};
 use std::alloc::{AllocError, Global};
 use std::error::Error;
-use std::fmt;
 use std::num::ParseIntError;
+use std::{fmt, io};
 
 /// Why a page was not stored.
 #[derive(Debug, Drop, PartialEq, Eq)]
@@ -80,6 +80,18 @@ pub fn put_page(sizes: &mut CLruCache<u64, u64>, page: u64, size: u64) -> Result
 {
     sizes.put(page, size).map_err(|_| NoMemory)?;
     Ok(())
+}
+
+/// Stores the size of a page by number, in a program whose errors are those of input and output.
+pub fn put_page_in_io(
+    sizes: &mut CLruCache<u64, u64>,
+    page: u64,
+    size: u64,
+) -> io::Result<Option<u64>>
+    ensures replaced { IfOk result (λ old. old ≡ lookup (nat_eq page) sizes.old.entries) }
+{
+    let put = sizes.put(page, size).map_err(|pair| out_of_memory(pair))?;
+    Ok(put.replaced)
 }
 
 /// What a program prints of a refused pair, whatever its key and value are.

@@ -93,15 +93,15 @@ pub fn size_of<R: Files + AllocGlobal>(
         IfSome (lookup (λ key. bytes_eq path.now (string_bytes key)) files.old.cache.entries)
         (λ contents. found.0 ≡ length contents)) }
 {
-    let held = files.hit(path);
-    if !held {
-        let key = path.to_string(files.source().rt.alloc())?;
-        if let Loaded::Passed(contents) = files.load(key)? {
-            return Ok((contents.bytes.len(), false));
-        }
+    if let Some(contents) = files.hit(path) {
+        return Ok((contents.bytes.len(), true));
     }
-    match files.front() {
-        Some((_, contents)) => Ok((contents.bytes.len(), held)),
-        None => unreachable!(),
+    let key = path.to_string(files.source().rt.alloc())?;
+    match files.load(key)? {
+        Loaded::Passed(contents) => Ok((contents.bytes.len(), false)),
+        Loaded::Held { .. } => match files.front() {
+            Some((_, contents)) => Ok((contents.bytes.len(), false)),
+            None => unreachable!(),
+        },
     }
 }

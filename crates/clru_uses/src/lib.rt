@@ -7,12 +7,14 @@ ghost use Rattle.std.specs.Map.{lookup};
 ghost use Rattle.clru_model.specs.Entries.{size_of};
 
 pub mod budget;
+pub mod clocked;
 pub mod curves;
 pub mod drops;
 pub mod errors;
 pub mod files;
 pub mod gains;
 pub mod hasher;
+pub mod idioms;
 pub mod lends;
 pub mod limits;
 pub mod lists;
@@ -40,6 +42,7 @@ pub mod stamps;
 pub mod store;
 pub mod texts;
 pub mod walks;
+pub mod watched;
 pub mod words;
 
 use clru::{CLruCache, DefaultState, WeightScale};
@@ -61,5 +64,5 @@ pub fn count(looks: &mut CLruCache<u64, u64>, page: u64) -> Option<u64>
 pub fn room_left<W: WeightScale<u64, u64>>(cache: &CLruCache<u64, u64, DefaultState, W>) -> usize
     ensures { result + size_of (W.weight cache.now.scale) cache.now.entries ≡ cache.now.capacity }
 {
-    cache.capacity() - cache.len() - cache.weight()
+    cache.capacity() - cache.size()
 }

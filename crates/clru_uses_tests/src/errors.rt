@@ -2,7 +2,7 @@
 
 use crate::printed::prints;
 use clru::{CLruCache, NoMemory, NonZeroUsize, PutError};
-use clru_uses::errors::{StoreError, message, put_page, store};
+use clru_uses::errors::{StoreError, message, put_page, put_page_in_io, store};
 use ration::equal;
 use std::alloc::{AllocError, Global};
 use std::test::Fail;
@@ -46,7 +46,7 @@ type Sizes = CLruCache<u64, u64>;
 fn callers_pass_refusals_up(rt: HostRuntime) -> Result<(), Fail> {
     let mut sizes = CLruCache::new(rt.alloc(), NonZeroUsize::MIN);
     equal!(rt; stores(&mut sizes), Ok((Some(70), Some(80))));
-    equal!(rt; refuses_a_word(&mut sizes), true);
+    equal!(rt; (refuses_a_word(&mut sizes), put_page_in_io(&mut sizes, 4, 90)?), (true, Some(80)));
     Ok(())
 }
 

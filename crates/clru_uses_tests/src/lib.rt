@@ -10,6 +10,8 @@ mod examples;
 #[cfg(test)]
 mod finding;
 #[cfg(test)]
+mod idioms;
+#[cfg(test)]
 mod laws;
 #[cfg(test)]
 mod lends;

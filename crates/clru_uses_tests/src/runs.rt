@@ -5,7 +5,7 @@ ghost use Rattle.std.specs.Prelude.{◌≡◌, []};
 use clru::{CLruCache, DefaultState, NonZeroUsize, WeightScale};
 use clru_curve::{SizedCurve, sized_curve};
 use clru_uses::parts::{misses_of_sample, misses_of_two};
-use clru_uses::runs::dropped_by_puts;
+use clru_uses::runs::{aged_pages_fetched, dropped_by_puts};
 use clru_uses::sized_curves::size_within_bound;
 use clru_uses::sized_runs::{light_pages_held, texts_found};
 use clru_uses::sizes::ByPage;
@@ -40,6 +40,14 @@ fn puts_drop_what_misses_and_is_not_left(rt: HostRuntime) -> Result<(), Fail> {
 fn drops_at(alloc: Global, capacity: NonZeroUsize, pages: Vec<usize>) -> Option<usize> {
     let mut cache = CLruCache::new(alloc, capacity);
     dropped_by_puts(&mut cache, pages)
+}
+
+#[test]
+fn pages_are_fetched_again_when_they_are_old(rt: HostRuntime) -> Result<(), Fail> {
+    let requests = Vec::from_slice(rt.alloc(), &[(1, 0), (2, 5), (1, 10), (1, 11), (2, 12)])?;
+    let mut cache = CLruCache::new(rt.alloc(), capacity_of(2)?);
+    equal!(rt; aged_pages_fetched(&mut cache, requests, 10), Ok(3));
+    Ok(())
 }
 
 #[test]

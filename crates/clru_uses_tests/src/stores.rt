@@ -5,6 +5,7 @@ ghost use Rattle.std.proofs.Common.{rules};
 
 use clru::{CLruCache, NonZeroUsize, WeightScale, ZeroWeightScale};
 use clru_through::{Source, Through};
+use clru_uses::clocked::{Pages, pages_of, text_within};
 use clru_uses::of_stores::changing::{Tickets, ticket_of};
 use clru_uses::of_stores::loads::{are_all_held, fetches_of_all};
 use clru_uses::of_stores::parts::{made_again, store_before};
@@ -144,4 +145,23 @@ fn a_source_may_give_another_value_each_time(rt: HostRuntime) {
     equal!(rt; (ticket_of(&mut store, 4), ticket_of(&mut store, 4)), (Ok(5), Ok(5)));
     store.clear();
     equal!(rt; (ticket_of(&mut store, 4), ticket_of(&mut store, u64::MAX)), (Ok(6), Err(())));
+}
+
+#[test]
+fn a_text_is_fetched_again_when_it_is_old(rt: HostRuntime) {
+    let mut pages = pages_of(rt.alloc(), NonZeroUsize::MIN);
+    for (page, now, fetched) in [
+        (1, 5, Some(5)),
+        (1, 15, Some(5)),
+        (1, 16, Some(16)),
+        (0, 16, None),
+        (1, 3, Some(16)),
+    ] {
+        equal!(rt; fetched_at(&mut pages, page, now), fetched, now);
+    }
+}
+
+/// When the text of a page was fetched that is at most 10 old.
+fn fetched_at(pages: &mut Pages, page: u64, now: u64) -> Option<u64> {
+    Some(text_within(pages, page, now, 10).ok()?.at)
 }

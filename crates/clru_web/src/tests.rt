@@ -74,7 +74,7 @@ static CALLS: &[(usize, &str, &str, usize, u32, &str)] = &[
         TEN,
         256,
         2,
-        "clru_mrc: \"5 K\" is no capacity: name numbers from 1 to 18446744073709551615, as in --at 100,1000 or 64MiB\n",
+        "clru_mrc: \"5 K\" is no capacity: write 1 to 18446744073709551615, or with a unit 500MB, 1.5G or 64MiB (K, M, G, T or KB, MB, GB, TB by 1000; KiB, MiB, GiB, TiB by 1024)\n",
     ),
     (64, "", TEN, 256, 3, "clru_mrc: memory ran out\n"),
     (16, "--svg", TEN, 256, 3, "clru_mrc: memory ran out\n"),

@@ -23,7 +23,7 @@ pub struct LentBlock {
 }
 
 impl LentBlock {
-    /// All of the memory is free.
+    /// Makes an allocator of memory that is all free.
     pub fn new(loan: Loan) -> LentBlock
         ensures { IsRegionOf result.slot loan.ptr loan.size }
     {
@@ -32,7 +32,7 @@ impl LentBlock {
         }
     }
 
-    /// How many bytes are left above the last block.
+    /// Returns the number of bytes above the last block.
     pub fn left(&self) -> usize
         ensures { result ≤ self.now.slot.size }
     {
@@ -44,7 +44,7 @@ impl LentBlock {
         left
     }
 
-    /// What is left: all of the memory where each block was given back while it was the last.
+    /// Returns the memory that is left: all of it if each block was given back while it was the last.
     pub fn into_loan(self) -> Option<Loan>
         ensures { IfSome result (λ loan. (at : ℕ) × IsPiece self.slot loan.ptr at loan.size) }
     {

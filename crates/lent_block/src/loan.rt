@@ -23,7 +23,7 @@ impl Model for Loan {
 }
 
 impl Loan {
-    /// So many bytes, rounded down to a multiple of 16, of an allocator that aligns blocks to 16, as `Global` does. They are never
+    /// Takes `size` bytes, rounded down to a multiple of 16, from an allocator that aligns blocks to 16, as `Global` does. They are never
     /// given back to it.
     pub fn taken<A: Allocator>(alloc: &A, size: usize) -> Option<Loan>
         ensures { IfSome result (λ loan. loan.size ≡ size / 16 * 16) }

@@ -33,6 +33,8 @@ pub fn answer<W: WeightScale<Key, Value> + Default>(
         ["contains", key] => yes(cache.contains(&of.key(key))),
         ["len"] => cache.len().to_string(),
         ["weight"] => cache.weight().to_string(),
+        // The crate has none.
+        ["size"] => (cache.len() + cache.weight()).to_string(),
         ["capacity"] => cache.capacity().to_string(),
         ["is_empty"] => yes(cache.is_empty()),
         ["is_full"] => yes(cache.is_full()),
@@ -48,6 +50,11 @@ pub fn answer<W: WeightScale<Key, Value> + Default>(
         ["put_with_weight" | "put_with_weight_handing_to", key, value] => {
             let (key, value) = (of.key(key), of.value(value)?);
             stored(cache, |cache| cache.put_with_weight(key, value))
+        }
+        ["put_with_weight_dropping", key, value] => {
+            let (key, value) = (of.key(key), of.value(value)?);
+            let said = stored(cache, |cache| cache.put_with_weight(key, value));
+            said.split(", dropped").next()?.to_string()
         }
         ["get", key] => shown(cache.get(&of.key(key))),
         // The crate has none: all other entries come before it, the last one first.

@@ -41,7 +41,7 @@ impl<K: Eq + Hash, V, S: BuildHasher, A: Allocator + Copy> CLruCache<K, V, S, Ze
     /// Creates a cache, puts the items into it in turn, and hashes keys with `hash_builder`. Its
     /// capacity is then the number of its entries, or 1 if there is none.
     ///
-    /// If memory is refused for a put, the call ends, and drops what was put.
+    /// If memory is refused for a put, the call ends. It drops the items that are left, then the refused pair, then what was put.
     /// Cost: that of one `put` for each item.
     ///
     /// ```rust

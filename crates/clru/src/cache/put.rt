@@ -60,6 +60,29 @@ where
         self.put_with_weight_handing_to(key, value, &mut on_drop)
     }
 
+    /// Does what `put_with_weight` does, and drops what does not fit beside the new pair.
+    /// Cost: that of `put_with_weight`.
+    pub fn put_with_weight_dropping(
+        &mut self,
+        key: K,
+        value: V,
+    ) -> Result<Option<V>, PutError<K, V>>
+    where
+        K: Drop,
+        V: Drop,
+        ensures answer { IfOk result (λ old. old ≡ lookup (K.eq key) self.old.entries) }
+        ensures entries { self.new.entries ≡ (if is_ok result
+            then weighted_put K.eq (W.weight self.old.scale) self.old.capacity key value self.old.entries
+            else self.old.entries) }
+        ensures refused { IfErr result (λ refusal. pair_of refusal ≡ (key, value)) }
+        ensures too_heavy { IsTooHeavy result ↔ (self.old.capacity ≤ W.weight self.old.scale key value) }
+        ensures memory { WantsMemory result → NeedsPlaceFor K.eq (W.weight self.old.scale) self.old key value }
+        ensures places { GrowsOnlyIf (NeedsPlaceFor K.eq (W.weight self.old.scale) self.old key value)
+            self.old self.new }
+    {
+        self.put_with_weight_handing_to(key, value, &mut |_, _| {})
+    }
+
     /// Does what `put_with_weight` does, with a borrowed closure. The contract says how the closure ends, so a caller learns
     /// from what it captured which pairs were dropped; a closure passed by value can't say that.
     /// Cost: that of `put_with_weight`.

@@ -1,7 +1,8 @@
 //! `SizedPass`, which takes requests of keys with sizes one by one.
-ghost use Rattle.std.specs.Prelude.{◌≡◌, ℕ, ◌+◌, ◌^◌, ◌<◌, ◌≤◌, ◌↔◌, nat_lt, List, [], ◌∷◌, reverse, IfOk, IfErr, IsErrAnd, OnOk, OnErr, IsOk, IsNone, IsSome, IsTrue, None, is_some, if◌then◌else◌};
+ghost use Rattle.std.specs.Prelude.{◌≡◌, ℕ, ◌+◌, ◌^◌, ◌<◌, ◌≤◌, ◌↔◌, nat_lt, List, [], ◌∷◌, length, reverse, IfOk, IfErr, IfSome, IsErrAnd, OnOk, OnErr, IsOk, IsNone, IsSome, IsTrue, None, is_some, if◌then◌else◌};
 ghost use Rattle.std.specs.List.{list_any};
 ghost use Rattle.std.specs.Map.{lookup};
+ghost use Rattle.clru_model.specs.Requests.{since};
 ghost use Rattle.clru_model.specs.Sizes.{SameWeights, span};
 ghost use Rattle.clru_curve.specs.SizedPasses.{IsSizedPass, key_of, IsTooLarge};
 ghost use Rattle.clru_curve.specs.SizedCurves.{IsSizedCurveOf};
@@ -145,6 +146,18 @@ impl<K: Eq + Hash, S: BuildHasher, A: Allocator + Copy> SizedPass<K, S, A> {
         ensures too_large { IsErrAnd result IsTooLarge ↔ (2 ^ 64 ≤ self.old.size + (1 + weight)) }
     {
         self.again(key, weight)
+    }
+
+    /// Returns the position of the latest request of a key, by a form of it: how many requests came before that one. Returns
+    /// `None` if no such key was requested.
+    /// Cost: one hash and a walk along one chain.
+    pub fn latest_request<Q: Equivalent<K>>(&self, key: Q) -> Option<usize>
+        ensures known { (w : K → ℕ) (past : List K) → IsSizedPass K.eq w past self.now
+            → is_some result ≡ list_any (Q.equivalent key) past }
+        ensures position { (w : K → ℕ) (past : List K) (x : K) → IsSizedPass K.eq w past self.now → IsTrue (Q.equivalent key x)
+            → IfSome result (λ p. p + 1 + length (since K.eq x past) ≡ length past) }
+    {
+        self.positions.peek(key).copied()
     }
 
     /// `request_again`, which also says by the positions alone whether the key is known, whatever keys weighed.

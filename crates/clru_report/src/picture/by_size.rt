@@ -5,27 +5,30 @@ ghost use Rattle.clru_report.specs.Tables.{HasTable};
 
 use super::picture_of;
 use super::plot::{Line, Plot};
-use crate::options::{Capacities, Look};
+use crate::options::{Capacities, Options};
 use crate::sample::times;
-use crate::sized::{Totals, distinct_of, first_capacity};
+use crate::sized::{Floors, Totals, distinct_of, first_capacity};
 use clru_curve::{SizedCurve, Step};
 use std::alloc::{AllocError, Allocator};
 use std::num::NonZeroUsize;
 
-/// The picture of a curve: which part of the requests misses, and which of their size. Where the curve is of one key in some
+/// The picture of a curve: which part of the requests misses, and which of their size, with a line for the floor of this one if it is
+/// there. Where the curve is of one key in some
 /// number, it shows what that says of all requests, as rows do.
 pub(crate) fn picture_by_size<A: Allocator + Copy>(
     alloc: A,
     curve: &SizedCurve<A>,
+    floors: &Option<Floors<A>>,
     totals: Totals,
-    capacities: &Capacities<A>,
-    look: &Look<A>,
+    options: &Options<A>,
     table: &str,
 ) -> Result<String<A>, AllocError>
     requires { IsSettled curve.now }
     ensures { IfOk result (λ text. HasTable table.now (string_bytes text)) }
 {
     let one_in = totals.one_in;
+    let look = &options.look;
+    let capacities = &options.capacities;
     let least = times(one_in, usize::MAX, first_capacity(curve));
     let first = match look.from {
         Some(from) => from.get().max(least),
@@ -40,13 +43,58 @@ pub(crate) fn picture_by_size<A: Allocator + Copy>(
         requests: totals.requests,
         distinct: times(one_in, usize::MAX, distinct_of(curve)),
         one_in,
-        unit: "units of size",
+        unit: "bytes",
         ends: (first, last),
         lines: lines_of(alloc, curve, totals, first, capacities)?,
-        below: None,
+        below: match floors {
+            Some(floors) => Some(line_below(alloc, floors, totals, first, last)?),
+            None => None,
+        },
         least: None,
     };
     picture_of(alloc, &plot, look, table)
+}
+
+// Of how many parts of a capacity one more is taken for the next step of the floor.
+const PARTS: usize = 256;
+
+// The steps from 1 to the greatest number are fewer.
+const MOST_STEPS: usize = 12_000;
+
+// The line of the floor of the missed size, which may fall at each capacity: what is missed at capacities that lie close on the axis.
+fn line_below<A: Allocator + Copy>(
+    alloc: A,
+    floors: &Floors<A>,
+    totals: Totals,
+    first: usize,
+    last: usize,
+) -> Result<Line<A>, AllocError> {
+    let one_in = totals.one_in;
+    let floor = &floors.missed_size;
+    let end = last / one_in.get();
+    let mut room = NonZeroUsize::new(first / one_in.get()).unwrap_or(NonZeroUsize::MIN);
+    let start = times(one_in, totals.size, floor.missed_size(room));
+    let mut steps = Vec::new(alloc);
+    for _ in 0..MOST_STEPS {
+        room = room.saturating_add((room.get() / PARTS).saturating_add(1));
+        if room.get() > end {
+            break;
+        }
+        let capacity = times(one_in, usize::MAX, room.get());
+        steps.push((
+            capacity,
+            times(one_in, totals.size, floor.missed_size(room)),
+        ))?;
+    }
+    Ok(Line {
+        class: "below",
+        name: "floor",
+        whole: totals.size,
+        start,
+        steps,
+        floor: 0,
+        marks: Vec::new(alloc),
+    })
 }
 
 // 0 where none is named.

@@ -8,8 +8,10 @@ use crate::options::Look;
 use std::alloc::Allocator;
 use std::fmt::{self, Write};
 
-// From one line of the legend to the next.
+// From one line of the legend to the next, and where a floor stands behind several.
 const STRIDE: u128 = 2200;
+
+const NARROW_STRIDE: u128 = 1700;
 
 // And to the one behind that of first requests.
 const BEYOND_FIRST: u128 = 2100;
@@ -25,10 +27,15 @@ pub(super) fn draw_legend<W: Write, A: Allocator>(
         None => write_numbers(text, plot)?,
     }
     text.write_str("</text>\n")?;
+    let stride = if plot.below.is_some() {
+        NARROW_STRIDE
+    } else {
+        STRIDE
+    };
     let mut left = LEFT;
     for line in plot.lines.iter() {
         draw_name(text, line, left)?;
-        left = left.saturating_add(STRIDE);
+        left = left.saturating_add(stride);
     }
     if plot.least.is_some() {
         text.write_str("<circle class=\"least\" cx=\"2050\" cy=\"375\" r=\"45\"/>\n")?;
@@ -77,7 +84,7 @@ fn write_counted<W: Write>(text: &mut W, number: usize, name: &str) -> fmt::Resu
 // Where the line of first requests is named, behind the others.
 fn floor_of<A: Allocator>(plot: &Plot<A>) -> u128 {
     if plot.lines.len() > 1 {
-        5400
+        if plot.below.is_some() { 4650 } else { 5400 }
     } else if plot.least.is_some() {
         4000
     } else {

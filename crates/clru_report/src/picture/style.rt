@@ -12,7 +12,7 @@ pub(crate) const STYLE: &str = "<style>
 .clru_mrc .axis{stroke:#222;stroke-width:12;fill:none}
 .clru_mrc .lru{stroke:#0b5cad;stroke-width:28;fill:none}
 .clru_mrc .bytes{stroke:#b3410e;stroke-width:28;stroke-dasharray:110 55;fill:none}
-.clru_mrc .floor{stroke:#666;stroke-width:14;stroke-dasharray:20 40;fill:none}
+.clru_mrc .floor{stroke:#666;stroke-width:14;stroke-dasharray:150 45 20 45;fill:none}
 .clru_mrc .below{stroke:#2a7a3b;stroke-width:14;fill:none}
 .clru_mrc .mark{fill:#fff;stroke-dasharray:none}
 .clru_mrc .least{fill:#b3410e}

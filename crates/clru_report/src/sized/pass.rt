@@ -1,43 +1,54 @@
 //! The one reading of a log whose lines are objects with their sizes.
-ghost use Rattle.std.specs.Prelude.{◌≡◌, ℕ, ◌+◌, true, false, List, [], ◌∷◌, ◌++◌, length, Some, IsSome, IfErr, IfOk, OnOk};
+ghost use Rattle.std.specs.Prelude.{◌≡◌, ℕ, ◌+◌, Bool, true, false, List, [], ◌∷◌, ◌++◌, length, Some, IsSome, IfErr, IfOk, OnOk};
 ghost use Rattle.std.specs.Int.NonZero.{non_zero_usize_get};
 ghost use Rattle.clru_lines.specs.Lines.{lines_of};
 ghost use Rattle.clru_lines.specs.Whole.{ReadWhole};
 ghost use Rattle.clru_report.specs.Faults.{is_of_writing};
-ghost use Rattle.clru_report.specs.Passes.{HasTaken, HasTakenOf, IsOfLines, IsSettled, IsSizedCurveOfKept, line_of};
+ghost use Rattle.clru_curve.specs.SizedPasses.{IsSizedPass};
+ghost use Rattle.clru_lines.specs.declared.lines.OwnedKey.{OwnedKey};
+ghost use Rattle.clru_report.specs.Passes.{AreFloorsFor, HasFloorPass, HasTaken, HasTakenOf, HasTakenSized, IsOfLines, IsSettled, IsSizedCurveOfKept, line_of, same_line, weight_of_key};
 ghost use Rattle.clru_report.specs.Refusals.{fault_from, is_of_input};
 ghost use Rattle.clru_report.specs.Samples.{kept_of};
 ghost use Rattle.clru_report.specs.Sizes.{HaveSizes, size_of_line, size_of_lines, weight_of_line};
 
+use super::floors::{Floors, floors_of};
 use super::line::size_of;
 use crate::fault::read_fault;
 use crate::sample::is_kept;
 use clru_curve::{SizedCurve, SizedPass};
+use clru_least::FloorPass;
 use clru_lines::{Fault, LineBuffer, OwnedKey};
 use std::alloc::{AllocError, Allocator};
 use std::hash::BuildHasher;
 use std::io::Read;
 use std::num::NonZeroUsize;
 
-/// Returns the curve of the lines that a sample keeps, how many lines there are in all, their size, and how many bytes. A sample
-/// of one key in one keeps all lines.
+/// Returns the curve of the lines that a sample keeps, how many lines there are in all, their size, and how many bytes; and the floors
+/// of the kept lines if they are asked for. A sample of one key in one keeps all lines.
 ///
-/// No more than the distinct lines is held of them. Each line is to have a size, kept or not. The fault of a line is told once all
+/// No more than the distinct lines is held of them, and two numbers for each that came before if there are floors. Each line is to have a size, kept or not. The fault of a line is told once all
 /// is read, since it is one of the whole input; want of memory is told at once.
 pub(super) fn curve_by_size<R: Read, S: BuildHasher + Drop, A: Allocator + Copy>(
     alloc: A,
     one_in: NonZeroUsize,
+    floored: bool,
     reader: &mut R,
     hash_builder: S,
-) -> Result<(SizedCurve<A>, usize, usize, usize), Fault>
+) -> Result<(SizedCurve<A>, usize, usize, usize, Option<Floors<A>>), Fault>
     ensures curve { IfOk result (λ found. ReadWhole (R.remaining reader.old) (R.remaining reader.new)
-        (λ input. IsSizedCurveOfKept (non_zero_usize_get one_in) input found.0 found.1 found.2 found.3)) }
+        (λ input. IsSizedCurveOfKept (non_zero_usize_get one_in) input found.0 found.1 found.2 found.3
+        × AreFloorsFor floored (kept_of (non_zero_usize_get one_in) (lines_of input)) found.4)) }
     ensures settled { IfOk result (λ found. IsSettled found.0) }
     ensures refused { IfErr result (λ fault. is_of_input fault ≡ true → ReadWhole (R.remaining reader.old) (R.remaining reader.new)
         (λ input. IsOfLines fault (lines_of input) × (fault_from 1 0 (lines_of input) ≡ Some fault))) }
     ensures fault { IfErr result (λ fault. is_of_writing fault ≡ false) }
 {
     let mut pass = SizedPass::with_hasher(alloc, hash_builder);
+    let mut reuses = if floored {
+        Some(FloorPass::new(alloc))
+    } else {
+        None
+    };
     let mut buffer = LineBuffer::new(alloc);
     let mut key = OwnedKey(Vec::new(alloc));
     let mut requests = 0;
@@ -51,7 +62,7 @@ pub(super) fn curve_by_size<R: Read, S: BuildHasher + Drop, A: Allocator + Copy>
         }
         requests += 1;
         if refused.is_none() {
-            match count_and_take(alloc, one_in, &mut pass, &key, requests, size) {
+            match count_and_take(alloc, one_in, &mut pass, &mut reuses, &key, requests, size) {
                 Ok(more) => size = more,
                 Err(Fault::Memory) => return Err(Fault::Memory),
                 Err(fault) => refused = Some(fault),
@@ -59,7 +70,13 @@ pub(super) fn curve_by_size<R: Read, S: BuildHasher + Drop, A: Allocator + Copy>
         }
     }
     match refused {
-        None => Ok((pass.into_curve(), requests, size, buffer.bytes_read())),
+        None => {
+            let Ok(floors) = floors_of(&reuses) else {
+                return Err(Fault::Memory);
+            };
+            let bytes = buffer.bytes_read();
+            Ok((pass.into_curve(), requests, size, bytes, floors))
+        }
         Some(fault) => Err(fault),
     }
 }
@@ -69,21 +86,27 @@ fn count_and_take<S: BuildHasher, A: Allocator + Copy>(
     alloc: A,
     one_in: NonZeroUsize,
     pass: &mut SizedPass<OwnedKey<A>, S, A>,
+    reuses: &mut Option<FloorPass<OwnedKey<A>, A>>,
     key: &OwnedKey<A>,
     number: usize,
     size: usize,
 ) -> Result<usize, Fault>
-    ensures taken { (lines : List (List ℕ)) → HasTakenOf (non_zero_usize_get one_in) lines size pass.old → IfOk result (λ more.
-        HasTakenOf (non_zero_usize_get one_in) (lines ++ line_of key.now ∷ []) more pass.new) }
-    ensures refused { (lines rest : List (List ℕ)) → HasTakenOf (non_zero_usize_get one_in) lines size pass.old
+    requires { (floored : Bool) × (lines : List (List ℕ)) × HasTaken floored lines pass.old reuses.old }
+    ensures taken { (floored : Bool) (lines : List (List ℕ))
+        → HasTakenOf floored (non_zero_usize_get one_in) lines size pass.old reuses.old → IfOk result (λ more.
+        HasTakenOf floored (non_zero_usize_get one_in) (lines ++ line_of key.now ∷ []) more pass.new reuses.new) }
+    ensures refused { (lines rest : List (List ℕ)) → HaveSizes lines → size ≡ size_of_lines lines
         → number ≡ length lines + 1 → IfErr result (λ fault. IsOfLines fault (lines ++ line_of key.now ∷ rest)) }
     ensures next { (rest : List (List ℕ)) → IfOk result (λ more.
         fault_from number size (line_of key.now ∷ rest) ≡ fault_from (number + 1) more rest) }
     ensures fault { (rest : List (List ℕ)) → IfErr result (λ fault. is_of_input fault ≡ true
         → fault_from number size (line_of key.now ∷ rest) ≡ Some fault) }
 {
-    let more = count_line(&key.0, number, size)?;
-    match take_kept(alloc, one_in, pass, key, more - size - 1) {
+    let more = match count_line(&key.0, number, size) {
+        Ok(more) => more,
+        Err(fault) => return Err(fault),
+    };
+    match take_kept(alloc, one_in, pass, reuses, key, more - size - 1) {
         Ok(()) => Ok(more),
         Err(_) => Err(Fault::Memory),
     }
@@ -114,18 +137,44 @@ fn take_kept<S: BuildHasher, A: Allocator + Copy>(
     alloc: A,
     one_in: NonZeroUsize,
     pass: &mut SizedPass<OwnedKey<A>, S, A>,
+    reuses: &mut Option<FloorPass<OwnedKey<A>, A>>,
     key: &OwnedKey<A>,
     weight: usize,
 ) -> Result<(), AllocError>
     requires sized { IsSome (size_of_line (line_of key.now)) }
     requires weight { weight ≡ weight_of_line (line_of key.now) }
-    ensures { (lines : List (List ℕ)) → HasTaken (kept_of (non_zero_usize_get one_in) lines) pass.old
-        → OnOk result (HasTaken (kept_of (non_zero_usize_get one_in) (lines ++ line_of key.now ∷ [])) pass.new) }
+    requires taken { (floored : Bool) × (lines : List (List ℕ)) × HasTaken floored lines pass.old reuses.old }
+    ensures { (floored : Bool) (lines : List (List ℕ))
+        → HasTaken floored (kept_of (non_zero_usize_get one_in) lines) pass.old reuses.old → OnOk result
+        (HasTaken floored (kept_of (non_zero_usize_get one_in) (lines ++ line_of key.now ∷ [])) pass.new reuses.new) }
 {
     if !is_kept(&key.0, one_in) {
         return Ok(());
     }
+    note_reuse(pass, reuses, key, weight)?;
     take_line(alloc, pass, key, weight)
+}
+
+// The pass for a floor learns where the key was requested last.
+fn note_reuse<S: BuildHasher, A: Allocator + Copy>(
+    pass: &SizedPass<OwnedKey<A>, S, A>,
+    reuses: &mut Option<FloorPass<OwnedKey<A>, A>>,
+    key: &OwnedKey<A>,
+    weight: usize,
+) -> Result<(), AllocError>
+    requires { (floored : Bool) × (past : List (OwnedKey A)) × IsSizedPass same_line weight_of_key past pass.now
+        × HasFloorPass weight_of_line floored past reuses.old }
+    ensures { (floored : Bool) (past : List (OwnedKey A)) → IsSizedPass same_line weight_of_key past pass.now
+        → HasFloorPass weight_of_line floored past reuses.old → weight ≡ weight_of_line (line_of key.now)
+        → OnOk result ((same : OwnedKey A) → line_of same ≡ line_of key.now → HasFloorPass weight_of_line floored (same ∷ past) reuses.new) }
+{
+    match reuses {
+        None => Ok(()),
+        Some(reuses) => match reuses.request(pass.latest_request(key), weight) {
+            Ok(()) => Ok(()),
+            Err(_) => Err(AllocError),
+        },
+    }
 }
 
 // Takes one more line of this weight. It is copied where it is new. The sizes of the kept lines are too large only where those
@@ -136,10 +185,9 @@ fn take_line<S: BuildHasher, A: Allocator + Copy>(
     key: &OwnedKey<A>,
     weight: usize,
 ) -> Result<(), AllocError>
-    requires sized { IsSome (size_of_line (line_of key.now)) }
-    requires weight { weight ≡ weight_of_line (line_of key.now) }
-    ensures { (lines : List (List ℕ)) → HasTaken lines pass.old
-        → OnOk result (HasTaken (lines ++ line_of key.now ∷ []) pass.new) }
+    requires { weight ≡ weight_of_line (line_of key.now) }
+    ensures { (past : List (OwnedKey A)) → IsSizedPass same_line weight_of_key past pass.old
+        → OnOk result (HasTakenSized past (line_of key.now) pass.new) }
 {
     match pass.request_again(key, weight) {
         Ok(Some(_)) => Ok(()),

@@ -4,13 +4,15 @@ ghost use Rattle.std.specs.Int.NonZero.{non_zero_usize_get};
 ghost use Rattle.std.specs.List.{filter};
 ghost use Rattle.std.specs.Str.{bytes_eq};
 ghost use Rattle.clru_curve.specs.SizedCurves.{IsSizedCurveOf};
-ghost use Rattle.clru_report.specs.Passes.{capacities_on, distinct_in, IsSettled};
-ghost use Rattle.clru_report.specs.Samples.{sized_numbers_of, sized_numbers_times, times as times_of};
+ghost use Rattle.std.specs.Option.{option_map};
+ghost use Rattle.clru_report.specs.Passes.{AreFloorsFor, capacities_on, distinct_in, IsSettled, wants_floor};
+ghost use Rattle.clru_report.specs.Samples.{floor_times, sized_numbers_of, sized_numbers_times, times as times_of};
 ghost use Rattle.clru_report.specs.SizedReport.{AreSizedRowsOfSample, IsInFormBySizeOfSample, IsSizedTableOfSample};
 ghost use Rattle.clru_report.specs.SizedTables.{sized_summary_text};
 ghost use Rattle.clru_report.specs.Sizes.{weight_of_line};
 
 use super::capacities::{first_capacity, sized_capacities_for, sized_usual_table};
+use super::floors::{Floors, RowFloor};
 use super::rows::{SizedRow, sized_rows_at};
 use super::table::{distinct_of, greatest_of, sized_summary, sized_table_of};
 use crate::options::{Capacities, Form, Options};
@@ -33,26 +35,20 @@ pub(super) fn text_of_sized_sample<A: Allocator + Copy>(
     alloc: A,
     options: &Options<A>,
     curve: &SizedCurve<A>,
+    floors: &Option<Floors<A>>,
     totals: Totals,
     bytes: usize,
 ) -> Result<String<A>, AllocError>
     requires { IsSettled curve.now }
     ensures { (input : List ℕ) (kept : List (List ℕ)) → IsSizedCurveOf bytes_eq weight_of_line kept curve.now
-        → bytes ≡ length input → IfOk result (λ text. IsInFormBySizeOfSample options.now (non_zero_usize_get totals.one_in)
+        → AreFloorsFor (wants_floor options.now) kept floors.now → bytes ≡ length input → IfOk result (λ text. IsInFormBySizeOfSample options.now (non_zero_usize_get totals.one_in)
         totals.requests totals.size kept options.now.form input (string_bytes text)) }
 {
     match options.form {
-        Form::Table => table_of_sized_sample(alloc, options, curve, totals),
+        Form::Table => table_of_sized_sample(alloc, options, curve, floors, totals),
         Form::Picture => {
-            let table = table_of_sized_sample(alloc, options, curve, totals)?;
-            picture_by_size(
-                alloc,
-                curve,
-                totals,
-                &options.capacities,
-                &options.look,
-                &table,
-            )
+            let table = table_of_sized_sample(alloc, options, curve, floors, totals)?;
+            picture_by_size(alloc, curve, floors, totals, options, &table)
         }
         Form::Summary => summary_of_sized_sample(alloc, curve, totals, bytes),
     }
@@ -62,16 +58,18 @@ fn table_of_sized_sample<A: Allocator + Copy>(
     alloc: A,
     options: &Options<A>,
     curve: &SizedCurve<A>,
+    floors: &Option<Floors<A>>,
     totals: Totals,
 ) -> Result<String<A>, AllocError>
     requires { IsSettled curve.now }
-    ensures { (kept : List (List ℕ)) → IsSizedCurveOf bytes_eq weight_of_line kept curve.now → IfOk result (λ text.
+    ensures { (kept : List (List ℕ)) → IsSizedCurveOf bytes_eq weight_of_line kept curve.now
+        → AreFloorsFor options.now.floor kept floors.now → IfOk result (λ text.
         IsSizedTableOfSample options.now (non_zero_usize_get totals.one_in) totals.requests totals.size kept (string_bytes text)) }
 {
     let table = sized_usual_table(alloc, curve, totals.size / totals.one_in.get())?;
-    let rows = rows_of_sized_sample(alloc, options, curve, &table.capacities, totals)?;
+    let rows = rows_of_sized_sample(alloc, options, curve, floors, &table.capacities, totals)?;
     let knees = knees_times(alloc, &table.knees, totals.one_in)?;
-    sized_table_of(alloc, &rows, &knees, totals.requests, totals.size)
+    sized_table_of(alloc, &rows, &knees, totals.requests, totals.size, options.floor)
 }
 
 // The rows at the capacities that are asked for, each as one of all requests.
@@ -79,16 +77,18 @@ fn rows_of_sized_sample<A: Allocator + Copy>(
     alloc: A,
     options: &Options<A>,
     curve: &SizedCurve<A>,
+    floors: &Option<Floors<A>>,
     table: &[NonZeroUsize],
     totals: Totals,
 ) -> Result<Vec<SizedRow, A>, AllocError>
     requires { IsSettled curve.now }
-    ensures { (kept : List (List ℕ)) → IsSizedCurveOf bytes_eq weight_of_line kept curve.now → IfOk result (λ shown.
+    ensures { (kept : List (List ℕ)) → IsSizedCurveOf bytes_eq weight_of_line kept curve.now
+        → AreFloorsFor options.now.floor kept floors.now → IfOk result (λ shown.
         AreSizedRowsOfSample options.now (non_zero_usize_get totals.one_in) totals.requests totals.size kept
         (map non_zero_usize_get table.now) shown.items) }
 {
     let capacities = capacities_from_first(alloc, &options.capacities, curve, table)?;
-    let Ok(rows) = sized_rows_at(alloc, curve, &capacities) else {
+    let Ok(rows) = sized_rows_at(alloc, curve, floors, &capacities) else {
         return Err(AllocError);
     };
     sized_rows_times(alloc, &rows, totals)
@@ -125,9 +125,24 @@ fn sized_rows_times<A: Allocator>(
             capacity: row.capacity.saturating_mul(totals.one_in),
             misses: times(totals.one_in, totals.requests, row.misses),
             missed_size: times(totals.one_in, totals.size, row.missed_size),
+            floor: floor_of_all(totals, row.floor),
         })?;
     }
     Ok(shown)
+}
+
+// The same of floors, if they are there.
+fn floor_of_all(totals: Totals, floor: Option<RowFloor>) -> Option<RowFloor>
+    ensures { result ≡ option_map
+        (floor_times (non_zero_usize_get totals.one_in) totals.requests totals.size) floor }
+{
+    match floor {
+        Some(floor) => Some(RowFloor {
+            misses: times(totals.one_in, totals.requests, floor.misses),
+            missed_size: times(totals.one_in, totals.size, floor.missed_size),
+        }),
+        None => None,
+    }
 }
 
 // The greatest size is that of the kept requests.

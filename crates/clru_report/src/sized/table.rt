@@ -2,9 +2,10 @@
 ghost use Rattle.std.specs.Prelude.{◌≡◌, ◌+◌, drop, IfOk, min, string_bytes};
 ghost use Rattle.clru_curve.specs.SizedCurves.{misses_within};
 ghost use Rattle.clru_report.specs.Passes.{IsSettled, distinct_in};
-ghost use Rattle.clru_report.specs.SizedTables.{sized_row_line, sized_summary_text, sized_table_text, three_numbers as three_numbers_text};
+ghost use Rattle.clru_report.specs.SizedTables.{sized_header_line, sized_row_line, sized_summary_text, sized_table_text, three_numbers as three_numbers_text, with_floor as with_floor_text};
 
 use super::capacities::first_capacity;
+use super::floors::RowFloor;
 use super::rows::SizedRow;
 use crate::fraction::ratio_of;
 use crate::knees::is_knee;
@@ -20,11 +21,12 @@ pub(crate) fn sized_table_of<A: Allocator + Copy>(
     knees: &[usize],
     requests: usize,
     size: usize,
+    floor: bool,
 ) -> Result<String<A>, AllocError>
-    ensures { IfOk result (λ text. string_bytes text ≡ sized_table_text requests size knees.now rows.now) }
+    ensures { IfOk result (λ text. string_bytes text ≡ sized_table_text floor requests size knees.now rows.now) }
 {
     let mut text = String::new(alloc);
-    text.push_str("capacity,misses,miss_ratio,missed_bytes,byte_miss_ratio,saved_per_byte,knee\n")?;
+    text.push_str(header_of(floor))?;
     let mut capacity = 0;
     let mut missed = size;
     for index in 0..rows.len() {
@@ -36,6 +38,16 @@ pub(crate) fn sized_table_of<A: Allocator + Copy>(
         missed = row.missed_size;
     }
     Ok(text)
+}
+
+fn header_of(floor: bool) -> &'static str
+    ensures { result.now ≡ sized_header_line floor }
+{
+    if floor {
+        "capacity,misses,miss_ratio,missed_bytes,byte_miss_ratio,floor_misses,floor_missed_bytes,saved_per_byte,knee\n"
+    } else {
+        "capacity,misses,miss_ratio,missed_bytes,byte_miss_ratio,saved_per_byte,knee\n"
+    }
 }
 
 // One line, with its newline, of so many requests and their size, behind a row of that capacity and missed size.
@@ -59,7 +71,26 @@ fn sized_line_of<A: Allocator + Copy>(
     let saved = missed_before.saturating_sub(missed_size);
     let added = capacity.saturating_sub(capacity_before);
     let end = end_of(alloc, saved, added, knee)?;
-    format!(in alloc; "{capacity},{misses},{ratio},{missed_size},{size_ratio}{end}")
+    let from_floor = with_floor(alloc, row.floor, end)?;
+    format!(in alloc; "{capacity},{misses},{ratio},{missed_size},{size_ratio}{from_floor}")
+}
+
+// The end of a line, behind both floors if they are there.
+fn with_floor<A: Allocator + Copy>(
+    alloc: A,
+    floor: Option<RowFloor>,
+    end: String<A>,
+) -> Result<String<A>, AllocError>
+    ensures { IfOk result (λ text. string_bytes text ≡ with_floor_text floor (string_bytes end)) }
+{
+    match floor {
+        Some(floor) => {
+            let misses = floor.misses;
+            let missed_size = floor.missed_size;
+            format!(in alloc; ",{misses},{missed_size}{end}")
+        }
+        None => Ok(end),
+    }
 }
 
 /// The summary of a curve, and of how many bytes of input it is.

@@ -42,6 +42,7 @@ fn count_of<S: BuildHasher, W: WeightScale<Key, Value>, A: Allocator + Copy>(
         "len" => Some(cache.len()),
         "capacity" => Some(cache.capacity()),
         "weight" => Some(cache.weight()),
+        "size" => Some(cache.size()),
         _ => None,
     }
 }

@@ -8,8 +8,8 @@ pub(crate) fn arity(name: &str) -> usize {
     match name {
         "put_with_weight" | "put" | "put_or_modify" | "get_mut" | "peek_mut" => 2,
         "retain_mut" => 2,
-        "len" | "weight" | "capacity" | "is_empty" | "is_full" | "front" | "back" => 0,
-        "pop_front" | "pop_back" | "clear" => 0,
+        "len" | "weight" | "size" | "capacity" | "is_empty" | "is_full" | "front" => 0,
+        "back" | "pop_front" | "pop_back" | "clear" => 0,
         _ => 1,
     }
 }
@@ -37,6 +37,7 @@ fn any_call(name: &str, first: usize, second: usize) -> Option<PlainCall<usize, 
         "contains" => Call::Contains(first),
         "len" => Call::Len,
         "weight" => Call::Weight,
+        "size" => Call::Size,
         "capacity" => Call::Capacity,
         "is_empty" => Call::IsEmpty,
         "is_full" => Call::IsFull,

@@ -1,14 +1,14 @@
 //! The calls that look for a key.
-ghost use Rattle.std.specs.Prelude.{◌≡◌, Some, None, slice_get, IfOk, IfErr, IfSome, IsFalse, IsTrue, IsSomeAnd, is_none, is_some};
+ghost use Rattle.std.specs.Prelude.{◌≡◌, Some, None, slice_get, IfOk, IfErr, IfSome, IsFalse, IsSomeAnd, is_none, is_some};
 ghost use Rattle.std.specs.Borrow.{sem};
 ghost use Rattle.std.specs.Option.{option_copied, option_map};
 ghost use Rattle.std.specs.Map.{lookup};
 ghost use Rattle.std.specs.Map.Iter.{deref_pair};
 ghost use Rattle.clru.specs.Cache.{with_entries};
 ghost use Rattle.clru_model.specs.Entries.{touch};
-ghost use Rattle.clru_through.specs.Ends.{ends_loaded};
+ghost use Rattle.clru_through.specs.Ends.{ends_loaded, ends_touched};
 ghost use Rattle.clru_through.specs.Given.{IsHeld, answer_value, loaded_value, was_fetched};
-ghost use Rattle.clru_through.specs.Store.{KeepsFor, Store, store};
+ghost use Rattle.clru_through.specs.Store.{KeepsFor, Store};
 ghost use Rattle.clru_through.specs.Got.{IsGot};
 ghost use Rattle.clru_through.specs.Steps.{Loads, Takes};
 
@@ -55,8 +55,7 @@ impl<
         if move_to_front_if_held(&mut self.cache, &key) {
             return Ok(Loaded::Held { fetched: false });
         }
-        let value = self.source.fetch(&key)?;
-        Ok(taken(&mut self.cache, key, value))
+        self.refresh(key)
     }
 
     /// Returns the value of the key, and makes it the most recently used one. It is fetched first if it is not held.
@@ -113,22 +112,18 @@ impl<
         self.failed.take()
     }
 
-    /// Makes the value of the key the most recently used one if it is held, and returns whether it is. Nothing is fetched.
+    /// Returns the value of the key if it is held, and makes it the most recently used one. Nothing is fetched.
     ///
-    /// The key is lent, or is a form of it, as in a cache, so that a hit makes no key of its own. After `true` the value is that
-    /// of `front`; after `false` a `load` of the key fetches it.
+    /// The key is lent, or is a form of it, as in a cache, so that a hit makes no key of its own. After `None` a `load` of the key
+    /// fetches it.
     /// Cost: one hash and a walk along one chain.
-    pub fn hit<Q: Equivalent<K>>(&mut self, key: Q) -> bool
-        ensures held { result ≡ is_some (lookup (Q.equivalent key) self.old.cache.entries) }
-        ensures ends { let old = self.old.cache in
-            self.new ≡ store (with_entries old (touch Q.equivalent key old.entries)) self.old.source }
-        ensures missed { IsFalse result → self.new ≡ self.old }
-        ensures front { IsTrue result → IsSomeAnd (slice_get self.new.cache.entries 0)
-            (λ e. lookup (Q.equivalent key) self.old.cache.entries ≡ Some e.1) }
-        ensures value { IsTrue result → IsSomeAnd (slice_get self.new.cache.entries 0)
-            (λ e. KeepsFor R.keeps (R.promised self.old.source) (Q.equivalent key) e.1) }
+    pub fn hit<Q: Equivalent<K>>(&mut self, key: Q) -> Option<&V>
+        ensures* leaves { sem 𝓛 (ends_touched K.row V.row E.row R.row S.row W.row A.row M.row S.Hasher.row K.Hash R.Fetch
+            S.BuildHasher S.Hasher.Hasher W.WeightScale A.Allocator self.entry Q.equivalent key result) }
+        ensures held { option_copied result ≡ lookup (Q.equivalent key) self.old.cache.entries }
+        ensures value { IfSome result (λ v. KeepsFor R.keeps (R.promised self.old.source) (Q.equivalent key) v.now) }
     {
-        move_to_front_if_held(&mut self.cache, key)
+        self.cache.get(key)
     }
 
     /// Returns the most recently used key with its value, which after a load that answered `Held` are those of its key.

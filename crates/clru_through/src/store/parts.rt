@@ -1,5 +1,7 @@
 //! The cache and the source of a store.
 ghost use Rattle.std.specs.Prelude.{◌≡◌};
+ghost use Rattle.std.specs.Borrow.{sem};
+ghost use Rattle.clru_through.specs.Ends.{lends_source};
 ghost use Rattle.clru_through.specs.Store.{AllKeep};
 
 use crate::source::Fetch;
@@ -33,6 +35,20 @@ impl<
         ensures { result.now ≡ self.now.source }
     {
         &self.source
+    }
+
+    /// Lends the source for writing, as what it is to know of the time. Nothing is fetched, and what is held stays.
+    ///
+    /// It asks that a source promises the same whatever is written to it. For another source take the store apart, and make it
+    /// again.
+    /// Cost: a read.
+    pub fn source_mut(&mut self) -> &mut R
+        requires same_promises { (s : R) (k : K) → R.promised s k ≡ R.promised self.old.source k }
+        ensures* lends { sem 𝓛 (lends_source K.row V.row E.row R.row S.row W.row A.row M.row S.Hasher.row K.Hash R.Fetch
+            S.BuildHasher S.Hasher.Hasher W.WeightScale A.Allocator self.entry result) }
+        ensures source { result.now ≡ self.old.source }
+    {
+        &mut self.source
     }
 
     /// Takes the store apart. What the latest `get` passed on or failed with is dropped.

@@ -2,8 +2,10 @@
 ghost use Rattle.std.specs.Prelude.{◌≡◌, [], IfSome};
 ghost use Rattle.std.specs.Int.NonZero.{non_zero_usize_get};
 ghost use Rattle.std.specs.Map.{lookup};
+ghost use Rattle.std.specs.Map.Calls.{CallableOnEachPair, RetainsPairs};
 ghost use Rattle.clru.specs.Cache.{cache as cache_of, with_entries};
 ghost use Rattle.clru_model.specs.Entries.{fit, without};
+ghost use Rattle.clru_linked_map.specs.Retains.{CalledAtShownPair, TakesShownPair};
 ghost use Rattle.clru_through.specs.Store.{AllKeep, KeepsFor, store};
 
 use crate::source::Fetch;
@@ -48,6 +50,21 @@ impl<
         ensures { self.new ≡ store (with_entries self.old.cache []) self.old.source }
     {
         self.cache.clear();
+    }
+
+    /// Calls a closure at each key with its value once, the most recently used first, and takes out those at which it returns
+    /// `false`. The others stay in their order.
+    /// Cost: a call of the closure for each value; one hash, a walk along one chain and a weighing for each that goes.
+    pub fn retain<F: FnMut(&K, &V) -> bool>(&mut self, keep: F)
+    where
+        K: Drop,
+        V: Drop,
+        requires { CallableOnEachPair (CalledAtShownPair F.FnMut) (TakesShownPair F.FnMut) keep self.old.cache.entries }
+        ensures kept { RetainsPairs (CalledAtShownPair F.FnMut) keep self.old.cache.entries self.new.cache.entries }
+        ensures ends { self.new ≡ store (with_entries self.old.cache self.new.cache.entries) self.old.source }
+        ensures from_source { AllKeep R.keeps (R.promised self.new.source) self.new.cache.entries }
+    {
+        self.cache.retain(keep);
     }
 
     /// Sets the capacity, and drops what does not fit it, the least recently used value first and nothing else.

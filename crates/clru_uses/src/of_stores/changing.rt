@@ -51,9 +51,7 @@ pub fn given_of<E, R: Fetch<u64, u64, E, M>, W: WeightScale<u64, u64>, M>(
     ensures kept { (k : ℕ) → R.promised store.new.source k ≡ R.promised store.old.source k }
     ensures held { IfOk result (λ value. IfSome (lookup (nat_eq page) store.old.cache.entries) (λ held. value ≡ held)) }
 {
-    if store.hit(&page)
-        && let Some((_, value)) = store.front()
-    {
+    if let Some(value) = store.hit(&page) {
         return Ok(*value);
     }
     match store.load(page)? {

@@ -16,9 +16,9 @@ lines-init g c =
       | then-least w ↦ subst (HasForesight {A = g.row.A.Denot} c.args.least []) (sym w.foresight-is) (w.if-least.true, w.new.ensures)
       | else-least w ↦ subst (HasForesight {A = g.row.A.Denot} c.args.least []) (sym w.foresight-is) w.if-least.false
     ] in
-    let noted : HasFloorPass {A = g.row.A.Denot} c.args.floored [] c.if-floored.reuses = elim c.if-floored.branch [
-      | then-floored w ↦ subst (HasFloorPass {A = g.row.A.Denot} c.args.floored []) (sym w.reuses-is) (w.if-floored.true, w.new-then-floored.ensures (λ _. 0))
-      | else-floored w ↦ subst (HasFloorPass {A = g.row.A.Denot} c.args.floored []) (sym w.reuses-is) w.if-floored.false
+    let noted : HasFloorPass {A = g.row.A.Denot} (λ _. 0) c.args.floored [] c.if-floored.reuses = elim c.if-floored.branch [
+      | then-floored w ↦ subst (HasFloorPass {A = g.row.A.Denot} (λ _. 0) c.args.floored []) (sym w.reuses-is) (w.if-floored.true, w.new-then-floored.ensures (λ _. 0))
+      | else-floored w ↦ subst (HasFloorPass {A = g.row.A.Denot} (λ _. 0) c.args.floored []) (sym w.reuses-is) w.if-floored.false
     ] in
     let taken : HasTakenFor c.args.least c.args.floored [] c.with_hasher-pass.result c.if-least.foresight c.if-floored.reuses = record {
       past = [];

@@ -6,6 +6,7 @@ pub returns-in-Ok-clause-picture : goal.returns-in-Ok-clause-picture
 returns-in-Ok-clause-picture g c =
     let drawn = c.in-Ok.ensures in (
       c.deref.result.now,
-      subst (IsTableOf c.args.curve.now c.args.capacities.now) (sym c.deref.ensures) c.in_ok-table.ensures.table,
+      subst (IsTableOf c.args.curve.now c.args.floors.now c.args.options.now.floor c.args.options.now.capacities)
+          (sym c.deref.ensures) c.in_ok-table.ensures.table,
       drawn,
     )

@@ -1,6 +1,7 @@
 use Rattle.std.proofs.Common.{◌+◌, None, min, ap, string_bytes, sym, subst, ◌∙◌}
 use Rattle.clru_lines.specs.Lines.{lines_of}
-use Rattle.clru_report.specs.Passes.{distinct_in}
+use Rattle.std.specs.Prelude.{◌&&◌}
+use Rattle.clru_report.specs.Passes.{AreFloorsFor, distinct_in, has_rows}
 use Rattle.clru_report.specs.Refusals.{fault_beside}
 use Rattle.clru_report.specs.SizedReport.{IsInFormBySize}
 use Rattle.clru_report.specs.SizedTables.{sized_summary_text}
@@ -13,14 +14,15 @@ use Rattle.clru_report.proofs.sized.text_by_size.Goals as goal
 
 pub returns-in-Table : goal.returns-in-Table
 returns-in-Table g c =
-    let options = c.args.options.now in let curve = c.args.curve.now in
+    let options = c.args.options.now in let curve = c.args.curve.now in let floors = c.args.floors.now in
     record {
-      report = λ input requests size of. let lines = lines_of input in let whole = of_all input curve requests size c.args.bytes of in ok_map c.sized_table_for.result
+      report = λ input requests size of both. let lines = lines_of input in let whole = of_all input curve requests size c.args.bytes of in ok_map c.sized_table_for.result
           (λ text t. (
             of.sizes,
-            rows_free lines curve whole options (string_bytes text) t of.no_fault,
+            rows_free lines curve whole options floors (string_bytes text) t of.no_fault,
             subst (λ f. IsInFormBySize f options input lines (string_bytes text)) (sym c.in-Table.is)
-                (table_is lines curve whole options (string_bytes text) t),
+                (table_is lines curve whole options floors (string_bytes text)
+                (subst (λ f. AreFloorsFor (has_rows f && options.floor) lines floors) c.in-Table.is both) t),
           )) c.sized_table_for.ensures.table;
       refused = λ input requests size of. let lines = lines_of input in let whole = of_all input curve requests size c.args.bytes of in err_map c.sized_table_for.result
           (λ fault why input_is. capacities_refused lines curve whole options fault of.sizes of.no_fault
@@ -30,14 +32,18 @@ returns-in-Table g c =
 
 pub returns-in-Picture : goal.returns-in-Picture
 returns-in-Picture g c =
-    let options = c.args.options.now in let curve = c.args.curve.now in
+    let options = c.args.options.now in let curve = c.args.curve.now in let floors = c.args.floors.now in
     record {
-      report = λ input requests size of. let lines = lines_of input in let whole = of_all input curve requests size c.args.bytes of in ok_map c.sized_picture_for.result
+      report = λ input requests size of both. let lines = lines_of input in let whole = of_all input curve requests size c.args.bytes of in ok_map c.sized_picture_for.result
           (λ text t. (
             of.sizes,
-            rows_free lines curve whole options t.0 t.1 of.no_fault,
-            subst (λ f. IsInFormBySize f options input lines (string_bytes text)) (sym c.in-Picture.is)
-                (t.0, table_is lines curve whole options t.0 t.1, t.2),
+            rows_free lines curve whole options floors t.0 t.1 of.no_fault,
+            subst (λ f. IsInFormBySize f options input lines (string_bytes text)) (sym c.in-Picture.is) (
+              t.0,
+              table_is lines curve whole options floors t.0
+                  (subst (λ f. AreFloorsFor (has_rows f && options.floor) lines floors) c.in-Picture.is both) t.1,
+              t.2,
+            ),
           )) c.sized_picture_for.ensures.picture;
       refused = λ input requests size of. let lines = lines_of input in let whole = of_all input curve requests size c.args.bytes of in err_map c.sized_picture_for.result
           (λ fault why input_is. capacities_refused lines curve whole options fault of.sizes of.no_fault
@@ -46,7 +52,7 @@ returns-in-Picture g c =
     }
 
 pub returns-in-Ok-clause-report : goal.returns-in-Ok-clause-report
-returns-in-Ok-clause-report g c input requests size of =
+returns-in-Ok-clause-report g c input requests size of both =
     let options = c.args.options.now in let lines = lines_of input in
     let whole = of_all input c.args.curve.now requests size c.args.bytes of in (
       of.sizes,

@@ -10,14 +10,14 @@ invariant_of-self g c =
     record {
       latest = e.kept;
       past = inv.past;
-      taken = rw e.requests (IsPass-same eq inv.past s.positions.entries s.latest.words.items c.make_ready.new.self.words.items s.latest.requests
+      taken = rw e.requests (IsPass-same eq inv.past s.positions.entries s.latest.blocks.items c.make_ready.new.self.blocks.items s.latest.requests
           s.histogram.items e.ones inv.taken);
     }
 
 pub returns-in_default-clause-refused : goal.returns-in_default-clause-refused
 returns-in_default-clause-refused g c past before =
     let eq = g.K.PartialEq.eq in let s = c.self.inside in let e = c.make_ready.ensures in
-    rw e.requests (IsPass-same eq past s.positions.entries s.latest.words.items c.make_ready.new.self.words.items s.latest.requests
+    rw e.requests (IsPass-same eq past s.positions.entries s.latest.blocks.items c.make_ready.new.self.blocks.items s.latest.requests
     s.histogram.items e.ones (subst (λ v. IsPass eq past v) (sym c.self.view_is) before))
 
 pub invariant_of-self-in_default-reserve : goal.invariant_of-self-in_default-reserve
@@ -27,14 +27,14 @@ invariant_of-self-in_default-reserve g c =
       latest = e.kept;
       past = inv.past;
       taken = rw (e.requests, c.reserve.ensures.items)
-          (IsPass-same eq inv.past s.positions.entries s.latest.words.items c.make_ready.new.self.words.items s.latest.requests s.histogram.items e.ones inv.taken);
+          (IsPass-same eq inv.past s.positions.entries s.latest.blocks.items c.make_ready.new.self.blocks.items s.latest.requests s.histogram.items e.ones inv.taken);
     }
 
 pub returns-in_default-reserve-clause-refused : goal.returns-in_default-reserve-clause-refused
 returns-in_default-reserve-clause-refused g c past before =
     let eq = g.K.PartialEq.eq in let s = c.self.inside in let e = c.make_ready.ensures in
     rw (e.requests, c.reserve.ensures.items)
-    (IsPass-same eq past s.positions.entries s.latest.words.items c.make_ready.new.self.words.items s.latest.requests s.histogram.items e.ones
+    (IsPass-same eq past s.positions.entries s.latest.blocks.items c.make_ready.new.self.blocks.items s.latest.requests s.histogram.items e.ones
     (subst (λ v. IsPass eq past v) (sym c.self.view_is) before))
 
 pub invariant_of-self-in-Err : goal.invariant_of-self-in-Err
@@ -44,14 +44,14 @@ invariant_of-self-in-Err g c =
       latest = e.kept;
       past = inv.past;
       taken = rw (c.in-Err.ensures.entries, c.double_if_full.ensures.entries, e.requests, c.reserve.ensures.items)
-          (IsPass-same eq inv.past s.positions.entries s.latest.words.items c.make_ready.new.self.words.items s.latest.requests s.histogram.items e.ones inv.taken);
+          (IsPass-same eq inv.past s.positions.entries s.latest.blocks.items c.make_ready.new.self.blocks.items s.latest.requests s.histogram.items e.ones inv.taken);
     }
 
 pub returns-in-Err-clause-refused : goal.returns-in-Err-clause-refused
 returns-in-Err-clause-refused g c past before =
     let eq = g.K.PartialEq.eq in let s = c.self.inside in let e = c.make_ready.ensures in
     rw (c.in-Err.ensures.entries, c.double_if_full.ensures.entries, e.requests, c.reserve.ensures.items)
-    (IsPass-same eq past s.positions.entries s.latest.words.items c.make_ready.new.self.words.items s.latest.requests s.histogram.items e.ones
+    (IsPass-same eq past s.positions.entries s.latest.blocks.items c.make_ready.new.self.blocks.items s.latest.requests s.histogram.items e.ones
     (subst (λ v. IsPass eq past v) (sym c.self.view_is) before))
 
 pub invariant_of-self-2 : goal.invariant_of-self-2
@@ -59,7 +59,7 @@ invariant_of-self-2 g c =
     let eq = g.K.PartialEq.eq in let laws = g.met.K.Eq.laws in let s = c.self.inside in let inv = c.self.invariant in let e = c.make_ready.ensures in
     let n = s.latest.requests in
     let new = c.requires.new in
-    let absent = absent_key eq laws new.0 s.positions.entries s.latest.words.items n s.histogram.items c.args.key
+    let absent = absent_key eq laws new.0 s.positions.entries s.latest.blocks.items n s.histogram.items c.args.key
     (subst (λ v. IsPass eq new.0 v) (sym c.self.view_is) new.1) new.2 in
     let room : length s.positions.entries < c.double_if_full.new.positions.capacity =
     omega (arith, c.double_if_full.ensures.room, ap (λ l. length l) c.double_if_full.ensures.entries) in
@@ -74,8 +74,8 @@ invariant_of-self-2 g c =
         c.push_reserved.ensures.items,
         c.reserve.ensures.items,
       )
-          (IsPass-new eq laws inv.past s.positions.entries s.latest.words.items n s.histogram.items c.args.key inv.taken c.double_if_full.new.positions.capacity
-          c.push.new.self.words.items absent room
+          (IsPass-new eq laws inv.past s.positions.entries s.latest.blocks.items n s.histogram.items c.args.key inv.taken c.double_if_full.new.positions.capacity
+          c.push.new.self.blocks.items absent room
           (λ q. omega (arith, c.push.ensures.ones q, e.ones q, ap (λ r. up_to q r) e.requests)));
     }
 
@@ -85,11 +85,11 @@ returns-clause-taken g c past before =
     let is = subst (λ v. IsPass eq past v) (sym c.self.view_is) before in
     let n = s.latest.requests in
     let new = c.requires.new in
-    let absent = absent_key eq laws new.0 s.positions.entries s.latest.words.items n s.histogram.items c.args.key
+    let absent = absent_key eq laws new.0 s.positions.entries s.latest.blocks.items n s.histogram.items c.args.key
     (subst (λ v. IsPass eq new.0 v) (sym c.self.view_is) new.1) new.2 in
     let room : length s.positions.entries < c.double_if_full.new.positions.capacity =
     omega (arith, c.double_if_full.ensures.room, ap (λ l. length l) c.double_if_full.ensures.entries) in
     rw (c.in_default-put.ensures.entries, c.double_if_full.ensures.entries, c.push.ensures.requests, e.requests, c.push_reserved.ensures.items, c.reserve.ensures.items)
-    (IsPass-new eq laws past s.positions.entries s.latest.words.items n s.histogram.items c.args.key is c.double_if_full.new.positions.capacity
-    c.push.new.self.words.items absent room
+    (IsPass-new eq laws past s.positions.entries s.latest.blocks.items n s.histogram.items c.args.key is c.double_if_full.new.positions.capacity
+    c.push.new.self.blocks.items absent room
     (λ q. omega (arith, c.push.ensures.ones q, e.ones q, ap (λ r. up_to q r) e.requests)))

@@ -1,6 +1,6 @@
 use Rattle.std.proofs.Common.{◌++◌, ◌∷◌, [], ap, ◌∙◌, length, arith}
-use Rattle.std.proofs.lemmas.List.{length-append}
-use Rattle.clru_least.proofs.Laters.{noted_first, noted_within, noted_again}
+use Rattle.std.proofs.lemmas.List.{length-append, length-set}
+use Rattle.clru_least.proofs.Laters.{narrow_behind, noted_first, noted_within, noted_again}
 use Rattle.clru_least.proofs.pass.ForesightPass.request.Goals as goal
 
 pub set-requires : goal.set-requires
@@ -23,6 +23,11 @@ invariant_of-self-in-Some g c =
       past = given.1 ∷ given.0;
       taken = noted_again g.K.PartialEq.eq g.met.K.Eq.laws given.0 c.self.inside.later.numbers (c.self.view_is ∙ given.2) given.1 c.args.latest given.3
           c.in-Some.latest c.in-Some.is c.len-position.result c.push.new.self.numbers c.set.new.self.numbers c.len-position.ensures pushed c.set.ensures.numbers;
+      narrow = narrow_behind c.self.inside.later c.widen_for.new.self c.set.new.self c.self.invariant.narrow
+          (λ fits. c.widen_for.ensures.stays (omega (arith, fits, c.len-position.ensures)))
+          (ap (λ l. length l) c.set.ensures.numbers ∙ length-set c.push.new.self.numbers c.in-Some.latest c.len-position.result
+          ∙ ap (λ l. length l) pushed ∙ length-append c.self.inside.later.numbers (0 ∷ []))
+          (c.set.ensures.greatest ∙ c.push.ensures.greatest);
     }
 
 pub invariant_of-self-in-None : goal.invariant_of-self-in-None
@@ -33,6 +38,9 @@ invariant_of-self-in-None g c =
       past = given.1 ∷ given.0;
       taken = noted_first g.K.PartialEq.eq g.met.K.Eq.laws given.0 c.self.inside.later.numbers (c.self.view_is ∙ given.2) given.1 c.args.latest given.3
           c.push.new.self.numbers c.in-None.is pushed;
+      narrow = narrow_behind c.self.inside.later c.widen_for.new.self c.push.new.self c.self.invariant.narrow
+          (λ fits. c.widen_for.ensures.stays (omega (arith, fits, c.len-position.ensures)))
+          (ap (λ l. length l) pushed ∙ length-append c.self.inside.later.numbers (0 ∷ [])) c.push.ensures.greatest;
     }
 
 pub returns-in-Some-clause-taken : goal.returns-in-Some-clause-taken

@@ -1,12 +1,15 @@
 use Rattle.std.specs.Option.{is_none}
-use Rattle.std.proofs.Common.{◌≡◌, true, not, ◌++◌, ◌∷◌, [], ℕ, List, Some, IfSome, append_assoc, append-nil, IsSome, refl, sym, length, ap, ◌∙◌, subst, arith}
+use Rattle.std.proofs.Common.{◌≡◌, true, false, not, ◌++◌, ◌∷◌, [], ℕ, List, Some, IfSome, append_assoc, append-nil, IsSome, refl, sym, length, ap, ◌∙◌, subst, arith}
 use Rattle.std.specs.Int.NonZero.{non_zero_usize_get}
 use Rattle.std.specs.Prelude.{bytes_eq}
 use Rattle.std.proofs.lemmas.List.{length-append}
 use Rattle.std.proofs.lemmas.List.Elements.{All-nil}
 use Rattle.clru_curve.specs.SizedCurves.{IsSizedCurveOf}
 use Rattle.clru_lines.specs.Lines.{lines_of}
-use Rattle.clru_report.specs.Passes.{IsOfLines, weight_of_key}
+use Rattle.clru_lines.specs.declared.fault.Fault.{Fault}
+use Rattle.clru_lines.specs.declared.fault.Fault.TheVariants.{BadCapacity, Memory, Reading, Writing, Closed, NoSize, TooLarge, TooSmall}
+use Rattle.clru_report.specs.Faults.{is_of_writing}
+use Rattle.clru_report.specs.Passes.{AreFloorsFor, HasFloorPass, IsOfLines, weight_of_key}
 use Rattle.clru_report.specs.Refusals.{fault_from, is_of_input}
 use Rattle.clru_report.specs.Samples.{kept_of}
 use Rattle.clru_report.specs.Sizes.{HaveSizes, size_of_line, size_of_lines, weight_of_line}
@@ -14,9 +17,26 @@ use Rattle.clru_report.proofs.ReportLemmas.{no_none, no_some, none_map, of_none,
 use Rattle.clru_report.proofs.SettledCurves.{settled_curve}
 use Rattle.clru_report.proofs.TakenLines.{curve_taken}
 use Rattle.clru_report.proofs.sized.pass.curve_by_size.Goals as goal
+use Rattle.clru_report.proofs.sized.pass.curve_by_size.Goals.{else-floored, then-floored}
+
+-- why lines have no curve is no fault of writing
+lines_unwritten : (lines : List (List ℕ)) (fault : Fault) → IsOfLines fault lines → is_of_writing fault ≡ false
+lines_unwritten lines BadCapacity why = refl
+lines_unwritten lines Memory why = refl
+lines_unwritten lines Reading why = refl
+lines_unwritten lines Writing why = absurd why
+lines_unwritten lines Closed why = absurd why
+lines_unwritten lines (NoSize n) why = refl
+lines_unwritten lines TooLarge why = refl
+lines_unwritten lines (TooSmall n) why = refl
 
 pub lines-init : goal.lines-init
 lines-init g c =
+    let noted : HasFloorPass {A = g.row.A.Denot} weight_of_line c.args.floored [] c.if-floored.reuses = elim c.if-floored.branch [
+      | then-floored w ↦ subst (HasFloorPass {A = g.row.A.Denot} weight_of_line c.args.floored []) (sym w.reuses-is)
+          (w.if-floored.true, w.new.ensures weight_of_key)
+      | else-floored w ↦ subst (HasFloorPass {A = g.row.A.Denot} weight_of_line c.args.floored []) (sym w.reuses-is) w.if-floored.false
+    ] in
     let made = c.with_hasher-pass.ensures weight_of_key in (
       [],
       c.new-buffer.ensures (g.R.Read.remaining c.args.reader.now),
@@ -26,12 +46,18 @@ lines-init g c =
         record {
           sizes = All-nil (λ line. IsSome (size_of_line line));
           summed = refl;
-          taken = record { past = []; shown = refl; sizes = All-nil (λ line. IsSome (size_of_line line)); taken = made };
+          taken = record { past = []; shown = refl; sizes = All-nil (λ line. IsSome (size_of_line line)); taken = made; floored = noted };
         },
         λ rest. refl,
       ),
       tt,
     )
+
+pub count_and_take-requires : goal.count_and_take-requires
+count_and_take-requires g c =
+    let before = c.lines.invariant in
+    let so = of_none c.lines.refused (ap not c.if-is_none.ensures) before.4 in
+    (c.args.floored, kept_of (non_zero_usize_get c.args.one_in) before.0, so.0.taken)
 
 pub lines-preserved-in-Ok : goal.lines-preserved-in-Ok
 lines-preserved-in-Ok g c =
@@ -43,7 +69,7 @@ lines-preserved-in-Ok g c =
       omega (arith, before.2, length-append before.0 (line ∷ [])),
       omega (arith, before.2, fits),
       none_map c.lines.refused (λ so. (
-        e.taken before.0 so.0,
+        e.taken c.args.floored before.0 so.0,
         λ rest. ap (fault_from 1 0) (append_assoc before.0 (line ∷ []) rest) ∙ so.1 (line ∷ rest) ∙ e.next rest,
       )) before.4,
       no_some _ c.lines.refused (ap not c.if-is_none.ensures),
@@ -61,7 +87,7 @@ lines-preserved-in-Err-count_and_take g c =
       omega (arith, before.2, fits),
       tt,
       λ rest. let same = append_assoc before.0 (line ∷ []) rest in (
-        subst (IsOfLines fault) (sym same) (e.refused before.0 rest so.0 (omega (arith, before.2))),
+        subst (IsOfLines fault) (sym same) (e.refused before.0 rest so.0.sizes so.0.summed (omega (arith, before.2))),
         λ of. ap (fault_from 1 0) same ∙ so.1 (line ∷ rest) ∙ e.fault rest of,
       ),
     )
@@ -82,30 +108,35 @@ lines-preserved g c =
       )) before.5,
     )
 
-pub returns-in-None-clause-curve : goal.returns-in-None-clause-curve
-returns-in-None-clause-curve g c =
+pub returns-in-Ok-floors_of-clause-curve : goal.returns-in-Ok-floors_of-clause-curve
+returns-in-Ok-floors_of-clause-curve g c =
     let before = c.lines.invariant in let start = g.R.Read.remaining c.args.reader.now in
     let read = c.in-Ok-false.ensures.end start before.0 before.1 c.in-Ok-false.field-0-test in
     let lines = sym read.3.0 in let so = of_none c.lines.refused (ap is_none c.in-None.is) before.4 in
-    let kept = kept_of (non_zero_usize_get c.args.one_in) in (
+    let kept = kept_of (non_zero_usize_get c.args.one_in) in
+    let all = so.0.taken in let floors = c.in-Ok-floors_of.floors in (
       read.0,
       read.1,
       read.2,
-      record {
-        sizes = subst HaveSizes lines so.0.sizes;
-        of_kept = subst (λ ls. IsSizedCurveOf bytes_eq weight_of_line (kept ls) c.into_curve.result) lines
-            (curve_taken (kept before.0) c.lines.pass so.0.taken c.into_curve.result (c.into_curve.ensures weight_of_key));
-        no_fault = ap (fault_from 1 0) (sym lines ∙ sym (append-nil before.0)) ∙ so.1 [];
-        counted = before.2 ∙ ap length lines;
-        summed = so.0.summed ∙ ap size_of_lines lines;
-        in_bytes = c.bytes_read.ensures ∙ read.3.1;
-      },
+      (
+        record {
+          sizes = subst HaveSizes lines so.0.sizes;
+          of_kept = subst (λ ls. IsSizedCurveOf bytes_eq weight_of_line (kept ls) c.into_curve.result) lines
+              (curve_taken c.args.floored (kept before.0) c.lines.pass c.lines.reuses so.0.taken c.into_curve.result (c.into_curve.ensures weight_of_key));
+          no_fault = ap (fault_from 1 0) (sym lines ∙ sym (append-nil before.0)) ∙ so.1 [];
+          counted = before.2 ∙ ap length lines;
+          summed = so.0.summed ∙ ap size_of_lines lines;
+          in_bytes = c.bytes_read-bytes.ensures ∙ read.3.1;
+        },
+        subst (λ ls. AreFloorsFor c.args.floored (kept ls) floors) lines
+            (subst (λ ls. AreFloorsFor c.args.floored ls floors) all.shown (c.in-Ok-floors_of.ensures c.args.floored all.past all.floored)),
+      ),
     )
 
-pub returns-in-None-clause-settled : goal.returns-in-None-clause-settled
-returns-in-None-clause-settled g c =
-    let made = returns-in-None-clause-curve g c in
-    settled_curve (kept_of (non_zero_usize_get c.args.one_in) (lines_of made.0)) c.into_curve.result made.3.of_kept
+pub returns-in-Ok-floors_of-clause-settled : goal.returns-in-Ok-floors_of-clause-settled
+returns-in-Ok-floors_of-clause-settled g c =
+    let made = returns-in-Ok-floors_of-clause-curve g c in
+    settled_curve (kept_of (non_zero_usize_get c.args.one_in) (lines_of made.0)) c.into_curve.result made.3.0.of_kept
 
 pub returns-in-Some-clause-refused : goal.returns-in-Some-clause-refused
 returns-in-Some-clause-refused g c of =
@@ -119,3 +150,10 @@ returns-in-Some-clause-refused g c of =
       read.2,
       (subst (IsOfLines fault) whole (so []).0, ap (fault_from 1 0) (sym whole) ∙ (so []).1 of),
     )
+
+pub returns-in-Some-clause-fault : goal.returns-in-Some-clause-fault
+returns-in-Some-clause-fault g c =
+    let before = c.lines.invariant in
+    let so = subst (λ o. IfSome o (λ f. (rest : List (List ℕ)) → IsOfLines f (before.0 ++ rest)
+    × (is_of_input f ≡ true → fault_from 1 0 (before.0 ++ rest) ≡ Some f))) c.in-Some.is before.5 in
+    lines_unwritten (before.0 ++ []) c.in-Some.fault (so []).0

@@ -10,7 +10,7 @@ abbrev pub invariant-lines : goal.invariant-lines
 invariant-lines g l = (lines : List (List ℕ))
     × HasTold (g.R.Read.remaining l.initial.reader) (g.R.Read.remaining l.reader) l.buffer lines
     × (l.requests ≡ length lines) × (l.requests < 2 ^ 64)
-    × IfNone l.refused (HasTakenOf (non_zero_usize_get l.one_in) lines l.size l.pass
+    × IfNone l.refused (HasTakenOf l.floored (non_zero_usize_get l.one_in) lines l.size l.pass l.reuses
     × ((rest : List (List ℕ)) → fault_from 1 0 (lines ++ rest) ≡ fault_from (l.requests + 1) l.size rest))
     × IfSome l.refused (λ fault. (rest : List (List ℕ)) → IsOfLines fault (lines ++ rest)
     × (is_of_input fault ≡ true → fault_from 1 0 (lines ++ rest) ≡ Some fault))

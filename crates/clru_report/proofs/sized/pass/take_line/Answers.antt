@@ -3,26 +3,25 @@ use Rattle.clru_curve.specs.SizedPasses.{IsSizedPass}
 use Rattle.clru_report.specs.Passes.{line_of, same_line, weight_of_key}
 use Rattle.clru_report.specs.Sizes.{weight_of_line}
 use Rattle.clru_report.proofs.SettledCurves.{bytes_laws, same_weights}
-use Rattle.clru_report.proofs.TakenLines.{taken_more}
+use Rattle.clru_report.proofs.TakenLines.{sized_taken}
 use Rattle.clru_report.proofs.sized.pass.take_line.Goals as goal
 use Rattle.clru_report.proofs.sized.pass.take_line.Goals.{in-Err-request, in-Ok}
 
 pub returns-in-Ok-Some : goal.returns-in-Ok-Some
-returns-in-Ok-Some g c lines taken =
+returns-in-Ok-Some g c past is =
     let key = c.args.key.now in
-    taken_more lines c.args.pass.now taken key (line_of key) c.request_again.new.self refl c.requires.sized
-    (λ past is. c.in-Ok-Some.ensures.taken weight_of_key past key (λ x y t. same_weights (line_of x) (line_of y) t) is
-    (sym c.requires.weight) (bytes_laws.refl (line_of key)) (ap is_some c.in-Ok-Some.field-0-is))
+    sized_taken past key (line_of key) c.request_again.new.self refl
+    (c.in-Ok-Some.ensures.taken weight_of_key past key (λ x y t. same_weights (line_of x) (line_of y) t) is
+    (sym c.requires) (bytes_laws.refl (line_of key)) (ap is_some c.in-Ok-Some.field-0-is))
 
 pub returns-after-request : goal.returns-after-request
-returns-after-request g c lines taken =
-    let line = line_of c.args.key.now in
+returns-after-request g c past is =
     let copied = c.in_ok-bytes-in-Ok-None.ensures.items ∙ c.deref.ensures.value in
     let same = c.in-Ok-None.ensures.not_taken (ap is_some c.in-Ok-None.field-0-is) in
     elim c.match-request.branch [
       | in-Ok w ↦ rw w.result-is
-          (taken_more lines c.args.pass.now taken _ line c.request.new.self copied c.requires.sized
-          (λ past is. w.in-Ok.ensures.taken weight_of_key past (λ x y t. same_weights (line_of x) (line_of y) t)
-          (subst (IsSizedPass same_line weight_of_key past) (sym same) is) (ap weight_of_line copied ∙ sym c.requires.weight)))
+          (sized_taken past _ (line_of c.args.key.now) c.request.new.self copied
+          (w.in-Ok.ensures.taken weight_of_key past (λ x y t. same_weights (line_of x) (line_of y) t)
+          (subst (IsSizedPass same_line weight_of_key past) (sym same) is) (ap weight_of_line copied ∙ sym c.requires)))
       | in-Err-request w ↦ rw w.result-is tt
     ]

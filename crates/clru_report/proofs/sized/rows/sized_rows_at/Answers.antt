@@ -26,6 +26,6 @@ loop-capacity-preserved g c =
       subst (λ rs. map capacity_of_sized_row rs ≡ map non_zero_usize_get (take (i + 1) capacities)) (sym pushed)
           (map-append capacity_of_sized_row rows (row ∷ []) ∙ ap (λ ns. ns ++ capacity_of_sized_row row ∷ []) c.loop-capacity.invariant.0
           ∙ ap (λ n. map non_zero_usize_get (take i capacities) ++ n ∷ []) c.in-Ok.ensures.capacity ∙ sym more),
-      subst (All (IsRowOf c.args.curve.now)) (sym pushed)
-          (All-push (IsRowOf c.args.curve.now) rows row c.loop-capacity.invariant.1 c.in-Ok.ensures.row),
+      subst (All (IsRowOf c.args.curve.now c.args.floors.now)) (sym pushed)
+          (All-push (IsRowOf c.args.curve.now c.args.floors.now) rows row c.loop-capacity.invariant.1 c.in-Ok.ensures.row),
     )

@@ -5,4 +5,4 @@ use Rattle.clru_report.proofs.sized.rows.sized_rows_at.Given as goal
 
 abbrev pub invariant-loop-capacity : goal.invariant-loop-capacity
 invariant-loop-capacity g l =
-    AreRowsOf l.curve (map non_zero_usize_get (take l.capacity-index l.capacities)) l.rows.items
+    AreRowsOf l.curve l.floors (map non_zero_usize_get (take l.capacity-index l.capacities)) l.rows.items

@@ -7,14 +7,15 @@ use Rattle.clru_report.proofs.SizedSamples.{rows_kept}
 use Rattle.clru_report.proofs.sized.sample.rows_of_sized_sample.Goals as goal
 
 pub returns : goal.returns
-returns g c kept is =
+returns g c kept is both =
     let curve = c.args.curve.now in let rows = c.in-Ok.rows.items in let totals = c.args.totals in
-    let answered = subst (λ ns. AreRowsOf curve ns rows)
+    let floors = c.args.floors.now in
+    let answered = subst (λ ns. AreRowsOf curve floors ns rows)
     (ap (map non_zero_usize_get) c.deref.ensures.value ∙ c.in_ok-capacities.ensures) c.in-Ok.ensures.rows in
     ok_map c.sized_rows_times.result
     (λ shown t. (
       rows,
-      rows_kept kept curve is c.args.options.now (map non_zero_usize_get c.args.table.now) rows answered,
+      rows_kept kept curve is c.args.options.now floors (map non_zero_usize_get c.args.table.now) rows both answered,
       t ∙ ap (map (sized_numbers_times (non_zero_usize_get totals.one_in) totals.requests totals.size)) c.deref-2.ensures.value,
     ))
     c.sized_rows_times.ensures

@@ -6,4 +6,4 @@ use Rattle.clru_report.proofs.sized.table.sized_table_of.Given as goal
 abbrev pub invariant-loop-index : goal.invariant-loop-index
 invariant-loop-index g l =
     string_bytes l.text ++ sized_rows_text l.requests l.size l.knees l.capacity l.missed (drop l.index l.rows)
-    ≡ sized_table_text l.requests l.size l.knees l.rows
+    ≡ sized_table_text l.floor l.requests l.size l.knees l.rows

@@ -1,8 +1,6 @@
-use Rattle.std.proofs.Common.{rules, Ok, Err, sym, ◌∙◌, subst}
-use Rattle.std.proofs.lemmas.Result.{err_from_is_err_and}
+use Rattle.std.proofs.Common.{sym, ◌∙◌}
 use Rattle.std.specs.Map.{lookup}
-use Rattle.clru_through.specs.Steps.{Takes}
-use Rattle.clru_through.proofs.Sourced.{AllKeep-lookup, AllKeep_promised, AllKeep-taken, AllKeep-touch, first-touch, lookup-touch}
+use Rattle.clru_through.proofs.Sourced.{AllKeep-lookup, AllKeep-touch, first-touch, lookup-touch}
 use Rattle.clru_through.proofs.Looking.{is_there}
 use Rattle.clru_through.proofs.store.Through.load.Goals as goal
 
@@ -21,34 +19,7 @@ returns-then-move_to_front_if_held-clause-front g c = λ _.
     (first-touch eq c.args.key es held.0 held.1 (g.R.Fetch.keeps (g.R.Fetch.promised source c.args.key))
     (AllKeep-lookup g.met.K.Eq.laws c.args.key g.R.Fetch.keeps (g.met.R.Fetch.same source) es c.self.invariant held.0 held.1))
 
-pub returns-in_err-value-clause-step : goal.returns-in_err-value-clause-step
-returns-in_err-value-clause-step g c =
-    let look = c.move_to_front_if_held.ensures in let missed = c.if-move_to_front_if_held.false in
-    let p = err_from_is_err_and c.from_residual.result c.from_residual.ensures.1 in
-    rw (p.1, ← c.self.view_is, look.absent missed)
-    (record { fetched = Err c.in_err-value.field-0.0; fetch = search rules; passes = (p.2, search rules) })
-
-pub returns-clause-step : goal.returns-clause-step
-returns-clause-step g c =
-    let eq = g.K.PartialEq.eq in let look = c.move_to_front_if_held.ensures in
-    let missed = c.if-move_to_front_if_held.false in
-    rw (← c.self.view_is, look.absent missed) (record {
-      fetched = Ok c.in_ok-value.value;
-      fetch = search rules;
-      passes = subst (λ cache. Takes eq (g.W.WeightScale.weight cache.scale) cache c.args.key c.in_ok-value.value c.taken.result c.taken.new.cache)
-          (look.missed missed) c.taken.ensures.taken;
-    })
-
 pub invariant_of-self : goal.invariant_of-self
 invariant_of-self g c =
     rw c.move_to_front_if_held.ensures.touches
     (AllKeep-touch g.K.PartialEq.eq c.args.key g.R.Fetch.keeps (g.R.Fetch.promised c.self.inside.source) c.self.inside.cache.entries c.self.invariant)
-
-pub invariant_of-self-2 : goal.invariant_of-self-2
-invariant_of-self-2 g c =
-    let old = c.self.inside in let new = c.fetch.new.self in let keeps = g.R.Fetch.keeps in let promised = g.R.Fetch.promised in
-    let kept = c.in_ok-value.ensures.kept in let look = c.move_to_front_if_held in
-    AllKeep-taken g.K.PartialEq.eq (g.W.WeightScale.weight look.new.cache.scale) keeps (promised new) look.new.cache c.taken.new.cache
-    c.args.key c.in_ok-value.value c.taken.result (rw (kept c.args.key) c.in_ok-value.ensures.value) c.taken.ensures.taken
-    (AllKeep_promised keeps (promised new) (promised old.source) kept look.new.cache.entries
-    (rw look.ensures.touches (AllKeep-touch g.K.PartialEq.eq c.args.key keeps (promised old.source) old.cache.entries c.self.invariant)))
