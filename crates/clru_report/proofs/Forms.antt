@@ -18,22 +18,21 @@ module _ {A : Type 0} (options : Options A) (input : List ℕ) where
   abbrev lines : List (List ℕ)
   lines = lines_of input
 
-  module _ (counts : Counts) (table : List ℕ) (rows : List Row) (text : List ℕ) (usual : IsUsualTable counts.requests lines table)
-      (counted : counts.requests ≡ length lines) where
-    abbrev marked : List ℕ
-    marked = knees (misses_of lines) counts.requests table
-
-    tabled : table_text options.least options.floor counts.requests marked rows
+  module _ (counts : Counts) (table ks : List ℕ) (rows : List Row) (text : List ℕ) (usual : IsUsualTable counts.requests lines table)
+      (marked : ks ≡ knees (misses_of lines) counts.requests table) (counted : counts.requests ≡ length lines) where
+    tabled : table_text options.least options.floor counts.requests ks rows
         ≡ table_text options.least options.floor (length lines) (knees (misses_of lines) (length lines) table) rows
-    tabled = ap (λ n. table_text options.least options.floor n (knees (misses_of lines) n table) rows) counted
+    tabled =
+        ap (λ k. table_text options.least options.floor counts.requests k rows) marked
+        ∙ ap (λ n. table_text options.least options.floor n (knees (misses_of lines) n table) rows) counted
 
-    pub form_of_all : (form : Form) → IsTextByKeys form options.least options.floor counts marked rows text
+    pub form_of_all : (form : Form) → IsTextByKeys form options.least options.floor counts ks rows text
         → AreRows bytes_eq lines (has_rows form && options.least) (has_rows form && options.floor) (capacities_asked options lines table) rows
         → counts.distinct ≡ distinct bytes_eq (reverse lines) → counts.bytes ≡ length input
         → IsInForm form options input text
     form_of_all Table t rowed kinds in_bytes = (table, rows, subst (λ n. IsUsualTable n lines table) counted usual, rowed, t ∙ tabled)
     form_of_all Picture t rowed kinds in_bytes = (
-      table_text options.least options.floor counts.requests marked rows,
+      table_text options.least options.floor counts.requests ks rows,
       (table, rows, subst (λ n. IsUsualTable n lines table) counted usual, rowed, tabled),
       t,
     )

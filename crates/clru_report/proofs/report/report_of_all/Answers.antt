@@ -4,7 +4,7 @@ use Rattle.std.specs.Prelude.{bytes_eq, reverse}
 use Rattle.clru_curve.specs.Curves.{HasMissesOf}
 use Rattle.clru_lines.specs.Lines.{lines_of}
 use Rattle.clru_model.specs.Requests.{distinct}
-use Rattle.clru_report.specs.Passes.{IsFloorFor, IsForeseenFor, IsTextByKeys, wants_floor, wants_least}
+use Rattle.clru_report.specs.Passes.{IsFloorFor, IsForeseenFor, wants_floor, wants_least}
 use Rattle.clru_report.specs.Report.{AreRows, capacities_asked}
 use Rattle.clru_report.specs.declared.text.Counts.{Counts}
 use Rattle.clru_report.proofs.Forms.{form_of_all}
@@ -34,12 +34,11 @@ returns-in-Ok-text_by_keys g c =
       distinct = c.distinct.result;
       bytes = c.in_ok-curve.bytes;
     } in
-    let text = string_bytes c.in-Ok-text_by_keys.text in
-    let shown = subst (λ ks. IsTextByKeys options.form options.least options.floor counts ks c.deref-2.result.now text)
-    (c.deref-3.ensures.value ∙ c.in-Ok.ensures.knees lines has kinds) c.in-Ok-text_by_keys.ensures in (
+    let text = string_bytes c.in-Ok-text_by_keys.text in (
       read.0,
       read.1,
       read.2,
-      form_of_all options read.0 counts table c.deref-2.result.now text (c.in-Ok.ensures.table lines has kinds) of.counted options.form
-          shown rowed (c.distinct.ensures ∙ kinds) of.in_bytes,
+      form_of_all options read.0 counts table c.deref-3.result.now c.deref-2.result.now text (c.in-Ok.ensures.table lines has kinds)
+          (c.deref-3.ensures.value ∙ c.in-Ok.ensures.knees lines has kinds) of.counted options.form
+          c.in-Ok-text_by_keys.ensures rowed (c.distinct.ensures ∙ kinds) of.in_bytes,
     )
