@@ -6,7 +6,6 @@ use Rattle.clru_lines.specs.Lines.{lines_of}
 use Rattle.clru_model.specs.Requests.{distinct}
 use Rattle.clru_report.specs.Passes.{IsFloorFor, IsForeseenFor, wants_floor, wants_least}
 use Rattle.clru_report.specs.Report.{AreRows, capacities_asked}
-use Rattle.clru_report.specs.declared.text.Counts.{Counts}
 use Rattle.clru_report.proofs.Forms.{form_of_all}
 use Rattle.clru_report.proofs.Samples.{all_kept}
 use Rattle.clru_report.proofs.report.report_of_all.Goals as goal
@@ -28,17 +27,11 @@ returns-in-Ok-text_by_keys g c =
     let rowed = subst (AreRows bytes_eq lines (wants_least options) (wants_floor options) asked) (sym c.deref-2.ensures.value)
     (subst (λ b. AreRows bytes_eq lines (wants_least options) b asked rows) c.asks_for_floor-floored.ensures
     (subst (λ b. AreRows bytes_eq lines b floored asked rows) c.asks_for_least-least.ensures at)) in
-    let counts : Counts = record {
-      one_in = c.NonZeroUsize-one_in.result;
-      requests = c.in_ok-curve.requests;
-      distinct = c.distinct.result;
-      bytes = c.in_ok-curve.bytes;
-    } in
     let text = string_bytes c.in-Ok-text_by_keys.text in (
       read.0,
       read.1,
       read.2,
-      form_of_all options read.0 counts table c.deref-3.result.now c.deref-2.result.now text (c.in-Ok.ensures.table lines has kinds)
+      form_of_all options read.0 _ table c.deref-3.result.now c.deref-2.result.now text (c.in-Ok.ensures.table lines has kinds)
           (c.deref-3.ensures.value ∙ c.in-Ok.ensures.knees lines has kinds) of.counted options.form
           c.in-Ok-text_by_keys.ensures rowed (c.distinct.ensures ∙ kinds) of.in_bytes,
     )
