@@ -11,3 +11,104 @@ const KEYS: usize = 10;
 
 // Of a form, whether by size, and whether with the least, or by size the floors: its requests for memory, and their bytes.
 static REQUESTS: &[(Form, bool, bool, u64, u64)] = &[
+    (Form::Table, false, false, 57, 69488),
+    (Form::Table, true, false, 73, 106402),
+    (Form::Table, true, true, 97, 187074),
+    (Form::Table, false, true, 88, 123453),
+    (Form::Picture, false, false, 68, 88376),
+    (Form::Picture, true, false, 93, 174925),
+    (Form::Picture, true, true, 122, 260032),
+    (Form::Picture, false, true, 101, 143673),
+    (Form::Summary, false, false, 31, 68871),
+    (Form::Summary, true, false, 39, 104630),
+    (Form::Summary, true, true, 39, 104630),
+    (Form::Summary, false, true, 31, 68871),
+];
+
+// The same of a sample, which keeps half of the keys: whether by size, its hashes too.
+static OF_SAMPLES: &[(Form, bool, u64, u64, u64)] = &[
+    (Form::Table, false, 514, 45, 69001),
+    (Form::Table, true, 514, 60, 89595),
+    (Form::Picture, false, 514, 56, 87607),
+    (Form::Picture, true, 514, 79, 133493),
+    (Form::Summary, false, 514, 19, 67984),
+    (Form::Summary, true, 514, 33, 88231),
+];
+
+/// A thousand lines of ten keys, each with the size 7.
+fn thousand(alloc: Global) -> Result<Vec<u8>, AllocError> {
+    let mut input = Vec::new(alloc);
+    for line in 0..1_000 {
+        input.extend_from_slice(b"7 ")?;
+        input.push(b'a' + (line % KEYS) as u8)?;
+        input.push(b'\n')?;
+    }
+    Ok(input)
+}
+
+/// The hashes, the requests for memory and their bytes of a report.
+fn costs_of(
+    alloc: Global,
+    input: &[u8],
+    form: Form,
+    flags: (bool, bool),
+    sample: Sample,
+) -> Result<(u64, u64, u64), Fail> {
+    let count = Cell::new(0);
+    let heap = Rationed::new(alloc);
+    // Only a whole log by keys can have the least.
+    let least = match sample {
+        Sample::Whole => flags.1 && !flags.0,
+        _ => false,
+    };
+    let floor = flags.0 && flags.1;
+    let options = Options {
+        capacities: Capacities::Usual,
+        sizes: flags.0,
+        least,
+        floor,
+        sample,
+        form,
+        look: plain(),
+    };
+    let mut reader = input;
+    let mut written = Vec::new(alloc);
+    run(&heap, &options, &mut reader, &mut written, Counting(&count))?;
+    Ok((count.get(), heap.asked(), heap.asked_bytes()))
+}
+
+#[test]
+fn each_form_hashes_a_line_as_often(rt: HostRuntime) -> Result<(), Fail> {
+    let input = thousand(rt.alloc())?;
+    // A line that came before is hashed once, a new one three times, and four of ten where the places grow from 4 to 16 (buckets
+    // are made for 64 then, the capacity of a pass at first).
+    let once = 1_000 + 2 * KEYS as u64 + 4;
+    for (form, sizes, least, requests, bytes) in REQUESTS {
+        // The least and the floors look each line up once more; a summary has none.
+        let again = if *least && *form != Form::Summary {
+            1_000
+        } else {
+            0
+        };
+        let costs = costs_of(rt.alloc(), &input, *form, (*sizes, *least), Sample::Whole)?;
+        equal!(rt; costs, (once + again, *requests, *bytes), (*form, *sizes, *least));
+    }
+    Ok(())
+}
+
+#[test]
+fn each_form_of_a_sample_hashes_kept_lines_alone(rt: HostRuntime) -> Result<(), Fail> {
+    let input = thousand(rt.alloc())?;
+    let two = NonZeroUsize::new(2).ok_or("two")?;
+    for (form, sizes, hashes, requests, bytes) in OF_SAMPLES {
+        let costs = costs_of(
+            rt.alloc(),
+            &input,
+            *form,
+            (*sizes, false),
+            Sample::OneIn(two),
+        )?;
+        equal!(rt; costs, (*hashes, *requests, *bytes), (*form, *sizes));
+    }
+    Ok(())
+}
