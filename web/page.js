@@ -645,7 +645,7 @@ function begin() {
     };
     $("form").onchange = () => takeForm($("form").value);
     for (const id of ["keys", "size", "sizes", "heading", "answered", "queries"]) $(id).oninput = showColumns;
-    for (const id of ["at", "all", "least"]) $(id).oninput = markStale;
+    for (const id of ["at", "all", "least", "floor"]) $(id).oninput = markStale;
     $("copy").onclick = copy;
     $("settings").onsubmit = run;
     $("stop").onclick = stop;
