@@ -74,7 +74,7 @@ fn costs_of(
     let mut reader = input;
     let mut written = Vec::new(alloc);
     run(&heap, &options, &mut reader, &mut written, Counting(&count))?;
-    Ok((count.get(), heap.asked(), heap.asked_bytes()))
+    Ok((count.get(), heap.requests(), heap.requested_bytes()))
 }
 
 #[test]
