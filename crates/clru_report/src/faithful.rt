@@ -88,7 +88,13 @@ fn furthest_by_keys(curve: &[usize], whole: usize, a: usize, b: usize) -> Option
 }
 
 /// Looks at one capacity more: returns it if it lies further off the line than any before, and how far that is.
-pub(crate) fn further(start: Point, end: Point, here: Point, best: usize, most: u128) -> (usize, u128)
+pub(crate) fn further(
+    start: Point,
+    end: Point,
+    here: Point,
+    best: usize,
+    most: u128,
+) -> (usize, u128)
     ensures { (f : ℕ → ℕ) (a b k : ℕ) → f here.capacity ≡ off_line start end here → IsGreatestOf f a b k best most
         → a ≤ here.capacity → here.capacity < b → k ≤ here.capacity + 1
         → ((y : ℕ) → k ≤ y → y < here.capacity → most < f y → f y < f here.capacity)

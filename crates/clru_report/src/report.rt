@@ -85,7 +85,14 @@ fn report_of_all<R: Read, S: BuildHasher + Drop, A: Allocator + Copy>(
     let Ok(table) = usual_table(alloc, &curve, requests) else {
         return Err(ReadError::Memory);
     };
-    let Ok(rows) = rows_of_all(alloc, options, &curve, &table.capacities, &foresight, &floor) else {
+    let Ok(rows) = rows_of_all(
+        alloc,
+        options,
+        &curve,
+        &table.capacities,
+        &foresight,
+        &floor,
+    ) else {
         return Err(ReadError::Memory);
     };
     let counts = Counts {
@@ -94,7 +101,16 @@ fn report_of_all<R: Read, S: BuildHasher + Drop, A: Allocator + Copy>(
         distinct: curve.distinct(),
         bytes,
     };
-    match text_by_keys(alloc, options, &curve, &floor, &rows, &table.knees, options.least, counts) {
+    match text_by_keys(
+        alloc,
+        options,
+        &curve,
+        &floor,
+        &rows,
+        &table.knees,
+        options.least,
+        counts,
+    ) {
         Ok(text) => Ok(text),
         Err(_) => Err(ReadError::Memory),
     }

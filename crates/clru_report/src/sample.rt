@@ -62,7 +62,15 @@ pub(crate) fn text_of_sample<A: Allocator + Copy>(
         return summary_of(alloc, requests, distinct, bytes);
     }
     let table = usual_table(alloc, curve, requests / one_in.get())?;
-    let rows = rows_of_sample(alloc, options, curve, &table.capacities, floor, one_in, requests)?;
+    let rows = rows_of_sample(
+        alloc,
+        options,
+        curve,
+        &table.capacities,
+        floor,
+        one_in,
+        requests,
+    )?;
     let knees = knees_times(alloc, &table.knees, one_in)?;
     let counts = Counts {
         one_in,

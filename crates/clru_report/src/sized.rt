@@ -185,7 +185,14 @@ fn sized_table_for<A: Allocator + Copy>(
         return Err(Fault::Memory);
     };
     let rows = sized_rows_for(alloc, curve, floors, &options.capacities, &table.capacities)?;
-    match sized_table_of(alloc, &rows, &table.knees, curve.requests(), curve.size(), options.floor) {
+    match sized_table_of(
+        alloc,
+        &rows,
+        &table.knees,
+        curve.requests(),
+        curve.size(),
+        options.floor,
+    ) {
         Ok(text) => Ok(text),
         Err(_) => Err(Fault::Memory),
     }

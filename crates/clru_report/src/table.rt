@@ -2,8 +2,8 @@
 ghost use Rattle.std.specs.Prelude.{◌≡◌, ◌-◌, drop, if◌then◌else◌, IfOk, string_bytes};
 ghost use Rattle.clru_report.specs.Tables.{point_of_row, header_line, row_end, row_line, summary_text, table_text, with_number as with_number_text};
 
-use crate::fraction::ratio_of;
 use crate::faithful::Point;
+use crate::fraction::ratio_of;
 use crate::knees::is_knee;
 use crate::rows::Row;
 use std::alloc::{AllocError, Allocator};

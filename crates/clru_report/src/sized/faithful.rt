@@ -71,7 +71,15 @@ fn furthest_by_size<A: Allocator>(
     for index in from..to {
         let next = steps[index].capacity;
         if next > last {
-            let found = further_on(start, end, last, next, missed_after(curve, index), best, most);
+            let found = further_on(
+                start,
+                end,
+                last,
+                next,
+                missed_after(curve, index),
+                best,
+                most,
+            );
             last = next;
             best = found.0;
             most = found.1;

@@ -69,7 +69,14 @@ fn table_of_sized_sample<A: Allocator + Copy>(
     let table = sized_usual_table(alloc, curve, totals.size / totals.one_in.get())?;
     let rows = rows_of_sized_sample(alloc, options, curve, floors, &table.capacities, totals)?;
     let knees = knees_times(alloc, &table.knees, totals.one_in)?;
-    sized_table_of(alloc, &rows, &knees, totals.requests, totals.size, options.floor)
+    sized_table_of(
+        alloc,
+        &rows,
+        &knees,
+        totals.requests,
+        totals.size,
+        options.floor,
+    )
 }
 
 // The rows at the capacities that are asked for, each as one of all requests.
