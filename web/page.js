@@ -518,9 +518,20 @@ function showMarks(found) {
     const last = found.last > found.first ? found.last : found.first * 2;
     const [begin, length] = [logarithm(found.first), logarithm(last) - logarithm(found.first)];
     marks.across = found.rows.map(([capacity]) => LEFT + WIDTH * (logarithm(Math.min(capacity, last)) - begin) / length);
+    moveTo(beginning(found));
+}
+
+// Where the mark begins: at the knee that saves the most for its room; without one, where nine tenths of what can hit do.
+function beginning(found) {
+    const bySize = found.bytes !== undefined;
+    const savedAt = ([capacity, misses, , missedBytes]) => (bySize ? found.bytes - missedBytes : found.requests - misses) / capacity;
+    const rows = report.csv.trimEnd().split("\n").slice(1).map((row) => row.split(","));
+    const knees = rows.filter((row) => row.at(-1) === "1").map(([capacity]) => Number(capacity));
+    // (the misses at a knee are those of the last fall up to it)
+    const falls = knees.map((knee) => found.rows.findLastIndex(([capacity]) => capacity <= knee)).filter((index) => index >= 0);
+    if (falls.length) return falls.reduce((best, index) => savedAt(found.rows[index]) > savedAt(found.rows[best]) ? index : best);
     const most = found.requests - found.rows.at(-1)[1];
-    // (it begins where nine tenths of what can hit do)
-    moveTo(Math.max(0, found.rows.findIndex(([, misses]) => found.requests - misses >= 0.9 * most)));
+    return Math.max(0, found.rows.findIndex(([, misses]) => found.requests - misses >= 0.9 * most));
 }
 
 function moveTo(index) {
@@ -645,7 +656,7 @@ function begin() {
     };
     $("form").onchange = () => takeForm($("form").value);
     for (const id of ["keys", "size", "sizes", "heading", "answered", "queries"]) $(id).oninput = showColumns;
-    for (const id of ["at", "all", "least"]) $(id).oninput = markStale;
+    for (const id of ["at", "all", "least", "floor"]) $(id).oninput = markStale;
     $("copy").onclick = copy;
     $("settings").onsubmit = run;
     $("stop").onclick = stop;

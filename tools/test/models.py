@@ -7,6 +7,7 @@ and the scripts `memory`, `growths` and `list` have it: when it is asked for, ho
 is refused.
 """
 import collections
+import fractions
 
 MAX = 2 ** 64 - 1
 # Up to so many places links have 4 bytes.
@@ -563,6 +564,71 @@ def floors_of(requests):
     else:
         said += " .. {} of size {}".format(*last)
     return said + (f"; 3 keys {floor_of(requests, 3)[0]}" if all(takes == 1 for _, takes in requests) else "")
+
+
+def falls_of(requests):
+    """What an LRU cache of each capacity misses, in requests and in their size, as two lists that begin at the capacity 0; from the
+    spans of the requests."""
+    sizes = dict(requests)
+    misses, bytes_missed = [len(requests)] * (sum(sizes.values()) + 1), [sum(takes for _, takes in requests)] * (sum(sizes.values()) + 1)
+    for (_, takes), span in zip(requests, spans(requests)):
+        for capacity in range(len(misses) if span == "new" else int(span), len(misses)):
+            misses[capacity] -= 1
+            bytes_missed[capacity] -= takes
+    return misses, bytes_missed
+
+
+def off_line(missed, a, b, x):
+    """How far the misses at x are from the straight line from a to b."""
+    return abs(missed[x] - (missed[a] * fractions.Fraction(b - x, b - a) + missed[b] * fractions.Fraction(x - a, b - a)))
+
+
+def faithful_table(missed, usual):
+    """As long as some capacity between two neighbours lies more than a fiftieth of the whole off their line, the furthest is added."""
+    table = list(usual)
+    while True:
+        off = [(off_line(missed, a, b, x), -x) for a, b in zip(table, table[1:]) for x in range(a + 1, b)]
+        far, x = max(off, default=(0, 0))
+        if far * 50 <= missed[0]:
+            return table
+        table = sorted([*table, -x])
+
+
+def knees_of(missed, table):
+    """Where a fall ends: a fiftieth of the whole or more is saved since the row before, and for each unit more than behind it, by more
+    than the ratio of the capacities around it."""
+    return {
+        c for a, c, b in zip(table, table[1:], table[2:])
+        if 50 * (missed[a] - missed[c]) >= missed[0]
+        and fractions.Fraction(missed[a] - missed[c], c - a) * a > fractions.Fraction(missed[c] - missed[b], b - c) * b
+    }
+
+
+def six_digits(part, whole):
+    whole = max(whole, 1)
+    number = (2 * 10 ** 6 * part + whole) // (2 * whole)
+    return f"{number // 10 ** 6}.{number % 10 ** 6:06}"
+
+
+def report_of(requests, at, by_size):
+    """The table that clru_mrc makes of the requests: of the usual capacities, of `all`, or of these."""
+    misses, bytes_missed = falls_of(requests)
+    falling = bytes_missed if by_size else misses
+    first, last = max(takes for _, takes in requests) if by_size else 1, len(misses) - 1
+    rounds = (digit * 10 ** power for power in range(20) for digit in (1, 2, 5))
+    table = faithful_table(falling, [capacity for capacity in rounds if first <= capacity < last] + [last])
+    knees = knees_of(falling, table)
+    each = [first] + [capacity for capacity in range(first + 1, last + 1) if misses[capacity] < misses[capacity - 1]]
+    middle = "missed_bytes,byte_miss_ratio,saved_per_byte" if by_size else "saved_per_key"
+    lines, before = [f"capacity,misses,miss_ratio,{middle},knee"], 0
+    for capacity in table if at is None else each if at == "all" else at:
+        here = min(capacity, last)
+        bytes_too = f"{bytes_missed[here]},{six_digits(bytes_missed[here], bytes_missed[0])}," if by_size else ""
+        saved = falling[min(before, last)] - falling[here]
+        lines.append(f"{capacity},{misses[here]},{six_digits(misses[here], misses[0])},{bytes_too}"
+                     f"{six_digits(saved, capacity - before)},{int(capacity in knees)}")
+        before = capacity
+    return "\n".join(["status 0", *lines])
 
 
 class List:

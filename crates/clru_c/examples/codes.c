@@ -162,7 +162,7 @@ static uint32_t call(int which, uint64_t low) {
 static const struct {
     const char *name;
     size_t requests, bytes;
-} needs[6] = {{"hits", 3, 644}, {"misses", 20, 24752}, {"misses by size", 30, 57104}, {"floors", 33, 39176}, {"floors by size", 35, 56920},
+} needs[6] = {{"hits", 3, 644}, {"misses", 20, 24752}, {"misses by size", 30, 65264}, {"floors", 33, 39176}, {"floors by size", 35, 56920},
               {"least", 30, 28976}};
 
 /* Refuses each request for memory in turn with all behind it, until the call meets no refusal. */

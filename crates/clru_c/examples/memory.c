@@ -206,7 +206,7 @@ static void see_many(void) {
     curve(MANY);
     see_asked("misses", 63, 13727536);
     curve_by_size(MANY);
-    see_asked("misses by size", 57, 16977232);
+    see_asked("misses by size", 57, 19074352);
     held_by(clru_least_by_room(keys, MANY, &room, 1, 0, 0, &least, 1));
     see_asked("least", 60, 5497568);
 }

@@ -63,7 +63,7 @@ def main():
     seen("less than the greatest", clru.misses_by_size, [1, 2], [3, 4], [3])
     seen("from 0 to 2^64 - 1", clru.misses_by_capacity, [1, 2**64 + 1], 2)
     seen("from 0 to 2^64 - 1", clru.misses_by_capacity, [1, -1], 2)
-    seen("from 0 to 2^64 - 1", clru.hits_at, [1, 2], 2**64 + 1)
+    seen("from 0 to 2^64 - 1", clru.hits_at, [1, 2], 2**64)
     seen("clru.numbered(keys)", clru.misses_by_capacity, [1.5, 2], 2)
     seen("clru.numbered(keys)", clru.misses_by_capacity, ["a", "b"], 2)
     for keys, what in ("text", "text"), (b"text", "text"), (io.StringIO("1\n2\n"), "file"):

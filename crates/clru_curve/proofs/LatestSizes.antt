@@ -1,51 +1,74 @@
--- Sums of sizes from a request on, and what one more size and one less keep of them and of the nodes.
-use Rattle.std.proofs.Common.{◌≡◌, ℕ, zero, suc, ◌+◌, ◌*◌, ◌/◌, ◌<◌, ◌≤◌, List, [], ◌∷◌, ◌++◌, length, get_or, set, inl, inr, refl, ap, arith, length-set}
+-- Sums of sizes, by index and by number, and what one more size and one less keep of them and of the nodes.
+use Rattle.std.proofs.Common.{◌≡◌, ℕ, zero, suc, ◌+◌, ◌*◌, ◌/◌, ◌<◌, ◌≤◌, true, false, List, [], ◌∷◌, ◌++◌, length, set, take, inl, inr, refl, ap, ◌∙◌, subst, arith, length-set}
 use Rattle.std.proofs.lemmas.Bool.{cases_lt}
 use Rattle.std.proofs.lemmas.Nat.{mod_below, div-add-mod'}
 use Rattle.std.proofs.lemmas.List.{length_push}
-use Rattle.clru_curve.specs.LatestSizes.{sizes_from, IsSummed}
-use Rattle.clru_curve.specs.Tree.{up_by, Falls, IsCounted}
-use Rattle.clru_curve.proofs.Nodes.{falls_far}
-use Rattle.clru_curve.proofs.UpTo.{up_by-le, up_by-gt}
+use Rattle.std.specs.List.{filter}
+use Rattle.clru_model.proofs.Cases.{split}
+use Rattle.clru_curve.specs.declared.numbered.Numbered.{Numbered}
+use Rattle.clru_curve.specs.LatestSizes.{sizes_from, total_from, live_from, IsSummed, IsRemoved}
+use Rattle.clru_curve.specs.Rising.{numbered, has_value, number_at, value_at, IsRising}
+use Rattle.clru_curve.specs.Tree.{up_by, up_to, Falls, IsCounted}
 use Rattle.clru_curve.proofs.Counted.{IsCounted-same, IsCounted-push}
+use Rattle.clru_curve.proofs.Nodes.{falls_far}
+use Rattle.clru_curve.proofs.Rising.{rising_at, rising_order, rising_push, rising_set, rising_filter}
+use Rattle.clru_curve.proofs.UpTo.{up_by-le, up_by-gt}
 
-pub sizes_step : (ss : List ℕ) (j : ℕ) → sizes_from ss j ≡ get_or ss j 0 + sizes_from ss (suc j)
+pub sizes_step : (ss : List Numbered) (j : ℕ) → sizes_from ss j ≡ value_at ss j + sizes_from ss (suc j)
 sizes_step [] j = refl
 sizes_step (s ∷ ss) zero = refl
 sizes_step (s ∷ ss) (suc j) = sizes_step ss j
 
-pub sizes_fall : (ss : List ℕ) → Falls (sizes_from ss)
+pub sizes_fall : (ss : List Numbered) → Falls (sizes_from ss)
 sizes_fall ss j = omega (arith, sizes_step ss j)
 
-pub sizes_none : (ss : List ℕ) (j : ℕ) → length ss ≤ j → sizes_from ss j ≡ 0
+pub sizes_none : (ss : List Numbered) (j : ℕ) → length ss ≤ j → sizes_from ss j ≡ 0
 sizes_none [] j past = refl
 sizes_none (s ∷ ss) zero past = omega (arith, past)
 sizes_none (s ∷ ss) (suc j) past = sizes_none ss j (omega (arith, past))
 
--- no sum from a request on passes that of all
-pub sizes_few : (ss : List ℕ) (j : ℕ) → sizes_from ss j ≤ sizes_from ss 0
+-- no sum from one on passes that of all
+pub sizes_few : (ss : List Numbered) (j : ℕ) → sizes_from ss j ≤ sizes_from ss 0
 sizes_few ss j = falls_far (sizes_from ss) (sizes_fall ss) 0 j (omega arith)
 
 -- nor from a block on
-pub blocks_fall : (ss : List ℕ) → Falls (λ j. sizes_from ss (16 * j))
+pub blocks_fall : (ss : List Numbered) → Falls (λ j. sizes_from ss (16 * j))
 blocks_fall ss j = falls_far (sizes_from ss) (sizes_fall ss) (16 * j) (16 * suc j) (omega arith)
 
 -- one more size at the end
-pub sizes_push : (ss : List ℕ) (s j : ℕ) → sizes_from (ss ++ s ∷ []) j ≡ sizes_from ss j + up_by s j (length ss)
-sizes_push [] s zero = omega arith
-sizes_push [] s (suc j) = refl
-sizes_push (x ∷ xs) s zero = let ih = sizes_push xs s zero in omega (arith, ih)
-sizes_push (x ∷ xs) s (suc j) = sizes_push xs s j
+pub sizes_push : (ss : List Numbered) (m v j : ℕ) → sizes_from (ss ++ numbered m v ∷ []) j ≡ sizes_from ss j + up_by v j (length ss)
+sizes_push [] m v zero = omega arith
+sizes_push [] m v (suc j) = refl
+sizes_push (x ∷ xs) m v zero = let ih = sizes_push xs m v zero in omega (arith, ih)
+sizes_push (x ∷ xs) m v (suc j) = sizes_push xs m v j
 
 -- one size less
-pub sizes_clear : (ss : List ℕ) (i j : ℕ) → i < length ss → sizes_from ss j ≡ sizes_from (set ss i 0) j + up_by (get_or ss i 0) j i
-sizes_clear [] i j inside = omega (arith, inside)
-sizes_clear (s ∷ ss) zero zero inside = omega arith
-sizes_clear (s ∷ ss) zero (suc j) inside = omega arith
-sizes_clear (s ∷ ss) (suc i) zero inside = let ih = sizes_clear ss i zero (omega (arith, inside)) in omega (arith, ih)
-sizes_clear (s ∷ ss) (suc i) (suc j) inside = sizes_clear ss i j (omega (arith, inside))
+pub sizes_clear : (ss : List Numbered) (i m j : ℕ) → i < length ss → sizes_from ss j ≡ sizes_from (set ss i (numbered m 0)) j + up_by (value_at ss i) j i
+sizes_clear [] i m j inside = omega (arith, inside)
+sizes_clear (s ∷ ss) zero m zero inside = omega arith
+sizes_clear (s ∷ ss) zero m (suc j) inside = omega arith
+sizes_clear (s ∷ ss) (suc i) m zero inside = let ih = sizes_clear ss i m zero (omega (arith, inside)) in omega (arith, ih)
+sizes_clear (s ∷ ss) (suc i) m (suc j) inside = sizes_clear ss i m j (omega (arith, inside))
 
--- the first of a block is no later than a request where the block is no later than the request's
+-- the first sizes, with one more
+sizes_take : (ss : List Numbered) (i : ℕ) → i < length ss → (j : ℕ) → sizes_from (take i ss) j + up_by (value_at ss i) j i ≡ sizes_from (take (suc i) ss) j
+sizes_take [] i inside j = omega (arith, inside)
+sizes_take (s ∷ ss) zero inside zero = omega arith
+sizes_take (s ∷ ss) zero inside (suc j) = omega arith
+sizes_take (s ∷ ss) (suc i) inside zero = let ih = sizes_take ss i (omega (arith, inside)) zero in omega (arith, ih)
+sizes_take (s ∷ ss) (suc i) inside (suc j) = sizes_take ss i (omega (arith, inside)) j
+
+take_few : (ss : List Numbered) (i : ℕ) → sizes_from (take i ss) 0 ≤ sizes_from ss 0
+take_few [] zero = omega arith
+take_few [] (suc i) = omega arith
+take_few (s ∷ ss) zero = omega arith
+take_few (s ∷ ss) (suc i) = omega (arith, take_few ss i)
+
+pub take_fits : (ss : List Numbered) (i : ℕ) → i < length ss → (j : ℕ) → sizes_from (take i ss) (16 * j) + value_at ss i ≤ sizes_from ss 0
+take_fits ss i inside j =
+    omega (arith, sizes_few (take i ss) (16 * j), sizes_take ss i inside 0, up_by-le (value_at ss i) 0 i (omega arith), take_few ss (suc i))
+
+-- the first of a block is no later than a size where the block is no later than the size's
 up_by-block : (a j n : ℕ) → up_by a (16 * j) n ≡ up_by a j (n / 16)
 up_by-block a j n =
     let whole = div-add-mod' n 16 in let rest = mod_below n 16 (omega arith) in
@@ -54,46 +77,220 @@ up_by-block a j n =
       | inr le ↦ omega (arith, up_by-le a (16 * j) n le, up_by-le a j (n / 16) (omega (arith, whole, rest, le)))
     ]
 
-pub IsSummed-none : IsSummed [] []
+pub blocks_take : (ss : List Numbered) (i : ℕ) → i < length ss → (j : ℕ)
+    → sizes_from (take i ss) (16 * j) + up_by (value_at ss i) j (i / 16) ≡ sizes_from (take (suc i) ss) (16 * j)
+blocks_take ss i inside j = omega (arith, sizes_take ss i inside (16 * j), up_by-block (value_at ss i) j i)
+
+-- the same by number
+pub total_zero : (ss : List Numbered) → total_from ss 0 ≡ sizes_from ss 0
+total_zero [] = refl
+total_zero (s ∷ ss) = omega (arith, total_zero ss, up_by-le s.value 0 s.number (omega arith))
+
+pub total_push : (ss : List Numbered) (m v t : ℕ) → total_from (ss ++ numbered m v ∷ []) t ≡ total_from ss t + up_by v t m
+total_push [] m v t = omega arith
+total_push (s ∷ ss) m v t = omega (arith, total_push ss m v t)
+
+some_value : (s : Numbered) → 0 < s.value → has_value s ≡ true
+some_value s some = grind arith
+
+pub live_push : (ss : List Numbered) (m v t : ℕ) → live_from (ss ++ numbered m (suc v) ∷ []) t ≡ live_from ss t + up_to t m
+live_push [] m v t = rw (some_value (numbered m (suc v)) (omega arith)) (omega arith)
+live_push (s ∷ ss) m v t = omega (arith, live_push ss m v t)
+
+up_by-none : (t n : ℕ) → up_by 0 t n ≡ 0
+up_by-none zero n = refl
+up_by-none (suc t) zero = refl
+up_by-none (suc t) (suc n) = up_by-none t n
+
+pub total_clear : (ss : List Numbered) (i t : ℕ) → i < length ss
+    → total_from ss t ≡ total_from (set ss i (numbered (number_at ss i) 0)) t + up_by (value_at ss i) t (number_at ss i)
+total_clear [] i t inside = omega (arith, inside)
+total_clear (s ∷ ss) zero t inside = omega (arith, up_by-none t s.number)
+total_clear (s ∷ ss) (suc i) t inside = let ih = total_clear ss i t (omega (arith, inside)) in omega (arith, ih)
+
+no_value : (s : Numbered) → has_value s ≡ false → s.value ≡ 0
+no_value s none = grind arith
+
+pub live_clear : (ss : List Numbered) (i t : ℕ) → i < length ss → 0 < value_at ss i
+    → live_from ss t ≡ live_from (set ss i (numbered (number_at ss i) 0)) t + up_to t (number_at ss i)
+live_clear [] i t inside some = omega (arith, inside)
+live_clear (s ∷ ss) zero t inside some = rw (some_value s some) (omega arith)
+live_clear (s ∷ ss) (suc i) t inside some = let ih = live_clear ss i t (omega (arith, inside)) some in omega (arith, ih)
+
+pub total_filter : (ss : List Numbered) (t : ℕ) → total_from (filter has_value ss) t ≡ total_from ss t
+total_filter [] t = refl
+total_filter (s ∷ ss) t = split (has_value s)
+    (λ h. rw h (ap (λ n. up_by s.value t s.number + n) (total_filter ss t)))
+    (λ f. let none = ap (λ v. up_by v t s.number) (no_value s f) in rw f (omega (arith, total_filter ss t, none, up_by-none t s.number)))
+
+pub live_filter : (ss : List Numbered) (t : ℕ) → live_from (filter has_value ss) t ≡ live_from ss t
+live_filter [] t = refl
+live_filter (s ∷ ss) t = split (has_value s)
+    (λ h. rw (h, h) (ap (λ n. up_to t s.number + n) (live_filter ss t)))
+    (λ f. rw f (omega (arith, live_filter ss t)))
+
+-- sizes of later requests count whole
+total_after : (low : ℕ) (ss : List Numbered) (high t : ℕ) → IsRising low ss high → t ≤ low → total_from ss t ≡ sizes_from ss 0
+total_after low [] high t is le = refl
+total_after low (s ∷ ss) high t is le =
+    omega (arith, total_after (suc s.number) ss high t is.1 (omega (arith, le, is.0)), up_by-le s.value t s.number (omega (arith, le, is.0)))
+
+-- from the request of the i-th size on
+pub total_at : (low : ℕ) (ss : List Numbered) (high i : ℕ) → IsRising low ss high → i < length ss → total_from ss (number_at ss i) ≡ sizes_from ss i
+total_at low [] high i is inside = omega (arith, inside)
+total_at low (s ∷ ss) high zero is inside =
+    omega (arith, up_by-le s.value s.number s.number (omega arith), total_after (suc s.number) ss high s.number is.1 (omega arith))
+total_at low (s ∷ ss) high (suc i) is inside =
+    let later = rising_at (suc s.number) ss high i is.1 (omega (arith, inside)) in
+    omega (arith, up_by-gt s.value (number_at ss i) s.number (omega (arith, later)), total_at (suc s.number) ss high i is.1 (omega (arith, inside)))
+
+-- and after it
+pub total_next : (low : ℕ) (ss : List Numbered) (high i : ℕ) → IsRising low ss high → i < length ss
+    → total_from ss (suc (number_at ss i)) ≡ sizes_from ss (suc i)
+total_next low [] high i is inside = omega (arith, inside)
+total_next low (s ∷ ss) high zero is inside =
+    omega (arith, up_by-gt s.value (suc s.number) s.number (omega arith), total_after (suc s.number) ss high (suc s.number) is.1 (omega arith))
+total_next low (s ∷ ss) high (suc i) is inside =
+    let later = rising_at (suc s.number) ss high i is.1 (omega (arith, inside)) in
+    omega (arith, up_by-gt s.value (suc (number_at ss i)) s.number (omega (arith, later)), total_next (suc s.number) ss high i is.1 (omega (arith, inside)))
+
+-- a request of which the size is not 0
+pub record IsLive (ss : List Numbered) (p : ℕ) : Type 0 where
+  pub at : ℕ
+  pub inside : at < length ss
+  pub number : number_at ss at ≡ p
+  pub some : 0 < value_at ss at
+
+pub is_live : (ss : List Numbered) (p : ℕ) → live_from ss p ≡ suc (live_from ss (suc p)) → IsLive ss p
+is_live [] p live = absurd (omega (arith, live))
+is_live (s ∷ ss) p live =
+    let later : live_from ss p ≡ suc (live_from ss (suc p)) → IsLive (s ∷ ss) p =
+    λ rest. let l = is_live ss p rest in record { at = suc l.at; inside = omega (arith, l.inside); number = l.number; some = l.some } in
+    split (has_value s)
+    (λ h. let sum : up_to p s.number + live_from ss p ≡ suc (up_to (suc p) s.number + live_from ss (suc p)) = rw h at live in
+    elim (cases_lt s.number p) [
+      | inl lt ↦ later (omega (arith, sum, up_by-gt 1 p s.number lt, up_by-gt 1 (suc p) s.number (omega (arith, lt))))
+      | inr ge ↦ elim (cases_lt p s.number) [
+        | inl gt ↦ later (omega (arith, sum, up_by-le 1 p s.number ge, up_by-le 1 (suc p) s.number (omega (arith, gt))))
+        | inr le ↦ record { at = 0; inside = omega arith; number = omega (arith, ge, le); some = value_some s h }
+      ]
+    ])
+    (λ f. let sum : 0 + live_from ss p ≡ suc (0 + live_from ss (suc p)) = rw f at live in later (omega (arith, sum)))
+  where
+    value_some : (s : Numbered) → has_value s ≡ true → 0 < s.value
+    value_some s h = grind arith
+
+-- one place has one number
+pub same_place : (ss : List Numbered) (high i j : ℕ) → IsRising 0 ss high → i < length ss → j < length ss → number_at ss i ≡ number_at ss j → i ≡ j
+same_place ss high i j is in_i in_j same = elim (cases_lt i j) [
+  | inl lt ↦ absurd (omega (arith, rising_order 0 ss high i j is lt in_j, same))
+  | inr le ↦ elim (cases_lt j i) [
+    | inl gt ↦ absurd (omega (arith, rising_order 0 ss high j i is gt in_i, same))
+    | inr ge ↦ omega (arith, le, ge)
+  ]
+]
+
+pub IsSummed-none : IsSummed [] [] 0
 IsSummed-none = record {
   counted = record { node = λ j some within. omega (arith, within); none = λ j far. refl };
   covers = omega arith;
   tight = omega arith;
+  rising = omega arith;
 }
 
-pub IsSummed-node : (sizes nodes : List ℕ) → IsSummed sizes nodes → length nodes ≤ length sizes / 16 → IsSummed sizes (nodes ++ 0 ∷ [])
-IsSummed-node sizes nodes kept full = record {
+pub IsSummed-node : (ss : List Numbered) (nodes : List ℕ) (n : ℕ) → IsSummed ss nodes n → length nodes ≤ length ss / 16 → IsSummed ss (nodes ++ 0 ∷ []) n
+IsSummed-node ss nodes n kept full = record {
   counted = IsCounted-push _ nodes kept.counted;
   covers = omega (arith, length_push nodes 0, kept.covers);
-  tight = omega (arith, length_push nodes 0, full, div-add-mod' (length sizes) 16);
+  tight = omega (arith, length_push nodes 0, full, div-add-mod' (length ss) 16);
+  rising = kept.rising;
 }
 
-module _ (sizes nodes : List ℕ) (kept : IsSummed sizes nodes) where
-  -- a request's block has a node
+module _ (ss : List Numbered) (nodes : List ℕ) (n : ℕ) (kept : IsSummed ss nodes n) where
+  -- a size's block has a node
   pub block_inside : (p : ℕ) → p < 16 * length nodes → p / 16 < length nodes
   block_inside p within = omega (arith, div-add-mod' p 16, within)
 
-  pub IsSummed-push : (size n : ℕ) (nodes' : List ℕ) → n ≡ length sizes → length nodes' ≡ length nodes → length sizes < 16 * length nodes
-      → IsCounted (λ j. sizes_from sizes (16 * j) + up_by size j (n / 16)) nodes' → IsSummed (sizes ++ size ∷ []) nodes'
-  IsSummed-push size n nodes' all same room counted = record {
-    counted = IsCounted-same _ _ nodes' (λ j. let p = sizes_push sizes size (16 * j) in let b = up_by-block size j n in
-        let u = ap (λ k. up_by size (16 * j) k) all in
-        let e : sizes_from sizes (16 * j) + up_by size j (n / 16) ≡ sizes_from (sizes ++ size ∷ []) (16 * j) = omega (arith, p, b, u) in e) counted;
-    covers = omega (arith, same, length_push sizes size, room);
-    tight = omega (arith, same, length_push sizes size, kept.tight);
+  pub IsSummed-push : (v k : ℕ) (nodes' : List ℕ) → k ≡ length ss → length nodes' ≡ length nodes → length ss < 16 * length nodes
+      → IsCounted (λ j. sizes_from ss (16 * j) + up_by v j (k / 16)) nodes' → IsSummed (ss ++ numbered n v ∷ []) nodes' (n + 1)
+  IsSummed-push v k nodes' all same room counted = record {
+    counted = IsCounted-same _ _ nodes' (λ j. let p = sizes_push ss n v (16 * j) in let b = up_by-block v j k in
+        let u = ap (λ i. up_by v (16 * j) i) all in
+        let e : sizes_from ss (16 * j) + up_by v j (k / 16) ≡ sizes_from (ss ++ numbered n v ∷ []) (16 * j) = omega (arith, p, b, u) in e) counted;
+    covers = omega (arith, same, length_push ss (numbered n v), room);
+    tight = omega (arith, same, length_push ss (numbered n v), kept.tight);
+    rising = let one : suc n ≡ n + 1 = omega arith in subst (IsRising 0 (ss ++ numbered n v ∷ [])) one (rising_push 0 ss n v kept.rising);
   }
 
-  module _ (p : ℕ) (inside : p < length sizes) where
-    -- the nodes as they were sum one size more
-    pub clear_counted : (size : ℕ) → size ≡ get_or sizes p 0 → IsCounted (λ j. sizes_from (set sizes p 0) (16 * j) + up_by size j (p / 16)) nodes
-    clear_counted size is = IsCounted-same _ _ nodes (λ j. let s = sizes_clear sizes p (16 * j) inside in let b = up_by-block size j p in
-        let u = ap (λ a. up_by a (16 * j) p) is in
-        let e : sizes_from sizes (16 * j) ≡ sizes_from (set sizes p 0) (16 * j) + up_by size j (p / 16) = omega (arith, s, b, u) in e) kept.counted
+  pub IsSummed-filter : (nodes' : List ℕ) → IsCounted (λ j. sizes_from (filter has_value ss) (16 * j)) nodes'
+      → length (filter has_value ss) ≤ 16 * length nodes' → 16 * length nodes' ≤ length (filter has_value ss) + 16 → IsSummed (filter has_value ss) nodes' n
+  IsSummed-filter nodes' counted covers tight = record {
+    counted = counted;
+    covers = covers;
+    tight = tight;
+    rising = rising_filter 0 ss n kept.rising;
+  }
 
-    pub IsSummed-clear : (nodes' : List ℕ) → length nodes' ≡ length nodes → IsCounted (λ j. sizes_from (set sizes p 0) (16 * j)) nodes'
-        → IsSummed (set sizes p 0) nodes'
+  module _ (p : ℕ) (inside : p < length ss) where
+    -- the nodes as they were sum one size more
+    pub clear_counted : (size : ℕ) → size ≡ value_at ss p
+        → IsCounted (λ j. sizes_from (set ss p (numbered (number_at ss p) 0)) (16 * j) + up_by size j (p / 16)) nodes
+    clear_counted size is = IsCounted-same _ _ nodes (λ j. let s = sizes_clear ss p (number_at ss p) (16 * j) inside in let b = up_by-block size j p in
+        let u = ap (λ a. up_by a (16 * j) p) is in
+        let e : sizes_from ss (16 * j) ≡ sizes_from (set ss p (numbered (number_at ss p) 0)) (16 * j) + up_by size j (p / 16) = omega (arith, s, b, u) in e) kept.counted
+
+    pub IsSummed-clear : (nodes' : List ℕ) → length nodes' ≡ length nodes → IsCounted (λ j. sizes_from (set ss p (numbered (number_at ss p) 0)) (16 * j)) nodes'
+        → IsSummed (set ss p (numbered (number_at ss p) 0)) nodes' n
     IsSummed-clear nodes' same counted = record {
       counted = counted;
-      covers = omega (arith, same, length-set sizes p 0, kept.covers);
-      tight = omega (arith, same, length-set sizes p 0, kept.tight);
+      covers = omega (arith, same, length-set ss p (numbered (number_at ss p) 0), kept.covers);
+      tight = omega (arith, same, length-set ss p (numbered (number_at ss p) 0), kept.tight);
+      rising = rising_set 0 ss n p 0 kept.rising;
     }
+
+-- a request whose size became 0
+module _ (ss left : List Numbered) (p : ℕ) (r : IsRemoved ss p left) where
+  pub removed_lives : (t : ℕ) → live_from ss t ≡ live_from left t + up_to t p
+  removed_lives t = omega (arith, live_clear ss r.at t r.inside r.some, ap (λ l. live_from l t) r.is, ap (λ k. up_to t k) r.number)
+
+  removed_total : (t : ℕ) → total_from ss t ≡ total_from left t + up_by (value_at ss r.at) t p
+  removed_total t = omega (arith, total_clear ss r.at t r.inside, ap (λ l. total_from l t) r.is, ap (λ k. up_by (value_at ss r.at) t k) r.number)
+
+  pub removed_less : total_from left 0 ≤ total_from ss 0
+  removed_less = omega (arith, removed_total 0)
+
+  pub removed_totals : (high size t : ℕ) → IsRising 0 ss high → total_from ss p ≡ size + total_from ss (suc p)
+      → total_from ss t ≡ total_from left t + up_by size t p
+  removed_totals high size t rising there =
+      let here = total_at 0 ss high r.at rising r.inside in let next = total_next 0 ss high r.at rising r.inside in
+      let first = ap (λ k. total_from ss k) r.number in let second = ap (λ k. total_from ss (suc k)) r.number in
+      let same : value_at ss r.at ≡ size = omega (arith, here, next, first, second, sizes_step ss r.at, there) in
+      omega (arith, removed_total t, ap (λ v. up_by v t p) same)
+
+-- the sizes after one more request, of a key of some size; some that are 0 may be dropped
+module _ (ss ts pushed : List Numbered) (n w : ℕ) (total : (t : ℕ) → total_from ts t ≡ total_from pushed t) (live : (t : ℕ) → live_from ts t ≡ live_from pushed t) where
+  module _ (grown : pushed ≡ ss ++ numbered n (w + 1) ∷ []) where
+    pub grown_totals : (t : ℕ) → total_from ts t ≡ total_from ss t + up_by (w + 1) t n
+    grown_totals t = total t ∙ ap (λ l. total_from l t) grown ∙ total_push ss n (w + 1) t
+
+    pub grown_lives : (t : ℕ) → live_from ts t ≡ live_from ss t + up_to t n
+    grown_lives t =
+        let one : w + 1 ≡ suc w = omega arith in
+        live t ∙ ap (λ l. live_from l t) grown ∙ ap (λ v. live_from (ss ++ numbered n v ∷ []) t) one ∙ live_push ss n w t
+
+    pub grown_less : total_from ts 0 ≤ total_from ss 0 + (w + 1)
+    grown_less = omega (arith, grown_totals 0, up_by-le (w + 1) 0 n (omega arith))
+
+-- where the key came before
+module _ (ss left ts pushed : List Numbered) (p n w : ℕ) (total : (t : ℕ) → total_from ts t ≡ total_from pushed t) (live : (t : ℕ) → live_from ts t ≡ live_from pushed t)
+    (removed : IsRemoved ss p left) (grown : pushed ≡ left ++ numbered n (w + 1) ∷ []) where
+  pub moved_lives : (t : ℕ) → live_from ts t + up_to t p ≡ live_from ss t + up_to t n
+  moved_lives t = omega (arith, grown_lives left ts pushed n w total live grown t, removed_lives ss left p removed t)
+
+  pub moved_totals : (high : ℕ) → IsRising 0 ss high → total_from ss p ≡ w + 1 + total_from ss (suc p)
+      → (t : ℕ) → total_from ts t + up_by (w + 1) t p ≡ total_from ss t + up_by (w + 1) t n
+  moved_totals high rising there t =
+      omega (arith, grown_totals left ts pushed n w total live grown t, removed_totals ss left p removed high (w + 1) t rising there)
+
+  pub moved_less : total_from ts 0 ≤ total_from ss 0 + (w + 1)
+  moved_less = omega (arith, grown_less left ts pushed n w total live grown, removed_less ss left p removed)

@@ -9,6 +9,7 @@ pub mod Nodes
 pub mod Passing
 pub mod Ranks
 pub mod Refusals
+pub mod Rising
 pub mod SizedCurves
 pub mod SizedHits
 pub mod SizedPassing

@@ -11,7 +11,7 @@ use Rattle.clru_model.proofs.Distinct.{since-cons}
 use Rattle.clru_model.proofs.Finding.{missed, plain_put-missed}
 use Rattle.clru_curve.specs.Curves.{HasMissesOf}
 use Rattle.clru_model.specs.Distances.{distance}
-use Rattle.clru_curve.specs.declared.latest.Block.{Block}
+use Rattle.clru_curve.specs.declared.numbered.Numbered.{Numbered}
 use Rattle.clru_curve.specs.Latest.{ones_from}
 use Rattle.clru_curve.specs.Tree.{up_to}
 use Rattle.clru_curve.specs.Passes.{Pass, pass, IsPass}
@@ -40,7 +40,7 @@ module _ {K : Type 0} (eq : K → K → Bool) where
       absurd_none e = cc
 
   -- the same bits in other blocks
-  pub IsPass-same : (past : List K) (positions : List (K × ℕ)) (bs cs : List Block) (n : ℕ) (h : List ℕ) → ((p : ℕ) → ones_from cs p ≡ ones_from bs p)
+  pub IsPass-same : (past : List K) (positions : List (K × ℕ)) (bs cs : List Numbered) (n : ℕ) (h : List ℕ) → ((p : ℕ) → ones_from cs p ≡ ones_from bs p)
       → IsPass eq past (pass positions bs n h) → IsPass eq past (pass positions cs n h)
   IsPass-same past positions bs cs n h same is = record {
     ranked = record {
@@ -57,7 +57,7 @@ module _ {K : Type 0} (eq : K → K → Bool) where
     latest = is.latest;
   }
 
-module _ {K : Type 0} (eq : K → K → Bool) (laws : IsEquivalence eq) (past : List K) (positions : List (K × ℕ)) (bs : List Block) (n : ℕ) (h : List ℕ)
+module _ {K : Type 0} (eq : K → K → Bool) (laws : IsEquivalence eq) (past : List K) (positions : List (K × ℕ)) (bs : List Numbered) (n : ℕ) (h : List ℕ)
     (x : K) (is : IsPass eq past (pass positions bs n h)) where
   -- a key that is not known was not requested
   not_held : lookup (eq x) positions ≡ None → holds eq x past ≡ false
@@ -87,7 +87,7 @@ module _ {K : Type 0} (eq : K → K → Bool) (laws : IsEquivalence eq) (past : 
       let more : length (since eq y (x ∷ past)) ≡ suc (length (since eq y past)) = rw (since-cons eq y x past, back) refl in
       omega (arith, more, is.latest y q there))
 
-  pub IsPass-new : (c : ℕ) (cs : List Block) → lookup (eq x) positions ≡ None → length positions < c → ((p : ℕ) → ones_from cs p ≡ ones_from bs p + up_to p n)
+  pub IsPass-new : (c : ℕ) (cs : List Numbered) → lookup (eq x) positions ≡ None → length positions < c → ((p : ℕ) → ones_from cs p ≡ ones_from bs p + up_to p n)
       → IsPass eq (x ∷ past) (pass (plain_put eq c x n positions) cs (n + 1) (h ++ 0 ∷ []))
   IsPass-new c cs absent room counts =
       let put : plain_put eq c x n positions ≡ (x, n) ∷ positions =
@@ -120,7 +120,7 @@ module _ {K : Type 0} (eq : K → K → Bool) (laws : IsEquivalence eq) (past : 
         let few = distance_few eq laws past h x is.counted was_held in
         omega (arith, few, is.requests, ap (λ d. get_or h d 0) (is.ranked.rank x p found))
 
-    pub IsPass-again : (cs : List Block) → ((q : ℕ) → ones_from cs q + up_to q p ≡ ones_from bs q + up_to q n)
+    pub IsPass-again : (cs : List Numbered) → ((q : ℕ) → ones_from cs q + up_to q p ≡ ones_from bs q + up_to q n)
         → IsPass eq (x ∷ past) (pass (set_value (eq x) positions n) cs (n + 1) (set h (ones_from bs (suc p)) (get_or h (ones_from bs (suc p)) 0 + 1)))
     IsPass-again cs counts =
         let one : n + 1 ≡ suc n = omega arith in

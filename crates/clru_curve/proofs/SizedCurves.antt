@@ -12,7 +12,7 @@ use Rattle.clru_model.specs.Sizes.{total}
 use Rattle.clru_curve.specs.declared.sized.step.Step.{Step}
 use Rattle.clru_curve.specs.SizedCurves.{CurveBySize, step, hits_within, size_after, greatest_of, IsMissed, IsCurveOfHits, IsSizedCurveOf}
 use Rattle.clru_curve.specs.SizedPasses.{PassBySize, hit_size, IsSizedPass}
-use Rattle.clru_curve.specs.LatestSizes.{sizes_from}
+use Rattle.clru_curve.specs.LatestSizes.{total_from}
 use Rattle.clru_curve.proofs.SizedHits.{count_by-cons}
 
 count_by-yes : {X : Type 0} (p : X → Bool) (x : X) (xs : List X) → p x ≡ true → count_by p (x ∷ xs) ≡ suc (count_by p xs)
@@ -163,7 +163,7 @@ module _ (size : ℕ) (hs ss : List Step) (missed : IsMissed size hs ss) where
 
 -- the hits of a pass make the curve of its requests
 pub IsSizedCurveOf-by : {K : Type 0} (eq : K → K → Bool) (weight : K → ℕ) (past : List K) (p : PassBySize K) (curve : CurveBySize) (hits : List Step) (n d : ℕ)
-    → IsSizedPass eq weight past p → hits ≡ p.hits → n ≡ length p.sizes → d ≡ sizes_from p.sizes 0 → IsCurveOfHits hits n p.size d p.greatest curve
+    → IsSizedPass eq weight past p → hits ≡ p.hits → n ≡ p.requests → d ≡ total_from p.sizes 0 → IsCurveOfHits hits n p.size d p.greatest curve
     → IsSizedCurveOf eq weight (reverse past) curve
 IsSizedCurveOf-by eq weight past p curve hits n d is from all held of =
     let moved : (c : ℕ) → hits_within c curve.steps ≡ hits_within c p.hits =

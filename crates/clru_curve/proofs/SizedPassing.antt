@@ -1,42 +1,46 @@
 -- What a pass over keys with sizes has taken, after one more request.
-use Rattle.std.proofs.Common.{◌≡◌, ℕ, zero, suc, ◌+◌, ◌-◌, ◌^◌, ◌<◌, Bool, true, false, cond, nat_lt, List, [], ◌∷◌, ◌++◌, length, get_or, set, Some, None, is_some, refl, sym, ap, ◌∙◌, arith, take_all, length-set}
+use Rattle.std.proofs.Common.{◌≡◌, ℕ, suc, ◌+◌, ◌-◌, ◌^◌, ◌<◌, ◌≤◌, Bool, true, false, cond, nat_lt, List, [], ◌∷◌, ◌++◌, length, Some, None, is_some, refl, sym, ap, ◌∙◌, arith, take_all}
 use Rattle.std.proofs.lemmas.List.{length_push}
 use Rattle.std.proofs.lemmas.List.Sums.{sum_by-cons, sum_by_push}
 use Rattle.std.proofs.lemmas.Map.{lookup-set_value, length-set_value}
 use Rattle.std.specs.Cmp.{IsEquivalence}
 use Rattle.std.specs.Map.{lookup, set_value}
-use Rattle.clru_model.proofs.Cases.{split}
 use Rattle.clru_model.proofs.Finding.{missed, plain_put-missed}
 use Rattle.clru_model.specs.Entries.{plain_put}
-use Rattle.clru_model.specs.Requests.{holds, since}
+use Rattle.clru_model.specs.Requests.{holds, distinct, since}
 use Rattle.clru_model.specs.Sizes.{SameWeights, total, span}
-use Rattle.clru_curve.proofs.LatestSizes.{sizes_step, sizes_push, sizes_clear}
-use Rattle.clru_curve.proofs.Ranks.{same_some, IsRanked-new, IsRanked-again, latest_moved}
+use Rattle.clru_curve.proofs.Ranks.{IsMeasure, distinct_measures, IsRanked-new, IsRanked-again, latest_moved}
 use Rattle.clru_curve.proofs.SizedHits.{AreHits-none, AreHits-new, AreHits-again}
 use Rattle.clru_curve.proofs.Totals.{total_measures}
 use Rattle.clru_curve.proofs.UpTo.{up_by-le}
-use Rattle.clru_curve.specs.LatestSizes.{sizes_from, IsSummed}
+use Rattle.clru_curve.specs.declared.numbered.Numbered.{Numbered}
 use Rattle.clru_curve.specs.declared.sized.step.Step.{Step}
+use Rattle.clru_curve.specs.LatestSizes.{total_from, live_from, IsSummed}
+use Rattle.clru_curve.specs.Ranked.{IsRanked}
 use Rattle.clru_curve.specs.SizedCurves.{step}
 use Rattle.clru_curve.specs.SizedPasses.{pass_by_size, IsSizedPass, IsSoundBySize}
-use Rattle.clru_curve.specs.Tree.{up_by}
+use Rattle.clru_curve.specs.Tree.{up_by, up_to}
 
 absurd_none : {p : ℕ} → None ≡ Some p → ⊥
 absurd_none e = cc
 
+-- what is noted of no request
+none_ranked : {K : Type 0} (eq : K → K → Bool) (size : K → ℕ) (measure : List K → ℕ) (f : ℕ → ℕ) → ((p : ℕ) → f p ≡ 0) → IsRanked eq size measure [] [] 0 f
+none_ranked eq size measure f none = record {
+  known = λ x. refl;
+  before = λ x p at. elim (absurd_none at) [ ];
+  latest = λ x p at. elim (absurd_none at) [ ];
+  rank = λ x p at. elim (absurd_none at) [ ];
+  falls = λ p. omega (arith, none p, none (suc p));
+  none = none 0;
+  few = omega arith;
+}
+
 module _ {K : Type 0} (eq : K → K → Bool) where
   -- before the first request
-  pub IsSizedPass-none : (weight : K → ℕ) → IsSizedPass eq weight [] (pass_by_size [] [] [] 0 0)
+  pub IsSizedPass-none : (weight : K → ℕ) → IsSizedPass eq weight [] (pass_by_size [] [] 0 [] 0 0)
   IsSizedPass-none weight = record {
-    ranked = record {
-      known = λ x. refl;
-      before = λ x p at. elim (absurd_none at) [ ];
-      latest = λ x p at. elim (absurd_none at) [ ];
-      rank = λ x p at. elim (absurd_none at) [ ];
-      falls = λ p. omega arith;
-      none = refl;
-      few = omega arith;
-    };
+    ranked = none_ranked eq (λ x. 1 + weight x) (total eq weight) (total_from []) (λ p. refl);
     hits = AreHits-none eq weight;
     requests = refl;
     held = refl;
@@ -45,27 +49,48 @@ module _ {K : Type 0} (eq : K → K → Bool) where
     latest = λ x q at. elim (absurd_none at) [ ];
   }
 
-  -- a size of the list as it was, with one more behind it
-  get_or-before : (ss : List ℕ) (s p : ℕ) → p < length ss → get_or (ss ++ s ∷ []) p 0 ≡ get_or ss p 0
-  get_or-before [] s p low = omega (arith, low)
-  get_or-before (x ∷ xs) s zero low = refl
-  get_or-before (x ∷ xs) s (suc p) low = get_or-before xs s p (omega (arith, low))
+  pub IsSoundBySize-none : (nodes : List ℕ) → IsSummed [] nodes 0 → IsSoundBySize eq nodes (pass_by_size [] [] 0 [] 0 0)
+  IsSoundBySize-none nodes summed = record {
+    summed = summed;
+    past = [];
+    ranked = none_ranked eq (λ x. 1) (distinct eq) (live_from []) (λ p. refl);
+    few_hits = omega arith;
+    many = omega arith;
+    held = omega arith;
+    hit_sizes = omega arith;
+    fits = omega arith;
+  }
 
-  -- sums of sizes after one more request of a key that was requested at p
-  moved_sizes : (ss : List ℕ) (s p : ℕ) → p < length ss → (q : ℕ)
-      → sizes_from (set (ss ++ s ∷ []) p 0) q + up_by (get_or ss p 0) q p ≡ sizes_from ss q + up_by s q (length ss)
-  moved_sizes ss s p low q =
-      let less = sizes_clear (ss ++ s ∷ []) p q (omega (arith, low, length_push ss s)) in
-      let same = ap (λ a. up_by a q p) (get_or-before ss s p low) in
-      omega (arith, less, same, sizes_push ss s q)
+module _ {K : Type 0} (eq : K → K → Bool) (laws : IsEquivalence eq) (positions : List (K × ℕ)) (n : ℕ) (x : K) where
+  moved_new : (y : K) → lookup (eq y) ((x, n) ∷ positions) ≡ cond (eq x y) (Some n) (lookup (eq y) positions)
+  moved_new y = ap (λ b. cond b (Some n) (lookup (eq y) positions)) (laws.symm y x)
 
-module _ {K : Type 0} (eq : K → K → Bool) (laws : IsEquivalence eq) (positions : List (K × ℕ)) (ss : List ℕ) (hs : List Step) (a g : ℕ) (x : K) where
+  moved_again : (p : ℕ) → lookup (eq x) positions ≡ Some p
+      → (y : K) → lookup (eq y) (set_value (eq x) positions n) ≡ cond (eq x y) (Some n) (lookup (eq y) positions)
+  moved_again p found y = lookup-set_value laws (eq x) (λ z v t. laws.congr x z v t) y n positions (rw found refl)
+
   -- the entries after a put of a new key
-  put_new : (c n : ℕ) → lookup (eq x) positions ≡ None → length positions < c → plain_put eq c x n positions ≡ (x, n) ∷ positions
-  put_new c n absent room =
+  put_new : (c : ℕ) → lookup (eq x) positions ≡ None → length positions < c → plain_put eq c x n positions ≡ (x, n) ∷ positions
+  put_new c absent room =
       plain_put-missed eq x (missed (eq x) (sym (ap is_some absent))) c n ∙ ap (λ l. (x, n) ∷ l) (take_all (c - 1) positions (omega (arith, room)))
 
-  module _ (weight : K → ℕ) (past : List K) (is : IsSizedPass eq weight past (pass_by_size positions ss hs a g)) where
+  -- what is noted of one more request, by any measure
+  module _ (size : K → ℕ) (measure : List K → ℕ) (sums : IsMeasure eq size measure) (past : List K) (f f' : ℕ → ℕ)
+      (r : IsRanked eq size measure past positions n f) where
+    ranked_new : lookup (eq x) positions ≡ None → ((t : ℕ) → f' t ≡ f t + up_by (size x) t n)
+        → IsRanked eq size measure (x ∷ past) ((x, n) ∷ positions) (suc n) f'
+    ranked_new absent counts =
+        IsRanked-new eq laws size measure sums past positions ((x, n) ∷ positions) n f f' x r moved_new (sym (r.known x) ∙ ap is_some absent) counts
+        (omega (arith, r.few))
+
+    ranked_again : (p : ℕ) → lookup (eq x) positions ≡ Some p → ((t : ℕ) → f' t + up_by (size x) t p ≡ f t + up_by (size x) t n)
+        → IsRanked eq size measure (x ∷ past) (set_value (eq x) positions n) (suc n) f'
+    ranked_again p found counts =
+        IsRanked-again eq laws size measure sums past positions (set_value (eq x) positions n) n f f' x r (moved_again p found) p found counts
+        (omega (arith, length-set_value (eq x) positions n, r.few))
+
+module _ {K : Type 0} (eq : K → K → Bool) (laws : IsEquivalence eq) (positions : List (K × ℕ)) (ss : List Numbered) (n : ℕ) (hs : List Step) (a g : ℕ) (x : K) where
+  module _ (weight : K → ℕ) (past : List K) (is : IsSizedPass eq weight past (pass_by_size positions ss n hs a g)) where
     -- a key that is not known was not requested
     not_held : lookup (eq x) positions ≡ None → holds eq x past ≡ false
     not_held absent = sym (is.ranked.known x) ∙ ap is_some absent
@@ -73,26 +98,23 @@ module _ {K : Type 0} (eq : K → K → Bool) (laws : IsEquivalence eq) (positio
     pub span_none : lookup (eq x) positions ≡ None → None ≡ span eq weight x past
     span_none absent = rw (not_held absent) refl
 
-    module _ (same : SameWeights eq weight) (w : ℕ) (weighs : weight x ≡ w) (g' : ℕ) (greater : g' ≡ cond (nat_lt g w) w g) where
+    module _ (same : SameWeights eq weight) (w : ℕ) (weighs : weight x ≡ w) (g' : ℕ) (greater : g' ≡ cond (nat_lt g w) w g) (ts : List Numbered) where
       pub IsSizedPass-new : (c : ℕ) → lookup (eq x) positions ≡ None → length positions < c
-          → IsSizedPass eq weight (x ∷ past) (pass_by_size (plain_put eq c x (length ss) positions) (ss ++ (w + 1) ∷ []) hs (a + (w + 1)) g')
-      IsSizedPass-new c absent room =
-          let n = length ss in
+          → ((t : ℕ) → total_from ts t ≡ total_from ss t + up_by (w + 1) t n)
+          → IsSizedPass eq weight (x ∷ past) (pass_by_size (plain_put eq c x n positions) ts (n + 1) hs (a + (w + 1)) g')
+      IsSizedPass-new c absent room counts =
           let size : w + 1 ≡ 1 + weight x = omega (arith, weighs) in
-          let put = put_new c n absent room in
-          let long : length (ss ++ (1 + weight x) ∷ []) ≡ suc n = omega (arith, length_push ss (1 + weight x)) in
-          let moved : (y : K) → lookup (eq y) ((x, n) ∷ positions) ≡ cond (eq x y) (Some n) (lookup (eq y) positions) =
-          λ y. ap (λ b. cond b (Some n) (lookup (eq y) positions)) (laws.symm y x) in
-          rw (put, size) (record {
-            ranked = rw long (IsRanked-new eq laws (λ y. 1 + weight y) (total eq weight) (total_measures eq laws weight same) past positions ((x, n) ∷ positions) n (sizes_from ss)
-                (sizes_from (ss ++ (1 + weight x) ∷ [])) x is.ranked moved (not_held absent) (λ q. sizes_push ss (1 + weight x) q)
-                (omega (arith, is.ranked.few)));
+          let one : n + 1 ≡ suc n = omega arith in
+          let sized : (t : ℕ) → total_from ts t ≡ total_from ss t + up_by (1 + weight x) t n = λ t. counts t ∙ ap (λ s. total_from ss t + up_by s t n) size in
+          rw (put_new eq laws positions n x c absent room, one) (record {
+            ranked = ranked_new eq laws positions n x (λ y. 1 + weight y) (total eq weight) (total_measures eq laws weight same) past (total_from ss) (total_from ts)
+                is.ranked absent sized;
             hits = AreHits-new eq weight past hs x is.hits (not_held absent);
-            requests = long ∙ ap suc is.requests;
-            held = rw (not_held absent) (omega (arith, sizes_push ss (1 + weight x) 0, up_by-le (1 + weight x) 0 n (omega arith), is.held));
-            size = omega (arith, is.size, sum_by-cons (λ y. 1 + weight y) x past);
+            requests = ap suc is.requests;
+            held = rw (not_held absent) (omega (arith, sized 0, up_by-le (1 + weight x) 0 n (omega arith), is.held));
+            size = omega (arith, weighs, is.size, sum_by-cons (λ y. 1 + weight y) x past);
             greatest = rw (greater, is.greatest, ← weighs) refl;
-            latest = latest_moved eq laws past positions ((x, n) ∷ positions) n x is.requests is.latest moved;
+            latest = latest_moved eq laws past positions ((x, n) ∷ positions) n x is.requests is.latest (moved_new eq laws positions n x);
           })
 
       -- a key with a position was requested there
@@ -100,77 +122,69 @@ module _ {K : Type 0} (eq : K → K → Bool) (laws : IsEquivalence eq) (positio
         was_held : holds eq x past ≡ true
         was_held = sym (is.ranked.known x) ∙ ap is_some found
 
-        size_there : get_or ss p 0 ≡ 1 + weight x
-        size_there = omega (arith, sizes_step ss p, is.ranked.latest x p found)
+        -- of this size
+        pub size_there : total_from ss p ≡ w + 1 + total_from ss (suc p)
+        size_there = omega (arith, weighs, is.ranked.latest x p found)
 
-        span_there : sizes_from ss p ≡ 1 + weight x + total eq weight (since eq x past)
+        span_there : total_from ss p ≡ 1 + weight x + total eq weight (since eq x past)
         span_there = omega (arith, is.ranked.latest x p found, is.ranked.rank x p found)
 
-        pub span_some : Some (sizes_from ss p) ≡ span eq weight x past
+        pub span_some : Some (total_from ss p) ≡ span eq weight x past
         span_some = rw was_held (ap (λ d. Some d) span_there)
 
-        pub IsSizedPass-again : IsSizedPass eq weight (x ∷ past)
-            (pass_by_size (set_value (eq x) positions (length ss)) (set (ss ++ (w + 1) ∷ []) p 0) (hs ++ step (sizes_from ss p) (w + 1) ∷ []) (a + (w + 1)) g')
-        IsSizedPass-again =
-            let n = length ss in
+        pub IsSizedPass-again : ((t : ℕ) → total_from ts t + up_by (w + 1) t p ≡ total_from ss t + up_by (w + 1) t n)
+            → IsSizedPass eq weight (x ∷ past)
+            (pass_by_size (set_value (eq x) positions n) ts (n + 1) (hs ++ step (total_from ss p) (w + 1) ∷ []) (a + (w + 1)) g')
+        IsSizedPass-again counts =
             let size : w + 1 ≡ 1 + weight x = omega (arith, weighs) in
-            let low = is.ranked.before x p found in
-            let long : length (set (ss ++ (1 + weight x) ∷ []) p 0) ≡ suc n = omega (arith, length-set (ss ++ (1 + weight x) ∷ []) p 0, length_push ss (1 + weight x)) in
-            let counts : (q : ℕ) → sizes_from (set (ss ++ (1 + weight x) ∷ []) p 0) q + up_by (1 + weight x) q p ≡ sizes_from ss q + up_by (1 + weight x) q n =
-            λ q. let m = moved_sizes eq ss (1 + weight x) p low q in omega (arith, m, ap (λ b. up_by b q p) size_there) in
-            let moved : (y : K) → lookup (eq y) (set_value (eq x) positions n) ≡ cond (eq x y) (Some n) (lookup (eq y) positions) =
-            λ y. lookup-set_value laws (eq x) (λ z v t. laws.congr x z v t) y n positions (rw found refl) in
-            rw (size, span_there) (record {
-              ranked = rw long (IsRanked-again eq laws (λ y. 1 + weight y) (total eq weight) (total_measures eq laws weight same)
-                  past positions (set_value (eq x) positions n) n (sizes_from ss)
-                  (sizes_from (set (ss ++ (1 + weight x) ∷ []) p 0)) x is.ranked moved p found counts
-                  (omega (arith, length-set_value (eq x) positions n, is.ranked.few)));
+            let one : n + 1 ≡ suc n = omega arith in
+            let sized : (t : ℕ) → total_from ts t + up_by (1 + weight x) t p ≡ total_from ss t + up_by (1 + weight x) t n =
+            λ t. omega (arith, counts t, ap (λ s. up_by s t p) size, ap (λ s. up_by s t n) size) in
+            rw (size, one, span_there) (record {
+              ranked = ranked_again eq laws positions n x (λ y. 1 + weight y) (total eq weight) (total_measures eq laws weight same) past (total_from ss) (total_from ts)
+                  is.ranked p found sized;
               hits = AreHits-again eq weight past hs x is.hits was_held;
-              requests = long ∙ ap suc is.requests;
-              held = rw was_held (omega (arith, counts 0, up_by-le (1 + weight x) 0 n (omega arith), up_by-le (1 + weight x) 0 p (omega arith), is.held));
+              requests = ap suc is.requests;
+              held = rw was_held (omega (arith, sized 0, up_by-le (1 + weight x) 0 n (omega arith), up_by-le (1 + weight x) 0 p (omega arith), is.held));
               size = omega (arith, is.size, sum_by-cons (λ y. 1 + weight y) x past);
               greatest = rw (greater, is.greatest, ← weighs) refl;
-              latest = latest_moved eq laws past positions (set_value (eq x) positions n) n x is.requests is.latest moved;
+              latest = latest_moved eq laws past positions (set_value (eq x) positions n) n x is.requests is.latest (moved_again eq laws positions n x p found);
             })
 
   -- whatever the keys weigh
-  module _ (nodes : List ℕ) (sound : IsSoundBySize eq nodes (pass_by_size positions ss hs a g)) (w g' : ℕ) (fits : a + (w + 1) < 2 ^ 64) (nodes' : List ℕ) where
-    pub IsSoundBySize-new : (c : ℕ) → length positions < c → lookup (eq x) positions ≡ None → IsSummed (ss ++ (w + 1) ∷ []) nodes'
-        → IsSoundBySize eq nodes' (pass_by_size (plain_put eq c x (length ss) positions) (ss ++ (w + 1) ∷ []) hs (a + (w + 1)) g')
-    IsSoundBySize-new c room absent summed =
-        let n = length ss in let long = length_push ss (w + 1) in
-        let put = put_new c n absent room in
-        rw put (record {
+  module _ (nodes : List ℕ) (sound : IsSoundBySize eq nodes (pass_by_size positions ss n hs a g)) (w g' : ℕ) (fits : a + (w + 1) < 2 ^ 64)
+      (ts : List Numbered) (nodes' : List ℕ) (summed : IsSummed ts nodes' (n + 1)) (held : total_from ts 0 ≤ a + (w + 1)) where
+    pub IsSoundBySize-new : (c : ℕ) → length positions < c → lookup (eq x) positions ≡ None
+        → ((t : ℕ) → live_from ts t ≡ live_from ss t + up_to t n)
+        → IsSoundBySize eq nodes' (pass_by_size (plain_put eq c x n positions) ts (n + 1) hs (a + (w + 1)) g')
+    IsSoundBySize-new c room absent counts =
+        let one : n + 1 ≡ suc n = omega arith in
+        rw (put_new eq laws positions n x c absent room) (record {
           summed = summed;
-          before = λ y q at. split (eq y x)
-              (λ t. let e : Some n ≡ Some q = rw t at at in omega (arith, same_some e, long))
-              (λ f. let e : lookup (eq y) positions ≡ Some q = rw f at at in omega (arith, sound.before y q e, long));
-          few_keys = omega (arith, sound.few_keys, long);
-          few_hits = omega (arith, sound.few_hits, long);
-          many = omega (arith, sound.many, long);
-          held = omega (arith, sound.held, sizes_push ss (w + 1) 0, up_by-le (w + 1) 0 n (omega arith));
+          past = x ∷ sound.past;
+          ranked = rw one (ranked_new eq laws positions n x (λ y. 1) (distinct eq) (distinct_measures eq laws) sound.past (live_from ss) (live_from ts)
+              sound.ranked absent counts);
+          few_hits = omega (arith, sound.few_hits);
+          many = omega (arith, sound.many);
+          held = held;
           hit_sizes = omega (arith, sound.hit_sizes);
           fits = fits;
         })
 
-    pub IsSoundBySize-again : (p s : ℕ) → lookup (eq x) positions ≡ Some p → IsSummed (set (ss ++ (w + 1) ∷ []) p 0) nodes'
-        → IsSoundBySize eq nodes' (pass_by_size (set_value (eq x) positions (length ss)) (set (ss ++ (w + 1) ∷ []) p 0) (hs ++ step s (w + 1) ∷ []) (a + (w + 1)) g')
-    IsSoundBySize-again p s found summed =
-        let n = length ss in let long = length_push ss (w + 1) in let len = length-set (ss ++ (w + 1) ∷ []) p 0 in
-        let low = sound.before x p found in
+    pub IsSoundBySize-again : (p s : ℕ) → lookup (eq x) positions ≡ Some p
+        → ((t : ℕ) → live_from ts t + up_to t p ≡ live_from ss t + up_to t n)
+        → IsSoundBySize eq nodes' (pass_by_size (set_value (eq x) positions n) ts (n + 1) (hs ++ step s (w + 1) ∷ []) (a + (w + 1)) g')
+    IsSoundBySize-again p s found counts =
+        let one : n + 1 ≡ suc n = omega arith in
         let more = length_push hs (step s (w + 1)) in
         record {
           summed = summed;
-          before = λ y q at.
-              let moved = lookup-set_value laws (eq x) (λ z v t. laws.congr x z v t) y n positions (rw found refl) in
-              let there = sym moved ∙ at in
-              split (eq x y)
-              (λ t. let e : Some n ≡ Some q = rw t at there in omega (arith, same_some e, long, len))
-              (λ f. let e : lookup (eq y) positions ≡ Some q = rw f at there in omega (arith, sound.before y q e, long, len));
-          few_keys = omega (arith, sound.few_keys, length-set_value (eq x) positions n, long, len);
-          few_hits = omega (arith, sound.few_hits, long, len, more);
-          many = omega (arith, sound.many, long, len);
-          held = omega (arith, sound.held, moved_sizes eq ss (w + 1) p low 0, up_by-le (w + 1) 0 n (omega arith));
+          past = x ∷ sound.past;
+          ranked = rw one (ranked_again eq laws positions n x (λ y. 1) (distinct eq) (distinct_measures eq laws) sound.past (live_from ss) (live_from ts)
+              sound.ranked p found counts);
+          few_hits = omega (arith, sound.few_hits, more);
+          many = omega (arith, sound.many);
+          held = held;
           hit_sizes = omega (arith, sound.hit_sizes, sum_by_push (λ h. h.missed_size) hs (step s (w + 1)));
           fits = fits;
         }

@@ -4,6 +4,7 @@ pub mod Latest
 pub mod LatestSizes
 pub mod Passes
 pub mod Ranked
+pub mod Rising
 pub mod SizedCurves
 pub mod SizedPasses
 pub mod Tree

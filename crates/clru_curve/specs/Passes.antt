@@ -3,26 +3,27 @@ use Rattle.std.specs.Prelude.{◌≡◌, ℕ, ◌+◌, Bool, List, length, take,
 use Rattle.std.specs.Coded.{Coded, code_by, coded×, coded_list, coded_ℕ}
 use Rattle.std.specs.Map.{lookup}
 use Rattle.clru_model.specs.Requests.{distinct, misses, since}
-use Rattle.clru_curve.specs.declared.latest.Block.{Block}
-use Rattle.clru_curve.specs.Latest.{block_code, ones_from, IsLatest}
+use Rattle.clru_curve.specs.declared.numbered.Numbered.{Numbered}
+use Rattle.clru_curve.specs.Latest.{ones_from, IsLatest}
+use Rattle.clru_curve.specs.Rising.{numbered_code}
 use Rattle.clru_curve.specs.Ranked.{IsRanked}
 
 -- each key with the number of its latest request, blocks of bits for these, how many requests there were, and how many at each
 -- distance
 pub record Pass (K : Type 0) : Type 0 where
   pub positions : List (K × ℕ)
-  pub blocks : List Block
+  pub blocks : List Numbered
   pub requests : ℕ
   pub histogram : List ℕ
 
 module _ {K : Type 0} where
-  abbrev pub pass : List (K × ℕ) → List Block → ℕ → List ℕ → Pass K
+  abbrev pub pass : List (K × ℕ) → List Numbered → ℕ → List ℕ → Pass K
   pass ps bs n h = record { positions = ps; blocks = bs; requests = n; histogram = h }
 
   abbrev pub pass_code : Coded K → Coded (Pass K)
   pass_code k =
-      code_by (List (K × ℕ) × (List Block × (ℕ × List ℕ)))
-      (coded× (coded_list (coded× k coded_ℕ)) (coded× (coded_list block_code) (coded× coded_ℕ (coded_list coded_ℕ))))
+      code_by (List (K × ℕ) × (List Numbered × (ℕ × List ℕ)))
+      (coded× (coded_list (coded× k coded_ℕ)) (coded× (coded_list numbered_code) (coded× coded_ℕ (coded_list coded_ℕ))))
       (λ p. (p.positions, (p.blocks, (p.requests, p.histogram)))) (λ t. pass t.0 t.1.0 t.1.1.0 t.1.1.1) (λ _. refl)
 
 module _ {K : Type 0} (eq : K → K → Bool) where

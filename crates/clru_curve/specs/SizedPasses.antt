@@ -6,32 +6,35 @@ use Rattle.std.specs.Map.{lookup}
 use Rattle.clru_curve.specs.declared.sized.error.SizedRequestError.{SizedRequestError}
 use Rattle.clru_curve.specs.declared.sized.error.SizedRequestError.TheVariants.{NoMemory, TooLarge}
 use Rattle.clru_curve.specs.declared.sized.step.Step.{Step}
-use Rattle.clru_curve.specs.LatestSizes.{sizes_from, IsSummed}
+use Rattle.clru_curve.specs.declared.numbered.Numbered.{Numbered}
+use Rattle.clru_curve.specs.LatestSizes.{total_from, live_from, IsSummed}
 use Rattle.clru_curve.specs.Ranked.{IsRanked}
+use Rattle.clru_curve.specs.Rising.{numbered_code}
 use Rattle.clru_curve.specs.SizedCurves.{step_code, hits_within, size_of_all, greatest_of}
 use Rattle.clru_model.specs.Requests.{distinct, since}
 use Rattle.clru_model.specs.Sizes.{total, misses_by_size, missed_size}
 
--- each key with the number of its latest request; for each request the size of its key where it is the latest of it, else 0;
--- for each request that can hit its span and its size; the size of all requests, and the greatest weight
+-- each key with the number of its latest request; the sizes of these requests, with 0 for some others; how many requests there
+-- were; for each that can hit its span and its size; the size of all requests, and the greatest weight
 pub record PassBySize (K : Type 0) : Type 0 where
   pub positions : List (K × ℕ)
-  pub sizes : List ℕ
+  pub sizes : List Numbered
+  pub requests : ℕ
   pub hits : List Step
   pub size : ℕ
   pub greatest : ℕ
 
 module _ {K : Type 0} where
-  abbrev pub pass_by_size : List (K × ℕ) → List ℕ → List Step → ℕ → ℕ → PassBySize K
-  pass_by_size ps ss hs a g = record { positions = ps; sizes = ss; hits = hs; size = a; greatest = g }
+  abbrev pub pass_by_size : List (K × ℕ) → List Numbered → ℕ → List Step → ℕ → ℕ → PassBySize K
+  pass_by_size ps ss n hs a g = record { positions = ps; sizes = ss; requests = n; hits = hs; size = a; greatest = g }
 
   abbrev pub pass_by_size_code : Coded K → Coded (PassBySize K)
   pass_by_size_code k =
-      code_by (List (K × ℕ) × (List ℕ × (List Step × (ℕ × ℕ))))
-      (coded× (coded_list (coded× k coded_ℕ)) (coded× (coded_list coded_ℕ)
-      (coded× (coded_list step_code) (coded× coded_ℕ coded_ℕ))))
-      (λ p. (p.positions, (p.sizes, (p.hits, (p.size, p.greatest)))))
-      (λ t. pass_by_size t.0 t.1.0 t.1.1.0 t.1.1.1.0 t.1.1.1.1) (λ _. refl)
+      code_by (List (K × ℕ) × (List Numbered × (ℕ × (List Step × (ℕ × ℕ)))))
+      (coded× (coded_list (coded× k coded_ℕ)) (coded× (coded_list numbered_code)
+      (coded× coded_ℕ (coded× (coded_list step_code) (coded× coded_ℕ coded_ℕ)))))
+      (λ p. (p.positions, (p.sizes, (p.requests, (p.hits, (p.size, p.greatest))))))
+      (λ t. pass_by_size t.0 t.1.0 t.1.1.0 t.1.1.1.0 t.1.1.1.1.0 t.1.1.1.1.1) (λ _. refl)
 
   -- the key that a refusal hands back
   abbrev pub key_of : SizedRequestError K → K
@@ -72,21 +75,21 @@ module _ {K : Type 0} (eq : K → K → Bool) where
     -- a pass that has taken these requests, the latest first
     pub record IsSizedPass (past : List K) (p : PassBySize K) : Type 0 where
       pub ranked : IsRanked eq (λ x. 1 + weight x) (total eq weight)
-          past p.positions (length p.sizes) (sizes_from p.sizes)
+          past p.positions p.requests (total_from p.sizes)
       pub hits : AreHits past p.hits
-      pub requests : length p.sizes ≡ length past
-      pub held : sizes_from p.sizes 0 ≡ total eq weight past
+      pub requests : p.requests ≡ length past
+      pub held : total_from p.sizes 0 ≡ total eq weight past
       pub size : p.size ≡ size_of_all weight past
       pub greatest : p.greatest ≡ greatest_of weight past
       pub latest : (x : K) (q : ℕ) → lookup (eq x) p.positions ≡ Some q → q + 1 + length (since eq x past) ≡ length past
 
-  -- what holds of every pass, whatever the keys weighed: no sum passes that of all sizes
+  -- what holds of every pass, whatever the keys weighed: each key has one size, and no sum passes that of all
   pub record IsSoundBySize (nodes : List ℕ) (p : PassBySize K) : Type 0 where
-    pub summed : IsSummed p.sizes nodes
-    pub before : (x : K) (n : ℕ) → lookup (eq x) p.positions ≡ Some n → n < length p.sizes
-    pub few_keys : length p.positions ≤ length p.sizes
-    pub few_hits : length p.hits ≤ length p.sizes
-    pub many : length p.sizes ≤ p.size
-    pub held : sizes_from p.sizes 0 ≤ p.size
+    pub summed : IsSummed p.sizes nodes p.requests
+    pub past : List K
+    pub ranked : IsRanked eq (λ x. 1) (distinct eq) past p.positions p.requests (live_from p.sizes)
+    pub few_hits : length p.hits ≤ p.requests
+    pub many : p.requests ≤ p.size
+    pub held : total_from p.sizes 0 ≤ p.size
     pub hit_sizes : sum_by (λ h. h.missed_size) p.hits ≤ p.size
     pub fits : p.size < 2 ^ 64

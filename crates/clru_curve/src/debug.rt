@@ -19,7 +19,7 @@ impl<K: Eq + Hash, S: BuildHasher, A: Allocator + Copy> fmt::Debug for DistanceP
 impl<K: Eq + Hash, S: BuildHasher, A: Allocator + Copy> fmt::Debug for SizedPass<K, S, A> {
     fn fmt<W: fmt::Write>(&self, f: &mut fmt::Formatter<W>) -> fmt::Result {
         f.debug_struct("SizedPass")
-            .field("requests", &self.latest.sizes.len())
+            .field("requests", &self.latest.requests)
             .field("size", &self.size)
             .field("distinct", &self.positions.len())
             .finish()

@@ -1,30 +1,26 @@
-//! For each request a bit, which is set if the request is the latest of its key. Blocks of bits without any that is set are dropped.
+//! For each request a bit, which is set if the request is the latest of its key. Bits are in blocks, and blocks without any are
+//! dropped.
 ghost use Rattle.std.specs.Prelude.{◌≡◌, ℕ, suc, ◌+◌, ◌%◌, ◌/◌, ◌^◌, ◌<◌, [], true, false, OnOk, IsOk, length};
-ghost use Rattle.clru_curve.specs.Latest.{ones_from, blocks_from, has_bits, number_at, EndsAt, HasBlock, IsLatest, IsRising};
+ghost use Rattle.clru_curve.specs.Latest.{ones_from, blocks_from, IsLatest};
+ghost use Rattle.clru_curve.specs.Rising.{has_value, EndsAt, IsRising};
 ghost use Rattle.clru_curve.specs.Tree.{up_by, up_to, IsCounted};
 
+use crate::numbered::{Numbered, place_of};
 use crate::tree::{add_at, count_from, subtract_at};
 use std::alloc::{AllocError, Allocator};
 
 /// How many requests share a block.
 const BITS: usize = 64;
 
-/// How many blocks there may be beyond half as many again as had bits when they were last looked through.
+/// How many blocks there may be more than those with bits and half as many again.
 const FEW: usize = 4;
-
-/// The bits of 64 requests, from 64 times the number on.
-#[derive(Clone, Copy)]
-pub(crate) struct Block {
-    pub(crate) number: usize,
-    pub(crate) bits: u64,
-}
 
 /// The blocks, and for each of them a node, which counts the bits of some blocks from its own on.
 ///
-/// Blocks are dropped, not renumbered: a request keeps its number. So memory goes with the bits that are set.
+/// A request keeps its number, however many blocks before it are dropped. So memory goes with the bits that are set.
 #[derive(Drop)]
 pub(crate) struct Latest<A: Allocator> {
-    pub(crate) blocks: Vec<Block, A>,
+    pub(crate) blocks: Vec<Numbered, A>,
     pub(crate) nodes: Vec<usize, A>,
     pub(crate) requests: usize,
     // From so many blocks on, those without bits are dropped before one more is made.
@@ -69,7 +65,7 @@ impl<A: Allocator + Copy> Latest<A> {
         let Ok(()) = self.nodes.reserve(1) else {
             return Err(AllocError);
         };
-        let Ok(()) = self.blocks.push(Block { number, bits: 0 }) else {
+        let Ok(()) = self.blocks.push(Numbered { number, value: 0 }) else {
             return Err(AllocError);
         };
         self.nodes.push_reserved(0);
@@ -90,9 +86,9 @@ impl<A: Allocator + Copy> Latest<A> {
             return;
         }
         self.blocks.retain(
-            |block: &Block| -> bool
-                ensures { result ≡ has_bits block.now }
-            { block.bits != 0 },
+            |block: &Numbered| -> bool
+                ensures { result ≡ has_value block.now }
+            { block.value != 0 },
         );
         let blocks = self.blocks.len();
         self.nodes.truncate(blocks);
@@ -111,7 +107,7 @@ impl<A: Allocator + Copy> Latest<A> {
         ensures requests { self.new.requests ≡ self.old.requests + 1 }
     {
         let last = self.blocks.len() - 1;
-        self.blocks[last].bits += 1 << (self.requests % BITS);
+        self.blocks[last].value += 1 << (self.requests % BITS);
         add_at(&mut self.nodes, last, 1);
         self.requests += 1;
     }
@@ -127,17 +123,17 @@ impl<A: Allocator + Copy> Latest<A> {
         ensures room { EndsAt self.old.blocks.items (self.old.requests / 64)
             → EndsAt self.new.blocks.items (self.new.requests / 64) }
     {
-        let at = block_at(&self.blocks, request / BITS);
-        let above = (self.blocks[at].bits >> (request % BITS)) >> 1;
+        let at = place_of(&self.blocks, request / BITS);
+        let above = (self.blocks[at].value >> (request % BITS)) >> 1;
         let count = above.count_ones() as usize + count_from(&self.nodes, at + 1);
-        self.blocks[at].bits -= 1 << (request % BITS);
+        self.blocks[at].value -= 1 << (request % BITS);
         subtract_at(&mut self.nodes, at, 1);
         count
     }
 }
 
 /// Whether the last block has this number.
-fn ends_at(blocks: &[Block], number: usize) -> bool
+fn ends_at(blocks: &[Numbered], number: usize) -> bool
     ensures yes { result ≡ true → EndsAt blocks.now number }
     ensures no { result ≡ false → EndsAt blocks.now number → ⊥ }
 {
@@ -147,34 +143,8 @@ fn ends_at(blocks: &[Block], number: usize) -> bool
     }
 }
 
-/// The place of the block of this number, which there is.
-fn block_at(blocks: &[Block], number: usize) -> usize
-    requires there { HasBlock blocks.now number }
-    requires rising { (high : ℕ) × IsRising 0 blocks.now high }
-    ensures inside { result < length blocks.now }
-    ensures number { number_at blocks.now result ≡ number }
-{
-    // It is here unless blocks after it were dropped, and never before here.
-    let last = blocks.len() - 1;
-    let guess = last.saturating_sub(blocks[last].number.saturating_sub(number));
-    if blocks[guess].number == number {
-        return guess;
-    }
-    let mut first = 0;
-    let mut end = blocks.len();
-    while end - first > 1 {
-        let middle = first + (end - first) / 2;
-        if blocks[middle].number <= number {
-            first = middle;
-        } else {
-            end = middle;
-        }
-    }
-    first
-}
-
 /// Counts the bits of the blocks anew.
-fn count_anew(nodes: &mut [usize], blocks: &[Block])
+fn count_anew(nodes: &mut [usize], blocks: &[Numbered])
     requires length { length nodes.old ≡ length blocks.now }
     requires few { blocks_from blocks.now 0 < 2 ^ 64 }
     ensures length { length nodes.new ≡ length nodes.old }
@@ -182,6 +152,6 @@ fn count_anew(nodes: &mut [usize], blocks: &[Block])
 {
     nodes.fill(0);
     for at in 0..blocks.len() {
-        add_at(nodes, at, blocks[at].bits.count_ones() as usize);
+        add_at(nodes, at, blocks[at].value.count_ones() as usize);
     }
 }

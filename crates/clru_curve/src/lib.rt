@@ -16,6 +16,7 @@ mod curve;
 mod debug;
 mod latest;
 mod list;
+mod numbered;
 mod pass;
 mod sized;
 mod tree;

@@ -27,7 +27,7 @@ const FIRST_CAPACITY: usize = 64;
 /// comes in front. It returns a curve at any time.
 ///
 /// Takes memory for a position in a cache and a number for each distinct key, and 24 bytes for each block of 64 requests that has
-/// the latest of a key, and for half as many blocks more.
+/// the latest of a key, and for half as many blocks more and 4.
 pub struct DistancePass<K: Eq + Hash, S: BuildHasher = DefaultState, A: Allocator + Copy = Global> {
     pub(crate) positions: CLruCache<K, usize, S, ZeroWeightScale, A>,
     pub(crate) latest: Latest<A>,

@@ -11,28 +11,28 @@ const KEYS: usize = 10;
 
 // Of a form, whether by size, and whether with the least, or by size the floors: its requests for memory, and their bytes.
 static REQUESTS: &[(Form, bool, bool, u64, u64)] = &[
-    (Form::Table, false, false, 49, 68920),
-    (Form::Table, true, false, 70, 118986),
-    (Form::Table, true, true, 92, 199630),
-    (Form::Table, false, true, 75, 113477),
-    (Form::Picture, false, false, 60, 87727),
-    (Form::Picture, true, false, 90, 187380),
-    (Form::Picture, true, true, 117, 272438),
-    (Form::Picture, false, true, 87, 133323),
-    (Form::Summary, false, false, 28, 68383),
-    (Form::Summary, true, false, 45, 117846),
-    (Form::Summary, true, true, 45, 117846),
-    (Form::Summary, false, true, 28, 68383),
+    (Form::Table, false, false, 57, 69488),
+    (Form::Table, true, false, 73, 106402),
+    (Form::Table, true, true, 97, 187074),
+    (Form::Table, false, true, 88, 123453),
+    (Form::Picture, false, false, 68, 88376),
+    (Form::Picture, true, false, 93, 174925),
+    (Form::Picture, true, true, 122, 260032),
+    (Form::Picture, false, true, 101, 143673),
+    (Form::Summary, false, false, 31, 68871),
+    (Form::Summary, true, false, 39, 104630),
+    (Form::Summary, true, true, 39, 104630),
+    (Form::Summary, false, true, 31, 68871),
 ];
 
 // The same of a sample, which keeps half of the keys: whether by size, its hashes too.
 static OF_SAMPLES: &[(Form, bool, u64, u64, u64)] = &[
-    (Form::Table, false, 514, 39, 68889),
-    (Form::Table, true, 514, 57, 93931),
-    (Form::Picture, false, 514, 50, 87414),
-    (Form::Picture, true, 514, 76, 137700),
+    (Form::Table, false, 514, 45, 69001),
+    (Form::Table, true, 514, 60, 89595),
+    (Form::Picture, false, 514, 56, 87607),
+    (Form::Picture, true, 514, 79, 133493),
     (Form::Summary, false, 514, 19, 67984),
-    (Form::Summary, true, 514, 37, 92743),
+    (Form::Summary, true, 514, 33, 88231),
 ];
 
 /// A thousand lines of ten keys, each with the size 7.

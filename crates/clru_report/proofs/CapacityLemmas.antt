@@ -5,12 +5,10 @@ use Rattle.std.proofs.lemmas.List.{length-map}
 use Rattle.std.proofs.lemmas.List.FromFn.{filter_of_map_range_with_len_more}
 use Rattle.std.proofs.lemmas.List.Elements.{Contains-get_or, All-append, All-contains, All-filter, All-from_get_or, All-from_recursion, All-map, All-weaker, filter_agree, filter_passes, recursion_from_All}
 use Rattle.std.proofs.lemmas.Bool.{eqb-false}
-use Rattle.std.specs.List.{All, Contains, filter, range_with_len}
+use Rattle.std.specs.List.{All, AllByRecursion, Contains, filter, range_with_len}
 use Rattle.std.specs.Prelude.{◌==◌}
 use Rattle.clru_model.proofs.Cases.{split}
-use Rattle.clru_report.specs.Capacities.{capacities_of, first_digit, is_fall, round_number, sized_capacities_of, usual}
-use Rattle.clru_report.specs.Knees.{with_knees}
-use Rattle.clru_report.proofs.KneeLemmas.{knees_from, same_knees}
+use Rattle.clru_report.specs.Capacities.{capacities_of, first_digit, is_fall, round_number, sized_capacities_of, usual, usual_from}
 use Rattle.clru_report.specs.Refusals.{NamesBelow}
 use Rattle.clru_report.specs.declared.options.Capacities.{Capacities}
 use Rattle.clru_report.specs.declared.options.Capacities.TheVariants.{Usual, Each, Named}
@@ -42,7 +40,7 @@ digit_positive k =
     (λ t. rw t (omega arith))
     (λ f. split (k == 1) (λ u. rw (f, u) (omega arith)) (λ v. rw (f, v) (omega arith)))
 
-pub usual_positive : (d : ℕ) → All (λ c. 0 < c) (usual d)
+usual_positive : (d : ℕ) → All (λ c. 0 < c) (usual d)
 usual_positive d =
     let rounds = All-map (λ c. 0 < c) round_number (range_with_len 0 60)
     (All-from_get_or (λ k. 0 < round_number k) (range_with_len 0 60) 0 (λ i inside.
@@ -52,6 +50,13 @@ usual_positive d =
     (split (d == 0)
     (λ t. rw t (All-from_recursion (λ c. 0 < c) [] tt))
     (λ f. rw f (All-from_recursion (λ c. 0 < c) (d ∷ []) (omega (arith, eqb-false d 0 f), tt))))
+
+pub usual_some : (d : ℕ) → AllByRecursion (λ c. 0 < c) (usual d)
+usual_some d = recursion_from_All (λ c. 0 < c) (usual d) (usual_positive d)
+
+pub usual_from_some : (g d : ℕ) → AllByRecursion (λ c. 0 < c) (usual_from g d)
+usual_from_some g d = recursion_from_All (λ c. 0 < c) (usual_from g d)
+    (All-filter (λ c. nat_le g c) (λ c. 0 < c) (usual d) (usual_positive d))
 
 -- where two curves are the same from capacity 1 on, they fall at the same capacities
 module _ (m n : ℕ → ℕ) (alike : (k : ℕ) → 0 < k → m k ≡ n k) where
@@ -68,10 +73,11 @@ module _ (m n : ℕ → ℕ) (alike : (k : ℕ) → 0 < k → m k ≡ n k) where
       ap (λ b. cond b ((x + 1) ∷ rest) rest) (is_fall-alike x)
       ∙ ap (λ ys. cond (is_fall n (x + 1)) ((x + 1) ∷ ys) ys) (filter-alike xs)
 
-  pub capacities-alike : {A : Type 0} (asked : Capacities A) (d : ℕ) → capacities_of asked m d ≡ capacities_of asked n d
-  capacities-alike Usual d = same_knees m n alike (usual d) (recursion_from_All (λ c. 0 < c) (usual d) (usual_positive d))
-  capacities-alike Each d = filter-alike (range_with_len 0 d)
-  capacities-alike (Named named) d = refl
+  pub capacities-alike : {A : Type 0} (asked : Capacities A) (d : ℕ) (table : List ℕ)
+      → capacities_of asked m d table ≡ capacities_of asked n d table
+  capacities-alike Usual d table = refl
+  capacities-alike Each d table = filter-alike (range_with_len 0 d)
+  capacities-alike (Named named) d table = refl
 
 -- what passes of numbers that are shown
 pub map-filter : {X : Type 0} (p : ℕ → Bool) (f : X → ℕ) (xs : List X) → map f (filter (λ x. p (f x)) xs) ≡ filter p (map f xs)
@@ -82,29 +88,28 @@ map-filter p f (x ∷ xs) =
     (λ u. rw u (map-filter p f xs))
 
 -- curves that are the same everywhere fall at the same capacities
-pub sized-alike : {A : Type 0} (asked : Capacities A) (m n : ℕ → ℕ) (g d : ℕ) → ((c : ℕ) → m c ≡ n c)
-    → sized_capacities_of asked m g d ≡ sized_capacities_of asked n g d
-sized-alike Usual m n g d same =
-    let passes = λ (c : ℕ). nat_le g c in
-    same_knees m n (λ c some. same c) (filter passes (usual d))
-    (recursion_from_All (λ c. 0 < c) (filter passes (usual d)) (All-filter passes (λ c. 0 < c) (usual d) (usual_positive d)))
-sized-alike Each m n g d same =
+pub sized-alike : {A : Type 0} (asked : Capacities A) (m n : ℕ → ℕ) (g d : ℕ) (table : List ℕ) → ((c : ℕ) → m c ≡ n c)
+    → sized_capacities_of asked m g d table ≡ sized_capacities_of asked n g d table
+sized-alike Usual m n g d table same = refl
+sized-alike Each m n g d table same =
     filter_agree _ _ (λ c. ap (λ k. (c == g) || nat_lt k (m (c - 1))) (same c) ∙ ap (λ k. (c == g) || nat_lt (n c) k) (same (c - 1))) _
-sized-alike (Named named) m n g d same = refl
+sized-alike (Named named) m n g d table same = refl
+
+-- the usual ones are at least the greatest size, and so are those of their faithful table
+pub usual_high : (g d : ℕ) → AllByRecursion (λ c. g ≤ c) (usual_from g d)
+usual_high g d = recursion_from_All (λ c. g ≤ c) (usual_from g d)
+    (All-weaker (λ c. nat_le g c ≡ true) (λ c. g ≤ c) (λ c t. leb-true g c t) (usual_from g d) (filter_passes (λ c. nat_le g c) (usual d)))
 
 -- each of them but those that are named is at least the greatest size
-pub none_below : {A : Type 0} (asked : Capacities A) (m : ℕ → ℕ) (g d n : ℕ) → n < g
-    → Contains (sized_capacities_of asked m g d) n → NamesBelow asked g
-none_below Usual m g d n low is =
-    let cs = filter (λ c. nat_le g c) (usual d) in
-    let high = All-weaker (λ c. nat_le g c ≡ true) (λ c. g ≤ c) (λ c t. leb-true g c t) cs (filter_passes (λ c. nat_le g c) (usual d)) in
-    let all = All-from_recursion (λ c. g ≤ c) (with_knees m cs) (knees_from m g cs (recursion_from_All (λ c. g ≤ c) cs high)) in
-    omega (arith, low, All-contains (λ c. g ≤ c) (with_knees m cs) n all is)
-none_below Each m g d n low is =
+pub none_below : {A : Type 0} (asked : Capacities A) (m : ℕ → ℕ) (g d n : ℕ) (table : List ℕ) → AllByRecursion (λ c. g ≤ c) table → n < g
+    → Contains (sized_capacities_of asked m g d table) n → NamesBelow asked g
+none_below Usual m g d n table high low is =
+    omega (arith, low, All-contains (λ c. g ≤ c) table n (All-from_recursion (λ c. g ≤ c) table high) is)
+none_below Each m g d n table high low is =
     let high : g ≤ n = All-contains (λ c. g ≤ c) _ n (All-filter (λ c. (c == g) || nat_lt (m c) (m (c - 1))) (λ c. g ≤ c) _
     (All-map (λ c. g ≤ c) (λ (k : ℕ). g + k) (range_with_len 0 (d + 1 - g)) (All-from_get_or (λ k. g ≤ g + k) _ 0 (λ i inside. omega arith)))) is in
     omega (arith, low, high)
-none_below (Named named) m g d n low is = (n, is, low)
+none_below (Named named) m g d n table high low is = (n, is, low)
 
 -- what is at an index is shown among all
 shown_at : {X : Type 0} (f : X → ℕ) (xs : List X) (i : ℕ) (x : X) → get_or (map f xs) i (f x) ≡ f (get_or xs i x)

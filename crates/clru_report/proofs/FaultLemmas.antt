@@ -46,11 +46,11 @@ module _ (number size : ℕ) (line : List ℕ) (rest : List (List ℕ)) where
 
 module _ {A : Type 0} where
   -- where no capacity is below a number, none is named
-  pub none_named : (asked : Capacities A) (m : ℕ → ℕ) (g d n : ℕ) → All (λ c. n ≤ c) (sized_capacities_of asked m g d)
+  pub none_named : (asked : Capacities A) (m : ℕ → ℕ) (g d n : ℕ) (table : List ℕ) → All (λ c. n ≤ c) (sized_capacities_of asked m g d table)
       → names_below asked n ≡ false
-  none_named Usual m g d n all = refl
-  none_named Each m g d n all = refl
-  none_named (Named named) m g d n all =
+  none_named Usual m g d n table all = refl
+  none_named Each m g d n table all = refl
+  none_named (Named named) m g d n table all =
       list_any_none (λ c. nat_lt c n) (map non_zero_usize_get named.items)
       (All-weaker (λ c. n ≤ c) (λ c. nat_lt c n ≡ false) (λ c h. le-ltb c n h) (map non_zero_usize_get named.items) all)
 

@@ -7,6 +7,10 @@ pub ok_map : {T E : Type 0} {P Q : T → Type 0} (r : Result T E) → ((x : T) �
 ok_map (Ok x) f p = f x p
 ok_map (Err e) f p = p
 
+pub ok_both : {T E : Type 0} {P Q S : T → Type 0} (r : Result T E) → ((x : T) → P x → Q x → S x) → IfOk r P → IfOk r Q → IfOk r S
+ok_both (Ok x) f p q = f x p q
+ok_both (Err e) f p q = p
+
 pub err_map : {T E : Type 0} {P Q : E → Type 0} (r : Result T E) → ((e : E) → P e → Q e) → IfErr r P → IfErr r Q
 err_map (Ok x) f p = p
 err_map (Err e) f p = f e p

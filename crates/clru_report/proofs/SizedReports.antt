@@ -3,19 +3,21 @@ use Rattle.std.proofs.Common.{◌≡◌, ℕ, ◌+◌, ◌≤◌, Bool, true, fa
 use Rattle.std.specs.Prelude.{bytes_eq, ◌==◌}
 use Rattle.std.proofs.lemmas.Bool.{eqb-true}
 use Rattle.std.proofs.lemmas.List.Elements.{All-map, All-weaker}
-use Rattle.std.specs.List.{All}
-use Rattle.clru_curve.specs.SizedCurves.{CurveBySize, IsSizedCurveOf, misses_within}
+use Rattle.std.specs.List.{All, AllByRecursion}
+use Rattle.clru_curve.specs.SizedCurves.{CurveBySize, IsSizedCurveOf, misses_within, missed_size_within}
 use Rattle.clru_model.proofs.Cases.{split}
 use Rattle.clru_model.proofs.Spans.{room_misses_first}
 use Rattle.clru_least.specs.FloorNumbers.{size_floor_at}
 use Rattle.clru_model.specs.Floor.{floor_misses}
 use Rattle.clru_model.specs.Requests.{distinct, holds}
 use Rattle.clru_model.specs.Sizes.{total, misses_by_size}
-use Rattle.clru_report.specs.Capacities.{sized_capacities_of}
+use Rattle.clru_report.specs.Capacities.{sized_capacities_of, usual_from}
+use Rattle.clru_report.specs.Faithful.{IsFaithful}
+use Rattle.clru_report.specs.Knees.{knees}
 use Rattle.clru_report.specs.Faults.{is_of_writing}
-use Rattle.clru_report.specs.Passes.{AreFloorsFor, IsOfCapacities, IsRowOf, IsTableOf, capacities_on, distinct_in, floors_at}
+use Rattle.clru_report.specs.Passes.{AreFloorsFor, IsOfAsked, IsOfCapacities, IsRowOf, IsTableOf, IsUsualOn, capacities_on, distinct_in, floors_at}
 use Rattle.clru_report.specs.Refusals.{IsRefusedFor, IsSaidOf, fault_beside, fault_from, fault_of, is_of_input, names_below}
-use Rattle.clru_report.specs.SizedReport.{HasFloors, IsSizedRow, IsSizedTable, distinct_size, summary_by_size}
+use Rattle.clru_report.specs.SizedReport.{HasFloors, IsSizedRow, IsSizedTable, IsSizedUsualTable, distinct_size, missed_of, summary_by_size}
 use Rattle.clru_report.specs.SizedTables.{capacity_of_sized_row, row_floor, sized_summary_text, sized_table_text}
 use Rattle.clru_report.specs.Sizes.{HaveSizes, greatest_size, size_of_lines, weight_of_line}
 use Rattle.clru_lines.specs.declared.fault.Fault.{Fault}
@@ -24,7 +26,8 @@ use Rattle.clru_report.specs.declared.options.Capacities.{Capacities}
 use Rattle.clru_report.specs.declared.options.Options.{Options}
 use Rattle.clru_report.specs.declared.sized.floors.Floors.{Floors}
 use Rattle.clru_report.specs.declared.sized.rows.SizedRow.{SizedRow}
-use Rattle.clru_report.proofs.CapacityLemmas.{none_below, sized-alike}
+use Rattle.clru_report.proofs.CapacityLemmas.{none_below, sized-alike, usual_from_some, usual_high}
+use Rattle.clru_report.proofs.FaithfulTables.{faithful_alike, knees_alike, table_from}
 use Rattle.clru_report.proofs.FaultLemmas.{none_beside, none_named, one_named, told_beside}
 use Rattle.clru_report.proofs.SettledCurves.{bytes_laws, same_weights}
 
@@ -42,12 +45,32 @@ module _ (lines : List (List ℕ)) (curve : CurveBySize) (is : IsSizedCurveOf by
   pub greatest_is : 1 + curve.greatest_weight ≡ greatest_size lines
   greatest_is = ap (λ n. 1 + n) is.greatest_weight
 
-  pub capacities_are : {A : Type 0} (asked : Capacities A)
-      → capacities_on curve asked ≡ sized_capacities_of asked missing (greatest_size lines) (distinct_size lines)
-  capacities_are asked =
-      sized-alike asked (misses_within curve) missing (1 + curve.greatest_weight) curve.distinct_size is.misses
-      ∙ ap (λ g. sized_capacities_of asked missing g curve.distinct_size) greatest_is
-      ∙ ap (sized_capacities_of asked missing (greatest_size lines)) is.distinct_size
+  pub capacities_are : {A : Type 0} (asked : Capacities A) (table : List ℕ)
+      → capacities_on curve asked table ≡ sized_capacities_of asked missing (greatest_size lines) (distinct_size lines) table
+  capacities_are asked table =
+      sized-alike asked (misses_within curve) missing (1 + curve.greatest_weight) curve.distinct_size table is.misses
+      ∙ ap (λ g. sized_capacities_of asked missing g curve.distinct_size table) greatest_is
+      ∙ ap (λ d. sized_capacities_of asked missing (greatest_size lines) d table) is.distinct_size
+
+  -- the usual table of the curve, and its knees, are those of the lines
+  pub usual_is : (whole : ℕ) (table marked : List ℕ) → IsUsualOn curve whole table marked
+      → IsSizedUsualTable whole lines table × (marked ≡ knees (missed_of lines) whole table)
+  usual_is whole table marked u =
+      let capacities = usual_from (1 + curve.greatest_weight) curve.distinct_size in
+      let some = usual_from_some (1 + curve.greatest_weight) curve.distinct_size in
+      let usual : capacities ≡ usual_from (greatest_size lines) (distinct_size lines) =
+      ap (λ g. usual_from g curve.distinct_size) greatest_is ∙ ap (usual_from (greatest_size lines)) is.distinct_size in (
+        subst (λ cs. IsFaithful (missed_of lines) whole cs table) usual
+            (faithful_alike (missed_size_within curve) (missed_of lines) (λ c _. is.missed_size c) whole capacities table some u.faithful.added),
+        u.marks ∙ knees_alike (missed_size_within curve) (missed_of lines) (λ c _. is.missed_size c) whole capacities table some u.faithful.added,
+      )
+
+  -- no row of it is below the greatest size
+  usual_above : (whole : ℕ) (table marked : List ℕ) → IsUsualOn curve whole table marked
+      → AllByRecursion (λ c. 1 + curve.greatest_weight ≤ c) table
+  usual_above whole table marked u =
+      table_from (missed_size_within curve) whole (1 + curve.greatest_weight) _ table u.faithful.added
+      (usual_high (1 + curve.greatest_weight) curve.distinct_size)
 
   -- where both floors are those of the lines, so are those of a row
   floors_are : {A : Type 0} (floored : Bool) (floors : Option (Floors A)) (row : SizedRow) → AreFloorsFor floored lines floors
@@ -69,16 +92,20 @@ module _ (lines : List (List ℕ)) (curve : CurveBySize) (is : IsSizedCurveOf by
     }
 
   pub table_is : {A : Type 0} (options : Options A) (floors : Option (Floors A)) (text : List ℕ) → AreFloorsFor options.floor lines floors
-      → IsTableOf curve floors options.floor (capacities_on curve options.capacities) text → IsSizedTable options lines text
-  table_is options floors text both t = (
-    t.0,
-    (
-      t.1.0 ∙ capacities_are options.capacities,
-      All-weaker (IsRowOf curve floors) (IsSizedRow lines options.floor) (row_is options.floor floors both) t.0 t.1.1,
-    ),
-    t.2 ∙ ap (λ n. sized_table_text options.floor n curve.size t.0) is.requests_in_all
-        ∙ ap (λ n. sized_table_text options.floor (length lines) n t.0) is.size,
-  )
+      → IsTableOf curve floors options.floor options.capacities text → IsSizedTable options lines text
+  table_is options floors text both t =
+      let usual = usual_is curve.size t.table t.marked t.usual in (
+        t.table,
+        t.rows,
+        subst (λ n. IsSizedUsualTable n lines t.table) is.size usual.0,
+        (
+          t.rowed.0 ∙ capacities_are options.capacities t.table,
+          All-weaker (IsRowOf curve floors) (IsSizedRow lines options.floor) (row_is options.floor floors both) t.rows t.rowed.1,
+        ),
+        t.is ∙ ap (λ n. sized_table_text options.floor n curve.size t.marked t.rows) is.requests_in_all
+            ∙ ap (λ ks. sized_table_text options.floor (length lines) curve.size ks t.rows) usual.1
+            ∙ ap (λ n. sized_table_text options.floor (length lines) n (knees (missed_of lines) n t.table) t.rows) is.size,
+      )
 
   -- with room for all keys each misses once
   pub distinct_are : distinct_in curve ≡ distinct bytes_eq (reverse lines)
@@ -106,43 +133,46 @@ module _ (lines : List (List ℕ)) (curve : CurveBySize) (is : IsSizedCurveOf by
 
   -- rows have no fault
   pub rows_free : {A : Type 0} (options : Options A) (floors : Option (Floors A)) (text : List ℕ)
-      → IsTableOf curve floors options.floor (capacities_on curve options.capacities) text
+      → IsTableOf curve floors options.floor options.capacities text
       → fault_from 1 0 lines ≡ None → fault_of options lines ≡ None
   rows_free options floors text t free =
       let high = All-weaker (IsRowOf curve floors) (λ row. greatest_size lines ≤ capacity_of_sized_row row)
-      (λ row r. omega (arith, r.answered, greatest_is)) t.0 t.1.1 in
-      let all = subst (All (λ c. greatest_size lines ≤ c)) t.1.0 (All-map (λ c. greatest_size lines ≤ c) capacity_of_sized_row t.0 high) in
+      (λ row r. omega (arith, r.answered, greatest_is)) t.rows t.rowed.1 in
+      let all = subst (All (λ c. greatest_size lines ≤ c)) t.rowed.0 (All-map (λ c. greatest_size lines ≤ c) capacity_of_sized_row t.rows high) in
       told_beside options lines None free (none_beside options.form options.capacities (greatest_size lines)
-      (none_named options.capacities (misses_within curve) (1 + curve.greatest_weight) curve.distinct_size (greatest_size lines) all))
+      (none_named options.capacities (misses_within curve) (1 + curve.greatest_weight) curve.distinct_size (greatest_size lines) t.table all))
 
   -- why capacities have no rows
-  capacities_said : {A : Type 0} (options : Options A) (fault : Fault) → HaveSizes lines
-      → IsOfCapacities curve fault (capacities_on curve options.capacities) → is_of_input fault ≡ true → IsSaidOf fault options lines
-  capacities_said options BadCapacity sizes why of = why
-  capacities_said options Memory sizes why of = cc of
-  capacities_said options Reading sizes why of = why
-  capacities_said options Writing sizes why of = why
-  capacities_said options Closed sizes why of = why
-  capacities_said options (NoSize n) sizes why of = absurd why
-  capacities_said options TooLarge sizes why of = absurd why
-  capacities_said options (TooSmall n) sizes why of = (
+  capacities_said : {A : Type 0} (options : Options A) (table : List ℕ) (fault : Fault)
+      → AllByRecursion (λ c. 1 + curve.greatest_weight ≤ c) table → HaveSizes lines
+      → IsOfCapacities curve fault (capacities_on curve options.capacities table) → is_of_input fault ≡ true → IsSaidOf fault options lines
+  capacities_said options table BadCapacity high sizes why of = why
+  capacities_said options table Memory high sizes why of = cc of
+  capacities_said options table Reading high sizes why of = why
+  capacities_said options table Writing high sizes why of = why
+  capacities_said options table Closed high sizes why of = why
+  capacities_said options table (NoSize n) high sizes why of = absurd why
+  capacities_said options table TooLarge high sizes why of = absurd why
+  capacities_said options table (TooSmall n) high sizes why of = (
     sizes,
     why.0 ∙ greatest_is,
-    rw why.0 (none_below options.capacities (misses_within curve) (1 + curve.greatest_weight) curve.distinct_size why.1.0 (omega (arith, why.0, why.1.2)) why.1.1),
+    rw why.0 (none_below options.capacities (misses_within curve) (1 + curve.greatest_weight) curve.distinct_size why.1.0 table high
+        (omega (arith, why.0, why.1.2)) why.1.1),
   )
 
-  small_told : {A : Type 0} (options : Options A) (fault : Fault) → IsOfCapacities curve fault (capacities_on curve options.capacities)
-      → is_of_input fault ≡ true
+  small_told : {A : Type 0} (options : Options A) (table : List ℕ) (fault : Fault)
+      → AllByRecursion (λ c. 1 + curve.greatest_weight ≤ c) table
+      → IsOfCapacities curve fault (capacities_on curve options.capacities table) → is_of_input fault ≡ true
       → cond (names_below options.capacities (greatest_size lines)) (Some (TooSmall (greatest_size lines))) None ≡ Some fault
-  small_told options BadCapacity why of = absurd why
-  small_told options Memory why of = cc of
-  small_told options Reading why of = absurd why
-  small_told options Writing why of = absurd why
-  small_told options Closed why of = absurd why
-  small_told options (NoSize n) why of = absurd why
-  small_told options TooLarge why of = absurd why
-  small_told options (TooSmall n) why of =
-      let below = none_below options.capacities (misses_within curve) (1 + curve.greatest_weight) curve.distinct_size why.1.0
+  small_told options table BadCapacity high why of = absurd why
+  small_told options table Memory high why of = cc of
+  small_told options table Reading high why of = absurd why
+  small_told options table Writing high why of = absurd why
+  small_told options table Closed high why of = absurd why
+  small_told options table (NoSize n) high why of = absurd why
+  small_told options table TooLarge high why of = absurd why
+  small_told options table (TooSmall n) high why of =
+      let below = none_below options.capacities (misses_within curve) (1 + curve.greatest_weight) curve.distinct_size why.1.0 table high
       (omega (arith, why.0, why.1.2)) why.1.1 in
       let named = ap (names_below options.capacities) (sym greatest_is) ∙ one_named options.capacities (1 + curve.greatest_weight) below in
       ap (λ b. cond b (Some (TooSmall (greatest_size lines))) None) named ∙ ap (λ k. Some (TooSmall k)) (sym (why.0 ∙ greatest_is))
@@ -151,11 +181,12 @@ module _ (lines : List (List ℕ)) (curve : CurveBySize) (is : IsSizedCurveOf by
   pub capacities_refused : {A : Type 0} (options : Options A) (fault : Fault) → HaveSizes lines → fault_from 1 0 lines ≡ None
       → fault_beside options.form options.capacities (greatest_size lines)
       ≡ cond (names_below options.capacities (greatest_size lines)) (Some (TooSmall (greatest_size lines))) None
-      → IsOfCapacities curve fault (capacities_on curve options.capacities) → is_of_input fault ≡ true → IsRefusedFor fault options lines
-  capacities_refused options fault sizes free shown why of = (
-    told_beside options lines (Some fault) free (shown ∙ small_told options fault why of),
-    capacities_said options fault sizes why of,
-  )
+      → IsOfAsked curve fault options.capacities → is_of_input fault ≡ true → IsRefusedFor fault options lines
+  capacities_refused options fault sizes free shown why of =
+      let high = usual_above curve.size why.0 why.1 why.2 in (
+        told_beside options lines (Some fault) free (shown ∙ small_told options why.0 fault high why.3 of),
+        capacities_said options why.0 fault high sizes why.3 of,
+      )
 
 pub capacities_unwritten : (curve : CurveBySize) (capacities : List ℕ) (fault : Fault) → IsOfCapacities curve fault capacities
     → is_of_writing fault ≡ false

@@ -48,13 +48,13 @@ counted_more floored n lines line size more pass next reused after of sized sum 
 
 module _ (kept : List (List ℕ)) (curve : CurveBySize) (is : IsSizedCurveOf bytes_eq weight_of_line kept curve) where
   -- the capacities that the curve answers are those at which kept lines have rows
-  pub rows_kept : {A : Type 0} (options : Options A) (floors : Option (Floors A)) (rows : List SizedRow)
+  pub rows_kept : {A : Type 0} (options : Options A) (floors : Option (Floors A)) (table : List ℕ) (rows : List SizedRow)
       → AreFloorsFor options.floor kept floors
-      → AreRowsOf curve floors (filter (λ c. nat_le (1 + curve.greatest_weight) c) (capacities_on curve options.capacities)) rows
-      → AreSizedRows kept options.floor (sized_capacities_of_sample options kept) rows
-  rows_kept options floors rows both t = (
-    t.0 ∙ ap (λ g. filter (λ c. nat_le g c) (capacities_on curve options.capacities)) (greatest_is kept curve is)
-        ∙ ap (filter (λ c. nat_le (greatest_size kept) c)) (capacities_are kept curve is options.capacities),
+      → AreRowsOf curve floors (filter (λ c. nat_le (1 + curve.greatest_weight) c) (capacities_on curve options.capacities table)) rows
+      → AreSizedRows kept options.floor (sized_capacities_of_sample options kept table) rows
+  rows_kept options floors table rows both t = (
+    t.0 ∙ ap (λ g. filter (λ c. nat_le g c) (capacities_on curve options.capacities table)) (greatest_is kept curve is)
+        ∙ ap (filter (λ c. nat_le (greatest_size kept) c)) (capacities_are kept curve is options.capacities table),
     All-weaker (IsRowOf curve floors) (IsSizedRow kept options.floor) (row_is kept curve is options.floor floors both) rows t.1,
   )
 

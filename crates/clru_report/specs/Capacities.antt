@@ -2,7 +2,6 @@
 use Rattle.std.specs.Prelude.{ℕ, ◌+◌, ◌-◌, ◌*◌, ◌/◌, ◌%◌, ◌^◌, Bool, ◌||◌, ◌==◌, nat_lt, nat_le, List, [], ◌∷◌, ◌++◌, map, if◌then◌else◌}
 use Rattle.std.specs.List.{filter, range_with_len}
 use Rattle.std.specs.Int.NonZero.{non_zero_usize_get}
-use Rattle.clru_report.specs.Knees.{with_knees}
 use Rattle.clru_report.specs.declared.options.Capacities.{Capacities}
 use Rattle.clru_report.specs.declared.options.Capacities.TheVariants.{Usual, Each, Named}
 
@@ -26,19 +25,24 @@ is_fall misses c = (c == 1) || nat_lt (misses c) (misses (c - 1))
 abbrev pub falls : (ℕ → ℕ) → ℕ → List ℕ
 falls misses n = filter (is_fall misses) (map (λ k. k + 1) (range_with_len 0 n))
 
--- the capacities for requests of n distinct keys with so many misses at each
-abbrev pub capacities_of : {A : Type 0} → Capacities A → (ℕ → ℕ) → ℕ → List ℕ
-capacities_of Usual misses n = with_knees misses (usual n)
-capacities_of Each misses n = falls misses n
-capacities_of (Named named) misses n = map non_zero_usize_get named.items
+-- the capacities for requests of n distinct keys with so many misses at each, where the usual ones are those of the table
+abbrev pub capacities_of : {A : Type 0} → Capacities A → (ℕ → ℕ) → ℕ → List ℕ → List ℕ
+capacities_of Usual misses n table = table
+capacities_of Each misses n table = falls misses n
+capacities_of (Named named) misses n table = map non_zero_usize_get named.items
 
 -- the greatest size g, and each such capacity from there up to n
 abbrev pub falls_from : (ℕ → ℕ) → ℕ → ℕ → List ℕ
 falls_from misses g n = filter (λ c. (c == g) || nat_lt (misses c) (misses (c - 1)))
     (map (λ k. g + k) (range_with_len 0 (n + 1 - g)))
 
--- the capacities for requests of the greatest size g, whose distinct keys have the size n together, with so many misses at each
-abbrev pub sized_capacities_of : {A : Type 0} → Capacities A → (ℕ → ℕ) → ℕ → ℕ → List ℕ
-sized_capacities_of Usual misses g n = with_knees misses (filter (λ c. nat_le g c) (usual n))
-sized_capacities_of Each misses g n = falls_from misses g n
-sized_capacities_of (Named named) misses g n = map non_zero_usize_get named.items
+-- the round numbers below n, and n, from g on
+abbrev pub usual_from : ℕ → ℕ → List ℕ
+usual_from g n = filter (λ c. nat_le g c) (usual n)
+
+-- the capacities for requests of the greatest size g, whose distinct keys have the size n together, with so many misses at each, where
+-- the usual ones are those of the table
+abbrev pub sized_capacities_of : {A : Type 0} → Capacities A → (ℕ → ℕ) → ℕ → ℕ → List ℕ → List ℕ
+sized_capacities_of Usual misses g n table = table
+sized_capacities_of Each misses g n table = falls_from misses g n
+sized_capacities_of (Named named) misses g n table = map non_zero_usize_get named.items

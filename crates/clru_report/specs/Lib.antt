@@ -2,6 +2,7 @@ pub mod Arguments
 pub mod Capacities
 pub mod Choices
 pub mod CommandLine
+pub mod Faithful
 pub mod Faults
 pub mod Knees
 pub mod Numbers
@@ -10,8 +11,8 @@ pub mod Refusals
 pub mod Report
 pub mod RowLaws
 pub mod Samples
+pub mod Scans
 pub mod SizedReport
 pub mod SizedTables
 pub mod Sizes
-pub mod Steps
 pub mod Tables

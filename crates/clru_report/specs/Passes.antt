@@ -10,8 +10,10 @@ use Rattle.clru_least.specs.FloorNumbers.{Floored, IsFloorOf, IsSizeFloorOf, flo
 use Rattle.clru_least.specs.Reuses.{IsFloorPass, Reused}
 use Rattle.clru_lines.specs.Lines.{lines_of}
 use Rattle.clru_lines.specs.declared.lines.OwnedKey.{OwnedKey}
-use Rattle.clru_model.specs.Requests.{distinct, misses}
-use Rattle.clru_report.specs.Capacities.{capacities_of, sized_capacities_of}
+use Rattle.clru_model.specs.Requests.{distinct}
+use Rattle.clru_report.specs.Capacities.{sized_capacities_of, usual_from}
+use Rattle.clru_report.specs.Faithful.{IsFaithful}
+use Rattle.clru_report.specs.Knees.{knees}
 use Rattle.clru_report.specs.Refusals.{IsFirstWithout, fault_from}
 use Rattle.clru_report.specs.Samples.{kept_of}
 use Rattle.clru_report.specs.Sizes.{HaveSizes, size_of_lines, weight_of_line}
@@ -46,11 +48,6 @@ pub record IsCurveOfKept (n : ℕ) (input : List ℕ) (curve : List ℕ) (reques
   pub distinct_keys : length curve ≡ distinct bytes_eq (reverse (kept_of n (lines_of input)))
   pub counted : requests ≡ length (lines_of input)
   pub in_bytes : bytes ≡ length input
-
--- the capacities that are asked for, where the requests are these lines
-abbrev pub capacities_asked : {A : Type 0} → Options A → List (List ℕ) → List ℕ
-capacities_asked options lines =
-    capacities_of options.capacities (λ c. misses bytes_eq c lines) (distinct bytes_eq (reverse lines))
 
 -- a text in the form has rows
 abbrev pub has_rows : Form → Bool
@@ -132,11 +129,11 @@ abbrev pub floors_at : {A : Type 0} → Option (Floors A) → ℕ → Option Row
 floors_at None c = None
 floors_at (Some floors) c = Some (row_floor (floor_at floors.misses c) (size_floor_at floors.missed_size c))
 
--- the text in the form, with these rows and numbers
-abbrev pub IsTextByKeys : Form → Bool → Bool → Counts → List Row → List ℕ → Type 0
-IsTextByKeys Table least floor counts rows text = text ≡ table_text least floor counts.requests rows
-IsTextByKeys Picture least floor counts rows text = HasTable (table_text least floor counts.requests rows) text
-IsTextByKeys Summary least floor counts rows text = text ≡ summary_text counts.requests counts.distinct counts.bytes
+-- the text in the form, with these rows, knees and numbers
+abbrev pub IsTextByKeys : Form → Bool → Bool → Counts → List ℕ → List Row → List ℕ → Type 0
+IsTextByKeys Table least floor counts knees rows text = text ≡ table_text least floor counts.requests knees rows
+IsTextByKeys Picture least floor counts knees rows text = HasTable (table_text least floor counts.requests knees rows) text
+IsTextByKeys Summary least floor counts knees rows text = text ≡ summary_text counts.requests counts.distinct counts.bytes
 
 -- the pass took these lines, each of which has a size, and so did that for a floor if it is asked for
 pub record HasTaken {A : Type 0} (floor : Bool) (lines : List (List ℕ)) (pass : PassBySize (OwnedKey A)) (reused : Option Reused) : Type 0 where
@@ -193,15 +190,24 @@ module _ (curve : CurveBySize) where
     abbrev pub AreRowsOf : List ℕ → List SizedRow → Type 0
     AreRowsOf capacities rows = (map capacity_of_sized_row rows ≡ capacities) × All IsRowOf rows
 
-    -- the text of a table of such rows
-    abbrev pub IsTableOf : Bool → List ℕ → List ℕ → Type 0
-    IsTableOf floor capacities text = (rows : List SizedRow) × AreRowsOf capacities rows
-        × (text ≡ sized_table_text floor curve.requests curve.size rows)
+  -- the usual table of the curve, and its knees
+  pub record IsUsualOn (whole : ℕ) (table marked : List ℕ) : Type 0 where
+    pub faithful : IsFaithful (missed_size_within curve) whole (usual_from (1 + curve.greatest_weight) curve.distinct_size) table
+    pub marks : marked ≡ knees (missed_size_within curve) whole table
 
   -- the capacities that are asked for
-  abbrev pub capacities_on : {A : Type 0} → Capacities A → List ℕ
-  capacities_on capacities = sized_capacities_of capacities (misses_within curve)
-      (1 + curve.greatest_weight) curve.distinct_size
+  abbrev pub capacities_on : {A : Type 0} → Capacities A → List ℕ → List ℕ
+  capacities_on capacities table = sized_capacities_of capacities (misses_within curve)
+      (1 + curve.greatest_weight) curve.distinct_size table
+
+  -- the text of a table of such rows, with the floors if they are there
+  pub record IsTableOf {A : Type 0} (floors : Option (Floors A)) (floor : Bool) (capacities : Capacities A) (text : List ℕ) : Type 0 where
+    pub table : List ℕ
+    pub marked : List ℕ
+    pub rows : List SizedRow
+    pub usual : IsUsualOn curve.size table marked
+    pub rowed : AreRowsOf floors (capacities_on capacities table) rows
+    pub is : text ≡ sized_table_text floor curve.requests curve.size marked rows
 
   -- why capacities have no rows
   abbrev pub IsOfCapacities : Fault → List ℕ → Type 0
@@ -214,3 +220,8 @@ module _ (curve : CurveBySize) where
   IsOfCapacities TooLarge capacities = ⊥
   IsOfCapacities (TooSmall n) capacities =
       (n ≡ 1 + curve.greatest_weight) × ((capacity : ℕ) × Contains capacities capacity × (capacity < n))
+
+  -- why they have none, beside the usual table
+  abbrev pub IsOfAsked : {A : Type 0} → Fault → Capacities A → Type 0
+  IsOfAsked fault capacities = (table : List ℕ) × (marked : List ℕ) × IsUsualOn curve.size table marked
+      × IsOfCapacities fault (capacities_on capacities table)

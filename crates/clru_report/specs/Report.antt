@@ -1,12 +1,14 @@
 -- What is written for an input. The numbers are those of the definitions of requests and schedules: no cache is in sight.
-use Rattle.std.specs.Prelude.{◌≡◌, ℕ, ◌-◌, ◌^◌, Bool, true, false, List, length, map, reverse, None, Some, IsSomeAnd, bytes_eq}
+use Rattle.std.specs.Prelude.{◌≡◌, ℕ, ◌-◌, ◌/◌, ◌^◌, Bool, true, false, List, length, map, reverse, None, Some, IsSomeAnd, bytes_eq}
 use Rattle.std.specs.Int.NonZero.{non_zero_usize_get}
 use Rattle.std.specs.List.{All}
 use Rattle.clru_model.specs.Requests.{distinct, misses}
 use Rattle.clru_model.specs.Floor.{floor_misses}
 use Rattle.clru_model.specs.Least.{IsLeast}
 use Rattle.clru_lines.specs.Lines.{lines_of}
-use Rattle.clru_report.specs.Capacities.{capacities_of}
+use Rattle.clru_report.specs.Capacities.{capacities_of, usual}
+use Rattle.clru_report.specs.Faithful.{IsFaithful}
+use Rattle.clru_report.specs.Knees.{knees}
 use Rattle.clru_report.specs.Samples.{kept_of, numbers_of, numbers_times, times}
 use Rattle.clru_report.specs.SizedReport.{IsReportBySizeOf}
 use Rattle.clru_report.specs.Tables.{HasTable, capacity_of_row, table_text, summary_text}
@@ -37,12 +39,24 @@ module _ {K : Type 0} (eq : K → K → Bool) (requests : List K) where
   abbrev pub AreRows : Bool → Bool → List ℕ → List Row → Type 0
   AreRows least floor capacities rows = (map capacity_of_row rows ≡ capacities) × All (IsRow least floor) rows
 
--- the table of these requests, where two keys are the same if their bytes are
+-- two keys are the same if their bytes are
+abbrev pub misses_of : List (List ℕ) → ℕ → ℕ
+misses_of requests c = misses bytes_eq c requests
+
+-- the usual table of these requests: between its rows the misses are near the straight line, by a fiftieth of the whole
+abbrev pub IsUsualTable : ℕ → List (List ℕ) → List ℕ → Type 0
+IsUsualTable whole requests table = IsFaithful (misses_of requests) whole (usual (distinct bytes_eq (reverse requests))) table
+
+-- the capacities that are asked for
+abbrev pub capacities_asked : {A : Type 0} → Options A → List (List ℕ) → List ℕ → List ℕ
+capacities_asked options requests table =
+    capacities_of options.capacities (misses_of requests) (distinct bytes_eq (reverse requests)) table
+
+-- the table of these requests; whatever its rows, the knees are those of the usual one
 abbrev pub IsTable : {A : Type 0} → Options A → List (List ℕ) → List ℕ → Type 0
-IsTable options requests text = (rows : List Row)
-    × AreRows bytes_eq requests options.least options.floor
-    (capacities_of options.capacities (λ c. misses bytes_eq c requests) (distinct bytes_eq (reverse requests))) rows
-    × (text ≡ table_text options.least options.floor (length requests) rows)
+IsTable options requests text = (table : List ℕ) × (rows : List Row) × IsUsualTable (length requests) requests table
+    × AreRows bytes_eq requests options.least options.floor (capacities_asked options requests table) rows
+    × (text ≡ table_text options.least options.floor (length requests) (knees (misses_of requests) (length requests) table) rows)
 
 -- a picture that has the table in its description; of what is drawn no clause says anything
 abbrev pub IsPicture : {A : Type 0} → Options A → List (List ℕ) → List ℕ → Type 0
@@ -55,16 +69,20 @@ IsInForm Summary options input text =
     text ≡ summary_text (length (lines_of input)) (distinct bytes_eq (reverse (lines_of input))) (length input)
 
 -- the rows that kept requests tell of all, of which there are so many; the capacities that are asked for are those for the kept ones
-abbrev pub AreRowsOfSample : {A : Type 0} → Options A → Bool → ℕ → ℕ → List (List ℕ) → List Row → Type 0
-AreRowsOfSample options floor n all kept shown = (rows : List Row)
-    × AreRows bytes_eq kept false floor
-    (capacities_of options.capacities (λ c. misses bytes_eq c kept) (distinct bytes_eq (reverse kept))) rows
+abbrev pub AreRowsOfSample : {A : Type 0} → Options A → Bool → ℕ → ℕ → List (List ℕ) → List ℕ → List Row → Type 0
+AreRowsOfSample options floor n all kept table shown = (rows : List Row)
+    × AreRows bytes_eq kept false floor (capacities_asked options kept table) rows
     × (map numbers_of shown ≡ map (numbers_times n all) rows)
 
--- the table of such rows
+-- the knees of the kept requests, as told of all
+abbrev pub knees_of_sample : ℕ → ℕ → List (List ℕ) → List ℕ → List ℕ
+knees_of_sample n all kept table = map (times n (2 ^ 64 - 1)) (knees (misses_of kept) (all / n) table)
+
+-- the table of such rows; to the usual table of the kept requests the whole is the part of all that they stand for
 abbrev pub IsTableOfSample : {A : Type 0} → Options A → ℕ → ℕ → List (List ℕ) → List ℕ → Type 0
-IsTableOfSample options n all kept text =
-    (shown : List Row) × AreRowsOfSample options options.floor n all kept shown × (text ≡ table_text false options.floor all shown)
+IsTableOfSample options n all kept text = (table : List ℕ) × (shown : List Row) × IsUsualTable (all / n) kept table
+    × AreRowsOfSample options options.floor n all kept table shown
+    × (text ≡ table_text false options.floor all (knees_of_sample n all kept table) shown)
 
 abbrev pub IsPictureOfSample : {A : Type 0} → Options A → ℕ → ℕ → List (List ℕ) → List ℕ → Type 0
 IsPictureOfSample options n all kept text =

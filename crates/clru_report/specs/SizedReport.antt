@@ -1,12 +1,14 @@
 -- What is written for lines that begin with sizes, where capacities are sums of sizes. The numbers are those of the definitions
 -- of requests by size: no cache is in sight.
-use Rattle.std.specs.Prelude.{◌≡◌, ℕ, ◌-◌, ◌^◌, ◌≤◌, nat_le, Bool, true, false, List, length, map, min, reverse, None, Some, bytes_eq}
+use Rattle.std.specs.Prelude.{◌≡◌, ℕ, ◌-◌, ◌/◌, ◌^◌, ◌≤◌, nat_le, Bool, true, false, List, length, map, min, reverse, None, Some, bytes_eq}
 use Rattle.std.specs.Int.NonZero.{non_zero_usize_get}
 use Rattle.std.specs.List.{All, filter}
 use Rattle.clru_model.specs.Floor.{floor_misses, floor_missed_size}
 use Rattle.clru_model.specs.Requests.{distinct}
 use Rattle.clru_model.specs.Sizes.{total, misses_by_size, missed_size as missed_size_of}
-use Rattle.clru_report.specs.Capacities.{sized_capacities_of}
+use Rattle.clru_report.specs.Capacities.{sized_capacities_of, usual_from}
+use Rattle.clru_report.specs.Faithful.{IsFaithful}
+use Rattle.clru_report.specs.Knees.{knees}
 use Rattle.clru_report.specs.Refusals.{fault_from, fault_of}
 use Rattle.clru_report.specs.Samples.{kept_of, sized_numbers_of, sized_numbers_times, times}
 use Rattle.clru_report.specs.Sizes.{HaveSizes, greatest_size, size_of_lines, weight_of_line}
@@ -41,12 +43,26 @@ module _ (lines : List (List ℕ)) where
   abbrev pub AreSizedRows : Bool → List ℕ → List SizedRow → Type 0
   AreSizedRows floor capacities rows = (map capacity_of_sized_row rows ≡ capacities) × All (IsSizedRow floor) rows
 
--- the table of these lines, each of which has a size
+-- what misses at a capacity, in bytes
+abbrev pub missed_of : List (List ℕ) → ℕ → ℕ
+missed_of lines c = missed_size_of bytes_eq weight_of_line c lines
+
+-- the usual table of these lines: between its rows the missed bytes are near the straight line, by a fiftieth of the whole
+abbrev pub IsSizedUsualTable : ℕ → List (List ℕ) → List ℕ → Type 0
+IsSizedUsualTable whole lines table =
+    IsFaithful (missed_of lines) whole (usual_from (greatest_size lines) (distinct_size lines)) table
+
+-- the capacities that are asked for
+abbrev pub sized_capacities_asked : {A : Type 0} → Options A → List (List ℕ) → List ℕ → List ℕ
+sized_capacities_asked options lines table = sized_capacities_of options.capacities
+    (λ c. misses_by_size bytes_eq weight_of_line c lines) (greatest_size lines) (distinct_size lines) table
+
+-- the table of these lines, each of which has a size; whatever its rows, the knees are those of the usual one
 abbrev pub IsSizedTable : {A : Type 0} → Options A → List (List ℕ) → List ℕ → Type 0
-IsSizedTable options lines text = (rows : List SizedRow)
-    × AreSizedRows lines options.floor (sized_capacities_of options.capacities (λ c. misses_by_size bytes_eq weight_of_line c lines)
-    (greatest_size lines) (distinct_size lines)) rows
-    × (text ≡ sized_table_text options.floor (length lines) (size_of_lines lines) rows)
+IsSizedTable options lines text = (table : List ℕ) × (rows : List SizedRow) × IsSizedUsualTable (size_of_lines lines) lines table
+    × AreSizedRows lines options.floor (sized_capacities_asked options lines table) rows
+    × (text ≡ sized_table_text options.floor (length lines) (size_of_lines lines)
+    (knees (missed_of lines) (size_of_lines lines) table) rows)
 
 -- a picture that has the table in its description; of what is drawn no clause says anything
 abbrev pub IsSizedPicture : {A : Type 0} → Options A → List (List ℕ) → List ℕ → Type 0
@@ -68,10 +84,9 @@ IsReportBySize options input lines text =
     HaveSizes lines × (fault_of options lines ≡ None) × IsInFormBySize options.form options input lines text
 
 -- the capacities for the lines that were kept: at one below the greatest of their sizes they have no row
-abbrev pub sized_capacities_of_sample : {A : Type 0} → Options A → List (List ℕ) → List ℕ
-sized_capacities_of_sample options kept = filter (λ c. nat_le (greatest_size kept) c)
-    (sized_capacities_of options.capacities (λ c. misses_by_size bytes_eq weight_of_line c kept)
-    (greatest_size kept) (distinct_size kept))
+abbrev pub sized_capacities_of_sample : {A : Type 0} → Options A → List (List ℕ) → List ℕ → List ℕ
+sized_capacities_of_sample options kept table =
+    filter (λ c. nat_le (greatest_size kept) c) (sized_capacities_asked options kept table)
 
 -- the summary of lines of which one key in n was kept; the greatest size is that of the kept ones
 abbrev pub summary_by_size_of_sample : List ℕ → ℕ → ℕ → ℕ → List (List ℕ) → List ℕ
@@ -82,13 +97,20 @@ summary_by_size_of_sample input n all size kept = sized_summary_text all
 -- what such lines tell of all, of which there are so many of this size together
 module _ {A : Type 0} (options : Options A) (n all size : ℕ) (kept : List (List ℕ)) where
   -- the rows of the kept lines, as told of all
-  abbrev pub AreSizedRowsOfSample : List SizedRow → Type 0
-  AreSizedRowsOfSample shown = (rows : List SizedRow) × AreSizedRows kept options.floor (sized_capacities_of_sample options kept) rows
+  abbrev pub AreSizedRowsOfSample : List ℕ → List SizedRow → Type 0
+  AreSizedRowsOfSample table shown = (rows : List SizedRow)
+      × AreSizedRows kept options.floor (sized_capacities_of_sample options kept table) rows
       × (map sized_numbers_of shown ≡ map (sized_numbers_times n all size) rows)
 
-  -- the table of such rows
+  -- the knees of the kept lines, as told of all
+  abbrev pub sized_knees_of_sample : List ℕ → List ℕ
+  sized_knees_of_sample table = map (times n (2 ^ 64 - 1)) (knees (missed_of kept) (size / n) table)
+
+  -- the table of such rows; to the usual table of the kept lines the whole is the part of all that they stand for
   abbrev pub IsSizedTableOfSample : List ℕ → Type 0
-  IsSizedTableOfSample text = (shown : List SizedRow) × AreSizedRowsOfSample shown × (text ≡ sized_table_text options.floor all size shown)
+  IsSizedTableOfSample text = (table : List ℕ) × (shown : List SizedRow) × IsSizedUsualTable (size / n) kept table
+      × AreSizedRowsOfSample table shown
+      × (text ≡ sized_table_text options.floor all size (sized_knees_of_sample table) shown)
 
   abbrev pub IsSizedPictureOfSample : List ℕ → Type 0
   IsSizedPictureOfSample text = (table : List ℕ) × IsSizedTableOfSample table × HasTable table text

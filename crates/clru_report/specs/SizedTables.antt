@@ -1,25 +1,16 @@
 -- The text of a table by size. Public clauses cite it.
 use Rattle.std.specs.Prelude.{ℕ, ◌-◌, Bool, if◌then◌else◌, List, [], ◌∷◌, ◌++◌, Option, None, Some, codes, decimal}
 use Rattle.std.specs.Int.NonZero.{non_zero_usize_get}
-use Rattle.clru_report.specs.Knees.{is_knee_before, point}
-use Rattle.clru_report.specs.Tables.{fraction_text, millionths, misses_of_point, row_end}
-use Rattle.clru_report.specs.declared.knees.Point.{Point}
+use Rattle.clru_report.specs.Knees.{is_among}
+use Rattle.clru_report.specs.Tables.{fraction_text, millionths, row_end}
 use Rattle.clru_report.specs.declared.sized.floors.RowFloor.{RowFloor}
 use Rattle.clru_report.specs.declared.sized.rows.SizedRow.{SizedRow}
 
 abbrev pub capacity_of_sized_row : SizedRow → ℕ
 capacity_of_sized_row row = non_zero_usize_get row.capacity
 
-abbrev pub point_of_sized_row : SizedRow → Point
-point_of_sized_row row = point (capacity_of_sized_row row) row.misses
-
 abbrev pub row_floor : ℕ → ℕ → RowFloor
 row_floor n s = record { misses = n; missed_size = s }
-
--- that of the first of these rows, if there is one
-abbrev pub first_sized_point : List SizedRow → Option Point
-first_sized_point [] = None
-first_sized_point (row ∷ rows) = Some (point_of_sized_row row)
 
 -- both floors, where they are there, and the end of a line
 abbrev pub with_floor : Option RowFloor → List ℕ → List ℕ
@@ -35,23 +26,21 @@ sized_row_line requests size capacity missed knee row = decimal (capacity_of_siz
     ++ (fraction_text (millionths row.missed_size size)
     ++ with_floor row.floor (row_end (missed - row.missed_size) (capacity_of_sized_row row - capacity) knee)))))))))
 
--- the lines of these rows, behind a row of that point and missed size
-abbrev pub sized_rows_text : ℕ → ℕ → ℕ → Point → ℕ → List SizedRow → List ℕ
-sized_rows_text requests size whole before missed [] = []
-sized_rows_text requests size whole before missed (row ∷ rows) =
-    sized_row_line requests size before.capacity missed
-    (is_knee_before whole before (point_of_sized_row row) (first_sized_point rows)) row
-    ++ sized_rows_text requests size whole (point_of_sized_row row) row.missed_size rows
+-- the lines of these rows, behind a row of that capacity and missed size; those at a knee are marked
+abbrev pub sized_rows_text : ℕ → ℕ → List ℕ → ℕ → ℕ → List SizedRow → List ℕ
+sized_rows_text requests size knees capacity missed [] = []
+sized_rows_text requests size knees capacity missed (row ∷ rows) =
+    sized_row_line requests size capacity missed (is_among knees (capacity_of_sized_row row)) row
+    ++ sized_rows_text requests size knees (capacity_of_sized_row row) row.missed_size rows
 
 abbrev pub sized_header_line : Bool → List ℕ
 sized_header_line floor = if floor
     then codes "capacity,misses,miss_ratio,missed_bytes,byte_miss_ratio,floor_misses,floor_missed_bytes,saved_per_byte,knee\n"
     else codes "capacity,misses,miss_ratio,missed_bytes,byte_miss_ratio,saved_per_byte,knee\n"
 
--- the table with these rows; with room for nothing all is missed
-abbrev pub sized_table_text : Bool → ℕ → ℕ → List SizedRow → List ℕ
-sized_table_text floor requests size rows = sized_header_line floor
-    ++ sized_rows_text requests size (misses_of_point (first_sized_point rows)) (point 0 requests) size rows
+-- the table with these rows and knees; with room for nothing all is missed
+abbrev pub sized_table_text : Bool → ℕ → ℕ → List ℕ → List SizedRow → List ℕ
+sized_table_text floor requests size knees rows = sized_header_line floor ++ sized_rows_text requests size knees 0 size rows
 
 -- numbers with commas between them
 abbrev pub three_numbers : ℕ → ℕ → ℕ → List ℕ

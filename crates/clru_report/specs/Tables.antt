@@ -1,8 +1,9 @@
 -- The text of a table. Public clauses cite it.
 use Rattle.std.specs.Prelude.{ℕ, ◌≡◌, ◌+◌, ◌-◌, ◌*◌, ◌/◌, ◌%◌, Bool, List, [], ◌∷◌, ◌++◌, Option, None, Some, codes, decimal, max, if◌then◌else◌}
 use Rattle.std.specs.Int.NonZero.{non_zero_usize_get}
-use Rattle.clru_report.specs.Knees.{is_knee_before, point}
-use Rattle.clru_report.specs.declared.knees.Point.{Point}
+use Rattle.clru_report.specs.Faithful.{point}
+use Rattle.clru_report.specs.Knees.{is_among}
+use Rattle.clru_report.specs.declared.faithful.Point.{Point}
 use Rattle.clru_report.specs.declared.rows.Row.{Row}
 
 abbrev pub capacity_of_row : Row → ℕ
@@ -19,16 +20,6 @@ fraction_text m = decimal (m / 1000000) ++ (codes "." ++ (decimal (m / 100000 % 
 
 abbrev pub point_of_row : Row → Point
 point_of_row row = point (capacity_of_row row) row.misses
-
--- that of the first of these rows, if there is one
-abbrev pub first_point : List Row → Option Point
-first_point [] = None
-first_point (row ∷ rows) = Some (point_of_row row)
-
--- what misses at a point, if there is one
-abbrev pub misses_of_point : Option Point → ℕ
-misses_of_point None = 0
-misses_of_point (Some here) = here.misses
 
 -- how many fewer a row misses than the one before, for each unit of capacity between both, and 1 where it is a knee
 abbrev pub row_end : ℕ → ℕ → Bool → List ℕ
@@ -47,12 +38,11 @@ row_line requests before knee row = decimal (capacity_of_row row) ++ (codes "," 
     ++ with_number row.least (with_number row.floor
     (row_end (before.misses - row.misses) (capacity_of_row row - before.capacity) knee))))))
 
--- the lines of these rows; a knee is one by the row before it and the one behind it
-abbrev pub rows_text : ℕ → ℕ → Point → List Row → List ℕ
-rows_text requests whole before [] = []
-rows_text requests whole before (row ∷ rows) =
-    row_line requests before (is_knee_before whole before (point_of_row row) (first_point rows)) row
-    ++ rows_text requests whole (point_of_row row) rows
+-- the lines of these rows, of which those at a knee are marked
+abbrev pub rows_text : ℕ → List ℕ → Point → List Row → List ℕ
+rows_text requests knees before [] = []
+rows_text requests knees before (row ∷ rows) =
+    row_line requests before (is_among knees (capacity_of_row row)) row ++ rows_text requests knees (point_of_row row) rows
 
 abbrev pub header_line : Bool → Bool → List ℕ
 header_line least floor = if least
@@ -61,10 +51,9 @@ header_line least floor = if least
     else (if floor then codes "capacity,misses,miss_ratio,floor_misses,saved_per_key,knee\n"
     else codes "capacity,misses,miss_ratio,saved_per_key,knee\n")
 
--- the table with these rows; with room for nothing all requests miss
-abbrev pub table_text : Bool → Bool → ℕ → List Row → List ℕ
-table_text least floor requests rows =
-    header_line least floor ++ rows_text requests (misses_of_point (first_point rows)) (point 0 requests) rows
+-- the table with these rows and knees; with room for nothing all requests miss
+abbrev pub table_text : Bool → Bool → ℕ → List ℕ → List Row → List ℕ
+table_text least floor requests knees rows = header_line least floor ++ rows_text requests knees (point 0 requests) rows
 
 -- the summary of so many requests for so many keys
 abbrev pub summary_text : ℕ → ℕ → ℕ → List ℕ

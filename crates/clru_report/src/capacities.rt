@@ -4,25 +4,22 @@ ghost use Rattle.std.specs.Int.NonZero.{non_zero_usize_get};
 ghost use Rattle.clru_curve.specs.Curves.{misses_at};
 ghost use Rattle.clru_report.specs.Capacities.{capacities_of, falls, is_fall, round_number, usual};
 
-use crate::knees::{ByKeys, with_knees};
 use crate::options::Capacities;
 use std::alloc::{AllocError, Allocator};
 use std::num::NonZeroUsize;
 
-/// The capacities for a curve, which is given as its misses at 1, 2 and so on.
+/// The capacities for a curve, which is given as its misses at 1, 2 and so on, where its usual table has these.
 pub(crate) fn capacities_for<A: Allocator + Copy>(
     alloc: A,
     capacities: &Capacities<A>,
     curve: &[usize],
+    table: &[NonZeroUsize],
 ) -> Result<Vec<NonZeroUsize, A>, AllocError>
     ensures { IfOk result (λ chosen. map non_zero_usize_get chosen.items
-        ≡ capacities_of capacities.now (misses_at curve.now) (length curve.now)) }
+        ≡ capacities_of capacities.now (misses_at curve.now) (length curve.now) (map non_zero_usize_get table.now)) }
 {
     match capacities {
-        Capacities::Usual => {
-            let usual = usual_capacities(alloc, curve.len())?;
-            with_knees(alloc, &ByKeys(curve), &usual)
-        }
+        Capacities::Usual => Vec::from_slice(alloc, table),
         Capacities::Each => each_fall(alloc, curve),
         Capacities::Named(named) => Vec::from_slice(alloc, named),
     }

@@ -7,8 +7,8 @@ clru_mrc computes how many requests an LRU cache of each capacity would miss.
 Give it requests on standard input, one a line: the key is the line's bytes.
 It writes a table as CSV: capacity, misses, misses as a part of all requests,
 misses saved for each key since the row before (with --sizes missed bytes for
-each byte), and 1 if misses fall steeply just before this row. The mark depends
-on which rows are shown.
+each byte), and 1 if misses fall steeply just before this row, whichever rows
+are shown. Between the usual rows you may interpolate.
 
     awk '$6 == \"\\\"GET\" && ($9 == 200 || $9 == 304) { print $7 }' access.log > keys
     clru_mrc < keys
@@ -17,9 +17,10 @@ on which rows are shown.
     clru_mrc --sizes --at 500MB,1.5GB < sized
 
     --at N,N,..  these capacities, in keys; else 1, 2, 5, 10, 20, 50 ..
-                 up to the number of distinct keys, and the knees; numbers may
-                 have units, and then decimals, as 500MB, 1.5G or 64MiB: K, M, G,
-                 T (also KB ..) by 1000, KiB, MiB, GiB, TiB by 1024
+                 up to the number of distinct keys, and where falls begin and
+                 end; numbers may have units, and then decimals, as 500MB, 1.5G
+                 or 64MiB: K, M, G, T (also KB ..) by 1000, KiB, MiB, GiB, TiB
+                 by 1024
     --all        each capacity at which the misses fall
     --sizes      each line begins with the object's size and a blank, and is the
                  key as a whole; capacities are in bytes, from the greatest

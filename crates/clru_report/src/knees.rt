@@ -1,175 +1,126 @@
-//! Knees: the capacities just right of a steep fall.
-ghost use Rattle.std.specs.Prelude.{◌≡◌, ◌<◌, ◌*◌, ◌-◌, ◌++◌, ℕ, map, IfOk, OnOk};
+//! The usual table of a curve, and its knees: the rows at which a fall ends.
+ghost use Rattle.std.specs.Prelude.{◌≡◌, ◌*◌, ◌+◌, ◌^◌, ◌++◌, ◌<◌, [], ◌∷◌, map, nat_lt, if◌then◌else◌, IfOk, OnOk};
 ghost use Rattle.std.specs.Int.NonZero.{non_zero_usize_get};
-ghost use Rattle.clru_curve.specs.Curves.{misses_at};
-ghost use Rattle.clru_report.specs.Knees.{best, beyond as beyond_line, is_knee as is_a_knee, is_sharp as is_a_sharp, knee_between, point_at, with_knees as with_the_knees};
+ghost use Rattle.clru_report.specs.Faithful.{AreWithAdded, point_at};
+ghost use Rattle.clru_report.specs.Knees.{is_among, is_foot as is_a_foot, knees};
 
-use crate::capacities::push_capacity;
+use crate::faithful::{Curve, Point, faithful_table, product};
 use std::alloc::{AllocError, Allocator};
 use std::num::NonZeroUsize;
 
-/// A capacity, and how many requests miss there.
-#[derive(Clone, Copy, Debug, PartialEq, Eq)]
-pub struct Point {
-    pub capacity: usize,
-    pub misses: usize,
+/// The capacities of the usual table of a curve, and which of them are knees.
+#[derive(Drop)]
+pub(crate) struct UsualTable<A: Allocator> {
+    pub(crate) capacities: Vec<NonZeroUsize, A>,
+    pub(crate) knees: Vec<usize, A>,
 }
 
-/// A curve, whatever its capacities count.
-pub(crate) trait Falling {
-    /// The misses at each capacity.
-    ghost misses: { Self → ℕ → ℕ };
-
-    fn point_of(&self, capacity: usize) -> Point
-        ensures { result ≡ point_at (misses self.now) capacity };
-
-    /// Of the capacities from `a` up to `b` the one that saves most beyond the straight line between both, the least of
-    /// several.
-    fn best_between(&self, a: usize, b: usize) -> usize
-        ensures { result ≡ best (misses self.now) a b (b - a) };
-}
-
-/// A curve that is given as its misses at 1, 2 and so on.
-#[derive(Clone, Copy)]
-pub(crate) struct ByKeys<'a>(pub(crate) &'a [usize]);
-
-impl<'a> Falling for ByKeys<'a> {
-    ghost misses = { λ curve. misses_at curve.0.now };
-
-    fn point_of(&self, capacity: usize) -> Point {
-        point_by_keys(self.0, capacity)
-    }
-
-    fn best_between(&self, a: usize, b: usize) -> usize {
-        best_by_keys(self.0, a, b)
-    }
-}
-
-fn point_by_keys(curve: &[usize], capacity: usize) -> Point
-    ensures { result ≡ point_at (misses_at curve.now) capacity }
-{
-    Point {
-        capacity,
-        misses: misses_by_keys(curve, capacity),
-    }
-}
-
-fn misses_by_keys(curve: &[usize], capacity: usize) -> usize
-    ensures { result ≡ misses_at curve.now capacity }
-{
-    let index = capacity.saturating_sub(1);
-    if index < curve.len() {
-        curve[index]
-    } else {
-        curve.len()
-    }
-}
-
-fn best_by_keys(curve: &[usize], a: usize, b: usize) -> usize
-    ensures { result ≡ best (misses_at curve.now) a b (b - a) }
-{
-    if b <= a {
-        return a;
-    }
-    let start = point_by_keys(curve, a);
-    let end = point_by_keys(curve, b);
-    let mut best = a;
-    let mut most = 0;
-    for capacity in a..b {
-        let found = beyond(start, end, point_by_keys(curve, capacity));
-        if found > most {
-            best = capacity;
-            most = found;
-        }
-    }
-    best
-}
-
-/// What a point saves beyond the straight line from `a` to `b`, times the length of that line.
-pub(crate) fn beyond(a: Point, b: Point, c: Point) -> u128
-    ensures { result ≡ beyond_line a b c }
-{
-    let length = b.capacity.saturating_sub(a.capacity);
-    let saved = product(a.misses.saturating_sub(c.misses), length);
-    let at_line = product(
-        a.misses.saturating_sub(b.misses),
-        c.capacity.saturating_sub(a.capacity),
-    );
-    saved.saturating_sub(at_line)
-}
-
-// It is below 2^128.
-fn product(a: usize, b: usize) -> u128
-    ensures { result ≡ a * b }
-{
-    a as u128 * b as u128
-}
-
-/// Whether a point saves a fiftieth of the whole, or more, beyond the straight line from `a` to `b`.
-pub(crate) fn is_knee(whole: usize, a: Point, b: Point, c: Point) -> bool
-    ensures { result ≡ is_a_knee whole a b c }
-{
-    let saved = beyond(a, b, c);
-    let length = b.capacity.saturating_sub(a.capacity);
-    saved > 0 && product(whole, length) / 50 <= saved
-}
-
-/// Whether for each unit more is saved up to a point than behind it, by `b / a` times or more.
-pub(crate) fn is_sharp(a: Point, b: Point, c: Point) -> bool
-    ensures { result ≡ is_a_sharp a b c }
-{
-    let behind = product(
-        c.misses.saturating_sub(b.misses),
-        c.capacity.saturating_sub(a.capacity),
-    );
-    let before = product(
-        a.misses.saturating_sub(c.misses),
-        b.capacity.saturating_sub(c.capacity),
-    );
-    behind / a.capacity.max(1) as u128 <= before / b.capacity.max(1) as u128
-}
-
-/// The capacities, which rise, and between each two the knee that saves most, if there is one.
-pub(crate) fn with_knees<C: Falling, A: Allocator>(
+/// Returns the faithful table of these capacities, and its knees.
+pub(crate) fn table_with_knees<C: Curve, A: Allocator + Copy>(
     alloc: A,
     curve: &C,
+    whole: usize,
     capacities: &[NonZeroUsize],
-) -> Result<Vec<NonZeroUsize, A>, AllocError>
-    ensures { IfOk result (λ chosen. map non_zero_usize_get chosen.items
-        ≡ with_the_knees (C.misses curve.now) (map non_zero_usize_get capacities.now)) }
+) -> Result<UsualTable<A>, AllocError>
+    ensures table { IfOk result (λ t. AreWithAdded (C.misses curve.now) whole
+        (map non_zero_usize_get capacities.now) (map non_zero_usize_get t.capacities.items)) }
+    ensures knees { IfOk result (λ t. t.knees.items
+        ≡ knees (C.misses curve.now) whole (map non_zero_usize_get t.capacities.items)) }
 {
-    let mut chosen = Vec::new(alloc);
-    let Some((first, more)) = capacities.split_first() else {
-        return Ok(chosen);
-    };
-    let mut before = first.get();
-    let whole = curve.point_of(before).misses;
-    push_capacity(&mut chosen, before)?;
-    for capacity in more {
-        let next = capacity.get();
-        push_knee(&mut chosen, curve, whole, before, next)?;
-        push_capacity(&mut chosen, next)?;
-        before = next;
-    }
-    Ok(chosen)
+    let table = faithful_table(alloc, curve, whole, capacities)?;
+    let knees = knees_of(alloc, curve, whole, &table)?;
+    Ok(UsualTable {
+        capacities: table,
+        knees,
+    })
 }
 
-fn push_knee<C: Falling, A: Allocator>(
-    chosen: &mut Vec<NonZeroUsize, A>,
+/// Returns whether a capacity is one of the knees.
+pub(crate) fn is_knee(knees: &[usize], capacity: usize) -> bool
+    ensures { result ≡ is_among knees.now capacity }
+{
+    knees.contains(&capacity)
+}
+
+// Returns the knees of a table.
+fn knees_of<C: Curve, A: Allocator>(
+    alloc: A,
+    curve: &C,
+    whole: usize,
+    table: &[NonZeroUsize],
+) -> Result<Vec<usize, A>, AllocError>
+    ensures { IfOk result (λ found. found.items ≡ knees (C.misses curve.now) whole (map non_zero_usize_get table.now)) }
+{
+    let mut found = Vec::new(alloc);
+    let Some((first, more)) = table.split_first() else {
+        return Ok(found);
+    };
+    let Some((second, rest)) = more.split_first() else {
+        return Ok(found);
+    };
+    let mut before = first.get();
+    let mut here = second.get();
+    for capacity in rest {
+        let next = capacity.get();
+        push_if_foot(&mut found, curve, whole, before, here, next)?;
+        before = here;
+        here = next;
+    }
+    Ok(found)
+}
+
+fn push_if_foot<C: Curve, A: Allocator>(
+    found: &mut Vec<usize, A>,
     curve: &C,
     whole: usize,
     a: usize,
+    c: usize,
     b: usize,
 ) -> Result<(), AllocError>
-    requires { 0 < a }
-    ensures { OnOk result (map non_zero_usize_get chosen.new.items
-        ≡ map non_zero_usize_get chosen.old.items ++ knee_between (C.misses curve.now) whole a b) }
+    ensures { OnOk result (found.new.items ≡ found.old.items
+        ++ (if is_a_foot whole (point_at (C.misses curve.now) a) (point_at (C.misses curve.now) c) (point_at (C.misses curve.now) b)
+        then c ∷ [] else [])) }
 {
-    let best = curve.best_between(a, b);
-    let start = curve.point_of(a);
-    let end = curve.point_of(b);
-    if is_knee(whole, start, end, curve.point_of(best)) {
-        push_capacity(chosen, best)?;
+    let before = curve.point_of(a);
+    let here = curve.point_of(c);
+    let next = curve.point_of(b);
+    if is_foot(whole, before, here, next) {
+        found.push(c)?;
     }
     Ok(())
 }
+
+fn is_foot(whole: usize, before: Point, here: Point, next: Point) -> bool
+    ensures { result ≡ is_a_foot whole before here next }
+{
+    let saved = before.misses.saturating_sub(here.misses);
+    let saved_behind = here.misses.saturating_sub(next.misses);
+    product(saved, 50) >= whole as u128
+        && is_less(
+            product(saved_behind, here.capacity.saturating_sub(before.capacity)),
+            next.capacity,
+            product(saved, next.capacity.saturating_sub(here.capacity)),
+            before.capacity,
+        )
+}
+
+// Whether `x * p` is less than `y * q`, where these are too large for a number.
+fn is_less(x: u128, p: usize, y: u128, q: usize) -> bool
+    ensures { result ≡ nat_lt (x * p) (y * q) }
+{
+    let (high, low) = halves(x, p);
+    let (other_high, other_low) = halves(y, q);
+    high < other_high || high == other_high && low < other_low
+}
+
+// A product in multiples of 2^64, and what is left.
+fn halves(x: u128, p: usize) -> (u128, u128)
+    ensures sum { result.0 * 2 ^ 64 + result.1 ≡ x * p }
+    ensures left { result.1 < 2 ^ 64 }
+{
+    let low = (x % WORD) * p as u128;
+    let high = (x / WORD) * p as u128;
+    (high + low / WORD, low % WORD)
+}
+
+const WORD: u128 = 18_446_744_073_709_551_616;

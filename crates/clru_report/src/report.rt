@@ -9,7 +9,7 @@ ghost use Rattle.clru_report.specs.Report.{IsInForm, IsReport, IsReportByKeys};
 use crate::fault::read_fault;
 use crate::options::{Form, Options, Sample};
 use crate::pass::curve_by_keys;
-use crate::rows::rows_of_all;
+use crate::rows::{rows_of_all, usual_table};
 use crate::sample::text_of_sample;
 use crate::sized::make_sized_report;
 use crate::text::{Counts, text_by_keys};
@@ -82,7 +82,17 @@ fn report_of_all<R: Read, S: BuildHasher + Drop, A: Allocator + Copy>(
         reader,
         hash_builder,
     )?;
-    let Ok(rows) = rows_of_all(alloc, options, &curve, &foresight, &floor) else {
+    let Ok(table) = usual_table(alloc, &curve, requests) else {
+        return Err(ReadError::Memory);
+    };
+    let Ok(rows) = rows_of_all(
+        alloc,
+        options,
+        &curve,
+        &table.capacities,
+        &foresight,
+        &floor,
+    ) else {
         return Err(ReadError::Memory);
     };
     let counts = Counts {
@@ -91,7 +101,16 @@ fn report_of_all<R: Read, S: BuildHasher + Drop, A: Allocator + Copy>(
         distinct: curve.distinct(),
         bytes,
     };
-    match text_by_keys(alloc, options, &curve, &floor, &rows, options.least, counts) {
+    match text_by_keys(
+        alloc,
+        options,
+        &curve,
+        &floor,
+        &rows,
+        &table.knees,
+        options.least,
+        counts,
+    ) {
         Ok(text) => Ok(text),
         Err(_) => Err(ReadError::Memory),
     }

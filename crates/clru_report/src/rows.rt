@@ -5,11 +5,14 @@ ghost use Rattle.std.specs.Str.{bytes_eq};
 ghost use Rattle.clru_curve.specs.Curves.{HasMissesOf, misses_at};
 ghost use Rattle.clru_least.specs.FloorNumbers.{IsFloorOf};
 ghost use Rattle.clru_model.specs.Requests.{distinct};
-ghost use Rattle.clru_report.specs.Passes.{capacities_asked, HasForeseen, IsFloorFor, IsForeseenFor};
-ghost use Rattle.clru_report.specs.Report.{AreRows};
+ghost use Rattle.clru_report.specs.Passes.{HasForeseen, IsFloorFor, IsForeseenFor};
+ghost use Rattle.clru_report.specs.Knees.{knees};
+ghost use Rattle.clru_report.specs.Report.{AreRows, IsUsualTable, capacities_asked, misses_of};
 ghost use Rattle.clru_report.specs.Tables.{capacity_of_row};
 
-use crate::capacities::capacities_for;
+use crate::capacities::{capacities_for, usual_capacities};
+use crate::faithful::ByKeys;
+use crate::knees::{UsualTable, table_with_knees};
 use crate::options::Options;
 use clru_curve::MissCurve;
 use clru_least::{Floor, ForesightPass};
@@ -30,17 +33,35 @@ pub struct Row {
     pub floor: Option<usize>,
 }
 
-// The rows that the options ask for, over the curve of requests, with their misses alone.
+/// Returns the usual table of the curve of requests, to which so many are the whole.
+pub(crate) fn usual_table<A: Allocator + Copy>(
+    alloc: A,
+    curve: &MissCurve<A>,
+    whole: usize,
+) -> Result<UsualTable<A>, AllocError>
+    ensures table { (lines : List (List ℕ)) → HasMissesOf bytes_eq lines curve.now
+        → length curve.now ≡ distinct bytes_eq (reverse lines)
+        → IfOk result (λ t. IsUsualTable whole lines (map non_zero_usize_get t.capacities.items)) }
+    ensures knees { (lines : List (List ℕ)) → HasMissesOf bytes_eq lines curve.now
+        → length curve.now ≡ distinct bytes_eq (reverse lines)
+        → IfOk result (λ t. t.knees.items ≡ knees (misses_of lines) whole (map non_zero_usize_get t.capacities.items)) }
+{
+    let usual = usual_capacities(alloc, curve.distinct())?;
+    table_with_knees(alloc, &ByKeys(curve.as_slice()), whole, &usual)
+}
+
+// The rows that the options ask for, over the curve of requests and its usual table, with their misses alone.
 fn rows_for<A: Allocator + Copy>(
     alloc: A,
     options: &Options<A>,
     curve: &MissCurve<A>,
+    table: &[NonZeroUsize],
 ) -> Result<Vec<Row, A>, AllocError>
     ensures { (lines : List (List ℕ)) → HasMissesOf bytes_eq lines curve.now
-        → length curve.now ≡ distinct bytes_eq (reverse lines)
-        → IfOk result (λ rows. AreRows bytes_eq lines false false (capacities_asked options.now lines) rows.items) }
+        → length curve.now ≡ distinct bytes_eq (reverse lines) → IfOk result (λ rows. AreRows bytes_eq lines false false
+        (capacities_asked options.now lines (map non_zero_usize_get table.now)) rows.items) }
 {
-    let capacities = capacities_for(alloc, &options.capacities, curve.as_slice())?;
+    let capacities = capacities_for(alloc, &options.capacities, curve.as_slice(), table)?;
     rows_at(alloc, curve, &capacities)
 }
 
@@ -77,18 +98,20 @@ fn row_at<A: Allocator>(curve: &MissCurve<A>, capacity: NonZeroUsize) -> Row
     }
 }
 
-/// The rows that the options ask for, over the curve of requests, and with their floor if it is there.
+/// The rows that the options ask for, over the curve of requests and its usual table, and with their floor if it is there.
 pub(crate) fn rows_and_floor<A: Allocator + Copy>(
     alloc: A,
     options: &Options<A>,
     curve: &MissCurve<A>,
+    table: &[NonZeroUsize],
     floor: &Option<Floor<A>>,
 ) -> Result<Vec<Row, A>, AllocError>
     ensures { (lines : List (List ℕ)) (floored : Bool) → HasMissesOf bytes_eq lines curve.now
         → length curve.now ≡ distinct bytes_eq (reverse lines) → IsFloorFor floored lines floor.now
-        → IfOk result (λ rows. AreRows bytes_eq lines false floored (capacities_asked options.now lines) rows.items) }
+        → IfOk result (λ rows. AreRows bytes_eq lines false floored
+        (capacities_asked options.now lines (map non_zero_usize_get table.now)) rows.items) }
 {
-    let rows = rows_for(alloc, options, curve)?;
+    let rows = rows_for(alloc, options, curve, table)?;
     match floor {
         None => Ok(rows),
         Some(floor) => rows_with_floor(alloc, floor, &rows),
@@ -123,15 +146,17 @@ pub(crate) fn rows_of_all<A: Allocator + Copy>(
     alloc: A,
     options: &Options<A>,
     curve: &MissCurve<A>,
+    table: &[NonZeroUsize],
     foresight: &Option<ForesightPass<OwnedKey<A>, A>>,
     floor: &Option<Floor<A>>,
 ) -> Result<Vec<Row, A>, AllocError>
     ensures { (lines : List (List ℕ)) (least floored : Bool) → HasMissesOf bytes_eq lines curve.now
         → length curve.now ≡ distinct bytes_eq (reverse lines) → IsForeseenFor A least lines foresight.now
         → IsFloorFor floored lines floor.now
-        → IfOk result (λ rows. AreRows bytes_eq lines least floored (capacities_asked options.now lines) rows.items) }
+        → IfOk result (λ rows. AreRows bytes_eq lines least floored
+        (capacities_asked options.now lines (map non_zero_usize_get table.now)) rows.items) }
 {
-    let rows = rows_and_floor(alloc, options, curve, floor)?;
+    let rows = rows_and_floor(alloc, options, curve, table, floor)?;
     match foresight {
         None => Ok(rows),
         Some(foresight) => rows_with_least(alloc, foresight, &rows),

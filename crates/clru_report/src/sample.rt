@@ -1,5 +1,5 @@
 //! The text of a report of which one key in some number was kept.
-ghost use Rattle.std.specs.Prelude.{◌≡◌, ℕ, Bool, List, length, map, reverse, IfOk, string_bytes};
+ghost use Rattle.std.specs.Prelude.{◌≡◌, ℕ, ◌-◌, ◌^◌, Bool, List, length, map, reverse, IfOk, string_bytes};
 ghost use Rattle.std.specs.Int.NonZero.{non_zero_usize_get};
 ghost use Rattle.std.specs.Option.{option_map};
 ghost use Rattle.std.specs.Str.{bytes_eq};
@@ -10,7 +10,7 @@ ghost use Rattle.clru_report.specs.Report.{AreRowsOfSample, IsInFormOfSample};
 ghost use Rattle.clru_report.specs.Samples.{fnv, is_kept as is_kept_by, numbers_of, numbers_times, times as times_of};
 
 use crate::options::{Form, Options};
-use crate::rows::{Row, rows_and_floor};
+use crate::rows::{Row, rows_and_floor, usual_table};
 use crate::table::summary_of;
 use crate::text::{Counts, text_by_keys};
 use clru_curve::MissCurve;
@@ -61,14 +61,24 @@ pub(crate) fn text_of_sample<A: Allocator + Copy>(
     if let Form::Summary = options.form {
         return summary_of(alloc, requests, distinct, bytes);
     }
-    let rows = rows_of_sample(alloc, options, curve, floor, one_in, requests)?;
+    let table = usual_table(alloc, curve, requests / one_in.get())?;
+    let rows = rows_of_sample(
+        alloc,
+        options,
+        curve,
+        &table.capacities,
+        floor,
+        one_in,
+        requests,
+    )?;
+    let knees = knees_times(alloc, &table.knees, one_in)?;
     let counts = Counts {
         one_in,
         requests,
         distinct,
         bytes,
     };
-    text_by_keys(alloc, options, curve, floor, &rows, false, counts)
+    text_by_keys(alloc, options, curve, floor, &rows, &knees, false, counts)
 }
 
 // The rows that the options ask for, each as one of all requests.
@@ -76,15 +86,17 @@ fn rows_of_sample<A: Allocator + Copy>(
     alloc: A,
     options: &Options<A>,
     curve: &MissCurve<A>,
+    table: &[NonZeroUsize],
     floor: &Option<Floor<A>>,
     one_in: NonZeroUsize,
     requests: usize,
 ) -> Result<Vec<Row, A>, AllocError>
     ensures { (kept : List (List ℕ)) (floored : Bool) → HasMissesOf bytes_eq kept curve.now
         → length curve.now ≡ distinct bytes_eq (reverse kept) → IsFloorFor floored kept floor.now
-        → IfOk result (λ shown. AreRowsOfSample options.now floored (non_zero_usize_get one_in) requests kept shown.items) }
+        → IfOk result (λ shown. AreRowsOfSample options.now floored (non_zero_usize_get one_in) requests kept
+        (map non_zero_usize_get table.now) shown.items) }
 {
-    let rows = rows_and_floor(alloc, options, curve, floor)?;
+    let rows = rows_and_floor(alloc, options, curve, table, floor)?;
     rows_times(alloc, &rows, one_in, requests)
 }
 
@@ -105,6 +117,21 @@ fn rows_times<A: Allocator>(
             least: None,
             floor: times_some(one_in, requests, row.floor),
         })?;
+    }
+    Ok(shown)
+}
+
+/// Returns the knees of a sample, as told of all requests.
+pub(crate) fn knees_times<A: Allocator>(
+    alloc: A,
+    knees: &[usize],
+    one_in: NonZeroUsize,
+) -> Result<Vec<usize, A>, AllocError>
+    ensures { IfOk result (λ shown. shown.items ≡ map (times_of (non_zero_usize_get one_in) (2 ^ 64 - 1)) knees.now) }
+{
+    let mut shown = Vec::new(alloc);
+    for knee in knees {
+        shown.push(times(one_in, usize::MAX, *knee))?;
     }
     Ok(shown)
 }

@@ -3,14 +3,14 @@ ghost use Rattle.std.specs.Prelude.{◌≡◌, ℕ, List, true, false, IfOk, IfE
 ghost use Rattle.clru_lines.specs.Lines.{lines_of};
 ghost use Rattle.clru_report.specs.Faults.{is_of_writing};
 ghost use Rattle.clru_lines.specs.Whole.{ReadWhole};
-ghost use Rattle.clru_report.specs.Passes.{AreFloorsFor, capacities_on, IsOfCapacities, IsSettled, IsSizedCurveOfKept, IsTableOf, wants_floor};
+ghost use Rattle.clru_report.specs.Passes.{AreFloorsFor, IsOfAsked, IsSettled, IsSizedCurveOfKept, IsTableOf, wants_floor};
 ghost use Rattle.clru_report.specs.Refusals.{is_of_input, IsRefusedBy, IsRefusedFor};
 ghost use Rattle.clru_report.specs.SizedReport.{IsReportBySize, IsReportBySizeOf};
 ghost use Rattle.clru_report.specs.Tables.{HasTable};
 
 mod capacities;
+mod faithful;
 mod floors;
-mod knees;
 mod line;
 mod pass;
 mod rows;
@@ -22,6 +22,7 @@ use crate::picture::picture_by_size;
 use crate::report::asks_for_floor;
 use crate::sample::times;
 pub(crate) use capacities::first_capacity;
+use capacities::sized_usual_table;
 use clru_curve::SizedCurve;
 use clru_lines::Fault;
 pub(crate) use floors::Floors;
@@ -175,13 +176,23 @@ fn sized_table_for<A: Allocator + Copy>(
     floors: &Option<Floors<A>>,
 ) -> Result<String<A>, Fault>
     requires { IsSettled curve.now }
-    ensures table { IfOk result (λ text. IsTableOf curve.now floors.now options.now.floor
-        (capacities_on curve.now options.now.capacities) (string_bytes text)) }
-    ensures refused { IfErr result (λ fault.
-        IsOfCapacities curve.now fault (capacities_on curve.now options.now.capacities)) }
+    ensures table { IfOk result (λ text. IsTableOf curve.now floors.now options.now.floor options.now.capacities
+        (string_bytes text)) }
+    ensures refused { IfErr result (λ fault. is_of_input fault ≡ true → IsOfAsked curve.now fault options.now.capacities) }
+    ensures fault { IfErr result (λ fault. is_of_writing fault ≡ false) }
 {
-    let rows = sized_rows_for(alloc, curve, floors, &options.capacities)?;
-    match sized_table_of(alloc, &rows, curve.requests(), curve.size(), options.floor) {
+    let Ok(table) = sized_usual_table(alloc, curve, curve.size()) else {
+        return Err(Fault::Memory);
+    };
+    let rows = sized_rows_for(alloc, curve, floors, &options.capacities, &table.capacities)?;
+    match sized_table_of(
+        alloc,
+        &rows,
+        &table.knees,
+        curve.requests(),
+        curve.size(),
+        options.floor,
+    ) {
         Ok(text) => Ok(text),
         Err(_) => Err(Fault::Memory),
     }
@@ -196,9 +207,9 @@ fn sized_picture_for<A: Allocator + Copy>(
 ) -> Result<String<A>, Fault>
     requires { IsSettled curve.now }
     ensures picture { IfOk result (λ text. (table : List ℕ) × IsTableOf curve.now floors.now options.now.floor
-        (capacities_on curve.now options.now.capacities) table × HasTable table (string_bytes text)) }
-    ensures refused { IfErr result (λ fault.
-        IsOfCapacities curve.now fault (capacities_on curve.now options.now.capacities)) }
+        options.now.capacities table × HasTable table (string_bytes text)) }
+    ensures refused { IfErr result (λ fault. is_of_input fault ≡ true → IsOfAsked curve.now fault options.now.capacities) }
+    ensures fault { IfErr result (λ fault. is_of_writing fault ≡ false) }
 {
     let table = sized_table_for(alloc, options, curve, floors)?;
     let totals = Totals {

@@ -1,37 +1,36 @@
 //! The text of a table, and that of the summary.
 ghost use Rattle.std.specs.Prelude.{◌≡◌, ◌-◌, drop, if◌then◌else◌, IfOk, string_bytes};
-ghost use Rattle.clru_report.specs.Knees.{is_knee_before};
-ghost use Rattle.clru_report.specs.Tables.{capacity_of_row, first_point, misses_of_point, point_of_row, header_line, row_end, row_line, summary_text, table_text, with_number as with_number_text};
+ghost use Rattle.clru_report.specs.Tables.{point_of_row, header_line, row_end, row_line, summary_text, table_text, with_number as with_number_text};
 
+use crate::faithful::Point;
 use crate::fraction::ratio_of;
-use crate::knees::{Point, is_knee, is_sharp};
+use crate::knees::is_knee;
 use crate::rows::Row;
 use std::alloc::{AllocError, Allocator};
 
-/// The table with these rows, for so many requests.
+/// The table with these rows and knees, for so many requests.
 pub(crate) fn table_of<A: Allocator + Copy>(
     alloc: A,
     rows: &[Row],
+    knees: &[usize],
     requests: usize,
     least: bool,
     floor: bool,
 ) -> Result<String<A>, AllocError>
-    ensures { IfOk result (λ text. string_bytes text ≡ table_text least floor requests rows.now) }
+    ensures { IfOk result (λ text. string_bytes text ≡ table_text least floor requests knees.now rows.now) }
 {
     let mut text = String::new(alloc);
     text.push_str(header_of(least, floor))?;
-    let whole = misses_at_first(point_in(rows, 0));
     let mut before = Point {
         capacity: 0,
         misses: requests,
     };
     for index in 0..rows.len() {
         let row = rows[index];
-        let here = point_of(&row);
-        let knee = is_knee_here(whole, before, here, point_in(rows, index + 1));
+        let knee = is_knee(knees, row.capacity.get());
         let line = line_of(alloc, &row, requests, before, knee)?;
         text.push_str(&line)?;
-        before = here;
+        before = point_of(&row);
     }
     Ok(text)
 }
@@ -52,43 +51,12 @@ fn header_of(least: bool, floor: bool) -> &'static str
     }
 }
 
-// The point of the row of an index, where it is there.
-fn point_in(rows: &[Row], index: usize) -> Option<Point>
-    ensures { result ≡ first_point (drop index rows.now) }
-{
-    if index < rows.len() {
-        Some(point_of(&rows[index]))
-    } else {
-        None
-    }
-}
-
 fn point_of(row: &Row) -> Point
     ensures { result ≡ point_of_row row.now }
 {
     Point {
         capacity: row.capacity.get(),
         misses: row.misses,
-    }
-}
-
-/// What misses at a point, where there is one.
-pub(crate) fn misses_at_first(first: Option<Point>) -> usize
-    ensures { result ≡ misses_of_point first }
-{
-    match first {
-        Some(point) => point.misses,
-        None => 0,
-    }
-}
-
-/// Whether a row is a sharp knee between the one before it and the next one, where there is a next one.
-pub(crate) fn is_knee_here(whole: usize, before: Point, here: Point, next: Option<Point>) -> bool
-    ensures { result ≡ is_knee_before whole before here next }
-{
-    match next {
-        Some(next) => is_knee(whole, before, next, here) && is_sharp(before, next, here),
-        None => false,
     }
 }
 

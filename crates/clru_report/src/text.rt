@@ -20,23 +20,25 @@ pub(crate) struct Counts {
     pub(crate) bytes: usize,
 }
 
-/// Returns the text in the form that is asked for; a table has these rows.
+/// Returns the text in the form that is asked for; a table has these rows and knees.
 pub(crate) fn text_by_keys<A: Allocator + Copy>(
     alloc: A,
     options: &Options<A>,
     curve: &MissCurve<A>,
     floor: &Option<Floor<A>>,
     rows: &[Row],
+    knees: &[usize],
     least: bool,
     counts: Counts,
 ) -> Result<String<A>, AllocError>
-    ensures { IfOk result (λ text. IsTextByKeys options.now.form least options.now.floor counts rows.now (string_bytes text)) }
+    ensures { IfOk result (λ text. IsTextByKeys options.now.form least options.now.floor counts knees.now rows.now
+        (string_bytes text)) }
 {
     let requests = counts.requests;
     match options.form {
-        Form::Table => table_of(alloc, rows, requests, least, options.floor),
+        Form::Table => table_of(alloc, rows, knees, requests, least, options.floor),
         Form::Picture => {
-            let table = table_of(alloc, rows, requests, least, options.floor)?;
+            let table = table_of(alloc, rows, knees, requests, least, options.floor)?;
             let curve = curve.as_slice();
             picture_by_keys(alloc, curve, floor, counts, options, rows, &table)
         }

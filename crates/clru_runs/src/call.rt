@@ -4,7 +4,7 @@ ghost use Rattle.std.specs.Prelude.{◌≡◌, ◌+◌, ◌<◌, ◌^◌, Some};
 use clru::{Put, PutError, TryPutError};
 
 /// A call of a cache, by any scale.
-#[derive(Clone, Debug, Drop)]
+#[derive(Drop)]
 pub enum Call<K, V> {
     PutWithWeight(K, V),
     Get(K),
@@ -40,7 +40,7 @@ pub enum Call<K, V> {
 }
 
 /// A call of a cache whose pairs weigh nothing.
-#[derive(Clone, Debug, Drop)]
+#[derive(Drop)]
 pub enum PlainCall<K, V> {
     Put(K, V),
 
@@ -67,7 +67,7 @@ pub enum PlainCall<K, V> {
 }
 
 /// What the closures of a put-or-modify do that may fail.
-#[derive(Clone, Copy, Debug, PartialEq)]
+#[derive(Clone, Copy)]
 pub enum Attempt<V> {
     /// The one that is called stores the value.
     Store(V),
@@ -77,7 +77,7 @@ pub enum Attempt<V> {
 }
 
 /// What a call returned, with the values that it lent copied out.
-#[derive(Debug, Drop, PartialEq)]
+#[derive(Drop)]
 pub enum Answer<K, V> {
     /// Of a plain put: the old value of the key and the pair that was dropped, or the pair that was refused.
     Stored(Result<Put<K, V>, (K, V)>),
@@ -108,7 +108,7 @@ pub enum Answer<K, V> {
 ///
 /// No memory is taken for the pairs that it dropped, so of these there are the number and the last one: the put takes them
 /// from the back, one after the other.
-#[derive(Debug, Drop, PartialEq)]
+#[derive(Drop)]
 pub struct Weighing<K, V> {
     /// The old value of the key, if it was held.
     pub replaced: Option<V>,

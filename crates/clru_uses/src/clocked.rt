@@ -10,7 +10,7 @@ use clru_through::{ByPromise, Fetch, Loaded, Through};
 use std::alloc::Global;
 
 /// A text, which here is a number, and when it was fetched.
-#[derive(Clone, Copy, Debug, Drop, PartialEq)]
+#[derive(Clone, Copy, Drop)]
 pub struct Dated {
     pub text: u64,
     pub at: u64,

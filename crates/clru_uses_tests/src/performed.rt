@@ -36,7 +36,7 @@ fn ends_alike(
     let mut greater = CLruCache::new(alloc, three);
     match perform_at_both(alloc, &mut lesser, &mut greater, once, again) {
         Some(answers) => {
-            answers.lesser.last() == Some(&Pair(Some((2, 20))))
+            matches!(answers.lesser.last(), Some(Pair(Some((2, 20)))))
                 && (lesser.len(), greater.pop_front()) == (0, Some((2, 20)))
         }
         None => false,
@@ -52,7 +52,7 @@ fn puts_are_made_of_an_empty_cache(rt: HostRuntime) -> Result<(), Fail> {
 
 fn lends_the_last(alloc: Global, capacity: NonZeroUsize, puts: Vec<PlainCall<u32, u32>>) -> bool {
     let mut cache = CLruCache::new(alloc, capacity);
-    perform_puts(alloc, &mut cache, puts).is_ok_and(|it| it.last() == Some(&Lent(Ok(20))))
+    perform_puts(alloc, &mut cache, puts).is_ok_and(|it| matches!(it.last(), Some(Lent(Ok(20)))))
 }
 
 #[test]
@@ -64,6 +64,8 @@ fn puts_by_weight_are_made_of_an_empty_cache(rt: HostRuntime) -> Result<(), Fail
 
 fn takes_the_last_out(alloc: Global, capacity: NonZeroUsize, calls: Calls) -> bool {
     let mut cache = CLruCache::new(alloc, capacity);
-    perform_puts_by_size(alloc, &mut cache, calls).is_ok_and(|it| it.last()
-        == Some(&Pair(Some((1, 10)))))
+    perform_puts_by_size(alloc, &mut cache, calls).is_ok_and(|it| matches!(
+        it.last(),
+        Some(Pair(Some((1, 10))))
+    ))
 }

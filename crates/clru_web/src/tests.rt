@@ -34,7 +34,7 @@ static CALLS: &[(usize, &str, &str, usize, u32, &str)] = &[
         TEN,
         256,
         0,
-        "capacity,misses,miss_ratio,least_misses,saved_per_key,knee\n2,8,0.800000,7,1.000000,0\n3,5,0.500000,5,3.000000,0\n",
+        "capacity,misses,miss_ratio,least_misses,saved_per_key,knee\n2,8,0.800000,7,1.000000,0\n3,5,0.500000,5,3.000000,1\n",
     ),
     (
         ENOUGH,

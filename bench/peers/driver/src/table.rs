@@ -1,5 +1,5 @@
-//! The program that makes our `clru_mrc`'s table, in plain Rust: a line for each of the capacities, from the curve, and for the knee
-//! between each two of the usual ones.
+//! The program that makes our `clru_mrc`'s table, in plain Rust: a line for each of the capacities, from the curve; the usual ones are
+//! those of the faithful table.
 
 use crate::curve::curve;
 use crate::least::{least, next_positions};
@@ -17,10 +17,12 @@ pub fn run(rooms: &[usize]) {
     let text = input.strip_suffix(b"\n").unwrap_or(&input);
     let keys: Vec<Key> = text.split(|byte| *byte == b'\n').map(Key).collect();
     let misses = curve(&keys);
+    let table = faithful(&usual(misses.len()), &misses, keys.len());
+    let knees = knees(&table, &misses, keys.len());
     let report = if rooms.is_empty() {
-        table_of(&with_knees(&usual(misses.len()), &misses), &misses, keys.len())
+        table_of(&table, &knees, &misses, keys.len())
     } else {
-        table_with_least(rooms, &misses, &keys)
+        table_with_least(rooms, &knees, &misses, &keys)
     };
     stdout()
         .lock()
@@ -28,21 +30,21 @@ pub fn run(rooms: &[usize]) {
         .expect("the report can be written");
 }
 
-fn table_of(capacities: &[usize], misses: &[usize], requests: usize) -> String {
+fn table_of(capacities: &[usize], knees: &[usize], misses: &[usize], requests: usize) -> String {
     let mut text = String::from("capacity,misses,miss_ratio,saved_per_key,knee\n");
     for (index, capacity) in capacities.iter().enumerate() {
-        let end = end_of(capacities, index, misses, requests);
+        let end = end_of(capacities, index, knees, misses, requests);
         text.push_str(&format!("{},{}\n", cells(*capacity, misses, requests), end));
     }
     text
 }
 
-fn table_with_least(capacities: &[usize], misses: &[usize], keys: &[Key]) -> String {
+fn table_with_least(capacities: &[usize], knees: &[usize], misses: &[usize], keys: &[Key]) -> String {
     let nexts = next_positions(keys);
     let mut text = String::from("capacity,misses,miss_ratio,least_misses,saved_per_key,knee\n");
     for (index, capacity) in capacities.iter().enumerate() {
         let cells = cells(*capacity, misses, keys.len());
-        let end = end_of(capacities, index, misses, keys.len());
+        let end = end_of(capacities, index, knees, misses, keys.len());
         text.push_str(&format!("{},{},{}\n", cells, least(&nexts, *capacity), end));
     }
     text
@@ -67,51 +69,58 @@ fn millionths(part: usize, whole: usize) -> String {
 type Point = (usize, usize);
 
 // What is saved for each key since the row before, and whether the row is a knee.
-fn end_of(capacities: &[usize], index: usize, misses: &[usize], requests: usize) -> String {
+fn end_of(capacities: &[usize], index: usize, knees: &[usize], misses: &[usize], requests: usize) -> String {
     let point = |index: usize| (capacities[index], missed_at(capacities[index], misses));
     let here = point(index);
     let before = if index > 0 { point(index - 1) } else { (0, requests) };
     let saved = millionths(before.1 - here.1, here.0 - before.0);
-    let is_marked = |next: Point| is_knee(point(0).1, before, next, here) && is_sharp(before, next, here);
-    let knee = index + 1 < capacities.len() && is_marked(point(index + 1));
-    format!("{},{}", saved, u8::from(knee))
+    format!("{},{}", saved, u8::from(knees.contains(&here.0)))
 }
 
-fn beyond(a: Point, b: Point, c: Point) -> u128 {
-    let saved = (a.1 - c.1) as u128 * (b.0 - a.0) as u128;
-    saved.saturating_sub((a.1 - b.1) as u128 * (c.0 - a.0) as u128)
+// How far a point lies off the straight line between two others, times its length.
+fn off(a: Point, b: Point, c: Point) -> u128 {
+    let line = a.1 as u128 * (b.0 - c.0) as u128 + b.1 as u128 * (c.0 - a.0) as u128;
+    line.abs_diff(c.1 as u128 * (b.0 - a.0) as u128)
 }
 
-fn is_knee(whole: usize, a: Point, b: Point, c: Point) -> bool {
-    let saved = beyond(a, b, c);
-    saved > 0 && whole as u128 * (b.0 - a.0) as u128 / 50 <= saved
-}
-
-fn is_sharp(a: Point, b: Point, c: Point) -> bool {
-    let behind = (c.1 - b.1) as u128 * (c.0 - a.0) as u128;
-    let before = (a.1 - c.1) as u128 * (b.0 - c.0) as u128;
-    behind / a.0.max(1) as u128 <= before / b.0 as u128
-}
-
-fn with_knees(usual: &[usize], misses: &[usize]) -> Vec<usize> {
+// The capacities behind a, up to b: as long as one lies more than a fiftieth of the requests off, the furthest is added.
+fn add_up_to(capacities: &mut Vec<usize>, a: usize, b: usize, misses: &[usize], requests: usize) {
     let point = |capacity: usize| (capacity, missed_at(capacity, misses));
-    let mut capacities = Vec::new();
-    for (index, b) in usual.iter().enumerate() {
-        if index > 0 {
-            let (start, end) = (point(usual[index - 1]), point(*b));
-            let mut best = start;
-            for capacity in start.0..end.0 {
-                if beyond(start, end, point(capacity)) > beyond(start, end, best) {
-                    best = point(capacity);
-                }
-            }
-            if is_knee(misses[0], start, end, best) {
-                capacities.push(best.0);
-            }
+    let mut best = (0, a);
+    for capacity in a..b {
+        let found = off(point(a), point(b), point(capacity));
+        if found > best.0 {
+            best = (found, capacity);
         }
-        capacities.push(*b);
+    }
+    if best.0 > requests as u128 * (b - a) as u128 / 50 {
+        add_up_to(capacities, a, best.1, misses, requests);
+        add_up_to(capacities, best.1, b, misses, requests);
+    } else {
+        capacities.push(b);
+    }
+}
+
+fn faithful(usual: &[usize], misses: &[usize], requests: usize) -> Vec<usize> {
+    let mut capacities = vec![usual[0]];
+    for pair in usual.windows(2) {
+        add_up_to(&mut capacities, pair[0], pair[1], misses, requests);
     }
     capacities
+}
+
+fn knees(table: &[usize], misses: &[usize], requests: usize) -> Vec<usize> {
+    let point = |capacity: usize| (capacity, missed_at(capacity, misses));
+    let rows = table.windows(3).filter(|rows| is_foot(point(rows[0]), point(rows[1]), point(rows[2]), requests));
+    rows.map(|rows| rows[1]).collect()
+}
+
+// A row is a knee where a fiftieth of the requests is saved since the row before, and for each key more than behind it, by more than
+// the ratio of the capacities around it.
+fn is_foot(a: Point, c: Point, b: Point, requests: usize) -> bool {
+    let before = (a.1 - c.1) as u128 * (b.0 - c.0) as u128 * a.0 as u128;
+    let behind = (c.1 - b.1) as u128 * (c.0 - a.0) as u128 * b.0 as u128;
+    50 * (a.1 - c.1) >= requests && behind < before
 }
 
 fn usual(distinct: usize) -> Vec<usize> {

@@ -25,7 +25,8 @@ use std::marker::Model;
 /// another weight than before, the clauses say nothing, and the calls are as safe as ever. Clauses describe the taken
 /// requests, the latest first, by `IsSizedPass`. It returns a curve at any time.
 ///
-/// Takes nine bytes for each request, sixteen more if its key came before, and a position in a cache for each distinct key.
+/// Takes memory for a position in a cache and a size for each distinct key, for half as many sizes more, and 16 bytes for each
+/// request whose key came before.
 pub struct SizedPass<K: Eq + Hash, S: BuildHasher = DefaultState, A: Allocator + Copy = Global> {
     pub(crate) positions: CLruCache<K, usize, S, ZeroWeightScale, A>,
     pub(crate) latest: Sizes<A>,
@@ -57,10 +58,10 @@ impl<K: Eq + Hash, S: BuildHasher, A: Allocator + Copy> Model for SizedPass<K, S
 
     ghost coded = { pass_by_size_code K.code };
 
-    ghost view = { λ p. pass_by_size p.positions.entries p.latest.sizes.items p.hits.items p.size p.greatest };
+    ghost view = { λ p. pass_by_size p.positions.entries p.latest.sizes.items p.latest.requests p.hits.items p.size p.greatest };
 
     ghost invariant = { λ p. IsSoundBySize K.eq p.latest.nodes.items
-        (pass_by_size p.positions.entries p.latest.sizes.items p.hits.items p.size p.greatest) };
+        (pass_by_size p.positions.entries p.latest.sizes.items p.latest.requests p.hits.items p.size p.greatest) };
 }
 
 impl<K: Eq + Hash, A: Allocator + Copy> SizedPass<K, DefaultState, A> {
@@ -189,13 +190,13 @@ impl<K: Eq + Hash, S: BuildHasher, A: Allocator + Copy> SizedPass<K, S, A> {
         let Ok(()) = self.hits.reserve(1) else {
             return Err(SizedRequestError::NoMemory(key));
         };
-        let here = self.latest.sizes.len();
+        let here = self.latest.requests;
         let Some(position) = move_position(&mut self.positions, key, here) else {
             return Ok(None);
         };
-        let span = self.latest.total_from(position);
+        let span = self.latest.remove(position);
         self.latest.push(size);
-        self.latest.clear(position);
+        self.latest.drop_empty();
         self.hits.push_reserved(Step {
             capacity: span,
             missed_size: size,
@@ -221,9 +222,8 @@ impl<K: Eq + Hash, S: BuildHasher, A: Allocator + Copy> SizedPass<K, S, A> {
         let Ok(()) = self.latest.make_ready() else {
             return Err(key);
         };
-        let here = self.latest.sizes.len();
         double_if_full(&mut self.positions);
-        if let Err((key, _)) = self.positions.put(key, here) {
+        if let Err((key, _)) = self.positions.put(key, self.latest.requests) {
             return Err(key);
         }
         self.latest.push(weight + 1);
@@ -248,7 +248,7 @@ impl<K: Eq + Hash, S: BuildHasher, A: Allocator + Copy> SizedPass<K, S, A> {
             size,
             greatest,
         } = self;
-        SizedCurve::from_hits(hits, latest.sizes.len(), size, latest.total(), greatest)
+        SizedCurve::from_hits(hits, latest.requests, size, latest.total(), greatest)
     }
 
     /// Returns the curve of the requests so far, and lets the pass go on.
@@ -264,7 +264,7 @@ impl<K: Eq + Hash, S: BuildHasher, A: Allocator + Copy> SizedPass<K, S, A> {
         };
         Ok(SizedCurve::from_hits(
             hits,
-            self.latest.sizes.len(),
+            self.latest.requests,
             self.size,
             self.latest.total(),
             self.greatest,

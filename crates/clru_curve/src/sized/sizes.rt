@@ -1,36 +1,51 @@
-//! For each request the size of its key, if the request is the latest of it, and else 0.
-ghost use Rattle.std.specs.Prelude.{◌≡◌, ◌+◌, ◌*◌, ◌^◌, ◌<◌, ◌≤◌, [], ◌∷◌, ◌++◌, length, slice_set, vec_len, vec_capacity, OnOk};
-ghost use Rattle.clru_curve.specs.LatestSizes.{sizes_from, IsSummed};
+//! For each key the number of its latest request and its size. Sizes of earlier requests are 0, and are dropped now and then.
+ghost use Rattle.std.specs.Prelude.{◌≡◌, ℕ, suc, ◌+◌, ◌*◌, ◌^◌, ◌<◌, ◌≤◌, [], ◌∷◌, ◌++◌, length, vec_len, vec_capacity, OnOk};
+ghost use Rattle.clru_curve.specs.LatestSizes.{IsRemoved, IsSummed, live_from, sizes_from, total_from};
+ghost use Rattle.clru_curve.specs.Rising.{has_value, numbered, value_at};
+ghost use Rattle.clru_curve.specs.Tree.{IsCounted};
 
+use crate::numbered::{Numbered, place_of};
 use crate::tree::{add_at, count_from, subtract_at};
 use std::alloc::{AllocError, Allocator};
 
 /// How many sizes share a node.
 const BLOCK: usize = 16;
 
-/// The sizes, and for each block of them a node of the tree above the sums of the blocks.
+/// How many sizes there may be beyond half as many again as were not 0 when they were last looked through.
+const FEW: usize = 64;
+
+/// The sizes by the numbers of their requests, and for each sixteen of them a node of the tree above their sums.
+///
+/// Sizes are dropped, not renumbered: a request keeps its number. So memory goes with the keys.
 #[derive(Drop)]
 pub(crate) struct Sizes<A: Allocator> {
-    pub(crate) sizes: Vec<usize, A>,
+    pub(crate) sizes: Vec<Numbered, A>,
     pub(crate) nodes: Vec<usize, A>,
+    pub(crate) requests: usize,
+    // From so many sizes on, those that are 0 are dropped.
+    limit: usize,
 }
 
 impl<A: Allocator + Copy> Sizes<A> {
     pub(crate) fn new(alloc: A) -> Self
-        ensures kept { IsSummed result.sizes.items result.nodes.items }
+        ensures kept { IsSummed result.sizes.items result.nodes.items result.requests }
         ensures sizes { result.sizes.items ≡ [] }
+        ensures requests { result.requests ≡ 0 }
     {
         Sizes {
             sizes: Vec::new(alloc),
             nodes: Vec::new(alloc),
+            requests: 0,
+            limit: FEW,
         }
     }
 
     /// Makes room for one more request.
     pub(crate) fn make_ready(&mut self) -> Result<(), AllocError>
-        requires kept { IsSummed self.old.sizes.items self.old.nodes.items }
-        ensures kept { IsSummed self.new.sizes.items self.new.nodes.items }
+        requires kept { IsSummed self.old.sizes.items self.old.nodes.items self.old.requests }
+        ensures kept { IsSummed self.new.sizes.items self.new.nodes.items self.new.requests }
         ensures sizes { self.new.sizes.items ≡ self.old.sizes.items }
+        ensures requests { self.new.requests ≡ self.old.requests }
         ensures room { OnOk result (vec_len self.new.sizes < vec_capacity self.new.sizes) }
         ensures node { OnOk result (length self.new.sizes.items < 16 * length self.new.nodes.items) }
     {
@@ -48,43 +63,82 @@ impl<A: Allocator + Copy> Sizes<A> {
 
     /// One more request, the latest of a key of this size.
     pub(crate) fn push(&mut self, size: usize)
-        requires kept { IsSummed self.old.sizes.items self.old.nodes.items }
+        requires kept { IsSummed self.old.sizes.items self.old.nodes.items self.old.requests }
         requires room { vec_len self.old.sizes < vec_capacity self.old.sizes }
         requires node { length self.old.sizes.items < 16 * length self.old.nodes.items }
         requires fits { sizes_from self.old.sizes.items 0 + size < 2 ^ 64 }
-        ensures kept { IsSummed self.new.sizes.items self.new.nodes.items }
-        ensures sizes { self.new.sizes.items ≡ self.old.sizes.items ++ size ∷ [] }
+        requires countable { self.old.requests + 1 < 2 ^ 64 }
+        ensures kept { IsSummed self.new.sizes.items self.new.nodes.items self.new.requests }
+        ensures sizes { self.new.sizes.items ≡ self.old.sizes.items ++ numbered self.old.requests size ∷ [] }
+        ensures requests { self.new.requests ≡ self.old.requests + 1 }
     {
         let block = self.sizes.len() / BLOCK;
-        self.sizes.push_reserved(size);
+        self.sizes.push_reserved(Numbered {
+            number: self.requests,
+            value: size,
+        });
         add_at(&mut self.nodes, block, size);
+        self.requests += 1;
     }
 
-    /// The request is no longer the latest of its key.
-    pub(crate) fn clear(&mut self, request: usize)
-        requires kept { IsSummed self.old.sizes.items self.old.nodes.items }
-        requires before { request < length self.old.sizes.items }
-        ensures kept { IsSummed self.new.sizes.items self.new.nodes.items }
-        ensures sizes { self.new.sizes.items ≡ slice_set self.old.sizes.items request 0 }
+    /// The request is no longer the latest of its key. Returns its size and those of all later requests that are the latest of
+    /// theirs.
+    pub(crate) fn remove(&mut self, request: usize) -> usize
+        requires kept { IsSummed self.old.sizes.items self.old.nodes.items self.old.requests }
+        requires live { live_from self.old.sizes.items request ≡ suc (live_from self.old.sizes.items (suc request)) }
+        requires fits { sizes_from self.old.sizes.items 0 < 2 ^ 64 }
+        ensures total { result ≡ total_from self.old.sizes.items request }
+        ensures kept { IsSummed self.new.sizes.items self.new.nodes.items self.new.requests }
+        ensures removed { IsRemoved self.old.sizes.items request self.new.sizes.items }
+        ensures requests { self.new.requests ≡ self.old.requests }
+        ensures room { vec_len self.new.sizes ≡ vec_len self.old.sizes }
+        ensures capacity { vec_capacity self.new.sizes ≡ vec_capacity self.old.sizes }
+        ensures nodes { length self.new.nodes.items ≡ length self.old.nodes.items }
     {
-        let size = self.sizes[request];
-        self.sizes[request] = 0;
-        subtract_at(&mut self.nodes, request / BLOCK, size);
+        let at = place_of(&self.sizes, request);
+        let total = self.sum_from(at);
+        let size = self.sizes[at].value;
+        self.sizes[at].value = 0;
+        subtract_at(&mut self.nodes, at / BLOCK, size);
+        total
     }
 
-    /// The sizes of the request and of all later ones, each of the latest of its key.
-    pub(crate) fn total_from(&self, request: usize) -> usize
-        requires kept { IsSummed self.now.sizes.items self.now.nodes.items }
-        requires before { request < length self.now.sizes.items }
+    /// The sum of the sizes from this place on.
+    fn sum_from(&self, at: usize) -> usize
+        requires kept { IsSummed self.now.sizes.items self.now.nodes.items self.now.requests }
+        requires before { at < length self.now.sizes.items }
         requires fits { sizes_from self.now.sizes.items 0 < 2 ^ 64 }
-        ensures { result ≡ sizes_from self.now.sizes.items request }
+        ensures { result ≡ sizes_from self.now.sizes.items at }
     {
-        let block = request / BLOCK + 1;
+        let block = at / BLOCK + 1;
         if block < self.nodes.len() {
-            sum_between(&self.sizes, request, block * BLOCK) + count_from(&self.nodes, block)
+            sum_between(&self.sizes, at, block * BLOCK) + count_from(&self.nodes, block)
         } else {
-            sum_between(&self.sizes, request, self.sizes.len())
+            sum_between(&self.sizes, at, self.sizes.len())
         }
+    }
+
+    /// Drops the sizes that are 0, if there are many sizes.
+    pub(crate) fn drop_empty(&mut self)
+        requires kept { IsSummed self.old.sizes.items self.old.nodes.items self.old.requests }
+        requires fits { sizes_from self.old.sizes.items 0 < 2 ^ 64 }
+        ensures kept { IsSummed self.new.sizes.items self.new.nodes.items self.new.requests }
+        ensures totals { (t : ℕ) → total_from self.new.sizes.items t ≡ total_from self.old.sizes.items t }
+        ensures live { (t : ℕ) → live_from self.new.sizes.items t ≡ live_from self.old.sizes.items t }
+        ensures requests { self.new.requests ≡ self.old.requests }
+    {
+        if self.sizes.len() < self.limit {
+            return;
+        }
+        self.sizes.retain(
+            |size: &Numbered| -> bool
+                ensures { result ≡ has_value size.now }
+            { size.value != 0 },
+        );
+        let sizes = self.sizes.len();
+        self.nodes.truncate(sizes / BLOCK + 1);
+        sum_anew(&mut self.nodes, &self.sizes);
+        self.limit = (sizes / 2).saturating_add(sizes).saturating_add(FEW);
     }
 
     /// The sizes of all keys.
@@ -96,8 +150,21 @@ impl<A: Allocator + Copy> Sizes<A> {
     }
 }
 
+/// Sums the sizes of each block anew.
+fn sum_anew(nodes: &mut [usize], sizes: &[Numbered])
+    requires covers { length sizes.now ≤ 16 * length nodes.old }
+    requires fits { sizes_from sizes.now 0 < 2 ^ 64 }
+    ensures length { length nodes.new ≡ length nodes.old }
+    ensures counted { IsCounted (λ j. sizes_from sizes.now (16 * j)) nodes.new }
+{
+    nodes.fill(0);
+    for at in 0..sizes.len() {
+        add_at(nodes, at / BLOCK, sizes[at].value);
+    }
+}
+
 /// The sum of the sizes from `first` up to `end`.
-fn sum_between(sizes: &[usize], first: usize, end: usize) -> usize
+fn sum_between(sizes: &[Numbered], first: usize, end: usize) -> usize
     requires order { first ≤ end }
     requires inside { end ≤ length sizes.now }
     requires fits { sizes_from sizes.now first < 2 ^ 64 }
@@ -106,7 +173,7 @@ fn sum_between(sizes: &[usize], first: usize, end: usize) -> usize
     let mut sum = 0;
     let mut at = first;
     while at < end {
-        sum += sizes[at];
+        sum += sizes[at].value;
         at += 1;
     }
     sum

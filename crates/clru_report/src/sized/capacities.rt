@@ -3,12 +3,12 @@ ghost use Rattle.std.specs.Prelude.{◌≡◌, ◌+◌, ◌<◌, map, nat_le, If
 ghost use Rattle.std.specs.Int.NonZero.{non_zero_usize_get};
 ghost use Rattle.std.specs.List.{filter};
 ghost use Rattle.clru_curve.specs.SizedCurves.{misses_within};
-ghost use Rattle.clru_report.specs.Capacities.{falls_from, usual};
-ghost use Rattle.clru_report.specs.Passes.{capacities_on, IsSettled};
+ghost use Rattle.clru_report.specs.Capacities.{falls_from, usual_from as usual_capacities_from};
+ghost use Rattle.clru_report.specs.Passes.{capacities_on, IsSettled, IsUsualOn};
 
-use super::knees::BySize;
+use super::faithful::BySize;
 use crate::capacities::{push_capacity, usual_capacities};
-use crate::knees::with_knees;
+use crate::knees::{UsualTable, table_with_knees};
 use crate::options::Capacities;
 use clru_curve::SizedCurve;
 use std::alloc::{AllocError, Allocator};
@@ -24,20 +24,32 @@ pub(crate) fn first_capacity<A: Allocator>(curve: &SizedCurve<A>) -> usize
     curve.greatest_weight() + 1
 }
 
-/// The capacities for a curve.
+/// Returns the usual table of a curve, to which so much is the whole.
+pub(super) fn sized_usual_table<A: Allocator + Copy>(
+    alloc: A,
+    curve: &SizedCurve<A>,
+    whole: usize,
+) -> Result<UsualTable<A>, AllocError>
+    requires { IsSettled curve.now }
+    ensures { IfOk result (λ t. IsUsualOn curve.now whole (map non_zero_usize_get t.capacities.items) t.knees.items) }
+{
+    let usual = usual_from(alloc, first_capacity(curve), curve.distinct_size())?;
+    table_with_knees(alloc, &BySize(curve), whole, &usual)
+}
+
+/// The capacities for a curve, where its usual table has these.
 pub(crate) fn sized_capacities_for<A: Allocator + Copy>(
     alloc: A,
     capacities: &Capacities<A>,
     curve: &SizedCurve<A>,
+    table: &[NonZeroUsize],
 ) -> Result<Vec<NonZeroUsize, A>, AllocError>
     requires { IsSettled curve.now }
-    ensures { IfOk result (λ chosen. map non_zero_usize_get chosen.items ≡ capacities_on curve.now capacities.now) }
+    ensures { IfOk result (λ chosen. map non_zero_usize_get chosen.items
+        ≡ capacities_on curve.now capacities.now (map non_zero_usize_get table.now)) }
 {
     match capacities {
-        Capacities::Usual => {
-            let usual = usual_from(alloc, first_capacity(curve), curve.distinct_size())?;
-            with_knees(alloc, &BySize(curve), &usual)
-        }
+        Capacities::Usual => Vec::from_slice(alloc, table),
         Capacities::Each => each_fall_by_size(alloc, curve),
         Capacities::Named(named) => Vec::from_slice(alloc, named),
     }
@@ -48,8 +60,7 @@ fn usual_from<A: Allocator>(
     first: usize,
     distinct_size: usize,
 ) -> Result<Vec<NonZeroUsize, A>, AllocError>
-    ensures { IfOk result (λ chosen. map non_zero_usize_get chosen.items
-        ≡ filter (λ c. nat_le first c) (usual distinct_size)) }
+    ensures { IfOk result (λ chosen. map non_zero_usize_get chosen.items ≡ usual_capacities_from first distinct_size) }
 {
     let mut chosen = usual_capacities(alloc, distinct_size)?;
     chosen.retain(|capacity| capacity.get() >= first);

@@ -31,12 +31,15 @@ pub(crate) fn sized_rows_for<A: Allocator + Copy>(
     curve: &SizedCurve<A>,
     floors: &Option<Floors<A>>,
     capacities: &Capacities<A>,
+    table: &[NonZeroUsize],
 ) -> Result<Vec<SizedRow, A>, Fault>
     requires { IsSettled curve.now }
-    ensures rows { IfOk result (λ rows. AreRowsOf curve.now floors.now (capacities_on curve.now capacities.now) rows.items) }
-    ensures refused { IfErr result (λ fault. IsOfCapacities curve.now fault (capacities_on curve.now capacities.now)) }
+    ensures rows { IfOk result (λ rows. AreRowsOf curve.now floors.now
+        (capacities_on curve.now capacities.now (map non_zero_usize_get table.now)) rows.items) }
+    ensures refused { IfErr result (λ fault.
+        IsOfCapacities curve.now fault (capacities_on curve.now capacities.now (map non_zero_usize_get table.now))) }
 {
-    let Ok(capacities) = sized_capacities_for(alloc, capacities, curve) else {
+    let Ok(capacities) = sized_capacities_for(alloc, capacities, curve, table) else {
         return Err(Fault::Memory);
     };
     sized_rows_at(alloc, curve, floors, &capacities)

@@ -11,13 +11,13 @@ ghost use Rattle.clru_report.specs.SizedReport.{AreSizedRowsOfSample, IsInFormBy
 ghost use Rattle.clru_report.specs.SizedTables.{sized_summary_text};
 ghost use Rattle.clru_report.specs.Sizes.{weight_of_line};
 
-use super::capacities::{first_capacity, sized_capacities_for};
+use super::capacities::{first_capacity, sized_capacities_for, sized_usual_table};
 use super::floors::{Floors, RowFloor};
 use super::rows::{SizedRow, sized_rows_at};
 use super::table::{distinct_of, greatest_of, sized_summary, sized_table_of};
 use crate::options::{Capacities, Form, Options};
 use crate::picture::picture_by_size;
-use crate::sample::times;
+use crate::sample::{knees_times, times};
 use clru_curve::SizedCurve;
 use std::alloc::{AllocError, Allocator};
 use std::num::NonZeroUsize;
@@ -66,8 +66,17 @@ fn table_of_sized_sample<A: Allocator + Copy>(
         → AreFloorsFor options.now.floor kept floors.now → IfOk result (λ text.
         IsSizedTableOfSample options.now (non_zero_usize_get totals.one_in) totals.requests totals.size kept (string_bytes text)) }
 {
-    let rows = rows_of_sized_sample(alloc, options, curve, floors, totals)?;
-    sized_table_of(alloc, &rows, totals.requests, totals.size, options.floor)
+    let table = sized_usual_table(alloc, curve, totals.size / totals.one_in.get())?;
+    let rows = rows_of_sized_sample(alloc, options, curve, floors, &table.capacities, totals)?;
+    let knees = knees_times(alloc, &table.knees, totals.one_in)?;
+    sized_table_of(
+        alloc,
+        &rows,
+        &knees,
+        totals.requests,
+        totals.size,
+        options.floor,
+    )
 }
 
 // The rows at the capacities that are asked for, each as one of all requests.
@@ -76,14 +85,16 @@ fn rows_of_sized_sample<A: Allocator + Copy>(
     options: &Options<A>,
     curve: &SizedCurve<A>,
     floors: &Option<Floors<A>>,
+    table: &[NonZeroUsize],
     totals: Totals,
 ) -> Result<Vec<SizedRow, A>, AllocError>
     requires { IsSettled curve.now }
     ensures { (kept : List (List ℕ)) → IsSizedCurveOf bytes_eq weight_of_line kept curve.now
         → AreFloorsFor options.now.floor kept floors.now → IfOk result (λ shown.
-        AreSizedRowsOfSample options.now (non_zero_usize_get totals.one_in) totals.requests totals.size kept shown.items) }
+        AreSizedRowsOfSample options.now (non_zero_usize_get totals.one_in) totals.requests totals.size kept
+        (map non_zero_usize_get table.now) shown.items) }
 {
-    let capacities = capacities_from_first(alloc, &options.capacities, curve)?;
+    let capacities = capacities_from_first(alloc, &options.capacities, curve, table)?;
     let Ok(rows) = sized_rows_at(alloc, curve, floors, &capacities) else {
         return Err(AllocError);
     };
@@ -95,13 +106,14 @@ fn capacities_from_first<A: Allocator + Copy>(
     alloc: A,
     capacities: &Capacities<A>,
     curve: &SizedCurve<A>,
+    table: &[NonZeroUsize],
 ) -> Result<Vec<NonZeroUsize, A>, AllocError>
     requires { IsSettled curve.now }
-    ensures { IfOk result (λ chosen. map non_zero_usize_get chosen.items
-        ≡ filter (λ c. nat_le (1 + curve.now.greatest_weight) c) (capacities_on curve.now capacities.now)) }
+    ensures { IfOk result (λ chosen. map non_zero_usize_get chosen.items ≡ filter (λ c. nat_le (1 + curve.now.greatest_weight) c)
+        (capacities_on curve.now capacities.now (map non_zero_usize_get table.now))) }
 {
     let first = first_capacity(curve);
-    let mut chosen = sized_capacities_for(alloc, capacities, curve)?;
+    let mut chosen = sized_capacities_for(alloc, capacities, curve, table)?;
     chosen.retain(|capacity| capacity.get() >= first);
     Ok(chosen)
 }

@@ -2,43 +2,39 @@
 ghost use Rattle.std.specs.Prelude.{◌≡◌, ◌+◌, drop, IfOk, min, string_bytes};
 ghost use Rattle.clru_curve.specs.SizedCurves.{misses_within};
 ghost use Rattle.clru_report.specs.Passes.{IsSettled, distinct_in};
-ghost use Rattle.clru_report.specs.SizedTables.{first_sized_point, point_of_sized_row, sized_header_line, sized_row_line, sized_summary_text, sized_table_text, three_numbers as three_numbers_text, with_floor as with_floor_text};
+ghost use Rattle.clru_report.specs.SizedTables.{sized_header_line, sized_row_line, sized_summary_text, sized_table_text, three_numbers as three_numbers_text, with_floor as with_floor_text};
 
 use super::capacities::first_capacity;
 use super::floors::RowFloor;
 use super::rows::SizedRow;
 use crate::fraction::ratio_of;
-use crate::knees::Point;
-use crate::table::{end_of, is_knee_here, misses_at_first};
+use crate::knees::is_knee;
+use crate::table::end_of;
 use clru_curve::SizedCurve;
 use std::alloc::{AllocError, Allocator};
 use std::num::NonZeroUsize;
 
-/// The table with these rows, for so many requests of this size in all.
+/// The table with these rows and knees, for so many requests of this size in all.
 pub(crate) fn sized_table_of<A: Allocator + Copy>(
     alloc: A,
     rows: &[SizedRow],
+    knees: &[usize],
     requests: usize,
     size: usize,
     floor: bool,
 ) -> Result<String<A>, AllocError>
-    ensures { IfOk result (λ text. string_bytes text ≡ sized_table_text floor requests size rows.now) }
+    ensures { IfOk result (λ text. string_bytes text ≡ sized_table_text floor requests size knees.now rows.now) }
 {
     let mut text = String::new(alloc);
     text.push_str(header_of(floor))?;
-    let whole = misses_at_first(point_in(rows, 0));
-    let mut before = Point {
-        capacity: 0,
-        misses: requests,
-    };
+    let mut capacity = 0;
     let mut missed = size;
     for index in 0..rows.len() {
         let row = rows[index];
-        let here = point_of(&row);
-        let knee = is_knee_here(whole, before, here, point_in(rows, index + 1));
-        let line = sized_line_of(alloc, &row, requests, size, before.capacity, missed, knee)?;
+        let knee = is_knee(knees, row.capacity.get());
+        let line = sized_line_of(alloc, &row, requests, size, capacity, missed, knee)?;
         text.push_str(&line)?;
-        before = here;
+        capacity = row.capacity.get();
         missed = row.missed_size;
     }
     Ok(text)
@@ -51,26 +47,6 @@ fn header_of(floor: bool) -> &'static str
         "capacity,misses,miss_ratio,missed_bytes,byte_miss_ratio,floor_misses,floor_missed_bytes,saved_per_byte,knee\n"
     } else {
         "capacity,misses,miss_ratio,missed_bytes,byte_miss_ratio,saved_per_byte,knee\n"
-    }
-}
-
-// The point of the row of an index, where it is there.
-fn point_in(rows: &[SizedRow], index: usize) -> Option<Point>
-    ensures { result ≡ first_sized_point (drop index rows.now) }
-{
-    if index < rows.len() {
-        Some(point_of(&rows[index]))
-    } else {
-        None
-    }
-}
-
-fn point_of(row: &SizedRow) -> Point
-    ensures { result ≡ point_of_sized_row row.now }
-{
-    Point {
-        capacity: row.capacity.get(),
-        misses: row.misses,
     }
 }
 

@@ -2,19 +2,19 @@ use Rattle.std.proofs.Common.{◌≡◌, ℕ, List, IfOk, length, map, false, ap
 use Rattle.std.specs.Int.NonZero.{non_zero_usize_get}
 use Rattle.std.specs.Prelude.{bytes_eq}
 use Rattle.clru_curve.specs.Curves.{misses_at}
-use Rattle.clru_model.specs.Requests.{misses}
 use Rattle.clru_report.specs.Capacities.{capacities_of}
-use Rattle.clru_report.specs.Report.{AreRows}
+use Rattle.clru_report.specs.Report.{AreRows, misses_of}
 use Rattle.clru_report.proofs.CapacityLemmas.{capacities-alike}
 use Rattle.clru_report.proofs.rows.rows_for.Goals as goal
 
 pub returns : goal.returns
 returns g c lines has many =
     let asked = c.args.options.now.capacities in let curve = c.args.curve.now in
-    let of_curve = λ (ns : List ℕ). capacities_of asked (misses_at ns) (length ns) in
-    let of_lines = capacities_of asked (λ k. misses bytes_eq k lines) in
+    let table = map non_zero_usize_get c.args.table.now in
+    let of_curve = λ (ns : List ℕ). capacities_of asked (misses_at ns) (length ns) table in
+    let of_lines = λ (d : ℕ). capacities_of asked (misses_of lines) d table in
     let taken : map non_zero_usize_get c.deref.result.now ≡ of_curve c.as_slice.result.now =
     ap (map non_zero_usize_get) c.deref.ensures.value ∙ c.in_ok-capacities.ensures in
     let chosen = taken ∙ ap of_curve c.as_slice.ensures
-    ∙ capacities-alike (misses_at curve) (λ k. misses bytes_eq k lines) has asked (length curve) ∙ ap of_lines many in
+    ∙ capacities-alike (misses_at curve) (misses_of lines) has asked (length curve) table ∙ ap of_lines many in
     subst (λ cs. IfOk c.rows_at.result (λ rows. AreRows bytes_eq lines false false cs rows.items)) chosen (c.rows_at.ensures lines has)

@@ -1,12 +1,12 @@
 use Rattle.std.proofs.Common.{sym, subst}
-use Rattle.clru_report.specs.Passes.{capacities_on, IsTableOf}
+use Rattle.clru_report.specs.Passes.{IsTableOf}
 use Rattle.clru_report.proofs.sized.sized_picture_for.Goals as goal
 
 pub returns-in-Ok-clause-picture : goal.returns-in-Ok-clause-picture
 returns-in-Ok-clause-picture g c =
     let drawn = c.in-Ok.ensures in (
       c.deref.result.now,
-      subst (λ t. IsTableOf c.args.curve.now c.args.floors.now c.args.options.now.floor
-          (capacities_on c.args.curve.now c.args.options.now.capacities) t) (sym c.deref.ensures) c.in_ok-table.ensures.table,
+      subst (IsTableOf c.args.curve.now c.args.floors.now c.args.options.now.floor c.args.options.now.capacities)
+          (sym c.deref.ensures) c.in_ok-table.ensures.table,
       drawn,
     )

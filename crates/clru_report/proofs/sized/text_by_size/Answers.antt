@@ -1,14 +1,14 @@
 use Rattle.std.proofs.Common.{◌+◌, None, min, ap, string_bytes, sym, subst, ◌∙◌}
 use Rattle.clru_lines.specs.Lines.{lines_of}
 use Rattle.std.specs.Prelude.{◌&&◌}
-use Rattle.clru_report.specs.Passes.{AreFloorsFor, capacities_on, distinct_in, has_rows}
+use Rattle.clru_report.specs.Passes.{AreFloorsFor, distinct_in, has_rows}
 use Rattle.clru_report.specs.Refusals.{fault_beside}
 use Rattle.clru_report.specs.SizedReport.{IsInFormBySize}
 use Rattle.clru_report.specs.SizedTables.{sized_summary_text}
 use Rattle.clru_report.specs.Sizes.{greatest_size}
 use Rattle.clru_report.proofs.FaultLemmas.{told_beside}
 use Rattle.clru_report.proofs.ReportLemmas.{err_map, ok_map}
-use Rattle.clru_report.proofs.SizedReports.{capacities_refused, capacities_unwritten, rows_free, summary_is, table_is}
+use Rattle.clru_report.proofs.SizedReports.{capacities_refused, rows_free, summary_is, table_is}
 use Rattle.clru_report.proofs.SizedSamples.{of_all}
 use Rattle.clru_report.proofs.sized.text_by_size.Goals as goal
 
@@ -25,10 +25,9 @@ returns-in-Table g c =
                 (subst (λ f. AreFloorsFor (has_rows f && options.floor) lines floors) c.in-Table.is both) t),
           )) c.sized_table_for.ensures.table;
       refused = λ input requests size of. let lines = lines_of input in let whole = of_all input curve requests size c.args.bytes of in err_map c.sized_table_for.result
-          (λ fault why. capacities_refused lines curve whole options fault of.sizes of.no_fault
-          (ap (λ f. fault_beside f options.capacities (greatest_size lines)) c.in-Table.is) why) c.sized_table_for.ensures.refused;
-      fault = err_map c.sized_table_for.result (λ fault why. capacities_unwritten curve (capacities_on curve options.capacities) fault why)
-          c.sized_table_for.ensures.refused;
+          (λ fault why input_is. capacities_refused lines curve whole options fault of.sizes of.no_fault
+          (ap (λ f. fault_beside f options.capacities (greatest_size lines)) c.in-Table.is) (why input_is) input_is) c.sized_table_for.ensures.refused;
+      fault = c.sized_table_for.ensures.fault;
     }
 
 pub returns-in-Picture : goal.returns-in-Picture
@@ -47,10 +46,9 @@ returns-in-Picture g c =
             ),
           )) c.sized_picture_for.ensures.picture;
       refused = λ input requests size of. let lines = lines_of input in let whole = of_all input curve requests size c.args.bytes of in err_map c.sized_picture_for.result
-          (λ fault why. capacities_refused lines curve whole options fault of.sizes of.no_fault
-          (ap (λ f. fault_beside f options.capacities (greatest_size lines)) c.in-Picture.is) why) c.sized_picture_for.ensures.refused;
-      fault = err_map c.sized_picture_for.result
-          (λ fault why. capacities_unwritten curve (capacities_on curve options.capacities) fault why) c.sized_picture_for.ensures.refused;
+          (λ fault why input_is. capacities_refused lines curve whole options fault of.sizes of.no_fault
+          (ap (λ f. fault_beside f options.capacities (greatest_size lines)) c.in-Picture.is) (why input_is) input_is) c.sized_picture_for.ensures.refused;
+      fault = c.sized_picture_for.ensures.fault;
     }
 
 pub returns-in-Ok-clause-report : goal.returns-in-Ok-clause-report

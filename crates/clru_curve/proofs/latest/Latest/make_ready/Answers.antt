@@ -1,5 +1,6 @@
 use Rattle.std.proofs.Common.{◌/◌, ◌%◌, sym, ap, ◌∙◌, subst}
-use Rattle.clru_curve.specs.Latest.{ones_from, EndsAt, IsRising}
+use Rattle.clru_curve.specs.Latest.{ones_from}
+use Rattle.clru_curve.specs.Rising.{EndsAt, IsRising}
 use Rattle.clru_curve.proofs.Blocks.{ones_from_push}
 use Rattle.clru_curve.proofs.Latests.{is_whole, all_below, IsLatest-block}
 use Rattle.clru_curve.proofs.latest.Latest.make_ready.Goals as goal

@@ -8,7 +8,7 @@ overflow_add-index_mut g c =
     let self = c.args.self.now in let bs = self.blocks.items in
     let last : c.len-last.result ≡ length bs = omega (arith, c.len-last.ensures, self.blocks.ok.0) in
     let read = block_read bs (length bs - 1) (c.len-last.result - 1) c.index_mut.result.now (ap (λ n. n - 1) last) (omega (arith, c.requires.room.0)) c.index_mut.ensures.value in
-    omega (arith, ap (λ b. b.bits) read, bit_of self.requests, push_fits bs self.nodes.items self.requests c.requires.kept c.requires.room)
+    omega (arith, ap (λ b. b.value) read, bit_of self.requests, push_fits bs self.nodes.items self.requests c.requires.kept c.requires.room)
 
 pub add_at-requires-clause-counted : goal.add_at-requires-clause-counted
 add_at-requires-clause-counted g c =

@@ -12,4 +12,5 @@ returns g c =
     ap (map non_zero_usize_get) (filter_same _ (λ n. nat_le first (non_zero_usize_get n)) _ (λ x b f' k. search rules) _ _ c.retain.ensures.filtered)
     ∙ map-filter (λ n. nat_le first n) non_zero_usize_get _
     ∙ ap (filter (λ n. nat_le first n)) c.in_ok-chosen.ensures
-    ∙ ap (λ k. filter (λ n. nat_le k n) (capacities_on curve c.args.capacities.now)) c.first_capacity-first.ensures
+    ∙ ap (λ k. filter (λ n. nat_le k n) (capacities_on curve c.args.capacities.now (map non_zero_usize_get c.args.table.now)))
+    c.first_capacity-first.ensures

@@ -6,4 +6,4 @@ pub returns-clause-kept : goal.returns-clause-kept
 returns-clause-kept g c =
     let self = c.args.self.now in
     rw (c.in-Ok-push.ensures.items, c.reserve.ensures.items)
-    (IsSummed-node self.sizes.items self.nodes.items c.requires.kept (omega (arith, c.if-len.false, c.reserve.ensures.len, self.sizes.ok.0)))
+    (IsSummed-node self.sizes.items self.nodes.items self.requests c.requires.kept (omega (arith, c.if-len.false, c.reserve.ensures.len, self.sizes.ok.0)))

@@ -19,7 +19,7 @@ returns-clause-kept g c =
     let self = c.args.self.now in let kept = c.requires.kept in
     let counted = c.add_at.ensures.counted (λ j. sizes_from self.sizes.items (16 * j)) (rw c.deref_mut.ensures.value kept.counted) in
     rw (written_back c.add_at.new.nodes self.nodes.items self.nodes.len (c.add_at.ensures.length ∙ c.deref_mut.ensures.len), c.push_reserved.ensures.items)
-    (IsSummed-push self.sizes.items self.nodes.items kept c.args.size c.len-block.result
+    (IsSummed-push self.sizes.items self.nodes.items self.requests kept c.args.size c.len-block.result
     c.add_at.new.nodes (omega (arith, c.len-block.ensures, self.sizes.ok.0))
     (c.add_at.ensures.length ∙ ap (λ l. length l) c.deref_mut.ensures.value)
     c.requires.node counted)

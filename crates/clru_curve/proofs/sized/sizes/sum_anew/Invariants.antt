@@ -1,0 +1,10 @@
+use Rattle.std.proofs.Common.{◌≡◌, ◌*◌, length, take}
+use Rattle.clru_curve.specs.LatestSizes.{sizes_from}
+use Rattle.clru_curve.specs.Tree.{IsCounted}
+use Rattle.clru_curve.proofs.sized.sizes.sum_anew.Given as goal
+
+abbrev pub invariant-loop-at : goal.invariant-loop-at
+invariant-loop-at l = record {
+  same : length l.nodes ≡ length l.fn.nodes;
+  counted : IsCounted (λ j. sizes_from (take l.at l.sizes) (16 * j)) l.nodes;
+}
