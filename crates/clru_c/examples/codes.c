@@ -1,4 +1,4 @@
-/* Sees each code of each call, that nothing was written with one, what memory is asked for, that no block is left behind, and that
+/* Sees each code of each call, that nothing was written with one, what memory is requested, that no block is left behind, and that
  * all calls agree; answers.c has the numbers. Link it with --wrap=malloc, --wrap=realloc and --wrap=free, since it refuses memory
  * and counts it. */
 #include "clru.h"
@@ -13,7 +13,7 @@
 /* So many requests for memory pass; those after them are refused. */
 static size_t passing = (size_t)-1;
 /* Requests that passed, their bytes, and blocks that are not freed. */
-static size_t asked, asked_bytes, blocks;
+static size_t requested, requested_bytes, blocks;
 
 void *__real_malloc(size_t);
 void *__real_realloc(void *, size_t);
@@ -24,8 +24,8 @@ static bool passes(size_t size) {
         return false;
     }
     passing--;
-    asked++;
-    asked_bytes += size;
+    requested++;
+    requested_bytes += size;
     return true;
 }
 
@@ -170,7 +170,7 @@ static void code_of_refused_memory(uint64_t low) {
     for (int which = 0; which < 6; which++) {
         for (size_t granted = 0;; granted++) {
             reset();
-            asked = asked_bytes = 0;
+            requested = requested_bytes = 0;
             passing = granted;
             uint32_t code = call(which, low);
             passing = (size_t)-1;
@@ -179,8 +179,8 @@ static void code_of_refused_memory(uint64_t low) {
             }
             expect(code == CLRU_NO_MEMORY && untouched(), "refused memory");
         }
-        if (asked != needs[which].requests || asked_bytes != needs[which].bytes) {
-            fprintf(stderr, "codes: %s asked %zu times for %zu bytes\n", needs[which].name, asked, asked_bytes);
+        if (requested != needs[which].requests || requested_bytes != needs[which].bytes) {
+            fprintf(stderr, "codes: %s requested %zu times for %zu bytes\n", needs[which].name, requested, requested_bytes);
             faults++;
         }
     }

@@ -8,8 +8,8 @@
 
 #define MANY 70000
 
-/* What is given out now, the most bytes that were, and what was asked for. */
-static size_t blocks, bytes, most, asked, asked_bytes;
+/* What is given out now, the most bytes that were, and what was requested. */
+static size_t blocks, bytes, most, requested, requested_bytes;
 
 void *__real_malloc(size_t);
 void *__real_realloc(void *, size_t);
@@ -37,8 +37,8 @@ static size_t *uncounted(void *block) {
 }
 
 static void note(size_t size) {
-    asked++;
-    asked_bytes += size;
+    requested++;
+    requested_bytes += size;
 }
 
 void *__wrap_malloc(size_t size) {
@@ -189,26 +189,26 @@ static Range of_floors(int are_by_size) {
 }
 
 /* What each call asks for at 70,000 distinct keys, exactly. */
-static void see_asked(const char *name, size_t requests, size_t all) {
-    if (asked != requests || asked_bytes != all) {
-        fprintf(stderr, "memory: %s asked %zu times for %zu bytes at %d keys\n", name, asked, asked_bytes, MANY);
+static void see_requested(const char *name, size_t requests, size_t all) {
+    if (requested != requests || requested_bytes != all) {
+        fprintf(stderr, "memory: %s requested %zu times for %zu bytes at %d keys\n", name, requested, requested_bytes, MANY);
         faults++;
     }
-    asked = asked_bytes = 0;
+    requested = requested_bytes = 0;
 }
 
 static void see_many(void) {
     size_t room = 3, least;
     fill(MANY, MANY);
-    asked = asked_bytes = 0;
+    requested = requested_bytes = 0;
     held_by(clru_hits_at(keys, MANY, MANY, 0, 0, hits, MANY, &number));
-    see_asked("hits", 3, 3882864);
+    see_requested("hits", 3, 3882864);
     curve(MANY);
-    see_asked("misses", 63, 13727536);
+    see_requested("misses", 63, 13727536);
     curve_by_size(MANY);
-    see_asked("misses by size", 57, 19074352);
+    see_requested("misses by size", 57, 19074352);
     held_by(clru_least_by_room(keys, MANY, &room, 1, 0, 0, &least, 1));
-    see_asked("least", 60, 5497568);
+    see_requested("least", 60, 5497568);
 }
 
 int main(void) {
