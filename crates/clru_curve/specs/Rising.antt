@@ -25,7 +25,7 @@ abbrev pub IsRising : ℕ → List Numbered → ℕ → Type 0
 IsRising low [] high = low ≤ high
 IsRising low (b ∷ bs) high = (low ≤ b.number) × IsRising (suc b.number) bs high
 
--- a block has this number
+-- some value has this number
 abbrev pub HasNumber : List Numbered → ℕ → Type 0
 HasNumber bs m = (i : ℕ) × (i < length bs) × (number_at bs i ≡ m)
 
