@@ -1,4 +1,4 @@
-"""Compares the answers of scripts/ with those of the Rust crate clru, line by line."""
+"""Compares the results in scripts/ with those of the Rust crate clru, line by line."""
 
 import re
 import subprocess
@@ -12,14 +12,14 @@ REASON = re.compile(r"# DIFFERENCES: (.*)")
 
 
 def compare_scripts(top, driver):
-    """Prints where they differ without a reason, and a count. Answers the status of the program."""
+    """Prints where they differ without a reason, and a count. Returns the status of the program."""
     rows = rows_of(top / "docs" / "DIFFERENCES.md")
     counts, wrong = Counter(), []
     for script in sorted((top / "scripts").glob("*.calls")):
         lines = script.read_text().splitlines()
         if COMPARED.search("\n".join(lines)):
-            told = compare(lines, *answers_of(driver, lines), rows, counts)
-            wrong += [f"scripts/{script.name}:{at}: {what}" for at, what in told]
+            faults = compare(lines, *answers_of(driver, lines), rows, counts)
+            wrong += [f"scripts/{script.name}:{at}: {what}" for at, what in faults]
     for it in wrong:
         print(it)
     alike, meant, left = (counts[it] for it in ("alike", "meant", "left"))

@@ -1,9 +1,11 @@
 // The module beside the native program: node web/check.mjs MODULE PROGRAM
 //
 // Both get the same words and the same log; status and text have to be the same, byte for byte. The last lines ask whether the
-// comparison sees a difference, and whether a small block, a small text and a second call answer as they should.
+// comparison sees a difference, whether a small block, a small text and a second call answer as they should, and whether the page's
+// worker cuts the columns of lines.
 import { spawnSync } from "node:child_process";
 import { readFileSync } from "node:fs";
+import { runInNewContext } from "node:vm";
 
 const [modulePath, program] = process.argv.slice(2);
 const compiled = new WebAssembly.Module(readFileSync(modulePath));
@@ -113,5 +115,13 @@ same("a block of no bytes", instance.report(["--svg"], plain, 0, MIB), [3, "clru
 const other = Buffer.concat([short, Buffer.from("\nf\n")]);
 const [, one] = instance.report([], short, MIB, MIB), [, two] = instance.report([], other, MIB, MIB);
 same("another log", [Number(one !== two), ""], [1, ""]);
+// What the page's worker cuts: lines of 17 bytes, which fill the megabyte that it holds back but for 16.
+const Cutter = runInNewContext(`${readFileSync(new URL("worker.js", import.meta.url), "utf8")}\nCutter`);
+const cutLines = [];
+const cutter = new Cutter({ split: "blanks", keys: [3, 1], size: 2, answers: [], method: 0, status: 0 }, (bytes) => cutLines.push(Buffer.from(bytes)));
+const columns = Array.from({ length: 70000 }, (_, line) => [1000 + line % 9000, 2000 + line % 7000, 100000 + line]);
+cutter.take(Buffer.from(columns.map((words) => words.join(" ") + "\n").join("")));
+cutter.end();
+same("cut lines", [0, Buffer.concat(cutLines).toString("latin1")], [0, columns.map(([a, b, c]) => `${b} ${c} ${a}\n`).join("")]);
 console.log(`${passed} passed, ${failed} failed`);
 process.exit(failed ? 1 : 0);

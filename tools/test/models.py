@@ -2,9 +2,8 @@
 """Plain models of what scripts call, by which `tools/test/random` answers calls. It runs nothing itself.
 
 They know no index, no link and no running total: a cache is a list of pairs in order, a capacity and a number of places, a list of
-numbers is a list, and misses are counted by a walk through the requests for each capacity. Memory is told as docs/PROVED.md, MODEL.md
-and the scripts `memory`, `growths` and `list` have it: when it is asked for, how often, and what stays where a request
-is refused.
+numbers is a list, and misses are counted by a walk through the requests for each capacity. When memory is asked for, how often, and what
+stays if a request is refused, is as docs/PROVED.md, MODEL.md and the scripts `memory`, `growths` and `list` say.
 """
 import collections
 import fractions
@@ -170,7 +169,7 @@ class Cache:
     def call(self, line):
         name, *words = line.split()
         answer = getattr(self, f"call_{name}", None)
-        return answer(*words) if answer else self.tells(name, *words)
+        return answer(*words) if answer else self.reads(name, *words)
 
     def weight_of(self, value):
         return 0 if not self.weigh else len(value) if self.weigh == "length" else number_of(value)
@@ -359,7 +358,7 @@ class Cache:
         self.places, self.pairs = Places(memory, self.capacity), []
         return said
 
-    def tells(self, name, *words):
+    def reads(self, name, *words):
         if name.endswith("_mut"):
             return self.lends(name, *words)
         if name.startswith("pop_"):
@@ -428,10 +427,10 @@ class Run(Cache):
     def call_resize(self, word):
         return super().call_resize(str(max(int(word), 1)))
 
-    def tells(self, name, *words):
+    def reads(self, name, *words):
         if name in ("front", "back"):
             return found(self.end(name) and self.end(name)[1])
-        return super().tells(name, *words)
+        return super().reads(name, *words)
 
 
 def hits(requests, capacity):
@@ -490,6 +489,22 @@ def sized_curve_of(requests):
         left -= takes
         steps += f" {span}:{left}"
     return said + (f", steps{steps}" if hits and len(hits) <= MOST else "")
+
+
+def soon(requests, times, limit):
+    """Of each request whether it comes within the limit after the latest one of its key, or earlier."""
+    latest = {}
+    for (key, _), time in zip(requests, times):
+        yield key in latest and time - latest[key] <= limit
+        latest[key] = time
+
+
+def idle_curve_of(requests, times, limit):
+    """The curve of requests of which those that are not soon enough miss everywhere."""
+    distinct, plain = len(dict(requests)), [(key, 1) for key, _ in requests]
+    are_soon = list(soon(requests, times, limit))
+    misses = "".join(f" {sum(not (hit and early) for hit, early in zip(hits(plain, capacity), are_soon))}" for capacity in range(1, distinct + 1))
+    return f"distinct {distinct}" + (f", misses{misses}" if distinct <= MOST else "")
 
 
 def at_of(requests, capacity):
@@ -631,6 +646,13 @@ def report_of(requests, at, by_size):
     return "\n".join(["status 0", *lines])
 
 
+def as_json(report):
+    """The same table as JSON: an object for each row, by the names of its columns."""
+    status, header, *rows = report.split("\n")
+    members = (zip(header.split(","), row.split(",")) for row in rows)
+    return "\n".join([status, *("{" + ",".join(f'"{name}":{number}' for name, number in row) + "}" for row in members)])
+
+
 class List:
     """A list of pairs of a place and an item, the front first. Free places are taken again, the last one that came free first."""
 
@@ -641,7 +663,7 @@ class List:
     def call(self, line):
         name, *words = line.split()
         answer = getattr(self, f"call_{name}", None)
-        return answer(*words) if answer else self.tells(name, *words)
+        return answer(*words) if answer else self.reads(name, *words)
 
     def index(self, place):
         return next((at for at, entry in enumerate(self.entries) if entry[0] == int(place)), None)
@@ -748,7 +770,7 @@ class List:
     def call_make_ready(self):
         return "done" if self.places.ready(len(self.entries)) else "no memory"
 
-    def tells(self, name, *words):
+    def reads(self, name, *words):
         length, last = len(self.entries), len(self.entries) - 1
         places, number = self.places, int(words[0]) if words else 0
         return {

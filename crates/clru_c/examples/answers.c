@@ -206,6 +206,36 @@ static void see_floors_by_size(void) {
     }
 }
 
+/* The first misses nothing less below 3 units, so steps by slope would give it none; SIZE_MAX is no cache. */
+static const struct {
+    const char *what;
+    size_t missed_len, missed[12], budget, parts_len;
+    uint32_t code;
+    size_t parts[MOST];
+} of_parts[] = {
+    {"parts", 12, {9, 9, 9, 1, 9, 8, 7, 6, 5, 5, 5, 5}, 3, 3, CLRU_OK, {3, 0, 0}},
+    {"parts of 2 units", 9, {9, 9, 9, 9, 8, 7, 5, 4, 4}, 2, 3, CLRU_OK, {0, 1, 1}},
+    {"parts where one is none", 6, {9, SIZE_MAX, 2, 8, 1, 0}, 2, 2, CLRU_OK, {0, 2}},
+    {"a part that no cache has", 4, {9, SIZE_MAX, 9, SIZE_MAX}, 1, 2, CLRU_OK, {0, 0}},
+    {"parts of nothing", 2, {9, SIZE_MAX}, 0, 2, CLRU_OK, {0, 0}},
+    {"sums past 2^64", 4, {SIZE_MAX, 1, SIZE_MAX, 0}, 1, 2, CLRU_OK, {0, 1}},
+    {"no parts of all", 0, {0}, SIZE_MAX, 0, CLRU_OK, {0}},
+    {"rows too short", 5, {9, 9, 9, 9, 8}, 2, 2, CLRU_WRONG_LENGTH, {0}},
+    {"rows of 2^64 numbers", 0, {0}, SIZE_MAX, 2, CLRU_WRONG_LENGTH, {0}},
+};
+
+static void see_parts(void) {
+    for (size_t row = 0; row < sizeof of_parts / sizeof *of_parts; row++) {
+        Arrays wanted = before;
+        if (of_parts[row].code == CLRU_OK) {
+            memcpy(wanted.misses, of_parts[row].parts, of_parts[row].parts_len * sizeof *of_parts[row].parts);
+        }
+        uint32_t code = clru_split(of_parts[row].missed, of_parts[row].missed_len, of_parts[row].budget, found.misses,
+                                   of_parts[row].parts_len);
+        see(of_parts[row].what, 0, code, of_parts[row].code, &wanted);
+    }
+}
+
 int main(void) {
     found = before;
     see_hits();
@@ -214,5 +244,6 @@ int main(void) {
     see_floors();
     see_by_size();
     see_floors_by_size();
+    see_parts();
     return faults != 0;
 }

@@ -21,7 +21,8 @@ int main() {
         && clru_floor_by_room(keys.data(), keys.size(), rooms.data(), 1, 1, 2, least.data(), 1) == CLRU_OK && least[0] == 5
         && clru_floor_by_size(keys.data(), keys.size(), sizes.data(), sizes.size(), &rooms[0], 1, 1, 2, misses.data(), 1,
                               missed_sizes.data(), 1) == CLRU_OK
-        && misses[0] == 5 && missed_sizes[0] == 10;
+        && misses[0] == 5 && missed_sizes[0] == 10
+        && clru_split(std::vector<size_t>{9, 9, 1, 9, 8, 8}.data(), 6, 2, misses.data(), 2) == CLRU_OK && misses[0] == 2 && misses[1] == 0;
     if (!answered) {
         std::fputs("called: a number from C++ is not as it has to be\n", stderr);
     }

@@ -138,6 +138,7 @@ static void codes_of_arguments(void) {
     expect(clru_least_by_room(keys, KEYS, rooms, 1, 0, 0, least, 2) == CLRU_WRONG_LENGTH, "least too long");
     expect(clru_floor_by_room(keys, KEYS, (size_t[]){3, 0}, 2, 0, 0, least, 2) == CLRU_NO_CAPACITY, "a room of 0 for a floor");
     expect(clru_floor_by_room(keys, KEYS, rooms, 2, 0, 0, least, 1) == CLRU_WRONG_LENGTH, "floors too short");
+    expect(clru_split(sizes, KEYS, KEYS / 2, least, 2) == CLRU_WRONG_LENGTH, "rows too short");
     expect(untouched(), "something was written with a code");
 }
 
@@ -153,6 +154,8 @@ static uint32_t call(int which, uint64_t low) {
         return clru_floor_by_room(keys, KEYS, rooms, 2, low, 0, least, 2);
     case 4:
         return clru_floor_by_size(keys, KEYS, sizes, KEYS, capacities, KEYS, low, 0, misses, KEYS, missed_sizes, KEYS);
+    case 5:
+        return clru_split(sizes, KEYS, KEYS / 2 - 1, least, 2);
     default:
         return clru_least_by_room(keys, KEYS, rooms, 2, low, 0, least, 2);
     }
@@ -162,12 +165,12 @@ static uint32_t call(int which, uint64_t low) {
 static const struct {
     const char *name;
     size_t requests, bytes;
-} needs[6] = {{"hits", 3, 644}, {"misses", 20, 24752}, {"misses by size", 30, 65264}, {"floors", 33, 39176}, {"floors by size", 35, 56920},
-              {"least", 30, 28976}};
+} needs[7] = {{"hits", 3, 644}, {"misses", 20, 24752}, {"misses by size", 30, 65264}, {"floors", 33, 39176}, {"floors by size", 35, 56920},
+              {"parts", 39, 44768}, {"least", 30, 28976}};
 
 /* Refuses each request for memory in turn with all behind it, until the call meets no refusal. */
 static void code_of_refused_memory(uint64_t low) {
-    for (int which = 0; which < 6; which++) {
+    for (int which = 0; which < 7; which++) {
         for (size_t granted = 0;; granted++) {
             reset();
             requested = requested_bytes = 0;
@@ -217,13 +220,18 @@ static void sizes_of_1_agree(uint64_t low) {
     }
 }
 
+/* Without keys no call asks for memory. */
 static void no_keys(void) {
+    passing = 0;
     expect(clru_misses_by_capacity(keys, 0, 0, 0, misses, 2, &number) == CLRU_OK && number == 0 && misses[1] == 0, "no keys");
     expect(clru_hits_at(keys, 0, 5, 0, 0, hits, 0, &number) == CLRU_OK && number == 0, "hits of no keys");
     expect(clru_least_by_room(keys, 0, rooms, 2, 0, 0, least, 2) == CLRU_OK && least[0] == 0, "the least of no keys");
     expect(clru_floor_by_room(keys, 0, rooms, 2, 0, 0, least, 2) == CLRU_OK && least[0] == 0, "the floor of no keys");
     expect(clru_misses_by_size(keys, 0, sizes, 0, capacities, 1, 0, 0, misses, 1, missed_sizes, 1, &number) == CLRU_OK
                && number == 0 && misses[0] == 0 && missed_sizes[0] == 0, "misses by size of no keys");
+    expect(clru_floor_by_size(keys, 0, sizes, 0, capacities, 1, 0, 0, misses, 1, missed_sizes, 1) == CLRU_OK
+               && misses[0] == 0 && missed_sizes[0] == 0, "the floors by size of no keys");
+    passing = (size_t)-1;
 }
 
 int main(void) {

@@ -64,7 +64,7 @@ void *__wrap_realloc(void *block, size_t size) {
 
 static uint64_t keys[MANY];
 static bool hits[MANY];
-static size_t sizes[MANY], misses[1], missed_sizes[1], number;
+static size_t sizes[MANY], misses[100], missed_sizes[1], number;
 
 /* Bytes for each of some, at least and at most. */
 typedef struct {
@@ -188,6 +188,19 @@ static Range of_floors(int are_by_size) {
     return range;
 }
 
+/* Numbers that fall to 0, of 2 to 100 caches. */
+static Range of_parts(void) {
+    Range range = nothing();
+    for (size_t caches = 2; caches <= 100; caches *= 7) {
+        for (size_t budget = 64; budget <= 699; budget = next(budget)) {
+            size_t count = caches * (budget + 1);
+            for (size_t i = 0; i < count; i++) sizes[i] = budget - i % (budget + 1);
+            take(&range, (double)held_by(clru_split(sizes, count, budget, misses, caches)) / count);
+        }
+    }
+    return range;
+}
+
 /* What each call asks for at 70,000 distinct keys, exactly. */
 static void see_requested(const char *name, size_t requests, size_t all) {
     if (requested != requests || requested_bytes != all) {
@@ -224,5 +237,6 @@ int main(void) {
     print("least: ", of_least(), "bytes for each request");
     print("floors: ", of_floors(0), "bytes for each request of a floor in keys");
     print("floors: ", of_floors(1), "bytes for each request of floors by size");
+    print("parts: ", of_parts(), "bytes for each of the numbers");
     return faults != 0;
 }

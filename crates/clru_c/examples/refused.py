@@ -78,6 +78,10 @@ def main():
         seen("a seed is two numbers", clru.floor_by_room, [1, 2], [1], seed)
         seen("a seed is two numbers", clru.floor_by_size, [1, 2], [3, 4], [8], seed)
         seen("a seed is two numbers", clru.misses_by_size, [1, 2], [3, 4], [8], seed)
+    seen("lengths", clru.split, [[9, 1], [9]], 1)
+    seen("from 0 to 2^64 - 1", clru.split, [[9]], 2**64)
+    if list(clru.split([[9, 9, 1], [9, 8, 8]], 2)) != [2, 0] or list(clru.split([], 7)):
+        sys.exit(f"refused: the parts are {list(clru.split([[9, 9, 1], [9, 8, 8]], 2))}")
     if clru._words((5, 6)) != (5, 6):
         sys.exit("refused: the words of a seed in another order")
     seen("", clru.hits_at, [1, 2, 3, 1], ctypes.c_size_t(2))

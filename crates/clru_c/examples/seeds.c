@@ -9,7 +9,8 @@
 /* Of a call with such keys: more than so many times as long as with others. */
 #define SLOWER 5
 
-enum { HITS, CURVE, BY_SIZE, LEAST };
+/* From the fourth on a call has a table of std. */
+enum { HITS, CURVE, BY_SIZE, LEAST, FLOOR, FLOOR_BY_SIZE };
 
 typedef struct {
     uint64_t low, high;
@@ -78,9 +79,9 @@ static uint64_t fixed(const uint64_t *words, size_t count) {
  * joined, of these the lowest bits for a group, and the highest for a tag. */
 static bool shares_place(int which, Seed seed, uint64_t key) {
     const uint64_t words[2] = {key, 1};
-    size_t count = which == BY_SIZE ? 2 : 1;
+    size_t count = which == BY_SIZE || which == FLOOR_BY_SIZE ? 2 : 1;
     uint64_t hash = seed.low || seed.high ? sip(seed, words, count) : fixed(words, count);
-    return which == LEAST ? ((hash ^ hash >> 32) & 0xff00007fu) == 0x35000000u : hash % 4096 == 0;
+    return which >= LEAST ? ((hash ^ hash >> 32) & 0xff00007fu) == 0x35000000u : hash % 4096 == 0;
 }
 
 static void find(int which, Seed seed, uint64_t keys[KEYS]) {
@@ -109,6 +110,12 @@ static size_t call(int which, Seed seed, const uint64_t keys[KEYS]) {
     case BY_SIZE:
         code = clru_misses_by_size(keys, KEYS, sizes, KEYS, &capacity, 1, seed.low, seed.high, numbers, 1, missed_sizes, 1,
                                    &distinct);
+        break;
+    case FLOOR:
+        code = clru_floor_by_room(keys, KEYS, &capacity, 1, seed.low, seed.high, &distinct, 1);
+        break;
+    case FLOOR_BY_SIZE:
+        code = clru_floor_by_size(keys, KEYS, sizes, KEYS, &capacity, 1, seed.low, seed.high, &distinct, 1, missed_sizes, 1);
         break;
     default:
         code = clru_least_by_room(keys, KEYS, &capacity, 1, seed.low, seed.high, &distinct, 1);
@@ -172,5 +179,7 @@ int main(void) {
     see(CURVE, "clru_misses_by_capacity");
     see(BY_SIZE, "clru_misses_by_size");
     see(LEAST, "clru_least_by_room");
+    see(FLOOR, "clru_floor_by_room");
+    see(FLOOR_BY_SIZE, "clru_floor_by_size");
     return faults != 0;
 }

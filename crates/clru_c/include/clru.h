@@ -21,8 +21,8 @@
  * by SipHash-1-3 under them. The results are the same.
  *
  * Every call returns a code. Unless it is CLRU_OK, nothing was written, which is proved too. If several other codes apply, the call
- * returns the least of them except CLRU_NO_MEMORY, which it returns only if memory was refused before the call found its code. So
- * one input always gives the same code, or CLRU_NO_MEMORY. Built and tried on Linux x86-64.
+ * returns the least of them except CLRU_NO_MEMORY, which it returns only if memory was refused before the call found its code, and
+ * never without keys. So one input always gives the same code, or CLRU_NO_MEMORY. Built and tried on Linux x86-64.
  *
  * Memory is what a call holds when it holds the most, as counted by examples/memory.c for 65 to 70,000 keys: also while a table
  * doubles, and the old one stands beside the new one. All of it is freed when the call returns.
@@ -61,7 +61,7 @@ extern "C" {
  * is that number plus 1). And for h from 1 to capacity the misses are at most capacity / (capacity - h + 1) times those of each
  * policy that starts empty, holds at most h keys, and takes in each requested key and no other, even if it knows all requests.
  *
- * Codes: CLRU_NO_CAPACITY, CLRU_WRONG_LENGTH, CLRU_NO_MEMORY, which it never answers where there are no keys.
+ * Codes: CLRU_NO_CAPACITY, CLRU_WRONG_LENGTH, CLRU_NO_MEMORY.
  * Cost: a look-up for each request. Memory: a byte for each request, and a cache of as many entries as there are keys, capacity at
  * most, 44 to 56 bytes each. */
 uint32_t clru_hits_at(const uint64_t *keys, size_t keys_len, size_t capacity, uint64_t seed_low, uint64_t seed_high,
@@ -74,7 +74,7 @@ uint32_t clru_hits_at(const uint64_t *keys, size_t keys_len, size_t capacity, ui
  *
  * Proved: misses[i] is the number of requests that don't hit, as clru_hits_at says it, at capacity i + 1.
  *
- * Codes: CLRU_NO_MEMORY, but never without keys.
+ * Codes: CLRU_NO_MEMORY.
  * Cost: for each request a look-up, and steps that go with the logarithm of their number. Memory: 15 to 32 bytes for each 64
  * requests with the latest of a key, and 68 to 137 bytes for each distinct key. */
 uint32_t clru_misses_by_capacity(const uint64_t *keys, size_t keys_len, uint64_t seed_low, uint64_t seed_high,
@@ -152,6 +152,21 @@ uint32_t clru_misses_by_size(const uint64_t *keys, size_t keys_len, const size_t
 uint32_t clru_floor_by_size(const uint64_t *keys, size_t keys_len, const size_t *sizes, size_t sizes_len,
                             const size_t *rooms, size_t rooms_len, uint64_t seed_low, uint64_t seed_high,
                             size_t *misses, size_t misses_len, size_t *missed_sizes, size_t missed_sizes_len);
+
+/* One budget for several caches: how much of it each gets, so that together they miss the least.
+ *
+ * The budget is counted in units, of 1,000 keys or 64 MB say. missed has a row of budget + 1 numbers for each cache, one row behind
+ * the other: what that cache misses with 0 units, with 1 and so on up to budget, in requests or bytes. The first number is what is
+ * missed without a cache: all requests. UINT64_MAX anywhere else says that there is no cache of so many units, as below the
+ * greatest size. Numbers need not fall. parts has an element for each cache: how many units it gets.
+ *
+ * Proved: the parts are at most budget together, each has a number, and no other such parts miss less together. Of several best
+ * parts it writes those with the least parts[0], then the least parts[1] and so on, which is not proved. Totals cannot overflow.
+ *
+ * Codes: CLRU_WRONG_LENGTH unless missed_len is parts_len * (budget + 1), CLRU_NO_MEMORY.
+ * Cost: parts_len * budget * budget / 2 additions. Memory: 12 to 72 bytes for each of the numbers, the less
+ * the more caches there are: counted for 2 to 98. */
+uint32_t clru_split(const size_t *missed, size_t missed_len, size_t budget, size_t *parts, size_t parts_len);
 
 #ifdef __cplusplus
 }

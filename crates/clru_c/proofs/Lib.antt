@@ -1,4 +1,5 @@
 mod Below
 mod Floored
 mod Marked
+mod MissRows
 mod Objects

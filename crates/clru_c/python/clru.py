@@ -86,6 +86,16 @@ def floor_by_size(keys, sizes, rooms, seed=SEED):
     return misses, missed_sizes
 
 
+def split(missed, budget):
+    """How many units of a budget each of several caches gets, so that together they miss the least. `missed[i][u]` is what cache i misses
+    with u units, from 0 to `budget`; 2^64 - 1 says that there is no such cache."""
+    rows, parts = [_numbers(row) for row in missed], _zeros(len(missed))
+    if any(len(row) != _whole(budget) + 1 for row in rows):
+        raise ValueError(CODES[2])
+    _call("clru_split", _numbers([number for row in rows for number in row]), budget, parts)
+    return parts
+
+
 def numbered(names):
     """An array that has a number for each of the names, the same one for equal names. A file gives its lines."""
     if isinstance(names, TEXTS):

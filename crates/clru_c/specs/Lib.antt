@@ -1,3 +1,4 @@
 pub mod Arrays
 pub mod Codes
 pub mod Objects
+pub mod Parts

@@ -1,4 +1,4 @@
-//! Answers that are written into arrays of the caller. Each call writes where it answers `OK`, and nothing where it doesn't.
+//! Results, written into arrays of the caller. A call that does not return `OK` writes nothing.
 ghost use Rattle.std.specs.Prelude.{◌≡◌, ◌≢◌, [], length, nat_eq, Contains, IfOk, IsOk};
 ghost use Rattle.std.specs.Int.NonZero.{non_zero_usize_get};
 ghost use Rattle.clru_c.specs.Arrays.{AreHits, IsCurve, AreLeast, IsLeastOf};
@@ -42,7 +42,7 @@ pub(crate) fn hits_at<S: BuildHasher + Drop, A: Allocator + Copy>(
     OK
 }
 
-/// The answer of a replay. As a function of its own its loop has the registers to itself.
+/// The result of a replay. In a function of its own the loop has the registers to itself.
 #[inline(never)]
 fn replay_of<S: BuildHasher + Drop, A: Allocator + Copy>(
     alloc: A,
@@ -90,12 +90,17 @@ pub(crate) fn least_by_room<S: BuildHasher + Drop, A: Allocator + Copy>(
     ensures least { result ≡ OK → AreLeast nat_eq keys.now rooms.now least.new }
     ensures left { result ≢ OK → least.new ≡ least.old }
     ensures codes { IsCode (Contains rooms.now 0) (length least.old ≡ length rooms.now) result }
+    ensures never_refused { keys.now ≡ [] → result ≢ NO_MEMORY }
 {
     if rooms.contains(&0) {
         return NO_CAPACITY;
     }
     if least.len() != rooms.len() {
         return WRONG_LENGTH;
+    }
+    if keys.is_empty() {
+        least.fill(0);
+        return OK;
     }
     let Ok(foresight) = Foresight::new(alloc, keys, hash_builder) else {
         return NO_MEMORY;

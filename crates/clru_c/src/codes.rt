@@ -1,4 +1,4 @@
-//! What a call answers as a number, since no enum crosses to C. `include/clru.h` has the same numbers.
+//! The codes that calls return: numbers, because no enum crosses to C. `include/clru.h` has the same.
 
 /// All was written.
 pub(crate) const OK: u32 = 0;

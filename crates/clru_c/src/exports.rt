@@ -1,16 +1,19 @@
 //! What C calls.
 //!
 //! Calls for the two kinds of seeds share no code, since one takes the allocator by reference: what has one caller is inlined.
-ghost use Rattle.std.specs.Prelude.{◌≡◌, ◌≢◌, [], length, nat_eq, Contains};
+ghost use Rattle.std.specs.Prelude.{◌≡◌, ◌≢◌, ◌+◌, ◌*◌, [], length, nat_eq, Contains};
 ghost use Rattle.std.specs.List.{zip};
 ghost use Rattle.clru_c.specs.Arrays.{AreFloors, AreHits, AreLeast, AreSizeFloors, IsCurve};
 ghost use Rattle.clru_c.specs.Codes.{IsCode};
 ghost use Rattle.clru_c.specs.Objects.{AreSizedMisses, IsFloorCode, IsSizedCode, same_object, weight_of};
+ghost use Rattle.clru_c.specs.Parts.{missed_without, missed_with, rows_of};
+ghost use Rattle.clru_split.specs.Splits.{IsBestSplit};
 
 use crate::arrays::{hits_at, least_by_room, misses_by_capacity};
 use crate::codes::{NO_MEMORY, OK};
 use crate::floors::{floor_by_room, floor_by_size};
 use crate::keyed::seeded;
+use crate::parts::parts_of;
 use crate::sized::misses_by_size;
 use clru::DefaultState;
 use std::alloc::Global;
@@ -73,6 +76,7 @@ pub extern "C" fn clru_least_by_room(
     ensures least { result ≡ OK → AreLeast nat_eq keys.now rooms.now least.new }
     ensures left { result ≢ OK → least.new ≡ least.old }
     ensures codes { IsCode (Contains rooms.now 0) (length least.old ≡ length rooms.now) result }
+    ensures never_refused { keys.now ≡ [] → result ≢ NO_MEMORY }
     ensures length { length least.new ≡ length least.old }
 {
     match seeded(seed_low, seed_high) {
@@ -100,6 +104,7 @@ pub extern "C" fn clru_misses_by_size(
     ensures left { result ≢ OK → (misses.new ≡ misses.old) × (missed_sizes.new ≡ missed_sizes.old)
         × (distinct_size.new ≡ distinct_size.old) }
     ensures codes { IsSizedCode keys.now sizes.now capacities.now misses.old missed_sizes.old result }
+    ensures never_refused { keys.now ≡ [] → result ≢ NO_MEMORY }
     ensures length { length misses.new ≡ length misses.old }
     ensures length_of_sizes { length missed_sizes.new ≡ length missed_sizes.old }
 {
@@ -126,6 +131,7 @@ pub extern "C" fn clru_floor_by_room(
     ensures floors { result ≡ OK → AreFloors nat_eq (λ _. 0) keys.now rooms.now floors.new }
     ensures left { result ≢ OK → floors.new ≡ floors.old }
     ensures codes { IsCode (Contains rooms.now 0) (length floors.old ≡ length rooms.now) result }
+    ensures never_refused { keys.now ≡ [] → result ≢ NO_MEMORY }
     ensures length { length floors.new ≡ length floors.old }
 {
     match seeded(seed_low, seed_high) {
@@ -151,10 +157,31 @@ pub extern "C" fn clru_floor_by_size(
         → AreSizeFloors same_object weight_of (zip keys.now sizes.now) rooms.now missed_sizes.new }
     ensures left { result ≢ OK → (misses.new ≡ misses.old) × (missed_sizes.new ≡ missed_sizes.old) }
     ensures codes { IsFloorCode keys.now sizes.now rooms.now misses.old missed_sizes.old result }
+    ensures never_refused { keys.now ≡ [] → result ≢ NO_MEMORY }
+    ensures length { length misses.new ≡ length misses.old }
+    ensures length_of_sizes { length missed_sizes.new ≡ length missed_sizes.old }
 {
     let sums = missed_sizes;
     match seeded(seed_low, seed_high) {
         None => floor_by_size(alloc, keys, sizes, rooms, misses, sums, DefaultState),
         Some(state) => floor_by_size(&alloc, keys, sizes, rooms, misses, sums, state),
     }
+}
+
+/// Writes how many units of the budget each of several caches gets. Each has a row of what it misses with 0 units, with 1 and so on up
+/// to the budget.
+#[unsafe(no_mangle)]
+pub extern "C" fn clru_split(
+    alloc: Global,
+    missed: &[usize],
+    budget: usize,
+    parts: &mut [usize],
+) -> u32
+    ensures parts { result ≡ OK
+        → IsBestSplit missed_without missed_with 1 budget (rows_of (budget + 1) (length parts.old) missed.now) parts.new }
+    ensures left { result ≢ OK → parts.new ≡ parts.old }
+    ensures codes { IsCode ⊥ (length missed.now ≡ length parts.old * (budget + 1)) result }
+    ensures length { length parts.new ≡ length parts.old }
+{
+    parts_of(alloc, missed, budget, parts)
 }

@@ -1,5 +1,5 @@
 //! Floors of what every policy misses, written into arrays of the caller.
-ghost use Rattle.std.specs.Prelude.{◌≡◌, ◌≢◌, ◌^◌, ◌<◌, ◌≤◌, length, nat_eq, slice_index, Contains, EachIndex, IfOk, IsErr};
+ghost use Rattle.std.specs.Prelude.{◌≡◌, ◌≢◌, ◌^◌, ◌<◌, ◌≤◌, [], length, nat_eq, slice_index, Contains, EachIndex, IfOk, IsErr, IsOk};
 ghost use Rattle.std.specs.List.{zip};
 ghost use Rattle.std.specs.Result.{IsErrAnd};
 ghost use Rattle.clru_curve.specs.SizedCurves.{size_of_all};
@@ -27,6 +27,7 @@ pub(crate) fn floor_by_room<S: BuildHasher + Drop, A: Allocator + Copy>(
     ensures floors { result ≡ OK → AreFloors nat_eq (λ _. 0) keys.now rooms.now floors.new }
     ensures left { result ≢ OK → floors.new ≡ floors.old }
     ensures codes { IsCode (Contains rooms.now 0) (length floors.old ≡ length rooms.now) result }
+    ensures never_refused { keys.now ≡ [] → result ≢ NO_MEMORY }
 {
     if rooms.contains(&0) {
         return NO_CAPACITY;
@@ -49,7 +50,8 @@ fn floor_of<S: BuildHasher + Drop, A: Allocator + Copy>(
     keys: &[u64],
     hash_builder: S,
 ) -> Result<Floor<A>, AllocError>
-    ensures { IfOk result (IsFloorOf nat_eq (λ _. 0) keys.now) }
+    ensures floor { IfOk result (IsFloorOf nat_eq (λ _. 0) keys.now) }
+    ensures never_refused { keys.now ≡ [] → IsOk result }
 {
     floor(alloc, keys, hash_builder)
 }
@@ -82,6 +84,7 @@ pub(crate) fn floor_by_size<S: BuildHasher + Drop, A: Allocator + Copy>(
     ensures missed_sizes { result ≡ OK → AreSizeFloors same_object weight_of (zip keys.now sizes.now) rooms.now lost.new }
     ensures left { result ≢ OK → (missed.new ≡ missed.old) × (lost.new ≡ lost.old) }
     ensures codes { IsFloorCode keys.now sizes.now rooms.now missed.old lost.old result }
+    ensures never_refused { keys.now ≡ [] → result ≢ NO_MEMORY }
 {
     if rooms.contains(&0) {
         return NO_CAPACITY;
@@ -114,6 +117,7 @@ fn floors_of<S: BuildHasher + Drop, A: Allocator + Copy>(
     ensures missed_size { IfOk result (λ both. IsSizeFloorOf same_object weight_of objects.now both.1) }
     ensures too_large { IsErrAnd result IsTooLarge → 2 ^ 64 ≤ size_of_all weight_of objects.now }
     ensures passes { 2 ^ 64 ≤ size_of_all weight_of objects.now → IsErr result }
+    ensures never_refused { objects.now ≡ [] → IsOk result }
 {
     let pass = match FloorPass::of_keys(alloc, objects, SizeScale, hash_builder) {
         Ok(pass) => pass,

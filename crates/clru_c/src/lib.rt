@@ -8,4 +8,5 @@ mod codes;
 mod exports;
 mod floors;
 mod keyed;
+mod parts;
 mod sized;

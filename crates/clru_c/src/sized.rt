@@ -1,5 +1,5 @@
 //! The misses by size: each key comes with the size of what it names.
-ghost use Rattle.std.specs.Prelude.{◌≡◌, ◌≢◌, ◌^◌, ◌<◌, ◌≤◌, true, false, length, slice_index, EachIndex, SomeIndex, IfOk, IfErr, IsErr};
+ghost use Rattle.std.specs.Prelude.{◌≡◌, ◌≢◌, ◌^◌, ◌<◌, ◌≤◌, true, false, [], length, slice_index, EachIndex, SomeIndex, IfOk, IfErr, IsErr, IsOk};
 ghost use Rattle.std.specs.List.{zip};
 ghost use Rattle.clru_curve.specs.SizedCurves.{IsSizedCurveOf, misses_within, missed_size_within, size_of_all};
 ghost use Rattle.clru_curve.specs.SizedPasses.{IsNoMemory};
@@ -39,6 +39,7 @@ pub(crate) fn misses_by_size<S: BuildHasher + Drop, A: Allocator + Copy>(
     ensures misses { result ≡ OK → AreSizedMisses (zip keys.now sizes.now) capacities.now missed.new lost.new size.new }
     ensures left { result ≢ OK → (missed.new ≡ missed.old) × (lost.new ≡ lost.old) × (size.new ≡ size.old) }
     ensures codes { IsSizedCode keys.now sizes.now capacities.now missed.old lost.old result }
+    ensures never_refused { keys.now ≡ [] → result ≢ NO_MEMORY }
 {
     if capacities.contains(&0) {
         return NO_CAPACITY;
@@ -75,6 +76,7 @@ fn curve_of<S: BuildHasher + Drop, A: Allocator + Copy>(
     ensures curve { IfOk result (IsSizedCurveOf same_object weight_of objects.now) }
     ensures too_large { size_of_all weight_of objects.now < 2 ^ 64 → IfErr result IsNoMemory }
     ensures passes { 2 ^ 64 ≤ size_of_all weight_of objects.now → IsErr result }
+    ensures never_refused { objects.now ≡ [] → IsOk result }
 {
     sized_curve(alloc, objects, SizeScale, hash_builder)
 }
@@ -127,7 +129,8 @@ pub(crate) fn objects_of<A: Allocator>(
     sizes: &[usize],
 ) -> Result<Vec<(u64, usize), A>, AllocError>
     requires equally_long { length sizes.now ≡ length keys.now }
-    ensures { IfOk result (λ objects. objects.items ≡ zip keys.now sizes.now) }
+    ensures objects { IfOk result (λ objects. objects.items ≡ zip keys.now sizes.now) }
+    ensures never_refused { keys.now ≡ [] → IsOk result }
 {
     let mut objects = Vec::with_capacity(alloc, keys.len())?;
     for index in 0..keys.len() {

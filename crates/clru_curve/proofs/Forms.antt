@@ -1,5 +1,5 @@
--- A form of a key in a pass: it finds a position just where a key that it is equal to was requested.
-use Rattle.std.proofs.Common.{◌≡◌, ℕ, Bool, true, false, List, [], ◌∷◌, Option, Some, None, is_some, IfSome, refl, sym, ap, ◌∙◌, subst}
+-- A form of a key in a pass: it finds what is noted of it just where a key that it is equal to was requested.
+use Rattle.std.proofs.Common.{◌≡◌, Bool, true, false, List, [], ◌∷◌, Option, Some, None, is_some, IfSome, refl, sym, ap, ◌∙◌, subst}
 use Rattle.std.specs.Cmp.{IsEquivalence}
 use Rattle.std.specs.List.{list_any}
 use Rattle.std.specs.Map.{lookup}
@@ -25,21 +25,21 @@ module _ {K : Type 0} (eq : K → K → Bool) (laws : IsEquivalence eq) (test : 
         before = split (eq rest.key y) (λ t. rw t refl) (λ g. rw g rest.before);
       })
 
-  module _ (form : IsForm eq test) (positions : List (K × ℕ)) where
+  module _ (form : IsForm eq test) {V : Type 0} (positions : List (K × V)) where
     -- the key of the position that the form finds
-    pub record IsKeyAt (p : ℕ) : Type 0 where
+    pub record IsKeyAt (p : V) : Type 0 where
       pub key : K
       pub same : test ≡ eq key
       pub found : lookup (eq key) positions ≡ Some p
 
-    pub key_at : (p : ℕ) → lookup test positions ≡ Some p → IsKeyAt p
+    pub key_at : (p : V) → lookup test positions ≡ Some p → IsKeyAt p
     key_at p there =
         let entry = held test {es = positions} (rw there refl) in
         let is = form_is eq test form entry.entry.0 entry.passes in
         record { key = entry.entry.0; same = is; found = subst (λ t. lookup t positions ≡ Some p) is there }
 
     -- each key that the form is equal to is found as the form is
-    pub found_as : (x : K) (o : Option ℕ) → test x ≡ true → lookup test positions ≡ o → lookup (eq x) positions ≡ o
+    pub found_as : (x : K) (o : Option V) → test x ≡ true → lookup test positions ≡ o → lookup (eq x) positions ≡ o
     found_as x o passes there = subst (λ t. lookup t positions ≡ o) (form_is eq test form x passes) there
 
     pub form_known : (past : List K) → ((x : K) → is_some (lookup (eq x) positions) ≡ holds eq x past)

@@ -3,6 +3,9 @@ pub mod Blocks
 pub mod Counted
 pub mod Forms
 pub mod Histograms
+pub mod IdleHistograms
+pub mod IdlePassing
+pub mod IdleReuses
 pub mod LatestSizes
 pub mod Latests
 pub mod Nodes
@@ -12,6 +15,8 @@ pub mod Refusals
 pub mod Rising
 pub mod SizedCurves
 pub mod SizedHits
+pub mod SizedIdleHits
+pub mod SizedIdlePassing
 pub mod SizedPassing
 pub mod Totals
 pub mod UpTo

@@ -16,42 +16,23 @@ use Rattle.clru_curve.specs.Latest.{ones_from}
 use Rattle.clru_curve.specs.Tree.{up_to}
 use Rattle.clru_curve.specs.Passes.{Pass, pass, IsPass}
 use Rattle.clru_curve.proofs.Histograms.{IsHistogram-none, IsHistogram-new, IsHistogram-again, distance_inside, distance_few, HasMissesOf-by}
-use Rattle.clru_curve.proofs.Ranks.{same_some, distinct_measures, IsRanked-new, IsRanked-again}
+use Rattle.clru_curve.proofs.Ranks.{same_some, distinct_measures, IsRanked-none, IsRanked-same, IsRanked-new, IsRanked-again}
 
 module _ {K : Type 0} (eq : K → K → Bool) where
   -- before the first request
   pub IsPass-none : IsPass eq [] (pass [] [] 0 [])
   IsPass-none = record {
-    ranked = record {
-      known = λ x. refl;
-      before = λ x p at. elim (absurd_none at) [ ];
-      latest = λ x p at. elim (absurd_none at) [ ];
-      rank = λ x p at. elim (absurd_none at) [ ];
-      falls = λ p. omega arith;
-      none = refl;
-      few = omega arith;
-    };
+    ranked = IsRanked-none eq (λ x. 1) (distinct eq) (ones_from []) (λ p. refl);
     counted = IsHistogram-none eq;
     requests = refl;
-    latest = λ x q at. elim (absurd_none at) [ ];
+    latest = λ x q at. cc;
   }
-    where
-      absurd_none : {p : ℕ} → None ≡ Some p → ⊥
-      absurd_none e = cc
 
   -- the same bits in other blocks
   pub IsPass-same : (past : List K) (positions : List (K × ℕ)) (bs cs : List Numbered) (n : ℕ) (h : List ℕ) → ((p : ℕ) → ones_from cs p ≡ ones_from bs p)
       → IsPass eq past (pass positions bs n h) → IsPass eq past (pass positions cs n h)
   IsPass-same past positions bs cs n h same is = record {
-    ranked = record {
-      known = is.ranked.known;
-      before = is.ranked.before;
-      latest = λ x p at. omega (arith, same p, is.ranked.latest x p at, same (suc p));
-      rank = λ x p at. same (suc p) ∙ is.ranked.rank x p at;
-      falls = λ p. omega (arith, same p, same (suc p), is.ranked.falls p);
-      none = same n ∙ is.ranked.none;
-      few = is.ranked.few;
-    };
+    ranked = IsRanked-same eq (λ x. 1) (distinct eq) past positions n (ones_from bs) (ones_from cs) same is.ranked;
     counted = is.counted;
     requests = is.requests;
     latest = is.latest;
@@ -145,10 +126,10 @@ module _ {K : Type 0} (eq : K → K → Bool) (past : List K) (p : Pass K) (old 
     pub curve_distinct : length result ≡ distinct eq past
     curve_distinct = ap (λ l. length l) to ∙ len ∙ ap (λ l. length l) from ∙ is.counted.distinct
 
-    pub curve_misses : IsEquivalence eq → ((i : ℕ) → i < length old → get_or curve i 0 + sum (take (suc i) old) ≡ p.requests)
+    pub curve_misses : ((i : ℕ) → i < length old → get_or curve i 0 + sum (take (suc i) old) ≡ p.requests)
         → HasMissesOf eq (reverse past) result
-    curve_misses laws at =
+    curve_misses at =
         subst (λ l. HasMissesOf eq (reverse past) l) (sym to)
-        (HasMissesOf-by eq laws past p.histogram curve is.counted (len ∙ ap (λ l. length l) from)
+        (HasMissesOf-by eq past p.histogram curve is.counted (len ∙ ap (λ l. length l) from)
         (λ i within. let here = at i (omega (arith, within, ap (λ l. length l) from)) in
         omega (arith, here, ap (λ h. sum (take (suc i) h)) from, is.requests)))

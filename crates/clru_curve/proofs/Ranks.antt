@@ -1,5 +1,5 @@
 -- The positions of keys, and what the requests after each measure, after one more request.
-use Rattle.std.proofs.Common.{◌≡◌, ℕ, suc, ◌+◌, ◌<◌, ◌≤◌, Bool, true, false, cond, List, [], ◌∷◌, length, Some, is_some, inl, inr, refl, sym, ap, ◌∙◌, subst, arith}
+use Rattle.std.proofs.Common.{◌≡◌, ℕ, suc, ◌+◌, ◌<◌, ◌≤◌, Bool, true, false, cond, List, [], ◌∷◌, length, Some, None, is_some, inl, inr, refl, sym, ap, ◌∙◌, subst, arith}
 use Rattle.std.proofs.lemmas.Bool.{cases_lt}
 use Rattle.std.specs.Cmp.{IsEquivalence}
 use Rattle.std.specs.Map.{lookup}
@@ -35,6 +35,35 @@ distinct_measures eq laws = record {
   more = λ x past. split (holds eq x past) (λ t. rw t refl) (λ f. rw f (omega arith));
   since_since = λ x y past held. distinct_since_since eq laws x y past held;
 }
+
+module _ {K : Type 0} (eq : K → K → Bool) (size : K → ℕ) (measure : List K → ℕ) where
+  absurd_none : {p : ℕ} → None ≡ Some p → ⊥
+  absurd_none e = cc
+
+  -- what is noted of no request
+  pub IsRanked-none : (f : ℕ → ℕ) → ((p : ℕ) → f p ≡ 0) → IsRanked eq size measure [] [] 0 f
+  IsRanked-none f none = record {
+    known = λ x. refl;
+    before = λ x p at. elim (absurd_none at) [ ];
+    latest = λ x p at. elim (absurd_none at) [ ];
+    rank = λ x p at. elim (absurd_none at) [ ];
+    falls = λ p. omega (arith, none p, none (suc p));
+    none = none 0;
+    few = omega arith;
+  }
+
+  -- the same counts
+  pub IsRanked-same : (past : List K) (positions : List (K × ℕ)) (n : ℕ) (f g : ℕ → ℕ) → ((p : ℕ) → g p ≡ f p)
+      → IsRanked eq size measure past positions n f → IsRanked eq size measure past positions n g
+  IsRanked-same past positions n f g same is = record {
+    known = is.known;
+    before = is.before;
+    latest = λ x p at. omega (arith, same p, is.latest x p at, same (suc p));
+    rank = λ x p at. same (suc p) ∙ is.rank x p at;
+    falls = λ p. omega (arith, same p, same (suc p), is.falls p);
+    none = same n ∙ is.none;
+    few = is.few;
+  }
 
 module _ {K : Type 0} (eq : K → K → Bool) (laws : IsEquivalence eq) (size : K → ℕ) (measure : List K → ℕ) (sums : IsMeasure eq size measure) where
   -- what was requested since y, after one more request of another key

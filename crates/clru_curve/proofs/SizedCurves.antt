@@ -161,19 +161,29 @@ module _ (size : ℕ) (hs ss : List Step) (missed : IsMissed size hs ss) where
   pub as_many_within : (c : ℕ) → hits_within c ss ≡ hits_within c hs
   as_many_within c = hits_within-same c hs ss missed.same_length missed.span
 
+-- what a curve of hits counts at each capacity
+module _ (kept hits : List Step) (n size d g : ℕ) (curve : CurveBySize) (from : hits ≡ kept) (of : IsCurveOfHits hits n size d g curve) where
+  left : IsMissed curve.size of.sorted curve.steps
+  left = rw of.size_in_all of.steps
+
+  pub counts_by : (c : ℕ) → hits_within c curve.steps ≡ hits_within c kept
+  counts_by c = as_many_within curve.size of.sorted curve.steps left c
+      ∙ sum_by-IsPermutation (λ h. cond (nat_le h.capacity c) 1 0) hits of.sorted of.permutation ∙ ap (hits_within c) from
+
+  pub sizes_by : (c : ℕ) → size_after curve.size curve.steps (hits_within c curve.steps) + hit_size c kept ≡ curve.size
+  sizes_by c =
+      let here = size_left_within curve.size of.sorted curve.steps left c of.rising in
+      let same = sum_by-IsPermutation (λ h. cond (nat_le h.capacity c) h.missed_size 0) hits of.sorted of.permutation ∙ ap (hit_size c) from in
+      omega (arith, here, same)
+
 -- the hits of a pass make the curve of its requests
 pub IsSizedCurveOf-by : {K : Type 0} (eq : K → K → Bool) (weight : K → ℕ) (past : List K) (p : PassBySize K) (curve : CurveBySize) (hits : List Step) (n d : ℕ)
     → IsSizedPass eq weight past p → hits ≡ p.hits → n ≡ p.requests → d ≡ total_from p.sizes 0 → IsCurveOfHits hits n p.size d p.greatest curve
     → IsSizedCurveOf eq weight (reverse past) curve
 IsSizedCurveOf-by eq weight past p curve hits n d is from all held of =
-    let moved : (c : ℕ) → hits_within c curve.steps ≡ hits_within c p.hits =
-    λ c. as_many_within curve.size of.sorted curve.steps left c ∙ sum_by-IsPermutation (λ h. cond (nat_le h.capacity c) 1 0) hits of.sorted of.permutation ∙ ap (hits_within c) from in
     record {
-      misses = λ c. omega (arith, moved c, of.requests_in_all, all, is.requests, is.hits.misses c);
-      missed_size = λ c.
-          let here = size_left_within curve.size of.sorted curve.steps left c of.rising in
-          let same = sum_by-IsPermutation (λ h. cond (nat_le h.capacity c) h.missed_size 0) hits of.sorted of.permutation ∙ ap (hit_size c) from in
-          omega (arith, here, same, of.size_in_all, is.size, is.hits.size c);
+      misses = λ c. omega (arith, counts_by p.hits hits n p.size d p.greatest curve from of c, of.requests_in_all, all, is.requests, is.hits.misses c);
+      missed_size = λ c. omega (arith, sizes_by p.hits hits n p.size d p.greatest curve from of c, of.size_in_all, is.size, is.hits.size c);
       again =
           let turned = ap (distinct eq) (reverse-reverse past) in
           let hits_all = length_permutation hits of.sorted of.permutation in
@@ -191,6 +201,3 @@ IsSizedCurveOf-by eq weight past p curve hits n d is from all held of =
       distinct_size = of.distinct_size_in_all ∙ held ∙ is.held ∙ ap (total eq weight) (sym (reverse-reverse past));
       greatest_weight = of.greatest ∙ is.greatest ∙ ap (greatest_of weight) (sym (reverse-reverse past));
     }
-  where
-    left : IsMissed curve.size of.sorted curve.steps
-    left = rw of.size_in_all of.steps

@@ -14,7 +14,7 @@ use Rattle.clru_curve.specs.SizedPasses.{hit_size, AreHits}
 pub count_by-cons : {X : Type 0} (p : X → Bool) (x : X) (xs : List X) → count_by p (x ∷ xs) ≡ cond (p x) 1 0 + count_by p xs
 count_by-cons p x xs = sum_by-cons (λ y. cond (p y) 1 0) x xs
 
-count_by_push : {X : Type 0} (p : X → Bool) (xs : List X) (x : X) → count_by p (xs ++ x ∷ []) ≡ count_by p xs + cond (p x) 1 0
+pub count_by_push : {X : Type 0} (p : X → Bool) (xs : List X) (x : X) → count_by p (xs ++ x ∷ []) ≡ count_by p xs + cond (p x) 1 0
 count_by_push p xs x = sum_by_push (λ y. cond (p y) 1 0) xs x
 
 module _ {K : Type 0} (eq : K → K → Bool) (weight : K → ℕ) (c : ℕ) where

@@ -9,7 +9,7 @@ use Rattle.clru_model.proofs.Finding.{missed, plain_put-missed}
 use Rattle.clru_model.specs.Entries.{plain_put}
 use Rattle.clru_model.specs.Requests.{holds, distinct, since}
 use Rattle.clru_model.specs.Sizes.{SameWeights, total, span}
-use Rattle.clru_curve.proofs.Ranks.{IsMeasure, distinct_measures, IsRanked-new, IsRanked-again, latest_moved}
+use Rattle.clru_curve.proofs.Ranks.{IsMeasure, distinct_measures, IsRanked-none, IsRanked-new, IsRanked-again, latest_moved}
 use Rattle.clru_curve.proofs.SizedHits.{AreHits-none, AreHits-new, AreHits-again}
 use Rattle.clru_curve.proofs.Totals.{total_measures}
 use Rattle.clru_curve.proofs.UpTo.{up_by-le}
@@ -21,39 +21,24 @@ use Rattle.clru_curve.specs.SizedCurves.{step}
 use Rattle.clru_curve.specs.SizedPasses.{pass_by_size, IsSizedPass, IsSoundBySize}
 use Rattle.clru_curve.specs.Tree.{up_by, up_to}
 
-absurd_none : {p : ℕ} → None ≡ Some p → ⊥
-absurd_none e = cc
-
--- what is noted of no request
-none_ranked : {K : Type 0} (eq : K → K → Bool) (size : K → ℕ) (measure : List K → ℕ) (f : ℕ → ℕ) → ((p : ℕ) → f p ≡ 0) → IsRanked eq size measure [] [] 0 f
-none_ranked eq size measure f none = record {
-  known = λ x. refl;
-  before = λ x p at. elim (absurd_none at) [ ];
-  latest = λ x p at. elim (absurd_none at) [ ];
-  rank = λ x p at. elim (absurd_none at) [ ];
-  falls = λ p. omega (arith, none p, none (suc p));
-  none = none 0;
-  few = omega arith;
-}
-
 module _ {K : Type 0} (eq : K → K → Bool) where
   -- before the first request
   pub IsSizedPass-none : (weight : K → ℕ) → IsSizedPass eq weight [] (pass_by_size [] [] 0 [] 0 0)
   IsSizedPass-none weight = record {
-    ranked = none_ranked eq (λ x. 1 + weight x) (total eq weight) (total_from []) (λ p. refl);
+    ranked = IsRanked-none eq (λ x. 1 + weight x) (total eq weight) (total_from []) (λ p. refl);
     hits = AreHits-none eq weight;
     requests = refl;
     held = refl;
     size = refl;
     greatest = refl;
-    latest = λ x q at. elim (absurd_none at) [ ];
+    latest = λ x q at. cc;
   }
 
   pub IsSoundBySize-none : (nodes : List ℕ) → IsSummed [] nodes 0 → IsSoundBySize eq nodes (pass_by_size [] [] 0 [] 0 0)
   IsSoundBySize-none nodes summed = record {
     summed = summed;
     past = [];
-    ranked = none_ranked eq (λ x. 1) (distinct eq) (live_from []) (λ p. refl);
+    ranked = IsRanked-none eq (λ x. 1) (distinct eq) (live_from []) (λ p. refl);
     few_hits = omega arith;
     many = omega arith;
     held = omega arith;

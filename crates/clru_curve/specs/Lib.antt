@@ -1,10 +1,13 @@
 pub mod Curves
 pub mod Errors
+pub mod IdlePasses
 pub mod Latest
 pub mod LatestSizes
 pub mod Passes
 pub mod Ranked
 pub mod Rising
+pub mod Seen
 pub mod SizedCurves
+pub mod SizedIdlePasses
 pub mod SizedPasses
 pub mod Tree

@@ -23,14 +23,14 @@ impl<A: Allocator> Model for MissCurve<A> {
 }
 
 impl<A: Allocator> MissCurve<A> {
-    /// Returns the number of misses at any capacity. If all keys have room, there are as many misses as distinct keys.
+    /// Returns the number of misses at any capacity. Where all keys have room, it stays the same.
     /// Cost: a read.
     pub fn misses(&self, capacity: NonZeroUsize) -> usize
         ensures { result ≡ misses_at self.now (non_zero_usize_get capacity) }
     {
         match self.misses.get(capacity.get() - 1) {
             Some(misses) => *misses,
-            None => self.distinct(),
+            None => self.misses.last().copied().unwrap_or(0),
         }
     }
 

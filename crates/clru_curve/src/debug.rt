@@ -1,8 +1,9 @@
 //! What `{:?}` prints of passes and curves: counts, and nothing of the keys.
 
 use crate::curve::MissCurve;
+use crate::idle::IdlePass;
 use crate::pass::DistancePass;
-use crate::sized::{SizedCurve, SizedPass};
+use crate::sized::{SizedCurve, SizedIdlePass, SizedPass};
 use std::alloc::Allocator;
 use std::fmt;
 use std::hash::{BuildHasher, Hash};
@@ -16,12 +17,33 @@ impl<K: Eq + Hash, S: BuildHasher, A: Allocator + Copy> fmt::Debug for DistanceP
     }
 }
 
+impl<K: Eq + Hash, S: BuildHasher, A: Allocator + Copy> fmt::Debug for IdlePass<K, S, A> {
+    fn fmt<W: fmt::Write>(&self, f: &mut fmt::Formatter<W>) -> fmt::Result {
+        f.debug_struct("IdlePass")
+            .field("requests", &self.latest.requests)
+            .field("distinct", &self.seen.len())
+            .field("limit", &self.limit)
+            .finish()
+    }
+}
+
 impl<K: Eq + Hash, S: BuildHasher, A: Allocator + Copy> fmt::Debug for SizedPass<K, S, A> {
     fn fmt<W: fmt::Write>(&self, f: &mut fmt::Formatter<W>) -> fmt::Result {
         f.debug_struct("SizedPass")
             .field("requests", &self.latest.requests)
             .field("size", &self.size)
             .field("distinct", &self.positions.len())
+            .finish()
+    }
+}
+
+impl<K: Eq + Hash, S: BuildHasher, A: Allocator + Copy> fmt::Debug for SizedIdlePass<K, S, A> {
+    fn fmt<W: fmt::Write>(&self, f: &mut fmt::Formatter<W>) -> fmt::Result {
+        f.debug_struct("SizedIdlePass")
+            .field("requests", &self.latest.requests)
+            .field("size", &self.size)
+            .field("distinct", &self.seen.len())
+            .field("limit", &self.limit)
             .finish()
     }
 }

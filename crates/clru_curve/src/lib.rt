@@ -5,7 +5,7 @@
 //! A pass notes for each key the number of its latest request, in a cache that drops nothing, and a bit for each request,
 //! which is set if that request is the latest of its key. The distance of a request is the number of bits after the one
 //! of its key; a Fenwick tree over the blocks counts them. A request costs a look-up, and steps that grow as the
-//! logarithm of the number of requests. Bits stand in blocks, and blocks without a set bit are dropped, so memory goes with the
+//! logarithm of the number of requests. Bits stand in blocks, and blocks without a set bit are dropped, so memory grows with the
 //! distinct keys.
 //!
 //! If keys weigh something, a sized pass does the same with a size instead of each bit, and sums instead of numbers of bits; it
@@ -14,17 +14,22 @@
 
 mod curve;
 mod debug;
+mod idle;
 mod latest;
 mod list;
 mod numbered;
 mod pass;
+mod seen;
 mod sized;
 mod tree;
 
 pub use clru::{DefaultState, NoMemory, WeightScale};
-pub use clru_model::{law_bounds, law_distances, law_parts, law_sizes, law_spans_by_position};
+pub use clru_model::{
+    law_ages, law_bounds, law_distances, law_parts, law_sizes, law_spans_by_position,
+};
 pub use curve::MissCurve;
+pub use idle::IdlePass;
 pub use list::miss_curve;
 pub use pass::DistancePass;
-pub use sized::{SizedCurve, SizedPass, SizedRequestError, Step, sized_curve};
+pub use sized::{SizedCurve, SizedIdlePass, SizedPass, SizedRequestError, Step, sized_curve};
 pub use std::num::NonZeroUsize;

@@ -219,10 +219,10 @@ impl<K: Eq + Hash, S: BuildHasher, A: Allocator + Copy> DistancePass<K, S, A> {
 }
 
 /// A cache that holds nothing. It takes no memory.
-pub(crate) fn no_positions<K: Eq + Hash, S: BuildHasher, A: Allocator + Copy>(
+pub(crate) fn no_positions<K: Eq + Hash, V: Copy, S: BuildHasher, A: Allocator + Copy>(
     alloc: A,
     hash_builder: S,
-) -> CLruCache<K, usize, S, ZeroWeightScale, A>
+) -> CLruCache<K, V, S, ZeroWeightScale, A>
     ensures { result.entries ≡ [] }
 {
     let capacity = NonZeroUsize::MIN.saturating_add(FIRST_CAPACITY - 1);
@@ -232,9 +232,12 @@ pub(crate) fn no_positions<K: Eq + Hash, S: BuildHasher, A: Allocator + Copy>(
 /// Doubles the capacity of a cache that is full, so that a put drops nothing.
 ///
 /// The capacity bounds how far the places grow, fourfold else; each takes two buckets and a link, which are all written at once.
-pub(crate) fn double_if_full<K: Eq + Hash + Drop, S: BuildHasher, A: Allocator + Copy>(
-    positions: &mut CLruCache<K, usize, S, ZeroWeightScale, A>,
-)
+pub(crate) fn double_if_full<K, V, S, A>(positions: &mut CLruCache<K, V, S, ZeroWeightScale, A>)
+where
+    K: Eq + Hash + Drop,
+    V: Copy,
+    S: BuildHasher,
+    A: Allocator + Copy,
     requires { length positions.old.entries + 1 < 2 ^ 64 }
     ensures entries { positions.new.entries ≡ positions.old.entries }
     ensures room { length positions.new.entries < positions.new.capacity }
@@ -250,13 +253,14 @@ pub(crate) fn double_if_full<K: Eq + Hash + Drop, S: BuildHasher, A: Allocator +
 }
 
 /// Gives a key that is held another position, and returns the one that it had.
-pub(crate) fn move_position<K, S, A, Q>(
-    positions: &mut CLruCache<K, usize, S, ZeroWeightScale, A>,
+pub(crate) fn move_position<K, V, S, A, Q>(
+    positions: &mut CLruCache<K, V, S, ZeroWeightScale, A>,
     key: Q,
-    here: usize,
-) -> Option<usize>
+    here: V,
+) -> Option<V>
 where
     K: Eq + Hash,
+    V: Copy,
     S: BuildHasher,
     A: Allocator + Copy,
     Q: Equivalent<K>,
@@ -286,7 +290,7 @@ pub(crate) fn copied<T: Copy, A: Allocator>(alloc: A, items: &[T]) -> Result<Vec
 }
 
 /// Turns the number of requests at each distance into the misses at each capacity.
-fn misses_of(histogram: &mut [usize], requests: usize)
+pub(crate) fn misses_of(histogram: &mut [usize], requests: usize)
     requires within { (k : ℕ) → sum (take k histogram.old) ≤ requests }
     ensures len { length histogram.new ≡ length histogram.old }
     ensures misses { (i : ℕ) → i < length histogram.old

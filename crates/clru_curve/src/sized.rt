@@ -2,6 +2,7 @@
 
 mod curve;
 mod error;
+mod idle;
 mod list;
 mod pass;
 mod sizes;
@@ -9,6 +10,7 @@ mod step;
 
 pub use curve::SizedCurve;
 pub use error::SizedRequestError;
+pub use idle::SizedIdlePass;
 pub use list::sized_curve;
 pub use pass::SizedPass;
 pub use step::Step;

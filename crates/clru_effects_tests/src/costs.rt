@@ -11,14 +11,16 @@ const KEYS: usize = 10;
 
 // Of a form, whether by size, and whether with the least, or by size the floors: its requests for memory, and their bytes.
 static REQUESTS: &[(Form, bool, bool, u64, u64)] = &[
-    (Form::Table, false, false, 57, 69488),
-    (Form::Table, true, false, 73, 106402),
-    (Form::Table, true, true, 97, 187074),
-    (Form::Table, false, true, 88, 123453),
-    (Form::Picture, false, false, 68, 88376),
-    (Form::Picture, true, false, 93, 174925),
-    (Form::Picture, true, true, 122, 260032),
-    (Form::Picture, false, true, 101, 143673),
+    (Form::Table, false, false, 36, 69278),
+    (Form::Table, true, false, 48, 106174),
+    (Form::Table, true, true, 60, 186414),
+    (Form::Table, false, true, 52, 78710),
+    (Form::Json, false, false, 37, 69790),
+    (Form::Json, true, true, 61, 187438),
+    (Form::Picture, false, false, 47, 88166),
+    (Form::Picture, true, false, 68, 174697),
+    (Form::Picture, true, true, 85, 259372),
+    (Form::Picture, false, true, 65, 98930),
     (Form::Summary, false, false, 31, 68871),
     (Form::Summary, true, false, 39, 104630),
     (Form::Summary, true, true, 39, 104630),
@@ -27,10 +29,10 @@ static REQUESTS: &[(Form, bool, bool, u64, u64)] = &[
 
 // The same of a sample, which keeps half of the keys: whether by size, its hashes too.
 static OF_SAMPLES: &[(Form, bool, u64, u64, u64)] = &[
-    (Form::Table, false, 514, 45, 69001),
-    (Form::Table, true, 514, 60, 89595),
-    (Form::Picture, false, 514, 56, 87607),
-    (Form::Picture, true, 514, 79, 133493),
+    (Form::Table, false, 514, 29, 68871),
+    (Form::Table, true, 514, 40, 88999),
+    (Form::Picture, false, 514, 40, 87477),
+    (Form::Picture, true, 514, 59, 132897),
     (Form::Summary, false, 514, 19, 67984),
     (Form::Summary, true, 514, 33, 88231),
 ];

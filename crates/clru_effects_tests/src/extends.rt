@@ -1,11 +1,10 @@
 //! The memory of `extend` and of `from_iter`: their puts ask for it one by one, and the first refusal ends them.
 
-use crate::plain::{Plain, REQUESTS, holds_those_below, takes_out_those_below};
+use crate::plain::{Plain, REQUESTS, holds_those_below, room, takes_out_those_below};
 use clru::{CLruCache, DefaultState, NoMemory, NonZeroUsize};
-use ration::{Rationed, capacity_of, equal};
+use ration::{Rationed, equal};
 use std::alloc::Global;
 use std::cell::Cell;
-use std::test::Fail;
 
 /// Extends by the keys from `first` to before `end`, each with ten more as its value, and counts those that are drawn.
 fn extends(cache: &mut Plain, first: u64, end: u64, drawn: &Cell<u64>) -> Result<(), (u64, u64)> {
@@ -41,9 +40,9 @@ fn counts(heap: &Rationed<Global>, drawn: &Cell<u64>) -> Counts {
 }
 
 #[test]
-fn each_refusal_ends_an_extend(rt: HostRuntime) -> Result<(), Fail> {
+fn each_refusal_ends_an_extend(rt: HostRuntime) {
     // Below 68 a growth would ask for the index for all, and where that is refused once more.
-    let hundred = capacity_of(100)?;
+    let hundred = room(100);
     for n in 0..=2 * REQUESTS {
         let heap = Rationed::new(rt.alloc());
         let stored = stored_after(n);
@@ -52,10 +51,8 @@ fn each_refusal_ends_an_extend(rt: HostRuntime) -> Result<(), Fail> {
         } else {
             Ok(())
         };
-        equal!(rt; ends(&heap, hundred, n), (back, counts_after(n), true), n);
-        equal!(rt; heap.blocks(), 0, n);
+        equal!(rt; (ends(&heap, hundred, n), heap.blocks()), ((back, counts_after(n), true), 0), n);
     }
-    Ok(())
 }
 
 /// What comes back of an extend by nine keys that is refused memory, its counts, and whether the cache then has what was
@@ -85,26 +82,41 @@ fn goes_on(cache: &mut Plain, stored: u64, drawn: &Cell<u64>) -> bool {
         && takes_out_those_below(cache, 9)
 }
 
-// What an extend replaces or drops is gone before the next item is drawn: besides the index and the entries there is one value.
-#[test]
-fn an_extend_drops_before_it_draws(rt: HostRuntime) -> Result<(), Fail> {
-    let heap = Rationed::new(rt.alloc());
-    equal!(rt; most_blocks_at_draws(&heap, capacity_of(1)?), 3);
-    equal!(rt; heap.blocks(), 0);
-    Ok(())
+/// Counts how many there are.
+struct Live<'a> {
+    count: &'a Cell<u64>,
 }
 
-/// The most blocks there are at a draw of an item, where each key comes twice in a row.
-fn most_blocks_at_draws(heap: &Rationed<Global>, capacity: NonZeroUsize) -> u64 {
-    let most = Cell::new(0);
-    let mut cache = CLruCache::new(heap, capacity);
+impl Drop for Live<'_> {
+    fn drop(self) {
+        let Live { count } = self;
+        count.set(count.get().wrapping_sub(1));
+    }
+}
+
+// What an extend replaces or drops is gone before the next item is drawn.
+#[test]
+fn an_extend_drops_before_it_draws(rt: HostRuntime) {
+    equal!(rt; most_live_at_draws(rt.alloc()), (1, 0));
+}
+
+/// The most values there are at a draw of an item, where each key comes twice in a row, and how many are left.
+fn most_live_at_draws(alloc: Global) -> (u64, u64) {
+    let (live, most) = (Cell::new(0), Cell::new(0));
+    extends_by_live(&mut CLruCache::new(alloc, room(1)), &live, &most);
+    (most.get(), live.get())
+}
+
+fn extends_by_live<'a>(
+    cache: &mut CLruCache<u64, Live<'a>>,
+    live: &'a Cell<u64>,
+    most: &Cell<u64>,
+) {
     let _ = cache.extend((0..6u64).map(|number| {
-        most.set(most.get().max(heap.blocks()));
-        let mut value = Vec::new(heap);
-        let _ = value.push(number);
-        (number / 2, value)
+        most.set(most.get().max(live.get()));
+        live.set(live.get().wrapping_add(1));
+        (number / 2, Live { count: live })
     }));
-    most.get()
 }
 
 /// Collects the keys below `end`, each with ten more as its value, and counts those that are drawn.
@@ -127,8 +139,8 @@ fn collects<'a>(
 fn each_refusal_ends_a_from_iter(rt: HostRuntime) {
     for n in 0..=2 * REQUESTS {
         let heap = Rationed::new(rt.alloc());
-        equal!(rt; is_collected(&heap, n), (n == 2 * REQUESTS, counts_after(n)), n);
-        equal!(rt; heap.blocks(), 0, n);
+        let wanted = (n == 2 * REQUESTS, counts_after(n));
+        equal!(rt; (is_collected(&heap, n), heap.blocks()), (wanted, 0), n);
     }
 }
 
@@ -150,12 +162,10 @@ fn is_nine(cache: &mut Plain) -> bool {
 // The places are 4, 16, 64, 256, and then 1,000, or 1,024 where the capacity comes last. Where it is known, the index is made for
 // all at 256 places, and the last growth asks once.
 #[test]
-fn a_thousand_items_go_in(rt: HostRuntime) -> Result<(), Fail> {
-    let thousand = capacity_of(1000)?;
+fn a_thousand_items_go_in(rt: HostRuntime) {
     let heap = Rationed::new(rt.alloc());
-    equal!(rt; extends_to_1000(&heap, thousand), (true, 1000, 5 * REQUESTS - 1));
+    equal!(rt; extends_to_1000(&heap, room(1000)), (true, 1000, 5 * REQUESTS - 1));
     equal!(rt; collects_1000(&heap), (1000, 1000, 10 * REQUESTS - 1));
-    Ok(())
 }
 
 fn extends_to_1000(heap: &Rationed<Global>, capacity: NonZeroUsize) -> (bool, usize, u64) {
@@ -172,44 +182,6 @@ fn collects_1000(heap: &Rationed<Global>) -> (usize, usize, u64) {
         Ok(cache) => (cache.len(), cache.capacity(), heap.requests()),
         Err(NoMemory) => (0, 0, 0),
     }
-}
-
-type Text<'a> = String<&'a Rationed<Global>>;
-
-type Texts<'a> = Vec<(Text<'a>, Text<'a>), &'a Rationed<Global>>;
-
-/// Pairs of two texts each, in a vector: their blocks are two for each pair, and one.
-fn texts(heap: &Rationed<Global>) -> Texts<'_> {
-    let mut pairs = Vec::new(heap);
-    for letter in ["a", "b", "c", "b", "d", "e", "f"] {
-        pushes_text(heap, &mut pairs, letter);
-    }
-    pairs
-}
-
-/// Pushes a pair. A test that counts its blocks sees where it did not go in.
-fn pushes_text<'a>(heap: &'a Rationed<Global>, pairs: &mut Texts<'a>, letter: &str) {
-    let Ok(key) = String::from_str(heap, letter) else {
-        return;
-    };
-    let Ok(value) = String::from_str(heap, "value") else {
-        return;
-    };
-    let _ = pairs.push((key, value));
-}
-
-#[test]
-fn a_refused_from_iter_forgets_no_item(rt: HostRuntime) {
-    for n in 0..=2 * REQUESTS {
-        let heap = Rationed::new(rt.alloc());
-        equal!(rt; (collects_texts(&heap, n), heap.blocks()), (n == 2 * REQUESTS, 0), n);
-    }
-}
-
-fn collects_texts(heap: &Rationed<Global>, n: u64) -> bool {
-    let pairs = texts(heap);
-    heap.refuse_after(n);
-    CLruCache::from_iter(heap, DefaultState, pairs).is_ok()
 }
 
 /// Notes its digit when it is dropped.

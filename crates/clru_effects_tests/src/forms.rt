@@ -1,22 +1,21 @@
 //! Look-ups by a form of the key: a text that is lent, where the keys own their memory.
 
+use crate::plain::room;
 use clru::{CLruCache, DefaultState, NonZeroUsize, ZeroWeightScale};
 use clru_curve::{DistancePass, SizedPass};
-use ration::{Rationed, capacity_of, equal};
-use std::alloc::Global;
-use std::test::Fail;
+use ration::{Rationed, equal};
+use std::alloc::{Allocator, Global};
 
-type Key<'a> = String<&'a Rationed<Global>>;
+/// A cache of texts over any memory, as their keys: what calls it is proved with no look at how that counts.
+type Texts<A> = CLruCache<String<A>, u64, DefaultState, ZeroWeightScale, A>;
 
-type Texts<'a> = CLruCache<Key<'a>, u64, DefaultState, ZeroWeightScale, &'a Rationed<Global>>;
+type Heap<'a> = &'a Rationed<Global>;
 
 /// Also the Rust crate's test_get_with_borrow and test_get_mut_with_borrow.
 #[test]
-fn a_look_up_by_a_lent_text_asks_for_no_memory(rt: HostRuntime) -> Result<(), Fail> {
-    let two = capacity_of(2)?;
+fn a_look_up_by_a_lent_text_asks_for_no_memory(rt: HostRuntime) {
     let heap = Rationed::new(rt.alloc());
-    equal!(rt; (requests(&heap, two), heap.blocks()), (Some(0), 0));
-    Ok(())
+    equal!(rt; (requests(&heap, room(2)), heap.blocks()), (Some(0), 0));
 }
 
 /// How many requests each look-up of a held text makes with the others, where each finds it.
@@ -30,7 +29,11 @@ fn requests(heap: &Rationed<Global>, capacity: NonZeroUsize) -> Option<u64> {
     }
 }
 
-fn requests_of<'a>(heap: &'a Rationed<Global>, cache: &mut Texts<'a>, key: Key<'a>) -> Option<u64> {
+fn requests_of<'a>(
+    heap: &'a Rationed<Global>,
+    cache: &mut Texts<Heap<'a>>,
+    key: String<Heap<'a>>,
+) -> Option<u64> {
     let _ = cache.put(key, 3);
     let before = heap.requests();
     if looks(cache, "apple") {
@@ -40,27 +43,24 @@ fn requests_of<'a>(heap: &'a Rationed<Global>, cache: &mut Texts<'a>, key: Key<'
     }
 }
 
-fn looks(cache: &mut Texts, text: &str) -> bool {
+fn looks<A: Allocator + Copy>(cache: &mut Texts<A>, text: &str) -> bool {
     finds(cache, text) && writes(cache, text) && cache.pop(text) == Some(3) && !cache.contains(text)
 }
 
-fn finds(cache: &Texts, text: &str) -> bool {
-    cache.contains(text) && cache.peek(text) == Some(&3)
+fn finds<A: Allocator + Copy>(cache: &Texts<A>, text: &str) -> bool {
+    cache.contains(text) && cache.peek(text).copied() == Some(3)
 }
 
-fn writes(cache: &mut Texts, text: &str) -> bool {
-    cache.get(text) == Some(&3)
+fn writes<A: Allocator + Copy>(cache: &mut Texts<A>, text: &str) -> bool {
+    cache.get(text).copied() == Some(3)
         && cache.peek_mut(text).copied() == Some(3)
         && cache.get_mut(text).copied() == Some(3)
 }
 
 #[test]
-fn a_pass_is_asked_again_by_a_lent_text_and_asks_for_no_memory(
-    rt: HostRuntime,
-) -> Result<(), Fail> {
+fn a_pass_is_asked_again_by_a_lent_text_and_asks_for_no_memory(rt: HostRuntime) {
     let heap = Rationed::new(rt.alloc());
     equal!(rt; (distances(&heap), spans(&heap), heap.blocks()), (Some((1, 0)), Some((5, 0)), 0));
-    Ok(())
 }
 
 /// The distance of a key that comes again, asked for by its text, and the requests for memory of that.
@@ -76,14 +76,16 @@ fn distances(heap: &Rationed<Global>) -> Option<(usize, u64)> {
     }
 }
 
-type Distances<'a> = DistancePass<Key<'a>, DefaultState, &'a Rationed<Global>>;
-
 /// Whether a text was not requested before. It is then.
-fn is_first<'a>(heap: &'a Rationed<Global>, pass: &mut Distances<'a>, text: &str) -> bool {
+fn is_first<A: Allocator + Copy>(
+    heap: A,
+    pass: &mut DistancePass<String<A>, DefaultState, A>,
+    text: &str,
+) -> bool {
     let Ok(key) = String::from_str(heap, text) else {
         return false;
     };
-    pass.request_again(text).ok() == Some(None) && pass.request(key).ok() == Some(None)
+    matches!(pass.request_again(text), Ok(None)) && matches!(pass.request(key), Ok(None))
 }
 
 /// The same of spans, where the weights are 1 and 2.
@@ -101,17 +103,15 @@ fn spans(heap: &Rationed<Global>) -> Option<(usize, u64)> {
     }
 }
 
-type Spans<'a> = SizedPass<Key<'a>, DefaultState, &'a Rationed<Global>>;
-
-fn is_first_sized<'a>(
-    heap: &'a Rationed<Global>,
-    pass: &mut Spans<'a>,
+fn is_first_sized<A: Allocator + Copy>(
+    heap: A,
+    pass: &mut SizedPass<String<A>, DefaultState, A>,
     text: &str,
     weight: usize,
 ) -> bool {
     let Ok(key) = String::from_str(heap, text) else {
         return false;
     };
-    pass.request_again(text, weight).ok() == Some(None)
-        && pass.request(key, weight).ok() == Some(None)
+    matches!(pass.request_again(text, weight), Ok(None))
+        && matches!(pass.request(key, weight), Ok(None))
 }

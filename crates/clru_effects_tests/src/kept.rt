@@ -27,7 +27,7 @@ impl<A: Allocator + Copy> Model for Kept<A> {
 }
 
 impl<A: Allocator + Copy> Kept<A> {
-    /// No pairs, under a capacity and a limit for places of 4 bytes.
+    /// Creates a map of no pairs, with a capacity and a limit for places of 4 bytes.
     #[tactic(auto, using(crate::proofs::Distinct::distinct_pairs))]
     pub fn new(alloc: A, capacity: usize, limit: usize) -> Self {
         Kept {
@@ -35,7 +35,7 @@ impl<A: Allocator + Copy> Kept<A> {
         }
     }
 
-    /// The value of a key.
+    /// Returns the value of a key.
     pub fn get(&self, key: u64) -> Option<u64> {
         self.map.get(self.map.hash(&key), &key).copied()
     }
@@ -70,7 +70,7 @@ impl<A: Allocator + Copy> Kept<A> {
         }
     }
 
-    /// Whether the keys from `first` to before `end` are held, and none below them, the last one first.
+    /// Returns whether the keys from `first` to before `end` are held, and none below them, the last one first.
     pub fn holds(&self, first: u64, end: u64) -> bool {
         for key in 0..first {
             if self.get(key).is_some() {

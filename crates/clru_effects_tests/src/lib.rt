@@ -1,8 +1,9 @@
-//! What calls do beside what they answer, where a script can't say it. What is owned is dropped once, and refused memory leaves
-//! all as it was: iterators that are drawn no further than to a refusal, makers of configurations, items of a list that own
-//! memory, look-ups by a lent text, a source that takes memory of its own, memory that was lent, an index past its limit for 4
-//! bytes, and what the allocator that refuses counts. What the programs stand on: readers that break, writers that fill up or
-//! close, what a report asks for, and what reads and writes lines.
+//! Effects of calls that no script can show.
+//!
+//! Owned values are dropped once, and refused memory changes nothing: iterators up to a refusal, constructors by a configuration,
+//! items that own memory, look-ups by a borrowed text, a source that takes memory itself, lent memory, an index above its limit for
+//! 4 bytes, and the counts of the allocator that refuses. For the programs: readers that fail, writers that are full or closed,
+//! the memory of a report, and the reading and writing of lines.
 #![tactic(auto)]
 
 #[cfg(test)]

@@ -1,10 +1,9 @@
 //! Makers that find memory for their entries, and those that are refused.
 
-use crate::plain::{Plain, REQUESTS};
+use crate::plain::{Numbers, Plain, REQUESTS, room};
 use clru::{CLruCache, CLruCacheConfig, NoMemory, NonZeroUsize};
-use ration::{Rationed, capacity_of, equal};
-use std::alloc::Global;
-use std::test::Fail;
+use ration::{Rationed, equal};
+use std::alloc::{Allocator, Global};
 
 /// A maker that takes a reserve.
 #[derive(Clone, Copy, Debug)]
@@ -35,8 +34,8 @@ fn makes<'a>(
 }
 
 #[test]
-fn each_refusal_leaves_no_block(rt: HostRuntime) -> Result<(), Fail> {
-    let four = capacity_of(4)?;
+fn each_refusal_leaves_no_block(rt: HostRuntime) {
+    let four = room(4);
     for maker in RESERVING {
         for n in 0..=REQUESTS {
             let heap = Rationed::new(rt.alloc());
@@ -50,20 +49,21 @@ fn each_refusal_leaves_no_block(rt: HostRuntime) -> Result<(), Fail> {
             );
         }
     }
-    Ok(())
 }
 
 /// How many new keys go in before one is refused or the first one goes, where each request is refused.
 fn free_places(heap: &Rationed<Global>, cache: &mut Plain) -> u64 {
     heap.refuse_after(0);
-    let mut put = 0;
+    puts_up_to_full(cache)
+}
+
+fn puts_up_to_full<A: Allocator + Copy>(cache: &mut Numbers<A>) -> u64 {
     for key in 0..2000u64 {
         if cache.len() == cache.capacity() || cache.put(key, key).is_err() {
-            return put;
+            return key;
         }
-        put = key + 1;
     }
-    put
+    2000
 }
 
 type Config = CLruCacheConfig<u64, u64>;
@@ -93,8 +93,8 @@ fn makes_again(
 }
 
 #[test]
-fn a_refused_configuration_comes_back_as_it_was(rt: HostRuntime) -> Result<(), Fail> {
-    let four = capacity_of(4)?;
+fn a_refused_configuration_comes_back_as_it_was(rt: HostRuntime) {
+    let four = room(4);
     for n in 0..REQUESTS {
         let heap = Rationed::new(rt.alloc());
         for (reserve, places) in [(None, 3), (Some(2), 2), (Some(0), 0)] {
@@ -104,5 +104,4 @@ fn a_refused_configuration_comes_back_as_it_was(rt: HostRuntime) -> Result<(), F
         }
         equal!(rt; heap.blocks(), 0, n);
     }
-    Ok(())
 }

@@ -2,12 +2,12 @@
 ghost use Rattle.std.specs.Prelude.{length};
 
 use crate::fakes::Counting;
+use crate::plain::room;
 use clru::{CLruCache, CLruCacheConfig, DefaultState, WeightScale};
 use clru_linked_map::LinkedHashMap;
-use ration::{Rationed, capacity_of, equal, shows};
-use std::alloc::Global;
+use ration::{Rationed, equal, shows};
+use std::alloc::{AllocError, Global};
 use std::cell::Cell;
-use std::test::Fail;
 
 /// A text weighs its number of bytes.
 #[derive(Clone, Copy)]
@@ -24,18 +24,21 @@ impl WeightScale<u64, &'static str> for ByLength {
 type Texts<'a> = CLruCache<u64, &'static str, Counting<'a>, ByLength, &'a Rationed<Global>>;
 
 #[test]
-fn a_cache_lends_what_it_was_made_with(rt: HostRuntime) -> Result<(), Fail> {
+fn a_cache_lends_what_it_was_made_with(rt: HostRuntime) {
     let count = Cell::new(7);
     let heap = Rationed::new(rt.alloc());
-    let config = CLruCacheConfig::new(capacity_of(4)?)
-        .with_hasher(Counting(&count))
+    equal!(rt; lent_by_made(&heap, &count), Some((7, 3, 2)));
+}
+
+fn lent_by_made(heap: &Rationed<Global>, count: &Cell<u64>) -> Option<(u64, usize, u64)> {
+    let config = CLruCacheConfig::new(room(4))
+        .with_hasher(Counting(count))
         .with_memory(1)
         .with_scale(ByLength);
-    let Ok(cache) = CLruCache::with_config(&heap, config) else {
-        return Err(Fail::from("no memory"));
-    };
-    equal!(rt; lent_by(&cache), (7, 3, 2));
-    Ok(())
+    match CLruCache::with_config(heap, config) {
+        Ok(cache) => Some(lent_by(&cache)),
+        Err(_) => None,
+    }
 }
 
 /// The count of hashes, the weight of a text, and the requests of the allocator.
@@ -51,22 +54,25 @@ fn lent_by(cache: &Texts) -> (u64, usize, u64) {
 struct Name(u64);
 
 #[test]
-fn a_map_prints_nothing_of_its_entries(rt: HostRuntime) -> Result<(), Fail> {
+fn a_map_prints_nothing_of_its_entries(rt: HostRuntime) {
     let map: LinkedHashMap<Name, Name, DefaultState, Global> = LinkedHashMap::new(
         rt.alloc(),
         3,
         DefaultState,
     );
-    equal!(rt; shows(rt.alloc(), &map, "LinkedHashMap { len: 0, capacity: 3 }")?, true);
-    Ok(())
+    equal!(rt; shows(rt.alloc(), &map, "LinkedHashMap { len: 0, capacity: 3 }"), Ok(true));
 }
 
 #[test]
-fn the_allocator_prints_its_counts(rt: HostRuntime) -> Result<(), Fail> {
+fn the_allocator_prints_its_counts(rt: HostRuntime) {
     let heap = Rationed::new(rt.alloc());
-    let held = Box::new(&heap, 7u64)?;
-    drop(Box::new(&heap, 7u64)?);
+    equal!(rt; counts_are_shown(rt.alloc(), &heap), Ok((7, true)));
+}
+
+fn counts_are_shown(alloc: Global, heap: &Rationed<Global>) -> Result<(u64, bool), AllocError> {
+    drop(Box::new(heap, 7u64)?);
+    let held = Box::new(heap, 7u64)?;
     let text = "Rationed { requests: 2, refused: 0, blocks: 1, held_bytes: 8 }";
-    equal!(rt; (*held, shows(rt.alloc(), &heap, text)?), (7, true));
-    Ok(())
+    let is_shown = shows(alloc, heap, text)?;
+    Ok((*held, is_shown))
 }

@@ -4,10 +4,9 @@ use clru_lines::Key;
 use clru_report::{Command, Refusal, command_of};
 use ration::{equal, shows};
 use std::alloc::Global;
-use std::test::Fail;
 
 #[test]
-fn commands_and_refusals_print(rt: HostRuntime) -> Result<(), Fail> {
+fn commands_and_refusals_print(rt: HostRuntime) {
     for (words, text) in [
         (["--help"].as_slice(), "Ok(Help)"),
         (
@@ -24,13 +23,11 @@ fn commands_and_refusals_print(rt: HostRuntime) -> Result<(), Fail> {
         ),
     ] {
         let command: Result<Command, Refusal> = command_of(rt.alloc(), words);
-        equal!(rt; shows(rt.alloc(), &command, text)?, true, text);
+        equal!(rt; shows(rt.alloc(), &command, text), Ok(true), text);
     }
-    Ok(())
 }
 
 #[test]
-fn a_key_prints_its_bytes(rt: HostRuntime) -> Result<(), Fail> {
-    equal!(rt; shows(rt.alloc(), &Key(b"ab"), "Key([97, 98])")?, true);
-    Ok(())
+fn a_key_prints_its_bytes(rt: HostRuntime) {
+    equal!(rt; shows(rt.alloc(), &Key(b"ab"), "Key([97, 98])"), Ok(true));
 }

@@ -1,4 +1,4 @@
-//! Answers the files of a folder, by their paths, through a cache of their bytes.
+//! Reads paths, and reports the files of a folder through a cache of their bytes.
 #![tactic(auto)]
 
 mod checksum;
@@ -36,7 +36,7 @@ fn report_failure(rt: &HostRuntime, why: &str) -> ExitCode {
     ExitCode::FAILURE
 }
 
-// The folder and the capacity that the arguments name, and the answers to the input's lines.
+// Reads folder and capacity from the arguments, and writes a line for each of the input.
 fn answered(rt: &HostRuntime) -> io::Result<()> {
     let mut words = env::args(rt)?.skip(1);
     let (Some(root), Some(number)) = (words.next(), words.next()) else {

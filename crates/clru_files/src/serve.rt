@@ -1,4 +1,4 @@
-//! Paths one after the other, each answered by its page.
+//! Serves paths one after the other.
 ghost use Rattle.std.specs.Prelude.{◌≡◌, ◌+◌, ◌-◌, ℕ, IfNone, IfOk, IfSome, IsErr, IsSomeAnd, List, None, Ok, OnOk, count_by, false, flat_map, is_some, length, not, true};
 ghost use Rattle.clru_lines.specs.Lines.{lines_of};
 ghost use Rattle.clru_through.specs.Given.{was_fetched};
@@ -62,6 +62,10 @@ fn serve<'f, R: Files>(
     line: &[u8],
     by_stat: bool,
 ) -> Served
+    ensures hit { is_hit result ≡ true →
+        is_some (lookup (λ path. bytes_eq line.now (string_bytes path)) pages.old.cache.entries) ≡ true }
+    ensures fetch { by_stat ≡ false → is_fetch result ≡ true →
+        lookup (λ path. bytes_eq line.now (string_bytes path)) pages.old.cache.entries ≡ None }
     ensures no_text { is_no_text result ≡ not (is_utf8 line.now) }
     ensures failure { is_failure result ≡ true → pages.new.cache.entries ≡ pages.old.cache.entries }
 {
@@ -74,6 +78,8 @@ fn serve<'f, R: Files>(
 
 /// Reads a held page again if its file says something else of itself now.
 fn serve_by_stat<'f, R: Files>(pages: &mut Pages<'f, R>, alloc: Global, line: &[u8]) -> Served
+    ensures hit { is_hit result ≡ true →
+        is_some (lookup (λ path. bytes_eq line.now (string_bytes path)) pages.old.cache.entries) ≡ true }
     ensures no_text { is_no_text result ≡ not (is_utf8 line.now) }
     ensures failure { is_failure result ≡ true → pages.new.cache.entries ≡ pages.old.cache.entries }
 {

@@ -1,10 +1,11 @@
+pub mod BitTrees
 pub mod Due
 pub mod FloorOf
 pub mod Furthest
 pub mod Held
 pub mod Laters
 pub mod Prices
-pub mod Queue
+pub mod Queues
 pub mod Reusing
 pub mod SizeFloorOf
 pub mod SizeSums

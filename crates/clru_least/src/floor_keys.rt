@@ -17,7 +17,7 @@ impl<K: Eq, A: Allocator + Copy> FloorPass<K, A> {
     /// Creates a pass that has taken a request for each of the keys, in order. A key weighs what the scale says of it with the
     /// value `()`.
     ///
-    /// Memory may be refused; without keys none is asked for. If the sizes of all requests pass `usize::MAX`, the keys are
+    /// Memory may be refused; without keys none is asked for. If the sizes of all requests exceed `usize::MAX`, the keys are
     /// refused. They stay the caller's, and are hashed with `hash_builder`.
     /// Cost: one look-up for each request in a table of the keys; memory for a `FloorPass`, and meanwhile for the table.
     pub fn of_keys<W, S>(

@@ -1,5 +1,5 @@
 //! `FloorPass`, which takes requests one by one for a floor of their misses, and holds no key.
-ghost use Rattle.std.specs.Prelude.{◌≡◌, ℕ, List, ◌+◌, ◌^◌, ◌<◌, ◌≤◌, ◌↔◌, [], ◌∷◌, map, reverse, IfOk, IfSome, OnOk, OnErr, IsOk};
+ghost use Rattle.std.specs.Prelude.{◌≡◌, ℕ, List, ◌+◌, ◌^◌, ◌<◌, ◌≤◌, ◌↔◌, [], ◌∷◌, map, reverse, IfOk, IfSome, OnOk, OnErr, IsNone, IsOk};
 ghost use Rattle.std.specs.Result.{IsErrAnd};
 ghost use Rattle.clru_least.specs.FloorNumbers.{IsFloorOf, IsSizeFloorOf, own_step};
 ghost use Rattle.clru_least.specs.Passes.{IsLatestOf};
@@ -12,12 +12,12 @@ use crate::size_floor::{FloorStep, SizeFloor};
 use std::alloc::{AllocError, Allocator, Global};
 use std::marker::{Model, PhantomData};
 
-/// A pass over requests. It takes of each request the weight of its key and the position of the latest request of that key, and
-/// never the key itself. It returns a floor of what every policy misses, for any room. A `DistancePass` of `clru_curve` over
-/// the same requests returns the positions.
+/// A pass over requests that holds no key. It takes for each request the weight of its key and the position of the latest request
+/// of that key, which a `DistancePass` of `clru_curve` over the same requests returns. It returns a floor of what every policy
+/// misses, for any room.
 ///
-/// Clauses speak of the requests that it has taken by `IsFloorPass`, the latest first: there are none at first, and each request
-/// that is taken comes in front.
+/// Clauses describe the requests that it has taken, the latest first, by `IsFloorPass`: none at first, then each taken request
+/// comes in front.
 ///
 /// Memory is 16 bytes for each request whose key came before.
 pub struct FloorPass<K: Eq, A: Allocator + Copy = Global> {
@@ -71,8 +71,8 @@ impl<K: Eq, A: Allocator + Copy> FloorPass<K, A> {
     /// Takes one more request, of a key of this weight: `latest` is the position of the latest request of its key, which is how
     /// many came before that one, or `None` if its key was not requested before.
     ///
-    /// If memory is refused, or the sizes of all requests, this one among them, pass `usize::MAX`, the pass is as before.
-    /// Cost: a write; one request for memory where there is no room for a reuse.
+    /// If memory is refused, or the sizes of all requests with this one exceed `usize::MAX`, the pass is unchanged.
+    /// Cost: a write; one request for memory if there is no room for a reuse, and none for a new key.
     pub fn request(&mut self, latest: Option<usize>, weight: usize) -> Result<(), FloorRequestError>
         requires { IfSome latest (λ p. p < self.old.requests) }
         ensures taken { (w : K → ℕ) (past : List K) (key : K) → IsFloorPass K.eq w past self.old
@@ -81,6 +81,7 @@ impl<K: Eq, A: Allocator + Copy> FloorPass<K, A> {
         ensures size { OnOk result (self.new.size ≡ self.old.size + (1 + weight)) }
         ensures refused { OnErr result (self.new ≡ self.old) }
         ensures too_large { IsErrAnd result IsTooLarge ↔ (2 ^ 64 ≤ self.old.size + (1 + weight)) }
+        ensures memory { IsNone latest → self.old.size + (1 + weight) < 2 ^ 64 → IsOk result }
     {
         if weight >= usize::MAX - self.size {
             return Err(FloorRequestError::TooLarge);
@@ -108,12 +109,13 @@ impl<K: Eq, A: Allocator + Copy> FloorPass<K, A> {
 
     /// Returns a floor of the misses of the requests so far.
     ///
-    /// Memory may be refused; without requests none is asked for.
+    /// Memory may be refused; none is asked for unless a key came before.
     /// Cost: a sort of the volumes; memory for 16 bytes for each request whose key came before.
     pub fn floor(&self) -> Result<Floor<A>, AllocError>
         ensures floor { (w : K → ℕ) (past : List K) → IsFloorPass K.eq w past self.now
             → IfOk result (IsFloorOf K.eq w (reverse past)) }
         ensures never_refused { (w : K → ℕ) → IsFloorPass K.eq w [] self.now → IsOk result }
+        ensures none_again { self.now.reuses ≡ [] → IsOk result }
     {
         if self.reuses.is_empty() {
             return Ok(Floor::from_volumes(Vec::new(self.alloc), self.requests));
@@ -124,12 +126,13 @@ impl<K: Eq, A: Allocator + Copy> FloorPass<K, A> {
 
     /// Returns a floor of the size that is missed of the requests so far.
     ///
-    /// Memory may be refused; without requests none is asked for.
+    /// Memory may be refused; none is asked for unless a key came before.
     /// Cost: a sort of the gaps; memory for 32 bytes for each request whose key came before.
     pub fn size_floor(&self) -> Result<SizeFloor<A>, AllocError>
         ensures floor { (w : K → ℕ) (past : List K) → IsFloorPass K.eq w past self.now
             → IfOk result (IsSizeFloorOf K.eq w (reverse past)) }
         ensures never_refused { (w : K → ℕ) → IsFloorPass K.eq w [] self.now → IsOk result }
+        ensures none_again { self.now.reuses ≡ [] → IsOk result }
     {
         if self.reuses.is_empty() {
             return Ok(SizeFloor::from_steps(Vec::new(self.alloc), self.requests, self.size));

@@ -1,14 +1,14 @@
 //! The least possible misses of a list of requests, and floors of what every policy misses of it.
 //!
-//! Room for some number of keys, and a list of requests that is known beforehand: no way of choosing what to drop misses
-//! fewer of them than the number that this crate answers, and one misses as many. Beside the misses of a replay it says how
-//! much another policy that takes in each key it is asked for, and no other, could gain at the very most.
+//! With room for some number of keys, some policy that knows all requests beforehand misses as few as this crate returns, and none
+//! misses fewer. So beside the misses of a replay one sees how much another policy could gain at most, if it takes in each
+//! requested key and no other.
 //!
-//! Contracts say it by schedules, the keys held before each request, and name no method. A policy that may bypass keys
+//! Contracts state it by schedules, the keys held before each request, and name no method. A policy that may bypass keys
 //! misses no fewer than the least with room for one key more (`law_least`).
 //!
-//! A floor of what every policy misses, also of those that bypass keys, and also where keys have sizes, comes from one sort for all
-//! rooms: `floor`, `FloorPass` (`law_floor`).
+//! A floor bounds every policy, also those that bypass keys, and also if keys have sizes. One sort serves all rooms: `floor`,
+//! `FloorPass` (`law_floor`).
 #![tactic(auto)]
 
 mod debug;
@@ -19,6 +19,7 @@ mod floors;
 mod foresight;
 mod next_uses;
 mod pass;
+mod positions;
 mod reuse;
 mod size_floor;
 

@@ -1,79 +1,70 @@
-//! The queue of the positions of next requests, and a mark for each of them.
-ghost use Rattle.std.specs.Prelude.{◌≡◌, ◌+◌, ◌-◌, ◌^◌, ◌<◌, ◌≤◌, ◌∷◌, false, true, length, slice_set, All, OnOk};
-ghost use Rattle.std.specs.BinaryHeap.{IsHeap, IsUpperBound, heap_items};
-ghost use Rattle.std.specs.List.Sorted.{IsPermutation};
-ghost use Rattle.std.specs.Ordering.{nat_cmp};
-ghost use Rattle.clru_least.specs.Queue.{queue_of};
+//! The positions at which the keys that are held are requested next.
+ghost use Rattle.std.specs.Prelude.{◌≡◌, ℕ, ◌+◌, ◌-◌, ◌^◌, ◌<◌, ◌≤◌, IfOk};
+ghost use Rattle.clru_least.specs.Queue.{IsQueue, one_at, queued};
 
+use crate::positions::Positions;
 use std::alloc::{AllocError, Allocator};
-use std::collections::BinaryHeap;
 
-/// Takes the greatest position from the queue, and its mark away. Returns it.
-///
-/// The next position of a key that is not requested again is the end. Those are the greatest, and `never_again` only counts them.
-pub(crate) fn drop_latest<A: Allocator>(
-    next_uses: &mut BinaryHeap<usize, A>,
-    never_again: &mut usize,
-    kept: &mut Vec<bool, A>,
-    end: usize,
-) -> usize
-    requires some { 0 < length (queue_of end never_again.old (heap_items next_uses.old)) }
-    requires ordered { IsHeap nat_cmp (heap_items next_uses.old) }
-    requires inside { All (λ p. p ≤ end) (heap_items next_uses.old) }
-    requires marks { length kept.old.items ≡ end }
-    ensures taken { IsPermutation (queue_of end never_again.old (heap_items next_uses.old))
-        (result ∷ queue_of end never_again.new (heap_items next_uses.new)) }
-    ensures latest { IsUpperBound nat_cmp result (queue_of end never_again.old (heap_items next_uses.old)) }
-    ensures ordered { IsHeap nat_cmp (heap_items next_uses.new) }
-    ensures inside { All (λ p. p ≤ end) (heap_items next_uses.new) }
-    ensures fewer { never_again.new ≤ never_again.old }
-    ensures marks { kept.new.items ≡ slice_set kept.old.items result false }
-{
-    if *never_again > 0 {
-        *never_again -= 1;
-        return end;
-    }
-    let Some(latest) = next_uses.pop() else {
-        unreachable!();
-    };
-    mark(kept, latest, false);
-    latest
+/// For each key that is held the position of its next request, or the end if it is not requested again. Several may be at the end, and
+/// are only counted.
+#[derive(Drop)]
+pub(crate) struct NextUses<A: Allocator> {
+    pub(crate) positions: Positions<A>,
+    pub(crate) never_again: usize,
+    pub(crate) end: usize,
 }
 
-/// Puts the position into the queue, and its mark there if it has one.
-pub(crate) fn keep<A: Allocator>(
-    next_uses: &mut BinaryHeap<usize, A>,
-    never_again: &mut usize,
-    kept: &mut Vec<bool, A>,
-    end: usize,
-    position: usize,
-) -> Result<(), AllocError>
-    requires within { position ≤ end }
-    requires few { never_again.old < 2 ^ 64 - 1 }
-    requires ordered { IsHeap nat_cmp (heap_items next_uses.old) }
-    requires inside { All (λ p. p ≤ end) (heap_items next_uses.old) }
-    requires marks { length kept.old.items ≡ end }
-    ensures queued { OnOk result (IsPermutation (position ∷ queue_of end never_again.old (heap_items next_uses.old))
-        (queue_of end never_again.new (heap_items next_uses.new))) }
-    ensures ordered { OnOk result (IsHeap nat_cmp (heap_items next_uses.new)) }
-    ensures inside { OnOk result (All (λ p. p ≤ end) (heap_items next_uses.new)) }
-    ensures few { never_again.new ≤ never_again.old + 1 }
-    ensures marks { OnOk result (kept.new.items ≡ slice_set kept.old.items position true) }
-{
-    if position >= end {
-        *never_again += 1;
-        return Ok(());
+impl<A: Allocator> NextUses<A> {
+    /// Holds no key. There are so many requests.
+    pub(crate) fn with_room(alloc: A, end: usize) -> Result<Self, AllocError>
+        ensures sound { IfOk result IsQueue }
+        ensures end { IfOk result (λ q. q.end ≡ end) }
+        ensures none { IfOk result (λ q. q.never_again ≡ 0) }
+        ensures empty { IfOk result (λ q. (p : ℕ) → queued q p ≡ 0) }
+    {
+        Ok(NextUses {
+            positions: Positions::with_room(alloc, end)?,
+            never_again: 0,
+            end,
+        })
     }
-    kept[position] = true;
-    next_uses.push(position)?;
-    Ok(())
-}
 
-/// Writes the mark of the position, if there is one.
-fn mark<A: Allocator>(kept: &mut Vec<bool, A>, position: usize, value: bool)
-    ensures { kept.new.items ≡ slice_set kept.old.items position value }
-{
-    if position < kept.len() {
-        kept[position] = value;
+    /// Takes the greatest position out, and returns it.
+    pub(crate) fn drop_latest(&mut self) -> usize
+        requires sound { IsQueue self.old }
+        requires some { (p : ℕ) × (0 < queued self.old p) }
+        ensures sound { IsQueue self.new }
+        ensures taken { (p : ℕ) → queued self.old p ≡ one_at result p + queued self.new p }
+        ensures latest { (p : ℕ) → p ≤ self.old.end → 0 < queued self.old p → p ≤ result }
+        ensures end { self.new.end ≡ self.old.end }
+        ensures fewer { self.new.never_again ≤ self.old.never_again }
+    {
+        if self.never_again > 0 {
+            self.never_again -= 1;
+            return self.end;
+        }
+        let Some(latest) = self.positions.last() else {
+            unreachable!();
+        };
+        self.positions.flip(latest);
+        latest
+    }
+
+    /// Puts a position in, which is not to be there unless it is the end.
+    pub(crate) fn keep(&mut self, position: usize)
+        requires sound { IsQueue self.old }
+        requires within { position ≤ self.old.end }
+        requires few { self.old.never_again < 2 ^ 64 - 1 }
+        ensures sound { IsQueue self.new }
+        ensures queued { (position < self.old.end → queued self.old position ≡ 0)
+            → (p : ℕ) → queued self.new p ≡ one_at position p + queued self.old p }
+        ensures end { self.new.end ≡ self.old.end }
+        ensures few { self.new.never_again ≤ self.old.never_again + 1 }
+    {
+        if position >= self.end {
+            self.never_again += 1;
+        } else {
+            self.positions.flip(position);
+        }
     }
 }

@@ -5,21 +5,19 @@ ghost use Rattle.clru_model.specs.Least.{IsLeast, IsNearFromAnyStart};
 ghost use Rattle.clru_model.specs.Requests.{misses};
 ghost use Rattle.clru_least.specs.Passes.{IsForesight, IsLatestOf, next_or};
 
-use crate::next_uses::{drop_latest, keep};
+use crate::next_uses::NextUses;
 use clru_list::PackedNumbers;
 use std::alloc::{AllocError, Allocator, Global};
-use std::collections::BinaryHeap;
 use std::marker::{Model, PhantomData};
 use std::num::NonZeroUsize;
 
-/// A pass over requests. It takes of each request the position of the latest request of its key, and never the key itself. It
-/// returns the fewest misses for any room, as `Foresight` does. A `DistancePass` of `clru_curve` over the same requests returns
-/// the positions.
+/// A pass over requests that holds no key. It takes for each request the position of the latest request of its key, which a
+/// `DistancePass` of `clru_curve` over the same requests returns. It returns the fewest misses for any room, as `Foresight` does.
 ///
-/// Clauses speak of the requests that it has taken by `IsForesight`, the latest first: there are none at first, and each request
-/// that is taken comes in front.
+/// Clauses describe the requests that it has taken, the latest first, by `IsForesight`: none at first, then each taken request
+/// comes in front.
 ///
-/// Memory is 4 bytes for each request, and 8 where there are more than 4,294,967,295.
+/// Memory is 4 bytes for each request, or 8 if there are more than 4,294,967,295.
 pub struct ForesightPass<K: Eq, A: Allocator + Copy = Global> {
     // For each request the position of the next one of its key, and 0 where there is none.
     pub(crate) later: PackedNumbers<A>,
@@ -74,10 +72,10 @@ impl<K: Eq, A: Allocator + Copy> ForesightPass<K, A> {
     }
 
     /// Takes one more request: `latest` is the position of the latest request of its key, which is how many came before that one,
-    /// or `None` where its key was not requested before.
+    /// or `None` if its key was not requested before.
     ///
-    /// If memory is refused, the pass is as before.
-    /// Cost: two writes; one request for memory where there is no room for a number. Where numbers begin to take 8 bytes, one more,
+    /// If memory is refused, the pass is unchanged.
+    /// Cost: two writes; one request for memory if there is no room for a number. When numbers begin to take 8 bytes, one more,
     /// and a copy of each.
     pub fn request(&mut self, latest: Option<usize>) -> Result<(), AllocError>
         requires { (past : List K) × (key : K) × IsForesight K.eq past self.old × IsLatestOf K.eq past key latest }
@@ -103,8 +101,8 @@ impl<K: Eq, A: Allocator + Copy> ForesightPass<K, A> {
     /// One that starts with keys has at most `room` fewer; a replay of that capacity has no fewer.
     ///
     /// Memory is asked for at the start, and may be refused; without requests none is.
-    /// Cost: time that grows as the requests times the logarithm of their number; memory for a mark and a number for each
-    /// request, until it returns.
+    /// Cost: time that grows as the requests times the logarithm of their number; memory of at most a byte for four requests, until
+    /// it returns.
     pub fn least(&self, room: NonZeroUsize) -> Result<usize, AllocError>
         ensures least { (past : List K) → IsForesight K.eq past self.now
             → IfOk result (IsLeast K.eq (non_zero_usize_get room) (reverse past)) }
@@ -118,23 +116,19 @@ impl<K: Eq, A: Allocator + Copy> ForesightPass<K, A> {
         if count == 0 {
             return Ok(0);
         }
-        let mut kept = Vec::new(self.alloc);
-        kept.resize(count, false)?;
-        let mut next_uses = BinaryHeap::with_capacity(self.alloc, count)?;
-        let mut never_again = 0;
+        let mut next_uses = NextUses::with_room(self.alloc, count)?;
         let mut held = 0;
         let mut misses = 0;
         for position in 0..count {
-            if !kept[position] {
+            if !next_uses.positions.contains(position) {
                 misses += 1;
                 if held < room.get() {
                     held += 1;
                 } else {
-                    drop_latest(&mut next_uses, &mut never_again, &mut kept, count);
+                    next_uses.drop_latest();
                 }
             }
-            let next = next_or(self.later.get(position), count);
-            keep(&mut next_uses, &mut never_again, &mut kept, count, next)?;
+            next_uses.keep(next_or(self.later.get(position), count));
         }
         Ok(misses)
     }

@@ -1,3 +1,3 @@
 mod KnownLemmas
 mod LineLemmas
-mod ToldLemmas
+mod LinesReadLemmas

@@ -9,7 +9,7 @@ use Rattle.std.proofs.lemmas.List.Quantifiers.{position-Some}
 use Rattle.std.proofs.lemmas.List.Sums.{fails_before_first, position_or_len_is}
 use Rattle.std.proofs.lemmas.List.Splits.{slice_split_first, slice_split_none, length-slice_split}
 use Rattle.clru_lines.specs.Lines.{lines_of, lines_of_parts}
-use Rattle.clru_lines.specs.Told.{IsFree}
+use Rattle.clru_lines.specs.LinesRead.{IsFree}
 
 -- a part with another one after it is a line
 lines_of_parts-cons : (part : List ℕ) (parts : List (List ℕ)) → 0 < length parts

@@ -1,6 +1,6 @@
 pub mod Errors
 pub mod Faults
 pub mod Lines
+pub mod LinesRead
 pub mod Newlines
-pub mod Told
 pub mod Whole

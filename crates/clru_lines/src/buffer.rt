@@ -1,7 +1,7 @@
 //! The lines of a reader one by one, through a buffer whose size stays the same.
 ghost use Rattle.std.specs.Prelude.{◌≡◌, ◌<◌, ◌+◌, ◌^◌, ℕ, List, Option, true, false, [], ◌∷◌, ◌++◌, length, IfOk, Ok};
 ghost use Rattle.std.specs.Io.KnownBytes.{Consumes, IsAtEnd};
-ghost use Rattle.clru_lines.specs.Told.{HasRead, HasTold, IsFree};
+ghost use Rattle.clru_lines.specs.LinesRead.{HasRead, HasReturned, IsFree};
 
 use crate::input::ReadError;
 use crate::newline::newline_at;
@@ -13,7 +13,7 @@ const ROOM: usize = 64 * 1024;
 
 /// What was read of an input and is not yet returned as a line.
 ///
-/// Clauses describe by `HasTold` the lines that were returned since a reader's start: none at first, then each line comes
+/// Clauses describe by `HasReturned` the lines that were returned since a reader's start: none at first, then each line comes
 /// behind. Use one buffer for one reader.
 ///
 /// Memory is one block of 64 KiB, asked for by the first read, however long the input is.
@@ -29,13 +29,13 @@ pub struct LineBuffer<A: Allocator = Global> {
 
 impl<A: Allocator> Model for LineBuffer<A> {
     ghost use Rattle.std.specs.Prelude.{slice_range, ◌≤◌, vec_len};
-    ghost use Rattle.clru_lines.specs.Told.{Ahead, ahead, ahead_code};
+    ghost use Rattle.clru_lines.specs.LinesRead.{Buffered, buffered, buffered_code};
 
-    ghost Value = { Ahead };
+    ghost Value = { Buffered };
 
-    ghost coded = { ahead_code };
+    ghost coded = { buffered_code };
 
-    ghost view = { λ b. ahead (slice_range b.bytes.items b.start b.end) b.ended b.read };
+    ghost view = { λ b. buffered (slice_range b.bytes.items b.start b.end) b.ended b.read };
 
     ghost invariant = { λ b. (b.start ≤ b.end) × (b.end ≤ vec_len b.bytes) };
 }
@@ -44,7 +44,7 @@ impl<A: Allocator> LineBuffer<A> {
     /// Creates a buffer for a reader from which the buffer has read nothing.
     /// Cost: no request for memory.
     pub fn new(alloc: A) -> Self
-        ensures { (now : Option (List ℕ)) → HasTold now now result [] }
+        ensures { (now : Option (List ℕ)) → HasReturned now now result [] }
     {
         LineBuffer {
             bytes: Vec::new(alloc),
@@ -68,12 +68,12 @@ impl<A: Allocator> LineBuffer<A> {
         reader: &mut R,
         line: &mut Vec<u8, A>,
     ) -> Result<bool, ReadError>
-        ensures line { (start : Option (List ℕ)) (lines : List (List ℕ)) → HasTold start (R.remaining reader.old) self.old lines
+        ensures line { (start : Option (List ℕ)) (lines : List (List ℕ)) → HasReturned start (R.remaining reader.old) self.old lines
             → IfOk result (λ found. found ≡ true
-            → HasTold start (R.remaining reader.new) self.new (lines ++ line.new.items ∷ [])) }
-        ensures end { (start : Option (List ℕ)) (lines : List (List ℕ)) → HasTold start (R.remaining reader.old) self.old lines
+            → HasReturned start (R.remaining reader.new) self.new (lines ++ line.new.items ∷ [])) }
+        ensures end { (start : Option (List ℕ)) (lines : List (List ℕ)) → HasReturned start (R.remaining reader.old) self.old lines
             → IfOk result (λ found. found ≡ false → HasRead start (R.remaining reader.new) self.new.read lines) }
-        ensures fits { (start : Option (List ℕ)) (lines : List (List ℕ)) → HasTold start (R.remaining reader.old) self.old lines
+        ensures fits { (start : Option (List ℕ)) (lines : List (List ℕ)) → HasReturned start (R.remaining reader.old) self.old lines
             → IfOk result (λ found. found ≡ true → length lines + 1 < 2 ^ 64) }
     {
         line.clear();

@@ -5,8 +5,8 @@
 //! writes its text by [`write_text`]. Each says in its contract which bytes it took and which it gave, by what is known of the
 //! reader and the writer. A [`Fault`] says why a program failed, and [`exit_status`] how it ends.
 //!
-//! `specs/Lines` defines lines and capacities, `specs/Whole` what it means that a reader was read to its end, `specs/Told` that its
-//! lines are told one by one, `specs/Faults` what is printed of a fault.
+//! `specs/Lines` defines lines and capacities, `specs/Whole` what it means that a reader was read to its end, `specs/LinesRead` that its
+//! lines are returned one by one, `specs/Faults` what is printed of a fault.
 #![tactic(auto)]
 
 mod buffer;

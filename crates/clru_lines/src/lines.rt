@@ -1,5 +1,5 @@
 //! The lines of the input, each a key without a copy of its bytes.
-ghost use Rattle.std.specs.Prelude.{◌≡◌, ◌<◌, ◌⊎◌, [], ◌∷◌, ◌++◌, map, length, IfOk, IfSome, IfNone};
+ghost use Rattle.std.specs.Prelude.{◌≡◌, ◌<◌, ◌⊎◌, [], ◌∷◌, ◌++◌, map, length, IfOk, IfSome, IfNone, IsOk};
 ghost use Rattle.std.specs.Cmp.{on_equiv, on_per, partial_equiv_from_equiv};
 ghost use Rattle.std.specs.Cmp.Lexicographic.{nat_list_eq_equiv};
 ghost use Rattle.std.specs.Cmp.Rules.{hashing};
@@ -70,9 +70,10 @@ pub fn next_line(bytes: &[u8]) -> Option<(&[u8], &[u8])>
     }
 }
 
-/// Returns the lines of the bytes, as keys.
+/// Returns the lines of the bytes, as keys. Without bytes it asks for no memory.
 pub fn keys_of<'a, A: Allocator>(alloc: A, bytes: &'a [u8]) -> Result<Vec<Key<'a>, A>, AllocError>
-    ensures { IfOk result (λ keys. map (λ key. key.0.now) keys.items ≡ lines_of bytes.now) }
+    ensures keys { IfOk result (λ keys. map (λ key. key.0.now) keys.items ≡ lines_of bytes.now) }
+    ensures never_refused { bytes.now ≡ [] → IsOk result }
 {
     let mut keys = Vec::new(alloc);
     let mut left = bytes;

@@ -1,7 +1,7 @@
 //! `HashIndex`: which place each bucket leads to, and which place each place is linked to in its chain. A place takes 4 bytes there,
-//! or 8 if the places may be more than those name, or more than a limit that the maker set.
+//! or 8 if there may be more places than 4 bytes name, or than a limit that the constructor was given.
 //!
-//! A number there is 0 for no place. Else its lowest bits, those of the mask that picks a bucket, are the place and 1; those above
+//! A number there is 0 for no place. Otherwise its lowest bits, those of the mask that picks a bucket, are the place and 1; those above
 //! are the same bits of the hash of the key at that place, its tag; and the highest one says that the place is linked on. So a
 //! look-up passes the places of other keys by their tags, and sees where a chain ends, without going there. `NOWHERE`, for
 //! which 0 stands, is the end of each chain, and in calls its start.

@@ -1,4 +1,4 @@
-//! Tells what an LRU cache of each capacity misses on a list of requests.
+//! Reports what an LRU cache of each capacity misses on a list of requests.
 #![tactic(auto)]
 
 mod lines;
@@ -17,7 +17,7 @@ use watch::Watch;
 use written::Written;
 
 fn main(rt: HostRuntime) -> ExitCode {
-    // A terminal is told how far the input is read, and so is who asks.
+    // A terminal sees how far the input is read, and so does who asks.
     let mut progress = rt.stderr().is_terminal();
     match parse_args(&rt, &mut progress) {
         Ok(command) => ExitCode::from(run_command(&rt, &command, progress)),

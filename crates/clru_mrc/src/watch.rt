@@ -1,4 +1,4 @@
-//! What is told of an input beside its report: how far it is read, and whether it looks like something else than a log.
+//! What standard error says of an input: how far it is read, and why it may be no log.
 
 use crate::lines::{Lines, instead_of_size, quoted};
 use clru_report::{Capacities, Options, Sample};

@@ -2,7 +2,8 @@
 
 use std::io::{self, Write};
 
-/// Hands a report on, and keeps the last of its lines that begin with a number: a table's last row, or the numbers of a summary.
+/// Hands a report on, and keeps the last of its lines that begin with a number or a brace: a table's last row, or the numbers of a
+/// summary.
 #[derive(Drop)]
 pub(crate) struct Written<W> {
     inner: W,
@@ -22,7 +23,9 @@ impl<W: Write> Written<W> {
     /// The second number of that line: the misses at the greatest capacity, or the distinct keys.
     pub(crate) fn last_misses(&self) -> Option<u64> {
         let cell = self.row.split(|byte| *byte == b',').nth(1)?;
-        str::from_utf8(cell).ok()?.parse().ok()
+        // In JSON it stands behind its name.
+        let number = cell.split(|byte| *byte == b':').last()?;
+        str::from_utf8(number).ok()?.parse().ok()
     }
 
     fn note(&mut self, bytes: &[u8]) {
@@ -40,14 +43,14 @@ impl<W: Write> Written<W> {
 
     fn end_line(&mut self) {
         match self.line.first() {
-            Some(b'0'..=b'9') => std::mem::swap(&mut self.row, &mut self.line),
+            Some(b'0'..=b'9' | b'{') => std::mem::swap(&mut self.row, &mut self.line),
             _ => {}
         }
         self.line.clear();
     }
 }
 
-// Of a line so many bytes are kept, which two numbers fit in.
+// Of a line so many bytes are kept, which two numbers fit in, in JSON with their names.
 const KEPT: usize = 64;
 
 impl<W: Write> Write for Written<W> {

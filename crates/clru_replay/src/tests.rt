@@ -1,4 +1,4 @@
-// What the program answers for worked inputs.
+// What the program returns for worked inputs.
 mod costs;
 mod fakes;
 mod faults;

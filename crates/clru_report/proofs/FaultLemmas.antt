@@ -15,7 +15,7 @@ use Rattle.clru_lines.specs.declared.fault.Fault.TheVariants.{NoSize, TooLarge, 
 use Rattle.clru_report.specs.declared.options.Capacities.{Capacities}
 use Rattle.clru_report.specs.declared.options.Capacities.TheVariants.{Usual, Each, Named}
 use Rattle.clru_report.specs.declared.options.Form.{Form}
-use Rattle.clru_report.specs.declared.options.Form.TheVariants.{Table, Picture, Summary}
+use Rattle.clru_report.specs.declared.options.Form.TheVariants.{Table, Json, Picture, Summary}
 use Rattle.clru_report.specs.declared.options.Options.{Options}
 
 module _ (number size : ℕ) (line : List ℕ) (rest : List (List ℕ)) where
@@ -66,6 +66,7 @@ module _ {A : Type 0} where
   -- capacities of which none is too small have no fault
   pub none_beside : (form : Form) (asked : Capacities A) (n : ℕ) → names_below asked n ≡ false → fault_beside form asked n ≡ None
   none_beside Table asked n h = ap (λ b. cond b (Some (TooSmall n)) None) h
+  none_beside Json asked n h = ap (λ b. cond b (Some (TooSmall n)) None) h
   none_beside Picture asked n h = ap (λ b. cond b (Some (TooSmall n)) None) h
   none_beside Summary asked n h = refl
 

@@ -1,5 +1,5 @@
 -- From a text with these rows and numbers to the report of the lines that they are of.
-use Rattle.std.proofs.Common.{◌≡◌, ℕ, ◌-◌, ◌/◌, ◌^◌, false, List, length, reverse, refl, ap, subst, ◌∙◌}
+use Rattle.std.proofs.Common.{◌≡◌, ℕ, ◌-◌, ◌/◌, ◌^◌, Bool, false, true, List, length, reverse, refl, ap, subst, ◌∙◌}
 use Rattle.std.specs.Prelude.{◌&&◌, bytes_eq}
 use Rattle.clru_lines.specs.Lines.{lines_of}
 use Rattle.clru_model.specs.Requests.{distinct}
@@ -9,7 +9,7 @@ use Rattle.clru_report.specs.Report.{AreRows, AreRowsOfSample, IsInForm, IsInFor
 use Rattle.clru_report.specs.Samples.{times}
 use Rattle.clru_report.specs.Tables.{summary_text, table_text}
 use Rattle.clru_report.specs.declared.options.Form.{Form}
-use Rattle.clru_report.specs.declared.options.Form.TheVariants.{Table, Picture, Summary}
+use Rattle.clru_report.specs.declared.options.Form.TheVariants.{Table, Json, Picture, Summary}
 use Rattle.clru_report.specs.declared.options.Options.{Options}
 use Rattle.clru_report.specs.declared.rows.Row.{Row}
 use Rattle.clru_report.specs.declared.text.Counts.{Counts}
@@ -20,20 +20,22 @@ module _ {A : Type 0} (options : Options A) (input : List ℕ) where
 
   module _ (counts : Counts) (table ks : List ℕ) (rows : List Row) (text : List ℕ) (usual : IsUsualTable counts.requests lines table)
       (marked : ks ≡ knees (misses_of lines) counts.requests table) (counted : counts.requests ≡ length lines) where
-    tabled : table_text options.least options.floor counts.requests ks rows
-        ≡ table_text options.least options.floor (length lines) (knees (misses_of lines) (length lines) table) rows
-    tabled =
-        ap (λ k. table_text options.least options.floor counts.requests k rows) marked
-        ∙ ap (λ n. table_text options.least options.floor n (knees (misses_of lines) n table) rows) counted
+    tabled : (json : Bool) → table_text json options.least options.floor counts.requests ks rows
+        ≡ table_text json options.least options.floor (length lines) (knees (misses_of lines) (length lines) table) rows
+    tabled json =
+        ap (λ k. table_text json options.least options.floor counts.requests k rows) marked
+        ∙ ap (λ n. table_text json options.least options.floor n (knees (misses_of lines) n table) rows) counted
 
     pub form_of_all : (form : Form) → IsTextByKeys form options.least options.floor counts ks rows text
         → AreRows bytes_eq lines (has_rows form && options.least) (has_rows form && options.floor) (capacities_asked options lines table) rows
         → counts.distinct ≡ distinct bytes_eq (reverse lines) → counts.bytes ≡ length input
         → IsInForm form options input text
-    form_of_all Table t rowed kinds in_bytes = (table, rows, subst (λ n. IsUsualTable n lines table) counted usual, rowed, t ∙ tabled)
+    form_of_all Table t rowed kinds in_bytes =
+        (table, rows, subst (λ n. IsUsualTable n lines table) counted usual, rowed, t ∙ tabled false)
+    form_of_all Json t rowed kinds in_bytes = (table, rows, subst (λ n. IsUsualTable n lines table) counted usual, rowed, t ∙ tabled true)
     form_of_all Picture t rowed kinds in_bytes = (
-      table_text options.least options.floor counts.requests ks rows,
-      (table, rows, subst (λ n. IsUsualTable n lines table) counted usual, rowed, tabled),
+      table_text false options.least options.floor counts.requests ks rows,
+      (table, rows, subst (λ n. IsUsualTable n lines table) counted usual, rowed, tabled false),
       t,
     )
     form_of_all Summary t rowed kinds in_bytes =
@@ -48,8 +50,9 @@ module _ {A : Type 0} (options : Options A) (input : List ℕ) where
       → counts.distinct ≡ times n (2 ^ 64 - 1) (distinct bytes_eq (reverse kept)) → counts.bytes ≡ length input
       → IsInFormOfSample form options n counts.requests kept input text
   form_of_sample n kept Table counts table rows text usual t rowed kinds in_bytes = (table, rows, usual, rowed, t)
+  form_of_sample n kept Json counts table rows text usual t rowed kinds in_bytes = (table, rows, usual, rowed, t)
   form_of_sample n kept Picture counts table rows text usual t rowed kinds in_bytes = (
-    table_text false options.floor counts.requests (knees_of_sample n counts.requests kept table) rows,
+    table_text false false options.floor counts.requests (knees_of_sample n counts.requests kept table) rows,
     (table, rows, usual, rowed, refl),
     t,
   )

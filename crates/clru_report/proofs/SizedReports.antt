@@ -91,9 +91,10 @@ module _ (lines : List (List ℕ)) (curve : CurveBySize) (is : IsSizedCurveOf by
       holds_each = omega (arith, r.answered, greatest_is);
     }
 
-  pub table_is : {A : Type 0} (options : Options A) (floors : Option (Floors A)) (text : List ℕ) → AreFloorsFor options.floor lines floors
-      → IsTableOf curve floors options.floor options.capacities text → IsSizedTable options lines text
-  table_is options floors text both t =
+  pub table_is : {A : Type 0} (json : Bool) (options : Options A) (floors : Option (Floors A)) (text : List ℕ)
+      → AreFloorsFor options.floor lines floors
+      → IsTableOf curve json floors options.floor options.capacities text → IsSizedTable json options lines text
+  table_is json options floors text both t =
       let usual = usual_is curve.size t.table t.marked t.usual in (
         t.table,
         t.rows,
@@ -102,9 +103,9 @@ module _ (lines : List (List ℕ)) (curve : CurveBySize) (is : IsSizedCurveOf by
           t.rowed.0 ∙ capacities_are options.capacities t.table,
           All-weaker (IsRowOf curve floors) (IsSizedRow lines options.floor) (row_is options.floor floors both) t.rows t.rowed.1,
         ),
-        t.is ∙ ap (λ n. sized_table_text options.floor n curve.size t.marked t.rows) is.requests_in_all
-            ∙ ap (λ ks. sized_table_text options.floor (length lines) curve.size ks t.rows) usual.1
-            ∙ ap (λ n. sized_table_text options.floor (length lines) n (knees (missed_of lines) n t.table) t.rows) is.size,
+        t.is ∙ ap (λ n. sized_table_text json options.floor n curve.size t.marked t.rows) is.requests_in_all
+            ∙ ap (λ ks. sized_table_text json options.floor (length lines) curve.size ks t.rows) usual.1
+            ∙ ap (λ n. sized_table_text json options.floor (length lines) n (knees (missed_of lines) n t.table) t.rows) is.size,
       )
 
   -- with room for all keys each misses once
@@ -132,10 +133,10 @@ module _ (lines : List (List ℕ)) (curve : CurveBySize) (is : IsSizedCurveOf by
       (distinct_size lines) (min n (distinct_size lines))) greatest_is
 
   -- rows have no fault
-  pub rows_free : {A : Type 0} (options : Options A) (floors : Option (Floors A)) (text : List ℕ)
-      → IsTableOf curve floors options.floor options.capacities text
+  pub rows_free : {A : Type 0} (json : Bool) (options : Options A) (floors : Option (Floors A)) (text : List ℕ)
+      → IsTableOf curve json floors options.floor options.capacities text
       → fault_from 1 0 lines ≡ None → fault_of options lines ≡ None
-  rows_free options floors text t free =
+  rows_free json options floors text t free =
       let high = All-weaker (IsRowOf curve floors) (λ row. greatest_size lines ≤ capacity_of_sized_row row)
       (λ row r. omega (arith, r.answered, greatest_is)) t.rows t.rowed.1 in
       let all = subst (All (λ c. greatest_size lines ≤ c)) t.rowed.0 (All-map (λ c. greatest_size lines ≤ c) capacity_of_sized_row t.rows high) in

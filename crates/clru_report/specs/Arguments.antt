@@ -15,7 +15,7 @@ use Rattle.clru_report.specs.declared.arguments.Refusal.TheVariants.{Wrong, Memo
 use Rattle.clru_report.specs.declared.options.Capacities.{Capacities}
 use Rattle.clru_report.specs.declared.options.Capacities.TheVariants.{Usual, Each, Named}
 use Rattle.clru_report.specs.declared.options.Form.{Form}
-use Rattle.clru_report.specs.declared.options.Form.TheVariants.{Table, Picture, Summary}
+use Rattle.clru_report.specs.declared.options.Form.TheVariants.{Table, Json, Picture, Summary}
 use Rattle.clru_report.specs.declared.options.Look.{Look}
 use Rattle.clru_report.specs.declared.options.Options.{Options}
 use Rattle.clru_report.specs.declared.options.Sample.{Sample}
@@ -27,7 +27,7 @@ is_some_of [] = false
 is_some_of (x ∷ xs) = true
 
 abbrev pub form_of : Asked → Form
-form_of asked = if asked.summary then Summary else (if asked.svg then Picture else Table)
+form_of asked = if asked.summary then Summary else (if asked.svg then Picture else (if asked.json then Json else Table))
 
 -- the sample that is asked for, where no two exclude one another
 abbrev pub IsSampleOf : Asked → Sample → Type 0
@@ -54,7 +54,7 @@ pub record IsSortedSet (numbers sorted : List ℕ) : Type 0 where
 
 -- something is asked for that no summary has
 abbrev pub wants_rows : Asked → Bool
-wants_rows asked = asked.all || is_some_of asked.named || asked.least || asked.floor || asked.svg
+wants_rows asked = asked.all || is_some_of asked.named || asked.least || asked.floor || asked.svg || asked.json
 
 -- something is asked for that pictures alone have
 abbrev pub wants_look : Asked → Bool
@@ -63,7 +63,8 @@ wants_look asked = is_some asked.title || is_some asked.unit || is_some asked.fr
 -- no two of the flags exclude one another, those of a sample aside
 abbrev pub forms_go_together : Asked → Bool
 forms_go_together asked = not (asked.all && is_some_of asked.named)
-    && (not (asked.summary && wants_rows asked) && (not (asked.sizes && asked.least) && not (wants_look asked && not asked.svg)))
+    && (not (asked.summary && wants_rows asked) && (not (asked.sizes && asked.least)
+    && (not (asked.json && asked.svg) && not (wants_look asked && not asked.svg))))
 
 -- two samples are asked for
 abbrev pub wants_two : Asked → Bool
@@ -92,6 +93,7 @@ module _ {A : Type 0} where
     sizes = draft.sizes;
     least = draft.least;
     floor = draft.floor;
+    json = draft.json;
     svg = draft.svg;
     summary = draft.summary;
     sample = option_map non_zero_usize_get draft.sample;

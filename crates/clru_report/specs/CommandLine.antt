@@ -13,6 +13,7 @@ pub record Asked : Type 0 where
   pub sizes : Bool
   pub least : Bool
   pub floor : Bool
+  pub json : Bool
   pub svg : Bool
   pub summary : Bool
   pub sample : Option ℕ
@@ -31,6 +32,7 @@ nothing = record {
   sizes = false;
   least = false;
   floor = false;
+  json = false;
   svg = false;
   summary = false;
   sample = None;
@@ -87,8 +89,9 @@ with_flag word asked =
     (if bytes_eq word (codes "--sizes") then Some (record asked { sizes = true }) else
     (if bytes_eq word (codes "--least") then Some (record asked { least = true }) else
     (if bytes_eq word (codes "--floor") then Some (record asked { floor = true }) else
+    (if bytes_eq word (codes "--json") then Some (record asked { json = true }) else
     (if bytes_eq word (codes "--svg") then Some (record asked { svg = true }) else
-    (if bytes_eq word (codes "--summary") then Some (record asked { summary = true }) else None)))))
+    (if bytes_eq word (codes "--summary") then Some (record asked { summary = true }) else None))))))
 
 -- what is asked for after an argument that no value follows, if the word is one
 abbrev pub with_argument : List ℕ → Asked → Option Asked

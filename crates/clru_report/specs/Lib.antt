@@ -1,6 +1,7 @@
 pub mod Arguments
 pub mod Capacities
 pub mod Choices
+pub mod Columns
 pub mod CommandLine
 pub mod Faithful
 pub mod Faults

@@ -23,7 +23,7 @@ use Rattle.clru_lines.specs.declared.fault.Fault.{Fault}
 use Rattle.clru_lines.specs.declared.fault.Fault.TheVariants.{BadCapacity, Memory, Reading, Writing, Closed, NoSize, TooLarge, TooSmall}
 use Rattle.clru_report.specs.declared.options.Capacities.{Capacities}
 use Rattle.clru_report.specs.declared.options.Form.{Form}
-use Rattle.clru_report.specs.declared.options.Form.TheVariants.{Table, Picture, Summary}
+use Rattle.clru_report.specs.declared.options.Form.TheVariants.{Table, Json, Picture, Summary}
 use Rattle.clru_report.specs.declared.options.Options.{Options}
 use Rattle.clru_report.specs.declared.rows.Row.{Row}
 use Rattle.clru_report.specs.declared.text.Counts.{Counts}
@@ -52,6 +52,7 @@ pub record IsCurveOfKept (n : ℕ) (input : List ℕ) (curve : List ℕ) (reques
 -- a text in the form has rows
 abbrev pub has_rows : Form → Bool
 has_rows Table = true
+has_rows Json = true
 has_rows Picture = true
 has_rows Summary = false
 
@@ -131,8 +132,9 @@ floors_at (Some floors) c = Some (row_floor (floor_at floors.misses c) (size_flo
 
 -- the text in the form, with these rows, knees and numbers
 abbrev pub IsTextByKeys : Form → Bool → Bool → Counts → List ℕ → List Row → List ℕ → Type 0
-IsTextByKeys Table least floor counts knees rows text = text ≡ table_text least floor counts.requests knees rows
-IsTextByKeys Picture least floor counts knees rows text = HasTable (table_text least floor counts.requests knees rows) text
+IsTextByKeys Table least floor counts knees rows text = text ≡ table_text false least floor counts.requests knees rows
+IsTextByKeys Json least floor counts knees rows text = text ≡ table_text true least floor counts.requests knees rows
+IsTextByKeys Picture least floor counts knees rows text = HasTable (table_text false least floor counts.requests knees rows) text
 IsTextByKeys Summary least floor counts knees rows text = text ≡ summary_text counts.requests counts.distinct counts.bytes
 
 -- the pass took these lines, each of which has a size, and so did that for a floor if it is asked for
@@ -200,14 +202,14 @@ module _ (curve : CurveBySize) where
   capacities_on capacities table = sized_capacities_of capacities (misses_within curve)
       (1 + curve.greatest_weight) curve.distinct_size table
 
-  -- the text of a table of such rows, with the floors if they are there
-  pub record IsTableOf {A : Type 0} (floors : Option (Floors A)) (floor : Bool) (capacities : Capacities A) (text : List ℕ) : Type 0 where
+  -- the text of a table of such rows, with the floors if they are there, in JSON or as CSV
+  pub record IsTableOf {A : Type 0} (json : Bool) (floors : Option (Floors A)) (floor : Bool) (capacities : Capacities A) (text : List ℕ) : Type 0 where
     pub table : List ℕ
     pub marked : List ℕ
     pub rows : List SizedRow
     pub usual : IsUsualOn curve.size table marked
     pub rowed : AreRowsOf floors (capacities_on capacities table) rows
-    pub is : text ≡ sized_table_text floor curve.requests curve.size marked rows
+    pub is : text ≡ sized_table_text json floor curve.requests curve.size marked rows
 
   -- why capacities have no rows
   abbrev pub IsOfCapacities : Fault → List ℕ → Type 0

@@ -10,7 +10,7 @@ use Rattle.clru_lines.specs.declared.fault.Fault.TheVariants.{BadCapacity, Memor
 use Rattle.clru_report.specs.declared.options.Capacities.{Capacities}
 use Rattle.clru_report.specs.declared.options.Capacities.TheVariants.{Usual, Each, Named}
 use Rattle.clru_report.specs.declared.options.Form.{Form}
-use Rattle.clru_report.specs.declared.options.Form.TheVariants.{Table, Picture, Summary}
+use Rattle.clru_report.specs.declared.options.Form.TheVariants.{Table, Json, Picture, Summary}
 use Rattle.clru_report.specs.declared.options.Options.{Options}
 use Rattle.clru_report.specs.declared.options.Sample.{Sample}
 use Rattle.clru_report.specs.declared.options.Sample.TheVariants.{Whole, OneIn, Taken}
@@ -55,6 +55,7 @@ fault_from number size (line ∷ lines) =
 -- the fault of capacities where the greatest size is n, if they have one; a summary has no capacities
 abbrev pub fault_beside : {A : Type 0} → Form → Capacities A → ℕ → Option Fault
 fault_beside Table capacities n = if names_below capacities n then Some (TooSmall n) else None
+fault_beside Json capacities n = if names_below capacities n then Some (TooSmall n) else None
 fault_beside Picture capacities n = if names_below capacities n then Some (TooSmall n) else None
 fault_beside Summary capacities n = None
 

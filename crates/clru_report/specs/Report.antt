@@ -13,7 +13,7 @@ use Rattle.clru_report.specs.Samples.{kept_of, numbers_of, numbers_times, times}
 use Rattle.clru_report.specs.SizedReport.{IsReportBySizeOf}
 use Rattle.clru_report.specs.Tables.{HasTable, capacity_of_row, table_text, summary_text}
 use Rattle.clru_report.specs.declared.options.Form.{Form}
-use Rattle.clru_report.specs.declared.options.Form.TheVariants.{Table, Picture, Summary}
+use Rattle.clru_report.specs.declared.options.Form.TheVariants.{Table, Json, Picture, Summary}
 use Rattle.clru_report.specs.declared.options.Options.{Options}
 use Rattle.clru_report.specs.declared.options.Sample.{Sample}
 use Rattle.clru_report.specs.declared.options.Sample.TheVariants.{Whole, OneIn, Taken}
@@ -52,18 +52,19 @@ abbrev pub capacities_asked : {A : Type 0} → Options A → List (List ℕ) →
 capacities_asked options requests table =
     capacities_of options.capacities (misses_of requests) (distinct bytes_eq (reverse requests)) table
 
--- the table of these requests; whatever its rows, the knees are those of the usual one
-abbrev pub IsTable : {A : Type 0} → Options A → List (List ℕ) → List ℕ → Type 0
-IsTable options requests text = (table : List ℕ) × (rows : List Row) × IsUsualTable (length requests) requests table
+-- the table of these requests, in JSON or as CSV; whatever its rows, the knees are those of the usual one
+abbrev pub IsTable : {A : Type 0} → Bool → Options A → List (List ℕ) → List ℕ → Type 0
+IsTable json options requests text = (table : List ℕ) × (rows : List Row) × IsUsualTable (length requests) requests table
     × AreRows bytes_eq requests options.least options.floor (capacities_asked options requests table) rows
-    × (text ≡ table_text options.least options.floor (length requests) (knees (misses_of requests) (length requests) table) rows)
+    × (text ≡ table_text json options.least options.floor (length requests) (knees (misses_of requests) (length requests) table) rows)
 
 -- a picture that has the table in its description; of what is drawn no clause says anything
 abbrev pub IsPicture : {A : Type 0} → Options A → List (List ℕ) → List ℕ → Type 0
-IsPicture options requests text = (table : List ℕ) × IsTable options requests table × HasTable table text
+IsPicture options requests text = (table : List ℕ) × IsTable false options requests table × HasTable table text
 
 abbrev pub IsInForm : {A : Type 0} → Form → Options A → List ℕ → List ℕ → Type 0
-IsInForm Table options input text = IsTable options (lines_of input) text
+IsInForm Table options input text = IsTable false options (lines_of input) text
+IsInForm Json options input text = IsTable true options (lines_of input) text
 IsInForm Picture options input text = IsPicture options (lines_of input) text
 IsInForm Summary options input text =
     text ≡ summary_text (length (lines_of input)) (distinct bytes_eq (reverse (lines_of input))) (length input)
@@ -79,17 +80,18 @@ abbrev pub knees_of_sample : ℕ → ℕ → List (List ℕ) → List ℕ → Li
 knees_of_sample n all kept table = map (times n (2 ^ 64 - 1)) (knees (misses_of kept) (all / n) table)
 
 -- the table of such rows; to the usual table of the kept requests the whole is the part of all that they stand for
-abbrev pub IsTableOfSample : {A : Type 0} → Options A → ℕ → ℕ → List (List ℕ) → List ℕ → Type 0
-IsTableOfSample options n all kept text = (table : List ℕ) × (shown : List Row) × IsUsualTable (all / n) kept table
+abbrev pub IsTableOfSample : {A : Type 0} → Bool → Options A → ℕ → ℕ → List (List ℕ) → List ℕ → Type 0
+IsTableOfSample json options n all kept text = (table : List ℕ) × (shown : List Row) × IsUsualTable (all / n) kept table
     × AreRowsOfSample options options.floor n all kept table shown
-    × (text ≡ table_text false options.floor all (knees_of_sample n all kept table) shown)
+    × (text ≡ table_text json false options.floor all (knees_of_sample n all kept table) shown)
 
 abbrev pub IsPictureOfSample : {A : Type 0} → Options A → ℕ → ℕ → List (List ℕ) → List ℕ → Type 0
 IsPictureOfSample options n all kept text =
-    (table : List ℕ) × IsTableOfSample options n all kept table × HasTable table text
+    (table : List ℕ) × IsTableOfSample false options n all kept table × HasTable table text
 
 abbrev pub IsInFormOfSample : {A : Type 0} → Form → Options A → ℕ → ℕ → List (List ℕ) → List ℕ → List ℕ → Type 0
-IsInFormOfSample Table options n all kept input text = IsTableOfSample options n all kept text
+IsInFormOfSample Table options n all kept input text = IsTableOfSample false options n all kept text
+IsInFormOfSample Json options n all kept input text = IsTableOfSample true options n all kept text
 IsInFormOfSample Picture options n all kept input text = IsPictureOfSample options n all kept text
 IsInFormOfSample Summary options n all kept input text =
     text ≡ summary_text all (times n (2 ^ 64 - 1) (distinct bytes_eq (reverse kept))) (length input)

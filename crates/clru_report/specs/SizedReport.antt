@@ -15,7 +15,7 @@ use Rattle.clru_report.specs.Sizes.{HaveSizes, greatest_size, size_of_lines, wei
 use Rattle.clru_report.specs.SizedTables.{capacity_of_sized_row, row_floor, sized_summary_text, sized_table_text}
 use Rattle.clru_report.specs.Tables.{HasTable}
 use Rattle.clru_report.specs.declared.options.Form.{Form}
-use Rattle.clru_report.specs.declared.options.Form.TheVariants.{Table, Picture, Summary}
+use Rattle.clru_report.specs.declared.options.Form.TheVariants.{Table, Json, Picture, Summary}
 use Rattle.clru_report.specs.declared.options.Options.{Options}
 use Rattle.clru_report.specs.declared.options.Sample.{Sample}
 use Rattle.clru_report.specs.declared.options.Sample.TheVariants.{Whole, OneIn, Taken}
@@ -57,16 +57,16 @@ abbrev pub sized_capacities_asked : {A : Type 0} → Options A → List (List �
 sized_capacities_asked options lines table = sized_capacities_of options.capacities
     (λ c. misses_by_size bytes_eq weight_of_line c lines) (greatest_size lines) (distinct_size lines) table
 
--- the table of these lines, each of which has a size; whatever its rows, the knees are those of the usual one
-abbrev pub IsSizedTable : {A : Type 0} → Options A → List (List ℕ) → List ℕ → Type 0
-IsSizedTable options lines text = (table : List ℕ) × (rows : List SizedRow) × IsSizedUsualTable (size_of_lines lines) lines table
+-- the table of these lines, each of which has a size, in JSON or as CSV; whatever its rows, the knees are those of the usual one
+abbrev pub IsSizedTable : {A : Type 0} → Bool → Options A → List (List ℕ) → List ℕ → Type 0
+IsSizedTable json options lines text = (table : List ℕ) × (rows : List SizedRow) × IsSizedUsualTable (size_of_lines lines) lines table
     × AreSizedRows lines options.floor (sized_capacities_asked options lines table) rows
-    × (text ≡ sized_table_text options.floor (length lines) (size_of_lines lines)
+    × (text ≡ sized_table_text json options.floor (length lines) (size_of_lines lines)
     (knees (missed_of lines) (size_of_lines lines) table) rows)
 
 -- a picture that has the table in its description; of what is drawn no clause says anything
 abbrev pub IsSizedPicture : {A : Type 0} → Options A → List (List ℕ) → List ℕ → Type 0
-IsSizedPicture options lines text = (table : List ℕ) × IsSizedTable options lines table × HasTable table text
+IsSizedPicture options lines text = (table : List ℕ) × IsSizedTable false options lines table × HasTable table text
 
 -- the summary of these lines; where there is none, the greatest size is 0
 abbrev pub summary_by_size : List ℕ → List (List ℕ) → List ℕ
@@ -74,7 +74,8 @@ summary_by_size input lines = sized_summary_text (length lines) (distinct bytes_
     (size_of_lines lines) (distinct_size lines) (min (greatest_size lines) (distinct_size lines))
 
 abbrev pub IsInFormBySize : {A : Type 0} → Form → Options A → List ℕ → List (List ℕ) → List ℕ → Type 0
-IsInFormBySize Table options input lines text = IsSizedTable options lines text
+IsInFormBySize Table options input lines text = IsSizedTable false options lines text
+IsInFormBySize Json options input lines text = IsSizedTable true options lines text
 IsInFormBySize Picture options input lines text = IsSizedPicture options lines text
 IsInFormBySize Summary options input lines text = text ≡ summary_by_size input lines
 
@@ -107,16 +108,17 @@ module _ {A : Type 0} (options : Options A) (n all size : ℕ) (kept : List (Lis
   sized_knees_of_sample table = map (times n (2 ^ 64 - 1)) (knees (missed_of kept) (size / n) table)
 
   -- the table of such rows; to the usual table of the kept lines the whole is the part of all that they stand for
-  abbrev pub IsSizedTableOfSample : List ℕ → Type 0
-  IsSizedTableOfSample text = (table : List ℕ) × (shown : List SizedRow) × IsSizedUsualTable (size / n) kept table
+  abbrev pub IsSizedTableOfSample : Bool → List ℕ → Type 0
+  IsSizedTableOfSample json text = (table : List ℕ) × (shown : List SizedRow) × IsSizedUsualTable (size / n) kept table
       × AreSizedRowsOfSample table shown
-      × (text ≡ sized_table_text options.floor all size (sized_knees_of_sample table) shown)
+      × (text ≡ sized_table_text json options.floor all size (sized_knees_of_sample table) shown)
 
   abbrev pub IsSizedPictureOfSample : List ℕ → Type 0
-  IsSizedPictureOfSample text = (table : List ℕ) × IsSizedTableOfSample table × HasTable table text
+  IsSizedPictureOfSample text = (table : List ℕ) × IsSizedTableOfSample false table × HasTable table text
 
   abbrev pub IsInFormBySizeOfSample : Form → List ℕ → List ℕ → Type 0
-  IsInFormBySizeOfSample Table input text = IsSizedTableOfSample text
+  IsInFormBySizeOfSample Table input text = IsSizedTableOfSample false text
+  IsInFormBySizeOfSample Json input text = IsSizedTableOfSample true text
   IsInFormBySizeOfSample Picture input text = IsSizedPictureOfSample text
   IsInFormBySizeOfSample Summary input text = text ≡ summary_by_size_of_sample input n all size kept
 

@@ -1,46 +1,51 @@
 -- The text of a table by size. Public clauses cite it.
-use Rattle.std.specs.Prelude.{ℕ, ◌-◌, Bool, if◌then◌else◌, List, [], ◌∷◌, ◌++◌, Option, None, Some, codes, decimal}
+use Rattle.std.specs.Prelude.{ℕ, ◌-◌, Bool, true, false, List, [], ◌∷◌, ◌++◌, codes, decimal, unwrap_or}
 use Rattle.std.specs.Int.NonZero.{non_zero_usize_get}
+use Rattle.clru_report.specs.Columns.{columns, header_text, row_text}
+use Rattle.clru_report.specs.Faithful.{point}
 use Rattle.clru_report.specs.Knees.{is_among}
-use Rattle.clru_report.specs.Tables.{fraction_text, millionths, row_end}
+use Rattle.clru_report.specs.declared.columns.Column.{Column}
+use Rattle.clru_report.specs.declared.columns.Line.{Line}
+use Rattle.clru_report.specs.declared.faithful.Point.{Point}
 use Rattle.clru_report.specs.declared.sized.floors.RowFloor.{RowFloor}
 use Rattle.clru_report.specs.declared.sized.rows.SizedRow.{SizedRow}
 
 abbrev pub capacity_of_sized_row : SizedRow → ℕ
 capacity_of_sized_row row = non_zero_usize_get row.capacity
 
+abbrev pub point_of_sized_row : SizedRow → Point
+point_of_sized_row row = point (capacity_of_sized_row row) row.missed_size
+
 abbrev pub row_floor : ℕ → ℕ → RowFloor
 row_floor n s = record { misses = n; missed_size = s }
 
--- both floors, where they are there, and the end of a line
-abbrev pub with_floor : Option RowFloor → List ℕ → List ℕ
-with_floor None end = end
-with_floor (Some floor) end = codes "," ++ (decimal floor.misses ++ (codes "," ++ (decimal floor.missed_size ++ end)))
+-- what the columns of a row are taken from, of so many requests of this size in all, behind the point of the row before
+abbrev pub line_of_sized_row : ℕ → ℕ → Point → Bool → SizedRow → Line
+line_of_sized_row requests size before knee row = record {
+  capacity = capacity_of_sized_row row;
+  misses = row.misses;
+  missed_size = row.missed_size;
+  requests = requests;
+  size = size;
+  least = 0;
+  floor_misses = (unwrap_or row.floor (row_floor 0 0)).misses;
+  floor_missed_size = (unwrap_or row.floor (row_floor 0 0)).missed_size;
+  saved = before.misses - row.missed_size;
+  added = capacity_of_sized_row row - before.capacity;
+  knee = knee;
+}
 
--- capacity, misses and miss ratio, missed size and its ratio, of so many requests of this size in all, the floors if they are there,
--- and how much less a row misses than the one before, of that capacity and missed size
-abbrev pub sized_row_line : ℕ → ℕ → ℕ → ℕ → Bool → SizedRow → List ℕ
-sized_row_line requests size capacity missed knee row = decimal (capacity_of_sized_row row) ++ (codes ","
-    ++ (decimal row.misses ++ (codes ","
-    ++ (fraction_text (millionths row.misses requests) ++ (codes "," ++ (decimal row.missed_size ++ (codes ","
-    ++ (fraction_text (millionths row.missed_size size)
-    ++ with_floor row.floor (row_end (missed - row.missed_size) (capacity_of_sized_row row - capacity) knee)))))))))
+-- the lines of these rows, of which those at a knee are marked
+abbrev pub sized_rows_text : Bool → List Column → ℕ → ℕ → List ℕ → Point → List SizedRow → List ℕ
+sized_rows_text json columns requests size knees before [] = []
+sized_rows_text json columns requests size knees before (row ∷ rows) =
+    row_text json columns (line_of_sized_row requests size before (is_among knees (capacity_of_sized_row row)) row)
+    ++ sized_rows_text json columns requests size knees (point_of_sized_row row) rows
 
--- the lines of these rows, behind a row of that capacity and missed size; those at a knee are marked
-abbrev pub sized_rows_text : ℕ → ℕ → List ℕ → ℕ → ℕ → List SizedRow → List ℕ
-sized_rows_text requests size knees capacity missed [] = []
-sized_rows_text requests size knees capacity missed (row ∷ rows) =
-    sized_row_line requests size capacity missed (is_among knees (capacity_of_sized_row row)) row
-    ++ sized_rows_text requests size knees (capacity_of_sized_row row) row.missed_size rows
-
-abbrev pub sized_header_line : Bool → List ℕ
-sized_header_line floor = if floor
-    then codes "capacity,misses,miss_ratio,missed_bytes,byte_miss_ratio,floor_misses,floor_missed_bytes,saved_per_byte,knee\n"
-    else codes "capacity,misses,miss_ratio,missed_bytes,byte_miss_ratio,saved_per_byte,knee\n"
-
--- the table with these rows and knees; with room for nothing all is missed
-abbrev pub sized_table_text : Bool → ℕ → ℕ → List ℕ → List SizedRow → List ℕ
-sized_table_text floor requests size knees rows = sized_header_line floor ++ sized_rows_text requests size knees 0 size rows
+-- the table with these rows and knees, in JSON or as CSV; with room for nothing all is missed
+abbrev pub sized_table_text : Bool → Bool → ℕ → ℕ → List ℕ → List SizedRow → List ℕ
+sized_table_text json floor requests size knees rows = header_text json (columns true false floor)
+    ++ sized_rows_text json (columns true false floor) requests size knees (point 0 size) rows
 
 -- numbers with commas between them
 abbrev pub three_numbers : ℕ → ℕ → ℕ → List ℕ

@@ -1,59 +1,48 @@
 -- The text of a table. Public clauses cite it.
-use Rattle.std.specs.Prelude.{ℕ, ◌≡◌, ◌+◌, ◌-◌, ◌*◌, ◌/◌, ◌%◌, Bool, List, [], ◌∷◌, ◌++◌, Option, None, Some, codes, decimal, max, if◌then◌else◌}
+use Rattle.std.specs.Prelude.{ℕ, ◌≡◌, ◌-◌, Bool, false, List, [], ◌∷◌, ◌++◌, codes, decimal, unwrap_or}
 use Rattle.std.specs.Int.NonZero.{non_zero_usize_get}
+use Rattle.clru_report.specs.Columns.{columns, header_text, row_text}
 use Rattle.clru_report.specs.Faithful.{point}
 use Rattle.clru_report.specs.Knees.{is_among}
+use Rattle.clru_report.specs.declared.columns.Column.{Column}
+use Rattle.clru_report.specs.declared.columns.Line.{Line}
 use Rattle.clru_report.specs.declared.faithful.Point.{Point}
 use Rattle.clru_report.specs.declared.rows.Row.{Row}
 
 abbrev pub capacity_of_row : Row → ℕ
 capacity_of_row row = non_zero_usize_get row.capacity
 
--- n of so many in millionths, rounded, a half up; of none, as of one
-abbrev pub millionths : ℕ → ℕ → ℕ
-millionths n all = (2000000 * n + max 1 all) / (2 * max 1 all)
-
--- millionths as a decimal fraction of six digits
-abbrev pub fraction_text : ℕ → List ℕ
-fraction_text m = decimal (m / 1000000) ++ (codes "." ++ (decimal (m / 100000 % 10) ++ (decimal (m / 10000 % 10)
-    ++ (decimal (m / 1000 % 10) ++ (decimal (m / 100 % 10) ++ (decimal (m / 10 % 10) ++ decimal (m % 10)))))))
-
 abbrev pub point_of_row : Row → Point
 point_of_row row = point (capacity_of_row row) row.misses
 
--- how many fewer a row misses than the one before, for each unit of capacity between both, and 1 where it is a knee
-abbrev pub row_end : ℕ → ℕ → Bool → List ℕ
-row_end saved added knee = codes "," ++ (fraction_text (millionths saved added) ++ (codes ","
-    ++ (decimal (if knee then 1 else 0) ++ codes "\n")))
-
--- a number, where it is there, and the end of a line
-abbrev pub with_number : Option ℕ → List ℕ → List ℕ
-with_number None end = end
-with_number (Some n) end = codes "," ++ (decimal n ++ end)
-
--- capacity, misses and miss ratio, the least and the floor if they are there, and what follows of a row behind the point of the one before
-abbrev pub row_line : ℕ → Point → Bool → Row → List ℕ
-row_line requests before knee row = decimal (capacity_of_row row) ++ (codes "," ++ (decimal row.misses ++ (codes ","
-    ++ (fraction_text (millionths row.misses requests)
-    ++ with_number row.least (with_number row.floor
-    (row_end (before.misses - row.misses) (capacity_of_row row - before.capacity) knee))))))
+-- what the columns of a row are taken from, behind the point of the row before. Each key takes one place, so what misses is as much
+-- as how many do
+abbrev pub line_of_row : ℕ → Point → Bool → Row → Line
+line_of_row requests before knee row = record {
+  capacity = capacity_of_row row;
+  misses = row.misses;
+  missed_size = row.misses;
+  requests = requests;
+  size = requests;
+  least = unwrap_or row.least 0;
+  floor_misses = unwrap_or row.floor 0;
+  floor_missed_size = unwrap_or row.floor 0;
+  saved = before.misses - row.misses;
+  added = capacity_of_row row - before.capacity;
+  knee = knee;
+}
 
 -- the lines of these rows, of which those at a knee are marked
-abbrev pub rows_text : ℕ → List ℕ → Point → List Row → List ℕ
-rows_text requests knees before [] = []
-rows_text requests knees before (row ∷ rows) =
-    row_line requests before (is_among knees (capacity_of_row row)) row ++ rows_text requests knees (point_of_row row) rows
+abbrev pub rows_text : Bool → List Column → ℕ → List ℕ → Point → List Row → List ℕ
+rows_text json columns requests knees before [] = []
+rows_text json columns requests knees before (row ∷ rows) =
+    row_text json columns (line_of_row requests before (is_among knees (capacity_of_row row)) row)
+    ++ rows_text json columns requests knees (point_of_row row) rows
 
-abbrev pub header_line : Bool → Bool → List ℕ
-header_line least floor = if least
-    then (if floor then codes "capacity,misses,miss_ratio,least_misses,floor_misses,saved_per_key,knee\n"
-    else codes "capacity,misses,miss_ratio,least_misses,saved_per_key,knee\n")
-    else (if floor then codes "capacity,misses,miss_ratio,floor_misses,saved_per_key,knee\n"
-    else codes "capacity,misses,miss_ratio,saved_per_key,knee\n")
-
--- the table with these rows and knees; with room for nothing all requests miss
-abbrev pub table_text : Bool → Bool → ℕ → List ℕ → List Row → List ℕ
-table_text least floor requests knees rows = header_line least floor ++ rows_text requests knees (point 0 requests) rows
+-- the table with these rows and knees, in JSON or as CSV; with room for nothing all requests miss
+abbrev pub table_text : Bool → Bool → Bool → ℕ → List ℕ → List Row → List ℕ
+table_text json least floor requests knees rows = header_text json (columns false least floor)
+    ++ rows_text json (columns false least floor) requests knees (point 0 requests) rows
 
 -- the summary of so many requests for so many keys
 abbrev pub summary_text : ℕ → ℕ → ℕ → List ℕ

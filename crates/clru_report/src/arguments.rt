@@ -41,6 +41,7 @@ struct Draft<A: Allocator> {
     sizes: bool,
     least: bool,
     floor: bool,
+    json: bool,
     svg: bool,
     summary: bool,
     sample: Option<NonZeroUsize>,
@@ -106,6 +107,7 @@ fn draft_of<A: Allocator + Copy>(alloc: A) -> Draft<A>
         sizes: false,
         least: false,
         floor: false,
+        json: false,
         svg: false,
         summary: false,
         sample: None,
@@ -198,7 +200,7 @@ fn value_of(word: &str) -> Option<Value>
     }
 }
 
-// Answers whether the word is an argument that stands alone.
+// Returns whether the word is an argument that stands alone.
 fn take_flag<A: Allocator>(draft: &mut Draft<A>, word: &str) -> bool
     ensures flag { result ≡ true → with_flag word.now (asked_by draft.old) ≡ Some (asked_by draft.new) }
     ensures none { result ≡ false → (with_flag word.now (asked_by draft.old) ≡ None) × (asked_by draft.new ≡ asked_by draft.old) }
@@ -208,6 +210,7 @@ fn take_flag<A: Allocator>(draft: &mut Draft<A>, word: &str) -> bool
         "--sizes" => draft.sizes = true,
         "--least" => draft.least = true,
         "--floor" => draft.floor = true,
+        "--json" => draft.json = true,
         "--svg" => draft.svg = true,
         "--summary" => draft.summary = true,
         _ => return false,
@@ -335,6 +338,7 @@ fn finish<A: Allocator + Copy>(alloc: A, draft: Draft<A>) -> Result<Command<A>, 
         sizes,
         least,
         floor,
+        json: _,
         svg: _,
         summary: _,
         sample: _,
@@ -412,6 +416,8 @@ fn form_of<A: Allocator>(draft: &Draft<A>) -> Form
         Form::Summary
     } else if draft.svg {
         Form::Picture
+    } else if draft.json {
+        Form::Json
     } else {
         Form::Table
     }
@@ -447,6 +453,9 @@ fn conflict_of<A: Allocator>(draft: &Draft<A>) -> Option<&'static str>
         return Some(
             "--least and --sizes do not go together: the least in bytes is too hard to compute, so leave one out",
         );
+    }
+    if draft.json && draft.svg {
+        return Some("--json and --svg do not go together: leave one out");
     }
     if asks_for_look(draft) && !draft.svg {
         return Some("--title, --unit, --from and --to are of a picture: write --svg as well");
@@ -503,7 +512,7 @@ fn asks_for_look<A: Allocator>(draft: &Draft<A>) -> bool
 fn asks_for_rows<A: Allocator>(draft: &Draft<A>) -> bool
     ensures { result ≡ wants_rows (asked_by draft.now) }
 {
-    draft.all || !draft.named.is_empty() || draft.least || draft.floor || draft.svg
+    draft.all || !draft.named.is_empty() || draft.least || draft.floor || draft.svg || draft.json
 }
 
 fn wrong<A: Allocator + Copy>(alloc: A, line: &str) -> Refusal<A> {

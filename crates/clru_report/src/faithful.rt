@@ -59,11 +59,9 @@ fn point_by_keys(curve: &[usize], capacity: usize) -> Point
 fn misses_by_keys(curve: &[usize], capacity: usize) -> usize
     ensures { result ≡ misses_at curve.now capacity }
 {
-    let index = capacity.saturating_sub(1);
-    if index < curve.len() {
-        curve[index]
-    } else {
-        curve.len()
+    match curve.get(capacity.saturating_sub(1)) {
+        Some(misses) => *misses,
+        None => curve.last().copied().unwrap_or(0),
     }
 }
 

@@ -9,6 +9,8 @@ use std::io::{Error, ErrorKind};
 
 /// Returns why an input was not read.
 pub(crate) fn read_fault(error: ReadError) -> Fault
+    ensures memory { error ≡ ReadError.Memory → result ≡ Fault.Memory }
+    ensures reading { error ≡ ReadError.Reading → result ≡ Fault.Reading }
     ensures not_of_input { is_of_input result ≡ false }
     ensures not_of_writing { is_of_writing result ≡ false }
 {

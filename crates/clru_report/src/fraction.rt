@@ -1,6 +1,6 @@
 //! Miss ratios in decimal digits.
 ghost use Rattle.std.specs.Prelude.{◌≡◌, ◌≤◌, Some};
-ghost use Rattle.clru_report.specs.Tables.{fraction_text, millionths};
+ghost use Rattle.clru_report.specs.Columns.{fraction_text, millionths};
 
 use std::fmt;
 

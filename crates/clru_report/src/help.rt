@@ -31,6 +31,7 @@ are shown. Between the usual rows you may interpolate.
     --floor      also a floor of the misses: no policy has fewer, even one that
                  bypasses requested keys; with --sizes one of the missed bytes
                  too; a sample scales both as it does misses
+    --json       the table as JSON: an object a line, by the columns' names
     --svg        a picture instead of the table; with --sizes it has a line
                  for the bytes too
     --title TEXT, --unit TEXT, --from N, --to N

@@ -11,6 +11,7 @@
 
 mod arguments;
 mod capacities;
+mod columns;
 mod faithful;
 mod fault;
 mod fraction;

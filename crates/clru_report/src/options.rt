@@ -21,8 +21,10 @@ pub enum Capacities<A: Allocator = Global> {
 /// What is written.
 #[derive(Clone, Copy, Debug, PartialEq, Eq)]
 pub enum Form {
-    /// The table.
+    /// The table, as CSV.
     Table,
+    /// The table as JSON: an object for each row, on a line of its own, whose names are those of the columns.
+    Json,
     /// A picture of the curve, with the table in its description. By size it has a line for the missed sizes as well.
     Picture,
     /// How many requests and distinct keys there are, and the bytes of the input.

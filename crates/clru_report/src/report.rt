@@ -120,7 +120,7 @@ fn asks_for_least<A: Allocator>(options: &Options<A>) -> bool
     ensures { result ≡ wants_least options.now }
 {
     match options.form {
-        Form::Table | Form::Picture => options.least,
+        Form::Table | Form::Json | Form::Picture => options.least,
         Form::Summary => false,
     }
 }
@@ -129,7 +129,7 @@ pub(crate) fn asks_for_floor<A: Allocator>(options: &Options<A>) -> bool
     ensures { result ≡ wants_floor options.now }
 {
     match options.form {
-        Form::Table | Form::Picture => options.floor,
+        Form::Table | Form::Json | Form::Picture => options.floor,
         Form::Summary => false,
     }
 }

@@ -159,7 +159,8 @@ fn text_by_size<A: Allocator + Copy>(
     ensures fault { IfErr result (λ fault. is_of_writing fault ≡ false) }
 {
     match options.form {
-        Form::Table => sized_table_for(alloc, options, curve, floors),
+        Form::Table => sized_table_for(alloc, options, curve, floors, false),
+        Form::Json => sized_table_for(alloc, options, curve, floors, true),
         Form::Picture => sized_picture_for(alloc, options, curve, floors),
         Form::Summary => match sized_summary_of(alloc, curve, bytes) {
             Ok(text) => Ok(text),
@@ -168,15 +169,16 @@ fn text_by_size<A: Allocator + Copy>(
     }
 }
 
-// The table of a curve.
+// The table of a curve, in JSON or as CSV.
 fn sized_table_for<A: Allocator + Copy>(
     alloc: A,
     options: &Options<A>,
     curve: &SizedCurve<A>,
     floors: &Option<Floors<A>>,
+    json: bool,
 ) -> Result<String<A>, Fault>
     requires { IsSettled curve.now }
-    ensures table { IfOk result (λ text. IsTableOf curve.now floors.now options.now.floor options.now.capacities
+    ensures table { IfOk result (λ text. IsTableOf curve.now json floors.now options.now.floor options.now.capacities
         (string_bytes text)) }
     ensures refused { IfErr result (λ fault. is_of_input fault ≡ true → IsOfAsked curve.now fault options.now.capacities) }
     ensures fault { IfErr result (λ fault. is_of_writing fault ≡ false) }
@@ -192,6 +194,7 @@ fn sized_table_for<A: Allocator + Copy>(
         curve.requests(),
         curve.size(),
         options.floor,
+        json,
     ) {
         Ok(text) => Ok(text),
         Err(_) => Err(Fault::Memory),
@@ -206,12 +209,12 @@ fn sized_picture_for<A: Allocator + Copy>(
     floors: &Option<Floors<A>>,
 ) -> Result<String<A>, Fault>
     requires { IsSettled curve.now }
-    ensures picture { IfOk result (λ text. (table : List ℕ) × IsTableOf curve.now floors.now options.now.floor
+    ensures picture { IfOk result (λ text. (table : List ℕ) × IsTableOf curve.now false floors.now options.now.floor
         options.now.capacities table × HasTable table (string_bytes text)) }
     ensures refused { IfErr result (λ fault. is_of_input fault ≡ true → IsOfAsked curve.now fault options.now.capacities) }
     ensures fault { IfErr result (λ fault. is_of_writing fault ≡ false) }
 {
-    let table = sized_table_for(alloc, options, curve, floors)?;
+    let table = sized_table_for(alloc, options, curve, floors, false)?;
     let totals = Totals {
         one_in: NonZeroUsize::MIN,
         requests: curve.requests(),

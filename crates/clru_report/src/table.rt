@@ -1,14 +1,14 @@
 //! The text of a table, and that of the summary.
-ghost use Rattle.std.specs.Prelude.{◌≡◌, ◌-◌, drop, if◌then◌else◌, IfOk, string_bytes};
-ghost use Rattle.clru_report.specs.Tables.{point_of_row, header_line, row_end, row_line, summary_text, table_text, with_number as with_number_text};
+ghost use Rattle.std.specs.Prelude.{◌≡◌, ◌++◌, drop, IfOk, string_bytes};
+ghost use Rattle.clru_report.specs.Tables.{line_of_row, point_of_row, summary_text, table_text};
 
+use crate::columns::{Line, columns_of, push_header, push_row};
 use crate::faithful::Point;
-use crate::fraction::ratio_of;
 use crate::knees::is_knee;
 use crate::rows::Row;
 use std::alloc::{AllocError, Allocator};
 
-/// The table with these rows and knees, for so many requests.
+/// The table with these rows and knees, for so many requests, in JSON or as CSV.
 pub(crate) fn table_of<A: Allocator + Copy>(
     alloc: A,
     rows: &[Row],
@@ -16,11 +16,14 @@ pub(crate) fn table_of<A: Allocator + Copy>(
     requests: usize,
     least: bool,
     floor: bool,
+    json: bool,
 ) -> Result<String<A>, AllocError>
-    ensures { IfOk result (λ text. string_bytes text ≡ table_text least floor requests knees.now rows.now) }
+    ensures { IfOk result (λ text. string_bytes text ≡ table_text json least floor requests knees.now rows.now) }
 {
+    let columns = columns_of(alloc, false, least, floor)?;
+    let shown = columns.as_slice();
     let mut text = String::new(alloc);
-    text.push_str(header_of(least, floor))?;
+    push_header(&mut text, shown, json)?;
     let mut before = Point {
         capacity: 0,
         misses: requests,
@@ -28,27 +31,15 @@ pub(crate) fn table_of<A: Allocator + Copy>(
     for index in 0..rows.len() {
         let row = rows[index];
         let knee = is_knee(knees, row.capacity.get());
-        let line = line_of(alloc, &row, requests, before, knee)?;
-        text.push_str(&line)?;
+        push_row(
+            &mut text,
+            shown,
+            line_of(&row, requests, before, knee),
+            json,
+        )?;
         before = point_of(&row);
     }
     Ok(text)
-}
-
-fn header_of(least: bool, floor: bool) -> &'static str
-    ensures { result.now ≡ header_line least floor }
-{
-    if least {
-        if floor {
-            "capacity,misses,miss_ratio,least_misses,floor_misses,saved_per_key,knee\n"
-        } else {
-            "capacity,misses,miss_ratio,least_misses,saved_per_key,knee\n"
-        }
-    } else if floor {
-        "capacity,misses,miss_ratio,floor_misses,saved_per_key,knee\n"
-    } else {
-        "capacity,misses,miss_ratio,saved_per_key,knee\n"
-    }
 }
 
 fn point_of(row: &Row) -> Point
@@ -60,59 +51,24 @@ fn point_of(row: &Row) -> Point
     }
 }
 
-// One line, with its newline.
-fn line_of<A: Allocator + Copy>(
-    alloc: A,
-    row: &Row,
-    requests: usize,
-    before: Point,
-    knee: bool,
-) -> Result<String<A>, AllocError>
-    ensures { IfOk result (λ line. string_bytes line ≡ row_line requests before knee row.now) }
+fn line_of(row: &Row, requests: usize, before: Point, knee: bool) -> Line
+    ensures { result ≡ line_of_row requests before knee row.now }
 {
     let capacity = row.capacity.get();
-    let misses = row.misses;
-    let ratio = ratio_of(misses, requests);
-    let saved = before.misses.saturating_sub(misses);
-    let added = capacity.saturating_sub(before.capacity);
-    let end = end_of(alloc, saved, added, knee)?;
-    let from_floor = with_number(alloc, row.floor, end)?;
-    let from_least = with_number(alloc, row.least, from_floor)?;
-    format!(in alloc; "{capacity},{misses},{ratio}{from_least}")
-}
-
-// The end of a line, behind a number if it is there.
-fn with_number<A: Allocator + Copy>(
-    alloc: A,
-    number: Option<usize>,
-    end: String<A>,
-) -> Result<String<A>, AllocError>
-    ensures { IfOk result (λ text. string_bytes text ≡ with_number_text number (string_bytes end)) }
-{
-    match number {
-        Some(number) => format!(in alloc; ",{number}{end}"),
-        None => Ok(end),
+    let floor = row.floor.unwrap_or(0);
+    Line {
+        capacity,
+        misses: row.misses,
+        missed_size: row.misses,
+        requests,
+        size: requests,
+        least: row.least.unwrap_or(0),
+        floor_misses: floor,
+        floor_missed_size: floor,
+        saved: before.misses.saturating_sub(row.misses),
+        added: capacity.saturating_sub(before.capacity),
+        knee,
     }
-}
-
-/// The end of a line: how much is saved for each unit that is added, and whether the row is a knee.
-pub(crate) fn end_of<A: Allocator + Copy>(
-    alloc: A,
-    saved: usize,
-    added: usize,
-    knee: bool,
-) -> Result<String<A>, AllocError>
-    ensures { IfOk result (λ end. string_bytes end ≡ row_end saved added knee) }
-{
-    let for_each = ratio_of(saved, added);
-    let mark = mark_of(knee);
-    format!(in alloc; ",{for_each},{mark}\n")
-}
-
-fn mark_of(knee: bool) -> u8
-    ensures { result ≡ if knee then 1 else 0 }
-{
-    if knee { 1 } else { 0 }
 }
 
 /// The summary of so many requests for so many keys.

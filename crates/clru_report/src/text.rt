@@ -36,9 +36,10 @@ pub(crate) fn text_by_keys<A: Allocator + Copy>(
 {
     let requests = counts.requests;
     match options.form {
-        Form::Table => table_of(alloc, rows, knees, requests, least, options.floor),
+        Form::Table => table_of(alloc, rows, knees, requests, least, options.floor, false),
+        Form::Json => table_of(alloc, rows, knees, requests, least, options.floor, true),
         Form::Picture => {
-            let table = table_of(alloc, rows, knees, requests, least, options.floor)?;
+            let table = table_of(alloc, rows, knees, requests, least, options.floor, false)?;
             let curve = curve.as_slice();
             picture_by_keys(alloc, curve, floor, counts, options, rows, &table)
         }

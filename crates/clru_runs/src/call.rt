@@ -1,4 +1,4 @@
-//! The calls of a cache and what they answer, as values.
+//! The calls of a cache and their results, as values.
 ghost use Rattle.std.specs.Prelude.{◌≡◌, ◌+◌, ◌<◌, ◌^◌, Some};
 
 use clru::{Put, PutError, TryPutError};

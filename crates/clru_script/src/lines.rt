@@ -15,7 +15,7 @@ pub(crate) struct Line {
 }
 
 /// What begins a block of lines.
-const SUBJECTS: [&str; 16] = [
+const SUBJECTS: [&str; 18] = [
     "cache",
     "costs",
     "list",
@@ -24,8 +24,10 @@ const SUBJECTS: [&str; 16] = [
     "replay",
     "misses",
     "distances",
+    "idle_distances",
     "sizes",
     "spans",
+    "idle_spans",
     "floor",
     "least",
     "foresight",

@@ -25,6 +25,7 @@ mod requests;
 mod runs;
 mod store;
 mod subject;
+mod timed;
 mod whole;
 mod words;
 mod world;

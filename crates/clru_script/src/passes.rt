@@ -17,7 +17,7 @@ use std::alloc::{Allocator, Global};
 use std::hash::BuildHasher;
 
 /// Memory that is counted.
-type Heap = &'static Rationed<Global>;
+pub(crate) type Heap = &'static Rationed<Global>;
 
 /// A pass by keys over any hash builder and memory, and
 type Distances<S, A> = DistancePass<Key, S, A>;
@@ -154,7 +154,7 @@ fn request_all_again<S: BuildHasher, A: Allocator + Copy>(
 }
 
 /// Says which key came back.
-fn say_back(why: &str, key: &Key, out: &mut Out) {
+pub(crate) fn say_back(why: &str, key: &Key, out: &mut Out) {
     out.part(" ");
     out.say(why);
     out.say(&key.text);
@@ -216,7 +216,7 @@ fn call_spans<S: BuildHasher, A: Allocator + Copy>(
 }
 
 /// The key of a word `KEY:WEIGHT`.
-fn key_of(world: &'static World, word: &str) -> Key {
+pub(crate) fn key_of(world: &'static World, word: &str) -> Key {
     let (key, _) = word.split_once(":").unwrap_or((word, ""));
     Key::new(world, key)
 }
@@ -244,7 +244,7 @@ fn request_sized<S: BuildHasher, A: Allocator + Copy>(
 }
 
 /// Says why a request is refused, and which key came back.
-fn say_refused(error: &SizedRequestError<Key>, out: &mut Out) {
+pub(crate) fn say_refused(error: &SizedRequestError<Key>, out: &mut Out) {
     match error {
         SizedRequestError::NoMemory(back) => say_back("no memory, back ", back, out),
         SizedRequestError::TooLarge(back) => say_back("too large, back ", back, out),
@@ -272,7 +272,7 @@ fn request_sized_again<S: BuildHasher, A: Allocator + Copy>(
 }
 
 /// The same of a lent key.
-fn say_refused_again(error: SizedRequestError<&Key>, out: &mut Out) {
+pub(crate) fn say_refused_again(error: SizedRequestError<&Key>, out: &mut Out) {
     match error {
         SizedRequestError::NoMemory(back) => say_back("no memory, back ", back, out),
         SizedRequestError::TooLarge(back) => say_back("too large, back ", back, out),

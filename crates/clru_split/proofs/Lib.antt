@@ -1,3 +1,6 @@
 pub mod Apart
 pub mod Following
+pub mod Merged
 pub mod Rows
+pub mod SizedCaches
+pub mod Taking

@@ -1,4 +1,4 @@
-//! What a store answers of a key.
+//! What a store returns for a key.
 
 /// The value of a key.
 #[derive(Debug, Drop, PartialEq, Eq)]

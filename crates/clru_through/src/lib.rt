@@ -1,13 +1,13 @@
 //! A read-through store: a source of values, with a cache before it.
 //!
-//! Each value that is held is the source's value for its key. A key that is held is found in the cache, and nothing is
-//! fetched; of another one the value is fetched once, and put into the cache. A value that is too heavy for the cache, or for
-//! which no memory was found, is passed on to the caller. What is taken out is fetched again when it is asked for.
+//! Each held value is the source's value for its key. If a key is held, nothing is fetched. Otherwise its value is fetched once,
+//! and put into the cache, or passed on to the caller if it is too heavy or no memory was found. A value that was dropped is
+//! fetched again at its next request.
 //!
-//! A source whose values are no function of the key, as those of files, promises of them what it can; each value that is held
-//! keeps that.
+//! If values are no function of the key, as those of files, the source promises of them what it can, and each held value keeps
+//! that promise.
 //!
-//! The store stands on the contract of the cache: whatever the cache's entries lie in, this crate stays as it is.
+//! The store relies only on the cache's contract.
 #![tactic(auto)]
 
 mod answer;

@@ -8,7 +8,7 @@ pub trait Source<K: Eq, V, E> {
     // What a fetch of the key gives if it succeeds. It is an `Option`, since some source fails at some key always.
     ghost value: { Self → K → Option V };
 
-    // One fetch: it may answer the result, and leave the source as the last one.
+    // One fetch: which result it may return, and which source it may leave.
     ghost fetches: { Self → K → Result V E → Self → Type 0 };
 
     /// Fetches the value of the key.
@@ -34,7 +34,7 @@ pub trait Fetch<K: Eq, V, E, M>: Sealed<K, V, E, M> {
     // The value keeps the promise.
     ghost keeps: { Self.Promise → V → Type 0 };
 
-    // One fetch: it may answer the result, and leave the source as the last one.
+    // One fetch: which result it may return, and which source it may leave.
     ghost fetches: { Self → K → Result V E → Self → Type 0 };
 
     /// Fetches a value of the key.

@@ -17,7 +17,7 @@ pub struct Used {
     pub time: u64,
 }
 
-/// Time to idle: returns the text of a page if its latest request was at most `idle` before now, and notes this one. If it returns
+/// Returns the text of a page if its latest request was at most `idle` before now (time to idle), and notes this one. If it returns
 /// nothing, fetch the page, and put it with this time.
 pub fn text_in_use(pages: &mut CLruCache<u64, Used>, page: u64, now: u64, idle: u64) -> Option<u64>
     ensures recent { is_some result ≡ is_fresh nat_eq (λ used. used.time) (Some idle) (page, now) pages.old.entries }
@@ -67,7 +67,7 @@ pub fn change_size(sizes: &mut Sizes, page: &u64, size: usize) -> Result<bool, P
     }
 }
 
-/// A listener at `put_or_modify`: takes out the pair that a put of a page would drop.
+/// Takes out the pair that a put of a page would drop: a listener before `put_or_modify`.
 pub fn pop_for(looks: &mut CLruCache<u64, u64>, page: u64) -> Option<(u64, u64)>
     ensures { result ≡ plain_drop nat_eq looks.old.capacity page looks.old.entries }
 {
@@ -80,8 +80,8 @@ pub fn pop_for(looks: &mut CLruCache<u64, u64>, page: u64) -> Option<(u64, u64)>
     looks.pop_back()
 }
 
-/// A listener at `resize`, and at `clear` by a capacity of 0: takes out the next pair that does not fit within the capacity, until
-/// it returns nothing.
+/// Takes out the next pair that does not fit within the capacity, until it returns nothing: a listener before `resize`, and before
+/// `clear` by a capacity of 0.
 pub fn pop_above(sizes: &mut Sizes, capacity: usize) -> Option<(u64, usize)>
     ensures pair { IfSome result (λ pair. slice_get sizes.old.entries (length sizes.old.entries - 1) ≡ Some pair) }
     ensures fits { IsSome result ↔ (capacity < size_of (λ _ size. size) sizes.old.entries) }
@@ -110,7 +110,7 @@ pub fn copy_into(from: &CLruCache<u64, u64>, to: &mut CLruCache<u64, u64>) -> Re
     Ok(())
 }
 
-/// Admission on the second request: puts a page only if it was seen before, and returns whether it was.
+/// Puts a page only if it was seen before (admission on the second request), and returns whether it was.
 pub fn put_seen(
     seen: &mut CLruCache<u64, ()>,
     pages: &mut CLruCache<u64, u64>,
@@ -159,7 +159,7 @@ impl Source<u64, Option<u64>, ()> for Owners {
     ghost same = { Prim.search (rules, comparing) };
 }
 
-/// Negative caching: the store holds that a page has no owner too, and so fetches it once.
+/// Returns the owner of a page. The store also holds that a page has none (negative caching), and so fetches it once.
 pub fn owner_of(
     owners: &mut Through<u64, Option<u64>, (), Owners>,
     page: u64,

@@ -15,6 +15,7 @@ pub mod files;
 pub mod gains;
 pub mod hasher;
 pub mod idioms;
+pub mod idle;
 pub mod lends;
 pub mod limits;
 pub mod lists;

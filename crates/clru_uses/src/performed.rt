@@ -70,7 +70,7 @@ pub fn perform_puts<K: Eq + Hash + Drop, V: Copy>(
         (held_before K.eq (entries_of K.eq cache.old calls.items answers.items cache.new run) requests))) }
 {
     law_put_runs::<K, V, clru::ZeroWeightScale>();
-    // For the proof: by clause `valid` of `len` the capacity is at least 1.
+    // Only for the proof: clause `valid` of `len` says that the capacity is at least 1.
     let _ = cache.len();
     match perform_all(alloc, cache, calls) {
         Ok(answers) => Ok(answers),

@@ -23,7 +23,7 @@ pub fn held_before_puts<K: Eq + Hash + Drop>(
     ensures bound { IfSome result (λ held. IsCompetitive K.eq cache.old.capacity keys.items (count_by not held.items)) }
 {
     law_requests::<K, ()>();
-    // For the proof: by clause `valid` of `len` the capacity is at least 1.
+    // Only for the proof: clause `valid` of `len` says that the capacity is at least 1.
     let _ = cache.len();
     let mut held = Vec::new(alloc);
     for key in keys {
@@ -46,7 +46,7 @@ pub fn pages_fetched(
     ensures bound { IfOk result (λ n. IsCompetitive nat_eq cache.old.capacity pages.items n) }
 {
     law_requests::<usize, usize>();
-    // For the proof: by clause `valid` of `len` the capacity is at least 1.
+    // Only for the proof: clause `valid` of `len` says that the capacity is at least 1.
     let _ = cache.len();
     let mut fetched = 0;
     for page in pages {
@@ -68,7 +68,7 @@ pub fn dropped_by_puts<K: Eq + Hash + Drop>(
     ensures { IfSome result (λ n. n + length cache.new.entries ≡ misses K.eq cache.old.capacity keys.items) }
 {
     law_requests::<K, ()>();
-    // For the proof: by clause `valid` of `len` the capacity is at least 1.
+    // Only for the proof: clause `valid` of `len` says that the capacity is at least 1.
     let _ = cache.len();
     let mut dropped = 0;
     for key in keys {
@@ -103,7 +103,7 @@ pub fn aged_pages_fetched(
     ensures misses { IfOk result (λ n. n ≡ aged_misses nat_eq (hit nat_eq cache.old.capacity) None (Some age) requests.items) }
 {
     law_ages::<usize, usize>();
-    // For the proof: by clause `valid` of `len` the capacity is at least 1.
+    // Only for the proof: clause `valid` of `len` says that the capacity is at least 1.
     let _ = cache.len();
     let mut fetched = 0;
     for (page, now) in requests {

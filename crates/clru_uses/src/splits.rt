@@ -1,11 +1,13 @@
 //! One budget for two caches.
-ghost use Rattle.std.specs.Prelude.{◌≡◌, ℕ, ◌+◌, ◌*◌, ◌≤◌, nat_eq, IfOk};
+ghost use Rattle.std.specs.Prelude.{◌≡◌, ◌⊎◌, ℕ, ◌+◌, ◌*◌, ◌<◌, ◌≤◌, nat_eq, slice_index, sum, IfOk, Some};
 ghost use Rattle.std.specs.Int.NonZero.{non_zero_usize_get};
+ghost use Rattle.std.specs.List.{slice_get};
+ghost use Rattle.clru_curve.specs.SizedCurves.{CurveBySize};
 ghost use Rattle.clru_model.specs.Requests.{misses};
 
-use clru_curve::{DefaultState, NoMemory, miss_curve};
+use clru_curve::{DefaultState, NoMemory, SizedCurve, miss_curve};
 use clru_split::{Class, NonZeroUsize, split};
-use std::alloc::Global;
+use std::alloc::{AllocError, Global};
 
 /// Returns the capacities of a cache for pages and of one for images, in multiples of the step and together within the budget,
 /// such that no others miss less together. At capacity 0 there is no cache, and each request misses.
@@ -31,4 +33,19 @@ pub fn room_for_each(
         Ok(room) => Ok((room[0], room[1])),
         Err(_) => Err(NoMemory),
     }
+}
+
+/// Returns the bytes of a cache for each of these curves, such that no others miss less together. Each has room for all that is
+/// requested of it, or none at all.
+pub fn bytes_for_each(
+    alloc: Global,
+    step: NonZeroUsize,
+    budget: usize,
+    curves: &[SizedCurve],
+) -> Result<Vec<usize>, AllocError>
+    ensures within { IfOk result (λ bytes. sum bytes.items ≤ budget) }
+    ensures all_or_none { IfOk result (λ bytes. (i : ℕ) (curve : CurveBySize) → slice_get curves.now i ≡ Some curve
+        → (slice_index bytes.items i ≡ 0) ⊎ (curve.greatest_weight < slice_index bytes.items i)) }
+{
+    split(alloc, step, budget, curves)
 }

@@ -25,7 +25,7 @@ impl Watched {
         ensures capacity { IfOk result (λ watched. watched.cache.capacity ≡ non_zero_usize_get capacity) }
     {
         let cache = CLruCache::with_memory(alloc, capacity, capacity.get())?;
-        // For the proof: by clause `valid` of `len` the capacity is at least 1.
+        // Only for the proof: clause `valid` of `len` says that the capacity is at least 1.
         let _ = cache.len();
         Ok(Watched {
             cache,

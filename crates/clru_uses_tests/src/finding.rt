@@ -1,11 +1,10 @@
 //! Callers that find what they stored, and know what was dropped.
 
-use crate::lists::Sizes;
+use crate::lists::{Sizes, room};
 use clru::{CLruCache, NonZeroUsize};
 use clru_uses::removals::{forget_twice, halve, keep_large};
 use clru_uses::{count, drops, errors, lookups, room_left};
-use ration::{capacity_of, equal};
-use std::test::Fail;
+use ration::equal;
 
 #[test]
 fn callers_find_what_they_stored(rt: HostRuntime) {
@@ -79,11 +78,9 @@ fn looks(sizes: &mut Sizes) -> (Option<u64>, usize, usize) {
 }
 
 #[test]
-fn callers_take_pages_out(rt: HostRuntime) -> Result<(), Fail> {
-    let mut sizes = CLruCache::new(rt.alloc(), capacity_of(9)?);
-    equal!(rt; keeps(&mut sizes), 2);
-    equal!(rt; forgets(&mut sizes), (None, 2, Some((7, 4))));
-    Ok(())
+fn callers_take_pages_out(rt: HostRuntime) {
+    let mut sizes = CLruCache::new(rt.alloc(), room(9));
+    equal!(rt; (keeps(&mut sizes), forgets(&mut sizes)), (2, (None, 2, Some((7, 4)))));
 }
 
 /// How many pages are large.

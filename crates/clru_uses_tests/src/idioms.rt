@@ -1,24 +1,37 @@
 //! What programs do with other caches, and a watched cache.
 
-use crate::lists::{Sizes, peek};
+use crate::lists::{Sizes, peek, room};
 use clru::CLruCache;
 use clru_through::Through;
 use clru_uses::idioms::{self, Owners, Used};
 use clru_uses::watched::Watched;
-use ration::{capacity_of, equal};
-use std::test::Fail;
+use ration::equal;
+use std::alloc::Global;
 
 #[test]
-fn a_page_in_use_is_found(rt: HostRuntime) -> Result<(), Fail> {
-    let mut pages = CLruCache::new(rt.alloc(), capacity_of(2)?);
-    equal!(rt; texts_in_use(&mut pages), (None, Some(7), Some(7), None));
-    Ok(())
+fn idioms_do_what_they_say(rt: HostRuntime) {
+    // A page in use is found.
+    equal!(rt; texts_of(rt.alloc()), (None, Some(7), Some(7), None));
+    // A size changes, and listeners hear of what leaves.
+    equal!(rt; changes_of(rt.alloc()), ((true, true, false, true, 5), (None, Some((1, 2)), Some((3, 1)), None)));
+    // Pages are admitted and copied.
+    let ends = (Some((5, 5)), Some((4, 4)));
+    equal!(rt; admitted(rt.alloc()), ((2, Some(4)), (None, None, Some((3, 3))), Some(ends)));
+    // That there is no owner is held.
+    equal!(rt; owners_of(rt.alloc()), (Ok(None), Ok(None), Ok(Some(2)), 2));
+    // A watched cache knows what others miss.
+    equal!(rt; counts_of(rt.alloc()), Some(((1, 6), true)));
+}
+
+/// The texts of a page that is in use.
+type Texts = (Option<u64>, Option<u64>, Option<u64>, Option<u64>);
+
+fn texts_of(alloc: Global) -> Texts {
+    texts_in_use(&mut CLruCache::new(alloc, room(2)))
 }
 
 /// The texts of a page that is requested before it is put, and thrice after, the last time too late.
-fn texts_in_use(
-    pages: &mut CLruCache<u64, Used>,
-) -> (Option<u64>, Option<u64>, Option<u64>, Option<u64>) {
+fn texts_in_use(pages: &mut CLruCache<u64, Used>) -> Texts {
     let none = idioms::text_in_use(pages, 1, 100, 10);
     let _ = pages.put(1, Used { text: 7, time: 100 });
     (
@@ -29,16 +42,18 @@ fn texts_in_use(
     )
 }
 
-#[test]
-fn a_size_changes_and_listeners_hear_of_what_leaves(rt: HostRuntime) -> Result<(), Fail> {
-    let mut sizes = CLruCache::with_scale(rt.alloc(), capacity_of(10)?, idioms::BySize);
-    equal!(rt; changes(&mut sizes), (true, true, false, true, 5));
-    equal!(rt; leave(&mut sizes), (None, Some((1, 2)), Some((3, 1)), None));
-    Ok(())
+type Changes = (bool, bool, bool, bool, usize);
+
+/// A pair that leaves.
+type Leaving = Option<(u64, usize)>;
+
+fn changes_of(alloc: Global) -> (Changes, (Leaving, Leaving, Leaving, Leaving)) {
+    let mut sizes = CLruCache::with_scale(alloc, room(10), idioms::BySize);
+    (changes(&mut sizes), leave(&mut sizes))
 }
 
 /// Whether a page was stored, it and the other changed, and not one that is not held, nor to a size that is too large; and the size.
-fn changes(sizes: &mut idioms::Sizes) -> (bool, bool, bool, bool, usize) {
+fn changes(sizes: &mut idioms::Sizes) -> Changes {
     let mut stored = true;
     for (page, size) in [(1, 1), (2, 3), (3, 1)] {
         stored = sizes.put_with_weight_dropping(page, size).is_ok() && stored;
@@ -52,15 +67,7 @@ fn changes(sizes: &mut idioms::Sizes) -> (bool, bool, bool, bool, usize) {
 }
 
 /// The pairs that leave at the capacities 5, 4, 0 and 0.
-#[allow(clippy::type_complexity)]
-fn leave(
-    sizes: &mut idioms::Sizes,
-) -> (
-    Option<(u64, usize)>,
-    Option<(u64, usize)>,
-    Option<(u64, usize)>,
-    Option<(u64, usize)>,
-) {
+fn leave(sizes: &mut idioms::Sizes) -> (Leaving, Leaving, Leaving, Leaving) {
     (
         idioms::pop_above(sizes, 5),
         idioms::pop_above(sizes, 4),
@@ -69,20 +76,24 @@ fn leave(
     )
 }
 
-#[test]
-fn pages_are_admitted_and_copied(rt: HostRuntime) -> Result<(), Fail> {
-    let (mut seen, mut pages) = (
-        CLruCache::new(rt.alloc(), capacity_of(9)?),
-        CLruCache::new(rt.alloc(), capacity_of(2)?),
-    );
-    equal!(rt; admits(&mut seen, &mut pages), (2, Some(4)));
-    equal!(rt; pops(&mut pages), (None, None, Some((3, 3))));
-    let mut copy = CLruCache::new(rt.alloc(), capacity_of(9)?);
-    let copied = pages.capacity() <= copy.capacity()
-        && idioms::copy_into(&pages, &mut copy).is_ok();
-    equal!(rt; copied, true);
-    equal!(rt; ends(&copy), (Some((5, 5)), Some((4, 4))));
-    Ok(())
+type Popped = (Option<(u64, u64)>, Option<(u64, u64)>, Option<(u64, u64)>);
+
+/// The pairs at both ends of a cache.
+type Ends = (Option<(u64, u64)>, Option<(u64, u64)>);
+
+fn admitted(alloc: Global) -> ((usize, Option<u64>), Popped, Option<Ends>) {
+    let mut pages = CLruCache::new(alloc, room(2));
+    let admitted = admits(&mut CLruCache::new(alloc, room(9)), &mut pages);
+    (admitted, pops(&mut pages), copied(alloc, &pages))
+}
+
+/// The ends of a copy, if it was made.
+fn copied(alloc: Global, pages: &Sizes) -> Option<Ends> {
+    let mut copy = CLruCache::new(alloc, room(9));
+    if pages.capacity() > copy.capacity() || idioms::copy_into(pages, &mut copy).is_err() {
+        return None;
+    }
+    Some(ends(&copy))
 }
 
 /// How many of the pages were put, and the last one's text.
@@ -94,7 +105,7 @@ fn admits(seen: &mut CLruCache<u64, ()>, pages: &mut Sizes) -> (usize, Option<u6
 }
 
 /// What has to go for a held page, for a new one in a cache with room, and in a full one.
-fn pops(pages: &mut Sizes) -> (Option<(u64, u64)>, Option<(u64, u64)>, Option<(u64, u64)>) {
+fn pops(pages: &mut Sizes) -> Popped {
     let held = idioms::pop_for(pages, 3);
     let full = idioms::pop_for(pages, 5);
     let room = idioms::pop_for(pages, 5);
@@ -103,20 +114,17 @@ fn pops(pages: &mut Sizes) -> (Option<(u64, u64)>, Option<(u64, u64)>, Option<(u
 }
 
 /// The pairs at both ends.
-fn ends(pages: &Sizes) -> (Option<(u64, u64)>, Option<(u64, u64)>) {
+fn ends(pages: &Sizes) -> Ends {
     let front = pages.front().map(|(page, text)| (*page, *text));
     (front, pages.back().map(|(page, text)| (*page, *text)))
 }
 
-#[test]
-fn that_there_is_no_owner_is_held(rt: HostRuntime) -> Result<(), Fail> {
+fn owners_of(alloc: Global) -> (Owner, Owner, Owner, u64) {
     let source = Owners {
         pages: 3,
         fetches: 0,
     };
-    let mut owners = Through::new(CLruCache::new(rt.alloc(), capacity_of(2)?), source);
-    equal!(rt; owned(&mut owners), (Ok(None), Ok(None), Ok(Some(2)), 2));
-    Ok(())
+    owned(&mut Through::new(CLruCache::new(alloc, room(2)), source))
 }
 
 /// A page's owner.
@@ -131,17 +139,26 @@ fn owned(owners: &mut Through<u64, Option<u64>, (), Owners>) -> (Owner, Owner, O
     )
 }
 
-#[test]
-fn a_watched_cache_knows_what_others_miss(rt: HostRuntime) -> Result<(), Fail> {
-    let mut watched = Watched::new(rt.alloc(), capacity_of(2)?)
-        .ok()
-        .ok_or("no memory")?;
-    equal!(rt; counts(&mut watched), (1, 6));
-    for (capacity, misses) in [(1, 7), (2, 6), (3, 3), (4, 3)] {
-        let other = watched.misses_at(rt.alloc(), capacity_of(capacity)?).ok();
-        equal!(rt; other, Some(misses), capacity);
+/// The hits and misses of a loop, and whether other capacities miss as often as they should.
+fn counts_of(alloc: Global) -> Option<((usize, usize), bool)> {
+    match Watched::new(alloc, room(2)) {
+        Ok(mut watched) => Some((counts(&mut watched), misses(alloc, &watched))),
+        Err(_) => None,
     }
-    Ok(())
+}
+
+/// The misses of that loop at the capacities 1, 2 and so on.
+static MISSES: &[usize] = &[7, 6, 3, 3];
+
+fn misses(alloc: Global, watched: &Watched) -> bool {
+    let mut capacity = 0usize;
+    for misses in MISSES {
+        capacity = capacity.saturating_add(1);
+        if watched.misses_at(alloc, room(capacity)).ok() != Some(*misses) {
+            return false;
+        }
+    }
+    true
 }
 
 /// The hits and misses of a loop over three pages, and once more over the last one but one.

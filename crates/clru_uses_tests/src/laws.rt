@@ -1,5 +1,6 @@
 //! The laws, at types of a caller's, and the callers that show what they speak of.
 
+use crate::lists::room;
 use clru::{
     CLruCache, DefaultState, NonZeroUsize, ZeroWeightScale, law_by_position, law_dropped,
     law_greater_capacity, law_growth, law_inclusion, law_longest_fit, law_requests,
@@ -49,70 +50,64 @@ fn law_of_drops<F: FnMut(u64, u64)>(_on_drop: &F) {
 }
 
 #[test]
-fn a_run_of_puts_holds_what_a_replay_hits(rt: HostRuntime) -> Result<(), Fail> {
-    let keys = Vec::from_array(rt.alloc(), ["a", "b", "c", "a", "c"])?;
-    equal!(rt; holds_the_last(rt.alloc(), capacity_of(2)?, keys), true);
-    Ok(())
-}
-
-/// Whether the last of the five keys was held, and no other.
-fn holds_the_last(alloc: Global, capacity: NonZeroUsize, keys: Vec<&'static str>) -> bool {
-    let mut cache = CLruCache::new(alloc, capacity);
-    runs::held_before_puts(alloc, &mut cache, keys).is_some_and(|held| held.as_slice()
-        == [false, false, false, false, true].as_slice())
-}
-
-#[test]
-fn a_run_of_puts_by_weight_misses_by_size(rt: HostRuntime) -> Result<(), Fail> {
+fn runs_and_the_least_are_as_the_laws_say(rt: HostRuntime) {
+    // A run of puts holds what a replay hits.
+    equal!(rt; holds_the_last(rt.alloc()), true);
+    // A run of puts by weight misses by size.
     for (capacity, missed) in [(7, Some(3)), (6, Some(5)), (4, Some(5)), (3, None)] {
-        let pages = Vec::from_array(rt.alloc(), [3, 0, 1, 3, 0])?;
-        equal!(rt; missed_at(rt.alloc(), capacity_of(capacity)?, pages), missed, capacity);
+        equal!(rt; missed_at(rt.alloc(), room(capacity)), missed, capacity);
     }
-    Ok(())
-}
-
-fn missed_at(alloc: Global, capacity: NonZeroUsize, pages: Vec<usize>) -> Option<usize> {
-    let mut cache = CLruCache::with_scale(alloc, capacity, sizes::ByPage);
-    sizes::pages_missed(&mut cache, pages)
-}
-
-#[test]
-fn a_loop_of_looks_and_puts_misses_as_a_replay(rt: HostRuntime) -> Result<(), Fail> {
+    // A loop of looks and puts misses as a replay.
     for (capacity, fetched) in [(2, Some(5)), (3, Some(3))] {
-        let pages = Vec::from_array(rt.alloc(), [3, 0, 1, 3, 0])?;
-        equal!(rt; fetched_at(rt.alloc(), capacity_of(capacity)?, pages), fetched, capacity);
+        equal!(rt; fetched_at(rt.alloc(), room(capacity)), fetched, capacity);
     }
-    Ok(())
-}
-
-fn fetched_at(alloc: Global, capacity: NonZeroUsize, pages: Vec<usize>) -> Option<usize> {
-    let mut cache = CLruCache::new(alloc, capacity);
-    runs::pages_fetched(&mut cache, pages).ok()
-}
-
-#[test]
-fn the_least_by_position_is_the_least(rt: HostRuntime) -> Result<(), Fail> {
-    for (room, misses) in [(1, 6), (2, 4), (3, 3)] {
-        equal!(rt; least_of_a_round(rt.alloc(), capacity_of(room)?), Some(misses), room);
+    // The least by position is the least.
+    for (capacity, misses) in [(1, 6), (2, 4), (3, 3)] {
+        equal!(rt; least_of_a_round(rt.alloc(), room(capacity)), Some(misses), capacity);
     }
-    Ok(())
-}
-
-/// The least of three keys that come twice in turn.
-fn least_of_a_round(alloc: Global, room: NonZeroUsize) -> Option<usize> {
-    least_by_position(alloc, room, &[1u64, 2, 3, 1, 2, 3], DefaultState).ok()
-}
-
-#[test]
-fn a_look_that_finds_is_a_put(rt: HostRuntime) -> Result<(), Fail> {
-    let mut cache = CLruCache::new(rt.alloc(), capacity_of(2)?);
+    // A look that finds is a put.
+    let mut cache = CLruCache::new(rt.alloc(), room(2));
     equal!(rt; looks_again(&mut cache), (Some(1), None, Some((0, 2))));
+}
+
+#[test]
+fn hits_by_span_are_of_spans_below_the_capacity(rt: HostRuntime) {
     let spans = (
         sizes::hits_by_span::<u64>(5, 5),
         sizes::hits_by_span::<u64>(5, 4),
     );
     equal!(rt; spans, (true, false));
-    Ok(())
+}
+
+/// Whether the last of five keys was held, and no other.
+fn holds_the_last(alloc: Global) -> bool {
+    let Ok(keys) = Vec::from_array(alloc, ["a", "b", "c", "a", "c"]) else {
+        return false;
+    };
+    let mut cache = CLruCache::new(alloc, room(2));
+    is_the_last(runs::held_before_puts(alloc, &mut cache, keys))
+}
+
+fn is_the_last(held: Option<Vec<bool>>) -> bool {
+    held.as_deref() == Some(&[false, false, false, false, true])
+}
+
+fn missed_at(alloc: Global, capacity: NonZeroUsize) -> Option<usize> {
+    let pages = Vec::from_slice(alloc, PAGES).ok()?;
+    sizes::pages_missed(
+        &mut CLruCache::with_scale(alloc, capacity, sizes::ByPage),
+        pages,
+    )
+}
+
+fn fetched_at(alloc: Global, capacity: NonZeroUsize) -> Option<usize> {
+    let pages = Vec::from_slice(alloc, PAGES).ok()?;
+    runs::pages_fetched(&mut CLruCache::new(alloc, capacity), pages).ok()
+}
+
+/// The least of three keys that come twice in turn.
+fn least_of_a_round(alloc: Global, room: NonZeroUsize) -> Option<usize> {
+    least_by_position(alloc, room, &[1u64, 2, 3, 1, 2, 3], DefaultState).ok()
 }
 
 /// The value of a held page, that of one that is not held, and the pair that is then the last one.

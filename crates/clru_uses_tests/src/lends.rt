@@ -8,8 +8,8 @@ use ration::equal;
 #[test]
 fn callers_write_through_what_is_lent(rt: HostRuntime) {
     let mut sizes = CLruCache::new(rt.alloc(), NonZeroUsize::MIN);
-    equal!(rt; corrects(&mut sizes), (true, false, None, Some(80)));
-    equal!(rt; corrects_latest(&mut sizes), (Some(3), Some(7)));
+    let corrected = (corrects(&mut sizes), corrects_latest(&mut sizes));
+    equal!(rt; corrected, ((true, false, None, Some(80)), (Some(3), Some(7))));
 }
 
 fn corrects(sizes: &mut Sizes) -> (bool, bool, Option<u64>, Option<u64>) {

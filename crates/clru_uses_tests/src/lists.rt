@@ -1,6 +1,11 @@
 //! What the tests share.
 
-use clru::CLruCache;
+use clru::{CLruCache, NonZeroUsize};
+
+/// Room for so many, and for one where that is 0.
+pub(crate) fn room(n: usize) -> NonZeroUsize {
+    NonZeroUsize::MIN.saturating_add(n.saturating_sub(1))
+}
 
 /// The sizes of pages.
 pub(crate) type Sizes = CLruCache<u64, u64>;

@@ -1,35 +1,40 @@
 //! Callers that make caches.
 
-use crate::lists::Sizes;
-use clru::{CLruCache, CLruCacheConfig, DefaultState, NonZeroUsize, ZeroWeightScale};
+use crate::lists::{Sizes, peek};
+use clru::{CLruCacheConfig, DefaultState, NonZeroUsize, ZeroWeightScale};
 use clru_uses::makers::{make_anyway, make_weighed, remember_all, three_looks};
 use ration::equal;
-use std::test::Fail;
+use std::alloc::Global;
 
 #[test]
-fn makers_make_what_they_say(rt: HostRuntime) -> Result<(), Fail> {
-    let looks = three_looks(rt.alloc(), DefaultState)?;
-    equal!(rt; (looks.capacity(), looks.peek(&1).copied()), (2, Some(30)));
-    Ok(())
+fn makers_make_what_they_say(rt: HostRuntime) {
+    equal!(rt; looks_of_three(rt.alloc()), Some((2, Some(30))));
+    equal!(rt; capacity_of_weighed(rt.alloc()), 1);
+    // More than can be counted is refused.
+    equal!(rt; remembers(rt.alloc(), usize::MAX), (true, 2, Some(10)));
 }
 
-#[test]
-fn a_maker_weighs(rt: HostRuntime) {
-    let weighed: Sizes = make_weighed(rt.alloc(), NonZeroUsize::MIN, DefaultState, ZeroWeightScale);
-    equal!(rt; weighed.capacity(), 1);
+fn looks_of_three(alloc: Global) -> Option<(usize, Option<u64>)> {
+    let looks = three_looks(alloc, DefaultState).ok()?;
+    Some((looks.capacity(), peek(&looks, 1)))
 }
 
-#[test]
-fn a_cache_is_made_without_its_reserve_and_filled(rt: HostRuntime) -> Result<(), Fail> {
-    let pages = Vec::from_array(rt.alloc(), [(1, 10), (2, 20)])?;
-    // More than can be counted, so it is refused.
-    let config = CLruCacheConfig::new(NonZeroUsize::MAX).with_memory(usize::MAX);
-    let mut sizes: CLruCache<u64, u64> = make_anyway(rt.alloc(), config);
-    equal!(rt; remembers(&mut sizes, pages), (true, 2, Some(10)));
-    Ok(())
+fn capacity_of_weighed(alloc: Global) -> usize {
+    let weighed: Sizes = make_weighed(alloc, NonZeroUsize::MIN, DefaultState, ZeroWeightScale);
+    weighed.capacity()
 }
 
-fn remembers(sizes: &mut Sizes, pages: Vec<(u64, u64)>) -> (bool, usize, Option<u64>) {
-    let remembered = remember_all(sizes, pages).is_ok();
-    (remembered, sizes.len(), sizes.peek(&1).copied())
+/// Whether two pages are remembered by a cache that is made without its reserve, how many it holds, and the first one's size.
+fn remembers(alloc: Global, reserve: usize) -> (bool, usize, Option<u64>) {
+    let config = CLruCacheConfig::new(NonZeroUsize::MAX).with_memory(reserve);
+    let mut sizes: Sizes = make_anyway(alloc, config);
+    remembers_two(alloc, &mut sizes)
+}
+
+fn remembers_two(alloc: Global, sizes: &mut Sizes) -> (bool, usize, Option<u64>) {
+    let remembered = match Vec::from_array(alloc, [(1, 10), (2, 20)]) {
+        Ok(pages) => remember_all(sizes, pages).is_ok(),
+        Err(_) => false,
+    };
+    (remembered, sizes.len(), peek(sizes, 1))
 }

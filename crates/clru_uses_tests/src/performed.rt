@@ -1,39 +1,47 @@
 //! Calls through the callers that learn the laws of runs.
 
-use clru::{CLruCache, NonZeroUsize};
+use crate::lists::room;
+use clru::CLruCache;
 use clru_runs::Answer::{Lent, Pair};
 use clru_runs::Call::{self, PopBack, PutWithWeight};
 use clru_runs::PlainCall::{self, Put, PutOrModify};
 use clru_uses::performed::{perform_at_both, perform_puts, perform_puts_by_size};
-use ration::{capacity_of, equal};
+use ration::equal;
 use std::alloc::Global;
-use std::test::Fail;
 
 type Calls = Vec<Call<u32, u32>>;
 
-fn three_calls(alloc: Global) -> Result<Calls, Fail> {
-    let calls = Vec::from_array(alloc, [PutWithWeight(1, 10), PutWithWeight(2, 20), PopBack])?;
-    Ok(calls)
+/// Three calls, or none if they find no memory.
+fn three_calls(alloc: Global) -> Calls {
+    match Vec::from_array(alloc, [PutWithWeight(1, 10), PutWithWeight(2, 20), PopBack]) {
+        Ok(calls) => calls,
+        Err(_) => Vec::new(alloc),
+    }
+}
+
+/// Two puts, or none if they find no memory.
+fn two_puts(alloc: Global) -> Vec<PlainCall<u32, u32>> {
+    match Vec::from_array(alloc, [Put(1, 10), PutOrModify(1, 20)]) {
+        Ok(puts) => puts,
+        Err(_) => Vec::new(alloc),
+    }
 }
 
 #[test]
-fn the_lesser_of_two_begins_the_greater(rt: HostRuntime) -> Result<(), Fail> {
-    let (one, three) = (capacity_of(1)?, capacity_of(3)?);
-    let (once, again) = (three_calls(rt.alloc())?, three_calls(rt.alloc())?);
-    equal!(rt; ends_alike(rt.alloc(), one, three, once, again), true);
-    Ok(())
+fn callers_perform_calls(rt: HostRuntime) {
+    // The answers at the lesser of two capacities begin those at the greater.
+    equal!(rt; ends_alike(rt.alloc()), true);
+    // Puts are made of an empty cache, plain
+    equal!(rt; lends_the_last(rt.alloc()), true);
+    // and by weight.
+    equal!(rt; takes_the_last_out(rt.alloc()), true);
 }
 
 /// Whether the calls leave nothing at the lesser capacity, and at the greater the pair that they took out there.
-fn ends_alike(
-    alloc: Global,
-    one: NonZeroUsize,
-    three: NonZeroUsize,
-    once: Calls,
-    again: Calls,
-) -> bool {
-    let mut lesser = CLruCache::new(alloc, one);
-    let mut greater = CLruCache::new(alloc, three);
+fn ends_alike(alloc: Global) -> bool {
+    let mut lesser = CLruCache::new(alloc, room(1));
+    let mut greater = CLruCache::new(alloc, room(3));
+    let (once, again) = (three_calls(alloc), three_calls(alloc));
     match perform_at_both(alloc, &mut lesser, &mut greater, once, again) {
         Some(answers) => {
             matches!(answers.lesser.last(), Some(Pair(Some((2, 20)))))
@@ -43,29 +51,18 @@ fn ends_alike(
     }
 }
 
-#[test]
-fn puts_are_made_of_an_empty_cache(rt: HostRuntime) -> Result<(), Fail> {
-    let puts = Vec::from_array(rt.alloc(), [Put(1, 10), PutOrModify(1, 20)])?;
-    equal!(rt; lends_the_last(rt.alloc(), capacity_of(1)?, puts), true);
-    Ok(())
+fn lends_the_last(alloc: Global) -> bool {
+    let mut cache = CLruCache::new(alloc, room(1));
+    match perform_puts(alloc, &mut cache, two_puts(alloc)) {
+        Ok(answers) => matches!(answers.last(), Some(Lent(Ok(20)))),
+        Err(_) => false,
+    }
 }
 
-fn lends_the_last(alloc: Global, capacity: NonZeroUsize, puts: Vec<PlainCall<u32, u32>>) -> bool {
-    let mut cache = CLruCache::new(alloc, capacity);
-    perform_puts(alloc, &mut cache, puts).is_ok_and(|it| matches!(it.last(), Some(Lent(Ok(20)))))
-}
-
-#[test]
-fn puts_by_weight_are_made_of_an_empty_cache(rt: HostRuntime) -> Result<(), Fail> {
-    let calls = three_calls(rt.alloc())?;
-    equal!(rt; takes_the_last_out(rt.alloc(), capacity_of(2)?, calls), true);
-    Ok(())
-}
-
-fn takes_the_last_out(alloc: Global, capacity: NonZeroUsize, calls: Calls) -> bool {
-    let mut cache = CLruCache::new(alloc, capacity);
-    perform_puts_by_size(alloc, &mut cache, calls).is_ok_and(|it| matches!(
-        it.last(),
-        Some(Pair(Some((1, 10))))
-    ))
+fn takes_the_last_out(alloc: Global) -> bool {
+    let mut cache = CLruCache::new(alloc, room(2));
+    match perform_puts_by_size(alloc, &mut cache, three_calls(alloc)) {
+        Ok(answers) => matches!(answers.last(), Some(Pair(Some((1, 10))))),
+        Err(_) => false,
+    }
 }

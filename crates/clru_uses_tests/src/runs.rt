@@ -2,6 +2,7 @@
 
 ghost use Rattle.std.specs.Prelude.{◌≡◌, []};
 
+use crate::lists::room;
 use clru::{CLruCache, DefaultState, NonZeroUsize, WeightScale};
 use clru_curve::{SizedCurve, sized_curve};
 use clru_uses::parts::{misses_of_sample, misses_of_two};
@@ -10,9 +11,8 @@ use clru_uses::sized_curves::size_within_bound;
 use clru_uses::sized_runs::{light_pages_held, texts_found};
 use clru_uses::sizes::ByPage;
 use clru_uses::stamps::{self, Stamped};
-use ration::{capacity_of, equal};
+use ration::equal;
 use std::alloc::Global;
-use std::test::Fail;
 
 static PAGES: &[usize] = &[3, 0, 1, 3, 0];
 
@@ -29,97 +29,91 @@ impl WeightScale<usize, usize> for ByText {
 }
 
 #[test]
-fn puts_drop_what_misses_and_is_not_left(rt: HostRuntime) -> Result<(), Fail> {
+fn runs_do_what_the_laws_say(rt: HostRuntime) {
+    // Puts drop what misses and is not left.
     for (capacity, dropped) in [(1, 4), (2, 3), (3, 0)] {
-        let pages = Vec::from_slice(rt.alloc(), PAGES)?;
-        equal!(rt; drops_at(rt.alloc(), capacity_of(capacity)?, pages), Some(dropped), capacity);
+        equal!(rt; drops_at(rt.alloc(), room(capacity)), Some(dropped), capacity);
     }
-    Ok(())
+    // Pages are fetched again when they are old.
+    equal!(rt; fetches_of_old(rt.alloc()), Some(3));
+    // Texts that change are found.
+    for (capacity, found) in FOUND {
+        equal!(rt; finds(rt.alloc(), room(*capacity), *found), true, *capacity);
+    }
+    // Heavy pages change nothing.
+    equal!(rt; holds_the_light(rt.alloc()), true);
+    // Stamps stay true.
+    equal!(rt; stamps_of(&mut CLruCache::new(rt.alloc(), room(2))), (Some(11), None, Some(22)));
 }
 
-fn drops_at(alloc: Global, capacity: NonZeroUsize, pages: Vec<usize>) -> Option<usize> {
-    let mut cache = CLruCache::new(alloc, capacity);
-    dropped_by_puts(&mut cache, pages)
+fn drops_at(alloc: Global, capacity: NonZeroUsize) -> Option<usize> {
+    let pages = Vec::from_slice(alloc, PAGES).ok()?;
+    dropped_by_puts(&mut CLruCache::new(alloc, capacity), pages)
 }
 
-#[test]
-fn pages_are_fetched_again_when_they_are_old(rt: HostRuntime) -> Result<(), Fail> {
-    let requests = Vec::from_slice(rt.alloc(), &[(1, 0), (2, 5), (1, 10), (1, 11), (2, 12)])?;
-    let mut cache = CLruCache::new(rt.alloc(), capacity_of(2)?);
-    equal!(rt; aged_pages_fetched(&mut cache, requests, 10), Ok(3));
-    Ok(())
+fn fetches_of_old(alloc: Global) -> Option<usize> {
+    let requests = [(1, 0), (2, 5), (1, 10), (1, 11), (2, 12)];
+    let requests = Vec::from_array(alloc, requests).ok()?;
+    aged_pages_fetched(&mut CLruCache::new(alloc, room(2)), requests, 10).ok()
 }
 
-#[test]
-fn texts_that_change_are_found(rt: HostRuntime) -> Result<(), Fail> {
+/// A capacity, and which of six requests are found there, if no text is refused.
+static FOUND: &[(usize, Option<&[bool]>)] = &[
+    (2, None),
+    (3, Some(&[false, false, false, false, false, true])),
+    (6, Some(&[false, false, false, true, true, true])),
+];
+
+fn finds(alloc: Global, capacity: NonZeroUsize, found: Option<&[bool]>) -> bool {
     let requests = [(1, 1), (2, 0), (3, 2), (1, 0), (2, 0), (1, 1)];
-    for (capacity, found) in [
-        (2, None),
-        (3, Some([false, false, false, false, false, true])),
-        (6, Some([false, false, false, true, true, true])),
-    ] {
-        let requests = Vec::from_array(rt.alloc(), requests)?;
-        let now = found_at(rt.alloc(), capacity_of(capacity)?, requests);
-        equal!(rt; now.as_deref(), found.as_ref().map(|marks| marks.as_slice()), capacity);
-    }
-    Ok(())
-}
-
-fn found_at(
-    alloc: Global,
-    capacity: NonZeroUsize,
-    requests: Vec<(usize, usize)>,
-) -> Option<Vec<bool>> {
+    let Ok(requests) = Vec::from_array(alloc, requests) else {
+        return false;
+    };
     let mut cache = CLruCache::with_scale(alloc, capacity, ByText);
-    texts_found(alloc, &mut cache, requests)
+    are(texts_found(alloc, &mut cache, requests), found)
 }
 
-#[test]
-fn heavy_pages_change_nothing(rt: HostRuntime) -> Result<(), Fail> {
-    let pages = Vec::from_slice(rt.alloc(), PAGES)?;
-    equal!(rt; holds_the_light(rt.alloc(), capacity_of(3)?, pages), true);
-    Ok(())
+fn are(marks: Option<Vec<bool>>, wanted: Option<&[bool]>) -> bool {
+    marks.as_deref() == wanted
 }
 
-/// Whether the three light pages were held as without the heavy one.
-fn holds_the_light(alloc: Global, capacity: NonZeroUsize, pages: Vec<usize>) -> bool {
-    let mut cache = CLruCache::with_scale(alloc, capacity, ByPage);
-    light_pages_held(alloc, &mut cache, pages).is_some_and(|held| held.as_slice()
-        == [false, false, true].as_slice())
-}
-
-#[test]
-fn parts_and_sizes_of_logs(rt: HostRuntime) -> Result<(), Fail> {
-    let (two, seven) = (capacity_of(2)?, capacity_of(7)?);
-    let pages = Vec::from_array(rt.alloc(), [8, 1, 16, 2, 8])?;
-    let parts = (
-        misses_of_two(rt.alloc(), &[1, 2], &[2, 1], two).ok(),
-        misses_of_sample(rt.alloc(), pages, two).ok(),
-    );
-    equal!(rt; parts, (Some(4), Some(2)));
-    let curve = sized_curve(rt.alloc(), PAGES, ByPage, DefaultState)
-        .ok()
-        .ok_or("no memory")?;
-    equal!(rt; sizes_at(&curve, two, seven), (None, Some(7)));
-    Ok(())
-}
-
-fn sizes_at(
-    curve: &SizedCurve,
-    less: NonZeroUsize,
-    more: NonZeroUsize,
-) -> (Option<usize>, Option<usize>) {
-    (
-        size_within_bound::<usize>(curve, less),
-        size_within_bound::<usize>(curve, more),
+/// Whether the three light pages are held as without the heavy one.
+fn holds_the_light(alloc: Global) -> bool {
+    let Ok(pages) = Vec::from_slice(alloc, PAGES) else {
+        return false;
+    };
+    let mut cache = CLruCache::with_scale(alloc, room(3), ByPage);
+    are(
+        light_pages_held(alloc, &mut cache, pages),
+        Some(&[false, false, true]),
     )
 }
 
 #[test]
-fn stamps_stay_true(rt: HostRuntime) -> Result<(), Fail> {
-    let mut cache = CLruCache::new(rt.alloc(), capacity_of(2)?);
-    equal!(rt; stamps_of(&mut cache), (Some(11), None, Some(22)));
-    Ok(())
+fn parts_and_sizes_of_logs(rt: HostRuntime) {
+    let both = misses_of_two(rt.alloc(), &[1, 2], &[2, 1], room(2)).ok();
+    equal!(rt; (both, misses_of_half(rt.alloc())), (Some(4), Some(2)));
+    equal!(rt; sizes_of(rt.alloc()), Some((None, Some(7))));
+}
+
+fn misses_of_half(alloc: Global) -> Option<usize> {
+    let pages = Vec::from_array(alloc, [8, 1, 16, 2, 8]).ok()?;
+    misses_of_sample(alloc, pages, room(2)).ok()
+}
+
+/// The size that is missed with room for 2 and for 7.
+fn sizes_of(alloc: Global) -> Option<(Option<usize>, Option<usize>)> {
+    match sized_curve(alloc, PAGES, ByPage, DefaultState) {
+        Ok(curve) => Some(sizes_at(&curve)),
+        Err(_) => None,
+    }
+}
+
+fn sizes_at(curve: &SizedCurve) -> (Option<usize>, Option<usize>) {
+    (
+        size_within_bound::<usize>(curve, room(2)),
+        size_within_bound::<usize>(curve, room(7)),
+    )
 }
 
 /// The stamps of a page that was put, of one that was not, and of one that was put by its weight.

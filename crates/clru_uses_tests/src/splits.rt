@@ -1,9 +1,9 @@
 //! Splits of a budget, beside those that a search over all of them finds.
 
 use clru_curve::{DefaultState, SizedCurve, sized_curve};
-use clru_split::{NonZeroUsize, law_split, split};
+use clru_split::{NonZeroUsize, law_split};
 use clru_uses::sized_curves::FileSizes;
-use clru_uses::splits::room_for_each;
+use clru_uses::splits::{bytes_for_each, room_for_each};
 use ration::{capacity_of, equal};
 use std::alloc::Global;
 use std::test::Fail;
@@ -88,5 +88,5 @@ fn has_parts(
     curves: &[SizedCurve],
     parts: &[usize],
 ) -> bool {
-    split(alloc, step, budget, curves).is_ok_and(|room| room.as_slice() == parts)
+    bytes_for_each(alloc, step, budget, curves).is_ok_and(|room| room.as_slice() == parts)
 }

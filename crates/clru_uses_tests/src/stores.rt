@@ -1,10 +1,11 @@
 //! Callers of the store, over a source that gives each key below 100 its double, and fails at the others.
-ghost use Rattle.std.specs.Prelude.{◌*◌, Some, ⊤};
+ghost use Rattle.std.specs.Prelude.{◌≡◌, ◌*◌, [], Some, ⊤};
 ghost use Rattle.std.specs.Cmp.Rules.{comparing};
 ghost use Rattle.std.proofs.Common.{rules};
 
-use clru::{CLruCache, NonZeroUsize, WeightScale, ZeroWeightScale};
-use clru_through::{Source, Through};
+use crate::lists::room;
+use clru::{CLruCache, DefaultState, NonZeroUsize, WeightScale, ZeroWeightScale};
+use clru_through::{ByPromise, Source, Through};
 use clru_uses::clocked::{Pages, pages_of, text_within};
 use clru_uses::of_stores::changing::{Tickets, ticket_of};
 use clru_uses::of_stores::loads::{are_all_held, fetches_of_all};
@@ -13,9 +14,9 @@ use clru_uses::of_stores::tiers::{Tier, value_through_two};
 use clru_uses::of_stores::{
     fetches_of, got, got_both, got_twice, load_beside, room_of, twice, value_of,
 };
-use ration::{capacity_of, equal};
+use ration::equal;
 use std::alloc::Global;
-use std::test::Fail;
+use std::process::Abort;
 
 #[derive(Drop)]
 struct Doubles;
@@ -42,9 +43,13 @@ fn store_of(alloc: Global, capacity: NonZeroUsize) -> Store {
 #[test]
 fn callers_of_a_store_get_its_values(rt: HostRuntime) {
     let mut store = store_of(rt.alloc(), NonZeroUsize::MIN);
-    equal!(rt; values(&mut store), (Ok(6), Ok((8, 8)), Some((10, 12)), Some((14, 14)), None));
-    equal!(rt; fetches(&mut store), (Ok(1), Ok(0), Err(()), 0));
-    equal!(rt; failures(&mut store), (Err(Some(18)), Err(None), Ok(())));
+    use_store(&rt, &mut store);
+}
+
+fn use_store(rt: &impl Abort, store: &mut Store) {
+    equal!(rt; values(store), (Ok(6), Ok((8, 8)), Some((10, 12)), Some((14, 14)), None));
+    equal!(rt; fetches(store), (Ok(1), Ok(0), Err(()), 0));
+    equal!(rt; failures(store), (Err(Some(18)), Err(None), Ok(())));
 }
 
 /// A value, or a failed fetch.
@@ -93,12 +98,17 @@ fn failures(
 }
 
 #[test]
-fn a_store_fetches_what_a_replay_misses(rt: HostRuntime) -> Result<(), Fail> {
-    let mut store = made_again(store_before(rt.alloc(), capacity_of(2)?, Doubles));
-    equal!(rt; fetches_of_all(&mut store, &[1, 2, 1, 3, 2]), Some(4));
+fn a_store_fetches_what_a_replay_misses(rt: HostRuntime) {
+    let mut store = made_again(store_before(rt.alloc(), room(2), Doubles));
+    equal!(rt; fetches_of_both(&mut store), (Some(4), None));
+}
+
+fn fetches_of_both(store: &mut Store) -> (Option<usize>, Option<usize>)
+    requires { store.old.cache.entries ≡ [] }
+{
+    let first = fetches_of_all(store, &[1, 2, 1, 3, 2]);
     store.clear();
-    equal!(rt; fetches_of_all(&mut store, &[1, 100]), None);
-    Ok(())
+    (first, fetches_of_all(store, &[1, 100]))
 }
 
 /// A page weighs its number.
@@ -114,13 +124,12 @@ impl WeightScale<u64, u64> for ByNumber {
 }
 
 #[test]
-fn a_store_by_size_holds_what_is_light(rt: HostRuntime) -> Result<(), Fail> {
-    let cache = CLruCache::with_scale(rt.alloc(), capacity_of(6)?, ByNumber);
+fn a_store_by_size_holds_what_is_light(rt: HostRuntime) {
+    let cache = CLruCache::with_scale(rt.alloc(), room(6), ByNumber);
     let mut store = Through::new(cache, Doubles);
     equal!(rt; (are_all_held(&mut store, &[1, 2, 1, 3]), store.len()), (true, 2));
     store.clear();
     equal!(rt; are_all_held(&mut store, &[1, 6]), false);
-    Ok(())
 }
 
 #[test]
@@ -142,9 +151,20 @@ fn both_values(store: &mut Tiers) -> (Fetched<u64>, Fetched<u64>) {
 fn a_source_may_give_another_value_each_time(rt: HostRuntime) {
     let cache = CLruCache::new(rt.alloc(), NonZeroUsize::MIN);
     let mut store = Through::new(cache, Tickets { given: 0 });
-    equal!(rt; (ticket_of(&mut store, 4), ticket_of(&mut store, 4)), (Ok(5), Ok(5)));
+    equal!(rt; tickets(&mut store), (Ok(5), Ok(5), Ok(6), Err(())));
+}
+
+fn tickets(
+    store: &mut Through<u64, u64, (), Tickets, DefaultState, ZeroWeightScale, Global, ByPromise>,
+) -> (Fetched<u64>, Fetched<u64>, Fetched<u64>, Fetched<u64>) {
+    let (first, again) = (ticket_of(store, 4), ticket_of(store, 4));
     store.clear();
-    equal!(rt; (ticket_of(&mut store, 4), ticket_of(&mut store, u64::MAX)), (Ok(6), Err(())));
+    (
+        first,
+        again,
+        ticket_of(store, 4),
+        ticket_of(store, u64::MAX),
+    )
 }
 
 #[test]

@@ -1,22 +1,32 @@
 //! Callers that walk, also over very many entries.
 
-use crate::lists::Sizes;
+use crate::lists::{Sizes, room};
 use clru::CLruCache;
 use clru_uses::walks::{ends, halve_by_both_ends, halve_by_cursor, oldest, total, total_backwards};
-use ration::{capacity_of, equal};
-use std::test::Fail;
+use ration::equal;
+use std::alloc::Global;
+use std::process::Abort;
 
 /// The ends of a cache.
 type Ends = (Option<(u64, u64)>, Option<(u64, u64)>);
 
 #[test]
-fn callers_walk(rt: HostRuntime) -> Result<(), Fail> {
-    let mut cache = CLruCache::new(rt.alloc(), capacity_of(3)?);
-    equal!(rt; (total(&cache), total_backwards(&cache)), (0, 0));
-    equal!(rt; ends_of_four(&mut cache), (Some((4, 400)), Some((2, 200))));
-    equal!(rt; ends_of_quarters(&mut cache), (Some((4, 100)), Some((2, 50))));
+fn callers_walk(rt: HostRuntime) {
+    equal!(rt; totals(rt.alloc()), (0, 0));
+    let mut cache = CLruCache::new(rt.alloc(), room(3));
+    walk(&rt, &mut cache);
     equal!(rt; oldest(cache), Some((2, 50)));
-    Ok(())
+}
+
+/// The totals of no pages.
+fn totals(alloc: Global) -> (u64, u64) {
+    let cache = CLruCache::new(alloc, room(3));
+    (total(&cache), total_backwards(&cache))
+}
+
+fn walk(rt: &impl Abort, cache: &mut Sizes) {
+    equal!(rt; ends_of_four(cache), (Some((4, 400)), Some((2, 200))));
+    equal!(rt; ends_of_quarters(cache), (Some((4, 100)), Some((2, 50))));
 }
 
 fn ends_of_four(cache: &mut Sizes) -> Ends {
@@ -34,11 +44,9 @@ fn ends_of_quarters(cache: &mut Sizes) -> Ends {
 
 /// A step from an end of the list at each entry would take minutes.
 #[test]
-fn a_cursor_steps_alike_however_many_entries_there_are(rt: HostRuntime) -> Result<(), Fail> {
-    let number = 200_000;
-    let mut cache = CLruCache::new(rt.alloc(), capacity_of(number as usize)?);
-    equal!(rt; halves_many(&mut cache, number), (number, Some((number - 1, 1)), Some((0, 1))));
-    Ok(())
+fn a_cursor_steps_alike_however_many_entries_there_are(rt: HostRuntime) {
+    let mut cache = CLruCache::new(rt.alloc(), room(200_000));
+    equal!(rt; halves_many(&mut cache, 200_000), (200_000, Some((199_999, 1)), Some((0, 1))));
 }
 
 /// How many of so many pages of size 2 are held, and the ends, once each is halved.

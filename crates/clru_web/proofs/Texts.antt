@@ -1,5 +1,5 @@
 -- What the text of a call is, by what the arguments come to.
-use Rattle.std.proofs.Common.{◌≡◌, ℕ, Bool, true, false, cond, List, refl, sym, ap, ◌∙◌, subst}
+use Rattle.std.proofs.Common.{◌≡◌, ℕ, Bool, true, false, cond, List, refl, sym, ap, subst}
 use Rattle.std.proofs.lemmas.Str.{IsUtf8-from_is_utf8, is_utf8-from_IsUtf8}
 use Rattle.std.specs.Str.{IsUtf8, is_utf8}
 use Rattle.clru_web.specs.Answers.{IsTextOf, reading_of, words_in}

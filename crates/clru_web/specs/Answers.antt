@@ -1,13 +1,14 @@
 -- What the result of a call says of its arguments and of the log. A is the type of the allocator's handle, which options hold.
-use Rattle.std.specs.Prelude.{◌≡◌, ℕ, not, List, bytes_eq, codes, if◌then◌else◌}
+use Rattle.std.specs.Fmt.Cut.{IsTextOrCut}
+use Rattle.std.specs.Prelude.{◌≡◌, ℕ, not, List, [], ◌∷◌, ◌++◌, bytes_eq, codes, take, if◌then◌else◌}
 use Rattle.std.specs.List.{filter}
 use Rattle.std.specs.Str.{is_utf8}
 use Rattle.std.specs.Str.Lines.{lines}
-use Rattle.clru_report.specs.Arguments.{GivesOptions, IsRefusedLine}
-use Rattle.clru_report.specs.CommandLine.{Asked, Reading, asks, help, read_all, version, wrong}
+use Rattle.clru_report.specs.Arguments.{GivesOptions}
+use Rattle.clru_report.specs.CommandLine.{Reading, asks, help, read_all, version, wrong}
 use Rattle.clru_report.specs.Report.{IsReport}
 use Rattle.clru_report.specs.Refusals.{IsRefused}
-use Rattle.clru_lines.specs.Faults.{status_of}
+use Rattle.clru_lines.specs.Faults.{fault_text, status_of}
 use Rattle.clru_lines.specs.declared.fault.Fault.{Fault}
 use Rattle.clru_report.specs.declared.options.Options.{Options}
 use Rattle.clru_report.specs.declared.help.TheConstants.{HELP, VERSION}
@@ -27,10 +28,20 @@ IsTextOf A version log text = text ≡ VERSION.now
 IsTextOf A wrong log text = ⊥
 IsTextOf A (asks next asked) log text = (options : Options A) × GivesOptions (asks next asked) options × IsReport options log text
 
--- these options have no report of the log, for a reason that has this exit status
-abbrev pub IsRefusedWith : {A : Type 0} → ℕ → Options A → List ℕ → Type 0
-IsRefusedWith status options log = (fault : Fault) × IsRefused fault options log × (status_of fault ≡ status)
+-- the text is the line that says this in the program's name, cut where there is no room
+abbrev pub IsSaid : List ℕ → ℕ → List ℕ → Type 0
+IsSaid what room text = text ≡ take room (codes "clru_mrc: " ++ (what ++ 10 ∷ []))
+
+-- the text is the line of a fault; what has over 160 bytes, as none has, may be cut
+abbrev pub IsTold : Fault → ℕ → List ℕ → Type 0
+IsTold fault room text = (what : List ℕ) × IsTextOrCut 160 (fault_text fault) what × IsSaid what room text
+
+-- these options have no report of the log, for a reason that has this exit status, and the text tells it
+abbrev pub IsRefusedWith : {A : Type 0} → ℕ → Options A → List ℕ → ℕ → List ℕ → Type 0
+IsRefusedWith status options log room text = (fault : Fault) × IsRefused fault options log × (status_of fault ≡ status)
+    × IsTold fault room text
 
 -- a report is asked for, and the log has none
-abbrev pub HasNoReport : Type 0 → ℕ → Reading → List ℕ → Type 0
-HasNoReport A status reading log = (options : Options A) × GivesOptions reading options × IsRefusedWith status options log
+abbrev pub HasNoReport : Type 0 → ℕ → Reading → List ℕ → ℕ → List ℕ → Type 0
+HasNoReport A status reading log room text = (options : Options A) × GivesOptions reading options
+    × IsRefusedWith status options log room text

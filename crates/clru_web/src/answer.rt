@@ -1,6 +1,6 @@
 //! What the words ask for, of the log.
 ghost use Rattle.std.specs.Prelude.{◌≡◌, ◌⊎◌, ◌<◌, ◌≤◌, ℕ, List, true, IfErr, IfOk, length, map, take};
-ghost use Rattle.clru_web.specs.Answers.{HasNoReport, IsRefusedWith, IsTextOf, reading_of, words_in};
+ghost use Rattle.clru_web.specs.Answers.{HasNoReport, IsRefusedWith, IsTextOf, IsTold, reading_of, words_in};
 ghost use Rattle.clru_report.specs.Arguments.{is_wrong, IsAskedFor, IsRefusedLine};
 ghost use Rattle.clru_report.specs.Report.{IsReport};
 
@@ -9,7 +9,7 @@ use clru_report::{Command, Fault, HELP, Options, Refusal, VERSION, command_of, m
 use std::alloc::{AllocError, Allocator};
 use std::hash::BuildHasher;
 
-/// The answer of the program, in the memory of an allocator.
+/// Writes the program's output to `text`, by memory of an allocator, and returns the program's status.
 pub(crate) fn answer<S: BuildHasher + Copy, A: Allocator + Copy>(
     alloc: A,
     arguments: &[u8],
@@ -19,9 +19,13 @@ pub(crate) fn answer<S: BuildHasher + Copy, A: Allocator + Copy>(
     written: &mut usize,
 ) -> u32
     ensures answer { result ≡ 0 → IsTextOf A (reading_of arguments.now) log.now (take written.new text.new) }
-    ensures wrong { result ≡ 2 → IsRefusedLine (reading_of arguments.now) ⊎ HasNoReport A 2 (reading_of arguments.now) log.now }
+    ensures wrong { result ≡ 2 → IsRefusedLine (reading_of arguments.now)
+        ⊎ HasNoReport A 2 (reading_of arguments.now) log.now (length text.old) (take written.new text.new) }
+    ensures memory { result ≡ 3 → IsTold Fault.Memory (length text.old) (take written.new text.new) }
     ensures short { result ≡ 5 → (whole : List ℕ) × IsTextOf A (reading_of arguments.now) log.now whole × (length text.new < length whole) }
-    ensures refused { result ≡ 6 → HasNoReport A 6 (reading_of arguments.now) log.now }
+    ensures short_told { result ≡ 5 → IsTold Fault.Writing (length text.old) (take written.new text.new) }
+    ensures refused { result ≡ 6
+        → HasNoReport A 6 (reading_of arguments.now) log.now (length text.old) (take written.new text.new) }
     ensures codes { result ≤ 6 }
     ensures within { written.new ≤ length text.new }
     ensures length { length text.new ≡ length text.old }
@@ -49,9 +53,11 @@ fn run_report<S: BuildHasher + Copy, A: Allocator + Copy>(
     written: &mut usize,
 ) -> u32
     ensures report { result ≡ 0 → IsReport options.now log.now (take written.new text.new) }
-    ensures small { result ≡ 2 → IsRefusedWith 2 options.now log.now }
+    ensures small { result ≡ 2 → IsRefusedWith 2 options.now log.now (length text.old) (take written.new text.new) }
+    ensures memory { result ≡ 3 → IsTold Fault.Memory (length text.old) (take written.new text.new) }
     ensures short { result ≡ 5 → (whole : List ℕ) × IsReport options.now log.now whole × (length text.new < length whole) }
-    ensures refused { result ≡ 6 → IsRefusedWith 6 options.now log.now }
+    ensures short_told { result ≡ 5 → IsTold Fault.Writing (length text.old) (take written.new text.new) }
+    ensures refused { result ≡ 6 → IsRefusedWith 6 options.now log.now (length text.old) (take written.new text.new) }
     ensures codes { result ≤ 6 }
     ensures within { written.new ≤ length text.new }
     ensures length { length text.new ≡ length text.old }

@@ -1,7 +1,7 @@
 //! What a page calls.
 ghost use Rattle.std.specs.Prelude.{◌≡◌, ◌⊎◌, ◌<◌, ◌≤◌, ℕ, List, length, take};
 ghost use Rattle.std.specs.Borrow.{Bor};
-ghost use Rattle.clru_web.specs.Answers.{HasNoReport, IsTextOf, reading_of};
+ghost use Rattle.clru_web.specs.Answers.{HasNoReport, IsTextOf, IsTold, reading_of};
 ghost use Rattle.clru_report.specs.Arguments.{IsRefusedLine};
 
 use crate::answer::answer;
@@ -17,9 +17,9 @@ use lent_block::{LentBlock, Loan};
 /// without the quote of a line that has no size. All memory comes from the block `loan`, and none of it is used after the call.
 ///
 /// - 0: the text is the report, or what `--help` or `--version` prints.
-/// - 2: the words are refused, or a capacity is below the greatest size.
-/// - 3: the block was too small. It says nothing of the log: with a larger block the same call may have another answer.
-/// - 5: `text` is too short for the report. With a longer one the same call may have another answer.
+/// - 2: the arguments are refused, or a capacity is below the greatest size.
+/// - 3: the block was too small. It says nothing of the log: with a larger block the same call may have another result.
+/// - 5: `text` is too short for the report. With a longer one the same call may have another result.
 /// - 6: a line has no size, or the sizes are too large together.
 ///
 /// Lines are hashed under a seed, the words `low` and `high`; the result is the same under each.
@@ -41,12 +41,16 @@ pub extern "C" fn report(
     ensures answer { result ≡ 0 → IsTextOf (Bor LentBlock) (reading_of arguments.now) log.now (take written.new text.new) }
     // The arguments are refused, or a capacity that they name is.
     ensures wrong { result ≡ 2 → IsRefusedLine (reading_of arguments.now)
-        ⊎ HasNoReport (Bor LentBlock) 2 (reading_of arguments.now) log.now }
+        ⊎ HasNoReport (Bor LentBlock) 2 (reading_of arguments.now) log.now (length text.old) (take written.new text.new) }
+    // The text tells each fault.
+    ensures memory { result ≡ 3 → IsTold Fault.Memory (length text.old) (take written.new text.new) }
+    ensures short_told { result ≡ 5 → IsTold Fault.Writing (length text.old) (take written.new text.new) }
     // What the arguments ask for is longer than the room.
     ensures short { result ≡ 5 → (whole : List ℕ)
         × IsTextOf (Bor LentBlock) (reading_of arguments.now) log.now whole × (length text.new < length whole) }
     // The log has no report of the kind that the arguments ask for.
-    ensures refused { result ≡ 6 → HasNoReport (Bor LentBlock) 6 (reading_of arguments.now) log.now }
+    ensures refused { result ≡ 6
+        → HasNoReport (Bor LentBlock) 6 (reading_of arguments.now) log.now (length text.old) (take written.new text.new) }
     ensures codes { result ≤ 6 }
     ensures within { written.new ≤ length text.new }
     ensures length { length text.new ≡ length text.old }

@@ -101,8 +101,7 @@ impl<A: Allocator> SizedCurve<A> {
     }
 
     /// Returns the steps, the least capacity first. There is one for each request that can hit at all; if a capacity comes
-    /// several times, its last one counts. Those that are not above the greatest weight are no answers: there a cache refuses
-    /// puts.
+    /// several times, its last one counts. A step that is not above the greatest weight says nothing: there a cache refuses puts.
     /// Cost: a read.
     pub fn as_slice(&self) -> &[Step]
         ensures steps { result.now ≡ self.now.steps }

@@ -273,7 +273,7 @@ impl<K: Eq + Hash, S: BuildHasher, A: Allocator + Copy> SizedPass<K, S, A> {
 }
 
 /// The greater of two numbers.
-fn greater(x: usize, y: usize) -> usize
+pub(crate) fn greater(x: usize, y: usize) -> usize
     ensures { result ≡ (if nat_lt x y then y else x) }
 {
     if x < y { y } else { x }

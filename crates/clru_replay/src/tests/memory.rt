@@ -1,4 +1,4 @@
-// What the program answers where requests for memory are refused.
+// What the program returns if requests for memory are refused.
 use super::{FOUR, FOUR_MISSES, equal};
 use crate::program::run;
 use clru_lines::Fault;

@@ -36,7 +36,7 @@ pub(crate) fn picture_by_keys<A: Allocator + Copy>(
         None => distinct.max(greatest.unwrap_or(1)),
     };
     let start = curve.get((first.get() / one_in.get()).saturating_sub(1));
-    let start = *start.unwrap_or(&curve.len());
+    let start = *start.or(curve.last()).unwrap_or(&0);
     let mut lines = Vec::new(alloc);
     lines.push(Line {
         class: "lru",

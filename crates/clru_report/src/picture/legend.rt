@@ -1,4 +1,4 @@
-//! What stands above the axes: of what the picture is, and what its marks are.
+//! What stands above the axes: the heading, and the meaning of each mark.
 
 use super::numbers::write_number;
 use super::plot::{Line, Plot};

@@ -1,4 +1,4 @@
-//! Words of who asks for a picture.
+//! The words that arguments give a picture: heading and unit.
 
 use std::fmt::{self, Write};
 

@@ -14,7 +14,7 @@ use clru_curve::SizedCurve;
 use std::alloc::{AllocError, Allocator};
 use std::num::NonZeroUsize;
 
-/// The least capacity that a curve answers, which is the greatest size, and 1 where there is none.
+/// The least capacity of a curve, which is the greatest size, or 1 if there is none.
 pub(crate) fn first_capacity<A: Allocator>(curve: &SizedCurve<A>) -> usize
     requires { IsSettled curve.now }
     ensures { result ≡ 1 + curve.now.greatest_weight }

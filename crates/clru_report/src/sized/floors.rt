@@ -1,4 +1,4 @@
-//! What every policy misses at least where capacities are sums of sizes.
+//! Floors by size: what every policy misses at least.
 ghost use Rattle.std.specs.Prelude.{◌≡◌, Bool, List, map, reverse, IfOk};
 ghost use Rattle.std.specs.Int.NonZero.{non_zero_usize_get};
 ghost use Rattle.clru_lines.specs.declared.lines.OwnedKey.{OwnedKey};

@@ -7,8 +7,7 @@ ghost use Rattle.clru_report.specs.Sizes.{is_zero, size_in, size_of_line};
 use clru_lines::capacity_of;
 use std::num::NonZeroUsize;
 
-/// The size that stands before the first blank of a line, in 1 to 20 digits, or `None` where none stands there. A size of 0
-/// counts as 1.
+/// Returns the size before the first blank of a line, in 1 to 20 digits, or `None` if there is none. A size of 0 counts as 1.
 pub fn size_of(line: &[u8]) -> Option<NonZeroUsize>
     ensures size { IfSome result (λ size. size_of_line line.now ≡ Some (non_zero_usize_get size)) }
     ensures none { IfNone result (size_of_line line.now ≡ None) }

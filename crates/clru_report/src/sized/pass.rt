@@ -26,8 +26,8 @@ use std::num::NonZeroUsize;
 /// Returns the curve of the lines that a sample keeps, how many lines there are in all, their size, and how many bytes; and the floors
 /// of the kept lines if they are asked for. A sample of one key in one keeps all lines.
 ///
-/// No more than the distinct lines is held of them, and two numbers for each that came before if there are floors. Each line is to have a size, kept or not. The fault of a line is told once all
-/// is read, since it is one of the whole input; want of memory is told at once.
+/// Holds only the distinct lines, and with floors two numbers for each line that came before. Each line must have a size, kept or
+/// not. The fault of a line is returned once all is read, because it is one of the whole input; refused memory at once.
 pub(super) fn curve_by_size<R: Read, S: BuildHasher + Drop, A: Allocator + Copy>(
     alloc: A,
     one_in: NonZeroUsize,

@@ -1,4 +1,4 @@
-//! The text of a report by size of which one key in some number was kept.
+//! The text of a report by size of a sample.
 ghost use Rattle.std.specs.Prelude.{◌≡◌, ℕ, ◌+◌, ◌-◌, ◌^◌, List, length, map, min, nat_le, IfOk, string_bytes};
 ghost use Rattle.std.specs.Int.NonZero.{non_zero_usize_get};
 ghost use Rattle.std.specs.List.{filter};
@@ -45,9 +45,10 @@ pub(super) fn text_of_sized_sample<A: Allocator + Copy>(
         totals.requests totals.size kept options.now.form input (string_bytes text)) }
 {
     match options.form {
-        Form::Table => table_of_sized_sample(alloc, options, curve, floors, totals),
+        Form::Table => table_of_sized_sample(alloc, options, curve, floors, totals, false),
+        Form::Json => table_of_sized_sample(alloc, options, curve, floors, totals, true),
         Form::Picture => {
-            let table = table_of_sized_sample(alloc, options, curve, floors, totals)?;
+            let table = table_of_sized_sample(alloc, options, curve, floors, totals, false)?;
             picture_by_size(alloc, curve, floors, totals, options, &table)
         }
         Form::Summary => summary_of_sized_sample(alloc, curve, totals, bytes),
@@ -60,11 +61,13 @@ fn table_of_sized_sample<A: Allocator + Copy>(
     curve: &SizedCurve<A>,
     floors: &Option<Floors<A>>,
     totals: Totals,
+    json: bool,
 ) -> Result<String<A>, AllocError>
     requires { IsSettled curve.now }
     ensures { (kept : List (List ℕ)) → IsSizedCurveOf bytes_eq weight_of_line kept curve.now
         → AreFloorsFor options.now.floor kept floors.now → IfOk result (λ text.
-        IsSizedTableOfSample options.now (non_zero_usize_get totals.one_in) totals.requests totals.size kept (string_bytes text)) }
+        IsSizedTableOfSample options.now (non_zero_usize_get totals.one_in) totals.requests totals.size kept json
+        (string_bytes text)) }
 {
     let table = sized_usual_table(alloc, curve, totals.size / totals.one_in.get())?;
     let rows = rows_of_sized_sample(alloc, options, curve, floors, &table.capacities, totals)?;
@@ -76,6 +79,7 @@ fn table_of_sized_sample<A: Allocator + Copy>(
         totals.requests,
         totals.size,
         options.floor,
+        json,
     )
 }
 
@@ -101,7 +105,7 @@ fn rows_of_sized_sample<A: Allocator + Copy>(
     sized_rows_times(alloc, &rows, totals)
 }
 
-// Those that are asked for and that the curve answers.
+// The capacities that are asked for and that the curve has.
 fn capacities_from_first<A: Allocator + Copy>(
     alloc: A,
     capacities: &Capacities<A>,

@@ -1,20 +1,20 @@
 //! The text of a table by size, and that of the summary.
-ghost use Rattle.std.specs.Prelude.{◌≡◌, ◌+◌, drop, IfOk, min, string_bytes};
+ghost use Rattle.std.specs.Prelude.{◌≡◌, ◌+◌, ◌++◌, drop, IfOk, min, string_bytes};
 ghost use Rattle.clru_curve.specs.SizedCurves.{misses_within};
 ghost use Rattle.clru_report.specs.Passes.{IsSettled, distinct_in};
-ghost use Rattle.clru_report.specs.SizedTables.{sized_header_line, sized_row_line, sized_summary_text, sized_table_text, three_numbers as three_numbers_text, with_floor as with_floor_text};
+ghost use Rattle.clru_report.specs.SizedTables.{line_of_sized_row, point_of_sized_row, sized_summary_text, sized_table_text, three_numbers as three_numbers_text};
 
 use super::capacities::first_capacity;
 use super::floors::RowFloor;
 use super::rows::SizedRow;
-use crate::fraction::ratio_of;
+use crate::columns::{Line, columns_of, push_header, push_row};
+use crate::faithful::Point;
 use crate::knees::is_knee;
-use crate::table::end_of;
 use clru_curve::SizedCurve;
 use std::alloc::{AllocError, Allocator};
 use std::num::NonZeroUsize;
 
-/// The table with these rows and knees, for so many requests of this size in all.
+/// The table with these rows and knees, for so many requests of this size in all, in JSON or as CSV.
 pub(crate) fn sized_table_of<A: Allocator + Copy>(
     alloc: A,
     rows: &[SizedRow],
@@ -22,74 +22,57 @@ pub(crate) fn sized_table_of<A: Allocator + Copy>(
     requests: usize,
     size: usize,
     floor: bool,
+    json: bool,
 ) -> Result<String<A>, AllocError>
-    ensures { IfOk result (λ text. string_bytes text ≡ sized_table_text floor requests size knees.now rows.now) }
+    ensures { IfOk result (λ text. string_bytes text ≡ sized_table_text json floor requests size knees.now rows.now) }
 {
+    let columns = columns_of(alloc, true, false, floor)?;
+    let shown = columns.as_slice();
     let mut text = String::new(alloc);
-    text.push_str(header_of(floor))?;
-    let mut capacity = 0;
-    let mut missed = size;
+    push_header(&mut text, shown, json)?;
+    let mut before = Point {
+        capacity: 0,
+        misses: size,
+    };
     for index in 0..rows.len() {
         let row = rows[index];
         let knee = is_knee(knees, row.capacity.get());
-        let line = sized_line_of(alloc, &row, requests, size, capacity, missed, knee)?;
-        text.push_str(&line)?;
-        capacity = row.capacity.get();
-        missed = row.missed_size;
+        let line = sized_line_of(&row, requests, size, before, knee);
+        push_row(&mut text, shown, line, json)?;
+        before = point_of(&row);
     }
     Ok(text)
 }
 
-fn header_of(floor: bool) -> &'static str
-    ensures { result.now ≡ sized_header_line floor }
+fn point_of(row: &SizedRow) -> Point
+    ensures { result ≡ point_of_sized_row row.now }
 {
-    if floor {
-        "capacity,misses,miss_ratio,missed_bytes,byte_miss_ratio,floor_misses,floor_missed_bytes,saved_per_byte,knee\n"
-    } else {
-        "capacity,misses,miss_ratio,missed_bytes,byte_miss_ratio,saved_per_byte,knee\n"
+    Point {
+        capacity: row.capacity.get(),
+        misses: row.missed_size,
     }
 }
 
-// One line, with its newline, of so many requests and their size, behind a row of that capacity and missed size.
-fn sized_line_of<A: Allocator + Copy>(
-    alloc: A,
-    row: &SizedRow,
-    requests: usize,
-    size: usize,
-    capacity_before: usize,
-    missed_before: usize,
-    knee: bool,
-) -> Result<String<A>, AllocError>
-    ensures { IfOk result (λ line. string_bytes line
-        ≡ sized_row_line requests size capacity_before missed_before knee row.now) }
+fn sized_line_of(row: &SizedRow, requests: usize, size: usize, before: Point, knee: bool) -> Line
+    ensures { result ≡ line_of_sized_row requests size before knee row.now }
 {
     let capacity = row.capacity.get();
-    let misses = row.misses;
-    let ratio = ratio_of(misses, requests);
-    let missed_size = row.missed_size;
-    let size_ratio = ratio_of(missed_size, size);
-    let saved = missed_before.saturating_sub(missed_size);
-    let added = capacity.saturating_sub(capacity_before);
-    let end = end_of(alloc, saved, added, knee)?;
-    let from_floor = with_floor(alloc, row.floor, end)?;
-    format!(in alloc; "{capacity},{misses},{ratio},{missed_size},{size_ratio}{from_floor}")
-}
-
-// The end of a line, behind both floors if they are there.
-fn with_floor<A: Allocator + Copy>(
-    alloc: A,
-    floor: Option<RowFloor>,
-    end: String<A>,
-) -> Result<String<A>, AllocError>
-    ensures { IfOk result (λ text. string_bytes text ≡ with_floor_text floor (string_bytes end)) }
-{
-    match floor {
-        Some(floor) => {
-            let misses = floor.misses;
-            let missed_size = floor.missed_size;
-            format!(in alloc; ",{misses},{missed_size}{end}")
-        }
-        None => Ok(end),
+    let floor = row.floor.unwrap_or(RowFloor {
+        misses: 0,
+        missed_size: 0,
+    });
+    Line {
+        capacity,
+        misses: row.misses,
+        missed_size: row.missed_size,
+        requests,
+        size,
+        least: 0,
+        floor_misses: floor.misses,
+        floor_missed_size: floor.missed_size,
+        saved: before.misses.saturating_sub(row.missed_size),
+        added: capacity.saturating_sub(before.capacity),
+        knee,
     }
 }
 

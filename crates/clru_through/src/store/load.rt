@@ -36,8 +36,8 @@ impl<
     /// the capacity or more, and one for which no memory was found, is passed on, and no entry changes. If the fetch fails, no
     /// entry changes either, and the load returns the error.
     ///
-    /// The answer says whether it was fetched. After `Held` the value is that of `front`, and of `peek` of the key.
-    /// Cost: one hash and a walk along one chain; where the key is not held, also a fetch and what a `put_with_weight` costs.
+    /// The result says whether it was fetched. After `Held` the value is that of `front`, and of `peek` of the key.
+    /// Cost: one hash and a walk along one chain; if the key is not held, also a fetch and what a `put_with_weight` costs.
     pub fn load(&mut self, key: K) -> Result<Loaded<V>, E>
     where
         K: Drop,

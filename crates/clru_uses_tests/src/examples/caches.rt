@@ -1,6 +1,6 @@
 //! Caches of the sizes of pages.
 
-use crate::lists::{Sizes, peek};
+use crate::lists::{Sizes, peek, room};
 use clru::{CLruCache, NonZeroUsize, TryPutError};
 use clru_uses::budget::{Within, remember_square};
 use clru_uses::hasher::FnvState;
@@ -10,9 +10,10 @@ use clru_uses::pages::{forget, halve, remember};
 use clru_uses::removals::{keep_larger, keep_last};
 use clru_uses::seed::for_keys_of_others;
 use clru_uses::words::count_words;
-use ration::{Rationed, capacity_of, equal};
+use ration::{Rationed, equal};
+use std::alloc::{AllocError, Global};
 use std::hash::{BuildHasher, Hasher};
-use std::test::Fail;
+use std::process::Abort;
 
 #[test]
 fn the_heap_bounds_a_cache_without_bounds(rt: HostRuntime) {
@@ -47,12 +48,19 @@ fn it_is_the_hash_that_it_is_named_for(rt: HostRuntime) {
 }
 
 #[test]
-fn a_hash_builder_of_its_own_changes_no_answer(rt: HostRuntime) -> Result<(), Fail> {
-    let mut sizes = CLruCache::with_hasher(rt.alloc(), NonZeroUsize::MIN, FnvState);
-    equal!(rt; holds_the_last(&mut sizes), true);
-    let mut sizes = for_keys_of_others(&rt, rt.alloc(), NonZeroUsize::MIN)?;
-    equal!(rt; holds_the_last(&mut sizes), true);
-    Ok(())
+fn a_hash_builder_of_its_own_changes_no_answer(rt: HostRuntime) {
+    equal!(rt; (holds_by_own_hash(rt.alloc()), holds_by_seed(&rt)), (true, true));
+}
+
+fn holds_by_own_hash(alloc: Global) -> bool {
+    holds_the_last(&mut CLruCache::with_hasher(alloc, NonZeroUsize::MIN, FnvState))
+}
+
+fn holds_by_seed(rt: &HostRuntime) -> bool {
+    match for_keys_of_others(rt, rt.alloc(), NonZeroUsize::MIN) {
+        Ok(mut sizes) => holds_the_last(&mut sizes),
+        Err(_) => false,
+    }
 }
 
 fn holds_the_last<S: BuildHasher>(sizes: &mut CLruCache<u64, u64, S>) -> bool {
@@ -61,27 +69,26 @@ fn holds_the_last<S: BuildHasher>(sizes: &mut CLruCache<u64, u64, S>) -> bool {
 }
 
 #[test]
-fn large_pages_are_kept_and_then_the_last_one(rt: HostRuntime) -> Result<(), Fail> {
-    let mut sizes = CLruCache::new(rt.alloc(), NonZeroUsize::MAX);
-    let pages = Vec::from_array(rt.alloc(), [(1, 10), (2, 20), (3, 30)])?;
-    assert_eq!(rt; sizes.extend(pages), Ok(()));
-    equal!(rt; keeps(&mut sizes), (2, false, 1, true));
-    Ok(())
+fn callers_change_sizes(rt: HostRuntime) {
+    let mut sizes = CLruCache::new(rt.alloc(), room(2));
+    change(&rt, &mut sizes);
 }
 
-/// How many pages are larger than 10, whether the first one is among them, how many are the last one, and whether it is held.
-fn keeps(sizes: &mut Sizes) -> (usize, bool, usize, bool) {
-    keep_larger(sizes, 10);
-    let (larger, first) = (sizes.len(), sizes.contains(&1));
-    keep_last(sizes);
-    (larger, first, sizes.len(), sizes.contains(&3))
-}
-
-#[test]
-fn the_last_size_is_doubled(rt: HostRuntime) -> Result<(), Fail> {
-    let mut sizes = CLruCache::new(rt.alloc(), capacity_of(2)?);
-    equal!(rt; doubles(&mut sizes), (None, Some(2), Some(10), Some(40)));
-    Ok(())
+/// Runs callers on one cache of two sizes, which is emptied between them: a test that owns a cache is dear to prove.
+fn change<R: Abort + AllocGlobal>(rt: &R, sizes: &mut Sizes) {
+    // The last size is doubled.
+    equal!(rt; doubles(sizes), (None, Some(2), Some(10), Some(40)));
+    // The page that is looked at last stays.
+    equal!(rt; remembers_two(sizes), true);
+    equal!(rt; forgets_the_other(sizes), (Some(10), Ok(Some((2, 20))), None));
+    // A page is forgotten, and the others are halved.
+    equal!(rt; remembers_two(sizes), true);
+    equal!(rt; forgets(sizes), (Some(10), None, Some(10)));
+    // A sum that is too large is refused.
+    let too_large = Err(TryPutError::Failed(TooLarge));
+    equal!(rt; grows(sizes), (Ok(10), Ok(30), too_large, Some(30)));
+    // Large pages are kept, and then the last one.
+    equal!(rt; keeps(rt, sizes), Ok((2, false, 1, true)));
 }
 
 fn doubles(sizes: &mut Sizes) -> (Option<u64>, Option<u64>, Option<u64>, Option<u64>) {
@@ -92,33 +99,8 @@ fn doubles(sizes: &mut Sizes) -> (Option<u64>, Option<u64>, Option<u64>, Option<
     (none, last, peek(sizes, 1), peek(sizes, 2))
 }
 
-#[test]
-fn a_sum_that_is_too_large_is_refused(rt: HostRuntime) {
-    let mut sizes = CLruCache::new(rt.alloc(), NonZeroUsize::MIN);
-    let too_large = Err(TryPutError::Failed(TooLarge));
-    equal!(rt; grows(&mut sizes), (Ok(10), Ok(30), too_large, Some(30)));
-}
-
-type Grown = Result<u64, TryPutError<u64, u64, TooLarge>>;
-
-fn grows(sizes: &mut Sizes) -> (Grown, Grown, Grown, Option<u64>) {
-    (
-        grow(sizes, 1, 10),
-        grow(sizes, 1, 20),
-        grow(sizes, 1, u64::MAX),
-        peek(sizes, 1),
-    )
-}
-
-#[test]
-fn the_page_looked_at_last_stays(rt: HostRuntime) -> Result<(), Fail> {
-    let mut sizes = CLruCache::new(rt.alloc(), capacity_of(2)?);
-    equal!(rt; remembers_two(&mut sizes), true);
-    equal!(rt; forgets_the_other(&mut sizes), (Some(10), Ok(Some((2, 20))), None));
-    Ok(())
-}
-
 fn remembers_two(sizes: &mut Sizes) -> bool {
+    sizes.clear();
     remember(sizes, 1, 10) == Ok(None) && remember(sizes, 2, 20) == Ok(None)
 }
 
@@ -133,28 +115,57 @@ fn forgets_the_other(sizes: &mut Sizes) -> (Option<u64>, Remembered, Option<u64>
     )
 }
 
-#[test]
-fn a_page_is_forgotten_and_the_others_halved(rt: HostRuntime) -> Result<(), Fail> {
-    let mut sizes = CLruCache::new(rt.alloc(), capacity_of(2)?);
-    equal!(rt; remembers_two(&mut sizes), true);
-    equal!(rt; forgets(&mut sizes), (Some(10), None, Some(10)));
-    Ok(())
-}
-
 fn forgets(sizes: &mut Sizes) -> (Option<u64>, Option<u64>, Option<u64>) {
     let size = forget(sizes, 1);
     halve(sizes);
     (size, peek(sizes, 1), peek(sizes, 2))
 }
 
+type Grown = Result<u64, TryPutError<u64, u64, TooLarge>>;
+
+fn grows(sizes: &mut Sizes) -> (Grown, Grown, Grown, Option<u64>) {
+    sizes.clear();
+    (
+        grow(sizes, 1, 10),
+        grow(sizes, 1, 20),
+        grow(sizes, 1, u64::MAX),
+        peek(sizes, 1),
+    )
+}
+
+/// How many of three pages are larger than 10, whether the first one is among them, how many are the last one, and whether it is
+/// held.
+type Kept = (usize, bool, usize, bool);
+
+fn keeps<R: Abort + AllocGlobal>(rt: &R, sizes: &mut Sizes) -> Result<Kept, AllocError> {
+    sizes.clear();
+    sizes.resize(room(3));
+    let pages = Vec::from_array(rt.alloc(), [(1, 10), (2, 20), (3, 30)])?;
+    assert_eq!(rt; sizes.extend(pages), Ok(()));
+    keep_larger(sizes, 10);
+    let (larger, first) = (sizes.len(), sizes.contains(&1));
+    keep_last(sizes);
+    Ok((larger, first, sizes.len(), sizes.contains(&3)))
+}
+
 #[test]
-fn words_are_counted(rt: HostRuntime) -> Result<(), Fail> {
-    let counts = count_words(rt.alloc(), capacity_of(3)?, "one two two three two three")?;
-    equal!(rt; is(&counts, &[("three", 2), ("two", 3), ("one", 1)]), true);
+fn words_are_counted(rt: HostRuntime) {
+    let list = [("three", 2), ("two", 3), ("one", 1)];
+    equal!(rt; counts_are(rt.alloc(), 3, "one two two three two three", &list), true);
     // The word that was seen longest ago is forgotten.
-    let counts = count_words(rt.alloc(), capacity_of(2)?, "one two one three two")?;
-    equal!(rt; is(&counts, &[("two", 1), ("three", 1)]), true);
-    Ok(())
+    equal!(rt; counts_are(rt.alloc(), 2, "one two one three two", &[("two", 1), ("three", 1)]), true);
+}
+
+fn counts_are(
+    alloc: Global,
+    capacity: usize,
+    text: &'static str,
+    list: &[(&'static str, u64)],
+) -> bool {
+    match count_words(alloc, room(capacity), text) {
+        Ok(counts) => is(&counts, list),
+        Err(_) => false,
+    }
 }
 
 /// Whether the cache holds these words and no other, the most recently used first.

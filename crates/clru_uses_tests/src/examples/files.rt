@@ -1,45 +1,58 @@
 //! The store of files.
 
+use crate::lists::room;
 use clru_uses::files::{Shelf, files_of, size_of};
-use ration::{capacity_of, equal};
-use std::test::Fail;
-use std::{fs, io};
+use ration::equal;
+use std::fs;
+use std::rt::Files;
 
 const FILE: &str = "clru_tests_files_test";
 
 #[test]
-fn a_file_is_read_once_and_where_it_is_not_held(rt: HostRuntime) -> Result<(), Fail> {
-    let mut files = files_of(&rt, capacity_of(10)?);
-    equal!(rt; held_sizes(&rt, &mut files)?, [(4, false), (4, true), (7, false)]);
-    equal!(rt; (files.len(), files.weight()), (1, 7));
-
-    files.clear();
-    equal!(rt; size_of_too_large(&rt, &mut files)?, (12, false));
-    equal!(rt; size_of(&mut files, FILE).is_err(), true);
-    equal!(rt; (files.len(), files.source().reads), (0, 4));
-    Ok(())
+fn a_file_is_read_once_and_where_it_is_not_held(rt: HostRuntime) {
+    let sizes = (Some((4, false)), Some((4, true)), Some((7, false)));
+    let large = (Some((12, false)), true, None);
+    equal!(rt; reads(&rt), (sizes, (1, 7), large, (0, 4)));
 }
 
-/// The sizes of a file that is written twice: as it was first, as it is held, and as it is after all is dropped.
-fn held_sizes(
-    rt: &HostRuntime,
-    files: &mut Shelf<'_, HostRuntime>,
-) -> io::Result<[(usize, bool); 3]> {
-    fs::write(rt, FILE, b"four".as_slice())?;
-    let first = size_of(files, FILE)?;
-    fs::write(rt, FILE, b"seven..".as_slice())?;
-    let held = size_of(files, FILE)?;
-    files.clear();
-    Ok([first, held, size_of(files, FILE)?])
+/// The number of a file's bytes and whether it was held, if it was written and read.
+type Size = Option<(usize, bool)>;
+
+/// The sizes of a file that is written twice, as it was first, as it is held, and as it is after all is dropped; how many files are
+/// held then and what they weigh; the size of one that is too large, whether it was removed and its size then; and how many files
+/// are held at last and how often one was read.
+type Reads = (
+    (Size, Size, Size),
+    (usize, usize),
+    (Size, bool, Size),
+    (usize, u64),
+);
+
+fn reads<R: Files + AllocGlobal>(rt: &R) -> Reads {
+    reads_into(rt, &mut files_of(rt, room(10)))
 }
 
-/// The size of a file that is heavier than the room, which is then removed.
-fn size_of_too_large(
-    rt: &HostRuntime,
-    files: &mut Shelf<'_, HostRuntime>,
-) -> io::Result<(usize, bool)> {
-    fs::write(rt, FILE, b"eleven bytes".as_slice())?;
-    let size = size_of(files, FILE)?;
-    fs::remove_file(rt, FILE)?;
-    Ok(size)
+fn reads_into<R: Files + AllocGlobal>(rt: &R, files: &mut Shelf<'_, R>) -> Reads {
+    let (first, held) = (written(rt, files, b"four"), written(rt, files, b"seven.."));
+    files.clear();
+    let sizes = (first, held, size(files));
+    let weight = (files.len(), files.weight());
+    files.clear();
+    let large = written(rt, files, b"eleven bytes");
+    let is_removed = fs::remove_file(rt, FILE).is_ok();
+    let gone = size(files);
+    let ends = (files.len(), files.source().reads);
+    (sizes, weight, (large, is_removed, gone), ends)
+}
+
+/// The size of a file once this is written.
+fn written<R: Files + AllocGlobal>(rt: &R, files: &mut Shelf<'_, R>, text: &[u8]) -> Size {
+    if fs::write(rt, FILE, text).is_err() {
+        return None;
+    }
+    size(files)
+}
+
+fn size<R: Files + AllocGlobal>(files: &mut Shelf<'_, R>) -> Size {
+    size_of(files, FILE).ok()
 }

@@ -1,5 +1,6 @@
 //! Keys and values that own memory, and a line of people.
 
+use crate::lists::room;
 use crate::of_lists::has;
 use clru::{CLruCache, DefaultState, NonZeroUsize, PutError};
 use clru_list::{FixedSizeList, PushError};
@@ -8,9 +9,8 @@ use clru_uses::own::{self, empty, hold};
 use clru_uses::scale::ByLength;
 use clru_uses::store::{self, length_of, pages_of};
 use clru_uses::texts::{look, looks_at, remember_looks};
-use ration::{capacity_of, equal};
+use ration::equal;
 use std::alloc::{AllocError, Global};
-use std::test::Fail;
 
 #[test]
 fn a_ticket_stays_until_its_holder_leaves(rt: HostRuntime) {
@@ -49,14 +49,29 @@ fn moved(line: &mut Line, ticket: usize) -> Option<u64> {
 }
 
 #[test]
-fn pages_are_held_within_a_number_of_bytes(rt: HostRuntime) -> Result<(), Fail> {
-    let mut pages = empty(rt.alloc(), capacity_of(10)?);
-    equal!(rt; holds(rt.alloc(), &mut pages)?, (true, false, 2, false));
-    Ok(())
+fn owners_of_memory_are_held(rt: HostRuntime) {
+    // Pages are held within a number of bytes.
+    equal!(rt; held(rt.alloc()), Ok((true, false, 2, false)));
+    // What does not fit beside a page is handed out.
+    equal!(rt; handed_out(rt.alloc()), Ok(((true, 2, 8), (true, 1, Some(2)), true)));
+    // A page is fetched once, and the last ones are held.
+    equal!(rt; loaded(rt.alloc()), Ok(((2, 3, true), true)));
+    // Looks are counted.
+    equal!(rt; counts(&mut CLruCache::new(rt.alloc(), NonZeroUsize::MIN), rt.alloc()), Ok(true));
+    // A page that was looked at stays.
+    equal!(rt; stay(&mut CLruCache::new(rt.alloc(), room(2)), rt.alloc()), Ok((Some(1), None)));
+    // Looks are found by the same text.
+    equal!(rt; found(rt.alloc()), Ok((true, Some(3), None)));
 }
 
 /// Whether short pages are stored and a long one, how many are held, and whether the first one is.
-fn holds(alloc: Global, pages: &mut own::Pages) -> Result<(bool, bool, usize, bool), AllocError> {
+type Held = (bool, bool, usize, bool);
+
+fn held(alloc: Global) -> Result<Held, AllocError> {
+    holds(alloc, &mut empty(alloc, room(10)))
+}
+
+fn holds(alloc: Global, pages: &mut own::Pages) -> Result<Held, AllocError> {
     let mut short = true;
     for page in [1, 2, 3] {
         let bytes = Vec::from_slice(alloc, b"four")?;
@@ -70,13 +85,18 @@ fn holds(alloc: Global, pages: &mut own::Pages) -> Result<(bool, bool, usize, bo
 /// Pages within a number of bytes.
 type Pages = CLruCache<u64, Vec<u8>, DefaultState, ByLength>;
 
-#[test]
-fn what_does_not_fit_beside_a_page_is_handed_out(rt: HostRuntime) -> Result<(), Fail> {
-    let mut pages = CLruCache::with_scale(rt.alloc(), capacity_of(10)?, ByLength);
-    equal!(rt; puts_two(rt.alloc(), &mut pages)?, (true, 2, 8));
-    equal!(rt; hands_out(rt.alloc(), &mut pages)?, (true, 1, Some(2)));
-    equal!(rt; is_too_heavy(rt.alloc(), &mut pages)?, true);
-    Ok(())
+type HandedOut = ((bool, usize, usize), (bool, usize, Option<u64>), bool);
+
+fn handed_out(alloc: Global) -> Result<HandedOut, AllocError> {
+    hands_out_of(alloc, &mut CLruCache::with_scale(alloc, room(10), ByLength))
+}
+
+fn hands_out_of(alloc: Global, pages: &mut Pages) -> Result<HandedOut, AllocError> {
+    Ok((
+        puts_two(alloc, pages)?,
+        hands_out(alloc, pages)?,
+        is_too_heavy(alloc, pages)?,
+    ))
 }
 
 fn puts_two(alloc: Global, pages: &mut Pages) -> Result<(bool, usize, usize), AllocError> {
@@ -101,16 +121,19 @@ fn is_too_heavy(alloc: Global, pages: &mut Pages) -> Result<bool, AllocError> {
     Ok(matches!(put, Err(PutError::TooHeavy(4, _))))
 }
 
-#[test]
-fn a_page_is_fetched_once_and_the_last_ones_are_held(rt: HostRuntime) -> Result<(), Fail> {
-    let mut pages = pages_of(rt.alloc(), capacity_of(2)?);
-    equal!(rt; loads(rt.alloc(), &mut pages)?, (2, 3, true));
-    equal!(rt; are_the_last(&pages), true);
-    Ok(())
+/// How many of five loads hit, how many fetched, and whether each page is its name with a full stop.
+type Loads = (u64, u64, bool);
+
+/// The same, and whether the last pages are held.
+fn loaded(alloc: Global) -> Result<(Loads, bool), AllocError> {
+    loads_of(alloc, &mut pages_of(alloc, room(2)))
 }
 
-/// How many of five loads hit, how many fetched, and whether each page is its name with a full stop.
-fn loads(alloc: Global, pages: &mut store::Pages) -> Result<(u64, u64, bool), AllocError> {
+fn loads_of(alloc: Global, pages: &mut store::Pages) -> Result<(Loads, bool), AllocError> {
+    Ok((loads(alloc, pages)?, are_the_last(pages)))
+}
+
+fn loads(alloc: Global, pages: &mut store::Pages) -> Result<Loads, AllocError> {
     let mut hits = 0u64;
     let mut whole = true;
     for name in ["home", "home", "about", "home", "contact"] {
@@ -138,14 +161,7 @@ fn are_the_last(pages: &store::Pages) -> bool {
 /// How often texts were looked at.
 type Looks = CLruCache<String, u64>;
 
-#[test]
-fn looks_are_counted(rt: HostRuntime) -> Result<(), Fail> {
-    let mut looks = CLruCache::new(rt.alloc(), NonZeroUsize::MIN);
-    equal!(rt; counts(rt.alloc(), &mut looks), Ok(true));
-    Ok(())
-}
-
-fn counts(alloc: Global, looks: &mut Looks) -> Result<bool, AllocError> {
+fn counts(looks: &mut Looks, alloc: Global) -> Result<bool, AllocError> {
     for (page, times) in [("/", 1), ("/", 2), ("/about", 1), ("/", 1)] {
         if look(looks, alloc, page)? != times || looks_at(looks, page) != Some(times) {
             return Ok(false);
@@ -154,15 +170,8 @@ fn counts(alloc: Global, looks: &mut Looks) -> Result<bool, AllocError> {
     Ok(true)
 }
 
-#[test]
-fn a_page_that_was_looked_at_stays(rt: HostRuntime) -> Result<(), Fail> {
-    let mut looks = CLruCache::new(rt.alloc(), capacity_of(2)?);
-    equal!(rt; stay(rt.alloc(), &mut looks), Ok((Some(1), None)));
-    Ok(())
-}
-
 /// What is held of two pages after a third, where the older one was looked at last.
-fn stay(alloc: Global, looks: &mut Looks) -> Result<(Option<u64>, Option<u64>), AllocError> {
+fn stay(looks: &mut Looks, alloc: Global) -> Result<(Option<u64>, Option<u64>), AllocError> {
     look(looks, alloc, "/")?;
     look(looks, alloc, "/about")?;
     looks_at(looks, "/");
@@ -170,12 +179,9 @@ fn stay(alloc: Global, looks: &mut Looks) -> Result<(Option<u64>, Option<u64>), 
     Ok((looks_at(looks, "/"), looks_at(looks, "/about")))
 }
 
-#[test]
-fn looks_are_found_by_the_same_text(rt: HostRuntime) -> Result<(), Fail> {
-    let page = "/about".to_string(rt.alloc())?;
-    let mut looks = CLruCache::new(rt.alloc(), NonZeroUsize::MIN);
-    equal!(rt; finds(&mut looks, page), (true, Some(3), None));
-    Ok(())
+fn found(alloc: Global) -> Result<(bool, Option<u64>, Option<u64>), AllocError> {
+    let page = "/about".to_string(alloc)?;
+    Ok(finds(&mut CLruCache::new(alloc, NonZeroUsize::MIN), page))
 }
 
 fn finds(looks: &mut Looks, page: String) -> (bool, Option<u64>, Option<u64>) {

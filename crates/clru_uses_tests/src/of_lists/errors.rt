@@ -12,14 +12,13 @@ use std::test::Fail;
 struct Page(u64);
 
 #[test]
-fn a_refused_push_is_an_error_whatever_the_item_is(rt: HostRuntime) -> Result<(), Fail> {
+fn a_refused_push_is_an_error_whatever_the_item_is(rt: HostRuntime) {
     let full = PushError::Full(Page(1));
-    equal!(rt; prints(rt.alloc(), full, "the list is full, Full(..)")?, true);
+    equal!(rt; prints(rt.alloc(), full, "the list is full, Full(..)"), Ok(true));
     let no_memory = PushError::NoMemory(Page(1));
-    equal!(rt; prints(rt.alloc(), no_memory, "out of memory, NoMemory(..)")?, true);
-    equal!(rt; prints(rt.alloc(), NoMemory, "out of memory, NoMemory")?, true);
-    equal!(rt; is_message(rt.alloc(), "the list is full")?, true);
-    Ok(())
+    equal!(rt; prints(rt.alloc(), no_memory, "out of memory, NoMemory(..)"), Ok(true));
+    equal!(rt; prints(rt.alloc(), NoMemory, "out of memory, NoMemory"), Ok(true));
+    equal!(rt; is_message(rt.alloc(), "the list is full"), Ok(true));
 }
 
 fn is_message(alloc: Global, text: &str) -> Result<bool, AllocError> {
@@ -28,11 +27,18 @@ fn is_message(alloc: Global, text: &str) -> Result<bool, AllocError> {
 
 #[test]
 fn callers_pass_refusals_up(rt: HostRuntime) -> Result<(), Fail> {
-    let mut list = ready_list(rt.alloc(), 1)?;
-    equal!(rt; pushes(&mut list)?, Some(5));
-    let mut pages = FixedSizeList::new(rt.alloc(), 1);
-    equal!(rt; pushes_a_page(&mut pages)?, true);
+    equal!(rt; pushes_to_ready(rt.alloc())?, Some(5));
+    equal!(rt; holds_a_page(rt.alloc())?, true);
     Ok(())
+}
+
+fn pushes_to_ready(alloc: Global) -> Result<Option<u64>, Fail> {
+    let mut list = ready_list(alloc, 1)?;
+    pushes(&mut list)
+}
+
+fn holds_a_page(alloc: Global) -> Result<bool, Fail> {
+    pushes_a_page(&mut FixedSizeList::new(alloc, 1))
 }
 
 fn pushes(list: &mut FixedSizeList<u64>) -> Result<Option<u64>, Fail> {

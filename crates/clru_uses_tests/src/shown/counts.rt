@@ -3,7 +3,8 @@ ghost use Rattle.std.specs.Prelude.{Some, ⊤};
 ghost use Rattle.std.specs.Cmp.Rules.{comparing};
 ghost use Rattle.std.proofs.Common.{rules};
 
-use crate::shown::{Name, room};
+use crate::lists::room;
+use crate::shown::Name;
 use clru::{CLruCache, DefaultState};
 use clru_curve::{DistancePass, SizedPass};
 use clru_least::{Foresight, ForesightPass};
@@ -11,17 +12,15 @@ use clru_list::FixedSizeList;
 use clru_through::{Source, Through};
 use ration::{equal, shows};
 use std::alloc::{AllocError, Global};
-use std::test::Fail;
 
 #[test]
-fn a_list_prints_its_counts(rt: HostRuntime) -> Result<(), Fail> {
+fn a_list_prints_its_counts(rt: HostRuntime) {
     let mut list = FixedSizeList::new(rt.alloc(), 7);
-    equal!(rt; is_list_shown(rt.alloc(), &mut list)?, true);
-    Ok(())
+    equal!(rt; is_list_shown(rt.alloc(), &mut list), Ok(true));
 }
 
-fn is_list_shown(alloc: Global, list: &mut FixedSizeList<Name>) -> Result<bool, Fail> {
-    list.push_back(Name(1))?;
+fn is_list_shown(alloc: Global, list: &mut FixedSizeList<Name>) -> Result<bool, AllocError> {
+    let _ = list.push_back(Name(1));
     let whole = shows(alloc, list, "FixedSizeList { len: 1, capacity: 7 }")?;
     let walk = shows(alloc, &list.iter(), "FixedSizeListIter { len: 1 }")?;
     let mut cursor = list.iter_mut();
@@ -47,32 +46,33 @@ impl Source<Name, u64, ()> for Doubles {
 }
 
 #[test]
-fn a_store_prints_its_counts(rt: HostRuntime) -> Result<(), Fail> {
+fn a_store_prints_its_counts(rt: HostRuntime) {
     let mut store = Through::new(CLruCache::new(rt.alloc(), room(3)), Doubles);
     equal!(rt; store.load(Name(1)).is_ok(), true);
     let text = "Through { len: 1, weight: 0, capacity: 3 }";
-    equal!(rt; shows(rt.alloc(), &store, text)?, true);
-    Ok(())
+    equal!(rt; shows(rt.alloc(), &store, text), Ok(true));
 }
 
 static NAMES: &[Name] = &[Name(1), Name(2), Name(1)];
 
 #[test]
-fn a_foresight_prints_its_count(rt: HostRuntime) -> Result<(), Fail> {
-    let foresight = Foresight::new(rt.alloc(), NAMES, DefaultState)?;
-    equal!(rt; shows(rt.alloc(), &foresight, "Foresight { requests: 3 }")?, true);
+fn a_foresight_prints_its_count(rt: HostRuntime) {
+    equal!(rt; is_foresight_shown(rt.alloc()), Ok(true));
     let pass: ForesightPass<Name> = ForesightPass::new(rt.alloc());
-    equal!(rt; shows(rt.alloc(), &pass, "ForesightPass { requests: 0 }")?, true);
-    Ok(())
+    equal!(rt; shows(rt.alloc(), &pass, "ForesightPass { requests: 0 }"), Ok(true));
+}
+
+fn is_foresight_shown(alloc: Global) -> Result<bool, AllocError> {
+    match Foresight::new(alloc, NAMES, DefaultState) {
+        Ok(foresight) => shows(alloc, &foresight, "Foresight { requests: 3 }"),
+        Err(_) => Ok(false),
+    }
 }
 
 #[test]
-fn a_pass_prints_its_counts(rt: HostRuntime) -> Result<(), Fail> {
-    let mut pass = DistancePass::new(rt.alloc());
-    equal!(rt; is_pass_shown(rt.alloc(), &mut pass)?, true);
-    let mut pass = SizedPass::new(rt.alloc());
-    equal!(rt; is_sized_pass_shown(rt.alloc(), &mut pass)?, true);
-    Ok(())
+fn a_pass_prints_its_counts(rt: HostRuntime) {
+    equal!(rt; is_pass_shown(rt.alloc(), &mut DistancePass::new(rt.alloc())), Ok(true));
+    equal!(rt; is_sized_pass_shown(rt.alloc(), &mut SizedPass::new(rt.alloc())), Ok(true));
 }
 
 fn is_pass_shown(alloc: Global, pass: &mut DistancePass<Name>) -> Result<bool, AllocError> {

@@ -18,8 +18,8 @@ loop-index-preserved g c =
     ∙ sym (take-suc (zip keys sizes) i (0, 0) inside)) in
     record { objects = search (rules, wanted); many = search rules; same_capacity = search rules }
 
-pub returns : goal.returns
-returns g c =
+pub returns-clause-objects : goal.returns-clause-objects
+returns-clause-objects g c =
     let keys = c.args.keys.now in
     let sizes = c.args.sizes.now in
     c.loop-index.invariant.objects ∙ take_all c.loop-index.index (zip keys sizes)

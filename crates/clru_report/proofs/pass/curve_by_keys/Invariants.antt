@@ -1,6 +1,6 @@
 use Rattle.std.proofs.Common.{◌≡◌, ◌-◌, ◌^◌, ◌<◌, ℕ, List, length}
 use Rattle.std.specs.Int.NonZero.{non_zero_usize_get}
-use Rattle.clru_lines.specs.Told.{HasTold}
+use Rattle.clru_lines.specs.LinesRead.{HasReturned}
 use Rattle.clru_report.specs.Passes.{HasTakenFor}
 use Rattle.clru_report.specs.Samples.{kept_of}
 use Rattle.clru_report.proofs.pass.curve_by_keys.Given as goal
@@ -8,7 +8,7 @@ use Rattle.clru_report.proofs.pass.curve_by_keys.Given as goal
 abbrev pub invariant-lines : goal.invariant-lines
 invariant-lines g l = (lines : List (List ℕ))
     × HasTakenFor l.least l.floored (kept_of (non_zero_usize_get l.one_in) lines) l.pass l.foresight l.reuses
-    × HasTold (g.R.Read.remaining l.initial.reader) (g.R.Read.remaining l.reader) l.buffer lines
+    × HasReturned (g.R.Read.remaining l.initial.reader) (g.R.Read.remaining l.reader) l.buffer lines
     × (l.requests ≡ length lines) × (l.requests < 2 ^ 64)
 
 abbrev pub decreases-lines : goal.decreases-lines

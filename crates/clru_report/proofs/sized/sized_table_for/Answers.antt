@@ -17,8 +17,8 @@ returns-in-Ok-sized_table_of-clause-table g c =
       rowed = subst (λ cs. AreRowsOf curve floors (capacities_on curve options.capacities cs) rows)
           (ap (map non_zero_usize_get) c.deref.ensures.value) c.in_ok-rows.ensures.rows;
       is = c.in-Ok-sized_table_of.ensures
-          ∙ ap (λ n. sized_table_text options.floor n c.size-2.result c.deref-3.result.now c.deref-2.result.now) c.requests.ensures
-          ∙ ap (λ n. sized_table_text options.floor curve.requests n c.deref-3.result.now c.deref-2.result.now) c.size-2.ensures
-          ∙ ap (λ ks. sized_table_text options.floor curve.requests curve.size ks c.deref-2.result.now) c.deref-3.ensures.value
-          ∙ ap (sized_table_text options.floor curve.requests curve.size marked) c.deref-2.ensures.value;
+          ∙ ap (λ n. sized_table_text c.args.json options.floor n c.size-2.result c.deref-3.result.now c.deref-2.result.now) c.requests.ensures
+          ∙ ap (λ n. sized_table_text c.args.json options.floor curve.requests n c.deref-3.result.now c.deref-2.result.now) c.size-2.ensures
+          ∙ ap (λ ks. sized_table_text c.args.json options.floor curve.requests curve.size ks c.deref-2.result.now) c.deref-3.ensures.value
+          ∙ ap (sized_table_text c.args.json options.floor curve.requests curve.size marked) c.deref-2.ensures.value;
     }

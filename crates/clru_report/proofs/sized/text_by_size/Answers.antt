@@ -1,4 +1,4 @@
-use Rattle.std.proofs.Common.{◌+◌, None, min, ap, string_bytes, sym, subst, ◌∙◌}
+use Rattle.std.proofs.Common.{◌+◌, false, true, None, min, ap, string_bytes, sym, subst, ◌∙◌}
 use Rattle.clru_lines.specs.Lines.{lines_of}
 use Rattle.std.specs.Prelude.{◌&&◌}
 use Rattle.clru_report.specs.Passes.{AreFloorsFor, distinct_in, has_rows}
@@ -19,15 +19,33 @@ returns-in-Table g c =
       report = λ input requests size of both. let lines = lines_of input in let whole = of_all input curve requests size c.args.bytes of in ok_map c.sized_table_for.result
           (λ text t. (
             of.sizes,
-            rows_free lines curve whole options floors (string_bytes text) t of.no_fault,
+            rows_free lines curve whole false options floors (string_bytes text) t of.no_fault,
             subst (λ f. IsInFormBySize f options input lines (string_bytes text)) (sym c.in-Table.is)
-                (table_is lines curve whole options floors (string_bytes text)
+                (table_is lines curve whole false options floors (string_bytes text)
                 (subst (λ f. AreFloorsFor (has_rows f && options.floor) lines floors) c.in-Table.is both) t),
           )) c.sized_table_for.ensures.table;
       refused = λ input requests size of. let lines = lines_of input in let whole = of_all input curve requests size c.args.bytes of in err_map c.sized_table_for.result
           (λ fault why input_is. capacities_refused lines curve whole options fault of.sizes of.no_fault
           (ap (λ f. fault_beside f options.capacities (greatest_size lines)) c.in-Table.is) (why input_is) input_is) c.sized_table_for.ensures.refused;
       fault = c.sized_table_for.ensures.fault;
+    }
+
+pub returns-in-Json : goal.returns-in-Json
+returns-in-Json g c =
+    let options = c.args.options.now in let curve = c.args.curve.now in let floors = c.args.floors.now in
+    record {
+      report = λ input requests size of both. let lines = lines_of input in let whole = of_all input curve requests size c.args.bytes of in ok_map c.sized_table_for-in-Json.result
+          (λ text t. (
+            of.sizes,
+            rows_free lines curve whole true options floors (string_bytes text) t of.no_fault,
+            subst (λ f. IsInFormBySize f options input lines (string_bytes text)) (sym c.in-Json.is)
+                (table_is lines curve whole true options floors (string_bytes text)
+                (subst (λ f. AreFloorsFor (has_rows f && options.floor) lines floors) c.in-Json.is both) t),
+          )) c.sized_table_for-in-Json.ensures.table;
+      refused = λ input requests size of. let lines = lines_of input in let whole = of_all input curve requests size c.args.bytes of in err_map c.sized_table_for-in-Json.result
+          (λ fault why input_is. capacities_refused lines curve whole options fault of.sizes of.no_fault
+          (ap (λ f. fault_beside f options.capacities (greatest_size lines)) c.in-Json.is) (why input_is) input_is) c.sized_table_for-in-Json.ensures.refused;
+      fault = c.sized_table_for-in-Json.ensures.fault;
     }
 
 pub returns-in-Picture : goal.returns-in-Picture
@@ -37,10 +55,10 @@ returns-in-Picture g c =
       report = λ input requests size of both. let lines = lines_of input in let whole = of_all input curve requests size c.args.bytes of in ok_map c.sized_picture_for.result
           (λ text t. (
             of.sizes,
-            rows_free lines curve whole options floors t.0 t.1 of.no_fault,
+            rows_free lines curve whole false options floors t.0 t.1 of.no_fault,
             subst (λ f. IsInFormBySize f options input lines (string_bytes text)) (sym c.in-Picture.is) (
               t.0,
-              table_is lines curve whole options floors t.0
+              table_is lines curve whole false options floors t.0
                   (subst (λ f. AreFloorsFor (has_rows f && options.floor) lines floors) c.in-Picture.is both) t.1,
               t.2,
             ),

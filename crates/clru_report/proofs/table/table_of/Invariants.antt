@@ -5,5 +5,5 @@ use Rattle.clru_report.proofs.table.table_of.Given as goal
 -- the text so far, and the lines of the rows that are left
 abbrev pub invariant-loop-index : goal.invariant-loop-index
 invariant-loop-index g l =
-    string_bytes l.text ++ rows_text l.requests l.knees l.before (drop l.index l.rows)
-    ≡ table_text l.least l.floor l.requests l.knees l.rows
+    string_bytes l.text ++ rows_text l.json l.shown l.requests l.knees l.before (drop l.index l.rows)
+    ≡ table_text l.json l.least l.floor l.requests l.knees l.rows

@@ -16,7 +16,7 @@ returns-clause-misses g c past is =
     let from = c.deref_mut.ensures.value ∙ c.in-Ok.ensures.items ∙ c.deref.ensures.value in
     let to = c.from_misses.ensures ∙ written_back c.misses_of.new.histogram vec.items vec.len (c.misses_of.ensures.len ∙ c.deref_mut.ensures.len) in
     curve_misses eq past _ c.deref_mut.result.now c.misses_of.new.histogram c.from_misses.result (subst (λ v. IsPass eq past v) (sym c.self.view_is) is) from to
-    c.misses_of.ensures.len g.met.K.Eq.laws c.misses_of.ensures.misses
+    c.misses_of.ensures.len c.misses_of.ensures.misses
 
 pub returns-clause-distinct : goal.returns-clause-distinct
 returns-clause-distinct g c past is =

@@ -1,11 +1,11 @@
 use Rattle.std.proofs.Common.{◌≡◌, ◌<◌, ◌-◌, ◌^◌, ℕ, List, Option, false, ◌++◌}
-use Rattle.clru_lines.specs.Told.{HasBegun, HasTold, IsFree}
+use Rattle.clru_lines.specs.LinesRead.{HasBegun, HasReturned, IsFree}
 use Rattle.clru_lines.proofs.buffer.LineBuffer.read_line.Given as goal
 
--- what was told at first is still told, and then comes a beginning of a line
+-- the lines that were returned at first are still returned; then comes the beginning of a line
 abbrev pub invariant-pieces : goal.invariant-pieces
 invariant-pieces g l = IsFree l.line.items × (l.self.ended ≡ false) × (l.self.read < 2 ^ 64)
-    × ((start : Option (List ℕ)) (lines : List (List ℕ)) → HasTold start (g.R.Read.remaining l.initial.reader) l.initial.self lines
+    × ((start : Option (List ℕ)) (lines : List (List ℕ)) → HasReturned start (g.R.Read.remaining l.initial.reader) l.initial.self lines
     → HasBegun start (g.R.Read.remaining l.reader) l.self.read (l.line.items ++ l.self.left) lines)
 
 abbrev pub decreases-pieces : goal.decreases-pieces

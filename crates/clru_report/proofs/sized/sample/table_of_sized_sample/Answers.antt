@@ -26,7 +26,7 @@ returns g c kept is both =
       rows,
       usual.0,
       rowed,
-      t ∙ ap (sized_table_text options.floor totals.requests totals.size c.deref-4.result.now) c.deref-3.ensures.value
-          ∙ ap (λ ks. sized_table_text options.floor totals.requests totals.size ks rows) (c.deref-4.ensures.value ∙ marked),
+      t ∙ ap (sized_table_text c.args.json options.floor totals.requests totals.size c.deref-4.result.now) c.deref-3.ensures.value
+          ∙ ap (λ ks. sized_table_text c.args.json options.floor totals.requests totals.size ks rows) (c.deref-4.ensures.value ∙ marked),
     ))
     c.sized_table_of.ensures

@@ -1,0 +1,16 @@
+use Rattle.std.proofs.Common.{[]}
+use Rattle.clru_curve.proofs.IdlePassing.{IsIdlePass-none}
+use Rattle.clru_curve.proofs.idle.IdlePass.with_hasher.Goals as goal
+
+pub invariant_of-result : goal.invariant_of-result
+invariant_of-result g c =
+    record {
+      latest = c.new.ensures.kept;
+      past = [];
+      taken = rw (c.no_positions.ensures, c.new.ensures.blocks, c.new.ensures.requests, c.new-2.ensures.items)
+          (IsIdlePass-none g.K.PartialEq.eq g.met.K.Eq.laws c.args.limit);
+    }
+
+pub returns : goal.returns
+returns g c = rw (c.no_positions.ensures, c.new.ensures.blocks, c.new.ensures.requests, c.new-2.ensures.items)
+    (IsIdlePass-none g.K.PartialEq.eq g.met.K.Eq.laws c.args.limit)

@@ -1,0 +1,108 @@
+use Rattle.std.proofs.Common.{◌≡◌, ◌+◌, cond, nat_le, ◌-◌, suc, [], ◌∷◌, ◌++◌, Some, None, refl, sym, ap, ◌∙◌, subst, arith}
+use Rattle.std.specs.Map.{set_value}
+use Rattle.clru.specs.Cache.{with_entries}
+use Rattle.clru_model.proofs.Forms.{form_is}
+use Rattle.clru_curve.proofs.Forms.{key_at, found_as}
+use Rattle.clru_curve.proofs.IdlePassing.{position_found}
+use Rattle.clru_curve.proofs.LatestSizes.{total_zero, removed_less, moved_lives, moved_totals, moved_less}
+use Rattle.clru_curve.proofs.SizedIdlePassing.{IsSizedIdlePass-again, IsSoundIdleBySize-again, span_some, size_there}
+use Rattle.clru_curve.specs.LatestSizes.{sizes_from, total_from, live_from, IsRemoved, IsSummed}
+use Rattle.clru_curve.specs.Rising.{numbered}
+use Rattle.clru_curve.specs.Seen.{seen_at}
+use Rattle.clru_curve.specs.SizedIdlePasses.{IsSizedIdlePass}
+use Rattle.clru_curve.proofs.sized.idle.SizedIdlePass.again.Goals as goal
+
+pub remove-span-requires-clause-live : goal.remove-span-requires-clause-live
+remove-span-requires-clause-live g c =
+    let eq = g.K.PartialEq.eq in let b = c.in-Some.before in let p = b.position in let e = c.make_ready.ensures in
+    let at = key_at eq g.met.K.Eq.laws (g.Q.Equivalent.equivalent c.args.key) (g.met.Q.Equivalent.respects_eq c.args.key)
+    c.self.inside.seen.entries b (sym c.in-Some.ensures.found) in
+    omega (
+      arith,
+      c.self.invariant.ranked.latest at.key p (position_found eq c.self.inside.seen.entries at.key b at.found),
+      ap (λ l. live_from l p) e.sizes,
+      ap (λ l. live_from l (suc p)) e.sizes,
+    )
+
+pub remove-span-requires-clause-fits : goal.remove-span-requires-clause-fits
+remove-span-requires-clause-fits g c =
+    let ss = c.self.inside.latest.sizes.items in let inv = c.self.invariant in
+    omega (arith, ap (λ l. sizes_from l 0) c.make_ready.ensures.sizes, total_zero ss, inv.held, inv.fits)
+
+pub push-requires-clause-fits : goal.push-requires-clause-fits
+push-requires-clause-fits g c =
+    let ss = c.self.inside.latest.sizes.items in let inv = c.self.invariant in let p = c.in-Some.before.position in
+    let left = c.remove-span.new.self.sizes.items in
+    let removed = subst (λ l. IsRemoved l p left) c.make_ready.ensures.sizes c.remove-span.ensures.removed in
+    omega (arith, removed_less ss left p removed, total_zero left, inv.held, c.if-weight-self.false)
+
+pub push-requires-clause-countable : goal.push-requires-clause-countable
+push-requires-clause-countable g c =
+    let inv = c.self.invariant in
+    omega (arith, c.remove-span.ensures.requests, c.make_ready.ensures.requests, inv.many, c.if-weight-self.false)
+
+pub drop_empty-requires-clause-fits : goal.drop_empty-requires-clause-fits
+drop_empty-requires-clause-fits g c =
+    let ss = c.self.inside.latest.sizes.items in let inv = c.self.invariant in let p = c.in-Some.before.position in
+    let left = c.remove-span.new.self.sizes.items in let pushed = c.push.new.self.sizes.items in
+    let removed = subst (λ l. IsRemoved l p left) c.make_ready.ensures.sizes c.remove-span.ensures.removed in
+    let less = moved_less ss left pushed pushed p c.remove-span.new.self.requests c.args.weight (λ t. refl) (λ t. refl) removed c.push.ensures.sizes in
+    omega (arith, less, total_zero pushed, inv.held, c.if-weight-self.false)
+
+pub invariant_of-self-2 : goal.invariant_of-self-2
+invariant_of-self-2 g c =
+    let eq = g.K.PartialEq.eq in let laws = g.met.K.Eq.laws in let s = c.self.inside in let inv = c.self.invariant in
+    let ss = s.latest.sizes.items in let n = s.latest.requests in let b = c.in-Some.before in let p = b.position in
+    let e = c.make_ready.ensures in let w = c.args.weight in
+    let at = key_at eq laws (g.Q.Equivalent.equivalent c.args.key) (g.met.Q.Equivalent.respects_eq c.args.key)
+    s.seen.entries b (sym c.in-Some.ensures.found) in
+    let moved = c.in-Some.ensures.moved refl
+    ∙ ap (λ t. with_entries s.seen (set_value t s.seen.entries (seen_at c.make_ready.new.self.requests c.args.time))) at.same in
+    let left = c.remove-span.new.self.sizes.items in let pushed = c.push.new.self.sizes.items in
+    let d = c.drop_empty.new.self in let ts = d.sizes.items in
+    let removed = subst (λ l. IsRemoved l p left) e.sizes c.remove-span.ensures.removed in
+    let number = c.remove-span.ensures.requests ∙ e.requests in
+    let grown = c.push.ensures.sizes ∙ ap (λ k. left ++ numbered k (w + 1) ∷ []) number in
+    let requests : d.requests ≡ n + 1 = omega (arith, c.drop_empty.ensures.requests, c.push.ensures.requests, number) in
+    let totals = c.drop_empty.ensures.totals in let lives = c.drop_empty.ensures.live in
+    rw (moved, requests, c.hit_if-reuse.ensures.hits, c.reserve.ensures.items, e.requests)
+    (IsSoundIdleBySize-again eq laws s.seen.entries ss n s.hits.items s.size s.greatest s.limit at.key c.args.time s.latest.nodes.items inv
+    w c.greater-greatest.result (omega (arith, c.if-weight-self.false, inv.fits)) ts d.nodes.items
+    (subst (λ k. IsSummed ts d.nodes.items k) requests c.drop_empty.ensures.kept)
+    (omega (arith, moved_less ss left ts pushed p n w totals lives removed grown, inv.held))
+    b c.is_soon-soon.result c.remove-span.result at.found (moved_lives ss left ts pushed p n w totals lives removed grown))
+
+pub returns-clause-span : goal.returns-clause-span
+returns-clause-span g c w idle past x same before weighs passes =
+    let eq = g.K.PartialEq.eq in let laws = g.met.K.Eq.laws in let s = c.self.inside in let b = c.in-Some.before in let p = b.position in
+    let is = subst (λ v. IsSizedIdlePass eq w idle past v) (sym c.self.view_is) before in
+    let found = found_as eq laws (g.Q.Equivalent.equivalent c.args.key) (g.met.Q.Equivalent.respects_eq c.args.key) s.seen.entries x (Some b) passes
+    (sym c.in-Some.ensures.found) in
+    c.hit_if-reuse.ensures.span ∙ ap (λ o. cond o (Some c.remove-span.result) None) c.is_soon-soon.ensures
+    ∙ ap (λ m. cond (nat_le (c.args.time - b.time) s.limit) (Some m) None) (c.remove-span.ensures.total ∙ ap (λ l. total_from l p) c.make_ready.ensures.sizes)
+    ∙ span_some eq laws s.seen.entries s.latest.sizes.items s.latest.requests s.hits.items s.size s.greatest s.limit x c.args.time w idle past is same
+    c.args.weight weighs c.greater-greatest.result c.greater-greatest.ensures c.drop_empty.new.self.sizes.items b found
+
+pub returns-clause-taken : goal.returns-clause-taken
+returns-clause-taken g c w idle past x same before weighs passes some =
+    let eq = g.K.PartialEq.eq in let laws = g.met.K.Eq.laws in let s = c.self.inside in let inv = c.self.invariant in
+    let test = g.Q.Equivalent.equivalent c.args.key in let form = g.met.Q.Equivalent.respects_eq c.args.key in
+    let ss = s.latest.sizes.items in let n = s.latest.requests in let b = c.in-Some.before in let p = b.position in
+    let e = c.make_ready.ensures in let v = c.args.weight in
+    let is = subst (λ v. IsSizedIdlePass eq w idle past v) (sym c.self.view_is) before in
+    let found = found_as eq laws test form s.seen.entries x (Some b) passes (sym c.in-Some.ensures.found) in
+    let moved = c.in-Some.ensures.moved refl
+    ∙ ap (λ t. with_entries s.seen (set_value t s.seen.entries (seen_at c.make_ready.new.self.requests c.args.time))) (form_is eq test form x passes) in
+    let left = c.remove-span.new.self.sizes.items in let pushed = c.push.new.self.sizes.items in
+    let d = c.drop_empty.new.self in let ts = d.sizes.items in
+    let removed = subst (λ l. IsRemoved l p left) e.sizes c.remove-span.ensures.removed in
+    let number = c.remove-span.ensures.requests ∙ e.requests in
+    let grown = c.push.ensures.sizes ∙ ap (λ k. left ++ numbered k (v + 1) ∷ []) number in
+    let requests : d.requests ≡ n + 1 = omega (arith, c.drop_empty.ensures.requests, c.push.ensures.requests, number) in
+    let span = c.remove-span.ensures.total ∙ ap (λ l. total_from l p) e.sizes in
+    let there = size_there eq laws s.seen.entries ss n s.hits.items s.size s.greatest s.limit x c.args.time w idle past is same v weighs
+    c.greater-greatest.result c.greater-greatest.ensures ts b found in
+    rw (moved, requests, c.hit_if-reuse.ensures.hits, c.is_soon-soon.ensures, c.reserve.ensures.items, e.requests, span)
+    (IsSizedIdlePass-again eq laws s.seen.entries ss n s.hits.items s.size s.greatest s.limit x c.args.time w idle past is same v weighs
+    c.greater-greatest.result c.greater-greatest.ensures ts b found
+    (moved_totals ss left ts pushed p n v c.drop_empty.ensures.totals c.drop_empty.ensures.live removed grown n inv.summed.rising there))

@@ -1,0 +1,270 @@
+//! `SizedIdlePass`, which takes requests with times of keys with sizes, and counts a reuse after too long as a first request.
+ghost use Rattle.std.specs.Prelude.{◌≡◌, ℕ, ◌+◌, ◌^◌, ◌<◌, ◌≤◌, ◌↔◌, List, [], ◌∷◌, ◌++◌, reverse, vec_len, vec_capacity, IfOk, IfErr, IfSome, IsErrAnd, OnOk, OnErr, IsNone, IsSome, IsTrue, None, Some, is_some, if◌then◌else◌};
+ghost use Rattle.std.specs.List.{list_any};
+ghost use Rattle.std.specs.Map.{keys_of, lookup};
+ghost use Rattle.clru_model.specs.Sizes.{SameWeights, span};
+ghost use Rattle.clru_curve.specs.Seen.{reuse_by};
+ghost use Rattle.clru_curve.specs.SizedCurves.{step};
+ghost use Rattle.clru_curve.specs.SizedIdlePasses.{IsSizedIdlePass, IsSizedIdleCurveOf};
+ghost use Rattle.clru_curve.specs.SizedPasses.{key_of, IsTooLarge};
+
+use crate::pass::{double_if_full, move_position, no_positions};
+use crate::seen::{Seen, is_soon};
+use crate::sized::curve::SizedCurve;
+use crate::sized::error::SizedRequestError;
+use crate::sized::pass::greater;
+use crate::sized::sizes::Sizes;
+use crate::sized::step::Step;
+use clru::{CLruCache, DefaultState, ZeroWeightScale};
+use std::alloc::{Allocator, Global};
+use std::collections::hash_map::Equivalent;
+use std::hash::{BuildHasher, Hash};
+use std::marker::Model;
+
+/// A pass over requests with times of keys that weigh something, under an idle limit: a key that is requested after more
+/// than that time counts as one that comes for the first time. The order of keys is that of LRU without expiry.
+///
+/// Weights are as in a [`SizedPass`](crate::SizedPass), times as in an [`IdlePass`](crate::IdlePass). Clauses describe the
+/// requests that it has taken under its limit, the latest first, each with its time, by `IsSizedIdlePass`.
+///
+/// Takes the memory of a `SizedPass`, and 8 bytes more for each distinct key.
+pub struct SizedIdlePass<
+    K: Eq + Hash,
+    S: BuildHasher = DefaultState,
+    A: Allocator + Copy = Global,
+> {
+    pub(crate) seen: CLruCache<K, Seen, S, ZeroWeightScale, A>,
+    pub(crate) latest: Sizes<A>,
+    // For each request that can hit, from which capacity on it does, and its own size, which is missed below.
+    hits: Vec<Step, A>,
+    pub(crate) size: usize,
+    greatest: usize,
+    pub(crate) limit: usize,
+}
+
+impl<K: Eq + Hash + Drop, S: BuildHasher + Drop, A: Allocator + Copy> Drop
+    for SizedIdlePass<K, S, A> {
+    fn drop(self) {
+        let SizedIdlePass {
+            seen,
+            latest,
+            hits,
+            size: _,
+            greatest: _,
+            limit: _,
+        } = self;
+        drop(seen);
+        drop(latest);
+        drop(hits);
+    }
+}
+
+impl<K: Eq + Hash, S: BuildHasher, A: Allocator + Copy> Model for SizedIdlePass<K, S, A> {
+    ghost use Rattle.clru_curve.specs.SizedIdlePasses.{TimedPassBySize, timed_pass_by_size, timed_pass_by_size_code, IsSoundIdleBySize};
+
+    ghost Value = { TimedPassBySize K };
+
+    ghost coded = { timed_pass_by_size_code K.code };
+
+    ghost view = { λ p. timed_pass_by_size p.seen.entries p.latest.sizes.items p.latest.requests p.hits.items p.size p.greatest p.limit };
+
+    ghost invariant = { λ p. IsSoundIdleBySize K.eq p.latest.nodes.items
+        (timed_pass_by_size p.seen.entries p.latest.sizes.items p.latest.requests p.hits.items p.size p.greatest p.limit) };
+}
+
+impl<K: Eq + Hash, S: BuildHasher, A: Allocator + Copy> SizedIdlePass<K, S, A> {
+    /// Creates a pass under this limit that has taken no request and hashes keys with `hash_builder`.
+    /// Cost: no request for memory.
+    pub fn with_hasher(alloc: A, limit: usize, hash_builder: S) -> Self
+        ensures { (w : K → ℕ) → IsSizedIdlePass K.eq w limit [] result }
+    {
+        SizedIdlePass {
+            seen: no_positions(alloc, hash_builder),
+            latest: Sizes::new(alloc),
+            hits: Vec::new(alloc),
+            size: 0,
+            greatest: 0,
+            limit,
+        }
+    }
+
+    /// Takes one more request, at this time, of a key of this weight, and returns its span, or `None` if the key was not requested
+    /// before, or more than the limit ago. If each key fits, the request hits at the capacities from the span on, and at no
+    /// other.
+    ///
+    /// If memory is refused, or the sizes of all requests with this one exceed `usize::MAX`, it returns the key, and the pass
+    /// is unchanged.
+    /// Cost: that of the same call of a `SizedPass`.
+    pub fn request(
+        &mut self,
+        key: K,
+        time: usize,
+        weight: usize,
+    ) -> Result<Option<usize>, SizedRequestError<K>>
+    where
+        K: Drop,
+        ensures span { (w : K → ℕ) (idle : ℕ) (past : List (K × ℕ)) → SameWeights K.eq w → IsSizedIdlePass K.eq w idle past self.old
+            → w key ≡ weight → IfOk result (λ s. s ≡ reuse_by K.eq (span K.eq w) idle (key, time) past) }
+        ensures taken { (w : K → ℕ) (idle : ℕ) (past : List (K × ℕ)) → SameWeights K.eq w → IsSizedIdlePass K.eq w idle past self.old
+            → w key ≡ weight → OnOk result (IsSizedIdlePass K.eq w idle ((key, time) ∷ past) self.new) }
+        ensures size { OnOk result (self.new.size ≡ self.old.size + (1 + weight)) }
+        ensures refused { OnErr result (self.new ≡ self.old) }
+        ensures given_back { IfErr result (λ e. key_of e ≡ key) }
+        ensures too_large { IsErrAnd result IsTooLarge ↔ (2 ^ 64 ≤ self.old.size + (1 + weight)) }
+    {
+        match self.again(&key, time, weight) {
+            Ok(Some(span)) => Ok(span),
+            Ok(None) => match self.request_new(key, time, weight) {
+                Ok(()) => Ok(None),
+                Err(key) => Err(SizedRequestError::NoMemory(key)),
+            },
+            Err(SizedRequestError::NoMemory(_)) => Err(SizedRequestError::NoMemory(key)),
+            Err(SizedRequestError::TooLarge(_)) => Err(SizedRequestError::TooLarge(key)),
+        }
+    }
+
+    /// Takes one more request of an earlier key of this weight, by a form of it, at this time, and returns its span, in which there is
+    /// none if the key was requested more than the limit ago. If no such key was requested, it takes nothing and returns `None`;
+    /// then call `request`.
+    ///
+    /// If memory is refused, or the sizes of all requests with this one exceed `usize::MAX`, it returns the form, and the pass
+    /// is unchanged.
+    /// Cost: that of the same call of a `SizedPass`.
+    pub fn request_again<Q: Equivalent<K>>(
+        &mut self,
+        key: Q,
+        time: usize,
+        weight: usize,
+    ) -> Result<Option<Option<usize>>, SizedRequestError<Q>>
+        ensures span { (w : K → ℕ) (idle : ℕ) (past : List (K × ℕ)) (x : K) → SameWeights K.eq w → IsSizedIdlePass K.eq w idle past self.old
+            → w x ≡ weight → IsTrue (Q.equivalent key x)
+            → IfOk result (λ s. IfSome s (λ t. t ≡ reuse_by K.eq (span K.eq w) idle (x, time) past)) }
+        ensures taken { (w : K → ℕ) (idle : ℕ) (past : List (K × ℕ)) (x : K) → SameWeights K.eq w → IsSizedIdlePass K.eq w idle past self.old
+            → w x ≡ weight → IsTrue (Q.equivalent key x)
+            → IfOk result (λ s. IsSome s → IsSizedIdlePass K.eq w idle ((x, time) ∷ past) self.new) }
+        ensures known { (w : K → ℕ) (idle : ℕ) (past : List (K × ℕ)) → IsSizedIdlePass K.eq w idle past self.old
+            → IfOk result (λ s. is_some s ≡ list_any (Q.equivalent key) (keys_of past)) }
+        ensures size { IfOk result (λ s. IsSome s → self.new.size ≡ self.old.size + (1 + weight)) }
+        ensures not_taken { IfOk result (λ s. IsNone s → self.new ≡ self.old) }
+        ensures refused { OnErr result (self.new ≡ self.old) }
+        ensures given_back { IfErr result (λ e. key_of e ≡ key) }
+        ensures too_large { IsErrAnd result IsTooLarge ↔ (2 ^ 64 ≤ self.old.size + (1 + weight)) }
+    {
+        self.again(key, time, weight)
+    }
+
+    /// `request_again`, which also says by what was seen alone whether the key is known, whatever keys weighed.
+    fn again<Q: Equivalent<K>>(
+        &mut self,
+        key: Q,
+        time: usize,
+        weight: usize,
+    ) -> Result<Option<Option<usize>>, SizedRequestError<Q>>
+        ensures span { (w : K → ℕ) (idle : ℕ) (past : List (K × ℕ)) (x : K) → SameWeights K.eq w → IsSizedIdlePass K.eq w idle past self.old
+            → w x ≡ weight → IsTrue (Q.equivalent key x)
+            → IfOk result (λ s. IfSome s (λ t. t ≡ reuse_by K.eq (span K.eq w) idle (x, time) past)) }
+        ensures taken { (w : K → ℕ) (idle : ℕ) (past : List (K × ℕ)) (x : K) → SameWeights K.eq w → IsSizedIdlePass K.eq w idle past self.old
+            → w x ≡ weight → IsTrue (Q.equivalent key x)
+            → IfOk result (λ s. IsSome s → IsSizedIdlePass K.eq w idle ((x, time) ∷ past) self.new) }
+        ensures known { IfOk result (λ s. is_some s ≡ is_some (lookup (Q.equivalent key) self.old.seen)) }
+        ensures size { IfOk result (λ s. IsSome s → self.new.size ≡ self.old.size + (1 + weight)) }
+        ensures not_taken { IfOk result (λ s. IsNone s → self.new ≡ self.old) }
+        ensures refused { OnErr result (self.new ≡ self.old) }
+        ensures given_back { IfErr result (λ e. key_of e ≡ key) }
+        ensures too_large { IsErrAnd result IsTooLarge ↔ (2 ^ 64 ≤ self.old.size + (1 + weight)) }
+    {
+        if weight >= usize::MAX - self.size {
+            return Err(SizedRequestError::TooLarge(key));
+        }
+        let size = weight + 1;
+        let greatest = greater(self.greatest, weight);
+        let Ok(()) = self.latest.make_ready() else {
+            return Err(SizedRequestError::NoMemory(key));
+        };
+        let Ok(()) = self.hits.reserve(1) else {
+            return Err(SizedRequestError::NoMemory(key));
+        };
+        let position = self.latest.requests;
+        let here = Seen { position, time };
+        let Some(before) = move_position(&mut self.seen, key, here) else {
+            return Ok(None);
+        };
+        let span = self.latest.remove(before.position);
+        self.latest.push(size);
+        self.latest.drop_empty();
+        let soon = is_soon(self.limit, before.time, time);
+        let reuse = hit_if(&mut self.hits, soon, span, size);
+        self.size += size;
+        self.greatest = greatest;
+        Ok(Some(reuse))
+    }
+
+    /// Takes one more request, of a key that was not requested before.
+    fn request_new(&mut self, key: K, time: usize, weight: usize) -> Result<(), K>
+    where
+        K: Drop,
+        requires new { lookup (K.eq key) self.old.seen ≡ None }
+        requires fits { self.old.size + (1 + weight) < 2 ^ 64 }
+        ensures taken { (w : K → ℕ) (idle : ℕ) (past : List (K × ℕ)) → SameWeights K.eq w → IsSizedIdlePass K.eq w idle past self.old
+            → w key ≡ weight → OnOk result (IsSizedIdlePass K.eq w idle ((key, time) ∷ past) self.new) }
+        ensures size { OnOk result (self.new.size ≡ self.old.size + (1 + weight)) }
+        ensures refused { OnErr result (self.new ≡ self.old) }
+        ensures given_back { IfErr result (λ back. back ≡ key) }
+    {
+        let greatest = greater(self.greatest, weight);
+        let Ok(()) = self.latest.make_ready() else {
+            return Err(key);
+        };
+        double_if_full(&mut self.seen);
+        let position = self.latest.requests;
+        let here = Seen { position, time };
+        if let Err((key, _)) = self.seen.put(key, here) {
+            return Err(key);
+        }
+        self.latest.push(weight + 1);
+        self.size += weight + 1;
+        self.greatest = greatest;
+        Ok(())
+    }
+
+    /// Returns the curve of the requests so far.
+    /// Cost: a sort of the spans; no request for memory.
+    pub fn into_curve(self) -> SizedCurve<A>
+    where
+        K: Drop,
+        S: Drop,
+        ensures { (w : K → ℕ) (idle : ℕ) (past : List (K × ℕ)) → IsSizedIdlePass K.eq w idle past self
+            → IsSizedIdleCurveOf K.eq w idle (reverse past) result }
+    {
+        let SizedIdlePass {
+            seen: _,
+            latest,
+            hits,
+            size,
+            greatest,
+            limit: _,
+        } = self;
+        SizedCurve::from_hits(hits, latest.requests, size, latest.total(), greatest)
+    }
+}
+
+/// Notes a request as a hit from its span on, and returns that, if the request came soon enough.
+fn hit_if<A: Allocator>(
+    hits: &mut Vec<Step, A>,
+    soon: bool,
+    span: usize,
+    size: usize,
+) -> Option<usize>
+    requires room { vec_len hits.old < vec_capacity hits.old }
+    ensures hits { hits.new.items ≡ if soon then hits.old.items ++ step span size ∷ [] else hits.old.items }
+    ensures span { result ≡ if soon then Some span else None }
+{
+    if !soon {
+        return None;
+    }
+    hits.push_reserved(Step {
+        capacity: span,
+        missed_size: size,
+    });
+    Some(span)
+}
