@@ -98,7 +98,7 @@ const cases = [
     ["a table", [], plain], ["a picture", ["--svg"], plain], ["the least", ["--least"], plain], ["all", ["--all"], plain],
     ["at", ["--at", "3,100", "--at=64"], plain], ["a summary", ["--summary"], plain], ["a short log", ["--least", "--svg"], short],
     ["sizes", ["--sizes"], sized], ["all sizes", ["--sizes", "--all", "--svg"], sized], ["sizes at", ["--sizes", "--at=2KiB"], sized],
-    ["a floor", ["--floor", "--least", "--svg"], plain], ["floors by size", ["--floor", "--sizes", "--svg"], sized],
+    ["a floor", ["--floor", "--least", "--svg"], plain], ["requests after the first ones", ["--after", "100", "--svg"], plain], ["floors by size", ["--floor", "--sizes", "--svg"], sized],
     ["an empty log", [], Buffer.alloc(0)], ["bytes of any kind", [], Buffer.from([0, 255, 10, 195, 10, 0, 255, 10, 13])],
     ["help", ["--help"], short], ["the version", ["-V"], short],
     ["no such word", ["--no"], short], ["no capacity", ["--at", "0"], short], ["words that do not go together", ["--all", "--at=1"], short],

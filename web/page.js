@@ -269,6 +269,8 @@ function wordsOf() {
     const words = [];
     const at = $("at").value.trim();
     if (at) words.push("--at", at);
+    const after = $("after").value.trim();
+    if (after && after !== "0") words.push("--after", after);
     if ($("all").checked) words.push("--all");
     if ($("sizes").checked) words.push("--sizes");
     if ($("least").checked && !$("sizes").checked) words.push("--least");
@@ -356,6 +358,7 @@ function showReport(answered) {
     $("command").textContent = asked.command;
     $("copy").textContent = COPY;
     $("notes").textContent = notes(asked.cut).join("\n");
+    if (!/\n./.test(report.csv)) $("notes").append("\nNo request is left to count after the first ones.");
     $("state").textContent = `Done: read in ${answered.seconds[0]} s, counted in ${answered.seconds[1]} s.`;
     showRows();
     for (const id of ["mark", "slide", "mark-hint"]) show(id, false);
@@ -656,7 +659,7 @@ function begin() {
     };
     $("form").onchange = () => takeForm($("form").value);
     for (const id of ["keys", "size", "sizes", "heading", "answered", "queries"]) $(id).oninput = showColumns;
-    for (const id of ["at", "all", "least", "floor"]) $(id).oninput = markStale;
+    for (const id of ["at", "after", "all", "least", "floor"]) $(id).oninput = markStale;
     $("copy").onclick = copy;
     $("settings").onsubmit = run;
     $("stop").onclick = stop;

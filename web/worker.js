@@ -410,7 +410,7 @@ const tableOf = (picture) => picture.slice(picture.indexOf("<desc>\n") + 7, pict
 // the summary, which is a pass more.
 function wholeOf(program, picture, sizes) {
     if (!sizes.length) {
-        const words = />([\d,]+) requests?, ([\d,]+) distinct keys?</.exec(picture);
+        const words = />([\d,]+) requests?(?: after the first [\d,]+)?, ([\d,]+) distinct keys?/.exec(picture);
         const [, requests, distinct] = words.map((word) => Number(word.replaceAll(",", "")));
         return { requests, first: 1, last: distinct };
     }
@@ -423,10 +423,13 @@ function marksFor(program, picture, words) {
     const rows = rowsOf(tableOf(picture));
     if (!rows.length) return null;
     const sizes = words.filter((word) => word === "--sizes");
+    const after = words.includes("--after") ? words.slice(words.indexOf("--after")).slice(0, 2) : [];
+    // (a summary is of all requests, so it does not tell the bytes after the first ones)
+    if (sizes.length && after.length) return null;
     const whole = wholeOf(program, picture, sizes);
     whole.last = Math.max(whole.last, rows.at(-1)[0]);
     if (whole.last > Number.MAX_SAFE_INTEGER || whole.bytes > Number.MAX_SAFE_INTEGER) return null;
-    const marks = program.ask(["--at", markedBetween(whole.first, whole.last).join(","), ...sizes]);
+    const marks = program.ask(["--at", markedBetween(whole.first, whole.last).join(","), ...sizes, ...after]);
     return marks.status === 0 ? { ...whole, rows: rowsOf(marks.text) } : null;
 }
 

@@ -619,15 +619,26 @@ def knees_of(missed, table):
     }
 
 
+def with_one_size(requests):
+    """Each request with the greatest size that its key came with. A size of 0 counts as 1."""
+    greatest = {}
+    for key, takes in requests:
+        greatest[key] = max(takes, greatest.get(key, 1))
+    return [(key, greatest[key]) for key, _ in requests]
+
+
 def six_digits(part, whole):
     whole = max(whole, 1)
     number = (2 * 10 ** 6 * part + whole) // (2 * whole)
     return f"{number // 10 ** 6}.{number % 10 ** 6:06}"
 
 
-def report_of(requests, at, by_size):
-    """The table that clru_mrc makes of the requests: of the usual capacities, of `all`, or of these."""
-    misses, bytes_missed = falls_of(requests)
+def report_of(requests, at, by_size, after=0):
+    """The table that clru_mrc makes of the requests: of the usual capacities, of `all`, or of these. The first `after` are not counted."""
+    misses, bytes_missed = (
+        [number - first[min(capacity, len(first) - 1)] for capacity, number in enumerate(all_of)]
+        for all_of, first in zip(falls_of(requests), falls_of(requests[:after]))
+    )
     falling = bytes_missed if by_size else misses
     first, last = max(takes for _, takes in requests) if by_size else 1, len(misses) - 1
     rounds = (digit * 10 ** power for power in range(20) for digit in (1, 2, 5))
@@ -636,6 +647,8 @@ def report_of(requests, at, by_size):
     each = [first] + [capacity for capacity in range(first + 1, last + 1) if misses[capacity] < misses[capacity - 1]]
     middle = "missed_bytes,byte_miss_ratio,saved_per_byte" if by_size else "saved_per_key"
     lines, before = [f"capacity,misses,miss_ratio,{middle},knee"], 0
+    if misses[0] == 0:
+        return "\n".join(["status 0", *lines])
     for capacity in table if at is None else each if at == "all" else at:
         here = min(capacity, last)
         bytes_too = f"{bytes_missed[here]},{six_digits(bytes_missed[here], bytes_missed[0])}," if by_size else ""

@@ -13,7 +13,7 @@ use Rattle.clru.specs.Drops.{TakesOver, HandsOutTo, TakesEach}
 use Rattle.clru.specs.EntryMut.{index_of, length-with_value_at, index, pair, with_value}
 use Rattle.clru.specs.declared.entry.End.TheVariants.{Front, Back}
 use Rattle.clru.specs.declared.entry.EntryMut.{EntryMut}
-pub use Rattle.clru_model.proofs.Dropping.{length-weighted_drops}
+pub use Rattle.clru_model.proofs.Dropping.{length-weighted_drops, length-weighted_put}
 pub use Rattle.clru_model.proofs.EachEntry.{All-lookup, All-plain_put, All-touch, All-weighted_put, All-without}
 pub use Rattle.clru_model.proofs.Ends.{last_of-push}
 pub use Rattle.clru_model.proofs.Fronts.{first_key, plain_put-before}

@@ -206,6 +206,43 @@ static void see_floors_by_size(void) {
     }
 }
 
+/* Sizes of keys, the greatest of each, and the first index at which a key has another one than before. */
+static const struct {
+    const char *what;
+    size_t sizes_len, sizes[KEYS];
+    uint32_t code;
+    size_t greatest[KEYS], other;
+} of_sizes[] = {
+    {"a size of 0 behind others", KEYS, SIZES, CLRU_OK, {2, 3, 2, 4, 3, 2, 5, 2, 3, 1}, 7},
+    {"one size each", KEYS, {2, 3, 2, 4, 3, 2, 5, 2, 3, 1}, CLRU_OK, {2, 3, 2, 4, 3, 2, 5, 2, 3, 1}, KEYS},
+    {"sizes that rise and fall", KEYS, {5, 0, 9, 0, 0, 7, 0, SIZE_MAX, 1, 0}, CLRU_OK,
+     {SIZE_MAX, 1, SIZE_MAX, 0, 1, SIZE_MAX, 0, SIZE_MAX, 1, 0}, 2},
+    {"a size too few", KEYS - 1, SIZES, CLRU_WRONG_LENGTH, {0}, 0},
+};
+
+static void see_one_size(void) {
+    for (size_t row = 0; row < sizeof of_sizes / sizeof *of_sizes; row++) {
+        for (size_t seed = 0; seed < SEEDS; seed++) {
+            bool is_ok = of_sizes[row].code == CLRU_OK;
+            size_t sizes[KEYS];
+            memcpy(sizes, of_sizes[row].sizes, sizeof sizes);
+            uint32_t code = clru_greatest_sizes(keys, KEYS, seeds[seed].low, seeds[seed].high, sizes, of_sizes[row].sizes_len);
+            if (code != of_sizes[row].code
+                || memcmp(sizes, is_ok ? of_sizes[row].greatest : of_sizes[row].sizes, sizeof sizes) != 0) {
+                fprintf(stderr, "answers: the greatest of %s, seed %zu: code %u\n", of_sizes[row].what, seed, code);
+                faults++;
+            }
+            Arrays wanted = before;
+            if (is_ok) {
+                wanted.number = of_sizes[row].other;
+            }
+            code = clru_other_size(keys, KEYS, of_sizes[row].sizes, of_sizes[row].sizes_len, seeds[seed].low, seeds[seed].high,
+                                   &found.number);
+            see(of_sizes[row].what, seed, code, of_sizes[row].code, &wanted);
+        }
+    }
+}
+
 /* The first misses nothing less below 3 units, so steps by slope would give it none; SIZE_MAX is no cache. */
 static const struct {
     const char *what;
@@ -244,6 +281,7 @@ int main(void) {
     see_floors();
     see_by_size();
     see_floors_by_size();
+    see_one_size();
     see_parts();
     return faults != 0;
 }

@@ -67,7 +67,7 @@ static void expect(bool holds, const char *what) {
 static uint64_t keys[KEYS];
 static size_t misses[KEYS], missed_sizes[KEYS], least[2], number;
 static bool hits[KEYS];
-static size_t sizes[KEYS], capacities[KEYS];
+static size_t sizes[KEYS], greatest[KEYS], capacities[KEYS];
 static const size_t rooms[2] = {3, 70};
 
 /* Arrays that no call has written. */
@@ -128,6 +128,14 @@ static void codes_of_sizes(void) {
     expect(untouched(), "something was written with a code by size");
 }
 
+/* The greatest sizes, of so many. Nothing is written where there is none. */
+static uint32_t greatest_sizes(size_t sizes_len, uint64_t low) {
+    memcpy(greatest, sizes, sizeof sizes);
+    uint32_t code = clru_greatest_sizes(keys, KEYS, low, 0, greatest, sizes_len);
+    expect(code == CLRU_OK || memcmp(greatest, sizes, sizeof sizes) == 0, "sizes were written with a code");
+    return code;
+}
+
 static void codes_of_arguments(void) {
     reset();
     expect(clru_hits_at(keys, KEYS, 0, 0, 0, hits, KEYS, &number) == CLRU_NO_CAPACITY, "a capacity of 0");
@@ -139,6 +147,8 @@ static void codes_of_arguments(void) {
     expect(clru_floor_by_room(keys, KEYS, (size_t[]){3, 0}, 2, 0, 0, least, 2) == CLRU_NO_CAPACITY, "a room of 0 for a floor");
     expect(clru_floor_by_room(keys, KEYS, rooms, 2, 0, 0, least, 1) == CLRU_WRONG_LENGTH, "floors too short");
     expect(clru_split(sizes, KEYS, KEYS / 2, least, 2) == CLRU_WRONG_LENGTH, "rows too short");
+    expect(greatest_sizes(KEYS - 1, 0) == CLRU_WRONG_LENGTH, "too few sizes to take the greatest of");
+    expect(clru_other_size(keys, KEYS - 1, sizes, KEYS, 0, 0, &number) == CLRU_WRONG_LENGTH, "too many sizes to compare");
     expect(untouched(), "something was written with a code");
 }
 
@@ -156,6 +166,10 @@ static uint32_t call(int which, uint64_t low) {
         return clru_floor_by_size(keys, KEYS, sizes, KEYS, capacities, KEYS, low, 0, misses, KEYS, missed_sizes, KEYS);
     case 5:
         return clru_split(sizes, KEYS, KEYS / 2 - 1, least, 2);
+    case 6:
+        return greatest_sizes(KEYS, low);
+    case 7:
+        return clru_other_size(keys, KEYS, greatest, KEYS, low, 0, &number);
     default:
         return clru_least_by_room(keys, KEYS, rooms, 2, low, 0, least, 2);
     }
@@ -165,12 +179,13 @@ static uint32_t call(int which, uint64_t low) {
 static const struct {
     const char *name;
     size_t requests, bytes;
-} needs[7] = {{"hits", 3, 644}, {"misses", 20, 24752}, {"misses by size", 30, 65264}, {"floors", 33, 39176}, {"floors by size", 35, 56920},
-              {"parts", 39, 44768}, {"least", 30, 28976}};
+} needs[9] = {{"hits", 3, 644}, {"misses", 20, 24752}, {"misses by size", 30, 65264}, {"floors", 33, 39176}, {"floors by size", 35, 56920},
+              {"parts", 39, 44768}, {"greatest sizes", 24, 17960}, {"another size", 24, 17960},
+              {"least", 28, 20120}};
 
 /* Refuses each request for memory in turn with all behind it, until the call meets no refusal. */
 static void code_of_refused_memory(uint64_t low) {
-    for (int which = 0; which < 7; which++) {
+    for (int which = 0; which < 9; which++) {
         for (size_t granted = 0;; granted++) {
             reset();
             requested = requested_bytes = 0;
@@ -220,6 +235,28 @@ static void sizes_of_1_agree(uint64_t low) {
     }
 }
 
+/* With the greatest sizes each key has one, and the size of the distinct keys is that of each once. */
+static void one_size_agrees(uint64_t low) {
+    expect(clru_other_size(keys, KEYS, sizes, KEYS, low, low, &number) == CLRU_OK && number < KEYS
+               && keys[number] == keys[0] && sizes[number] != sizes[0], "another size");
+    expect(clru_greatest_sizes(keys, KEYS, low, low, memcpy(greatest, sizes, sizeof sizes), KEYS) == CLRU_OK, "greatest sizes");
+    expect(clru_other_size(keys, KEYS, greatest, KEYS, low, low, &number) == CLRU_OK && number == KEYS, "one size each");
+    size_t whole = 0;
+    for (size_t i = 0; i < KEYS; i++) {
+        size_t first = 0, most = 0;
+        while (keys[first] != keys[i]) {
+            first++;
+        }
+        for (size_t j = 0; j < KEYS; j++) {
+            most = keys[j] == keys[i] && sizes[j] > most ? sizes[j] : most;
+        }
+        expect(greatest[i] == most, "the greatest size of a key");
+        whole += first == i ? (most > 0 ? most : 1) : 0;
+    }
+    expect(clru_misses_by_size(keys, KEYS, greatest, KEYS, capacities, KEYS, low, low, misses, KEYS, missed_sizes, KEYS, &number)
+               == CLRU_OK && number == whole, "the size of the keys of one size");
+}
+
 /* Without keys no call asks for memory. */
 static void no_keys(void) {
     passing = 0;
@@ -231,6 +268,8 @@ static void no_keys(void) {
                && number == 0 && misses[0] == 0 && missed_sizes[0] == 0, "misses by size of no keys");
     expect(clru_floor_by_size(keys, 0, sizes, 0, capacities, 1, 0, 0, misses, 1, missed_sizes, 1) == CLRU_OK
                && misses[0] == 0 && missed_sizes[0] == 0, "the floors by size of no keys");
+    expect(clru_greatest_sizes(keys, 0, 0, 0, sizes, 0) == CLRU_OK, "the greatest sizes of no keys");
+    expect(clru_other_size(keys, 0, sizes, 0, 0, 0, &number) == CLRU_OK && number == 0, "another size of no keys");
     passing = (size_t)-1;
 }
 
@@ -250,6 +289,8 @@ int main(void) {
     calls_agree(0);
     calls_agree(0x1234567890abcdefu);
     no_keys();
+    one_size_agrees(0);
+    one_size_agrees(0x1234567890abcdefu);
     sizes_of_1_agree(0);
     sizes_of_1_agree(0x1234567890abcdefu);
     return faults != 0;

@@ -188,6 +188,17 @@ static Range of_floors(int are_by_size) {
     return range;
 }
 
+/* For each distinct key, whose sizes alone are looked at. */
+static Range of_one_size(void) {
+    Range range = nothing();
+    for (size_t count = 65; count <= MANY; count = next(count)) {
+        fill(count, count);
+        take(&range, (double)held_by(clru_greatest_sizes(keys, count, 0, 0, sizes, count)) / count);
+        take(&range, (double)held_by(clru_other_size(keys, count, sizes, count, 0, 0, &number)) / count);
+    }
+    return range;
+}
+
 /* Numbers that fall to 0, of 2 to 100 caches. */
 static Range of_parts(void) {
     Range range = nothing();
@@ -221,7 +232,7 @@ static void see_many(void) {
     curve_by_size(MANY);
     see_requested("misses by size", 57, 19074352);
     held_by(clru_least_by_room(keys, MANY, &room, 1, 0, 0, &least, 1));
-    see_requested("least", 60, 5497568);
+    see_requested("least", 59, 4876840);
 }
 
 int main(void) {
@@ -237,6 +248,7 @@ int main(void) {
     print("least: ", of_least(), "bytes for each request");
     print("floors: ", of_floors(0), "bytes for each request of a floor in keys");
     print("floors: ", of_floors(1), "bytes for each request of floors by size");
+    print("one size: ", of_one_size(), "bytes for each distinct key with a size");
     print("parts: ", of_parts(), "bytes for each of the numbers");
     return faults != 0;
 }

@@ -48,6 +48,9 @@ def sized():
         sys.exit(f"refused: the misses of several sizes are {several}, and of one {one}")
     seen("the key 1 has the sizes 5 and 9: clru.one_size(keys, sizes)", clru.one_size, keys, sizes, True)
     seen("lengths", clru.one_size, keys, [1])
+    seen("lengths", clru.other_size, keys, [1])
+    if (clru.other_size(keys, sizes), clru.other_size(keys, clru.one_size(keys, sizes)), sizes) != (2, None, [5, 6, 9, 6, 7]):
+        sys.exit(f"refused: the first key with another size is that of request {clru.other_size(keys, sizes)}")
 
 
 def main():
@@ -78,6 +81,8 @@ def main():
         seen("a seed is two numbers", clru.floor_by_room, [1, 2], [1], seed)
         seen("a seed is two numbers", clru.floor_by_size, [1, 2], [3, 4], [8], seed)
         seen("a seed is two numbers", clru.misses_by_size, [1, 2], [3, 4], [8], seed)
+        seen("a seed is two numbers", clru.one_size, [1, 2], [3, 4], False, seed)
+        seen("a seed is two numbers", clru.other_size, [1, 2], [3, 4], seed)
     seen("lengths", clru.split, [[9, 1], [9]], 1)
     seen("from 0 to 2^64 - 1", clru.split, [[9]], 2**64)
     if list(clru.split([[9, 9, 1], [9, 8, 8]], 2)) != [2, 0] or list(clru.split([], 7)):

@@ -10,7 +10,7 @@
 #define SLOWER 5
 
 /* From the fourth on a call has a table of std. */
-enum { HITS, CURVE, BY_SIZE, LEAST, FLOOR, FLOOR_BY_SIZE };
+enum { HITS, CURVE, BY_SIZE, LEAST, FLOOR, FLOOR_BY_SIZE, GREATEST, OTHER };
 
 typedef struct {
     uint64_t low, high;
@@ -117,6 +117,13 @@ static size_t call(int which, Seed seed, const uint64_t keys[KEYS]) {
     case FLOOR_BY_SIZE:
         code = clru_floor_by_size(keys, KEYS, sizes, KEYS, &capacity, 1, seed.low, seed.high, &distinct, 1, missed_sizes, 1);
         break;
+    case GREATEST:
+        code = clru_greatest_sizes(keys, KEYS, seed.low, seed.high, sizes, KEYS);
+        distinct = KEYS;
+        break;
+    case OTHER:
+        code = clru_other_size(keys, KEYS, sizes, KEYS, seed.low, seed.high, &distinct);
+        break;
     default:
         code = clru_least_by_room(keys, KEYS, &capacity, 1, seed.low, seed.high, &distinct, 1);
     }
@@ -181,5 +188,7 @@ int main(void) {
     see(LEAST, "clru_least_by_room");
     see(FLOOR, "clru_floor_by_room");
     see(FLOOR_BY_SIZE, "clru_floor_by_size");
+    see(GREATEST, "clru_greatest_sizes");
+    see(OTHER, "clru_other_size");
     return faults != 0;
 }

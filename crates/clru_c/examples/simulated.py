@@ -40,6 +40,14 @@ def main():
         found = [(int(a), int(b)) for a, b in zip(misses, missed)]
         if found != wanted or distinct_size != whole:
             sys.exit(f"simulated: {found} and {distinct_size} with seed {seed}, and not {wanted} and {whole}")
+        most, first = {}, {}
+        for key, size in requests:
+            most[key] = max(size, most.get(key, 0))
+        if list(clru.one_size(keys, sizes, seed=seed)) != [most[key] for key in keys]:
+            sys.exit(f"simulated: other greatest sizes with seed {seed}")
+        others = (at for at, (key, size) in enumerate(requests) if first.setdefault(key, size) != size)
+        if clru.other_size(keys, sizes, seed) != next(others, None):
+            sys.exit(f"simulated: another first size that differs, with seed {seed}")
     print("capacity,misses,missed_size")
     for capacity, numbers in zip(capacities, wanted):
         print(capacity, *numbers, sep=",")

@@ -91,7 +91,7 @@ uint32_t clru_misses_by_capacity(const uint64_t *keys, size_t keys_len, uint64_t
  *
  * Codes: CLRU_NO_CAPACITY, CLRU_WRONG_LENGTH, CLRU_NO_MEMORY.
  * Cost: a look-up for each request, once; and for each room a pass whose steps go with the logarithm of the number of requests.
- * Memory: 13 to 75 bytes for each request. */
+ * Memory: 4 to 75 bytes for each request. */
 uint32_t clru_least_by_room(const uint64_t *keys, size_t keys_len, const size_t *rooms, size_t rooms_len,
                             uint64_t seed_low, uint64_t seed_high, size_t *least, size_t least_len);
 
@@ -114,7 +114,8 @@ uint32_t clru_floor_by_room(const uint64_t *keys, size_t keys_len, const size_t 
  *
  * A capacity is a sum of sizes, in bytes say. sizes has as many elements as keys: sizes[i] is the size of what request i asks for.
  * A key that comes with another size is another object, so that a size never changes: two sizes of one key are two objects. Neither
- * is a hit for the other, both take room, and both count in *distinct_size. A size of 0 counts as 1.
+ * is a hit for the other, both take room, and both count in *distinct_size. clru_greatest_sizes gives each key one size. A size of
+ * 0 counts as 1.
  *
  * misses and missed_sizes have as many elements as capacities: misses[i] is the number of requests that miss at capacities[i], and
  * missed_sizes[i] the sum of their sizes. Capacities may come in any order, and twice. *distinct_size is the sum of the sizes of
@@ -152,6 +153,31 @@ uint32_t clru_misses_by_size(const uint64_t *keys, size_t keys_len, const size_t
 uint32_t clru_floor_by_size(const uint64_t *keys, size_t keys_len, const size_t *sizes, size_t sizes_len,
                             const size_t *rooms, size_t rooms_len, uint64_t seed_low, uint64_t seed_high,
                             size_t *misses, size_t misses_len, size_t *missed_sizes, size_t missed_sizes_len);
+
+/* One size for each key: the greatest that it comes with. To the two calls above a key with two sizes is two objects, as in a log
+ * whose transfers were broken off. Call this one before them, or clru_other_size to refuse such keys.
+ *
+ * sizes has as many elements as keys, and is read and written: sizes[i] becomes the greatest of all sizes[j] with
+ * keys[j] == keys[i].
+ *
+ * Proved: each sizes[i] is that number.
+ *
+ * Codes: CLRU_WRONG_LENGTH, CLRU_NO_MEMORY.
+ * Cost: up to three look-ups for each request. Memory: 35 to 71 bytes for each distinct key with a size. */
+uint32_t clru_greatest_sizes(const uint64_t *keys, size_t keys_len, uint64_t seed_low, uint64_t seed_high,
+                             size_t *sizes, size_t sizes_len);
+
+/* Whether each key has one size: *index is that of the first request whose key came before it with another size, or keys_len if
+ * there is none.
+ *
+ * sizes has as many elements as keys.
+ *
+ * Proved: *index is that number.
+ *
+ * Codes: CLRU_WRONG_LENGTH, CLRU_NO_MEMORY.
+ * Cost: a look-up for each request. Memory: 35 to 71 bytes for each distinct key with a size. */
+uint32_t clru_other_size(const uint64_t *keys, size_t keys_len, const size_t *sizes, size_t sizes_len,
+                         uint64_t seed_low, uint64_t seed_high, size_t *index);
 
 /* One budget for several caches: how much of it each gets, so that together they miss the least.
  *

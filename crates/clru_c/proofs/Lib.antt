@@ -3,3 +3,4 @@ mod Floored
 mod Marked
 mod MissRows
 mod Objects
+mod OneSize

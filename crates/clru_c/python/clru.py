@@ -104,20 +104,24 @@ def numbered(names):
     return _numbers([numbers.setdefault(name, len(numbers)) for name in names])
 
 
-def one_size(keys, sizes, refuse=False):
+def one_size(keys, sizes, refuse=False, seed=SEED):
     """The sizes, where each key has the greatest that it came with: to the calls above two sizes of a key are two objects. With
-    `refuse` such a key is refused instead. (No proof is of this one.)"""
-    keys, sizes = _numbers(keys), _numbers(sizes)
-    if len(keys) != len(sizes):
-        raise ValueError(CODES[2])
-    greatest = {}
-    for key, size in zip(keys, sizes):
-        held = greatest.setdefault(key, size)
-        if refuse and held != size:
-            raise ValueError(f"the key {key} has the sizes {held} and {size}: clru.one_size(keys, sizes) takes the greatest")
-        if held < size:
-            greatest[key] = size
-    return _numbers([greatest[key] for key in keys])
+    `refuse` such a key is refused instead."""
+    keys, sizes = _numbers(keys), _copied(sizes)
+    if not refuse:
+        _call("clru_greatest_sizes", keys, *_words(seed), sizes)
+    elif (other := other_size(keys, sizes, seed)) is not None:
+        key, size = keys[other], sizes[other]
+        held = next(size for before, size in zip(keys, sizes) if before == key)
+        raise ValueError(f"the key {key} has the sizes {held} and {size}: clru.one_size(keys, sizes) takes the greatest")
+    return sizes
+
+
+def other_size(keys, sizes, seed=SEED):
+    """The index of the first request whose key came before it with another size, or None."""
+    keys, sizes, index = _numbers(keys), _numbers(sizes), ctypes.c_size_t()
+    _call("clru_other_size", keys, sizes, *_words(seed), index)
+    return index.value if index.value < len(keys) else None
 
 
 # Arguments as the calls take them: an array as a pointer and a length, a place for a count as a pointer, a number as a whole word, which
@@ -180,6 +184,11 @@ def _numbers(values):
     if numpy is not None:
         return numpy.fromiter(map(_whole, values), dtype=numpy.uint64, count=len(values))
     return (ctypes.c_uint64 * len(values))(*map(_whole, values))
+
+
+def _copied(values):
+    values = _numbers(values)
+    return values.copy() if numpy is not None else type(values)(*values)
 
 
 def _zeros(count, kind=ctypes.c_uint64):

@@ -1,4 +1,5 @@
 pub mod Arrays
 pub mod Codes
 pub mod Objects
+pub mod OneSize
 pub mod Parts

@@ -6,6 +6,7 @@ ghost use Rattle.std.specs.List.{zip};
 ghost use Rattle.clru_c.specs.Arrays.{AreFloors, AreHits, AreLeast, AreSizeFloors, IsCurve};
 ghost use Rattle.clru_c.specs.Codes.{IsCode};
 ghost use Rattle.clru_c.specs.Objects.{AreSizedMisses, IsFloorCode, IsSizedCode, same_object, weight_of};
+ghost use Rattle.clru_c.specs.OneSize.{first_other, greatest_of_each};
 ghost use Rattle.clru_c.specs.Parts.{missed_without, missed_with, rows_of};
 ghost use Rattle.clru_split.specs.Splits.{IsBestSplit};
 
@@ -13,6 +14,7 @@ use crate::arrays::{hits_at, least_by_room, misses_by_capacity};
 use crate::codes::{NO_MEMORY, OK};
 use crate::floors::{floor_by_room, floor_by_size};
 use crate::keyed::seeded;
+use crate::one_size::{greatest_sizes, other_size};
 use crate::parts::parts_of;
 use crate::sized::misses_by_size;
 use clru::DefaultState;
@@ -165,6 +167,48 @@ pub extern "C" fn clru_floor_by_size(
     match seeded(seed_low, seed_high) {
         None => floor_by_size(alloc, keys, sizes, rooms, misses, sums, DefaultState),
         Some(state) => floor_by_size(&alloc, keys, sizes, rooms, misses, sums, state),
+    }
+}
+
+/// Replaces each size by the greatest size that its key comes with.
+#[unsafe(no_mangle)]
+pub extern "C" fn clru_greatest_sizes(
+    alloc: Global,
+    keys: &[u64],
+    seed_low: u64,
+    seed_high: u64,
+    sizes: &mut [usize],
+) -> u32
+    ensures greatest { result ≡ OK → sizes.new ≡ greatest_of_each keys.now sizes.old }
+    ensures left { result ≢ OK → sizes.new ≡ sizes.old }
+    ensures codes { IsCode ⊥ (length sizes.old ≡ length keys.now) result }
+    ensures never_refused { keys.now ≡ [] → result ≢ NO_MEMORY }
+    ensures length { length sizes.new ≡ length sizes.old }
+{
+    match seeded(seed_low, seed_high) {
+        None => greatest_sizes(alloc, keys, sizes, DefaultState),
+        Some(state) => greatest_sizes(&alloc, keys, sizes, state),
+    }
+}
+
+/// Writes the index of the first request whose key came before with another size, or how many requests there are.
+#[unsafe(no_mangle)]
+pub extern "C" fn clru_other_size(
+    alloc: Global,
+    keys: &[u64],
+    sizes: &[usize],
+    seed_low: u64,
+    seed_high: u64,
+    index: &mut usize,
+) -> u32
+    ensures other { result ≡ OK → index.new ≡ first_other [] (zip keys.now sizes.now) }
+    ensures left { result ≢ OK → index.new ≡ index.old }
+    ensures codes { IsCode ⊥ (length sizes.now ≡ length keys.now) result }
+    ensures never_refused { keys.now ≡ [] → result ≢ NO_MEMORY }
+{
+    match seeded(seed_low, seed_high) {
+        None => other_size(alloc, keys, sizes, index, DefaultState),
+        Some(state) => other_size(&alloc, keys, sizes, index, state),
     }
 }
 

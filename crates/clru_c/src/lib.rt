@@ -8,5 +8,6 @@ mod codes;
 mod exports;
 mod floors;
 mod keyed;
+mod one_size;
 mod parts;
 mod sized;

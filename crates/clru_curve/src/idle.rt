@@ -1,5 +1,5 @@
 //! `IdlePass`, which takes requests with times, and counts a reuse after too long as a first request.
-ghost use Rattle.std.specs.Prelude.{◌≡◌, ℕ, ◌+◌, ◌^◌, ◌<◌, List, [], ◌∷◌, length, reverse, slice_index, slice_set, IfOk, IfErr, IfSome, OnOk, OnErr, IsNone, IsSome, IsTrue, None, Some, is_some, false, if◌then◌else◌};
+ghost use Rattle.std.specs.Prelude.{◌≡◌, ℕ, ◌+◌, ◌^◌, ◌<◌, List, [], ◌∷◌, length, reverse, slice_index, slice_set, ◌%◌, IfOk, IfErr, IfSome, OnOk, OnErr, IsOk, IsNone, IsSome, IsTrue, None, Some, is_some, true, false, if◌then◌else◌};
 ghost use Rattle.std.specs.List.{list_any};
 ghost use Rattle.std.specs.Map.{keys_of};
 ghost use Rattle.clru_model.specs.Requests.{holds, distinct};
@@ -9,9 +9,9 @@ ghost use Rattle.clru_curve.specs.Seen.{reuse_by};
 
 use crate::curve::MissCurve;
 use crate::latest::Latest;
-use crate::pass::{double_if_full, misses_of, move_position, no_positions};
+use crate::pass::{copied, double_if_full, misses_of, move_position, no_positions};
 use crate::seen::{Seen, is_soon};
-use clru::{CLruCache, DefaultState, ZeroWeightScale};
+use clru::{CLruCache, DefaultState, NoMemory, ZeroWeightScale};
 use std::alloc::{Allocator, Global};
 use std::collections::hash_map::Equivalent;
 use std::hash::{BuildHasher, Hash};
@@ -58,6 +58,16 @@ impl<K: Eq + Hash, S: BuildHasher, A: Allocator + Copy> Model for IdlePass<K, S,
         (timed_pass p.seen.entries p.latest.blocks.items p.latest.requests p.histogram.items p.limit) };
 }
 
+impl<K: Eq + Hash, A: Allocator + Copy> IdlePass<K, DefaultState, A> {
+    /// Creates a pass under this limit that has taken no request.
+    /// Cost: no request for memory.
+    pub fn new(alloc: A, limit: usize) -> Self
+        ensures { IsIdlePass K.eq limit [] result }
+    {
+        IdlePass::with_hasher(alloc, limit, DefaultState)
+    }
+}
+
 impl<K: Eq + Hash, S: BuildHasher, A: Allocator + Copy> IdlePass<K, S, A> {
     /// Creates a pass under this limit that has taken no request and hashes keys with `hash_builder`.
     /// Cost: no request for memory.
@@ -75,7 +85,8 @@ impl<K: Eq + Hash, S: BuildHasher, A: Allocator + Copy> IdlePass<K, S, A> {
     /// Takes one more request, at this time, and returns its distance, or `None` if its key was not requested before, or more than
     /// the limit ago. It hits at the capacities above the distance, and at no other.
     ///
-    /// If memory is refused, or there were `usize::MAX` requests, it returns the key, and the pass is unchanged.
+    /// If memory is refused, or there were `usize::MAX` requests, it returns the key, and the pass is unchanged. A key that was
+    /// requested before asks for memory at most once in 64 requests.
     /// Cost: that of the same call of a `DistancePass`.
     pub fn request(&mut self, key: K, time: usize) -> Result<Option<usize>, K>
     where
@@ -87,6 +98,8 @@ impl<K: Eq + Hash, S: BuildHasher, A: Allocator + Copy> IdlePass<K, S, A> {
         ensures refused { (idle : ℕ) (past : List (K × ℕ)) → IsIdlePass K.eq idle past self.old
             → OnErr result (IsIdlePass K.eq idle past self.new) }
         ensures given_back { IfErr result (λ back. back ≡ key) }
+        ensures memory { (idle : ℕ) (past : List (K × ℕ)) → IsIdlePass K.eq idle past self.old → holds K.eq key (keys_of past) ≡ true
+            → 0 < length past % 64 → length past + 1 < 2 ^ 64 → IsOk result }
     {
         // Its invariant says that some requests were taken.
         let _ = &self.seen;
@@ -122,6 +135,8 @@ impl<K: Eq + Hash, S: BuildHasher, A: Allocator + Copy> IdlePass<K, S, A> {
         ensures refused { (idle : ℕ) (past : List (K × ℕ)) → IsIdlePass K.eq idle past self.old
             → OnErr result (IsIdlePass K.eq idle past self.new) }
         ensures given_back { IfErr result (λ back. back ≡ key) }
+        ensures memory { (idle : ℕ) (past : List (K × ℕ)) → IsIdlePass K.eq idle past self.old
+            → 0 < length past % 64 → length past + 1 < 2 ^ 64 → IsOk result }
     {
         let Ok(()) = self.latest.make_ready() else {
             return Err(key);
@@ -185,6 +200,22 @@ impl<K: Eq + Hash, S: BuildHasher, A: Allocator + Copy> IdlePass<K, S, A> {
         } = self;
         misses_of(&mut histogram, latest.requests);
         MissCurve::from_misses(histogram)
+    }
+
+    /// Returns the curve of the requests so far, and lets the pass go on.
+    /// Cost: a step for each distinct key; one request for memory, of a number for each, and none without requests.
+    pub fn curve(&self, alloc: A) -> Result<MissCurve<A>, NoMemory>
+        ensures misses { (idle : ℕ) (past : List (K × ℕ)) → IsIdlePass K.eq idle past self.now
+            → IfOk result (λ c. HasIdleMissesOf K.eq idle (reverse past) c) }
+        ensures distinct { (idle : ℕ) (past : List (K × ℕ)) → IsIdlePass K.eq idle past self.now
+            → IfOk result (λ c. length c ≡ distinct K.eq (keys_of past)) }
+        ensures never_refused { (idle : ℕ) → IsIdlePass K.eq idle [] self.now → IsOk result }
+    {
+        let Ok(mut misses) = copied(alloc, &self.histogram) else {
+            return Err(NoMemory);
+        };
+        misses_of(&mut misses, self.latest.requests);
+        Ok(MissCurve::from_misses(misses))
     }
 }
 

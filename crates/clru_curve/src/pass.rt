@@ -159,8 +159,12 @@ impl<K: Eq + Hash, S: BuildHasher, A: Allocator + Copy> DistancePass<K, S, A> {
         self.positions.peek(key).copied()
     }
 
-    /// Takes one more request, of a key that was not requested before.
-    fn request_new(&mut self, key: K) -> Result<(), K>
+    /// Takes one more request, of a key that was not requested before, as `request_again` tells. Unlike `request` it does not look
+    /// the key up first.
+    ///
+    /// If memory is refused, or there were `usize::MAX` requests, it returns the key, and the pass is unchanged.
+    /// Cost: that of a `put`, and steps that grow as the logarithm of the number of requests.
+    pub fn request_new(&mut self, key: K) -> Result<(), K>
     where
         K: Drop,
         requires new { (past : List K) × IsPass K.eq past self.old × (holds K.eq key past ≡ false) }

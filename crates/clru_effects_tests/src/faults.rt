@@ -18,21 +18,25 @@ fn by_keys<A: Allocator>(least: bool, form: Form) -> Options<A> {
     Options {
         capacities: Capacities::Usual,
         sizes: false,
+        one_size: false,
         least,
         floor: false,
         sample: Sample::Whole,
+        after: None,
         form,
         look: plain(),
     }
 }
 
-fn by_size<A: Allocator>(form: Form) -> Options<A> {
+fn by_size<A: Allocator>(one_size: bool, form: Form) -> Options<A> {
     Options {
         capacities: Capacities::Each,
         sizes: true,
+        one_size,
         least: false,
         floor: true,
         sample: Sample::Whole,
+        after: None,
         form,
         look: plain(),
     }
@@ -138,16 +142,17 @@ fn each_refused_request_is_want_of_memory(rt: HostRuntime) {
         (false, false, Form::Summary, TEN),
         (false, true, Form::Picture, TEN),
         (true, false, Form::Table, SIZED),
+        (true, true, Form::Table, SIZED),
         (true, false, Form::Picture, SIZED),
     ];
-    for (sizes, least, form, input) in rows {
+    for (sizes, more, form, input) in rows {
         let mut met = 0;
         for n in 0..MOST {
             let heap = Rationed::new(rt.alloc());
             let options = if sizes {
-                by_size(form)
+                by_size(more, form)
             } else {
-                by_keys(least, form)
+                by_keys(more, form)
             };
             if !refused_after(&rt, &heap, n, &options, input, Vec::new(rt.alloc())) {
                 break;
@@ -172,9 +177,11 @@ fn within(
     let options = Options {
         capacities: Capacities::Usual,
         sizes,
+        one_size: false,
         least: least && !sizes,
         floor: false,
         sample: Sample::Whole,
+        after: None,
         form: Form::Table,
         look: plain(),
     };

@@ -1,25 +1,21 @@
 -- Schedules that may let keys pass by: they miss each key once, and one key more of room takes all keys in.
 use Rattle.std.proofs.Common.{◌≡◌, ℕ, ◌+◌, ◌≤◌, Bool, true, false}
 use Rattle.std.proofs.Common.{List, [], ◌∷◌, ◌++◌, length, reverse, refl, sym, ap, ◌∙◌, arith, append-nil}
-use Rattle.std.proofs.lemmas.Bool.{or_left, or_right}
 use Rattle.std.proofs.lemmas.List.{reverse-reverse}
 use Rattle.std.specs.Cmp.{IsEquivalence}
-use Rattle.std.specs.List.{list_all}
-use Rattle.clru_model.specs.Bypass.{ServesOrPasses, IsBypassSchedule, SchedulesMayPass, DistinctIsFloor, OneKeyMoreIsEnough}
+use Rattle.clru_model.specs.Bypass.{ServesOrPasses, SchedulesMayPass, DistinctIsFloor, OneKeyMoreIsEnough}
 use Rattle.clru_model.specs.Least.{RoomForAllHasDistinct}
 use Rattle.clru_model.specs.Requests.{holds, distinct, misses}
-use Rattle.clru_model.specs.Schedule.{Schedules, Serves, IsSchedule, schedule_misses}
+use Rattle.clru_model.specs.Schedule.{Schedules, Serves, schedule_misses}
 use Rattle.clru_model.specs.SizedSchedule.{schedule_missed_size}
 use Rattle.clru_model.specs.Sizes.{SameWeights, total}
 use Rattle.clru_model.proofs.Bound.{schedule_missed_weightless}
-use Rattle.clru_model.proofs.Distinct.{held_of_all}
-use Rattle.clru_model.proofs.Marks.{missed-le}
 use Rattle.clru_model.proofs.Cases.{split}
 use Rattle.clru_model.proofs.Distances.{misses-room}
 use Rattle.clru_model.proofs.Distinct.{total_mono, holds-append}
-use Rattle.clru_model.proofs.Marks.{count_by-not-cons}
 use Rattle.clru_model.proofs.Positions.{holds-reverse}
-use Rattle.clru_model.proofs.ReplaySchedules.{all_held, replay_attained}
+use Rattle.clru_model.proofs.ReplaySchedules.{replay_attained}
+use Rattle.clru_model.proofs.Taking.{seen_next, takes_all, takes_all_misses, with_latest}
 
 module _ {K : Type 0} (eq : K → K → Bool) where
   pub may_pass : (fits : List K → Type 0) (held : List (List K)) (rs : List K) → Schedules fits (Serves eq) held rs
@@ -32,24 +28,7 @@ module _ {K : Type 0} (eq : K → K → Bool) where
   pub schedules_may_pass : SchedulesMayPass eq
   schedules_may_pass h held rs sched = may_pass (λ ks. length ks ≤ h) held rs sched
 
-  bypass_short : (h : ℕ) (ks : List K) (later : List (List K)) (rs : List K) → IsBypassSchedule eq h (ks ∷ later) rs → length ks ≤ h
-  bypass_short h ks later [] sched = sched.0
-  bypass_short h ks later (x ∷ rs) sched = sched.0
-
-  -- what is held after each request, and the key of it
-  abbrev with_latest : List K → List (List K) → List (List K)
-  with_latest [] later = []
-  with_latest (x ∷ rs) [] = []
-  with_latest (x ∷ rs) (next ∷ later) = (x ∷ next) ∷ with_latest rs later
-
 module _ {K : Type 0} (eq : K → K → Bool) (laws : IsEquivalence eq) where
-  -- what is held after a request of x was seen before, or is x
-  seen_next : (x : K) (ks next seen : List K) → list_all (λ q. holds eq q (x ∷ ks)) next ≡ true
-      → ((z : K) → holds eq z ks ≡ true → holds eq z seen ≡ true) → (z : K) → holds eq z next ≡ true → holds eq z (x ∷ seen) ≡ true
-  seen_next x ks next seen all within z h =
-      let before = held_of_all eq laws next (x ∷ ks) all z h in
-      split (eq z x) (λ t. rw t refl) (λ f. rw f (within z (rw f at before)))
-
   module _ (weight : K → ℕ) (same : SameWeights eq weight) (fits : List K → Type 0) where
     -- the keys that were seen or are requested are those that were seen, and others that miss
     floor_after : (seen ks : List K) (later : List (List K)) (rs : List K)
@@ -58,7 +37,7 @@ module _ {K : Type 0} (eq : K → K → Bool) (laws : IsEquivalence eq) where
     floor_after seen ks later [] within sched = omega (arith, ap (total eq weight) (append-nil seen))
     floor_after seen ks [] (x ∷ rs) within sched = absurd sched.1
     floor_after seen ks (next ∷ later) (x ∷ rs) within sched =
-        let rest = floor_after (x ∷ seen) next later rs (seen_next x ks next seen sched.1 within) sched.2 in
+        let rest = floor_after (x ∷ seen) next later rs (seen_next eq laws x ks next seen sched.1 within) sched.2 in
         let moved = total_mono eq laws weight same (seen ++ x ∷ rs) (x ∷ (seen ++ rs)) (λ z g.
         let either = rw (holds-append eq z seen (x ∷ rs)) at g in
         rw (holds-append eq z seen rs) (split (eq z x) (λ t. rw t refl) (λ f. rw f (rw f at either)))) in
@@ -85,37 +64,12 @@ module _ {K : Type 0} (eq : K → K → Bool) (laws : IsEquivalence eq) where
   pub distinct_is_floor : DistinctIsFloor eq
   distinct_is_floor h schedule rs sched = misses_distinct (λ ks. length ks ≤ h) schedule rs sched
 
-  -- a schedule with room for one key more takes all keys in
-  takes_all : (h : ℕ) (ks front : List K) (later : List (List K)) (rs : List K) → length front ≤ h + 1
-      → ((z : K) → holds eq z ks ≡ true → holds eq z front ≡ true) → IsBypassSchedule eq h (ks ∷ later) rs
-      → IsSchedule eq (h + 1) (front ∷ with_latest eq rs later) rs
-  takes_all h ks front later [] short within sched = (short, refl)
-  takes_all h ks front [] (x ∷ rs) short within sched = absurd sched.1
-  takes_all h ks front (next ∷ later) (x ∷ rs) short within sched =
-      let few : length next ≤ h = bypass_short eq h next later rs sched.2 in
-      let in_front = seen_next x ks next front sched.1 within in
-      let all = all_held eq (x ∷ next) (x ∷ front) (λ z g. split (eq z x) (λ t. rw t refl) (λ f. in_front z (rw f at g))) laws in (
-        short,
-        (all, or_left (eq x x) (holds eq x next) (laws.refl x)),
-        takes_all h next (x ∷ next) later rs (omega arith) (λ z g. or_right (eq z x) (holds eq z next) g) sched.2,
-      )
-
-  -- and misses no more
-  takes_all_misses : (h : ℕ) (ks front : List K) (later : List (List K)) (rs : List K)
-      → ((z : K) → holds eq z ks ≡ true → holds eq z front ≡ true) → IsBypassSchedule eq h (ks ∷ later) rs
-      → schedule_misses eq (front ∷ with_latest eq rs later) rs ≤ schedule_misses eq (ks ∷ later) rs
-  takes_all_misses h ks front later [] within sched = omega arith
-  takes_all_misses h ks front [] (x ∷ rs) within sched = absurd sched.1
-  takes_all_misses h ks front (next ∷ later) (x ∷ rs) within sched =
-      let rest = takes_all_misses h next (x ∷ next) later rs (λ z g. or_right (eq z x) (holds eq z next) g) sched.2 in
-      rw (count_by-not-cons (holds eq x front), count_by-not-cons (holds eq x ks)) (split (holds eq x ks)
-      (λ t. rw (t, within x t) (omega (arith, rest)))
-      (λ f. rw f (omega (arith, rest, missed-le (holds eq x front) 1))))
-
   pub one_key_more_is_enough : OneKeyMoreIsEnough eq
   one_key_more_is_enough h n schedule rs sched least =
-      let taken = takes_all h [] [] schedule rs (omega arith) (λ z g. g) sched in
-      omega (arith, least.none_fewer (with_latest eq rs schedule) taken, takes_all_misses h [] [] schedule rs (λ z g. g) sched)
+      let taken = takes_all eq laws (λ ks. length ks ≤ h) (λ ks. length ks ≤ h + 1) [] [] schedule rs (omega arith)
+      (λ x next _ few. omega (arith, few)) (λ z g. g) sched in
+      let fewer = rw (schedule_missed_weightless, schedule_missed_weightless) at (takes_all_misses eq laws (λ _. 0) (λ ks. length ks ≤ h) [] [] schedule rs (λ z g. g) sched) in
+      omega (arith, least.none_fewer (with_latest eq rs schedule) taken, fewer)
 
   pub room_for_all_has_distinct : RoomForAllHasDistinct eq
   room_for_all_has_distinct h rs pos room =

@@ -1,12 +1,13 @@
 -- Pairs that are dropped from the back, one by one, and handed out.
 use Rattle.std.proofs.Common.{◌≡◌, ℕ, zero, suc, ◌+◌, ◌-◌, ◌<◌, ◌≤◌, Bool, None, Some, List, [], ◌∷◌, ◌++◌, length, take, drop, reverse, slice_get}
-use Rattle.std.proofs.Common.{refl, sym, ap, ◌∙◌, arith, append_assoc, take_all, length-drop}
+use Rattle.std.proofs.Common.{refl, sym, ap, ◌∙◌, arith, append_assoc, take_all, length-append, length-drop}
 use Rattle.std.specs.Map.{lookup_entry}
 use Rattle.std.specs.Option.{option_to_list}
 use Rattle.std.proofs.lemmas.List.{reverse-append, drop-append-le, length-reverse}
 use Rattle.std.proofs.Math.Seq.{drop-append_seam, drop-length}
-use Rattle.clru_model.specs.Entries.{without, fit, plain_drop, weighted_drops}
+use Rattle.clru_model.specs.Entries.{without, fit, plain_drop, weighted_drops, weighted_put}
 use Rattle.clru_model.proofs.Finding.{held_at, missed_at}
+use Rattle.clru_model.proofs.Fitting.{fit_is_longest}
 use Rattle.clru_model.proofs.PutSteps.{fit-weightless}
 use Rattle.clru_model.proofs.Sublists.{sublist_remove_entry, length-sublist}
 
@@ -54,3 +55,10 @@ pub length-weighted_drops : {K V : Type 0} (eq : K → K → Bool) (weight : K �
 length-weighted_drops eq weight c x v es =
     let rest = without eq x es in let kept = fit weight (c - 1 - weight x v) rest in
     omega (arith, length-reverse (drop (length kept) rest), length-drop (length kept) rest, length-sublist (sublist_remove_entry (eq x) es))
+
+-- and one entry at most comes in
+pub length-weighted_put : {K V : Type 0} (eq : K → K → Bool) (weight : K → V → ℕ) (c : ℕ) (x : K) (v : V) (es : List (K × V))
+    → length (weighted_put eq weight c x v es) ≤ length es + 1
+length-weighted_put eq weight c x v es =
+    let rest = without eq x es in let longest = fit_is_longest weight (c - 1 - weight x v) rest in
+    omega (arith, ap length longest.begins, length-append (fit weight (c - 1 - weight x v) rest) longest.rest, length-sublist (sublist_remove_entry (eq x) es))

@@ -53,6 +53,7 @@ pub mod Spans
 pub mod SpansByPosition
 pub mod Sublists
 pub mod Summing
+pub mod Taking
 pub mod Versions
 pub mod Views
 pub mod Wanted

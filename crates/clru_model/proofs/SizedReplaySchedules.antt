@@ -16,7 +16,7 @@ use Rattle.clru_model.proofs.ReplaySchedules.{all_held}
 
 module _ {K : Type 0} (eq : K → K → Bool) (laws : IsEquivalence eq) where
   -- a key is among those that pass a test where it passes and is there
-  holds-filter : (test : K → Bool) → ((y z : K) → eq y z ≡ true → test y ≡ test z) → (x : K) (ks : List K)
+  pub holds-filter : (test : K → Bool) → ((y z : K) → eq y z ≡ true → test y ≡ test z) → (x : K) (ks : List K)
       → holds eq x (filter test ks) ≡ (test x && holds eq x ks)
   holds-filter test alike x [] = split (test x) (λ t. rw t refl) (λ f. rw f refl)
   holds-filter test alike x (y ∷ ks) =
@@ -38,13 +38,13 @@ module _ {K : Type 0} (eq : K → K → Bool) (laws : IsEquivalence eq) where
 
 module _ {K : Type 0} (eq : K → K → Bool) (laws : IsEquivalence eq) (weight : K → ℕ) (same : SameWeights eq weight) (c : ℕ) where
   -- the keys that hit after the requests of the past, if they are requested next
-  abbrev spanned : List K → List K
+  abbrev pub spanned : List K → List K
   spanned past = filter (λ z. hit_by_size eq weight c z past) past
 
   hits_alike : (past : List K) (x y : K) → eq x y ≡ true → hit_by_size eq weight c x past ≡ hit_by_size eq weight c y past
   hits_alike past x y e = rw (holds_same eq laws x y past e, since_same eq laws weight same x y past e, same x y e) refl
 
-  holds_spanned : (past : List K) (x : K) → holds eq x (spanned past) ≡ hit_by_size eq weight c x past
+  pub holds_spanned : (past : List K) (x : K) → holds eq x (spanned past) ≡ hit_by_size eq weight c x past
   holds_spanned past x =
       holds-filter eq laws (λ z. hit_by_size eq weight c z past) (hits_alike past) x past
       ∙ split (holds eq x past) (λ t. rw t (split (leb (1 + weight x + total eq weight (since eq x past)) c) (λ u. rw u refl) (λ v. rw v refl))) (λ f. rw f refl)
@@ -74,11 +74,11 @@ module _ {K : Type 0} (eq : K → K → Bool) (laws : IsEquivalence eq) (weight 
       omega (arith, rw v at more, spans, ap (total eq weight) since_is, less))))
       (λ f. rw (split_off, f, append-nil kept) fits))
 
-  spanned_fits : (past : List K) → total eq weight (spanned past) ≤ c
+  pub spanned_fits : (past : List K) → total eq weight (spanned past) ≤ c
   spanned_fits past = spanned_from past [] past refl (omega arith)
 
   -- none comes in but the requested one
-  spanned_serves : (past : List K) (x z : K) → holds eq z (spanned (x ∷ past)) ≡ true → holds eq z (x ∷ spanned past) ≡ true
+  pub spanned_serves : (past : List K) (x z : K) → holds eq z (spanned (x ∷ past)) ≡ true → holds eq z (x ∷ spanned past) ≡ true
   spanned_serves past x z held =
       let hit = sym (holds_spanned (x ∷ past) z) ∙ held in
       split (eq z x) (λ t. rw t refl)
@@ -92,11 +92,11 @@ module _ {K : Type 0} (eq : K → K → Bool) (laws : IsEquivalence eq) (weight 
       rw f (holds_spanned past z ∙ and_from (holds eq z past) (leb (1 + weight z + total eq weight (since eq z past)) c) before low))
 
   -- the keys held after each request
-  abbrev replayed : List K → List K → List (List K)
+  abbrev pub replayed : List K → List K → List (List K)
   replayed past [] = []
   replayed past (x ∷ rs) = spanned (x ∷ past) ∷ replayed (x ∷ past) rs
 
-  replayed_serves : (past rs : List K) → IsBypassScheduleBySize eq weight c (spanned past ∷ replayed past rs) rs
+  pub replayed_serves : (past rs : List K) → IsBypassScheduleBySize eq weight c (spanned past ∷ replayed past rs) rs
   replayed_serves past [] = (spanned_fits past, refl)
   replayed_serves past (x ∷ rs) = (
     spanned_fits past,
@@ -108,7 +108,7 @@ module _ {K : Type 0} (eq : K → K → Bool) (laws : IsEquivalence eq) (weight 
   replayed_marks past [] = refl
   replayed_marks past (x ∷ rs) = cc (holds_spanned past x, replayed_marks (x ∷ past) rs)
 
-  replayed_misses : (past rs : List K) → schedule_missed_size eq weight (spanned past ∷ replayed past rs) rs ≡ missed_size_after eq weight c past rs
+  pub replayed_misses : (past rs : List K) → schedule_missed_size eq weight (spanned past ∷ replayed past rs) rs ≡ missed_size_after eq weight c past rs
   replayed_misses past [] = refl
   replayed_misses past (x ∷ rs) =
       ap (λ b. cond b 0 (1 + weight x) + schedule_missed_size eq weight (replayed past (x ∷ rs)) rs) (holds_spanned past x)

@@ -1,7 +1,7 @@
 //! What is noted of the lines of an input: how many there are, which one leads, and which is the first without a size.
 
 use crate::several::SizesOfKeys;
-use clru_report::size_of;
+use clru_report::{Options, Sample, size_of};
 use std::alloc::AllocError;
 use std::hash::RandomState;
 
@@ -9,7 +9,7 @@ use std::hash::RandomState;
 const MOST: usize = 4096;
 
 /// Fewer lines than this are no log, and what looks odd with them is not told.
-const FEW: u64 = 1000;
+pub(crate) const FEW: u64 = 1000;
 
 /// What is noted of the lines.
 #[derive(Drop)]
@@ -17,7 +17,13 @@ pub(crate) struct Lines {
     pub(crate) count: u64,
     pub(crate) empty: u64,
     pub(crate) returns: u64,
-    // The sizes of keys, where each line is to begin with one.
+    // So many of them come first, and are not counted in the report.
+    after: u64,
+    // The sizes of the counted lines together, where each is to begin with one.
+    pub(crate) size: u64,
+    // Whether each line is to begin with a size.
+    have_sizes: bool,
+    // The sizes of keys, where a key may have several.
     sizes: Option<SizesOfKeys>,
     // What is read of a line whose end is not read yet, and its last byte.
     begun: Vec<u8>,
@@ -34,12 +40,20 @@ pub(crate) struct Lines {
 }
 
 impl Lines {
-    pub(crate) fn new(rt: &HostRuntime, sizes: bool, seed: RandomState) -> Lines {
+    pub(crate) fn new(rt: &HostRuntime, options: &Options, seed: RandomState) -> Lines {
+        let after = match options.after {
+            Some(after) => after.get() as u64,
+            None => 0,
+        };
         Lines {
             count: 0,
+            after,
             empty: 0,
             returns: 0,
-            sizes: if sizes {
+            size: 0,
+            have_sizes: options.sizes,
+            // (of a sample no more is held than the sample)
+            sizes: if options.sizes && !options.one_size && options.sample == Sample::Whole {
                 Some(SizesOfKeys::new(rt, seed))
             } else {
                 None
@@ -109,16 +123,25 @@ impl Lines {
 
     // (the size stands among the bytes that are kept, or the line has none)
     fn note_size(&mut self) {
-        let Some(sizes) = &mut self.sizes else {
+        if !self.have_sizes {
             return;
-        };
-        if self.odd_number == 0 && size_of(&self.begun).is_none() {
-            self.odd_number = self.count;
-            let beginning = self.begun.get(..SHOWN).unwrap_or(&self.begun);
-            let _ = self.odd.extend_from_slice(beginning);
         }
-        if !self.is_long {
-            sizes.note(&self.begun);
+        match size_of(&self.begun) {
+            Some(size) if self.count > self.after => {
+                self.size = self.size.saturating_add(size.get() as u64);
+            }
+            Some(_) => {}
+            None if self.odd_number == 0 => {
+                self.odd_number = self.count;
+                let beginning = self.begun.get(..SHOWN).unwrap_or(&self.begun);
+                let _ = self.odd.extend_from_slice(beginning);
+            }
+            None => {}
+        }
+        if let Some(sizes) = &mut self.sizes {
+            if !self.is_long {
+                sizes.note(&self.begun);
+            }
         }
     }
 
@@ -133,6 +156,11 @@ impl Lines {
         } else {
             self.votes = self.votes.saturating_sub(1);
         }
+    }
+
+    /// How many lines the report counts.
+    pub(crate) fn counted(&self) -> u64 {
+        self.count.saturating_sub(self.after)
     }
 
     /// Whether there are so many that what looks odd with them is told.

@@ -2,6 +2,7 @@
 #![tactic(auto)]
 
 mod lines;
+mod ratio;
 mod several;
 mod watch;
 mod written;
@@ -78,12 +79,13 @@ fn run_command(rt: &HostRuntime, command: &Command, progress: bool) -> u8 {
 
 // Writes the report, tells what of its input looks wrong, and gives the exit status.
 fn run_report(rt: &HostRuntime, options: &Options, progress: bool, seed: RandomState) -> u8 {
-    let mut input = Watch::new(rt, rt.stdin(), progress, options.sizes, seed);
+    let mut input = Watch::new(rt, rt.stdin(), progress, options, seed);
     let mut output = Written::new(rt, rt.stdout());
     let outcome = run(rt.alloc(), options, &mut input, &mut output, seed);
     let line = match outcome {
         Ok(()) => {
             input.warn(output.last_misses(), options);
+            input.warn_of_ratio(output.last_row(options.sizes), options);
             None
         }
         Err(Fault::NoSize(number)) => input.say_line(number),

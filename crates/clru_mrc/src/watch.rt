@@ -1,6 +1,8 @@
 //! What standard error says of an input: how far it is read, and why it may be no log.
 
-use crate::lines::{Lines, instead_of_size, quoted};
+use crate::lines::{FEW, Lines, instead_of_size, quoted};
+use crate::ratio::has_ratio;
+use crate::written::{LastRow, MILLION};
 use clru_report::{Capacities, Options, Sample};
 use std::hash::RandomState;
 use std::io::{self, Read};
@@ -23,13 +25,13 @@ pub(crate) struct Watch<'h, R> {
 }
 
 impl<'h, R: Read> Watch<'h, R> {
-    /// It tells of progress where it is asked to and the clock can be read, and of a line without a size where each is to have
-    /// one.
+    /// It tells of progress where it is asked to and the clock can be read, of a line without a size where each is to have one,
+    /// and of keys with several sizes unless each is to have one.
     pub(crate) fn new(
         rt: &'h HostRuntime,
         inner: R,
         progress: bool,
-        sizes: bool,
+        options: &Options,
         seed: RandomState,
     ) -> Self {
         let told = if progress {
@@ -42,7 +44,7 @@ impl<'h, R: Read> Watch<'h, R> {
             inner,
             told,
             bytes: 0,
-            lines: Lines::new(rt, sizes, seed),
+            lines: Lines::new(rt, options, seed),
             has_zero: false,
             is_packed: false,
         }
@@ -72,7 +74,7 @@ impl<'h, R: Read> Watch<'h, R> {
             );
         }
         self.warn_of_misses(misses, options);
-        self.warn_of_sizes();
+        self.warn_of_sizes(options);
         if let Some((count, line)) = self.lines.most_of_all() {
             if let Ok(key) = quoted(self.rt, line) {
                 let _ = eprintln!(self.rt;
@@ -82,21 +84,83 @@ impl<'h, R: Read> Watch<'h, R> {
         }
     }
 
-    fn warn_of_sizes(&self) {
+    fn warn_of_sizes(&self, options: &Options) {
         if let Some((several, keys)) = self.lines.several_sizes() {
+            let without = if options.after.is_some() {
+                "without --after, "
+            } else {
+                ""
+            };
             let _ = eprintln!(self.rt;
-                "clru_mrc: {several} of {keys} keys came with several sizes, and each size counts as an object of its own: give each key the greatest one, as LOGS.md shows"
+                "clru_mrc: {several} of {keys} keys came with several sizes, and each size counts as an object of its own: {without}--one-size gives each key the greatest one"
             );
+        }
+    }
+
+    /// Tells that no capacity has the hit ratio that is asked for, where it is so: then this row has the greatest one.
+    pub(crate) fn warn_of_ratio(&self, row: Option<LastRow>, options: &Options) {
+        let Some(row) = row else {
+            return;
+        };
+        let (has, missed) = match options.capacities {
+            Capacities::HitRatio(ratio) => {
+                let has = has_ratio(ratio, row.misses, self.requests(options));
+                (has, row.miss_ratio)
+            }
+            // (with one size only the report tells how many bytes count, rounded: a millionth more may hit)
+            Capacities::ByteHitRatio(ratio) if options.one_size => {
+                let has = has_ratio(ratio, row.byte_miss_ratio.saturating_sub(1), MILLION);
+                (has, row.byte_miss_ratio)
+            }
+            Capacities::ByteHitRatio(ratio) => {
+                let has = has_ratio(ratio, row.missed_bytes, self.bytes(options));
+                (has, row.byte_miss_ratio)
+            }
+            _ => return,
+        };
+        if has {
+            return;
+        }
+        // (rounded, it may be all)
+        let hit = MILLION.saturating_sub(missed.max(1));
+        let capacity = row.capacity;
+        let _ = eprintln!(self.rt;
+            "clru_mrc: no capacity has that hit ratio: the greatest is 0.{hit:06}, at capacity {capacity} and above"
+        );
+        if options.sample == Sample::Whole {
+            let counted = self.requests(options);
+            self.warn_of_hits(counted.saturating_sub(row.misses), counted);
+        }
+    }
+
+    // How many requests the ratio is of.
+    fn requests(&self, options: &Options) -> u64 {
+        match options.sample {
+            Sample::Whole | Sample::OneIn(_) => self.lines.counted(),
+            Sample::Taken(_, requests) => requests as u64,
+        }
+    }
+
+    // And how many bytes.
+    fn bytes(&self, options: &Options) -> u64 {
+        match options.sample {
+            Sample::Whole | Sample::OneIn(_) => self.lines.size,
+            Sample::Taken(one_in, _) => self.lines.size.saturating_mul(one_in.get() as u64),
         }
     }
 
     // What a sample misses is reckoned, so it does not tell that few hit.
     fn warn_of_misses(&self, misses: Option<u64>, options: &Options) {
         let lines = self.lines.count;
+        if let Some(after) = options.after {
+            self.warn_after(misses, after.get() as u64, options);
+            return;
+        }
         match (options.sample, &options.capacities) {
+            (Sample::Whole, Capacities::HitRatio(_) | Capacities::ByteHitRatio(_)) => {}
             (Sample::Whole, _) => {
                 if let Some(misses) = misses {
-                    self.warn_of_hits(lines.saturating_sub(misses));
+                    self.warn_of_hits(lines.saturating_sub(misses), lines);
                 }
             }
             (_, Capacities::Named(_)) if misses.is_none() => self.say(
@@ -111,15 +175,29 @@ impl<'h, R: Read> Watch<'h, R> {
         }
     }
 
-    // Mostly such lines have a time in them.
-    fn warn_of_hits(&self, hits: u64) {
+    // The requests before the counted ones may be all there are.
+    fn warn_after(&self, misses: Option<u64>, after: u64, options: &Options) {
         let lines = self.lines.count;
-        let are_few = hits.saturating_mul(FEW_HITS) < lines;
-        if !are_few || !self.lines.are_many() {
+        let counted = self.lines.counted();
+        if counted == 0 && lines > 0 {
+            let _ = eprintln!(self.rt;
+                "clru_mrc: --after {after} leaves none of {lines} requests to count, so there are no rows"
+            );
+        }
+        match (misses, &options.capacities) {
+            (_, Capacities::HitRatio(_) | Capacities::ByteHitRatio(_)) | (None, _) => {}
+            (Some(misses), _) => self.warn_of_hits(counted.saturating_sub(misses), counted),
+        }
+    }
+
+    // Mostly such lines have a time in them.
+    fn warn_of_hits(&self, hits: u64, counted: u64) {
+        let are_few = hits.saturating_mul(FEW_HITS) < counted;
+        if !are_few || counted < FEW {
             return;
         }
         let _ = eprintln!(self.rt;
-            "clru_mrc: only {hits} of {lines} requests hit, even at the greatest of these capacities: is each line the whole line of a log?"
+            "clru_mrc: only {hits} of {counted} requests hit, even at the greatest of these capacities: is each line the whole line of a log?"
         );
     }
 

@@ -9,9 +9,11 @@ use Rattle.std.specs.List.{All, AllByRecursion, Contains, filter, range_with_len
 use Rattle.std.specs.Prelude.{◌==◌}
 use Rattle.clru_model.proofs.Cases.{split}
 use Rattle.clru_report.specs.Capacities.{capacities_of, first_digit, is_fall, round_number, sized_capacities_of, usual, usual_from}
+use Rattle.clru_report.specs.Ratios.{least_with}
 use Rattle.clru_report.specs.Refusals.{NamesBelow}
 use Rattle.clru_report.specs.declared.options.Capacities.{Capacities}
-use Rattle.clru_report.specs.declared.options.Capacities.TheVariants.{Usual, Each, Named}
+use Rattle.clru_report.specs.declared.options.Capacities.TheVariants.{Usual, Each, Named, HitRatio, ByteHitRatio}
+use Rattle.clru_report.proofs.RatioLemmas.{least_alike, least_from}
 
 -- a power of ten is no 0
 pub power_positive : (k : ℕ) → 0 < 10 ^ k
@@ -73,11 +75,13 @@ module _ (m n : ℕ → ℕ) (alike : (k : ℕ) → 0 < k → m k ≡ n k) where
       ap (λ b. cond b ((x + 1) ∷ rest) rest) (is_fall-alike x)
       ∙ ap (λ ys. cond (is_fall n (x + 1)) ((x + 1) ∷ ys) ys) (filter-alike xs)
 
-  pub capacities-alike : {A : Type 0} (asked : Capacities A) (d : ℕ) (table : List ℕ)
-      → capacities_of asked m d table ≡ capacities_of asked n d table
-  capacities-alike Usual d table = refl
-  capacities-alike Each d table = filter-alike (range_with_len 0 d)
-  capacities-alike (Named named) d table = refl
+  pub capacities-alike : {A : Type 0} (asked : Capacities A) (whole d : ℕ) (table : List ℕ)
+      → capacities_of asked m whole d table ≡ capacities_of asked n whole d table
+  capacities-alike Usual whole d table = refl
+  capacities-alike Each whole d table = filter-alike (range_with_len 0 d)
+  capacities-alike (Named named) whole d table = refl
+  capacities-alike (HitRatio r) whole d table = least_alike r.number whole m n 1 d alike
+  capacities-alike (ByteHitRatio r) whole d table = least_alike r.number whole m n 1 d alike
 
 -- what passes of numbers that are shown
 pub map-filter : {X : Type 0} (p : ℕ → Bool) (f : X → ℕ) (xs : List X) → map f (filter (λ x. p (f x)) xs) ≡ filter p (map f xs)
@@ -87,29 +91,40 @@ map-filter p f (x ∷ xs) =
     (λ t. rw t (ap (λ ns. f x ∷ ns) (map-filter p f xs)))
     (λ u. rw u (map-filter p f xs))
 
--- curves that are the same everywhere fall at the same capacities
-pub sized-alike : {A : Type 0} (asked : Capacities A) (m n : ℕ → ℕ) (g d : ℕ) (table : List ℕ) → ((c : ℕ) → m c ≡ n c)
-    → sized_capacities_of asked m g d table ≡ sized_capacities_of asked n g d table
-sized-alike Usual m n g d table same = refl
-sized-alike Each m n g d table same =
-    filter_agree _ _ (λ c. ap (λ k. (c == g) || nat_lt k (m (c - 1))) (same c) ∙ ap (λ k. (c == g) || nat_lt (n c) k) (same (c - 1))) _
-sized-alike (Named named) m n g d table same = refl
+-- curves that are the same everywhere fall at the same capacities, and have the same hit ratios
+module _ (m n s t : ℕ → ℕ) (same : (c : ℕ) → m c ≡ n c) (same_size : (c : ℕ) → s c ≡ t c) where
+  pub sized-alike : {A : Type 0} (asked : Capacities A) (requests size g d : ℕ) (table : List ℕ)
+      → sized_capacities_of asked m s requests size g d table ≡ sized_capacities_of asked n t requests size g d table
+  sized-alike Usual requests size g d table = refl
+  sized-alike Each requests size g d table =
+      filter_agree _ _ (λ c. ap (λ k. (c == g) || nat_lt k (m (c - 1))) (same c) ∙ ap (λ k. (c == g) || nat_lt (n c) k) (same (c - 1))) _
+  sized-alike (Named named) requests size g d table = refl
+  sized-alike (HitRatio r) requests size g d table = least_alike r.number requests m n g d (λ k _. same k)
+  sized-alike (ByteHitRatio r) requests size g d table = least_alike r.number size s t g d (λ k _. same_size k)
 
 -- the usual ones are at least the greatest size, and so are those of their faithful table
 pub usual_high : (g d : ℕ) → AllByRecursion (λ c. g ≤ c) (usual_from g d)
 usual_high g d = recursion_from_All (λ c. g ≤ c) (usual_from g d)
     (All-weaker (λ c. nat_le g c ≡ true) (λ c. g ≤ c) (λ c t. leb-true g c t) (usual_from g d) (filter_passes (λ c. nat_le g c) (usual d)))
 
+-- a capacity among some that are at least g is so
+none_of : (cs : List ℕ) (g n : ℕ) → AllByRecursion (λ c. g ≤ c) cs → n < g → Contains cs n → ⊥
+none_of cs g n high low is = omega (arith, low, All-contains (λ c. g ≤ c) cs n (All-from_recursion (λ c. g ≤ c) cs high) is)
+
 -- each of them but those that are named is at least the greatest size
-pub none_below : {A : Type 0} (asked : Capacities A) (m : ℕ → ℕ) (g d n : ℕ) (table : List ℕ) → AllByRecursion (λ c. g ≤ c) table → n < g
-    → Contains (sized_capacities_of asked m g d table) n → NamesBelow asked g
-none_below Usual m g d n table high low is =
-    omega (arith, low, All-contains (λ c. g ≤ c) table n (All-from_recursion (λ c. g ≤ c) table high) is)
-none_below Each m g d n table high low is =
+pub none_below : {A : Type 0} (asked : Capacities A) (m s : ℕ → ℕ) (requests size g d n : ℕ) (table : List ℕ)
+    → AllByRecursion (λ c. g ≤ c) table → n < g
+    → Contains (sized_capacities_of asked m s requests size g d table) n → NamesBelow asked g
+none_below Usual m s requests size g d n table high low is = none_of table g n high low is
+none_below Each m s requests size g d n table high low is =
     let high : g ≤ n = All-contains (λ c. g ≤ c) _ n (All-filter (λ c. (c == g) || nat_lt (m c) (m (c - 1))) (λ c. g ≤ c) _
     (All-map (λ c. g ≤ c) (λ (k : ℕ). g + k) (range_with_len 0 (d + 1 - g)) (All-from_get_or (λ k. g ≤ g + k) _ 0 (λ i inside. omega arith)))) is in
     omega (arith, low, high)
-none_below (Named named) m g d n table high low is = (n, is, low)
+none_below (Named named) m s requests size g d n table high low is = (n, is, low)
+none_below (HitRatio r) m s requests size g d n table high low is =
+    none_of (least_with r.number requests m g d) g n (least_from r.number requests m g d) low is
+none_below (ByteHitRatio r) m s requests size g d n table high low is =
+    none_of (least_with r.number size s g d) g n (least_from r.number size s g d) low is
 
 -- what is at an index is shown among all
 shown_at : {X : Type 0} (f : X → ℕ) (xs : List X) (i : ℕ) (x : X) → get_or (map f xs) i (f x) ≡ f (get_or xs i x)

@@ -31,7 +31,7 @@ module _ (c : ℕ) where
       (λ t. ap one (le-leb s (suc c) (omega (arith, leb-true s c t)) ∙ sym t))
       (λ f. ap one (lt-leb s (suc c) (omega (arith, leb-false s c f, other)) ∙ sym f))
 
-  hits_grow : (ss : List Step) → hits_within c ss ≤ hits_within (suc c) ss
+  pub hits_grow : (ss : List Step) → hits_within c ss ≤ hits_within (suc c) ss
   hits_grow [] = omega arith
   hits_grow (s ∷ ss) = omega (arith, hits_grow ss, within_grows s.capacity, hits-cons c s ss, hits-cons (suc c) s ss)
 
@@ -104,7 +104,7 @@ module _ (curve : CurveBySize) (settled : IsSettled curve) (rising : IsNonDecrea
       (le-ltb (misses_within curve (suc c)) (misses_within curve c) (omega (arith, same)))
 
   -- each step is within the size of all keys
-  within : (i : ℕ) → i < length curve.steps → curve.greatest_weight < curve.distinct_size → span curve i ≤ curve.distinct_size
+  pub within : (i : ℕ) → i < length curve.steps → curve.greatest_weight < curve.distinct_size → span curve i ≤ curve.distinct_size
   within i low some = elim (cases_lt curve.distinct_size (span curve i)) [
     | inl more ↦
         let c = span curve i - 1 in

@@ -7,13 +7,17 @@ use Rattle.std.specs.Option.{is_none, option_or}
 use Rattle.std.proofs.lemmas.Bool.{cases_lt, le-leb, lt-leb, le-ltb, lt-ltb}
 use Rattle.std.proofs.lemmas.List.Elements.{All-weaker}
 use Rattle.std.proofs.lemmas.List.Folds.{list_any_at, list_any_none}
+use Rattle.clru_report.specs.Faults.{is_of_writing}
+use Rattle.clru_report.specs.Passes.{IsOfLines}
 use Rattle.clru_report.specs.Capacities.{sized_capacities_of}
+use Rattle.clru_report.specs.Faults.{is_of_writing}
+use Rattle.clru_report.specs.Passes.{IsOfLines}
 use Rattle.clru_report.specs.Refusals.{NamesBelow, fault_beside, fault_from, fault_of, names_below}
 use Rattle.clru_report.specs.Sizes.{greatest_size, size_of_line, weight_of_line}
 use Rattle.clru_lines.specs.declared.fault.Fault.{Fault}
-use Rattle.clru_lines.specs.declared.fault.Fault.TheVariants.{NoSize, TooLarge, TooSmall}
+use Rattle.clru_lines.specs.declared.fault.Fault.TheVariants.{BadCapacity, Memory, Reading, Writing, Closed, NoSize, TooLarge, TooSmall}
 use Rattle.clru_report.specs.declared.options.Capacities.{Capacities}
-use Rattle.clru_report.specs.declared.options.Capacities.TheVariants.{Usual, Each, Named}
+use Rattle.clru_report.specs.declared.options.Capacities.TheVariants.{Usual, Each, Named, HitRatio, ByteHitRatio}
 use Rattle.clru_report.specs.declared.options.Form.{Form}
 use Rattle.clru_report.specs.declared.options.Form.TheVariants.{Table, Json, Picture, Summary}
 use Rattle.clru_report.specs.declared.options.Options.{Options}
@@ -46,11 +50,14 @@ module _ (number size : ℕ) (line : List ℕ) (rest : List (List ℕ)) where
 
 module _ {A : Type 0} where
   -- where no capacity is below a number, none is named
-  pub none_named : (asked : Capacities A) (m : ℕ → ℕ) (g d n : ℕ) (table : List ℕ) → All (λ c. n ≤ c) (sized_capacities_of asked m g d table)
+  pub none_named : (asked : Capacities A) (m s : ℕ → ℕ) (requests size g d n : ℕ) (table : List ℕ)
+      → All (λ c. n ≤ c) (sized_capacities_of asked m s requests size g d table)
       → names_below asked n ≡ false
-  none_named Usual m g d n table all = refl
-  none_named Each m g d n table all = refl
-  none_named (Named named) m g d n table all =
+  none_named Usual m s requests size g d n table all = refl
+  none_named Each m s requests size g d n table all = refl
+  none_named (HitRatio r) m s requests size g d n table all = refl
+  none_named (ByteHitRatio r) m s requests size g d n table all = refl
+  none_named (Named named) m s requests size g d n table all =
       list_any_none (λ c. nat_lt c n) (map non_zero_usize_get named.items)
       (All-weaker (λ c. n ≤ c) (λ c. nat_lt c n ≡ false) (λ c h. le-ltb c n h) (map non_zero_usize_get named.items) all)
 
@@ -58,6 +65,8 @@ module _ {A : Type 0} where
   pub one_named : (asked : Capacities A) (n : ℕ) → NamesBelow asked n → names_below asked n ≡ true
   one_named Usual n is = absurd is
   one_named Each n is = absurd is
+  one_named (HitRatio r) n is = absurd is
+  one_named (ByteHitRatio r) n is = absurd is
   one_named (Named named) n is =
       let at = is.1 in
       list_any_at (λ c. nat_lt c n) (map non_zero_usize_get named.items) at.0 is.0 at.1
@@ -81,3 +90,14 @@ module _ {A : Type 0} where
     -- where lines have none, it is what stands beside them
     pub told_beside : (told : Option Fault) → fault_from 1 0 lines ≡ None → beside ≡ told → fault_of options lines ≡ told
     told_beside told free h = ap (λ o. option_or o beside) free ∙ h
+
+-- why lines have no curve is no fault of writing
+pub lines_unwritten : (lines : List (List ℕ)) (fault : Fault) → IsOfLines fault lines → is_of_writing fault ≡ false
+lines_unwritten lines BadCapacity why = refl
+lines_unwritten lines Memory why = refl
+lines_unwritten lines Reading why = refl
+lines_unwritten lines Writing why = absurd why
+lines_unwritten lines Closed why = absurd why
+lines_unwritten lines (NoSize n) why = refl
+lines_unwritten lines TooLarge why = refl
+lines_unwritten lines (TooSmall n) why = refl

@@ -27,7 +27,7 @@ module _ {A : Type 0} (options : Options A) (input : List ℕ) where
         ∙ ap (λ n. table_text json options.least options.floor n (knees (misses_of lines) n table) rows) counted
 
     pub form_of_all : (form : Form) → IsTextByKeys form options.least options.floor counts ks rows text
-        → AreRows bytes_eq lines (has_rows form && options.least) (has_rows form && options.floor) (capacities_asked options lines table) rows
+        → AreRows bytes_eq lines (has_rows form && options.least) (has_rows form && options.floor) (capacities_asked options (length lines) lines table) rows
         → counts.distinct ≡ distinct bytes_eq (reverse lines) → counts.bytes ≡ length input
         → IsInForm form options input text
     form_of_all Table t rowed kinds in_bytes =

@@ -43,7 +43,7 @@ module _ {K : Type 0} (eq : K → K → Bool) (laws : IsEquivalence eq) (weight 
   held_within x ks h = let all = rw h at (sum_by_key eq laws (λ y. 1 + weight y) (λ a b e. omega (arith, same a b e)) x ks) in omega (arith, all)
 
   -- the greatest weight is below the size of the distinct keys
-  greatest_below : (ks : List K) → greatest_of weight ks ≤ total eq weight ks - 1
+  pub greatest_below : (ks : List K) → greatest_of weight ks ≤ total eq weight ks - 1
   greatest_below [] = omega arith
   greatest_below (x ∷ ks) =
       let ih = greatest_below ks in

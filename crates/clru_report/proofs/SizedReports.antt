@@ -17,7 +17,7 @@ use Rattle.clru_report.specs.Knees.{knees}
 use Rattle.clru_report.specs.Faults.{is_of_writing}
 use Rattle.clru_report.specs.Passes.{AreFloorsFor, IsOfAsked, IsOfCapacities, IsRowOf, IsTableOf, IsUsualOn, capacities_on, distinct_in, floors_at}
 use Rattle.clru_report.specs.Refusals.{IsRefusedFor, IsSaidOf, fault_beside, fault_from, fault_of, is_of_input, names_below}
-use Rattle.clru_report.specs.SizedReport.{HasFloors, IsSizedRow, IsSizedTable, IsSizedUsualTable, distinct_size, missed_of, summary_by_size}
+use Rattle.clru_report.specs.SizedReport.{HasFloors, IsSizedRow, IsSizedTable, IsSizedUsualTable, distinct_size, missed_of, sized_capacities_asked, summary_by_size}
 use Rattle.clru_report.specs.SizedTables.{capacity_of_sized_row, row_floor, sized_summary_text, sized_table_text}
 use Rattle.clru_report.specs.Sizes.{HaveSizes, greatest_size, size_of_lines, weight_of_line}
 use Rattle.clru_lines.specs.declared.fault.Fault.{Fault}
@@ -32,7 +32,7 @@ use Rattle.clru_report.proofs.FaultLemmas.{none_beside, none_named, one_named, t
 use Rattle.clru_report.proofs.SettledCurves.{bytes_laws, same_weights}
 
 -- keys are no more than their sizes together
-few_distinct : {K : Type 0} (eq : K → K → Bool) (weight : K → ℕ) (ks : List K) → distinct eq ks ≤ total eq weight ks
+pub few_distinct : {K : Type 0} (eq : K → K → Bool) (weight : K → ℕ) (ks : List K) → distinct eq ks ≤ total eq weight ks
 few_distinct eq weight [] = omega arith
 few_distinct eq weight (x ∷ ks) =
     let ih = few_distinct eq weight ks in
@@ -45,12 +45,14 @@ module _ (lines : List (List ℕ)) (curve : CurveBySize) (is : IsSizedCurveOf by
   pub greatest_is : 1 + curve.greatest_weight ≡ greatest_size lines
   greatest_is = ap (λ n. 1 + n) is.greatest_weight
 
-  pub capacities_are : {A : Type 0} (asked : Capacities A) (table : List ℕ)
-      → capacities_on curve asked table ≡ sized_capacities_of asked missing (greatest_size lines) (distinct_size lines) table
-  capacities_are asked table =
-      sized-alike asked (misses_within curve) missing (1 + curve.greatest_weight) curve.distinct_size table is.misses
-      ∙ ap (λ g. sized_capacities_of asked missing g curve.distinct_size table) greatest_is
-      ∙ ap (λ d. sized_capacities_of asked missing (greatest_size lines) d table) is.distinct_size
+  pub capacities_are : {A : Type 0} (asked : Capacities A) (requests size : ℕ) (table : List ℕ)
+      → capacities_on curve asked requests size table
+      ≡ sized_capacities_of asked missing (missed_of lines) requests size (greatest_size lines) (distinct_size lines) table
+  capacities_are asked requests size table =
+      sized-alike (misses_within curve) missing (missed_size_within curve) (missed_of lines) is.misses is.missed_size
+      asked requests size (1 + curve.greatest_weight) curve.distinct_size table
+      ∙ ap (λ g. sized_capacities_of asked missing (missed_of lines) requests size g curve.distinct_size table) greatest_is
+      ∙ ap (λ d. sized_capacities_of asked missing (missed_of lines) requests size (greatest_size lines) d table) is.distinct_size
 
   -- the usual table of the curve, and its knees, are those of the lines
   pub usual_is : (whole : ℕ) (table marked : List ℕ) → IsUsualOn curve whole table marked
@@ -100,7 +102,9 @@ module _ (lines : List (List ℕ)) (curve : CurveBySize) (is : IsSizedCurveOf by
         t.rows,
         subst (λ n. IsSizedUsualTable n lines t.table) is.size usual.0,
         (
-          t.rowed.0 ∙ capacities_are options.capacities t.table,
+          t.rowed.0 ∙ capacities_are options.capacities curve.requests curve.size t.table
+              ∙ ap (λ n. sized_capacities_asked options n curve.size lines t.table) is.requests_in_all
+              ∙ ap (λ n. sized_capacities_asked options (length lines) n lines t.table) is.size,
           All-weaker (IsRowOf curve floors) (IsSizedRow lines options.floor) (row_is options.floor floors both) t.rows t.rowed.1,
         ),
         t.is ∙ ap (λ n. sized_table_text json options.floor n curve.size t.marked t.rows) is.requests_in_all
@@ -141,12 +145,13 @@ module _ (lines : List (List ℕ)) (curve : CurveBySize) (is : IsSizedCurveOf by
       (λ row r. omega (arith, r.answered, greatest_is)) t.rows t.rowed.1 in
       let all = subst (All (λ c. greatest_size lines ≤ c)) t.rowed.0 (All-map (λ c. greatest_size lines ≤ c) capacity_of_sized_row t.rows high) in
       told_beside options lines None free (none_beside options.form options.capacities (greatest_size lines)
-      (none_named options.capacities (misses_within curve) (1 + curve.greatest_weight) curve.distinct_size (greatest_size lines) t.table all))
+      (none_named options.capacities (misses_within curve) (missed_size_within curve) curve.requests curve.size
+      (1 + curve.greatest_weight) curve.distinct_size (greatest_size lines) t.table all))
 
   -- why capacities have no rows
   capacities_said : {A : Type 0} (options : Options A) (table : List ℕ) (fault : Fault)
       → AllByRecursion (λ c. 1 + curve.greatest_weight ≤ c) table → HaveSizes lines
-      → IsOfCapacities curve fault (capacities_on curve options.capacities table) → is_of_input fault ≡ true → IsSaidOf fault options lines
+      → IsOfCapacities curve fault (capacities_on curve options.capacities curve.requests curve.size table) → is_of_input fault ≡ true → IsSaidOf fault options lines
   capacities_said options table BadCapacity high sizes why of = why
   capacities_said options table Memory high sizes why of = cc of
   capacities_said options table Reading high sizes why of = why
@@ -157,13 +162,13 @@ module _ (lines : List (List ℕ)) (curve : CurveBySize) (is : IsSizedCurveOf by
   capacities_said options table (TooSmall n) high sizes why of = (
     sizes,
     why.0 ∙ greatest_is,
-    rw why.0 (none_below options.capacities (misses_within curve) (1 + curve.greatest_weight) curve.distinct_size why.1.0 table high
+    rw why.0 (none_below options.capacities (misses_within curve) (missed_size_within curve) curve.requests curve.size (1 + curve.greatest_weight) curve.distinct_size why.1.0 table high
         (omega (arith, why.0, why.1.2)) why.1.1),
   )
 
   small_told : {A : Type 0} (options : Options A) (table : List ℕ) (fault : Fault)
       → AllByRecursion (λ c. 1 + curve.greatest_weight ≤ c) table
-      → IsOfCapacities curve fault (capacities_on curve options.capacities table) → is_of_input fault ≡ true
+      → IsOfCapacities curve fault (capacities_on curve options.capacities curve.requests curve.size table) → is_of_input fault ≡ true
       → cond (names_below options.capacities (greatest_size lines)) (Some (TooSmall (greatest_size lines))) None ≡ Some fault
   small_told options table BadCapacity high why of = absurd why
   small_told options table Memory high why of = cc of
@@ -173,7 +178,7 @@ module _ (lines : List (List ℕ)) (curve : CurveBySize) (is : IsSizedCurveOf by
   small_told options table (NoSize n) high why of = absurd why
   small_told options table TooLarge high why of = absurd why
   small_told options table (TooSmall n) high why of =
-      let below = none_below options.capacities (misses_within curve) (1 + curve.greatest_weight) curve.distinct_size why.1.0 table high
+      let below = none_below options.capacities (misses_within curve) (missed_size_within curve) curve.requests curve.size (1 + curve.greatest_weight) curve.distinct_size why.1.0 table high
       (omega (arith, why.0, why.1.2)) why.1.1 in
       let named = ap (names_below options.capacities) (sym greatest_is) ∙ one_named options.capacities (1 + curve.greatest_weight) below in
       ap (λ b. cond b (Some (TooSmall (greatest_size lines))) None) named ∙ ap (λ k. Some (TooSmall k)) (sym (why.0 ∙ greatest_is))

@@ -8,7 +8,6 @@ use Rattle.clru_curve.specs.SizedCurves.{CurveBySize, IsSizedCurveOf}
 use Rattle.clru_curve.specs.SizedPasses.{PassBySize}
 use Rattle.clru_least.specs.Reuses.{Reused}
 use Rattle.clru_lines.specs.declared.lines.OwnedKey.{OwnedKey}
-use Rattle.clru_lines.specs.Lines.{lines_of}
 use Rattle.clru_model.specs.Requests.{distinct}
 use Rattle.clru_report.specs.Passes.{AreFloorsFor, AreRowsOf, HasTaken, HasTakenOf, IsRowOf, IsSizedCurveOfKept, capacities_on, distinct_in}
 use Rattle.clru_report.specs.Samples.{kept_of, times}
@@ -22,10 +21,10 @@ use Rattle.clru_report.proofs.Samples.{all_kept}
 use Rattle.clru_report.proofs.SizedReports.{capacities_are, distinct_are, greatest_is, row_is}
 
 -- a sample of one in one is the curve of all lines
-pub of_all : (input : List ℕ) (curve : CurveBySize) (requests size bytes : ℕ) → IsSizedCurveOfKept 1 input curve requests size bytes
-    → IsSizedCurveOf bytes_eq weight_of_line (lines_of input) curve
-of_all input curve requests size bytes of =
-    subst (λ ls. IsSizedCurveOf bytes_eq weight_of_line ls curve) (all_kept (lines_of input)) of.of_kept
+pub of_all : (input : List ℕ) (lines : List (List ℕ)) (curve : CurveBySize) (requests size bytes : ℕ)
+    → IsSizedCurveOfKept 1 input lines curve requests size bytes → IsSizedCurveOf bytes_eq weight_of_line lines curve
+of_all input lines curve requests size bytes of =
+    subst (λ ls. IsSizedCurveOf bytes_eq weight_of_line ls curve) (all_kept lines) of.of_kept
 
 -- the size of one more line is added to that of those before it
 pub size_more : (lines rest : List (List ℕ)) (line : List ℕ)
@@ -48,13 +47,13 @@ counted_more floored n lines line size more pass next reused after of sized sum 
 
 module _ (kept : List (List ℕ)) (curve : CurveBySize) (is : IsSizedCurveOf bytes_eq weight_of_line kept curve) where
   -- the capacities that the curve answers are those at which kept lines have rows
-  pub rows_kept : {A : Type 0} (options : Options A) (floors : Option (Floors A)) (table : List ℕ) (rows : List SizedRow)
+  pub rows_kept : {A : Type 0} (options : Options A) (floors : Option (Floors A)) (requests size : ℕ) (table : List ℕ) (rows : List SizedRow)
       → AreFloorsFor options.floor kept floors
-      → AreRowsOf curve floors (filter (λ c. nat_le (1 + curve.greatest_weight) c) (capacities_on curve options.capacities table)) rows
-      → AreSizedRows kept options.floor (sized_capacities_of_sample options kept table) rows
-  rows_kept options floors table rows both t = (
-    t.0 ∙ ap (λ g. filter (λ c. nat_le g c) (capacities_on curve options.capacities table)) (greatest_is kept curve is)
-        ∙ ap (filter (λ c. nat_le (greatest_size kept) c)) (capacities_are kept curve is options.capacities table),
+      → AreRowsOf curve floors (filter (λ c. nat_le (1 + curve.greatest_weight) c) (capacities_on curve options.capacities requests size table)) rows
+      → AreSizedRows kept options.floor (sized_capacities_of_sample options requests size kept table) rows
+  rows_kept options floors requests size table rows both t = (
+    t.0 ∙ ap (λ g. filter (λ c. nat_le g c) (capacities_on curve options.capacities requests size table)) (greatest_is kept curve is)
+        ∙ ap (filter (λ c. nat_le (greatest_size kept) c)) (capacities_are kept curve is options.capacities requests size table),
     All-weaker (IsRowOf curve floors) (IsSizedRow kept options.floor) (row_is kept curve is options.floor floors both) rows t.1,
   )
 

@@ -71,6 +71,14 @@ module _ {A : Type 0} (least floored : Bool) (lines : List (List ℕ)) (pass : P
   foreseen_for = foreseen_by lines all.past all.shown least later all.foreseen
 
 module _ {A : Type 0} (lines : List (List ℕ)) (pass : Pass (OwnedKey A)) (taken : HasTakenLines lines pass) where
+  -- one more line
+  pub line_taken : (line : List ℕ) (next : Pass (OwnedKey A)) → HasTakenKey taken.past line next → HasTakenLines (lines ++ line ∷ []) next
+  line_taken line next one = record {
+    past = one.key ∷ taken.past;
+    shown = one_more lines taken.past one.key line taken.shown one.is;
+    taken = one.taken;
+  }
+
   module _ (curve : List ℕ) where
     pub misses_taken : ((past : List (OwnedKey A)) → IsPass same_line past pass → HasMissesOf same_line (reverse past) curve)
         → HasMissesOf bytes_eq lines curve

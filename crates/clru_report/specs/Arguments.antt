@@ -1,5 +1,5 @@
 -- Which options arguments stand for, once all are read. Public clauses cite it.
-use Rattle.std.specs.Prelude.{◌≡◌, ℕ, ◌/◌, Bool, true, false, not, ◌&&◌, ◌||◌, List, [], ◌∷◌, map, max, None, Some, if◌then◌else◌, string_bytes, ⊤}
+use Rattle.std.specs.Prelude.{◌≡◌, ℕ, ◌/◌, Bool, true, false, not, ◌&&◌, ◌||◌, List, [], ◌∷◌, map, max, Option, None, Some, if◌then◌else◌, string_bytes, ⊤}
 use Rattle.std.specs.Int.NonZero.{non_zero_usize_get}
 use Rattle.std.specs.List.{Contains}
 use Rattle.std.specs.List.Sorted.{IsStrictlyIncreasing}
@@ -13,7 +13,7 @@ use Rattle.clru_report.specs.declared.arguments.Step.TheVariants as step
 use Rattle.clru_report.specs.declared.arguments.Refusal.{Refusal}
 use Rattle.clru_report.specs.declared.arguments.Refusal.TheVariants.{Wrong, Memory}
 use Rattle.clru_report.specs.declared.options.Capacities.{Capacities}
-use Rattle.clru_report.specs.declared.options.Capacities.TheVariants.{Usual, Each, Named}
+use Rattle.clru_report.specs.declared.options.Capacities.TheVariants.{Usual, Each, Named, HitRatio, ByteHitRatio}
 use Rattle.clru_report.specs.declared.options.Form.{Form}
 use Rattle.clru_report.specs.declared.options.Form.TheVariants.{Table, Json, Picture, Summary}
 use Rattle.clru_report.specs.declared.options.Look.{Look}
@@ -52,19 +52,28 @@ pub record IsSortedSet (numbers sorted : List ℕ) : Type 0 where
   pub each : (n : ℕ) → Contains numbers n → Contains sorted n
   pub no_more : (n : ℕ) → Contains sorted n → Contains numbers n
 
+-- a hit ratio is asked for
+abbrev pub wants_ratio : Asked → Bool
+wants_ratio asked = is_some asked.hit_ratio || is_some asked.byte_hit_ratio
+
 -- something is asked for that no summary has
 abbrev pub wants_rows : Asked → Bool
-wants_rows asked = asked.all || is_some_of asked.named || asked.least || asked.floor || asked.svg || asked.json
+wants_rows asked = asked.all || is_some_of asked.named || asked.least || asked.floor || asked.svg || asked.json || wants_ratio asked
 
 -- something is asked for that pictures alone have
 abbrev pub wants_look : Asked → Bool
 wants_look asked = is_some asked.title || is_some asked.unit || is_some asked.from || is_some asked.to
 
+-- one hit ratio at most is asked for, and no other capacity beside it; that of bytes needs sizes
+abbrev pub ratios_go_together : Asked → Bool
+ratios_go_together asked = not (is_some asked.hit_ratio && is_some asked.byte_hit_ratio)
+    && (not (wants_ratio asked && (asked.all || is_some_of asked.named)) && not (is_some asked.byte_hit_ratio && not asked.sizes))
+
 -- no two of the flags exclude one another, those of a sample aside
 abbrev pub forms_go_together : Asked → Bool
-forms_go_together asked = not (asked.all && is_some_of asked.named)
+forms_go_together asked = ratios_go_together asked && (not (asked.all && is_some_of asked.named)
     && (not (asked.summary && wants_rows asked) && (not (asked.sizes && asked.least)
-    && (not (asked.json && asked.svg) && not (wants_look asked && not asked.svg))))
+    && (not (asked.json && asked.svg) && (not (asked.one_size && not asked.sizes) && not (wants_look asked && not asked.svg))))))
 
 -- two samples are asked for
 abbrev pub wants_two : Asked → Bool
@@ -81,8 +90,20 @@ wants_more asked = (is_some asked.sample || is_some asked.sampled) && asked.leas
 abbrev pub samples_go_together : Asked → Bool
 samples_go_together asked = not (wants_two asked) && (not (is_half_told asked) && not (wants_more asked))
 
+-- something is asked for that is of all requests, or of a part of them
+abbrev pub wants_all : Asked → Bool
+wants_all asked = asked.least || asked.floor || asked.summary
+
+abbrev pub wants_part : Asked → Bool
+wants_part asked = is_some asked.sample || is_some asked.sampled
+
+-- where the first requests are not counted, neither is, nor is one size for each key
+abbrev pub after_goes_together : Asked → Bool
+after_goes_together asked = not (is_some asked.after && wants_all asked)
+    && (not (is_some asked.after && wants_part asked) && not (is_some asked.after && asked.one_size))
+
 abbrev pub go_together : Asked → Bool
-go_together asked = forms_go_together asked && samples_go_together asked
+go_together asked = forms_go_together asked && (samples_go_together asked && after_goes_together asked)
 
 module _ {A : Type 0} where
   -- what a draft holds, as numbers and bytes
@@ -90,7 +111,10 @@ module _ {A : Type 0} where
   asked_by draft = record {
     named = map non_zero_usize_get draft.named.items;
     all = draft.all;
+    hit_ratio = option_map (λ r. r.number) draft.hit_ratio;
+    byte_hit_ratio = option_map (λ r. r.number) draft.byte_hit_ratio;
     sizes = draft.sizes;
+    one_size = draft.one_size;
     least = draft.least;
     floor = draft.floor;
     json = draft.json;
@@ -99,18 +123,22 @@ module _ {A : Type 0} where
     sample = option_map non_zero_usize_get draft.sample;
     sampled = option_map non_zero_usize_get draft.sampled;
     requests = option_map non_zero_usize_get draft.requests;
+    after = option_map non_zero_usize_get draft.after;
     title = option_map string_bytes draft.look.title;
     unit = option_map string_bytes draft.look.unit;
     from = option_map non_zero_usize_get draft.look.from;
     to = option_map non_zero_usize_get draft.look.to;
   }
 
-  -- the capacities are all, or those of these numbers for one key in n, or the usual ones
-  abbrev pub AreCapacitiesOf : Bool → List ℕ → ℕ → Capacities A → Type 0
-  AreCapacitiesOf all numbers n Usual = (all ≡ false) × (numbers ≡ [])
-  AreCapacitiesOf all numbers n Each = all ≡ true
-  AreCapacitiesOf all numbers n (Named named) = (all ≡ false) × (is_some_of numbers ≡ true)
+  -- the capacities are all, or those of these numbers for one key in n, or that of a ratio of the hits or of the hit bytes, or the
+  -- usual ones
+  abbrev pub AreCapacitiesOf : Bool → List ℕ → Option ℕ → Option ℕ → ℕ → Capacities A → Type 0
+  AreCapacitiesOf all numbers hits bytes n Usual = (all ≡ false) × (numbers ≡ []) × (hits ≡ None) × (bytes ≡ None)
+  AreCapacitiesOf all numbers hits bytes n Each = all ≡ true
+  AreCapacitiesOf all numbers hits bytes n (Named named) = (all ≡ false) × (is_some_of numbers ≡ true)
       × IsSortedSet (map (part_of n) numbers) (map non_zero_usize_get named.items)
+  AreCapacitiesOf all numbers hits bytes n (HitRatio r) = hits ≡ Some r.number
+  AreCapacitiesOf all numbers hits bytes n (ByteHitRatio r) = bytes ≡ Some r.number
 
   -- title, unit and ends of the axis
   pub record IsLookOf (asked : Asked) (look : Look A) : Type 0 where
@@ -123,11 +151,13 @@ module _ {A : Type 0} where
   pub record AreOf (asked : Asked) (options : Options A) : Type 0 where
     pub form : options.form ≡ form_of asked
     pub sizes : options.sizes ≡ asked.sizes
+    pub one_size : options.one_size ≡ asked.one_size
     pub least : options.least ≡ asked.least
     pub floor : options.floor ≡ asked.floor
     pub sample : IsSampleOf asked options.sample
+    pub after : option_map non_zero_usize_get options.after ≡ asked.after
     pub look : IsLookOf asked options.look
-    pub capacities : AreCapacitiesOf asked.all asked.named (one_in options.sample) options.capacities
+    pub capacities : AreCapacitiesOf asked.all asked.named asked.hit_ratio asked.byte_hit_ratio (one_in options.sample) options.capacities
 
   -- a report is asked for, and these are its options
   abbrev pub GivesOptions : Reading → Options A → Type 0

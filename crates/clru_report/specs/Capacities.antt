@@ -3,7 +3,8 @@ use Rattle.std.specs.Prelude.{ℕ, ◌+◌, ◌-◌, ◌*◌, ◌/◌, ◌%◌, 
 use Rattle.std.specs.List.{filter, range_with_len}
 use Rattle.std.specs.Int.NonZero.{non_zero_usize_get}
 use Rattle.clru_report.specs.declared.options.Capacities.{Capacities}
-use Rattle.clru_report.specs.declared.options.Capacities.TheVariants.{Usual, Each, Named}
+use Rattle.clru_report.specs.declared.options.Capacities.TheVariants.{Usual, Each, Named, HitRatio, ByteHitRatio}
+use Rattle.clru_report.specs.Ratios.{least_with}
 
 -- 1, 2 and 5
 abbrev pub first_digit : ℕ → ℕ
@@ -25,11 +26,14 @@ is_fall misses c = (c == 1) || nat_lt (misses c) (misses (c - 1))
 abbrev pub falls : (ℕ → ℕ) → ℕ → List ℕ
 falls misses n = filter (is_fall misses) (map (λ k. k + 1) (range_with_len 0 n))
 
--- the capacities for requests of n distinct keys with so many misses at each, where the usual ones are those of the table
-abbrev pub capacities_of : {A : Type 0} → Capacities A → (ℕ → ℕ) → ℕ → List ℕ → List ℕ
-capacities_of Usual misses n table = table
-capacities_of Each misses n table = falls misses n
-capacities_of (Named named) misses n table = map non_zero_usize_get named.items
+-- the capacities for so many requests, of n distinct keys, with so many misses at each, where the usual ones are those of the table;
+-- each key takes one place, so the bytes are the requests
+abbrev pub capacities_of : {A : Type 0} → Capacities A → (ℕ → ℕ) → ℕ → ℕ → List ℕ → List ℕ
+capacities_of Usual misses whole n table = table
+capacities_of Each misses whole n table = falls misses n
+capacities_of (Named named) misses whole n table = map non_zero_usize_get named.items
+capacities_of (HitRatio r) misses whole n table = least_with r.number whole misses 1 n
+capacities_of (ByteHitRatio r) misses whole n table = least_with r.number whole misses 1 n
 
 -- the greatest size g, and each such capacity from there up to n
 abbrev pub falls_from : (ℕ → ℕ) → ℕ → ℕ → List ℕ
@@ -40,9 +44,11 @@ falls_from misses g n = filter (λ c. (c == g) || nat_lt (misses c) (misses (c -
 abbrev pub usual_from : ℕ → ℕ → List ℕ
 usual_from g n = filter (λ c. nat_le g c) (usual n)
 
--- the capacities for requests of the greatest size g, whose distinct keys have the size n together, with so many misses at each, where
--- the usual ones are those of the table
-abbrev pub sized_capacities_of : {A : Type 0} → Capacities A → (ℕ → ℕ) → ℕ → ℕ → List ℕ → List ℕ
-sized_capacities_of Usual misses g n table = table
-sized_capacities_of Each misses g n table = falls_from misses g n
-sized_capacities_of (Named named) misses g n table = map non_zero_usize_get named.items
+-- the capacities for so many requests of this size together, of the greatest size g, whose distinct keys have the size n together, with
+-- so many misses at each, and of such a size, where the usual ones are those of the table
+abbrev pub sized_capacities_of : {A : Type 0} → Capacities A → (ℕ → ℕ) → (ℕ → ℕ) → ℕ → ℕ → ℕ → ℕ → List ℕ → List ℕ
+sized_capacities_of Usual misses missed requests size g n table = table
+sized_capacities_of Each misses missed requests size g n table = falls_from misses g n
+sized_capacities_of (Named named) misses missed requests size g n table = map non_zero_usize_get named.items
+sized_capacities_of (HitRatio r) misses missed requests size g n table = least_with r.number requests misses g n
+sized_capacities_of (ByteHitRatio r) misses missed requests size g n table = least_with r.number size missed g n

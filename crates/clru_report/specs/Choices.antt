@@ -1,9 +1,11 @@
 -- What the options of a report hold to. Their type cites it.
-use Rattle.std.specs.Prelude.{ℕ, Bool, true, false, List, [], map}
+use Rattle.std.specs.Prelude.{ℕ, Bool, true, false, not, ◌||◌, List, [], map}
 use Rattle.std.specs.Int.NonZero.{non_zero_usize_get}
 use Rattle.std.specs.List.Sorted.{IsStrictlyIncreasing}
 use Rattle.clru_report.specs.declared.options.Capacities.{Capacities}
-use Rattle.clru_report.specs.declared.options.Capacities.TheVariants.{Usual, Each, Named}
+use Rattle.clru_report.specs.declared.options.Capacities.TheVariants.{Usual, Each, Named, HitRatio, ByteHitRatio}
+use Rattle.clru_report.specs.declared.options.Form.{Form}
+use Rattle.clru_report.specs.declared.options.Form.TheVariants.{Table, Json, Picture, Summary}
 use Rattle.clru_report.specs.declared.options.Sample.{Sample}
 use Rattle.clru_report.specs.declared.options.Sample.TheVariants.{Whole, OneIn, Taken}
 
@@ -12,6 +14,8 @@ abbrev pub named_in : {A : Type 0} → Capacities A → List ℕ
 named_in Usual = []
 named_in Each = []
 named_in (Named named) = map non_zero_usize_get named.items
+named_in (HitRatio r) = []
+named_in (ByteHitRatio r) = []
 
 -- each is greater than the one before
 abbrev pub AreAscending : {A : Type 0} → Capacities A → Type 0
@@ -22,3 +26,14 @@ abbrev pub is_whole : Sample → Bool
 is_whole Whole = true
 is_whole (OneIn n) = false
 is_whole (Taken n all) = false
+
+-- how many requests and keys there are is asked for
+abbrev pub is_summary : Form → Bool
+is_summary Table = false
+is_summary Json = false
+is_summary Picture = false
+is_summary Summary = true
+
+-- something is asked for that requests behind the first ones do not have
+abbrev pub is_of_all : Bool → Bool → Sample → Form → Bool
+is_of_all least floor sample form = least || (floor || (not (is_whole sample) || is_summary form))

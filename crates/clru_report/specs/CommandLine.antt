@@ -3,14 +3,18 @@ use Rattle.std.specs.Prelude.{ℕ, ◌==◌, Bool, true, false, ◌||◌, nat_eq
 use Rattle.std.specs.List.{slice_split, starts_with}
 use Rattle.std.specs.Option.{option_and_then, option_or}
 use Rattle.clru_report.specs.Numbers.{number_in}
+use Rattle.clru_report.specs.Ratios.{ratio_in}
 use Rattle.clru_report.specs.declared.arguments.Value.{Value}
-use Rattle.clru_report.specs.declared.arguments.Value.TheVariants.{Capacities, Sample, Sampled, Requests, Title, Unit, From, To}
+use Rattle.clru_report.specs.declared.arguments.Value.TheVariants.{Capacities, Sample, Sampled, Requests, After, Title, Unit, From, To, HitRatio, ByteHitRatio}
 
 -- what was asked for so far
 pub record Asked : Type 0 where
   pub named : List ℕ
   pub all : Bool
+  pub hit_ratio : Option ℕ
+  pub byte_hit_ratio : Option ℕ
   pub sizes : Bool
+  pub one_size : Bool
   pub least : Bool
   pub floor : Bool
   pub json : Bool
@@ -19,6 +23,7 @@ pub record Asked : Type 0 where
   pub sample : Option ℕ
   pub sampled : Option ℕ
   pub requests : Option ℕ
+  pub after : Option ℕ
   pub title : Option (List ℕ)
   pub unit : Option (List ℕ)
   pub from : Option ℕ
@@ -29,7 +34,10 @@ abbrev pub nothing : Asked
 nothing = record {
   named = [];
   all = false;
+  hit_ratio = None;
+  byte_hit_ratio = None;
   sizes = false;
+  one_size = false;
   least = false;
   floor = false;
   json = false;
@@ -38,6 +46,7 @@ nothing = record {
   sample = None;
   sampled = None;
   requests = None;
+  after = None;
   title = None;
   unit = None;
   from = None;
@@ -62,9 +71,12 @@ with_capacities list asked =
 -- what is asked for after a value
 abbrev pub with_value_of : Value → List ℕ → Asked → Option Asked
 with_value_of Capacities word asked = with_capacities word asked
+with_value_of HitRatio word asked = with_value (λ r. record asked { hit_ratio = Some r }) (ratio_in word)
+with_value_of ByteHitRatio word asked = with_value (λ r. record asked { byte_hit_ratio = Some r }) (ratio_in word)
 with_value_of Sample word asked = with_value (λ n. record asked { sample = Some n }) (number_in word)
 with_value_of Sampled word asked = with_value (λ n. record asked { sampled = Some n }) (number_in word)
 with_value_of Requests word asked = with_value (λ n. record asked { requests = Some n }) (number_in word)
+with_value_of After word asked = with_value (λ n. record asked { after = Some n }) (number_in word)
 with_value_of Title word asked = Some (record asked { title = Some word })
 with_value_of Unit word asked = Some (record asked { unit = Some word })
 with_value_of From word asked = with_value (λ n. record asked { from = Some n }) (number_in word)
@@ -74,24 +86,28 @@ with_value_of To word asked = with_value (λ n. record asked { to = Some n }) (n
 abbrev pub value_behind : List ℕ → Option Value
 value_behind word =
     if bytes_eq word (codes "--at") then Some Capacities else
+    (if bytes_eq word (codes "--hit-ratio") then Some HitRatio else
+    (if bytes_eq word (codes "--byte-hit-ratio") then Some ByteHitRatio else
     (if bytes_eq word (codes "--sample") then Some Sample else
     (if bytes_eq word (codes "--sampled") then Some Sampled else
     (if bytes_eq word (codes "--requests") then Some Requests else
+    (if bytes_eq word (codes "--after") then Some After else
     (if bytes_eq word (codes "--title") then Some Title else
     (if bytes_eq word (codes "--unit") then Some Unit else
     (if bytes_eq word (codes "--from") then Some From else
-    (if bytes_eq word (codes "--to") then Some To else None)))))))
+    (if bytes_eq word (codes "--to") then Some To else None))))))))))
 
 -- what is asked for after a flag, if the argument is one
 abbrev pub with_flag : List ℕ → Asked → Option Asked
 with_flag word asked =
     if bytes_eq word (codes "--all") then Some (record asked { all = true }) else
     (if bytes_eq word (codes "--sizes") then Some (record asked { sizes = true }) else
+    (if bytes_eq word (codes "--one-size") then Some (record asked { one_size = true }) else
     (if bytes_eq word (codes "--least") then Some (record asked { least = true }) else
     (if bytes_eq word (codes "--floor") then Some (record asked { floor = true }) else
     (if bytes_eq word (codes "--json") then Some (record asked { json = true }) else
     (if bytes_eq word (codes "--svg") then Some (record asked { svg = true }) else
-    (if bytes_eq word (codes "--summary") then Some (record asked { summary = true }) else None))))))
+    (if bytes_eq word (codes "--summary") then Some (record asked { summary = true }) else None)))))))
 
 -- what is asked for after an argument that no value follows, if the word is one
 abbrev pub with_argument : List ℕ → Asked → Option Asked

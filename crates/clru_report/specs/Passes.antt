@@ -64,14 +64,14 @@ wants_least options = has_rows options.form && options.least
 abbrev pub wants_floor : {A : Type 0} → Options A → Bool
 wants_floor options = has_rows options.form && options.floor
 
--- the curve by size of the lines of an input that a sample keeps, with the number, the size and the bytes of all lines, each of
--- which has a size
-pub record IsSizedCurveOfKept (n : ℕ) (input : List ℕ) (curve : CurveBySize) (requests size bytes : ℕ) : Type 0 where
-  pub sizes : HaveSizes (lines_of input)
-  pub of_kept : IsSizedCurveOf bytes_eq weight_of_line (kept_of n (lines_of input)) curve
-  pub no_fault : fault_from 1 0 (lines_of input) ≡ None
-  pub counted : requests ≡ length (lines_of input)
-  pub summed : size ≡ size_of_lines (lines_of input)
+-- the curve by size of these lines of an input that a sample keeps, with the number and the size of all of them, each of which has
+-- a size, and the bytes of the input
+pub record IsSizedCurveOfKept (n : ℕ) (input : List ℕ) (lines : List (List ℕ)) (curve : CurveBySize) (requests size bytes : ℕ) : Type 0 where
+  pub sizes : HaveSizes lines
+  pub of_kept : IsSizedCurveOf bytes_eq weight_of_line (kept_of n lines) curve
+  pub no_fault : fault_from 1 0 lines ≡ None
+  pub counted : requests ≡ length lines
+  pub summed : size ≡ size_of_lines lines
   pub in_bytes : bytes ≡ length input
 
 -- the pass took these lines
@@ -197,10 +197,10 @@ module _ (curve : CurveBySize) where
     pub faithful : IsFaithful (missed_size_within curve) whole (usual_from (1 + curve.greatest_weight) curve.distinct_size) table
     pub marks : marked ≡ knees (missed_size_within curve) whole table
 
-  -- the capacities that are asked for
-  abbrev pub capacities_on : {A : Type 0} → Capacities A → List ℕ → List ℕ
-  capacities_on capacities table = sized_capacities_of capacities (misses_within curve)
-      (1 + curve.greatest_weight) curve.distinct_size table
+  -- the capacities that are asked for, where so many requests of this size together are the whole
+  abbrev pub capacities_on : {A : Type 0} → Capacities A → ℕ → ℕ → List ℕ → List ℕ
+  capacities_on capacities requests size table = sized_capacities_of capacities (misses_within curve) (missed_size_within curve)
+      requests size (1 + curve.greatest_weight) curve.distinct_size table
 
   -- the text of a table of such rows, with the floors if they are there, in JSON or as CSV
   pub record IsTableOf {A : Type 0} (json : Bool) (floors : Option (Floors A)) (floor : Bool) (capacities : Capacities A) (text : List ℕ) : Type 0 where
@@ -208,7 +208,7 @@ module _ (curve : CurveBySize) where
     pub marked : List ℕ
     pub rows : List SizedRow
     pub usual : IsUsualOn curve.size table marked
-    pub rowed : AreRowsOf floors (capacities_on capacities table) rows
+    pub rowed : AreRowsOf floors (capacities_on capacities curve.requests curve.size table) rows
     pub is : text ≡ sized_table_text json floor curve.requests curve.size marked rows
 
   -- why capacities have no rows
@@ -226,4 +226,4 @@ module _ (curve : CurveBySize) where
   -- why they have none, beside the usual table
   abbrev pub IsOfAsked : {A : Type 0} → Fault → Capacities A → Type 0
   IsOfAsked fault capacities = (table : List ℕ) × (marked : List ℕ) × IsUsualOn curve.size table marked
-      × IsOfCapacities fault (capacities_on capacities table)
+      × IsOfCapacities fault (capacities_on capacities curve.requests curve.size table)

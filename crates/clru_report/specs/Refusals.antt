@@ -1,14 +1,16 @@
 -- Which inputs have no report by size, and why. Public clauses cite them.
-use Rattle.std.specs.Prelude.{◌≡◌, ℕ, ◌+◌, ◌<◌, ◌≤◌, ◌^◌, Bool, true, false, nat_le, nat_lt, List, [], ◌∷◌, map, take, Option, None, Some, IsNone, IsSomeAnd, if◌then◌else◌}
+use Rattle.std.specs.Prelude.{◌≡◌, ℕ, ◌+◌, ◌<◌, ◌≤◌, ◌^◌, Bool, true, false, nat_lt, List, map, take, Option, None, Some, IsNone, IsSomeAnd, if◌then◌else◌}
 use Rattle.std.specs.Int.NonZero.{non_zero_usize_get}
 use Rattle.std.specs.List.{Contains, list_any, slice_get}
-use Rattle.std.specs.Option.{is_none, option_or}
+use Rattle.std.specs.Option.{option_or}
+pub use Rattle.clru_report.specs.LineFaults.{fault_from}
 use Rattle.clru_lines.specs.Lines.{lines_of}
-use Rattle.clru_report.specs.Sizes.{HaveSizes, greatest_size, size_of_line, size_of_lines, weight_of_line}
+use Rattle.clru_report.specs.OneSize.{counted_lines}
+use Rattle.clru_report.specs.Sizes.{HaveSizes, greatest_size, size_of_line, size_of_lines}
 use Rattle.clru_lines.specs.declared.fault.Fault.{Fault}
 use Rattle.clru_lines.specs.declared.fault.Fault.TheVariants.{BadCapacity, Memory, Reading, Writing, Closed, NoSize, TooLarge, TooSmall}
 use Rattle.clru_report.specs.declared.options.Capacities.{Capacities}
-use Rattle.clru_report.specs.declared.options.Capacities.TheVariants.{Usual, Each, Named}
+use Rattle.clru_report.specs.declared.options.Capacities.TheVariants.{Usual, Each, Named, HitRatio, ByteHitRatio}
 use Rattle.clru_report.specs.declared.options.Form.{Form}
 use Rattle.clru_report.specs.declared.options.Form.TheVariants.{Table, Json, Picture, Summary}
 use Rattle.clru_report.specs.declared.options.Options.{Options}
@@ -36,21 +38,16 @@ abbrev pub NamesBelow : {A : Type 0} → Capacities A → ℕ → Type 0
 NamesBelow Usual n = ⊥
 NamesBelow Each n = ⊥
 NamesBelow (Named named) n = (capacity : ℕ) × Contains (map non_zero_usize_get named.items) capacity × (capacity < n)
+NamesBelow (HitRatio r) n = ⊥
+NamesBelow (ByteHitRatio r) n = ⊥
 
 -- the same as an answer; it is none of the usual ones
 abbrev pub names_below : {A : Type 0} → Capacities A → ℕ → Bool
 names_below Usual n = false
 names_below Each n = false
 names_below (Named named) n = list_any (λ c. nat_lt c n) (map non_zero_usize_get named.items)
-
--- the fault of the first of these lines that has one, if any has: no size, or one that takes the sizes past the greatest number.
--- The lines are counted from the number on, and those before them have the size together
-abbrev pub fault_from : ℕ → ℕ → List (List ℕ) → Option Fault
-fault_from number size [] = None
-fault_from number size (line ∷ lines) =
-    if is_none (size_of_line line) then Some (NoSize number) else
-    (if nat_le (2 ^ 64) (size + (1 + weight_of_line line)) then Some TooLarge else
-    fault_from (number + 1) (size + (1 + weight_of_line line)) lines)
+names_below (HitRatio r) n = false
+names_below (ByteHitRatio r) n = false
 
 -- the fault of capacities where the greatest size is n, if they have one; a summary has no capacities
 abbrev pub fault_beside : {A : Type 0} → Form → Capacities A → ℕ → Option Fault
@@ -91,4 +88,5 @@ IsRefusedBy sample fault options lines = (fault_by sample options lines ≡ Some
 
 -- the input has no report, for the reason that the fault says
 abbrev pub IsRefused : {A : Type 0} → Fault → Options A → List ℕ → Type 0
-IsRefused fault options input = (options.sizes ≡ true) × IsRefusedBy options.sample fault options (lines_of input)
+IsRefused fault options input = (options.sizes ≡ true)
+    × IsRefusedBy options.sample fault options (counted_lines options.one_size (lines_of input))

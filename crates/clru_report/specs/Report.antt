@@ -1,15 +1,19 @@
 -- What is written for an input. The numbers are those of the definitions of requests and schedules: no cache is in sight.
-use Rattle.std.specs.Prelude.{◌≡◌, ℕ, ◌-◌, ◌/◌, ◌^◌, Bool, true, false, List, length, map, reverse, None, Some, IsSomeAnd, bytes_eq}
+use Rattle.std.specs.Prelude.{◌≡◌, ℕ, ◌-◌, ◌/◌, ◌^◌, Bool, true, false, List, length, map, reverse, Option, None, Some, IsSomeAnd, bytes_eq}
 use Rattle.std.specs.Int.NonZero.{non_zero_usize_get}
 use Rattle.std.specs.List.{All}
+use Rattle.std.specs.Option.{option_map}
 use Rattle.clru_model.specs.Requests.{distinct, misses}
 use Rattle.clru_model.specs.Floor.{floor_misses}
 use Rattle.clru_model.specs.Least.{IsLeast}
 use Rattle.clru_lines.specs.Lines.{lines_of}
+use Rattle.clru_report.specs.After.{IsInFormAfter}
 use Rattle.clru_report.specs.Capacities.{capacities_of, usual}
 use Rattle.clru_report.specs.Faithful.{IsFaithful}
 use Rattle.clru_report.specs.Knees.{knees}
+use Rattle.clru_report.specs.OneSize.{counted_lines}
 use Rattle.clru_report.specs.Samples.{kept_of, numbers_of, numbers_times, times}
+use Rattle.clru_report.specs.SizedAfter.{IsReportBySizeAfter}
 use Rattle.clru_report.specs.SizedReport.{IsReportBySizeOf}
 use Rattle.clru_report.specs.Tables.{HasTable, capacity_of_row, table_text, summary_text}
 use Rattle.clru_report.specs.declared.options.Form.{Form}
@@ -47,15 +51,15 @@ misses_of requests c = misses bytes_eq c requests
 abbrev pub IsUsualTable : ℕ → List (List ℕ) → List ℕ → Type 0
 IsUsualTable whole requests table = IsFaithful (misses_of requests) whole (usual (distinct bytes_eq (reverse requests))) table
 
--- the capacities that are asked for
-abbrev pub capacities_asked : {A : Type 0} → Options A → List (List ℕ) → List ℕ → List ℕ
-capacities_asked options requests table =
-    capacities_of options.capacities (misses_of requests) (distinct bytes_eq (reverse requests)) table
+-- the capacities that are asked for, where so many requests are the whole
+abbrev pub capacities_asked : {A : Type 0} → Options A → ℕ → List (List ℕ) → List ℕ → List ℕ
+capacities_asked options whole requests table =
+    capacities_of options.capacities (misses_of requests) whole (distinct bytes_eq (reverse requests)) table
 
 -- the table of these requests, in JSON or as CSV; whatever its rows, the knees are those of the usual one
 abbrev pub IsTable : {A : Type 0} → Bool → Options A → List (List ℕ) → List ℕ → Type 0
 IsTable json options requests text = (table : List ℕ) × (rows : List Row) × IsUsualTable (length requests) requests table
-    × AreRows bytes_eq requests options.least options.floor (capacities_asked options requests table) rows
+    × AreRows bytes_eq requests options.least options.floor (capacities_asked options (length requests) requests table) rows
     × (text ≡ table_text json options.least options.floor (length requests) (knees (misses_of requests) (length requests) table) rows)
 
 -- a picture that has the table in its description; of what is drawn no clause says anything
@@ -72,7 +76,7 @@ IsInForm Summary options input text =
 -- the rows that kept requests tell of all, of which there are so many; the capacities that are asked for are those for the kept ones
 abbrev pub AreRowsOfSample : {A : Type 0} → Options A → Bool → ℕ → ℕ → List (List ℕ) → List ℕ → List Row → Type 0
 AreRowsOfSample options floor n all kept table shown = (rows : List Row)
-    × AreRows bytes_eq kept false floor (capacities_asked options kept table) rows
+    × AreRows bytes_eq kept false floor (capacities_asked options (all / n) kept table) rows
     × (map numbers_of shown ≡ map (numbers_times n all) rows)
 
 -- the knees of the kept requests, as told of all
@@ -104,10 +108,22 @@ IsReportByKeys (OneIn n) options input text = IsInFormOfSample options.form opti
 IsReportByKeys (Taken n all) options input text =
     IsInFormOfSample options.form options (non_zero_usize_get n) all (lines_of input) input text
 
--- the same by size, where lines begin with sizes
+-- where the first requests fill the cache, that of those behind them
+abbrev pub IsReportByKeysFrom : {A : Type 0} → Option ℕ → Options A → List ℕ → List ℕ → Type 0
+IsReportByKeysFrom None options input text = IsReportByKeys options.sample options input text
+IsReportByKeysFrom (Some n) options input text = IsInFormAfter options.form n options input text
+
+-- the same by size
+abbrev pub IsReportBySizeFrom : {A : Type 0} → Option ℕ → Options A → List ℕ → List (List ℕ) → List ℕ → Type 0
+IsReportBySizeFrom None options input lines text = IsReportBySizeOf options.sample options input lines text
+IsReportBySizeFrom (Some n) options input lines text = IsReportBySizeAfter n options lines text
+
+-- by keys, or by size, where lines begin with sizes, and where each key may have one size
 abbrev pub IsReportBy : {A : Type 0} → Bool → Options A → List ℕ → List ℕ → Type 0
-IsReportBy false options input text = IsReportByKeys options.sample options input text
-IsReportBy true options input text = IsReportBySizeOf options.sample options input (lines_of input) text
+IsReportBy false options input text = IsReportByKeysFrom (option_map non_zero_usize_get options.after) options input text
+IsReportBy true options input text =
+    IsReportBySizeFrom (option_map non_zero_usize_get options.after) options input
+    (counted_lines options.one_size (lines_of input)) text
 
 -- the text that the options ask for, of an input whose lines are the requests
 abbrev pub IsReport : {A : Type 0} → Options A → List ℕ → List ℕ → Type 0

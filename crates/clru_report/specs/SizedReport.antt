@@ -52,15 +52,16 @@ abbrev pub IsSizedUsualTable : ℕ → List (List ℕ) → List ℕ → Type 0
 IsSizedUsualTable whole lines table =
     IsFaithful (missed_of lines) whole (usual_from (greatest_size lines) (distinct_size lines)) table
 
--- the capacities that are asked for
-abbrev pub sized_capacities_asked : {A : Type 0} → Options A → List (List ℕ) → List ℕ → List ℕ
-sized_capacities_asked options lines table = sized_capacities_of options.capacities
-    (λ c. misses_by_size bytes_eq weight_of_line c lines) (greatest_size lines) (distinct_size lines) table
+-- the capacities that are asked for, where so many requests of this size together are the whole
+abbrev pub sized_capacities_asked : {A : Type 0} → Options A → ℕ → ℕ → List (List ℕ) → List ℕ → List ℕ
+sized_capacities_asked options requests size lines table = sized_capacities_of options.capacities
+    (λ c. misses_by_size bytes_eq weight_of_line c lines) (missed_of lines) requests size
+    (greatest_size lines) (distinct_size lines) table
 
 -- the table of these lines, each of which has a size, in JSON or as CSV; whatever its rows, the knees are those of the usual one
 abbrev pub IsSizedTable : {A : Type 0} → Bool → Options A → List (List ℕ) → List ℕ → Type 0
 IsSizedTable json options lines text = (table : List ℕ) × (rows : List SizedRow) × IsSizedUsualTable (size_of_lines lines) lines table
-    × AreSizedRows lines options.floor (sized_capacities_asked options lines table) rows
+    × AreSizedRows lines options.floor (sized_capacities_asked options (length lines) (size_of_lines lines) lines table) rows
     × (text ≡ sized_table_text json options.floor (length lines) (size_of_lines lines)
     (knees (missed_of lines) (size_of_lines lines) table) rows)
 
@@ -84,10 +85,11 @@ abbrev pub IsReportBySize : {A : Type 0} → Options A → List ℕ → List (Li
 IsReportBySize options input lines text =
     HaveSizes lines × (fault_of options lines ≡ None) × IsInFormBySize options.form options input lines text
 
--- the capacities for the lines that were kept: at one below the greatest of their sizes they have no row
-abbrev pub sized_capacities_of_sample : {A : Type 0} → Options A → List (List ℕ) → List ℕ → List ℕ
-sized_capacities_of_sample options kept table =
-    filter (λ c. nat_le (greatest_size kept) c) (sized_capacities_asked options kept table)
+-- the capacities for the lines that were kept, where so many of this size are the whole: at one below the greatest of their sizes
+-- they have no row
+abbrev pub sized_capacities_of_sample : {A : Type 0} → Options A → ℕ → ℕ → List (List ℕ) → List ℕ → List ℕ
+sized_capacities_of_sample options requests size kept table =
+    filter (λ c. nat_le (greatest_size kept) c) (sized_capacities_asked options requests size kept table)
 
 -- the summary of lines of which one key in n was kept; the greatest size is that of the kept ones
 abbrev pub summary_by_size_of_sample : List ℕ → ℕ → ℕ → ℕ → List (List ℕ) → List ℕ
@@ -100,7 +102,7 @@ module _ {A : Type 0} (options : Options A) (n all size : ℕ) (kept : List (Lis
   -- the rows of the kept lines, as told of all
   abbrev pub AreSizedRowsOfSample : List ℕ → List SizedRow → Type 0
   AreSizedRowsOfSample table shown = (rows : List SizedRow)
-      × AreSizedRows kept options.floor (sized_capacities_of_sample options kept table) rows
+      × AreSizedRows kept options.floor (sized_capacities_of_sample options (all / n) (size / n) kept table) rows
       × (map sized_numbers_of shown ≡ map (sized_numbers_times n all size) rows)
 
   -- the knees of the kept lines, as told of all

@@ -3,12 +3,15 @@ ghost use Rattle.std.specs.Prelude.{◌≡◌, ◌<◌, ◌≤◌, ◌++◌, ◌
 ghost use Rattle.std.specs.Int.NonZero.{non_zero_usize_get};
 ghost use Rattle.std.specs.List.{slice_split};
 ghost use Rattle.std.specs.Option.{is_none, option_map};
-ghost use Rattle.clru_report.specs.Arguments.{AreCapacitiesOf, asked_by, form_of as form_by, forms_go_together, go_together, is_half_told, is_wrong, IsAskedFor, IsRefusedLine, IsSampleOf, IsSortedSet, one_in as one_in_by, part_of, samples_go_together, reading_after, wants_look, wants_more, wants_rows, wants_two};
+ghost use Rattle.clru_report.specs.Arguments.{after_goes_together, AreCapacitiesOf, asked_by, form_of as form_by, forms_go_together, go_together, is_half_told, is_wrong, IsAskedFor, IsRefusedLine, IsSampleOf, IsSortedSet, one_in as one_in_by, part_of, samples_go_together, reading_after, wants_all, wants_look, wants_more, wants_part, wants_rows, wants_two, ratios_go_together, wants_ratio};
+ghost use Rattle.clru_report.specs.Choices.{AreAscending};
 ghost use Rattle.clru_report.specs.CommandLine.{numbers_and, read_all, read_word, value_behind, with_argument, with_flag, with_value_of, asks, nothing, wrong as is_not_read};
 ghost use Rattle.clru_report.specs.Numbers.{number_in};
+ghost use Rattle.clru_report.specs.Ratios.{ratio_in};
 
 use crate::numbers::number_of_word;
 use crate::options::{Capacities, Form, Look, Options, Sample};
+use crate::ratio::{Billionths, ratio_of_word};
 use std::alloc::{Allocator, Global};
 use std::convert::AsStr;
 use std::num::NonZeroUsize;
@@ -38,7 +41,10 @@ pub enum Refusal<A: Allocator = Global> {
 struct Draft<A: Allocator> {
     named: Vec<NonZeroUsize, A>,
     all: bool,
+    hit_ratio: Option<Billionths>,
+    byte_hit_ratio: Option<Billionths>,
     sizes: bool,
+    one_size: bool,
     least: bool,
     floor: bool,
     json: bool,
@@ -47,6 +53,7 @@ struct Draft<A: Allocator> {
     sample: Option<NonZeroUsize>,
     sampled: Option<NonZeroUsize>,
     requests: Option<NonZeroUsize>,
+    after: Option<NonZeroUsize>,
     look: Look<A>,
 }
 
@@ -54,9 +61,12 @@ struct Draft<A: Allocator> {
 #[derive(Clone, Copy, PartialEq, Eq)]
 enum Value {
     Capacities,
+    HitRatio,
+    ByteHitRatio,
     Sample,
     Sampled,
     Requests,
+    After,
     Title,
     Unit,
     From,
@@ -104,7 +114,10 @@ fn draft_of<A: Allocator + Copy>(alloc: A) -> Draft<A>
     Draft {
         named: Vec::new(alloc),
         all: false,
+        hit_ratio: None,
+        byte_hit_ratio: None,
         sizes: false,
+        one_size: false,
         least: false,
         floor: false,
         json: false,
@@ -113,6 +126,7 @@ fn draft_of<A: Allocator + Copy>(alloc: A) -> Draft<A>
         sample: None,
         sampled: None,
         requests: None,
+        after: None,
         look: Look {
             title: None,
             unit: None,
@@ -189,9 +203,12 @@ fn value_of(word: &str) -> Option<Value>
 {
     match word {
         "--at" => Some(Value::Capacities),
+        "--hit-ratio" => Some(Value::HitRatio),
+        "--byte-hit-ratio" => Some(Value::ByteHitRatio),
         "--sample" => Some(Value::Sample),
         "--sampled" => Some(Value::Sampled),
         "--requests" => Some(Value::Requests),
+        "--after" => Some(Value::After),
         "--title" => Some(Value::Title),
         "--unit" => Some(Value::Unit),
         "--from" => Some(Value::From),
@@ -208,6 +225,7 @@ fn take_flag<A: Allocator>(draft: &mut Draft<A>, word: &str) -> bool
     match word {
         "--all" => draft.all = true,
         "--sizes" => draft.sizes = true,
+        "--one-size" => draft.one_size = true,
         "--least" => draft.least = true,
         "--floor" => draft.floor = true,
         "--json" => draft.json = true,
@@ -230,9 +248,12 @@ fn take_value<A: Allocator + Copy>(
 {
     match value {
         Value::Capacities => name_capacities(alloc, &mut draft.named, word)?,
+        Value::HitRatio => draft.hit_ratio = Some(ratio_named(alloc, value, word)?),
+        Value::ByteHitRatio => draft.byte_hit_ratio = Some(ratio_named(alloc, value, word)?),
         Value::Sample => draft.sample = Some(number_named(alloc, value, word)?),
         Value::Sampled => draft.sampled = Some(number_named(alloc, value, word)?),
         Value::Requests => draft.requests = Some(number_named(alloc, value, word)?),
+        Value::After => draft.after = Some(number_named(alloc, value, word)?),
         Value::Title => draft.look.title = Some(text_of(alloc, word)?),
         Value::Unit => draft.look.unit = Some(text_of(alloc, word)?),
         Value::From => draft.look.from = Some(number_named(alloc, value, word)?),
@@ -265,13 +286,31 @@ fn number_named<A: Allocator + Copy>(
     }
 }
 
+fn ratio_named<A: Allocator + Copy>(
+    alloc: A,
+    value: Value,
+    word: &str,
+) -> Result<Billionths, Refusal<A>>
+    ensures ratio { IfOk result (λ ratio. ratio_in word.now ≡ Some ratio.number) }
+    ensures refused { IfErr result (λ refusal. is_wrong refusal ≡ true → ratio_in word.now ≡ None) }
+{
+    match ratio_of_word(word) {
+        Some(ratio) => Ok(ratio),
+        None => Err(no_ratio(alloc, value, word)),
+    }
+}
+
 // What is wrong where the word is not there, or is none of those.
 fn no_value(value: Value) -> &'static str {
     match value {
         Value::Capacities => NO_CAPACITIES,
+        Value::HitRatio | Value::ByteHitRatio => {
+            "--hit-ratio and --byte-hit-ratio want a part of all: write --hit-ratio 0.8, or 80%"
+        }
         Value::Sample | Value::Sampled | Value::Requests => {
             "--sample, --sampled and --requests want a number: write --sample 100, or --sampled 100 --requests 500M"
         }
+        Value::After => "--after wants a number of requests: write --after 1M",
         Value::Title | Value::Unit => {
             "--title and --unit want a text: write --title 'May, all servers'"
         }
@@ -324,10 +363,7 @@ fn finish<A: Allocator + Copy>(alloc: A, draft: Draft<A>) -> Result<Command<A>, 
     ensures options { IfOk result (λ command. IsAskedFor (asks None (asked_by draft)) command) }
     ensures refused { IfErr result (λ refusal. is_wrong refusal ≡ true → go_together (asked_by draft) ≡ false) }
 {
-    if let Some(line) = conflict_of(&draft) {
-        return Err(wrong(alloc, line));
-    }
-    if let Some(line) = conflict_of_sample(&draft) {
+    if let Some(line) = conflict_in(&draft) {
         return Err(wrong(alloc, line));
     }
     let sample = sample_of(&draft);
@@ -335,7 +371,10 @@ fn finish<A: Allocator + Copy>(alloc: A, draft: Draft<A>) -> Result<Command<A>, 
     let Draft {
         named,
         all,
+        hit_ratio,
+        byte_hit_ratio,
         sizes,
+        one_size,
         least,
         floor,
         json: _,
@@ -344,14 +383,17 @@ fn finish<A: Allocator + Copy>(alloc: A, draft: Draft<A>) -> Result<Command<A>, 
         sample: _,
         sampled: _,
         requests: _,
+        after,
         look,
     } = draft;
     Ok(Command::Report(Options {
-        capacities: capacities_of(named, all, sample),
+        capacities: capacities_of(named, all, hit_ratio, byte_hit_ratio, sample),
         sizes,
+        one_size,
         least,
         floor,
         sample,
+        after,
         form,
         look,
     }))
@@ -361,10 +403,20 @@ fn finish<A: Allocator + Copy>(alloc: A, draft: Draft<A>) -> Result<Command<A>, 
 fn capacities_of<A: Allocator>(
     mut named: Vec<NonZeroUsize, A>,
     all: bool,
+    hit_ratio: Option<Billionths>,
+    byte_hit_ratio: Option<Billionths>,
     sample: Sample,
 ) -> Capacities<A>
-    ensures { AreCapacitiesOf all (map non_zero_usize_get named.items) (one_in_by sample) result }
+    ensures asked { AreCapacitiesOf all (map non_zero_usize_get named.items) (option_map (λ r. r.number) hit_ratio)
+        (option_map (λ r. r.number) byte_hit_ratio) (one_in_by sample) result }
+    ensures ascending { AreAscending result }
 {
+    if let Some(ratio) = hit_ratio {
+        return Capacities::HitRatio(ratio);
+    }
+    if let Some(ratio) = byte_hit_ratio {
+        return Capacities::ByteHitRatio(ratio);
+    }
     if all {
         return Capacities::Each;
     }
@@ -437,10 +489,52 @@ fn sample_of<A: Allocator>(draft: &Draft<A>) -> Sample
     Sample::Whole
 }
 
+// Which arguments do not go together, if any do not.
+fn conflict_in<A: Allocator>(draft: &Draft<A>) -> Option<&'static str>
+    ensures { is_none result ≡ go_together (asked_by draft.now) }
+{
+    if let Some(line) = conflict_of(draft) {
+        return Some(line);
+    }
+    if let Some(line) = conflict_of_sample(draft) {
+        return Some(line);
+    }
+    conflict_of_after(draft)
+}
+
+// Which arguments do not go with a hit ratio.
+fn conflict_of_ratio<A: Allocator>(draft: &Draft<A>) -> Option<&'static str>
+    ensures { is_none result ≡ ratios_go_together (asked_by draft.now) }
+{
+    if draft.hit_ratio.is_some() && draft.byte_hit_ratio.is_some() {
+        return Some("--hit-ratio and --byte-hit-ratio do not go together: leave one out");
+    }
+    if asks_for_ratio(draft) && (draft.all || !draft.named.is_empty()) {
+        return Some(
+            "a hit ratio asks for one capacity, so it goes with neither --at nor --all: leave one out",
+        );
+    }
+    if draft.byte_hit_ratio.is_some() && !draft.sizes {
+        return Some(
+            "--byte-hit-ratio counts bytes: write --sizes as well, and a size before each key",
+        );
+    }
+    None
+}
+
+fn asks_for_ratio<A: Allocator>(draft: &Draft<A>) -> bool
+    ensures { result ≡ wants_ratio (asked_by draft.now) }
+{
+    draft.hit_ratio.is_some() || draft.byte_hit_ratio.is_some()
+}
+
 // Which arguments do not go together, those of a sample aside.
 fn conflict_of<A: Allocator>(draft: &Draft<A>) -> Option<&'static str>
     ensures { is_none result ≡ forms_go_together (asked_by draft.now) }
 {
+    if let Some(line) = conflict_of_ratio(draft) {
+        return Some(line);
+    }
     if draft.all && !draft.named.is_empty() {
         return Some("--all and --at do not go together: leave one out");
     }
@@ -456,6 +550,9 @@ fn conflict_of<A: Allocator>(draft: &Draft<A>) -> Option<&'static str>
     }
     if draft.json && draft.svg {
         return Some("--json and --svg do not go together: leave one out");
+    }
+    if draft.one_size && !draft.sizes {
+        return Some("--one-size is of sizes: write --sizes as well");
     }
     if asks_for_look(draft) && !draft.svg {
         return Some("--title, --unit, --from and --to are of a picture: write --svg as well");
@@ -478,6 +575,36 @@ fn conflict_of_sample<A: Allocator>(draft: &Draft<A>) -> Option<&'static str>
         return Some("a sample does not go with --least: take the whole log for it");
     }
     None
+}
+
+fn conflict_of_after<A: Allocator>(draft: &Draft<A>) -> Option<&'static str>
+    ensures { is_none result ≡ after_goes_together (asked_by draft.now) }
+{
+    if draft.after.is_some() && asks_for_all(draft) {
+        return Some(
+            "--after does not go with --least, --floor or --summary: these are of all requests, so leave one out",
+        );
+    }
+    if draft.after.is_some() && asks_for_part(draft) {
+        return Some("--after does not go with a sample: take the whole log for it");
+    }
+    if draft.after.is_some() && draft.one_size {
+        return Some("--after and --one-size do not go together: leave one out");
+    }
+    None
+}
+
+// Whether something is asked for that is of all requests.
+fn asks_for_all<A: Allocator>(draft: &Draft<A>) -> bool
+    ensures { result ≡ wants_all (asked_by draft.now) }
+{
+    draft.least || draft.floor || draft.summary
+}
+
+fn asks_for_part<A: Allocator>(draft: &Draft<A>) -> bool
+    ensures { result ≡ wants_part (asked_by draft.now) }
+{
+    draft.sample.is_some() || draft.sampled.is_some()
 }
 
 fn asks_for_two<A: Allocator>(draft: &Draft<A>) -> bool
@@ -512,7 +639,13 @@ fn asks_for_look<A: Allocator>(draft: &Draft<A>) -> bool
 fn asks_for_rows<A: Allocator>(draft: &Draft<A>) -> bool
     ensures { result ≡ wants_rows (asked_by draft.now) }
 {
-    draft.all || !draft.named.is_empty() || draft.least || draft.floor || draft.svg || draft.json
+    draft.all
+        || !draft.named.is_empty()
+        || draft.least
+        || draft.floor
+        || draft.svg
+        || draft.json
+        || asks_for_ratio(draft)
 }
 
 fn wrong<A: Allocator + Copy>(alloc: A, line: &str) -> Refusal<A> {
@@ -560,6 +693,19 @@ fn no_number<A: Allocator + Copy>(alloc: A, value: Value, word: &str) -> Refusal
         return wrong(alloc, no_value(value));
     }
     let line = format!(in alloc; "{word:?} is no number: {UNDERSTOOD}");
+    match line {
+        Ok(line) => Refusal::Wrong(line),
+        Err(_) => Refusal::Memory,
+    }
+}
+
+fn no_ratio<A: Allocator + Copy>(alloc: A, value: Value, word: &str) -> Refusal<A> {
+    if word.is_empty() || word.starts_with("--") {
+        return wrong(alloc, no_value(value));
+    }
+    let line = format!(in alloc;
+        "{word:?} is no hit ratio: write a part of all as 0.8 or 80%, more than 0 and at most 1, with up to nine decimals, or seven before %"
+    );
     match line {
         Ok(line) => Refusal::Wrong(line),
         Err(_) => Refusal::Memory,

@@ -5,23 +5,29 @@ ghost use Rattle.clru_curve.specs.Curves.{misses_at};
 ghost use Rattle.clru_report.specs.Capacities.{capacities_of, falls, is_fall, round_number, usual};
 
 use crate::options::Capacities;
+use crate::ratio::least_by_keys;
 use std::alloc::{AllocError, Allocator};
 use std::num::NonZeroUsize;
 
-/// The capacities for a curve, which is given as its misses at 1, 2 and so on, where its usual table has these.
+/// The capacities for a curve, which is given as its misses at 1, 2 and so on, where so many requests are the whole, and its usual
+/// table has these.
 pub(crate) fn capacities_for<A: Allocator + Copy>(
     alloc: A,
     capacities: &Capacities<A>,
     curve: &[usize],
+    whole: usize,
     table: &[NonZeroUsize],
 ) -> Result<Vec<NonZeroUsize, A>, AllocError>
     ensures { IfOk result (λ chosen. map non_zero_usize_get chosen.items
-        ≡ capacities_of capacities.now (misses_at curve.now) (length curve.now) (map non_zero_usize_get table.now)) }
+        ≡ capacities_of capacities.now (misses_at curve.now) whole (length curve.now) (map non_zero_usize_get table.now)) }
 {
     match capacities {
         Capacities::Usual => Vec::from_slice(alloc, table),
         Capacities::Each => each_fall(alloc, curve),
         Capacities::Named(named) => Vec::from_slice(alloc, named),
+        Capacities::HitRatio(ratio) | Capacities::ByteHitRatio(ratio) => {
+            least_by_keys(alloc, *ratio, curve, whole)
+        }
     }
 }
 

@@ -56,7 +56,8 @@ fn point_by_keys(curve: &[usize], capacity: usize) -> Point
     }
 }
 
-fn misses_by_keys(curve: &[usize], capacity: usize) -> usize
+/// Returns the misses at a capacity.
+pub(crate) fn misses_by_keys(curve: &[usize], capacity: usize) -> usize
     ensures { result ≡ misses_at curve.now capacity }
 {
     match curve.get(capacity.saturating_sub(1)) {

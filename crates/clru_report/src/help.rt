@@ -22,15 +22,24 @@ are shown. Between the usual rows you may interpolate.
                  or 64MiB: K, M, G, T (also KB ..) by 1000, KiB, MiB, GiB, TiB
                  by 1024
     --all        each capacity at which the misses fall
+    --hit-ratio R, --byte-hit-ratio R
+                 only the least capacity at which that part of all requests
+                 hits, or of all bytes (with --sizes): 0.8 or 80%; if none has
+                 it, the least with the greatest ratio there is
     --sizes      each line begins with the object's size and a blank, and is the
                  key as a whole; capacities are in bytes, from the greatest
                  size on, and missed bytes stand beside misses; 0 counts as 1
+    --one-size   with --sizes: the key is what follows the size, and each of its
+                 requests takes the greatest size it came with
     --least      also the least possible misses: the fewest of any policy that
                  takes in each requested key and no other, even if it knows all
                  requests; only in keys
     --floor      also a floor of the misses: no policy has fewer, even one that
                  bypasses requested keys; with --sizes one of the missed bytes
                  too; a sample scales both as it does misses
+    --after N    the first N requests fill the cache and are not counted: misses
+                 and ratios are those of the other requests; not with --least,
+                 --floor, --one-size, --summary or a sample
     --json       the table as JSON: an object a line, by the columns' names
     --svg        a picture instead of the table; with --sizes it has a line
                  for the bytes too

@@ -9,6 +9,7 @@
 //! `specs/Report` and `specs/SizedReport` say what a report is, and `specs/Refusals` which inputs have none.
 #![tactic(auto)]
 
+mod after;
 mod arguments;
 mod capacities;
 mod columns;
@@ -24,6 +25,7 @@ mod output;
 mod pass;
 mod picture;
 mod program;
+mod ratio;
 mod report;
 mod rows;
 mod sample;
@@ -35,10 +37,11 @@ pub use arguments::{Command, Refusal, command_of};
 pub use clru_lines::{Fault, exit_status};
 pub use clru_model::DefaultState;
 pub use help::{HELP, VERSION};
-pub use laws::law_rows;
+pub use laws::{law_hit_ratios, law_one_size, law_rows};
 pub use options::{Capacities, Form, Look, Options, Sample};
 pub use output::write_report;
 pub use program::run;
+pub use ratio::Billionths;
 pub use report::make_report;
 pub use sized::size_of;
 pub use std::num::NonZeroUsize;

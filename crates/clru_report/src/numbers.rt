@@ -17,7 +17,8 @@ pub(crate) fn number_of_word(word: &str) -> Option<NonZeroUsize>
     number_of(&bytes[..at], &bytes[at..])
 }
 
-fn unit_at(word: &[u8]) -> usize
+/// Returns the place of the unit: of the first byte that is neither a digit nor a point.
+pub(crate) fn unit_at(word: &[u8]) -> usize
     ensures at { result ≡ unit_at_by word.now }
     ensures within { result ≤ length word.now }
 {
@@ -49,7 +50,8 @@ fn number_of(figures: &[u8], unit: &[u8]) -> Option<NonZeroUsize>
     }
 }
 
-fn point_at(figures: &[u8]) -> Option<usize>
+/// Returns the place of the first point.
+pub(crate) fn point_at(figures: &[u8]) -> Option<usize>
     ensures { result ≡ position (λ b. b == 46) figures.now }
 {
     figures.iter().position(|byte| *byte == b'.')

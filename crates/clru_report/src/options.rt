@@ -1,21 +1,28 @@
 //! What a report is asked to have.
 ghost use Rattle.std.specs.Prelude.{◌≡◌, true, false};
-ghost use Rattle.clru_report.specs.Choices.{AreAscending, is_whole};
+ghost use Rattle.std.specs.Option.{is_some};
+ghost use Rattle.clru_report.specs.Choices.{AreAscending, is_of_all, is_whole};
 
+use crate::ratio::Billionths;
 use std::alloc::{Allocator, Global};
 use std::num::NonZeroUsize;
 
 /// The capacities of a table.
 #[derive(Debug, Drop)]
 pub enum Capacities<A: Allocator = Global> {
-    /// 1, 2, 5, 10, 20, 50 and so on up to the number of distinct keys, that number, and the knee between each two, if there is
-    /// one. By size: those from the greatest size up to the size of the distinct keys together, that size, and the knees.
+    /// 1, 2, 5, 10, 20, 50 and so on up to the number of distinct keys, that number, and as many more that the misses between two lie
+    /// near the straight line. By size: those from the greatest size up to the size of the distinct keys together, that size, and such
+    /// ones.
     Usual,
     /// 1, or the greatest size, and each from there on at which there are fewer misses than at the one before.
     Each,
     /// These, each greater than the one before. By size none is to be below the greatest size; of a sample those below the greatest size that is
     /// kept have no row.
     Named(Vec<NonZeroUsize, A>),
+    /// The least at which that part of the requests hits. If none is such, the least with the fewest misses.
+    HitRatio(Billionths),
+    /// The same of their size. By keys each has the size 1.
+    ByteHitRatio(Billionths),
 }
 
 /// What is written.
@@ -66,6 +73,10 @@ pub struct Options<A: Allocator = Global> {
     /// Whether each line of the input begins with a size, and capacities are sums of sizes.
     pub sizes: bool,
 
+    /// Whether each key has one size, the greatest it came with. Without it each line is an object of its own. It counts by size
+    /// alone.
+    pub one_size: bool,
+
     /// Whether each line of the table has the least possible misses. By size and of a sample they are not known, so options that
     /// ask for both have no proof.
     pub least: bool,
@@ -78,12 +89,22 @@ pub struct Options<A: Allocator = Global> {
     /// many, of misses no more than requests, and of their size no more than that of all.
     pub sample: Sample,
 
+    /// How many requests fill the cache and are not counted: rows tell of the requests behind them, of which capacities are asked for as
+    /// of all. They have neither the least nor a floor, no sample is taken, and a key may have several sizes.
+    pub after: Option<NonZeroUsize>,
+
     pub form: Form,
 
     pub look: Look<A>,
 
     // The least possible misses are those of all requests, by keys.
     ghost least_of_all: { least ≡ true → (sizes ≡ false) × (is_whole sample ≡ true) },
+
+    // Of the requests behind the first ones misses alone are known, and of all of them.
+    ghost after_rows: { is_some after ≡ true → is_of_all least floor sample form ≡ false },
+
+    // The requests behind the first ones have the sizes of their lines.
+    ghost after_sizes: { is_some after ≡ true → one_size ≡ false },
 
     ghost ascending: { AreAscending capacities },
 }

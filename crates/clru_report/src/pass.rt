@@ -112,12 +112,13 @@ fn take_kept<S: BuildHasher, A: Allocator + Copy>(
     take_key(alloc, pass, key)
 }
 
-// Takes one more line. It is copied where it is new.
-fn take_key<S: BuildHasher, A: Allocator + Copy>(
+/// Takes one more line. It is copied where it is new.
+pub(crate) fn take_key<S: BuildHasher, A: Allocator + Copy>(
     alloc: A,
     pass: &mut DistancePass<OwnedKey<A>, S, A>,
     key: &OwnedKey<A>,
 ) -> Result<(), AllocError>
+    requires { (past : List (OwnedKey A)) × IsPass same_line past pass.old }
     ensures { (past : List (OwnedKey A)) → IsPass same_line past pass.old
         → OnOk result (HasTakenKey past (line_of key.now) pass.new) }
 {
@@ -125,8 +126,8 @@ fn take_key<S: BuildHasher, A: Allocator + Copy>(
         Ok(Some(_)) => Ok(()),
         Ok(None) => {
             let bytes = Vec::from_slice(alloc, &key.0)?;
-            match pass.request(OwnedKey(bytes)) {
-                Ok(_) => Ok(()),
+            match pass.request_new(OwnedKey(bytes)) {
+                Ok(()) => Ok(()),
                 Err(_) => Err(AllocError),
             }
         }

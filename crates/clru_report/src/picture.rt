@@ -3,6 +3,7 @@ ghost use Rattle.std.specs.Prelude.{◌≡◌, IfOk, string_bytes};
 ghost use Rattle.clru_report.specs.Tables.{HasTable, picture_head};
 
 mod axes;
+mod behind;
 mod by_keys;
 mod by_size;
 mod curve;
@@ -16,6 +17,7 @@ mod words;
 
 use crate::options::Look;
 use axes::draw_axes;
+pub(crate) use behind::picture_behind;
 pub(crate) use by_keys::picture_by_keys;
 pub(crate) use by_size::picture_by_size;
 use curve::{draw_floor, draw_least, draw_line};

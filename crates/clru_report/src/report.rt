@@ -1,11 +1,14 @@
 //! The text of the report, taken whole before any of it is written.
 ghost use Rattle.std.specs.Prelude.{◌≡◌, true, false, IfErr, IfOk, string_bytes};
+ghost use Rattle.std.specs.Int.NonZero.{non_zero_usize_get};
+ghost use Rattle.std.specs.Option.{option_map};
 ghost use Rattle.clru_lines.specs.Whole.{ReadWhole};
 ghost use Rattle.clru_report.specs.Faults.{is_of_writing};
 ghost use Rattle.clru_report.specs.Passes.{wants_floor, wants_least};
 ghost use Rattle.clru_report.specs.Refusals.{is_of_input, IsRefused};
-ghost use Rattle.clru_report.specs.Report.{IsInForm, IsReport, IsReportByKeys};
+ghost use Rattle.clru_report.specs.Report.{IsInForm, IsReport, IsReportByKeys, IsReportByKeysFrom};
 
+use crate::after::report_after;
 use crate::fault::read_fault;
 use crate::options::{Form, Options, Sample};
 use crate::pass::curve_by_keys;
@@ -50,8 +53,11 @@ fn report_by_keys<R: Read, S: BuildHasher + Drop, A: Allocator + Copy>(
     hash_builder: S,
 ) -> Result<String<A>, ReadError>
     ensures { IfOk result (λ text. ReadWhole (R.remaining reader.old) (R.remaining reader.new)
-        (λ input. IsReportByKeys options.now.sample options.now input (string_bytes text))) }
+        (λ input. IsReportByKeysFrom (option_map non_zero_usize_get options.now.after) options.now input (string_bytes text))) }
 {
+    if let Some(after) = options.after {
+        return report_after(alloc, options, after, reader, hash_builder);
+    }
     match options.sample {
         Sample::Whole => report_of_all(alloc, options, reader, hash_builder),
         Sample::OneIn(one_in) => report_of_sample(alloc, options, one_in, reader, hash_builder),
@@ -89,6 +95,7 @@ fn report_of_all<R: Read, S: BuildHasher + Drop, A: Allocator + Copy>(
         alloc,
         options,
         &curve,
+        requests,
         &table.capacities,
         &foresight,
         &floor,
@@ -104,7 +111,7 @@ fn report_of_all<R: Read, S: BuildHasher + Drop, A: Allocator + Copy>(
     match text_by_keys(
         alloc,
         options,
-        &curve,
+        curve.as_slice(),
         &floor,
         &rows,
         &table.knees,

@@ -50,23 +50,25 @@ pub(crate) fn usual_table<A: Allocator + Copy>(
     table_with_knees(alloc, &ByKeys(curve.as_slice()), whole, &usual)
 }
 
-// The rows that the options ask for, over the curve of requests and its usual table, with their misses alone.
+// The rows that the options ask for, over the curve of requests, to which so many are the whole, and its usual table, with their
+// misses alone.
 fn rows_for<A: Allocator + Copy>(
     alloc: A,
     options: &Options<A>,
     curve: &MissCurve<A>,
+    whole: usize,
     table: &[NonZeroUsize],
 ) -> Result<Vec<Row, A>, AllocError>
     ensures { (lines : List (List ℕ)) → HasMissesOf bytes_eq lines curve.now
         → length curve.now ≡ distinct bytes_eq (reverse lines) → IfOk result (λ rows. AreRows bytes_eq lines false false
-        (capacities_asked options.now lines (map non_zero_usize_get table.now)) rows.items) }
+        (capacities_asked options.now whole lines (map non_zero_usize_get table.now)) rows.items) }
 {
-    let capacities = capacities_for(alloc, &options.capacities, curve.as_slice(), table)?;
+    let capacities = capacities_for(alloc, &options.capacities, curve.as_slice(), whole, table)?;
     rows_at(alloc, curve, &capacities)
 }
 
-// A row for each capacity.
-fn rows_at<A: Allocator>(
+/// A row for each capacity.
+pub(crate) fn rows_at<A: Allocator>(
     alloc: A,
     curve: &MissCurve<A>,
     capacities: &[NonZeroUsize],
@@ -103,15 +105,16 @@ pub(crate) fn rows_and_floor<A: Allocator + Copy>(
     alloc: A,
     options: &Options<A>,
     curve: &MissCurve<A>,
+    whole: usize,
     table: &[NonZeroUsize],
     floor: &Option<Floor<A>>,
 ) -> Result<Vec<Row, A>, AllocError>
     ensures { (lines : List (List ℕ)) (floored : Bool) → HasMissesOf bytes_eq lines curve.now
         → length curve.now ≡ distinct bytes_eq (reverse lines) → IsFloorFor floored lines floor.now
         → IfOk result (λ rows. AreRows bytes_eq lines false floored
-        (capacities_asked options.now lines (map non_zero_usize_get table.now)) rows.items) }
+        (capacities_asked options.now whole lines (map non_zero_usize_get table.now)) rows.items) }
 {
-    let rows = rows_for(alloc, options, curve, table)?;
+    let rows = rows_for(alloc, options, curve, whole, table)?;
     match floor {
         None => Ok(rows),
         Some(floor) => rows_with_floor(alloc, floor, &rows),
@@ -146,6 +149,7 @@ pub(crate) fn rows_of_all<A: Allocator + Copy>(
     alloc: A,
     options: &Options<A>,
     curve: &MissCurve<A>,
+    whole: usize,
     table: &[NonZeroUsize],
     foresight: &Option<ForesightPass<OwnedKey<A>, A>>,
     floor: &Option<Floor<A>>,
@@ -154,9 +158,9 @@ pub(crate) fn rows_of_all<A: Allocator + Copy>(
         → length curve.now ≡ distinct bytes_eq (reverse lines) → IsForeseenFor A least lines foresight.now
         → IsFloorFor floored lines floor.now
         → IfOk result (λ rows. AreRows bytes_eq lines least floored
-        (capacities_asked options.now lines (map non_zero_usize_get table.now)) rows.items) }
+        (capacities_asked options.now whole lines (map non_zero_usize_get table.now)) rows.items) }
 {
-    let rows = rows_and_floor(alloc, options, curve, table, floor)?;
+    let rows = rows_and_floor(alloc, options, curve, whole, table, floor)?;
     match foresight {
         None => Ok(rows),
         Some(foresight) => rows_with_least(alloc, foresight, &rows),

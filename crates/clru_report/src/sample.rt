@@ -78,7 +78,16 @@ pub(crate) fn text_of_sample<A: Allocator + Copy>(
         distinct,
         bytes,
     };
-    text_by_keys(alloc, options, curve, floor, &rows, &knees, false, counts)
+    text_by_keys(
+        alloc,
+        options,
+        curve.as_slice(),
+        floor,
+        &rows,
+        &knees,
+        false,
+        counts,
+    )
 }
 
 // The rows that the options ask for, each as one of all requests.
@@ -96,7 +105,8 @@ fn rows_of_sample<A: Allocator + Copy>(
         → IfOk result (λ shown. AreRowsOfSample options.now floored (non_zero_usize_get one_in) requests kept
         (map non_zero_usize_get table.now) shown.items) }
 {
-    let rows = rows_and_floor(alloc, options, curve, table, floor)?;
+    let part = requests / one_in.get();
+    let rows = rows_and_floor(alloc, options, curve, part, table, floor)?;
     rows_times(alloc, &rows, one_in, requests)
 }
 

@@ -1,18 +1,27 @@
 //! The report of an input whose lines begin with sizes: capacities are sums of sizes.
 ghost use Rattle.std.specs.Prelude.{◌≡◌, ℕ, List, true, false, IfOk, IfErr, string_bytes};
+ghost use Rattle.std.specs.Int.NonZero.{non_zero_usize_get};
+ghost use Rattle.std.specs.Option.{option_map};
 ghost use Rattle.clru_lines.specs.Lines.{lines_of};
 ghost use Rattle.clru_report.specs.Faults.{is_of_writing};
 ghost use Rattle.clru_lines.specs.Whole.{ReadWhole};
+ghost use Rattle.clru_report.specs.OneSize.{counted_lines};
 ghost use Rattle.clru_report.specs.Passes.{AreFloorsFor, IsOfAsked, IsSettled, IsSizedCurveOfKept, IsTableOf, wants_floor};
 ghost use Rattle.clru_report.specs.Refusals.{is_of_input, IsRefusedBy, IsRefusedFor};
 ghost use Rattle.clru_report.specs.SizedReport.{IsReportBySize, IsReportBySizeOf};
+ghost use Rattle.clru_report.specs.Report.{IsReportBySizeFrom};
 ghost use Rattle.clru_report.specs.Tables.{HasTable};
 
+mod after;
+mod behind;
 mod capacities;
 mod faithful;
 mod floors;
+mod key_log;
 mod line;
+mod one_size;
 mod pass;
+mod ratio;
 mod rows;
 mod sample;
 mod table;
@@ -21,13 +30,15 @@ use crate::options::{Form, Options, Sample};
 use crate::picture::picture_by_size;
 use crate::report::asks_for_floor;
 use crate::sample::times;
-pub(crate) use capacities::first_capacity;
+use after::sized_report_after;
+pub(crate) use behind::{missed_behind, misses_behind};
 use capacities::sized_usual_table;
+pub(crate) use capacities::{first_capacity, sized_capacities_for};
 use clru_curve::SizedCurve;
 use clru_lines::Fault;
 pub(crate) use floors::Floors;
 pub use line::size_of;
-use pass::curve_by_size;
+use one_size::curve_of_counted;
 use rows::sized_rows_for;
 pub(crate) use sample::Totals;
 use sample::text_of_sized_sample;
@@ -39,18 +50,21 @@ pub(crate) use table::distinct_of;
 use table::{sized_summary_of, sized_table_of};
 
 /// The report of all that a reader gives, by the sizes that its lines begin with.
-pub(crate) fn make_sized_report<R: Read, S: BuildHasher + Drop, A: Allocator + Copy>(
+pub(crate) fn make_sized_report<R: Read, S: BuildHasher + Copy, A: Allocator + Copy>(
     alloc: A,
     options: &Options<A>,
     reader: &mut R,
     hash_builder: S,
 ) -> Result<String<A>, Fault>
     ensures report { IfOk result (λ text. ReadWhole (R.remaining reader.old) (R.remaining reader.new)
-        (λ input. IsReportBySizeOf options.now.sample options.now input (lines_of input) (string_bytes text))) }
+        (λ input. IsReportBySizeFrom (option_map non_zero_usize_get options.now.after) options.now input (counted_lines options.now.one_size (lines_of input)) (string_bytes text))) }
     ensures refused { IfErr result (λ fault. is_of_input fault ≡ true → ReadWhole (R.remaining reader.old) (R.remaining reader.new)
-        (λ input. IsRefusedBy options.now.sample fault options.now (lines_of input))) }
+        (λ input. IsRefusedBy options.now.sample fault options.now (counted_lines options.now.one_size (lines_of input)))) }
     ensures fault { IfErr result (λ fault. is_of_writing fault ≡ false) }
 {
+    if let Some(after) = options.after {
+        return sized_report_after(alloc, options, after, reader, hash_builder);
+    }
     match options.sample {
         Sample::Whole => sized_report_of_all(alloc, options, reader, hash_builder),
         Sample::OneIn(one_in) => {
@@ -63,26 +77,33 @@ pub(crate) fn make_sized_report<R: Read, S: BuildHasher + Drop, A: Allocator + C
 }
 
 // Where all lines are taken.
-fn sized_report_of_all<R: Read, S: BuildHasher + Drop, A: Allocator + Copy>(
+fn sized_report_of_all<R: Read, S: BuildHasher + Copy, A: Allocator + Copy>(
     alloc: A,
     options: &Options<A>,
     reader: &mut R,
     hash_builder: S,
 ) -> Result<String<A>, Fault>
     ensures report { IfOk result (λ text. ReadWhole (R.remaining reader.old) (R.remaining reader.new)
-        (λ input. IsReportBySize options.now input (lines_of input) (string_bytes text))) }
+        (λ input. IsReportBySize options.now input (counted_lines options.now.one_size (lines_of input)) (string_bytes text))) }
     ensures refused { IfErr result (λ fault. is_of_input fault ≡ true → ReadWhole (R.remaining reader.old) (R.remaining reader.new)
-        (λ input. IsRefusedFor fault options.now (lines_of input))) }
+        (λ input. IsRefusedFor fault options.now (counted_lines options.now.one_size (lines_of input)))) }
     ensures fault { IfErr result (λ fault. is_of_writing fault ≡ false) }
 {
     let one_in = NonZeroUsize::MIN;
     let floored = asks_for_floor(options);
-    let (curve, _, _, bytes, floors) = curve_by_size(alloc, one_in, floored, reader, hash_builder)?;
+    let (curve, _, _, bytes, floors) = curve_of_counted(
+        alloc,
+        options.one_size,
+        one_in,
+        floored,
+        reader,
+        hash_builder,
+    )?;
     text_by_size(alloc, options, &curve, &floors, bytes)
 }
 
 // Where the lines of one key in so many are taken, and all are counted.
-fn sized_report_of_sample<R: Read, S: BuildHasher + Drop, A: Allocator + Copy>(
+fn sized_report_of_sample<R: Read, S: BuildHasher + Copy, A: Allocator + Copy>(
     alloc: A,
     options: &Options<A>,
     one_in: NonZeroUsize,
@@ -90,14 +111,15 @@ fn sized_report_of_sample<R: Read, S: BuildHasher + Drop, A: Allocator + Copy>(
     hash_builder: S,
 ) -> Result<String<A>, Fault>
     ensures report { IfOk result (λ text. ReadWhole (R.remaining reader.old) (R.remaining reader.new)
-        (λ input. IsReportBySizeOf (Sample.OneIn one_in) options.now input (lines_of input) (string_bytes text))) }
+        (λ input. IsReportBySizeOf (Sample.OneIn one_in) options.now input (counted_lines options.now.one_size (lines_of input)) (string_bytes text))) }
     ensures refused { IfErr result (λ fault. is_of_input fault ≡ true → ReadWhole (R.remaining reader.old) (R.remaining reader.new)
-        (λ input. IsRefusedBy (Sample.OneIn one_in) fault options.now (lines_of input))) }
+        (λ input. IsRefusedBy (Sample.OneIn one_in) fault options.now (counted_lines options.now.one_size (lines_of input)))) }
     ensures fault { IfErr result (λ fault. is_of_writing fault ≡ false) }
 {
     let floored = asks_for_floor(options);
-    let (curve, requests, size, bytes, floors) = curve_by_size(
+    let (curve, requests, size, bytes, floors) = curve_of_counted(
         alloc,
+        options.one_size,
         one_in,
         floored,
         reader,
@@ -115,7 +137,7 @@ fn sized_report_of_sample<R: Read, S: BuildHasher + Drop, A: Allocator + Copy>(
 }
 
 // Where all lines are of one key in so many, and there were so many requests; their size is as many times that of the lines.
-fn sized_report_of_sampled<R: Read, S: BuildHasher + Drop, A: Allocator + Copy>(
+fn sized_report_of_sampled<R: Read, S: BuildHasher + Copy, A: Allocator + Copy>(
     alloc: A,
     options: &Options<A>,
     one_in: NonZeroUsize,
@@ -124,14 +146,21 @@ fn sized_report_of_sampled<R: Read, S: BuildHasher + Drop, A: Allocator + Copy>(
     hash_builder: S,
 ) -> Result<String<A>, Fault>
     ensures report { IfOk result (λ text. ReadWhole (R.remaining reader.old) (R.remaining reader.new)
-        (λ input. IsReportBySizeOf (Sample.Taken one_in requests) options.now input (lines_of input) (string_bytes text))) }
+        (λ input. IsReportBySizeOf (Sample.Taken one_in requests) options.now input (counted_lines options.now.one_size (lines_of input)) (string_bytes text))) }
     ensures refused { IfErr result (λ fault. is_of_input fault ≡ true → ReadWhole (R.remaining reader.old) (R.remaining reader.new)
-        (λ input. IsRefusedBy (Sample.Taken one_in requests) fault options.now (lines_of input))) }
+        (λ input. IsRefusedBy (Sample.Taken one_in requests) fault options.now (counted_lines options.now.one_size (lines_of input)))) }
     ensures fault { IfErr result (λ fault. is_of_writing fault ≡ false) }
 {
     let all = NonZeroUsize::MIN;
     let floored = asks_for_floor(options);
-    let (curve, _, size, bytes, floors) = curve_by_size(alloc, all, floored, reader, hash_builder)?;
+    let (curve, _, size, bytes, floors) = curve_of_counted(
+        alloc,
+        options.one_size,
+        all,
+        floored,
+        reader,
+        hash_builder,
+    )?;
     let totals = Totals {
         one_in,
         requests,
@@ -152,10 +181,10 @@ fn text_by_size<A: Allocator + Copy>(
     bytes: usize,
 ) -> Result<String<A>, Fault>
     requires { IsSettled curve.now }
-    ensures report { (input : List ℕ) (requests size : ℕ) → IsSizedCurveOfKept 1 input curve.now requests size bytes
-        → AreFloorsFor (wants_floor options.now) (lines_of input) floors.now → IfOk result (λ text. IsReportBySize options.now input (lines_of input) (string_bytes text)) }
-    ensures refused { (input : List ℕ) (requests size : ℕ) → IsSizedCurveOfKept 1 input curve.now requests size bytes
-        → IfErr result (λ fault. is_of_input fault ≡ true → IsRefusedFor fault options.now (lines_of input)) }
+    ensures report { (input : List ℕ) (lines : List (List ℕ)) (requests size : ℕ) → IsSizedCurveOfKept 1 input lines curve.now requests size bytes
+        → AreFloorsFor (wants_floor options.now) lines floors.now → IfOk result (λ text. IsReportBySize options.now input lines (string_bytes text)) }
+    ensures refused { (input : List ℕ) (lines : List (List ℕ)) (requests size : ℕ) → IsSizedCurveOfKept 1 input lines curve.now requests size bytes
+        → IfErr result (λ fault. is_of_input fault ≡ true → IsRefusedFor fault options.now lines) }
     ensures fault { IfErr result (λ fault. is_of_writing fault ≡ false) }
 {
     match options.form {

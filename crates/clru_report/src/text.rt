@@ -6,7 +6,6 @@ use crate::options::{Form, Options};
 use crate::picture::picture_by_keys;
 use crate::rows::Row;
 use crate::table::{summary_of, table_of};
-use clru_curve::MissCurve;
 use clru_least::Floor;
 use std::alloc::{AllocError, Allocator};
 use std::num::NonZeroUsize;
@@ -24,7 +23,7 @@ pub(crate) struct Counts {
 pub(crate) fn text_by_keys<A: Allocator + Copy>(
     alloc: A,
     options: &Options<A>,
-    curve: &MissCurve<A>,
+    curve: &[usize],
     floor: &Option<Floor<A>>,
     rows: &[Row],
     knees: &[usize],
@@ -40,7 +39,6 @@ pub(crate) fn text_by_keys<A: Allocator + Copy>(
         Form::Json => table_of(alloc, rows, knees, requests, least, options.floor, true),
         Form::Picture => {
             let table = table_of(alloc, rows, knees, requests, least, options.floor, false)?;
-            let curve = curve.as_slice();
             picture_by_keys(alloc, curve, floor, counts, options, rows, &table)
         }
         Form::Summary => summary_of(alloc, requests, counts.distinct, counts.bytes),

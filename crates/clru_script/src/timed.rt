@@ -73,7 +73,14 @@ impl Subject for ByKeys {
                 None => words.note(Wrong::NothingMade),
             }
         } else if let Some(pass) = &mut self.pass {
-            call_distances(world, pass, name, words, out);
+            if name == "curve" {
+                match pass.curve(&world.heap) {
+                    Ok(curve) => say_misses(&curve, out),
+                    Err(_) => out.say("no memory"),
+                }
+            } else {
+                call_distances(world, pass, name, words, out);
+            }
         } else {
             words.note(Wrong::NothingMade);
         }
@@ -123,7 +130,14 @@ impl Subject for BySizes {
                 None => words.note(Wrong::NothingMade),
             }
         } else if let Some(pass) = &mut self.pass {
-            call_spans(world, pass, name, words, out);
+            if name == "curve" {
+                match pass.curve(&world.heap) {
+                    Ok(curve) => say_sized(&curve, out),
+                    Err(_) => out.say("no memory"),
+                }
+            } else {
+                call_spans(world, pass, name, words, out);
+            }
         } else {
             words.note(Wrong::NothingMade);
         }

@@ -12,9 +12,10 @@ use Rattle.clru_model.specs.SizedSchedule.{schedule_missed_size}
 use Rattle.clru_model.specs.Sizes.{missed_size, total}
 use Rattle.clru_model.proofs.Cases.{split}
 use Rattle.clru_model.proofs.Bound.{competitive_by_size}
-use Rattle.clru_split.proofs.Taking.{takes_all, takes_all_misses, with_latest}
-use Rattle.clru_split.proofs.SizedCaches.{holds-filter, replayed, replayed_misses, replayed_serves, replayed_takes}
+use Rattle.clru_split.proofs.SizedCaches.{replayed_takes}
 use Rattle.clru_model.proofs.Spans.{missed_weightless}
+use Rattle.clru_model.proofs.SizedReplaySchedules.{holds-filter, replayed, replayed_misses, replayed_serves}
+use Rattle.clru_model.proofs.Taking.{takes_all, takes_all_misses, with_latest}
 use Rattle.clru_split.specs.Apart.{of_class, misses_apart, missed_size_apart, RespectsKeys, OneIsNearMany, OneIsNearerMany, OneSizeIsNearMany, OneSizeIsNearerMany}
 use Rattle.clru_split.proofs.Merged.{IsServing, IsFrom, takes_each, may_bypass, merged_reached}
 use Rattle.clru_split.proofs.Rows.{sum-cons}

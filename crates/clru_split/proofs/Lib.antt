@@ -3,4 +3,3 @@ pub mod Following
 pub mod Merged
 pub mod Rows
 pub mod SizedCaches
-pub mod Taking

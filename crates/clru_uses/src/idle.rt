@@ -4,7 +4,7 @@ ghost use Rattle.std.specs.Int.NonZero.{non_zero_usize_get};
 ghost use Rattle.clru_model.specs.Ages.{aged_misses};
 ghost use Rattle.clru_model.specs.Requests.{hit};
 
-use clru_curve::{DefaultState, IdlePass, NoMemory, NonZeroUsize};
+use clru_curve::{IdlePass, NoMemory, NonZeroUsize};
 use std::alloc::Global;
 
 /// Returns the misses of a cache of the capacity, which starts empty and is sent the requests, each with its time, and in which a
@@ -18,7 +18,7 @@ pub fn misses_within(
     ensures { IfOk result (λ n. n
         ≡ aged_misses nat_eq (hit nat_eq (non_zero_usize_get capacity)) (Some limit) None requests.now) }
 {
-    let mut pass = IdlePass::with_hasher(alloc, limit, DefaultState);
+    let mut pass = IdlePass::new(alloc, limit);
     for request in requests {
         let (page, time) = *request;
         let Ok(_) = pass.request(page, time) else {

@@ -1,5 +1,5 @@
 //! `SizedIdlePass`, which takes requests with times of keys with sizes, and counts a reuse after too long as a first request.
-ghost use Rattle.std.specs.Prelude.{◌≡◌, ℕ, ◌+◌, ◌^◌, ◌<◌, ◌≤◌, ◌↔◌, List, [], ◌∷◌, ◌++◌, reverse, vec_len, vec_capacity, IfOk, IfErr, IfSome, IsErrAnd, OnOk, OnErr, IsNone, IsSome, IsTrue, None, Some, is_some, if◌then◌else◌};
+ghost use Rattle.std.specs.Prelude.{◌≡◌, ℕ, ◌+◌, ◌^◌, ◌<◌, ◌≤◌, ◌↔◌, List, [], ◌∷◌, ◌++◌, reverse, vec_len, vec_capacity, IfOk, IfErr, IfSome, IsErrAnd, OnOk, OnErr, IsOk, IsNone, IsSome, IsTrue, None, Some, is_some, if◌then◌else◌};
 ghost use Rattle.std.specs.List.{list_any};
 ghost use Rattle.std.specs.Map.{keys_of, lookup};
 ghost use Rattle.clru_model.specs.Sizes.{SameWeights, span};
@@ -8,14 +8,14 @@ ghost use Rattle.clru_curve.specs.SizedCurves.{step};
 ghost use Rattle.clru_curve.specs.SizedIdlePasses.{IsSizedIdlePass, IsSizedIdleCurveOf};
 ghost use Rattle.clru_curve.specs.SizedPasses.{key_of, IsTooLarge};
 
-use crate::pass::{double_if_full, move_position, no_positions};
+use crate::pass::{copied, double_if_full, move_position, no_positions};
 use crate::seen::{Seen, is_soon};
 use crate::sized::curve::SizedCurve;
 use crate::sized::error::SizedRequestError;
 use crate::sized::pass::greater;
 use crate::sized::sizes::Sizes;
 use crate::sized::step::Step;
-use clru::{CLruCache, DefaultState, ZeroWeightScale};
+use clru::{CLruCache, DefaultState, NoMemory, ZeroWeightScale};
 use std::alloc::{Allocator, Global};
 use std::collections::hash_map::Equivalent;
 use std::hash::{BuildHasher, Hash};
@@ -70,6 +70,16 @@ impl<K: Eq + Hash, S: BuildHasher, A: Allocator + Copy> Model for SizedIdlePass<
 
     ghost invariant = { λ p. IsSoundIdleBySize K.eq p.latest.nodes.items
         (timed_pass_by_size p.seen.entries p.latest.sizes.items p.latest.requests p.hits.items p.size p.greatest p.limit) };
+}
+
+impl<K: Eq + Hash, A: Allocator + Copy> SizedIdlePass<K, DefaultState, A> {
+    /// Creates a pass under this limit that has taken no request.
+    /// Cost: no request for memory.
+    pub fn new(alloc: A, limit: usize) -> Self
+        ensures { (w : K → ℕ) → IsSizedIdlePass K.eq w limit [] result }
+    {
+        SizedIdlePass::with_hasher(alloc, limit, DefaultState)
+    }
 }
 
 impl<K: Eq + Hash, S: BuildHasher, A: Allocator + Copy> SizedIdlePass<K, S, A> {
@@ -245,6 +255,25 @@ impl<K: Eq + Hash, S: BuildHasher, A: Allocator + Copy> SizedIdlePass<K, S, A> {
             limit: _,
         } = self;
         SizedCurve::from_hits(hits, latest.requests, size, latest.total(), greatest)
+    }
+
+    /// Returns the curve of the requests so far, and lets the pass go on.
+    /// Cost: a sort of the spans; one request for memory, of two numbers for each hit that is possible, and none without requests.
+    pub fn curve(&self, alloc: A) -> Result<SizedCurve<A>, NoMemory>
+        ensures curve { (w : K → ℕ) (idle : ℕ) (past : List (K × ℕ)) → IsSizedIdlePass K.eq w idle past self.now
+            → IfOk result (λ c. IsSizedIdleCurveOf K.eq w idle (reverse past) c) }
+        ensures never_refused { (w : K → ℕ) (idle : ℕ) → IsSizedIdlePass K.eq w idle [] self.now → IsOk result }
+    {
+        let Ok(hits) = copied(alloc, &self.hits) else {
+            return Err(NoMemory);
+        };
+        Ok(SizedCurve::from_hits(
+            hits,
+            self.latest.requests,
+            self.size,
+            self.latest.total(),
+            self.greatest,
+        ))
     }
 }
 

@@ -1,8 +1,8 @@
 //! `SizedPass`, which takes requests of keys with sizes one by one.
-ghost use Rattle.std.specs.Prelude.{◌≡◌, ℕ, ◌+◌, ◌^◌, ◌<◌, ◌≤◌, ◌↔◌, nat_lt, List, [], ◌∷◌, length, reverse, IfOk, IfErr, IfSome, IsErrAnd, OnOk, OnErr, IsOk, IsNone, IsSome, IsTrue, None, is_some, if◌then◌else◌};
+ghost use Rattle.std.specs.Prelude.{◌≡◌, ℕ, ◌+◌, ◌^◌, ◌<◌, ◌≤◌, ◌↔◌, nat_lt, List, [], ◌∷◌, length, reverse, IfOk, IfErr, IfSome, IsErrAnd, OnOk, OnErr, IsOk, IsNone, IsSome, IsTrue, None, is_some, false, if◌then◌else◌};
 ghost use Rattle.std.specs.List.{list_any};
 ghost use Rattle.std.specs.Map.{lookup};
-ghost use Rattle.clru_model.specs.Requests.{since};
+ghost use Rattle.clru_model.specs.Requests.{holds, since};
 ghost use Rattle.clru_model.specs.Sizes.{SameWeights, span};
 ghost use Rattle.clru_curve.specs.SizedPasses.{IsSizedPass, key_of, IsTooLarge};
 ghost use Rattle.clru_curve.specs.SizedCurves.{IsSizedCurveOf};
@@ -111,7 +111,7 @@ impl<K: Eq + Hash, S: BuildHasher, A: Allocator + Copy> SizedPass<K, S, A> {
     {
         match self.again(&key, weight) {
             Ok(Some(span)) => Ok(Some(span)),
-            Ok(None) => match self.request_new(key, weight) {
+            Ok(None) => match self.take_new(key, weight) {
                 Ok(()) => Ok(None),
                 Err(key) => Err(SizedRequestError::NoMemory(key)),
             },
@@ -147,6 +147,32 @@ impl<K: Eq + Hash, S: BuildHasher, A: Allocator + Copy> SizedPass<K, S, A> {
         ensures too_large { IsErrAnd result IsTooLarge ↔ (2 ^ 64 ≤ self.old.size + (1 + weight)) }
     {
         self.again(key, weight)
+    }
+
+    /// Takes one more request, of a key of this weight that was not requested before, as `request_again` tells. Unlike `request`
+    /// it does not look the key up first.
+    ///
+    /// If memory is refused, or the sizes of all requests with this one exceed `usize::MAX`, it returns the key, and the pass
+    /// is unchanged.
+    /// Cost: that of a `put`, and steps that grow as the logarithm of the number of requests.
+    pub fn request_new(&mut self, key: K, weight: usize) -> Result<(), SizedRequestError<K>>
+    where
+        K: Drop,
+        requires new { (w : K → ℕ) × (past : List K) × IsSizedPass K.eq w past self.old × (holds K.eq key past ≡ false) }
+        ensures taken { (w : K → ℕ) (past : List K) → SameWeights K.eq w → IsSizedPass K.eq w past self.old
+            → w key ≡ weight → OnOk result (IsSizedPass K.eq w (key ∷ past) self.new) }
+        ensures size { OnOk result (self.new.size ≡ self.old.size + (1 + weight)) }
+        ensures refused { OnErr result (self.new ≡ self.old) }
+        ensures given_back { IfErr result (λ e. key_of e ≡ key) }
+        ensures too_large { IsErrAnd result IsTooLarge ↔ (2 ^ 64 ≤ self.old.size + (1 + weight)) }
+    {
+        if weight >= usize::MAX - self.size {
+            return Err(SizedRequestError::TooLarge(key));
+        }
+        match self.take_new(key, weight) {
+            Ok(()) => Ok(()),
+            Err(key) => Err(SizedRequestError::NoMemory(key)),
+        }
     }
 
     /// Returns the position of the latest request of a key, by a form of it: how many requests came before that one. Returns
@@ -206,8 +232,8 @@ impl<K: Eq + Hash, S: BuildHasher, A: Allocator + Copy> SizedPass<K, S, A> {
         Ok(Some(span))
     }
 
-    /// Takes one more request, of a key that was not requested before.
-    fn request_new(&mut self, key: K, weight: usize) -> Result<(), K>
+    /// Takes one more request, of a key that fits and was not requested before.
+    fn take_new(&mut self, key: K, weight: usize) -> Result<(), K>
     where
         K: Drop,
         requires new { lookup (K.eq key) self.old.positions ≡ None }

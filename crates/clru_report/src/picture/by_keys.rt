@@ -28,7 +28,7 @@ pub(crate) fn picture_by_keys<A: Allocator + Copy>(
     let one_in = counts.one_in;
     let requests = counts.requests;
     let greatest = rows.iter().map(|row| row.capacity.get()).max();
-    let distinct = times(one_in, usize::MAX, curve.len());
+    let distinct = counts.distinct;
     let look = &options.look;
     let first = look.from.unwrap_or(one_in);
     let last = match look.to {
@@ -44,16 +44,17 @@ pub(crate) fn picture_by_keys<A: Allocator + Copy>(
         whole: requests,
         start: times(one_in, requests, start),
         steps: steps_of(alloc, curve, one_in, requests)?,
-        floor: distinct.min(requests),
+        floor: times(one_in, requests, *curve.last().unwrap_or(&0)),
         marks: match options.capacities {
-            Capacities::Named(_) => misses_of(alloc, rows)?,
-            _ => Vec::new(alloc),
+            Capacities::Usual | Capacities::Each => Vec::new(alloc),
+            _ => misses_of(alloc, rows)?,
         },
     })?;
     let plot = Plot {
         requests,
         distinct,
         one_in,
+        after: options.after,
         unit: "keys",
         ends: (first.get(), last),
         lines,

@@ -7,7 +7,7 @@ use super::picture_of;
 use super::plot::{Line, Plot};
 use crate::options::{Capacities, Options};
 use crate::sample::times;
-use crate::sized::{Floors, Totals, distinct_of, first_capacity};
+use crate::sized::{Floors, Totals, distinct_of, first_capacity, sized_capacities_for};
 use clru_curve::{SizedCurve, Step};
 use std::alloc::{AllocError, Allocator};
 use std::num::NonZeroUsize;
@@ -43,6 +43,7 @@ pub(crate) fn picture_by_size<A: Allocator + Copy>(
         requests: totals.requests,
         distinct: times(one_in, usize::MAX, distinct_of(curve)),
         one_in,
+        after: options.after,
         unit: "bytes",
         ends: (first, last),
         lines: lines_of(alloc, curve, totals, first, capacities)?,
@@ -97,8 +98,8 @@ fn line_below<A: Allocator + Copy>(
     })
 }
 
-// 0 where none is named.
-fn greatest_named<A: Allocator>(capacities: &Capacities<A>) -> usize {
+/// Returns the greatest capacity that is named, or 0 if none is.
+pub(super) fn greatest_named<A: Allocator>(capacities: &Capacities<A>) -> usize {
     match capacities {
         Capacities::Named(named) => named
             .iter()
@@ -147,27 +148,49 @@ fn lines_of<A: Allocator + Copy>(
     Ok(lines)
 }
 
-// The capacities that are named, with the misses at each, and with their size. Below the greatest size kept requests have none.
+// The capacities that are asked for, with the misses at each, and with their size. Below the greatest size kept requests have none.
 fn marks_of<A: Allocator + Copy>(
     alloc: A,
     curve: &SizedCurve<A>,
     totals: Totals,
     capacities: &Capacities<A>,
-) -> Result<(Vec<(usize, usize), A>, Vec<(usize, usize), A>), AllocError> {
+) -> Result<(Vec<(usize, usize), A>, Vec<(usize, usize), A>), AllocError>
+    requires { IsSettled curve.now }
+{
     let mut marks = Vec::new(alloc);
     let mut marks_of_sizes = Vec::new(alloc);
-    if let Capacities::Named(named) = capacities {
-        let one_in = totals.one_in;
-        for capacity in named.iter() {
-            if capacity.get() > curve.greatest_weight() {
-                let (misses, missed_size) = missed_at(curve, capacity.get());
-                let at = capacity.saturating_mul(one_in).get();
-                marks.push((at, times(one_in, totals.requests, misses)))?;
-                marks_of_sizes.push((at, times(one_in, totals.size, missed_size)))?;
-            }
+    let one_in = totals.one_in;
+    for capacity in asked_for(alloc, curve, totals, capacities)?.iter() {
+        if capacity.get() > curve.greatest_weight() {
+            let (misses, missed_size) = missed_at(curve, capacity.get());
+            let at = capacity.saturating_mul(one_in).get();
+            marks.push((at, times(one_in, totals.requests, misses)))?;
+            marks_of_sizes.push((at, times(one_in, totals.size, missed_size)))?;
         }
     }
     Ok((marks, marks_of_sizes))
+}
+
+// Those that are named, or the one with a hit ratio.
+fn asked_for<A: Allocator + Copy>(
+    alloc: A,
+    curve: &SizedCurve<A>,
+    totals: Totals,
+    capacities: &Capacities<A>,
+) -> Result<Vec<NonZeroUsize, A>, AllocError>
+    requires { IsSettled curve.now }
+{
+    match capacities {
+        Capacities::Usual | Capacities::Each => Ok(Vec::new(alloc)),
+        _ => sized_capacities_for(
+            alloc,
+            capacities,
+            curve,
+            totals.requests / totals.one_in.get(),
+            totals.size / totals.one_in.get(),
+            &[],
+        ),
+    }
 }
 
 // The misses and their size at a capacity.

@@ -60,6 +60,13 @@ fn draw_name<W: Write, A: Allocator>(text: &mut W, line: &Line<A>, left: u128) -
 // What a sample tells is no count.
 fn write_numbers<W: Write, A: Allocator>(text: &mut W, plot: &Plot<A>) -> fmt::Result {
     write_counted(text, plot.requests, " request")?;
+    if let Some(after) = plot.after {
+        text.write_str(" after the first ")?;
+        write_number(text, after.get() as u128)?;
+        text.write_str(", ")?;
+        write_counted(text, plot.distinct, " distinct key")?;
+        return text.write_str(" in all");
+    }
     if plot.one_in.get() == 1 {
         text.write_str(", ")?;
         return write_counted(text, plot.distinct, " distinct key");

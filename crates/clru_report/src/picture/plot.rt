@@ -37,6 +37,9 @@ pub(crate) struct Plot<A: Allocator> {
     /// Of how many keys one was read.
     pub(crate) one_in: NonZeroUsize,
 
+    /// How many requests came before them and are not counted.
+    pub(crate) after: Option<NonZeroUsize>,
+
     /// What capacities count.
     pub(crate) unit: &'static str,
 

@@ -7,6 +7,7 @@ ghost use Rattle.clru_report.specs.Capacities.{falls_from, usual_from as usual_c
 ghost use Rattle.clru_report.specs.Passes.{capacities_on, IsSettled, IsUsualOn};
 
 use super::faithful::BySize;
+use super::ratio::least_by_size;
 use crate::capacities::{push_capacity, usual_capacities};
 use crate::knees::{UsualTable, table_with_knees};
 use crate::options::Capacities;
@@ -37,25 +38,29 @@ pub(super) fn sized_usual_table<A: Allocator + Copy>(
     table_with_knees(alloc, &BySize(curve), whole, &usual)
 }
 
-/// The capacities for a curve, where its usual table has these.
+/// The capacities for a curve, where so many requests of this size together are the whole, and its usual table has these.
 pub(crate) fn sized_capacities_for<A: Allocator + Copy>(
     alloc: A,
     capacities: &Capacities<A>,
     curve: &SizedCurve<A>,
+    requests: usize,
+    size: usize,
     table: &[NonZeroUsize],
 ) -> Result<Vec<NonZeroUsize, A>, AllocError>
     requires { IsSettled curve.now }
     ensures { IfOk result (λ chosen. map non_zero_usize_get chosen.items
-        ≡ capacities_on curve.now capacities.now (map non_zero_usize_get table.now)) }
+        ≡ capacities_on curve.now capacities.now requests size (map non_zero_usize_get table.now)) }
 {
     match capacities {
         Capacities::Usual => Vec::from_slice(alloc, table),
         Capacities::Each => each_fall_by_size(alloc, curve),
         Capacities::Named(named) => Vec::from_slice(alloc, named),
+        Capacities::HitRatio(ratio) => least_by_size(alloc, *ratio, false, curve, requests),
+        Capacities::ByteHitRatio(ratio) => least_by_size(alloc, *ratio, true, curve, size),
     }
 }
 
-fn usual_from<A: Allocator>(
+pub(super) fn usual_from<A: Allocator>(
     alloc: A,
     first: usize,
     distinct_size: usize,
@@ -68,7 +73,7 @@ fn usual_from<A: Allocator>(
 }
 
 // The steps come by their capacities, several where more than one request begins to hit.
-fn each_fall_by_size<A: Allocator>(
+pub(super) fn each_fall_by_size<A: Allocator>(
     alloc: A,
     curve: &SizedCurve<A>,
 ) -> Result<Vec<NonZeroUsize, A>, AllocError>

@@ -36,7 +36,7 @@ fn point_by_size<A: Allocator>(curve: &SizedCurve<A>, capacity: usize) -> Point
 }
 
 // What misses after so many steps.
-fn missed_after<A: Allocator>(curve: &SizedCurve<A>, hits: usize) -> usize
+pub(super) fn missed_after<A: Allocator>(curve: &SizedCurve<A>, hits: usize) -> usize
     requires { hits ≤ length curve.now.steps }
     ensures { result ≡ size_after curve.now.size curve.now.steps hits }
 {
@@ -90,7 +90,7 @@ fn furthest_by_size<A: Allocator>(
 }
 
 // Looks at a piece of the curve, from `first` up to the capacity before `next`.
-fn further_on(
+pub(super) fn further_on(
     start: Point,
     end: Point,
     first: usize,
@@ -117,7 +117,7 @@ fn further_on(
 }
 
 // How many steps there are up to a capacity.
-fn steps_up_to(steps: &[Step], capacity: usize) -> usize
+pub(super) fn steps_up_to(steps: &[Step], capacity: usize) -> usize
     requires { IsNonDecreasingBy (λ s. s.capacity) steps.now }
     ensures bound { result ≤ length steps.now }
     ensures count { result ≡ hits_within capacity steps.now }

@@ -2,6 +2,7 @@
 ghost use Rattle.std.specs.Prelude.{◌≡◌, ◌==◌, position, None, Some, IfNone, IfSome};
 ghost use Rattle.std.specs.Int.NonZero.{non_zero_usize_get};
 ghost use Rattle.std.specs.List.{list_all};
+ghost use Rattle.clru_report.specs.OneSize.{tail_of_line};
 ghost use Rattle.clru_report.specs.Sizes.{is_zero, size_in, size_of_line};
 
 use clru_lines::capacity_of;
@@ -15,6 +16,16 @@ pub fn size_of(line: &[u8]) -> Option<NonZeroUsize>
     match blank_at(line) {
         Some(at) => size_of_word(&line[..at]),
         None => None,
+    }
+}
+
+/// Returns the key of a line: what stands behind its size, from the first blank on.
+pub(super) fn tail_of(line: &[u8]) -> &[u8]
+    ensures { result.now ≡ tail_of_line line.now }
+{
+    match blank_at(line) {
+        Some(at) => &line[at..],
+        None => &[],
     }
 }
 

@@ -36,7 +36,7 @@ pub(super) fn curve_by_size<R: Read, S: BuildHasher + Drop, A: Allocator + Copy>
     hash_builder: S,
 ) -> Result<(SizedCurve<A>, usize, usize, usize, Option<Floors<A>>), Fault>
     ensures curve { IfOk result (λ found. ReadWhole (R.remaining reader.old) (R.remaining reader.new)
-        (λ input. IsSizedCurveOfKept (non_zero_usize_get one_in) input found.0 found.1 found.2 found.3
+        (λ input. IsSizedCurveOfKept (non_zero_usize_get one_in) input (lines_of input) found.0 found.1 found.2 found.3
         × AreFloorsFor floored (kept_of (non_zero_usize_get one_in) (lines_of input)) found.4)) }
     ensures settled { IfOk result (λ found. IsSettled found.0) }
     ensures refused { IfErr result (λ fault. is_of_input fault ≡ true → ReadWhole (R.remaining reader.old) (R.remaining reader.new)
@@ -81,8 +81,8 @@ pub(super) fn curve_by_size<R: Read, S: BuildHasher + Drop, A: Allocator + Copy>
     }
 }
 
-// Returns the size of all lines with one more, of this number, which is taken if the sample keeps it.
-fn count_and_take<S: BuildHasher, A: Allocator + Copy>(
+/// Returns the size of all lines with one more, of this number, which is taken if the sample keeps it.
+pub(super) fn count_and_take<S: BuildHasher, A: Allocator + Copy>(
     alloc: A,
     one_in: NonZeroUsize,
     pass: &mut SizedPass<OwnedKey<A>, S, A>,
@@ -112,8 +112,8 @@ fn count_and_take<S: BuildHasher, A: Allocator + Copy>(
     }
 }
 
-// Returns the size of all lines with one more, of this number.
-fn count_line(line: &[u8], number: usize, size: usize) -> Result<usize, Fault>
+/// Returns the size of all lines with one more, of this number.
+pub(super) fn count_line(line: &[u8], number: usize, size: usize) -> Result<usize, Fault>
     ensures sum { IfOk result (λ more. more ≡ size + (1 + weight_of_line line.now)) }
     ensures sized { OnOk result (IsSome (size_of_line line.now)) }
     ensures refused { (lines rest : List (List ℕ)) → HaveSizes lines → size ≡ size_of_lines lines → number ≡ length lines + 1
@@ -185,7 +185,8 @@ fn take_line<S: BuildHasher, A: Allocator + Copy>(
     key: &OwnedKey<A>,
     weight: usize,
 ) -> Result<(), AllocError>
-    requires { weight ≡ weight_of_line (line_of key.now) }
+    requires weight { weight ≡ weight_of_line (line_of key.now) }
+    requires taken { (past : List (OwnedKey A)) × IsSizedPass same_line weight_of_key past pass.old }
     ensures { (past : List (OwnedKey A)) → IsSizedPass same_line weight_of_key past pass.old
         → OnOk result (HasTakenSized past (line_of key.now) pass.new) }
 {
@@ -193,8 +194,8 @@ fn take_line<S: BuildHasher, A: Allocator + Copy>(
         Ok(Some(_)) => Ok(()),
         Ok(None) => {
             let bytes = Vec::from_slice(alloc, &key.0)?;
-            match pass.request(OwnedKey(bytes), weight) {
-                Ok(_) => Ok(()),
+            match pass.request_new(OwnedKey(bytes), weight) {
+                Ok(()) => Ok(()),
                 Err(_) => Err(AllocError),
             }
         }

@@ -35,11 +35,18 @@ pub(crate) fn sized_rows_for<A: Allocator + Copy>(
 ) -> Result<Vec<SizedRow, A>, Fault>
     requires { IsSettled curve.now }
     ensures rows { IfOk result (λ rows. AreRowsOf curve.now floors.now
-        (capacities_on curve.now capacities.now (map non_zero_usize_get table.now)) rows.items) }
+        (capacities_on curve.now capacities.now curve.now.requests curve.now.size (map non_zero_usize_get table.now)) rows.items) }
     ensures refused { IfErr result (λ fault.
-        IsOfCapacities curve.now fault (capacities_on curve.now capacities.now (map non_zero_usize_get table.now))) }
+        IsOfCapacities curve.now fault (capacities_on curve.now capacities.now curve.now.requests curve.now.size (map non_zero_usize_get table.now))) }
 {
-    let Ok(capacities) = sized_capacities_for(alloc, capacities, curve, table) else {
+    let Ok(capacities) = sized_capacities_for(
+        alloc,
+        capacities,
+        curve,
+        curve.requests(),
+        curve.size(),
+        table,
+    ) else {
         return Err(Fault::Memory);
     };
     sized_rows_at(alloc, curve, floors, &capacities)

@@ -1,5 +1,5 @@
 //! The text of a report by size of a sample.
-ghost use Rattle.std.specs.Prelude.{◌≡◌, ℕ, ◌+◌, ◌-◌, ◌^◌, List, length, map, min, nat_le, IfOk, string_bytes};
+ghost use Rattle.std.specs.Prelude.{◌≡◌, ℕ, ◌+◌, ◌-◌, ◌/◌, ◌^◌, List, length, map, min, nat_le, IfOk, string_bytes};
 ghost use Rattle.std.specs.Int.NonZero.{non_zero_usize_get};
 ghost use Rattle.std.specs.List.{filter};
 ghost use Rattle.std.specs.Str.{bytes_eq};
@@ -98,7 +98,7 @@ fn rows_of_sized_sample<A: Allocator + Copy>(
         AreSizedRowsOfSample options.now (non_zero_usize_get totals.one_in) totals.requests totals.size kept
         (map non_zero_usize_get table.now) shown.items) }
 {
-    let capacities = capacities_from_first(alloc, &options.capacities, curve, table)?;
+    let capacities = capacities_from_first(alloc, &options.capacities, curve, totals, table)?;
     let Ok(rows) = sized_rows_at(alloc, curve, floors, &capacities) else {
         return Err(AllocError);
     };
@@ -110,14 +110,24 @@ fn capacities_from_first<A: Allocator + Copy>(
     alloc: A,
     capacities: &Capacities<A>,
     curve: &SizedCurve<A>,
+    totals: Totals,
     table: &[NonZeroUsize],
 ) -> Result<Vec<NonZeroUsize, A>, AllocError>
     requires { IsSettled curve.now }
     ensures { IfOk result (λ chosen. map non_zero_usize_get chosen.items ≡ filter (λ c. nat_le (1 + curve.now.greatest_weight) c)
-        (capacities_on curve.now capacities.now (map non_zero_usize_get table.now))) }
+        (capacities_on curve.now capacities.now (totals.requests / non_zero_usize_get totals.one_in)
+        (totals.size / non_zero_usize_get totals.one_in) (map non_zero_usize_get table.now))) }
 {
     let first = first_capacity(curve);
-    let mut chosen = sized_capacities_for(alloc, capacities, curve, table)?;
+    let one_in = totals.one_in.get();
+    let mut chosen = sized_capacities_for(
+        alloc,
+        capacities,
+        curve,
+        totals.requests / one_in,
+        totals.size / one_in,
+        table,
+    )?;
     chosen.retain(|capacity| capacity.get() >= first);
     Ok(chosen)
 }

@@ -15,6 +15,10 @@ pub note_reuse-requires : goal.note_reuse-requires
 note_reuse-requires g c =
     let has = c.requires.3 in (c.requires.1, has.past, has.taken, has.floored)
 
+pub take_key-requires : goal.take_key-requires
+take_key-requires g c =
+    let has = c.requires.3 in (has.past, has.taken)
+
 pub returns : goal.returns
 returns g c least floored lines has =
     let line = line_of c.args.key.now in let n = non_zero_usize_get c.args.one_in in

@@ -17,13 +17,14 @@ returns-in-Ok-text_by_keys g c =
     let least = c.asks_for_least-least.result in let floored = c.asks_for_floor-floored.result in
     let has = subst (λ ls. HasMissesOf bytes_eq ls curve) whole of.misses in
     let kinds = subst (λ ls. length curve ≡ distinct bytes_eq (reverse ls)) whole of.distinct_keys in
-    let table = map non_zero_usize_get c.in-Ok.table.capacities.items in let asked = capacities_asked options lines table in
+    let table = map non_zero_usize_get c.in-Ok.table.capacities.items in let asked = capacities_asked options (length lines) lines table in
     let found = c.in-Ok-rows_of_all.ensures lines least floored has kinds
     (subst (λ ls. IsForeseenFor g.row.A.Denot least ls c.in_ok-curve.foresight) whole read.3.1)
     (subst (λ ls. IsFloorFor floored ls c.in_ok-curve.floor) whole read.3.2) in
     let rows = c.in-Ok-rows_of_all.rows.items in
-    let at = subst (λ cs. AreRows bytes_eq lines least floored (capacities_asked options lines cs) rows)
-    (ap (map non_zero_usize_get) c.deref.ensures.value) found in
+    let at = subst (λ n. AreRows bytes_eq lines least floored (capacities_asked options n lines table) rows) of.counted
+    (subst (λ cs. AreRows bytes_eq lines least floored (capacities_asked options c.in_ok-curve.requests lines cs) rows)
+    (ap (map non_zero_usize_get) c.deref.ensures.value) found) in
     let rowed = subst (AreRows bytes_eq lines (wants_least options) (wants_floor options) asked) (sym c.deref-2.ensures.value)
     (subst (λ b. AreRows bytes_eq lines (wants_least options) b asked rows) c.asks_for_floor-floored.ensures
     (subst (λ b. AreRows bytes_eq lines b floored asked rows) c.asks_for_least-least.ensures at)) in

@@ -8,7 +8,7 @@ use Rattle.clru_report.proofs.rows.rows_and_floor.Goals as goal
 
 pub returns-in-Some : goal.returns-in-Some
 returns-in-Some g c lines floored has many of =
-    let capacities = capacities_asked c.args.options.now lines (map non_zero_usize_get c.args.table.now) in
+    let capacities = capacities_asked c.args.options.now c.args.whole lines (map non_zero_usize_get c.args.table.now) in
     let given : IsFloorFor floored lines (Some c.in-Some.floor) = subst (IsFloorFor floored lines) c.in-Some.is of in
     let rows = subst (AreRows bytes_eq lines false false capacities) (sym c.deref.ensures.value) (c.in_ok-rows.ensures lines has many) in
     ok_map c.rows_with_floor.result
@@ -18,5 +18,5 @@ returns-in-Some g c lines floored has many of =
 pub returns-in-None : goal.returns-in-None
 returns-in-None g c lines floored has many of =
     let none : IsFloorFor floored lines None = subst (IsFloorFor floored lines) c.in-None.is of in
-    subst (λ b. AreRows bytes_eq lines false b (capacities_asked c.args.options.now lines (map non_zero_usize_get c.args.table.now)) c.in_ok-rows.rows.items) (sym none)
+    subst (λ b. AreRows bytes_eq lines false b (capacities_asked c.args.options.now c.args.whole lines (map non_zero_usize_get c.args.table.now)) c.in_ok-rows.rows.items) (sym none)
     (c.in_ok-rows.ensures lines has many)

@@ -11,10 +11,10 @@ pub returns : goal.returns
 returns g c lines has many =
     let asked = c.args.options.now.capacities in let curve = c.args.curve.now in
     let table = map non_zero_usize_get c.args.table.now in
-    let of_curve = λ (ns : List ℕ). capacities_of asked (misses_at ns) (length ns) table in
-    let of_lines = λ (d : ℕ). capacities_of asked (misses_of lines) d table in
+    let of_curve = λ (ns : List ℕ). capacities_of asked (misses_at ns) c.args.whole (length ns) table in
+    let of_lines = λ (d : ℕ). capacities_of asked (misses_of lines) c.args.whole d table in
     let taken : map non_zero_usize_get c.deref.result.now ≡ of_curve c.as_slice.result.now =
     ap (map non_zero_usize_get) c.deref.ensures.value ∙ c.in_ok-capacities.ensures in
     let chosen = taken ∙ ap of_curve c.as_slice.ensures
-    ∙ capacities-alike (misses_at curve) (misses_of lines) has asked (length curve) table ∙ ap of_lines many in
+    ∙ capacities-alike (misses_at curve) (misses_of lines) has asked c.args.whole (length curve) table ∙ ap of_lines many in
     subst (λ cs. IfOk c.rows_at.result (λ rows. AreRows bytes_eq lines false false cs rows.items)) chosen (c.rows_at.ensures lines has)

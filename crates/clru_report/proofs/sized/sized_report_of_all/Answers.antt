@@ -1,5 +1,6 @@
 use Rattle.std.proofs.Common.{subst}
 use Rattle.clru_lines.specs.Lines.{lines_of}
+use Rattle.clru_report.specs.OneSize.{counted_lines}
 use Rattle.clru_report.specs.Passes.{AreFloorsFor}
 use Rattle.clru_report.proofs.ReportLemmas.{err_map, ok_map}
 use Rattle.clru_report.proofs.Samples.{all_kept}
@@ -8,11 +9,12 @@ use Rattle.clru_report.proofs.sized.sized_report_of_all.Goals as goal
 pub returns-clause-report : goal.returns-clause-report
 returns-clause-report g c =
     let read = c.in_ok-curve.ensures.curve in let floors = c.in_ok-curve.floors in
-    ok_map c.text_by_size.result (λ text t. (read.0, read.1, read.2, t)) (c.text_by_size.ensures.report read.0 _ _ read.3.0
-    (subst (λ b. AreFloorsFor b (lines_of read.0) floors) c.asks_for_floor-floored.ensures
-    (subst (λ ls. AreFloorsFor c.asks_for_floor-floored.result ls floors) (all_kept (lines_of read.0)) read.3.1)))
+    let lines = counted_lines c.args.options.now.one_size (lines_of read.0) in
+    ok_map c.text_by_size.result (λ text t. (read.0, read.1, read.2, t)) (c.text_by_size.ensures.report read.0 lines _ _ read.3.0
+    (subst (λ b. AreFloorsFor b lines floors) c.asks_for_floor-floored.ensures
+    (subst (λ ls. AreFloorsFor c.asks_for_floor-floored.result ls floors) (all_kept lines) read.3.1)))
 
 pub returns-clause-refused : goal.returns-clause-refused
 returns-clause-refused g c =
-    let read = c.in_ok-curve.ensures.curve in
-    err_map c.text_by_size.result (λ fault t of. (read.0, read.1, read.2, t of)) (c.text_by_size.ensures.refused read.0 _ _ read.3.0)
+    let read = c.in_ok-curve.ensures.curve in let lines = counted_lines c.args.options.now.one_size (lines_of read.0) in
+    err_map c.text_by_size.result (λ fault t of. (read.0, read.1, read.2, t of)) (c.text_by_size.ensures.refused read.0 lines _ _ read.3.0)

@@ -14,7 +14,7 @@ returns-in-Ok-sized_table_of-clause-table g c =
       marked = marked;
       rows = rows;
       usual = subst (λ n. IsUsualOn curve n table marked) c.size.ensures c.in-Ok.ensures;
-      rowed = subst (λ cs. AreRowsOf curve floors (capacities_on curve options.capacities cs) rows)
+      rowed = subst (λ cs. AreRowsOf curve floors (capacities_on curve options.capacities curve.requests curve.size cs) rows)
           (ap (map non_zero_usize_get) c.deref.ensures.value) c.in_ok-rows.ensures.rows;
       is = c.in-Ok-sized_table_of.ensures
           ∙ ap (λ n. sized_table_text c.args.json options.floor n c.size-2.result c.deref-3.result.now c.deref-2.result.now) c.requests.ensures

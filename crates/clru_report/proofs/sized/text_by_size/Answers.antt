@@ -1,5 +1,4 @@
 use Rattle.std.proofs.Common.{◌+◌, false, true, None, min, ap, string_bytes, sym, subst, ◌∙◌}
-use Rattle.clru_lines.specs.Lines.{lines_of}
 use Rattle.std.specs.Prelude.{◌&&◌}
 use Rattle.clru_report.specs.Passes.{AreFloorsFor, distinct_in, has_rows}
 use Rattle.clru_report.specs.Refusals.{fault_beside}
@@ -16,7 +15,7 @@ pub returns-in-Table : goal.returns-in-Table
 returns-in-Table g c =
     let options = c.args.options.now in let curve = c.args.curve.now in let floors = c.args.floors.now in
     record {
-      report = λ input requests size of both. let lines = lines_of input in let whole = of_all input curve requests size c.args.bytes of in ok_map c.sized_table_for.result
+      report = λ input lines requests size of both. let whole = of_all input lines curve requests size c.args.bytes of in ok_map c.sized_table_for.result
           (λ text t. (
             of.sizes,
             rows_free lines curve whole false options floors (string_bytes text) t of.no_fault,
@@ -24,7 +23,7 @@ returns-in-Table g c =
                 (table_is lines curve whole false options floors (string_bytes text)
                 (subst (λ f. AreFloorsFor (has_rows f && options.floor) lines floors) c.in-Table.is both) t),
           )) c.sized_table_for.ensures.table;
-      refused = λ input requests size of. let lines = lines_of input in let whole = of_all input curve requests size c.args.bytes of in err_map c.sized_table_for.result
+      refused = λ input lines requests size of. let whole = of_all input lines curve requests size c.args.bytes of in err_map c.sized_table_for.result
           (λ fault why input_is. capacities_refused lines curve whole options fault of.sizes of.no_fault
           (ap (λ f. fault_beside f options.capacities (greatest_size lines)) c.in-Table.is) (why input_is) input_is) c.sized_table_for.ensures.refused;
       fault = c.sized_table_for.ensures.fault;
@@ -34,7 +33,7 @@ pub returns-in-Json : goal.returns-in-Json
 returns-in-Json g c =
     let options = c.args.options.now in let curve = c.args.curve.now in let floors = c.args.floors.now in
     record {
-      report = λ input requests size of both. let lines = lines_of input in let whole = of_all input curve requests size c.args.bytes of in ok_map c.sized_table_for-in-Json.result
+      report = λ input lines requests size of both. let whole = of_all input lines curve requests size c.args.bytes of in ok_map c.sized_table_for-in-Json.result
           (λ text t. (
             of.sizes,
             rows_free lines curve whole true options floors (string_bytes text) t of.no_fault,
@@ -42,7 +41,7 @@ returns-in-Json g c =
                 (table_is lines curve whole true options floors (string_bytes text)
                 (subst (λ f. AreFloorsFor (has_rows f && options.floor) lines floors) c.in-Json.is both) t),
           )) c.sized_table_for-in-Json.ensures.table;
-      refused = λ input requests size of. let lines = lines_of input in let whole = of_all input curve requests size c.args.bytes of in err_map c.sized_table_for-in-Json.result
+      refused = λ input lines requests size of. let whole = of_all input lines curve requests size c.args.bytes of in err_map c.sized_table_for-in-Json.result
           (λ fault why input_is. capacities_refused lines curve whole options fault of.sizes of.no_fault
           (ap (λ f. fault_beside f options.capacities (greatest_size lines)) c.in-Json.is) (why input_is) input_is) c.sized_table_for-in-Json.ensures.refused;
       fault = c.sized_table_for-in-Json.ensures.fault;
@@ -52,7 +51,7 @@ pub returns-in-Picture : goal.returns-in-Picture
 returns-in-Picture g c =
     let options = c.args.options.now in let curve = c.args.curve.now in let floors = c.args.floors.now in
     record {
-      report = λ input requests size of both. let lines = lines_of input in let whole = of_all input curve requests size c.args.bytes of in ok_map c.sized_picture_for.result
+      report = λ input lines requests size of both. let whole = of_all input lines curve requests size c.args.bytes of in ok_map c.sized_picture_for.result
           (λ text t. (
             of.sizes,
             rows_free lines curve whole false options floors t.0 t.1 of.no_fault,
@@ -63,16 +62,16 @@ returns-in-Picture g c =
               t.2,
             ),
           )) c.sized_picture_for.ensures.picture;
-      refused = λ input requests size of. let lines = lines_of input in let whole = of_all input curve requests size c.args.bytes of in err_map c.sized_picture_for.result
+      refused = λ input lines requests size of. let whole = of_all input lines curve requests size c.args.bytes of in err_map c.sized_picture_for.result
           (λ fault why input_is. capacities_refused lines curve whole options fault of.sizes of.no_fault
           (ap (λ f. fault_beside f options.capacities (greatest_size lines)) c.in-Picture.is) (why input_is) input_is) c.sized_picture_for.ensures.refused;
       fault = c.sized_picture_for.ensures.fault;
     }
 
 pub returns-in-Ok-clause-report : goal.returns-in-Ok-clause-report
-returns-in-Ok-clause-report g c input requests size of both =
-    let options = c.args.options.now in let lines = lines_of input in
-    let whole = of_all input c.args.curve.now requests size c.args.bytes of in (
+returns-in-Ok-clause-report g c input lines requests size of both =
+    let options = c.args.options.now in
+    let whole = of_all input lines c.args.curve.now requests size c.args.bytes of in (
       of.sizes,
       told_beside options lines None of.no_fault (ap (λ f. fault_beside f options.capacities (greatest_size lines)) c.in-Summary.is),
       subst (λ f. IsInFormBySize f options input lines (string_bytes c.in-Ok.text)) (sym c.in-Summary.is)

@@ -1,34 +1,22 @@
 use Rattle.std.specs.Option.{is_none}
-use Rattle.std.proofs.Common.{◌≡◌, true, false, not, ◌++◌, ◌∷◌, [], ℕ, List, Some, IfSome, append_assoc, append-nil, IsSome, refl, sym, length, ap, ◌∙◌, subst, arith}
+use Rattle.std.proofs.Common.{◌≡◌, true, not, ◌++◌, ◌∷◌, [], ℕ, List, Some, IfSome, append_assoc, append-nil, IsSome, refl, sym, length, ap, ◌∙◌, subst, arith}
 use Rattle.std.specs.Int.NonZero.{non_zero_usize_get}
 use Rattle.std.specs.Prelude.{bytes_eq}
 use Rattle.std.proofs.lemmas.List.{length-append}
 use Rattle.std.proofs.lemmas.List.Elements.{All-nil}
 use Rattle.clru_curve.specs.SizedCurves.{IsSizedCurveOf}
 use Rattle.clru_lines.specs.Lines.{lines_of}
-use Rattle.clru_lines.specs.declared.fault.Fault.{Fault}
-use Rattle.clru_lines.specs.declared.fault.Fault.TheVariants.{BadCapacity, Memory, Reading, Writing, Closed, NoSize, TooLarge, TooSmall}
-use Rattle.clru_report.specs.Faults.{is_of_writing}
+use Rattle.clru_report.proofs.FaultLemmas.{lines_unwritten}
 use Rattle.clru_report.specs.Passes.{AreFloorsFor, HasFloorPass, IsOfLines, weight_of_key}
 use Rattle.clru_report.specs.Refusals.{fault_from, is_of_input}
 use Rattle.clru_report.specs.Samples.{kept_of}
 use Rattle.clru_report.specs.Sizes.{HaveSizes, size_of_line, size_of_lines, weight_of_line}
+use Rattle.clru_report.proofs.FaultLemmas.{lines_unwritten}
 use Rattle.clru_report.proofs.ReportLemmas.{no_none, no_some, none_map, of_none, some_map}
 use Rattle.clru_report.proofs.SettledCurves.{settled_curve}
 use Rattle.clru_report.proofs.TakenLines.{curve_taken}
 use Rattle.clru_report.proofs.sized.pass.curve_by_size.Goals as goal
 use Rattle.clru_report.proofs.sized.pass.curve_by_size.Goals.{else-floored, then-floored}
-
--- why lines have no curve is no fault of writing
-lines_unwritten : (lines : List (List ℕ)) (fault : Fault) → IsOfLines fault lines → is_of_writing fault ≡ false
-lines_unwritten lines BadCapacity why = refl
-lines_unwritten lines Memory why = refl
-lines_unwritten lines Reading why = refl
-lines_unwritten lines Writing why = absurd why
-lines_unwritten lines Closed why = absurd why
-lines_unwritten lines (NoSize n) why = refl
-lines_unwritten lines TooLarge why = refl
-lines_unwritten lines (TooSmall n) why = refl
 
 pub lines-init : goal.lines-init
 lines-init g c =

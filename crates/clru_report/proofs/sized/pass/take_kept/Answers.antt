@@ -11,6 +11,10 @@ pub note_reuse-requires : goal.note_reuse-requires
 note_reuse-requires g c =
     let has = c.requires.taken.2 in (c.requires.taken.0, has.past, has.taken, has.floored)
 
+pub take_line-requires-clause-taken : goal.take_line-requires-clause-taken
+take_line-requires-clause-taken g c =
+    let has = c.requires.taken.2 in (has.past, has.taken)
+
 pub returns : goal.returns
 returns g c floored lines has =
     let line = line_of c.args.key.now in let n = non_zero_usize_get c.args.one_in in

@@ -1,4 +1,4 @@
-use Rattle.std.proofs.Common.{map, ap, ◌∙◌, subst}
+use Rattle.std.proofs.Common.{◌/◌, map, ap, ◌∙◌, subst}
 use Rattle.std.specs.Int.NonZero.{non_zero_usize_get}
 use Rattle.clru_report.specs.Passes.{AreRowsOf}
 use Rattle.clru_report.specs.Samples.{sized_numbers_times}
@@ -15,7 +15,8 @@ returns g c kept is both =
     ok_map c.sized_rows_times.result
     (λ shown t. (
       rows,
-      rows_kept kept curve is c.args.options.now floors (map non_zero_usize_get c.args.table.now) rows both answered,
+      rows_kept kept curve is c.args.options.now floors (totals.requests / non_zero_usize_get totals.one_in)
+          (totals.size / non_zero_usize_get totals.one_in) (map non_zero_usize_get c.args.table.now) rows both answered,
       t ∙ ap (map (sized_numbers_times (non_zero_usize_get totals.one_in) totals.requests totals.size)) c.deref-2.ensures.value,
     ))
     c.sized_rows_times.ensures

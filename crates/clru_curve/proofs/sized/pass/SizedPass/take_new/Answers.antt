@@ -5,7 +5,7 @@ use Rattle.clru_curve.proofs.SizedPassing.{IsSizedPass-new, IsSoundBySize-new}
 use Rattle.clru_curve.specs.LatestSizes.{IsSummed, sizes_from}
 use Rattle.clru_curve.specs.Rising.{numbered}
 use Rattle.clru_curve.specs.SizedPasses.{IsSizedPass}
-use Rattle.clru_curve.proofs.sized.pass.SizedPass.request_new.Goals as goal
+use Rattle.clru_curve.proofs.sized.pass.SizedPass.take_new.Goals as goal
 
 pub push-requires-clause-fits : goal.push-requires-clause-fits
 push-requires-clause-fits g c =

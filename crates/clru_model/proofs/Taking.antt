@@ -27,7 +27,7 @@ module _ {K : Type 0} (eq : K → K → Bool) where
 
 module _ {K : Type 0} (eq : K → K → Bool) (laws : IsEquivalence eq) where
   -- what is held after a request of x was seen before, or is x
-  seen_next : (x : K) (ks next seen : List K) → list_all (λ q. holds eq q (x ∷ ks)) next ≡ true
+  pub seen_next : (x : K) (ks next seen : List K) → list_all (λ q. holds eq q (x ∷ ks)) next ≡ true
       → ((z : K) → holds eq z ks ≡ true → holds eq z seen ≡ true) → (z : K) → holds eq z next ≡ true → holds eq z (x ∷ seen) ≡ true
   seen_next x ks next seen all within z h =
       let before = held_of_all eq laws next (x ∷ ks) all z h in

@@ -1,0 +1,77 @@
+-- Where the first requests are not counted, nothing is asked for that is of all.
+use Rattle.std.proofs.Common.{◌≡◌, ℕ, List, Bool, true, false, not, Option, None, Some, refl, ap}
+use Rattle.std.specs.Prelude.{◌&&◌}
+use Rattle.std.specs.Option.{is_some, option_map}
+use Rattle.std.proofs.lemmas.Bool.{and_parts, or_left, or_right}
+use Rattle.clru_model.proofs.Cases.{split}
+use Rattle.clru_report.specs.Arguments.{IsSampleOf, after_goes_together, form_of, wants_all, wants_part}
+use Rattle.clru_report.specs.Choices.{is_of_all, is_summary, is_whole}
+use Rattle.clru_report.specs.CommandLine.{Asked}
+use Rattle.clru_report.specs.Refusals.{IsRefusedBy, IsRefusedFor}
+use Rattle.clru_lines.specs.declared.fault.Fault.{Fault}
+use Rattle.clru_report.specs.declared.options.Form.{Form}
+use Rattle.clru_report.specs.declared.options.Options.{Options}
+use Rattle.clru_report.specs.declared.options.Sample.{Sample}
+use Rattle.clru_report.specs.declared.options.Sample.TheVariants.{Whole, OneIn, Taken}
+
+whole_of : (asked : Asked) (sample : Sample) → wants_part asked ≡ false → IsSampleOf asked sample → is_whole sample ≡ true
+whole_of asked Whole none is = refl
+whole_of asked (OneIn n) none is = absurd (cc (rw is at none))
+whole_of asked (Taken n all) none is = absurd (cc (rw (is.0, is.1) at none))
+
+no_summary : (asked : Asked) → asked.summary ≡ false → is_summary (form_of asked) ≡ false
+no_summary asked none =
+    rw none (split asked.svg (λ t. rw t refl) (λ f. rw f (split asked.json (λ t. rw t refl) (λ g. rw g refl))))
+
+-- what is a value is one under a view
+pub some_viewed : {X Y : Type 0} (view : X → Y) (o : Option X) → is_some o ≡ true → is_some (option_map view o) ≡ true
+some_viewed view None is = cc is
+some_viewed view (Some x) is = refl
+
+abbrev rest_together : Asked → Bool
+rest_together asked = not (is_some asked.after && wants_part asked) && not (is_some asked.after && asked.one_size)
+
+pub alone : (asked : Asked) (sample : Sample) → after_goes_together asked ≡ true → IsSampleOf asked sample → is_some asked.after ≡ true
+    → is_of_all asked.least asked.floor sample (form_of asked) ≡ false
+alone asked sample together is some =
+    let parts = and_parts (not (is_some asked.after && wants_all asked)) (rest_together asked) together in
+    let all : not (wants_all asked) ≡ true = rw some at parts.0 in
+    let part : not (wants_part asked) ≡ true =
+    rw some at (and_parts (not (is_some asked.after && wants_part asked)) (not (is_some asked.after && asked.one_size)) parts.1).0 in
+    let whole = split (wants_part asked) (λ t. absurd (cc (rw t at part))) (λ f. whole_of asked sample f is) in
+    split asked.least
+    (λ t. absurd (cc (rw t at all)))
+    (λ l. split asked.floor
+    (λ t. absurd (cc (rw (l, t) at all)))
+    (λ f. split asked.summary
+    (λ t. absurd (cc (rw (l, f, t) at all)))
+    (λ s. rw (l, f, whole, no_summary asked s) refl)))
+
+-- nor one size for each key
+pub sizes_alone : (asked : Asked) → after_goes_together asked ≡ true → is_some asked.after ≡ true → asked.one_size ≡ false
+sizes_alone asked together some =
+    let parts = and_parts (not (is_some asked.after && wants_all asked)) (rest_together asked) together in
+    let sizes : not asked.one_size ≡ true =
+    rw some at (and_parts (not (is_some asked.after && wants_part asked)) (not (is_some asked.after && asked.one_size)) parts.1).1 in
+    split asked.one_size (λ t. absurd (cc (rw t at sizes))) (λ f. f)
+
+module _ (least floor : Bool) (sample : Sample) (form : Form) (none : is_of_all least floor sample form ≡ false) where
+  -- so no summary is asked for, and no sample is taken
+  pub rows_alone : is_summary form ≡ false
+  rows_alone =
+      split (is_summary form)
+      (λ t. absurd (cc (or_right least _ (or_right floor _ (or_right (not (is_whole sample)) (is_summary form) t)), none)))
+      (λ f. f)
+
+  pub whole_alone : is_whole sample ≡ true
+  whole_alone =
+      split (is_whole sample)
+      (λ t. t)
+      (λ f. absurd (cc (or_right least _ (or_right floor _ (or_left (not (is_whole sample)) (is_summary form) (ap not f))), none)))
+
+-- of a whole log the fault is that of all lines
+pub refused_whole : {A : Type 0} (sample : Sample) (fault : Fault) (options : Options A) (lines : List (List ℕ)) → is_whole sample ≡ true
+    → IsRefusedFor fault options lines → IsRefusedBy sample fault options lines
+refused_whole Whole fault options lines whole is = is
+refused_whole (OneIn n) fault options lines whole is = cc whole
+refused_whole (Taken n all) fault options lines whole is = cc whole

@@ -1,0 +1,22 @@
+use Rattle.std.proofs.Common.{◌≡◌, true, false, ◌+◌, ◌-◌, ◌^◌, ◌<◌, ℕ, List, ◌++◌, Some, IfNone, IfSome, length}
+use Rattle.std.specs.Int.NonZero.{non_zero_usize_get}
+use Rattle.clru_lines.specs.LinesRead.{HasReturned}
+use Rattle.clru_report.specs.Passes.{HasTakenOf, IsOfLines}
+use Rattle.clru_report.specs.Refusals.{fault_from, is_of_input}
+use Rattle.clru_report.specs.SizedAfterPasses.{IsSizedHead}
+use Rattle.clru_report.proofs.sized.after.sized_curves_around.Given as goal
+
+-- the lines so far were counted and taken, and the first ones have their curve if others follow; or the lines have a fault whatever
+-- follows
+abbrev pub invariant-lines : goal.invariant-lines
+invariant-lines g l = (lines : List (List ℕ))
+    × HasReturned (g.R.Read.remaining l.initial.reader) (g.R.Read.remaining l.reader) l.buffer lines
+    × (l.requests ≡ length lines) × (l.requests < 2 ^ 64)
+    × IfNone l.refused (HasTakenOf false 1 lines l.size l.pass l.reuses
+    × ((rest : List (List ℕ)) → fault_from 1 0 (lines ++ rest) ≡ fault_from (l.requests + 1) l.size rest)
+    × IsSizedHead (non_zero_usize_get l.after) lines l.head)
+    × IfSome l.refused (λ fault. (rest : List (List ℕ)) → IsOfLines fault (lines ++ rest)
+    × (is_of_input fault ≡ true → fault_from 1 0 (lines ++ rest) ≡ Some fault))
+
+abbrev pub decreases-lines : goal.decreases-lines
+decreases-lines g l = 2 ^ 64 - l.requests

@@ -1,0 +1,26 @@
+use Rattle.std.proofs.Common.{length, string_bytes, subst}
+use Rattle.std.specs.Int.NonZero.{non_zero_usize_get}
+use Rattle.clru_lines.specs.Lines.{lines_of}
+use Rattle.clru_report.specs.OneSize.{counted_lines}
+use Rattle.clru_report.specs.Passes.{AreFloorsFor}
+use Rattle.clru_report.specs.Samples.{kept_of}
+use Rattle.clru_report.specs.SizedReport.{IsInFormBySizeOfSample}
+use Rattle.clru_report.proofs.sized.sized_report_of_sample.Goals as goal
+
+pub returns-in-Ok-clause-report : goal.returns-in-Ok-clause-report
+returns-in-Ok-clause-report g c =
+    let options = c.args.options.now in let n = non_zero_usize_get c.args.one_in in
+    let read = c.in_ok-curve.ensures.curve in let lines = counted_lines options.one_size (lines_of read.0) in let of = read.3.0 in
+    let kept = kept_of n lines in let text = string_bytes c.in-Ok.text in
+    let both = subst (λ b. AreFloorsFor b kept c.in_ok-curve.floors) c.asks_for_floor-floored.ensures read.3.1 in (
+      read.0,
+      read.1,
+      read.2,
+      (
+        of.sizes,
+        of.no_fault,
+        subst (λ s. IsInFormBySizeOfSample options n (length lines) s kept options.form read.0 text) of.summed
+            (subst (λ r. IsInFormBySizeOfSample options n r c.in_ok-curve.size kept options.form read.0 text) of.counted
+            (c.in-Ok.ensures read.0 kept of.of_kept both of.in_bytes)),
+      ),
+    )

@@ -1,0 +1,193 @@
+//! A log by the numbers of its keys, each with the greatest size it came with.
+ghost use Rattle.std.specs.Prelude.{◌≡◌, ◌<◌, ◌+◌, ℕ, Bool, true, false, List, [], ◌∷◌, ◌++◌, length, map, max, None, Some, IsSome, IfErr, IfOk, OnOk, if◌then◌else◌, slice_index, slice_set};
+ghost use Rattle.std.specs.HashMap.{get};
+ghost use Rattle.clru_lines.specs.Lines.{lines_of};
+ghost use Rattle.clru_lines.specs.Whole.{ReadWhole};
+ghost use Rattle.clru_report.specs.Faults.{is_of_writing};
+ghost use Rattle.clru_report.specs.KeyLogs.{HasKeys, HasNoted, lines_in, tails_of};
+ghost use Rattle.clru_report.specs.OneSize.{tail_of_line, with_greatest};
+ghost use Rattle.clru_report.specs.Passes.{IsOfLines, line_of, same_line};
+ghost use Rattle.clru_report.specs.Refusals.{fault_from, is_of_input};
+ghost use Rattle.clru_report.specs.Sizes.{HaveSizes, size_of_line, size_of_lines, weight_of_line};
+
+use super::line::tail_of;
+use super::pass::count_line;
+use crate::fault::read_fault;
+use clru_lines::{Fault, LineBuffer, OwnedKey};
+use std::alloc::{AllocError, Allocator};
+use std::collections::HashMap;
+use std::hash::BuildHasher;
+use std::io::Read;
+
+/// The requests of a log by the numbers of their keys.
+#[derive(Drop)]
+pub(super) struct KeyLog<A: Allocator> {
+    /// The keys, each from the blank before it on.
+    pub(super) tails: Vec<OwnedKey<A>, A>,
+
+    /// The greatest size that each came with.
+    pub(super) sizes: Vec<usize, A>,
+
+    /// The number of each request's key.
+    pub(super) requests: Vec<usize, A>,
+}
+
+/// Reads a log, and returns it with the number of its bytes.
+///
+/// Holds the distinct keys, and a number for each line. The fault of a line is returned once all is read, because it is one of
+/// the whole input; refused memory at once.
+pub(super) fn read_log<R: Read, S: BuildHasher + Drop, A: Allocator + Copy>(
+    alloc: A,
+    reader: &mut R,
+    hash_builder: S,
+) -> Result<(KeyLog<A>, usize), Fault>
+    ensures keys { IfOk result (λ found. HasKeys found.0) }
+    ensures log { IfOk result (λ found. ReadWhole (R.remaining reader.old) (R.remaining reader.new)
+        (λ input. (fault_from 1 0 (lines_of input) ≡ None)
+        × (lines_in found.0 ≡ map (with_greatest (lines_of input)) (lines_of input)) × (found.1 ≡ length input))) }
+    ensures refused { IfErr result (λ fault. is_of_input fault ≡ true → ReadWhole (R.remaining reader.old) (R.remaining reader.new)
+        (λ input. IsOfLines fault (lines_of input) × (fault_from 1 0 (lines_of input) ≡ Some fault))) }
+    ensures fault { IfErr result (λ fault. is_of_writing fault ≡ false) }
+{
+    let mut numbers = HashMap::with_hasher(alloc, hash_builder);
+    let mut log = KeyLog {
+        tails: Vec::new(alloc),
+        sizes: Vec::new(alloc),
+        requests: Vec::new(alloc),
+    };
+    let mut buffer = LineBuffer::new(alloc);
+    let mut line = Vec::new(alloc);
+    let mut tail = OwnedKey(Vec::new(alloc));
+    let mut count = 0;
+    let mut size = 0;
+    let mut refused = None;
+    'lines: loop {
+        match buffer.read_line(reader, &mut line) {
+            Ok(true) => {}
+            Ok(false) => break,
+            Err(error) => return Err(read_fault(error)),
+        }
+        count += 1;
+        if refused.is_none() {
+            match count_and_note(alloc, &mut numbers, &mut log, &mut tail, &line, count, size) {
+                Ok(more) => size = more,
+                Err(Fault::Memory) => return Err(Fault::Memory),
+                Err(fault) => refused = Some(fault),
+            }
+        }
+    }
+    match refused {
+        None => Ok((log, buffer.bytes_read())),
+        Some(fault) => Err(fault),
+    }
+}
+
+// Returns the size of all lines with one more, of this number, which is noted.
+fn count_and_note<S: BuildHasher, A: Allocator + Copy>(
+    alloc: A,
+    numbers: &mut HashMap<OwnedKey<A>, usize, S, A>,
+    log: &mut KeyLog<A>,
+    tail: &mut OwnedKey<A>,
+    line: &[u8],
+    number: usize,
+    size: usize,
+) -> Result<usize, Fault>
+    requires { (lines : List (List ℕ)) × HasNoted line_of lines (get same_line numbers.old) (tails_of log.old) log.old.sizes.items log.old.requests.items }
+    ensures noted { (lines : List (List ℕ)) → HasNoted line_of lines (get same_line numbers.old) (tails_of log.old) log.old.sizes.items log.old.requests.items
+        → OnOk result (HasNoted line_of (lines ++ line.now ∷ []) (get same_line numbers.new) (tails_of log.new) log.new.sizes.items log.new.requests.items) }
+    ensures sum { IfOk result (λ more. more ≡ size + (1 + weight_of_line line.now)) }
+    ensures sized { OnOk result (IsSome (size_of_line line.now)) }
+    ensures refused { (lines rest : List (List ℕ)) → HaveSizes lines → size ≡ size_of_lines lines
+        → number ≡ length lines + 1 → IfErr result (λ fault. IsOfLines fault (lines ++ line.now ∷ rest)) }
+    ensures next { (rest : List (List ℕ)) → IfOk result (λ more.
+        fault_from number size (line.now ∷ rest) ≡ fault_from (number + 1) more rest) }
+    ensures fault { (rest : List (List ℕ)) → IfErr result (λ fault. is_of_input fault ≡ true
+        → fault_from number size (line.now ∷ rest) ≡ Some fault) }
+{
+    let more = match count_line(line, number, size) {
+        Ok(more) => more,
+        Err(fault) => return Err(fault),
+    };
+    match note_line(alloc, numbers, log, tail, line, more - size) {
+        Ok(()) => Ok(more),
+        Err(_) => Err(Fault::Memory),
+    }
+}
+
+// Notes one more line, of this size.
+fn note_line<S: BuildHasher, A: Allocator + Copy>(
+    alloc: A,
+    numbers: &mut HashMap<OwnedKey<A>, usize, S, A>,
+    log: &mut KeyLog<A>,
+    tail: &mut OwnedKey<A>,
+    line: &[u8],
+    size: usize,
+) -> Result<(), AllocError>
+    requires { (lines : List (List ℕ)) × HasNoted line_of lines (get same_line numbers.old) (tails_of log.old) log.old.sizes.items log.old.requests.items }
+    ensures { (lines : List (List ℕ)) → size ≡ 1 + weight_of_line line.now
+        → HasNoted line_of lines (get same_line numbers.old) (tails_of log.old) log.old.sizes.items log.old.requests.items
+        → OnOk result (HasNoted line_of (lines ++ line.now ∷ []) (get same_line numbers.new) (tails_of log.new) log.new.sizes.items log.new.requests.items) }
+{
+    tail.0.clear();
+    tail.0.extend_from_slice(tail_of(line))?;
+    note_tail(alloc, numbers, log, tail, size)
+}
+
+// Notes one more line with this key and this size.
+fn note_tail<S: BuildHasher, A: Allocator + Copy>(
+    alloc: A,
+    numbers: &mut HashMap<OwnedKey<A>, usize, S, A>,
+    log: &mut KeyLog<A>,
+    tail: &OwnedKey<A>,
+    size: usize,
+) -> Result<(), AllocError>
+    requires { (lines : List (List ℕ)) × HasNoted line_of lines (get same_line numbers.old) (tails_of log.old) log.old.sizes.items log.old.requests.items }
+    ensures { (lines : List (List ℕ)) (line : List ℕ) → line_of tail.now ≡ tail_of_line line → size ≡ 1 + weight_of_line line
+        → HasNoted line_of lines (get same_line numbers.old) (tails_of log.old) log.old.sizes.items log.old.requests.items
+        → OnOk result (HasNoted line_of (lines ++ line ∷ []) (get same_line numbers.new) (tails_of log.new) log.new.sizes.items log.new.requests.items) }
+{
+    let known = numbers.get(tail).copied();
+    let number = match known {
+        Some(number) => {
+            raise(&mut log.sizes, number, size);
+            number
+        }
+        None => add_key(alloc, numbers, log, tail, size)?,
+    };
+    log.requests.push(number)?;
+    Ok(())
+}
+
+// The greatest of the sizes of this number.
+fn raise<A: Allocator>(sizes: &mut Vec<usize, A>, number: usize, size: usize)
+    requires { number < length sizes.old.items }
+    ensures { sizes.new.items ≡ slice_set sizes.old.items number (max (slice_index sizes.old.items number) size) }
+{
+    sizes[number] = sizes[number].max(size);
+}
+
+// Returns the number of a new key.
+fn add_key<S: BuildHasher, A: Allocator + Copy>(
+    alloc: A,
+    numbers: &mut HashMap<OwnedKey<A>, usize, S, A>,
+    log: &mut KeyLog<A>,
+    tail: &OwnedKey<A>,
+    size: usize,
+) -> Result<usize, AllocError>
+    ensures number { IfOk result (λ number. number ≡ length log.old.tails.items) }
+    ensures found { IfOk result (λ number. (k : OwnedKey A)
+        → get same_line numbers.new k ≡ (if same_line tail.now k then Some number else get same_line numbers.old k)) }
+    ensures tails { OnOk result (tails_of log.new ≡ tails_of log.old ++ line_of tail.now ∷ []) }
+    ensures sizes { OnOk result (log.new.sizes.items ≡ log.old.sizes.items ++ size ∷ []) }
+    ensures requests { log.new.requests.items ≡ log.old.requests.items }
+{
+    let number = log.tails.len();
+    let copy = Vec::from_slice(alloc, &tail.0)?;
+    let Ok(_) = numbers.insert(OwnedKey(copy), number) else {
+        return Err(AllocError);
+    };
+    let held = Vec::from_slice(alloc, &tail.0)?;
+    log.tails.push(OwnedKey(held))?;
+    log.sizes.push(size)?;
+    Ok(number)
+}
