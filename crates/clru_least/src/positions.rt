@@ -1,4 +1,4 @@
-//! A set of positions, of which the greatest is found in a few steps.
+//! A set of positions that finds its greatest one in a few steps.
 ghost use Rattle.std.specs.Prelude.{◌≡◌, ℕ, ◌+◌, ◌-◌, ◌*◌, ◌/◌, ◌%◌, ◌^◌, ◌<◌, ◌≤◌, ◌≢◌, length, nat_eq, slice_index, bit_xor, if◌then◌else◌, None, IfOk, IfSome};
 ghost use Rattle.clru_least.specs.Positions.{IsSaid, IsSaidBut, IsTree, bit, times_in};
 

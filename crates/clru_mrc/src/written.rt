@@ -17,7 +17,7 @@ pub(crate) struct LastRow {
     pub(crate) capacity: u64,
     pub(crate) misses: u64,
     pub(crate) missed_bytes: u64,
-    // What part of the requests and of the bytes misses, in millionths, as it is written.
+    // The two miss ratios as the report shows them, in millionths.
     pub(crate) miss_ratio: u64,
     pub(crate) byte_miss_ratio: u64,
 }

@@ -89,8 +89,8 @@ pub struct Options<A: Allocator = Global> {
     /// many, of misses no more than requests, and of their size no more than that of all.
     pub sample: Sample,
 
-    /// How many requests fill the cache and are not counted: rows tell of the requests behind them, of which capacities are asked for as
-    /// of all. They have neither the least nor a floor, no sample is taken, and a key may have several sizes.
+    /// The number of first requests that fill the cache and are not counted; rows count the later ones. It goes with neither the
+    /// least nor a floor, a sample, a summary or one size for each key.
     pub after: Option<NonZeroUsize>,
 
     pub form: Form,

@@ -35,8 +35,8 @@ pub fn room_for_each(
     }
 }
 
-/// Returns the bytes of a cache for each of these curves, such that no others miss less together. Each has room for all that is
-/// requested of it, or none at all.
+/// Returns the bytes of a cache for each of these curves, as `split` chooses them; that no others miss less together is a clause of
+/// `split`, and none here. Each cache has room for every object that is requested of it, or gets nothing.
 pub fn bytes_for_each(
     alloc: Global,
     step: NonZeroUsize,

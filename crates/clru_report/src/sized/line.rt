@@ -19,7 +19,7 @@ pub fn size_of(line: &[u8]) -> Option<NonZeroUsize>
     }
 }
 
-/// Returns the key of a line: what stands behind its size, from the first blank on.
+/// Returns the line from its first blank on: the key of a line that begins with a size.
 pub(super) fn tail_of(line: &[u8]) -> &[u8]
     ensures { result.now ≡ tail_of_line line.now }
 {

@@ -18,9 +18,9 @@ fn a_file_is_read_once_and_where_it_is_not_held(rt: HostRuntime) {
 /// The number of a file's bytes and whether it was held, if it was written and read.
 type Size = Option<(usize, bool)>;
 
-/// The sizes of a file that is written twice, as it was first, as it is held, and as it is after all is dropped; how many files are
-/// held then and what they weigh; the size of one that is too large, whether it was removed and its size then; and how many files
-/// are held at last and how often one was read.
+/// Three sizes of a file that is written twice: at first, while it is held, and after all is dropped. Then the number and the weight
+/// of the held files; the size of a file that is too large, whether it was removed, and its size after that; last, the number of held
+/// files and of reads.
 type Reads = (
     (Size, Size, Size),
     (usize, usize),
