@@ -106,7 +106,7 @@ impl<K: Eq + Hash, S: BuildHasher, A: Allocator + Copy> IdlePass<K, S, A> {
     {
         // (reading a field also tells the proof the pass's invariant: some requests were taken)
         let hash = self.seen.hash(&key);
-        match self.again(hash, &key, time) {
+        match self.again_at(hash, &key, time) {
             Ok(Some(distance)) => Ok(distance),
             Ok(None) => match self.request_new(hash, key, time) {
                 Ok(()) => Ok(None),
@@ -142,11 +142,11 @@ impl<K: Eq + Hash, S: BuildHasher, A: Allocator + Copy> IdlePass<K, S, A> {
             → 0 < length past % 64 → length past + 1 < 2 ^ 64 → IsOk result }
     {
         let hash = self.seen.hash(key);
-        self.again(hash, key, time)
+        self.again_at(hash, key, time)
     }
 
     /// `request_again`, with the hash of the key.
-    fn again<Q: Equivalent<K>>(
+    fn again_at<Q: Equivalent<K>>(
         &mut self,
         hash: u64,
         key: Q,

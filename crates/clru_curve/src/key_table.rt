@@ -119,5 +119,5 @@ fn double_if_full<K: Eq + Hash, V, S: BuildHasher, A: Allocator + Copy>(
     if len < map.capacity() {
         return;
     }
-    map.resize(len.saturating_mul(2).max(FIRST_CAPACITY));
+    map.resize(len.max(1).saturating_mul(2));
 }

@@ -7,7 +7,7 @@ use Rattle.clru_curve.specs.Seen.{seen_at}
 use Rattle.clru_curve.specs.Tree.{up_to}
 use Rattle.clru_curve.proofs.Forms.{key_at, found_as, form_known}
 use Rattle.clru_curve.proofs.IdlePassing.{seen_known, IsIdlePass-same, IsIdlePass-again, bit_there, distance_some, distance_below, number_few}
-use Rattle.clru_curve.proofs.idle.IdlePass.again.Goals as goal
+use Rattle.clru_curve.proofs.idle.IdlePass.again_at.Goals as goal
 
 pub invariant_of-self : goal.invariant_of-self
 invariant_of-self g c =
