@@ -7,6 +7,7 @@ pub mod IdleHistograms
 pub mod IdlePassing
 pub mod IdleReuses
 pub mod LatestSizes
+pub mod KeyTables
 pub mod Latests
 pub mod Nodes
 pub mod Passing

@@ -1,6 +1,7 @@
 pub mod Curves
 pub mod Errors
 pub mod IdlePasses
+pub mod KeyTables
 pub mod Latest
 pub mod LatestSizes
 pub mod Passes

@@ -29,12 +29,12 @@ static REQUESTS: &[(Form, bool, bool, u64, u64)] = &[
 
 // The same of a sample, which keeps half of the keys: whether by size, its hashes too.
 static OF_SAMPLES: &[(Form, bool, u64, u64, u64)] = &[
-    (Form::Table, false, 509, 29, 68871),
-    (Form::Table, true, 509, 40, 88999),
-    (Form::Picture, false, 509, 40, 87477),
-    (Form::Picture, true, 509, 59, 132897),
-    (Form::Summary, false, 509, 19, 67984),
-    (Form::Summary, true, 509, 33, 88231),
+    (Form::Table, false, 504, 29, 68871),
+    (Form::Table, true, 504, 40, 88999),
+    (Form::Picture, false, 504, 40, 87477),
+    (Form::Picture, true, 504, 59, 132897),
+    (Form::Summary, false, 504, 19, 67984),
+    (Form::Summary, true, 504, 33, 88231),
 ];
 
 /// A thousand lines of ten keys, each with the size 7.
@@ -84,9 +84,9 @@ fn costs_of(
 #[test]
 fn each_form_hashes_a_line_as_often(rt: HostRuntime) -> Result<(), Fail> {
     let input = thousand(rt.alloc())?;
-    // A line that came before is hashed once, a new one twice, and four of ten where the places grow from 4 to 16 (buckets
-    // are made for 64 then, the capacity of a pass at first).
-    let once = 1_000 + KEYS as u64 + 4;
+    // Each line is hashed once, and four of ten keys again where the places grow from 4 to 16 (buckets are made for 64 then, the
+    // capacity of a pass at first).
+    let once = 1_000 + 4;
     for (form, sizes, least, requests, bytes) in REQUESTS {
         // The least and the floors look each line up once more; a summary has none.
         let again = if *least && *form != Form::Summary {

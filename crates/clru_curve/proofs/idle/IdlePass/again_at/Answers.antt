@@ -1,13 +1,13 @@
 use Rattle.std.proofs.Common.{suc, ◌∷◌, cond, Some, None, is_some, get_or, refl, sym, ap, ◌∙◌, subst, arith}
 use Rattle.std.specs.Map.{keys_of, set_value}
-use Rattle.clru.specs.Cache.{with_entries}
+use Rattle.clru_curve.specs.KeyTables.{keyed}
 use Rattle.clru_model.proofs.Forms.{form_is}
 use Rattle.clru_curve.specs.IdlePasses.{IsIdlePass}
 use Rattle.clru_curve.specs.Seen.{seen_at}
 use Rattle.clru_curve.specs.Tree.{up_to}
 use Rattle.clru_curve.proofs.Forms.{key_at, found_as, form_known}
 use Rattle.clru_curve.proofs.IdlePassing.{seen_known, IsIdlePass-same, IsIdlePass-again, bit_there, distance_some, distance_below, number_few}
-use Rattle.clru_curve.proofs.idle.IdlePass.request_again.Goals as goal
+use Rattle.clru_curve.proofs.idle.IdlePass.again_at.Goals as goal
 
 pub invariant_of-self : goal.invariant_of-self
 invariant_of-self g c =
@@ -25,10 +25,10 @@ returns-in_default-clause-refused g c idle past before =
     rw e.requests (IsIdlePass-same eq idle past s.seen.entries s.latest.blocks.items c.make_ready.new.self.blocks.items s.latest.requests
     s.histogram.items s.limit e.ones (subst (λ v. IsIdlePass eq idle past v) (sym c.self.view_is) before))
 
-pub invariant_of-self-in_default-move_position : goal.invariant_of-self-in_default-move_position
-invariant_of-self-in_default-move_position g c =
+pub invariant_of-self-in_default-replace : goal.invariant_of-self-in_default-replace
+invariant_of-self-in_default-replace g c =
     let eq = g.K.PartialEq.eq in let s = c.self.inside in let inv = c.self.invariant in let e = c.make_ready.ensures in
-    let same = c.in_default-move_position.ensures.same refl in
+    let same = c.in_default-replace.ensures.same refl in
     record {
       latest = e.kept;
       past = inv.past;
@@ -37,19 +37,19 @@ invariant_of-self-in_default-move_position g c =
           s.histogram.items s.limit e.ones inv.taken);
     }
 
-pub returns-in_default-move_position-clause-not_taken : goal.returns-in_default-move_position-clause-not_taken
-returns-in_default-move_position-clause-not_taken g c idle past before none =
+pub returns-in_default-replace-clause-not_taken : goal.returns-in_default-replace-clause-not_taken
+returns-in_default-replace-clause-not_taken g c idle past before none =
     let eq = g.K.PartialEq.eq in let s = c.self.inside in let e = c.make_ready.ensures in
-    let same = c.in_default-move_position.ensures.same refl in
+    let same = c.in_default-replace.ensures.same refl in
     rw (same, e.requests)
     (IsIdlePass-same eq idle past s.seen.entries s.latest.blocks.items c.make_ready.new.self.blocks.items s.latest.requests s.histogram.items s.limit
     e.ones (subst (λ v. IsIdlePass eq idle past v) (sym c.self.view_is) before))
 
-pub returns-in_default-move_position-clause-known : goal.returns-in_default-move_position-clause-known
-returns-in_default-move_position-clause-known g c idle past before =
+pub returns-in_default-replace-clause-known : goal.returns-in_default-replace-clause-known
+returns-in_default-replace-clause-known g c idle past before =
     let eq = g.K.PartialEq.eq in let s = c.self.inside in
     let is = subst (λ v. IsIdlePass eq idle past v) (sym c.self.view_is) before in
-    ap is_some c.in_default-move_position.ensures.found
+    ap is_some c.in_default-replace.ensures.found
     ∙ form_known eq g.met.K.Eq.laws (g.Q.Equivalent.equivalent c.args.key) (g.met.Q.Equivalent.respects_eq c.args.key) s.seen.entries (keys_of past)
     (seen_known eq (keys_of past) s.seen.entries is.ranked.known)
 
@@ -86,8 +86,8 @@ invariant_of-self-2 g c =
     let eq = g.K.PartialEq.eq in let laws = g.met.K.Eq.laws in let s = c.self.inside in let inv = c.self.invariant in let b = c.in-Some.before in
     let at = key_at eq laws (g.Q.Equivalent.equivalent c.args.key) (g.met.Q.Equivalent.respects_eq c.args.key)
     s.seen.entries b (sym c.in-Some.ensures.found) in
-    let moved = c.in-Some.ensures.moved refl
-    ∙ ap (λ f. with_entries s.seen (set_value f s.seen.entries (seen_at c.make_ready.new.self.requests c.args.time))) at.same in
+    let moved = c.in-Some.ensures.replaced refl
+    ∙ ap (λ f. keyed (set_value f s.seen.entries (seen_at c.make_ready.new.self.requests c.args.time)) s.seen.builder) at.same in
     let distance = c.remove-distance.ensures.count ∙ c.make_ready.ensures.ones (suc b.position) in
     record {
       latest = c.push.ensures.kept;
@@ -115,8 +115,8 @@ returns-clause-taken g c idle past x before passes some =
     let test = g.Q.Equivalent.equivalent c.args.key in let form = g.met.Q.Equivalent.respects_eq c.args.key in
     let is = subst (λ v. IsIdlePass eq idle past v) (sym c.self.view_is) before in
     let found = found_as eq laws test form s.seen.entries x (Some b) passes (sym c.in-Some.ensures.found) in
-    let moved = c.in-Some.ensures.moved refl
-    ∙ ap (λ f. with_entries s.seen (set_value f s.seen.entries (seen_at c.make_ready.new.self.requests c.args.time))) (form_is eq test form x passes) in
+    let moved = c.in-Some.ensures.replaced refl
+    ∙ ap (λ f. keyed (set_value f s.seen.entries (seen_at c.make_ready.new.self.requests c.args.time)) s.seen.builder) (form_is eq test form x passes) in
     let distance = c.remove-distance.ensures.count ∙ c.make_ready.ensures.ones (suc b.position) in
     rw (moved, c.push.ensures.requests, c.remove-distance.ensures.requests, c.make_ready.ensures.requests, c.count_if.ensures.counted, c.is_soon-soon.ensures)
     (IsIdlePass-again eq laws idle past s.seen.entries s.latest.blocks.items s.latest.requests s.histogram.items s.limit x c.args.time is b found

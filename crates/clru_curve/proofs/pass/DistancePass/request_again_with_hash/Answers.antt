@@ -1,13 +1,13 @@
 use Rattle.std.proofs.Common.{suc, ◌<◌, ◌∷◌, Some, None, is_some, get_or, refl, sym, ap, ◌∙◌, subst, arith, length}
 use Rattle.std.specs.Map.{set_value}
 use Rattle.std.proofs.lemmas.List.{get_or_read}
-use Rattle.clru.specs.Cache.{with_entries}
+use Rattle.clru_curve.specs.KeyTables.{keyed}
 use Rattle.clru_model.proofs.Forms.{form_is}
 use Rattle.clru_curve.specs.Tree.{up_to}
 use Rattle.clru_curve.specs.Passes.{IsPass}
 use Rattle.clru_curve.proofs.Forms.{key_at, found_as, form_known}
 use Rattle.clru_curve.proofs.Passing.{IsPass-same, IsPass-again, distance_none, distance_some, distance_below, number_few}
-use Rattle.clru_curve.proofs.pass.DistancePass.request_again.Goals as goal
+use Rattle.clru_curve.proofs.pass.DistancePass.request_again_with_hash.Goals as goal
 
 pub invariant_of-self : goal.invariant_of-self
 invariant_of-self g c =
@@ -25,10 +25,10 @@ returns-in_default-clause-refused g c past before =
     rw e.requests (IsPass-same eq past s.positions.entries s.latest.blocks.items c.make_ready.new.self.blocks.items s.latest.requests
     s.histogram.items e.ones (subst (λ v. IsPass eq past v) (sym c.self.view_is) before))
 
-pub invariant_of-self-in_default-move_position : goal.invariant_of-self-in_default-move_position
-invariant_of-self-in_default-move_position g c =
+pub invariant_of-self-in_default-replace : goal.invariant_of-self-in_default-replace
+invariant_of-self-in_default-replace g c =
     let eq = g.K.PartialEq.eq in let s = c.self.inside in let inv = c.self.invariant in let e = c.make_ready.ensures in
-    let same = c.in_default-move_position.ensures.same refl in
+    let same = c.in_default-replace.ensures.same refl in
     record {
       latest = e.kept;
       past = inv.past;
@@ -36,27 +36,27 @@ invariant_of-self-in_default-move_position g c =
           (IsPass-same eq inv.past s.positions.entries s.latest.blocks.items c.make_ready.new.self.blocks.items s.latest.requests s.histogram.items e.ones inv.taken);
     }
 
-pub returns-in_default-move_position-clause-not_taken : goal.returns-in_default-move_position-clause-not_taken
-returns-in_default-move_position-clause-not_taken g c past before none =
+pub returns-in_default-replace-clause-not_taken : goal.returns-in_default-replace-clause-not_taken
+returns-in_default-replace-clause-not_taken g c past before none =
     let eq = g.K.PartialEq.eq in let s = c.self.inside in let e = c.make_ready.ensures in
-    let same = c.in_default-move_position.ensures.same refl in
+    let same = c.in_default-replace.ensures.same refl in
     rw (same, e.requests)
     (IsPass-same eq past s.positions.entries s.latest.blocks.items c.make_ready.new.self.blocks.items s.latest.requests s.histogram.items e.ones
     (subst (λ v. IsPass eq past v) (sym c.self.view_is) before))
 
-pub returns-in_default-move_position-clause-distance : goal.returns-in_default-move_position-clause-distance
-returns-in_default-move_position-clause-distance g c past x before passes =
+pub returns-in_default-replace-clause-distance : goal.returns-in_default-replace-clause-distance
+returns-in_default-replace-clause-distance g c past x before passes =
     let eq = g.K.PartialEq.eq in let s = c.self.inside in
     let is = subst (λ v. IsPass eq past v) (sym c.self.view_is) before in
     distance_none eq g.met.K.Eq.laws past s.positions.entries s.latest.blocks.items s.latest.requests s.histogram.items x is
     (found_as eq g.met.K.Eq.laws (g.Q.Equivalent.equivalent c.args.key) (g.met.Q.Equivalent.respects_eq c.args.key) s.positions.entries x None passes
-    (sym c.in_default-move_position.ensures.found))
+    (sym c.in_default-replace.ensures.found))
 
-pub returns-in_default-move_position-clause-known : goal.returns-in_default-move_position-clause-known
-returns-in_default-move_position-clause-known g c past before =
+pub returns-in_default-replace-clause-known : goal.returns-in_default-replace-clause-known
+returns-in_default-replace-clause-known g c past before =
     let eq = g.K.PartialEq.eq in let s = c.self.inside in
     let is = subst (λ v. IsPass eq past v) (sym c.self.view_is) before in
-    ap is_some c.in_default-move_position.ensures.found
+    ap is_some c.in_default-replace.ensures.found
     ∙ form_known eq g.met.K.Eq.laws (g.Q.Equivalent.equivalent c.args.key) (g.met.Q.Equivalent.respects_eq c.args.key) s.positions.entries past
     is.ranked.known
 
@@ -96,8 +96,8 @@ invariant_of-self-2 g c =
     let at = key_at eq laws (g.Q.Equivalent.equivalent c.args.key) (g.met.Q.Equivalent.respects_eq c.args.key)
     s.positions.entries p (sym c.in-Some.ensures.found) in
     let d = c.remove-distance.result in let h = s.histogram.items in
-    let moved = c.in-Some.ensures.moved refl
-    ∙ ap (λ t. with_entries s.positions (set_value t s.positions.entries c.make_ready.new.self.requests)) at.same in
+    let moved = c.in-Some.ensures.replaced refl
+    ∙ ap (λ t. keyed (set_value t s.positions.entries c.make_ready.new.self.requests) s.positions.builder) at.same in
     let distance = c.remove-distance.ensures.count ∙ c.make_ready.ensures.ones (suc p) in
     let below = distance_below eq laws inv.past s.positions.entries s.latest.blocks.items s.latest.requests h at.key inv.taken p at.found in
     let inside : d < length h = omega (arith, below, distance) in
@@ -126,8 +126,8 @@ returns-clause-taken g c past x before passes some =
     let is = subst (λ v. IsPass eq past v) (sym c.self.view_is) before in
     let found = found_as eq laws test form s.positions.entries x (Some p) passes (sym c.in-Some.ensures.found) in
     let d = c.remove-distance.result in let h = s.histogram.items in
-    let moved = c.in-Some.ensures.moved refl
-    ∙ ap (λ t. with_entries s.positions (set_value t s.positions.entries c.make_ready.new.self.requests)) (form_is eq test form x passes) in
+    let moved = c.in-Some.ensures.replaced refl
+    ∙ ap (λ t. keyed (set_value t s.positions.entries c.make_ready.new.self.requests) s.positions.builder) (form_is eq test form x passes) in
     let distance = c.remove-distance.ensures.count ∙ c.make_ready.ensures.ones (suc p) in
     let below = distance_below eq laws past s.positions.entries s.latest.blocks.items s.latest.requests h x is p found in
     let inside : d < length h = omega (arith, below, distance) in

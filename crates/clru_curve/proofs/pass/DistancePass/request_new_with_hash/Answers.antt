@@ -2,7 +2,7 @@ use Rattle.std.proofs.Common.{◌<◌, ◌∷◌, sym, ap, subst, arith, length}
 use Rattle.clru_curve.specs.Tree.{up_to}
 use Rattle.clru_curve.specs.Passes.{IsPass}
 use Rattle.clru_curve.proofs.Passing.{IsPass-same, IsPass-new, absent_key}
-use Rattle.clru_curve.proofs.pass.DistancePass.request_new.Goals as goal
+use Rattle.clru_curve.proofs.pass.DistancePass.request_new_with_hash.Goals as goal
 
 pub invariant_of-self : goal.invariant_of-self
 invariant_of-self g c =
@@ -43,14 +43,14 @@ invariant_of-self-in-Err g c =
     record {
       latest = e.kept;
       past = inv.past;
-      taken = rw (c.in-Err.ensures.entries, c.double_if_full.ensures.entries, e.requests, c.reserve.ensures.items)
+      taken = rw (c.in-Err.ensures.refused, e.requests, c.reserve.ensures.items)
           (IsPass-same eq inv.past s.positions.entries s.latest.blocks.items c.make_ready.new.self.blocks.items s.latest.requests s.histogram.items e.ones inv.taken);
     }
 
 pub returns-in-Err-clause-refused : goal.returns-in-Err-clause-refused
 returns-in-Err-clause-refused g c past before =
     let eq = g.K.PartialEq.eq in let s = c.self.inside in let e = c.make_ready.ensures in
-    rw (c.in-Err.ensures.entries, c.double_if_full.ensures.entries, e.requests, c.reserve.ensures.items)
+    rw (c.in-Err.ensures.refused, e.requests, c.reserve.ensures.items)
     (IsPass-same eq past s.positions.entries s.latest.blocks.items c.make_ready.new.self.blocks.items s.latest.requests s.histogram.items e.ones
     (subst (λ v. IsPass eq past v) (sym c.self.view_is) before))
 
@@ -61,21 +61,18 @@ invariant_of-self-2 g c =
     let new = c.requires.new in
     let absent = absent_key eq laws new.0 s.positions.entries s.latest.blocks.items n s.histogram.items c.args.key
     (subst (λ v. IsPass eq new.0 v) (sym c.self.view_is) new.1) new.2 in
-    let room : length s.positions.entries < c.double_if_full.new.positions.capacity =
-    omega (arith, c.double_if_full.ensures.room, ap (λ l. length l) c.double_if_full.ensures.entries) in
     record {
       latest = c.push.ensures.kept;
       past = c.args.key ∷ inv.past;
       taken = rw (
-        c.in_default-put.ensures.entries,
-        c.double_if_full.ensures.entries,
+        c.in_default-insert.ensures.taken,
         c.push.ensures.requests,
         e.requests,
         c.push_reserved.ensures.items,
         c.reserve.ensures.items,
       )
-          (IsPass-new eq laws inv.past s.positions.entries s.latest.blocks.items n s.histogram.items c.args.key inv.taken c.double_if_full.new.positions.capacity
-          c.push.new.self.blocks.items absent room
+          (IsPass-new eq laws inv.past s.positions.entries s.latest.blocks.items n s.histogram.items c.args.key inv.taken
+          c.push.new.self.blocks.items absent
           (λ q. omega (arith, c.push.ensures.ones q, e.ones q, ap (λ r. up_to q r) e.requests)));
     }
 
@@ -87,9 +84,7 @@ returns-clause-taken g c past before =
     let new = c.requires.new in
     let absent = absent_key eq laws new.0 s.positions.entries s.latest.blocks.items n s.histogram.items c.args.key
     (subst (λ v. IsPass eq new.0 v) (sym c.self.view_is) new.1) new.2 in
-    let room : length s.positions.entries < c.double_if_full.new.positions.capacity =
-    omega (arith, c.double_if_full.ensures.room, ap (λ l. length l) c.double_if_full.ensures.entries) in
-    rw (c.in_default-put.ensures.entries, c.double_if_full.ensures.entries, c.push.ensures.requests, e.requests, c.push_reserved.ensures.items, c.reserve.ensures.items)
-    (IsPass-new eq laws past s.positions.entries s.latest.blocks.items n s.histogram.items c.args.key is c.double_if_full.new.positions.capacity
-    c.push.new.self.blocks.items absent room
+    rw (c.in_default-insert.ensures.taken, c.push.ensures.requests, e.requests, c.push_reserved.ensures.items, c.reserve.ensures.items)
+    (IsPass-new eq laws past s.positions.entries s.latest.blocks.items n s.histogram.items c.args.key is
+    c.push.new.self.blocks.items absent
     (λ q. omega (arith, c.push.ensures.ones q, e.ones q, ap (λ r. up_to q r) e.requests)))

@@ -1,6 +1,6 @@
 use Rattle.std.proofs.Common.{◌≡◌, IfOk, is_some, subst}
 use Rattle.clru_curve.proofs.Forms.{form_known}
-use Rattle.clru_curve.proofs.sized.pass.SizedPass.request_again.Goals as goal
+use Rattle.clru_curve.proofs.sized.pass.SizedPass.request_again_with_hash.Goals as goal
 
 pub returns-clause-known : goal.returns-clause-known
 returns-clause-known g c w past before =
