@@ -1,3 +1,4 @@
+pub mod AgedMarks
 pub mod Bits
 pub mod Blocks
 pub mod Counted

@@ -12,8 +12,10 @@
 //! keeps a size for each request.
 #![tactic(auto)]
 
+mod aged;
 mod curve;
 mod debug;
+mod fetches;
 mod idle;
 mod latest;
 mod list;
@@ -23,6 +25,7 @@ mod seen;
 mod sized;
 mod tree;
 
+pub use aged::AgedPass;
 pub use clru::{DefaultState, NoMemory, WeightScale};
 pub use clru_model::{
     law_ages, law_bounds, law_distances, law_parts, law_sizes, law_spans_by_position,
@@ -31,5 +34,7 @@ pub use curve::MissCurve;
 pub use idle::IdlePass;
 pub use list::miss_curve;
 pub use pass::DistancePass;
-pub use sized::{SizedCurve, SizedIdlePass, SizedPass, SizedRequestError, Step, sized_curve};
+pub use sized::{
+    SizedAgedPass, SizedCurve, SizedIdlePass, SizedPass, SizedRequestError, Step, sized_curve,
+};
 pub use std::num::NonZeroUsize;
