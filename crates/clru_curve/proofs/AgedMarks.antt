@@ -12,13 +12,13 @@ use Rattle.clru_curve.proofs.IdleReuses.{turned, keys_of_push, size_of_misses_pu
 
 module _ {K : Type 0} (eq : K → K → Bool) (hits : K → List K → Bool) (idle age : Option ℕ) where
   -- the fetches after requests in order
-  fetches_after : (past fetches rs : List (K × ℕ)) → List (K × ℕ)
+  abbrev fetches_after : (past fetches rs : List (K × ℕ)) → List (K × ℕ)
   fetches_after past fetches [] = fetches
   fetches_after past fetches (r ∷ rs) = cond (aged_hit eq hits idle age r past fetches)
       (fetches_after (r ∷ past) fetches rs) (fetches_after (r ∷ past) (r ∷ fetches) rs)
 
   -- the fetches with one more request, of which the past is given
-  after_one : K × ℕ → (past fetches : List (K × ℕ)) → List (K × ℕ)
+  abbrev after_one : K × ℕ → (past fetches : List (K × ℕ)) → List (K × ℕ)
   after_one r past fetches = cond (aged_hit eq hits idle age r past fetches) fetches (r ∷ fetches)
 
   fetches_after_push : (past fetches rs : List (K × ℕ)) (r : K × ℕ)

@@ -118,6 +118,7 @@ impl<K: Eq + Hash, S: BuildHasher, A: Allocator + Copy> AgedPass<K, S, A> {
     }
 
     /// Returns the misses so far at each capacity, in the order in which these were given.
+    /// Cost: a read.
     pub fn misses(&self) -> &[usize]
         ensures { (cs : List ℕ) (idle : Option ℕ) (age : ℕ) (past : List (K × ℕ)) → IsAgedPass K.eq cs idle age past self.now
             → result.now ≡ map (λ k. aged_misses_at K.eq idle age k (reverse past)) cs }
@@ -126,6 +127,7 @@ impl<K: Eq + Hash, S: BuildHasher, A: Allocator + Copy> AgedPass<K, S, A> {
     }
 
     /// Returns the number of requests so far.
+    /// Cost: a read.
     pub fn requests(&self) -> usize
         ensures { (cs : List ℕ) (idle : Option ℕ) (age : ℕ) (past : List (K × ℕ)) → IsAgedPass K.eq cs idle age past self.now
             → result ≡ length past }

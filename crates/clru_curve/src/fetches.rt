@@ -1,5 +1,5 @@
 //! At some capacities the time of each key's latest fetch, the misses and their size.
-ghost use Rattle.std.specs.Prelude.{◌≡◌, ℕ, ◌+◌, ◌-◌, ◌^◌, ◌<◌, ◌≤◌, nat_le, ◌&&◌, [], ◌++◌, length, replicate, slice_index, slice_set, vec_len, vec_capacity, if◌then◌else◌, IfOk, OnOk, Option};
+ghost use Rattle.std.specs.Prelude.{◌≡◌, ℕ, false, ◌+◌, ◌-◌, ◌^◌, ◌<◌, ◌≤◌, nat_le, ◌&&◌, [], ◌++◌, length, replicate, slice_index, slice_set, vec_len, vec_capacity, if◌then◌else◌, IfOk, OnOk, Option};
 ghost use Rattle.clru_model.specs.Ages.{is_in_limit};
 ghost use Rattle.clru_curve.specs.Fetches.{is_row_hit, AreCounted, AreFetched};
 
@@ -67,8 +67,28 @@ impl<A: Allocator + Copy> Fetches<A> {
         self.times.reserve(self.capacities.len())
     }
 
-    /// Adds the times of one more key.
-    pub(crate) fn add(&mut self, time: usize)
+    /// Counts a request of a new key, whose times come last: it misses at each capacity.
+    pub(crate) fn take_new(&mut self, time: usize, size: usize)
+        requires room { vec_len self.old.times + vec_len self.old.capacities ≤ vec_capacity self.old.times }
+        requires misses_length { length self.old.misses.items ≡ length self.old.capacities.items }
+        requires missed_length { length self.old.missed_sizes.items ≡ length self.old.capacities.items }
+        requires few { (i : ℕ) → slice_index self.old.misses.items i + 1 < 2 ^ 64 }
+        requires small { (i : ℕ) → slice_index self.old.missed_sizes.items i + size < 2 ^ 64 }
+        ensures capacities { self.new.capacities ≡ self.old.capacities }
+        ensures misses { AreCounted (λ i. false) (length self.old.capacities.items) 1 self.old.misses.items self.new.misses.items }
+        ensures missed_sizes { AreCounted (λ i. false) (length self.old.capacities.items) size
+            self.old.missed_sizes.items self.new.missed_sizes.items }
+        ensures times { AreFetched (λ i. false) (length self.old.capacities.items) (length self.old.times.items) time
+            (self.old.times.items ++ replicate (length self.old.capacities.items) time) self.new.times.items }
+        ensures age { self.new.age ≡ self.old.age }
+    {
+        let first = self.times.len();
+        self.add(time);
+        self.take(first, false, 0, time, size);
+    }
+
+    /// Adds times of one more key.
+    fn add(&mut self, time: usize)
         requires room { vec_len self.old.times + vec_len self.old.capacities ≤ vec_capacity self.old.times }
         ensures capacities { self.new.capacities ≡ self.old.capacities }
         ensures misses { self.new.misses ≡ self.old.misses }
@@ -100,13 +120,44 @@ impl<A: Allocator + Copy> Fetches<A> {
         ensures age { self.new.age ≡ self.old.age }
     {
         for row in 0..self.capacities.len() {
-            let hit = soon && self.is_hit(row, first + row, span, time);
-            if !hit {
-                self.misses[row] += 1;
-                self.missed_sizes[row] += size;
-                self.times[first + row] = time;
-            }
+            self.take_at(row, first, soon, span, time, size);
         }
+    }
+
+    /// Counts a request at one capacity.
+    fn take_at(
+        &mut self,
+        row: usize,
+        first: usize,
+        soon: bool,
+        span: usize,
+        time: usize,
+        size: usize,
+    )
+        requires row { row < length self.old.capacities.items }
+        requires inside { first + row < length self.old.times.items }
+        requires misses_length { length self.old.misses.items ≡ length self.old.capacities.items }
+        requires missed_length { length self.old.missed_sizes.items ≡ length self.old.capacities.items }
+        requires few { slice_index self.old.misses.items row + 1 < 2 ^ 64 }
+        requires small { slice_index self.old.missed_sizes.items row + size < 2 ^ 64 }
+        ensures capacities { self.new.capacities ≡ self.old.capacities }
+        ensures misses { self.new.misses.items
+            ≡ if is_row_hit soon span time self.old.age first self.old.capacities.items self.old.times.items row then self.old.misses.items
+            else slice_set self.old.misses.items row (slice_index self.old.misses.items row + 1) }
+        ensures missed_sizes { self.new.missed_sizes.items
+            ≡ if is_row_hit soon span time self.old.age first self.old.capacities.items self.old.times.items row then self.old.missed_sizes.items
+            else slice_set self.old.missed_sizes.items row (slice_index self.old.missed_sizes.items row + size) }
+        ensures times { self.new.times.items
+            ≡ if is_row_hit soon span time self.old.age first self.old.capacities.items self.old.times.items row then self.old.times.items
+            else slice_set self.old.times.items (first + row) time }
+        ensures age { self.new.age ≡ self.old.age }
+    {
+        if soon && self.is_hit(row, first + row, span, time) {
+            return;
+        }
+        self.misses[row] += 1;
+        self.missed_sizes[row] += size;
+        self.times[first + row] = time;
     }
 
     /// Whether the span is within the capacity, and the fetch at the place `at` young.

@@ -1,5 +1,5 @@
 //! `SizedAgedPass`, which takes requests with times of keys with sizes, and counts misses at given capacities under an age limit.
-ghost use Rattle.std.specs.Prelude.{◌≡◌, ℕ, ◌+◌, ◌^◌, ◌<◌, ◌≤◌, ◌↔◌, List, [], ◌∷◌, reverse, length, map, IfOk, IfErr, IfSome, IsErrAnd, OnOk, OnErr, IsTrue, None, Option, is_some, true, false};
+ghost use Rattle.std.specs.Prelude.{◌≡◌, ℕ, ◌+◌, ◌^◌, ◌<◌, ◌≤◌, ◌↔◌, List, [], ◌∷◌, reverse, length, map, IfOk, IfErr, IfSome, IsErrAnd, OnOk, OnErr, IsTrue, IsNone, None, Option, is_some, true, false};
 ghost use Rattle.std.specs.List.{list_any};
 ghost use Rattle.std.specs.Map.{keys_of, lookup, set_value};
 ghost use Rattle.clru_model.specs.Sizes.{SameWeights, total};
@@ -249,14 +249,14 @@ impl<K: Eq + Hash, S: BuildHasher, A: Allocator + Copy> SizedAgedPass<K, S, A> {
             return Err(key);
         }
         self.latest.push(size);
-        self.fetches.add(time);
-        self.fetches.take(first, false, 0, time, size);
+        self.fetches.take_new(time, size);
         self.size += size;
         self.greatest = greatest;
         Ok(())
     }
 
     /// Returns the misses so far at each capacity, in the order in which these were given.
+    /// Cost: a read.
     pub fn misses(&self) -> &[usize]
         ensures { (w : K → ℕ) (cs : List ℕ) (idle : Option ℕ) (age : ℕ) (past : List (K × ℕ))
             → IsSizedAgedPass K.eq w cs idle age past self.now
@@ -266,6 +266,7 @@ impl<K: Eq + Hash, S: BuildHasher, A: Allocator + Copy> SizedAgedPass<K, S, A> {
     }
 
     /// Returns the size of the misses so far at each capacity, in the order in which these were given.
+    /// Cost: a read.
     pub fn missed_sizes(&self) -> &[usize]
         ensures { (w : K → ℕ) (cs : List ℕ) (idle : Option ℕ) (age : ℕ) (past : List (K × ℕ))
             → IsSizedAgedPass K.eq w cs idle age past self.now
@@ -275,6 +276,7 @@ impl<K: Eq + Hash, S: BuildHasher, A: Allocator + Copy> SizedAgedPass<K, S, A> {
     }
 
     /// Returns the number of requests so far.
+    /// Cost: a read.
     pub fn requests(&self) -> usize
         ensures { (w : K → ℕ) (cs : List ℕ) (idle : Option ℕ) (age : ℕ) (past : List (K × ℕ))
             → IsSizedAgedPass K.eq w cs idle age past self.now → result ≡ length past }
@@ -283,6 +285,7 @@ impl<K: Eq + Hash, S: BuildHasher, A: Allocator + Copy> SizedAgedPass<K, S, A> {
     }
 
     /// Returns the size of all requests so far.
+    /// Cost: a read.
     pub fn size(&self) -> usize
         ensures { (w : K → ℕ) (cs : List ℕ) (idle : Option ℕ) (age : ℕ) (past : List (K × ℕ))
             → IsSizedAgedPass K.eq w cs idle age past self.now → result ≡ size_of_all w (keys_of past) }
@@ -300,6 +303,7 @@ impl<K: Eq + Hash, S: BuildHasher, A: Allocator + Copy> SizedAgedPass<K, S, A> {
     }
 
     /// Returns the greatest weight so far, or 0 without requests.
+    /// Cost: a read.
     pub fn greatest_weight(&self) -> usize
         ensures { (w : K → ℕ) (cs : List ℕ) (idle : Option ℕ) (age : ℕ) (past : List (K × ℕ))
             → IsSizedAgedPass K.eq w cs idle age past self.now → result ≡ greatest_of w (keys_of past) }
@@ -320,7 +324,7 @@ where
     A: Allocator + Copy,
     Q: Equivalent<K>,
     ensures found { result ≡ lookup (Q.equivalent key) seen.old.entries }
-    ensures same { result ≡ None → seen.new.entries ≡ seen.old.entries }
+    ensures same { IsNone result → seen.new.entries ≡ seen.old.entries }
     ensures moved { IfSome result (λ before. seen.new.entries
         ≡ set_value (Q.equivalent key) seen.old.entries (fetched_at here before.first)) }
 {
