@@ -1,11 +1,11 @@
 -- The marks of requests with times under an age limit, and which of them were fetched, after one more request.
-use Rattle.std.proofs.Common.{◌≡◌, ℕ, suc, ◌+◌, Bool, true, false, cond, not, Option, List, [], ◌∷◌, ◌++◌, length, reverse, append-nil, refl, sym, ap, ◌∙◌, arith}
-use Rattle.std.proofs.lemmas.List.{length_push, reverse-reverse}
+use Rattle.std.proofs.Common.{◌≡◌, ℕ, suc, ◌+◌, Bool, true, false, cond, not, Option, List, [], ◌∷◌, ◌++◌, length, reverse, append-nil, refl, sym, ap, ◌∙◌}
+use Rattle.std.proofs.lemmas.List.{reverse-reverse}
 use Rattle.std.specs.List.{count_by}
-use Rattle.std.specs.Map.{keys_of, lookup}
+use Rattle.std.specs.Map.{keys_of}
 use Rattle.clru_model.proofs.Cases.{split}
 use Rattle.clru_model.proofs.Marks.{count_by-not-push, reverse-cons-append}
-use Rattle.clru_model.specs.Ages.{is_recent, aged_hit, aged_marks, aged_marks_after, aged_misses}
+use Rattle.clru_model.specs.Ages.{aged_hit, aged_marks, aged_marks_after, aged_misses}
 use Rattle.clru_model.specs.Spans.{size_of_misses}
 use Rattle.clru_curve.specs.SizedAgedPasses.{fetches_of}
 use Rattle.clru_curve.proofs.IdleReuses.{turned, keys_of_push, size_of_misses_push}

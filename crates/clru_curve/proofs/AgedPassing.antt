@@ -1,5 +1,5 @@
 -- A pass under an age limit where keys weigh nothing: its misses are those by keys.
-use Rattle.std.proofs.Common.{◌≡◌, ℕ, ◌+◌, Bool, true, false, Option, Some, List, [], ◌∷◌, map, refl, arith}
+use Rattle.std.proofs.Common.{◌≡◌, ℕ, Bool, Option, Some, List, [], ◌∷◌, map, refl, arith}
 use Rattle.std.proofs.lemmas.Bool.Decides.{nat_tests}
 use Rattle.clru_model.proofs.Cases.{split}
 use Rattle.clru_model.proofs.Spans.{total_weightless}

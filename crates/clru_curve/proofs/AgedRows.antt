@@ -1,5 +1,5 @@
 -- The misses at one capacity under an age limit, their size and the times of fetches, after one more request.
-use Rattle.std.proofs.Common.{◌≡◌, ℕ, suc, ◌+◌, ◌-◌, ◌<◌, ◌≤◌, Bool, true, false, cond, ◌&&◌, nat_le, List, [], ◌∷◌, length, reverse, get_or, Option, Some, None, refl, sym, ap, ◌∙◌, arith}
+use Rattle.std.proofs.Common.{◌≡◌, ℕ, ◌+◌, ◌-◌, Bool, true, false, cond, ◌&&◌, nat_le, List, ◌∷◌, get_or, Option, Some, refl, sym, ap, ◌∙◌, arith}
 use Rattle.std.proofs.lemmas.Option.{same_Some}
 use Rattle.std.specs.Cmp.{IsEquivalence}
 use Rattle.std.specs.Map.{keys_of, lookup}
@@ -10,7 +10,7 @@ use Rattle.clru_model.specs.Requests.{holds, since}
 use Rattle.clru_model.specs.Sizes.{total, hit_by_size}
 use Rattle.clru_curve.specs.declared.fetches.Fetched.{Fetched}
 use Rattle.clru_curve.specs.declared.seen.Seen.{Seen}
-use Rattle.clru_curve.specs.Fetches.{fetched_at, is_row_hit}
+use Rattle.clru_curve.specs.Fetches.{fetched_at}
 use Rattle.clru_curve.specs.SizedAgedPasses.{fetches_of, IsAgedRow}
 use Rattle.clru_curve.proofs.AgedMarks.{aged_misses-cons, aged_missed-cons, fetched-hit, fetched-miss}
 

@@ -1,5 +1,5 @@
 -- What a pass over requests with times under an age limit has taken note of. Public clauses cite it.
-use Rattle.std.specs.Prelude.{◌≡◌, ℕ, Bool, Option, Some, List}
+use Rattle.std.specs.Prelude.{ℕ, Bool, Option, Some, List}
 use Rattle.clru_model.specs.Ages.{aged_misses}
 use Rattle.clru_model.specs.Requests.{hit}
 use Rattle.clru_curve.specs.SizedAgedPasses.{AgedPassBySize, IsSizedAgedPass}

@@ -1,4 +1,4 @@
-use Rattle.std.proofs.Common.{◌≡◌, ◌+◌, ◌<◌, ◌≤◌, cond, length, get_or, set, refl, sym, ap, ◌∙◌, subst, arith}
+use Rattle.std.proofs.Common.{◌≡◌, ◌+◌, cond, length, get_or, set, refl, sym, ap, ◌∙◌, subst, arith}
 use Rattle.clru_curve.specs.Fetches.{is_row_hit, AreCounted, AreFetched}
 use Rattle.clru_curve.proofs.FetchTables.{AreCounted-none, AreCounted-more, AreFetched-none, AreFetched-more}
 use Rattle.clru_curve.proofs.fetches.Fetches.take.Goals as goal

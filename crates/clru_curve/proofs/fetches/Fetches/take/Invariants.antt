@@ -1,4 +1,4 @@
-use Rattle.std.proofs.Common.{◌≡◌, ◌≤◌, length}
+use Rattle.std.proofs.Common.{◌≡◌}
 use Rattle.clru_curve.specs.Fetches.{is_row_hit, AreCounted, AreFetched}
 use Rattle.clru_curve.proofs.fetches.Fetches.take.Given as goal
 

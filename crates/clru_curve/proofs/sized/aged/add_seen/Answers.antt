@@ -1,4 +1,4 @@
-use Rattle.std.proofs.Common.{◌≡◌, ◌+◌, ◌-◌, ◌<◌, ◌≤◌, ◌∷◌, length, is_some, true, refl, sym, ap, ◌∙◌, arith, take_all}
+use Rattle.std.proofs.Common.{◌-◌, ◌∷◌, length, is_some, sym, ap, ◌∙◌, arith, take_all}
 use Rattle.clru_model.proofs.Finding.{missed, plain_put-missed}
 use Rattle.clru_curve.proofs.sized.aged.add_seen.Goals as goal
 

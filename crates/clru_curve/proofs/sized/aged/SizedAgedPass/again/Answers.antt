@@ -1,11 +1,11 @@
-use Rattle.std.proofs.Common.{◌≡◌, ◌+◌, ◌^◌, ◌<◌, ◌≤◌, suc, [], ◌∷◌, ◌++◌, Some, length, get_or, refl, sym, ap, ◌∙◌, subst, arith}
+use Rattle.std.proofs.Common.{◌≡◌, ◌+◌, suc, [], ◌∷◌, ◌++◌, Some, refl, sym, ap, ◌∙◌, subst, arith}
 use Rattle.std.specs.Map.{set_value}
 use Rattle.clru_model.proofs.Forms.{form_is}
 use Rattle.clru_curve.proofs.Forms.{key_at, found_as}
 use Rattle.clru_curve.proofs.IdlePassing.{position_found}
 use Rattle.clru_curve.proofs.LatestSizes.{total_zero, removed_less, moved_lives, moved_totals, moved_less}
 use Rattle.clru_curve.proofs.SizedAgedPassing.{seen_found, IsSizedAgedPass-again, IsSoundAgedBySize-again, size_there}
-use Rattle.clru_curve.specs.Fetches.{fetched_at, seens_of, is_row_hit, AreCounted, AreFetched}
+use Rattle.clru_curve.specs.Fetches.{fetched_at, seens_of, is_row_hit}
 use Rattle.clru_curve.specs.LatestSizes.{sizes_from, total_from, live_from, IsRemoved, IsSummed}
 use Rattle.clru_curve.specs.Rising.{numbered}
 use Rattle.clru_curve.specs.Seen.{seen_at}

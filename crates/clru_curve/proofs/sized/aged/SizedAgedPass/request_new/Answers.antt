@@ -1,9 +1,8 @@
-use Rattle.std.proofs.Common.{◌≡◌, ◌+◌, ◌<◌, ◌≤◌, false, replicate, [], ◌∷◌, ◌++◌, None, length, get_or, refl, sym, ap, ◌∙◌, subst, arith}
-use Rattle.std.proofs.lemmas.List.{length-append, length-replicate}
+use Rattle.std.proofs.Common.{◌≡◌, ◌+◌, false, replicate, [], ◌∷◌, ◌++◌, None, length, get_or, refl, sym, ap, ◌∙◌, subst, arith}
 use Rattle.std.specs.Map.{lookup}
 use Rattle.clru_curve.proofs.LatestSizes.{total_zero, grown_totals, grown_lives, grown_less}
 use Rattle.clru_curve.proofs.SizedAgedPassing.{many_seen, IsSizedAgedPass-new, IsSoundAgedBySize-new}
-use Rattle.clru_curve.specs.Fetches.{is_row_hit, AreCounted, AreFetched}
+use Rattle.clru_curve.specs.Fetches.{AreCounted, AreFetched}
 use Rattle.clru_curve.specs.LatestSizes.{IsSummed, sizes_from}
 use Rattle.clru_curve.specs.Rising.{numbered}
 use Rattle.clru_curve.specs.SizedAgedPasses.{IsSizedAgedPass}

@@ -1,4 +1,4 @@
-use Rattle.std.proofs.Common.{◌≡◌, replicate, length, [], refl, sym, ap, subst}
+use Rattle.std.proofs.Common.{subst}
 use Rattle.clru_curve.proofs.SizedAgedPassing.{IsSizedAgedPass-none, IsSoundAgedBySize-none}
 use Rattle.clru_curve.specs.LatestSizes.{IsSummed}
 use Rattle.clru_curve.proofs.sized.aged.SizedAgedPass.with_hasher.Goals as goal
