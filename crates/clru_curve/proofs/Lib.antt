@@ -1,6 +1,10 @@
+pub mod AgedMarks
+pub mod AgedPassing
+pub mod AgedRows
 pub mod Bits
 pub mod Blocks
 pub mod Counted
+pub mod FetchTables
 pub mod Forms
 pub mod Histograms
 pub mod IdleHistograms
@@ -14,6 +18,7 @@ pub mod Passing
 pub mod Ranks
 pub mod Refusals
 pub mod Rising
+pub mod SizedAgedPassing
 pub mod SizedCurves
 pub mod SizedHits
 pub mod SizedIdleHits

@@ -1,5 +1,7 @@
+pub mod AgedPasses
 pub mod Curves
 pub mod Errors
+pub mod Fetches
 pub mod IdlePasses
 pub mod KeyTables
 pub mod Latest
@@ -8,6 +10,7 @@ pub mod Passes
 pub mod Ranked
 pub mod Rising
 pub mod Seen
+pub mod SizedAgedPasses
 pub mod SizedCurves
 pub mod SizedIdlePasses
 pub mod SizedPasses

@@ -12,8 +12,10 @@
 //! keeps a size for each request.
 #![tactic(auto)]
 
+mod aged;
 mod curve;
 mod debug;
+mod fetches;
 mod idle;
 mod key_table;
 mod latest;
@@ -24,6 +26,7 @@ mod seen;
 mod sized;
 mod tree;
 
+pub use aged::AgedPass;
 pub use clru_list::NoMemory;
 pub use clru_model::{
     DefaultState, WeightScale, law_ages, law_bounds, law_distances, law_parts, law_sizes,
@@ -33,5 +36,7 @@ pub use curve::MissCurve;
 pub use idle::IdlePass;
 pub use list::miss_curve;
 pub use pass::DistancePass;
-pub use sized::{SizedCurve, SizedIdlePass, SizedPass, SizedRequestError, Step, sized_curve};
+pub use sized::{
+    SizedAgedPass, SizedCurve, SizedIdlePass, SizedPass, SizedRequestError, Step, sized_curve,
+};
 pub use std::num::NonZeroUsize;
