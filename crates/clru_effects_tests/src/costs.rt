@@ -74,6 +74,7 @@ fn costs_of(
         after: None,
         form,
         look: plain(),
+        times: None,
     };
     let mut reader = input;
     let mut written = Vec::new(alloc);

@@ -25,6 +25,7 @@ fn by_keys<A: Allocator>(least: bool, form: Form) -> Options<A> {
         after: None,
         form,
         look: plain(),
+        times: None,
     }
 }
 
@@ -39,6 +40,7 @@ fn by_size<A: Allocator>(one_size: bool, form: Form) -> Options<A> {
         after: None,
         form,
         look: plain(),
+        times: None,
     }
 }
 
@@ -184,6 +186,7 @@ fn within(
         after: None,
         form: Form::Table,
         look: plain(),
+        times: None,
     };
     let mut reader = input;
     let mut written = Vec::new(alloc);

@@ -11,11 +11,11 @@ fn commands_and_refusals_print(rt: HostRuntime) {
         (["--help"].as_slice(), "Ok(Help)"),
         (
             &["--at=2,1", "--svg"],
-            "Ok(Report(Options { capacities: Named([1, 2]), sizes: false, one_size: false, least: false, floor: false, sample: Whole, after: None, form: Picture, look: Look { title: None, unit: None, from: None, to: None } }))",
+            "Ok(Report(Options { capacities: Named([1, 2]), sizes: false, one_size: false, least: false, floor: false, sample: Whole, after: None, form: Picture, look: Look { title: None, unit: None, from: None, to: None }, times: None }))",
         ),
         (
             &["--sizes"],
-            "Ok(Report(Options { capacities: Usual, sizes: true, one_size: false, least: false, floor: false, sample: Whole, after: None, form: Table, look: Look { title: None, unit: None, from: None, to: None } }))",
+            "Ok(Report(Options { capacities: Usual, sizes: true, one_size: false, least: false, floor: false, sample: Whole, after: None, form: Table, look: Look { title: None, unit: None, from: None, to: None }, times: None }))",
         ),
         (
             &["--at"],

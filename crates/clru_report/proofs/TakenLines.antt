@@ -119,11 +119,11 @@ module _ {A S : Type 0} (floored : Bool) (lines : List (List ℕ)) (pass : PassB
       (curve-view bytes_eq weight_of_line line_of (reverse taken.past) curve (made taken.past taken.taken))
 
 -- after lines with sizes the next is the first without
-take_before : (lines rest : List (List ℕ)) → take (length lines) (lines ++ rest) ≡ lines
+pub take_before : (lines rest : List (List ℕ)) → take (length lines) (lines ++ rest) ≡ lines
 take_before [] rest = refl
 take_before (l ∷ ls) rest = ap (λ xs. l ∷ xs) (take_before ls rest)
 
-next_of : (lines rest : List (List ℕ)) (line : List ℕ) → slice_get (lines ++ line ∷ rest) (length lines) ≡ Some line
+pub next_of : (lines rest : List (List ℕ)) (line : List ℕ) → slice_get (lines ++ line ∷ rest) (length lines) ≡ Some line
 next_of [] rest line = refl
 next_of (l ∷ ls) rest line = next_of ls rest line
 

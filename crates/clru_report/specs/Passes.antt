@@ -3,7 +3,7 @@ use Rattle.std.specs.Prelude.{◌≡◌, Bool, true, false, ◌&&◌, Option, No
 use Rattle.std.specs.List.{All, Contains}
 use Rattle.clru_curve.specs.SizedCurves.{CurveBySize, IsSizedCurveOf, misses_within, missed_size_within}
 use Rattle.clru_curve.specs.SizedPasses.{PassBySize, IsSizedPass}
-use Rattle.clru_curve.specs.Curves.{HasMissesOf}
+use Rattle.clru_curve.specs.Curves.{HasMissesOf, misses_at}
 use Rattle.clru_curve.specs.Passes.{IsPass, Pass}
 use Rattle.clru_least.specs.Passes.{IsForesight}
 use Rattle.clru_least.specs.FloorNumbers.{Floored, IsFloorOf, IsSizeFloorOf, floor_at, size_floor_at}
@@ -30,6 +30,10 @@ use Rattle.clru_report.specs.declared.text.Counts.{Counts}
 use Rattle.clru_report.specs.declared.sized.floors.Floors.{Floors}
 use Rattle.clru_report.specs.declared.sized.floors.RowFloor.{RowFloor}
 use Rattle.clru_report.specs.declared.sized.rows.SizedRow.{SizedRow}
+
+-- at each capacity the curve has so many misses
+abbrev pub HasMisses : (ℕ → ℕ) → List ℕ → Type 0
+HasMisses m curve = (k : ℕ) → 0 < k → misses_at curve k ≡ m k
 
 -- the bytes of the line that a key is
 abbrev pub line_of : {A : Type 0} → OwnedKey A → List ℕ
