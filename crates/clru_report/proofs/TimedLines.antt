@@ -18,7 +18,7 @@ use Rattle.clru_report.specs.Times.{HaveTimes, kept_requests, request_of, reques
 use Rattle.clru_report.proofs.TakenLines.{next_of, take_before}
 use Rattle.clru_report.proofs.TimedViews.{idle_misses-view, keys-view}
 
-pub request_taken : {A : Type 0} (idle : ℕ) (past : List (OwnedKey A × ℕ)) (key : OwnedKey A) (line : List ℕ) (time : ℕ) (next : TimedPass (OwnedKey A))
+pub request_taken : {A S : Type 0} (idle : ℕ) (past : List (OwnedKey A × ℕ)) (key : OwnedKey A) (line : List ℕ) (time : ℕ) (next : TimedPass (OwnedKey A) S)
     → line_of key ≡ line → IsIdlePass same_line idle ((key, time) ∷ past) next → HasTakenRequest idle past line time next
 request_taken idle past key line time next is taken = record { key = key; is = is; taken = taken }
 
@@ -29,7 +29,7 @@ kept_more n lines line =
     ap (kept_requests n) (map-append request_of lines (line ∷ []))
     ∙ filter-append (λ (r : List ℕ × ℕ). is_kept n r.0) (requests_of lines) (request_of line ∷ [])
 
-module _ {A : Type 0} (n idle : ℕ) (lines : List (List ℕ)) (pass : TimedPass (OwnedKey A)) (has : HasTakenTimed n idle lines pass)
+module _ {A S : Type 0} (n idle : ℕ) (lines : List (List ℕ)) (pass : TimedPass (OwnedKey A) S) (has : HasTakenTimed n idle lines pass)
     (line : List ℕ) (time : ℕ) (timed : time_of_line line ≡ Some time) where
   some_time : IsSome (time_of_line line)
   some_time = rw timed refl
@@ -44,7 +44,7 @@ module _ {A : Type 0} (n idle : ℕ) (lines : List (List ℕ)) (pass : TimedPass
   }
 
   -- one that is
-  pub timed_taken : (next : TimedPass (OwnedKey A)) → is_kept n (rest_of_line line) ≡ true
+  pub timed_taken : (next : TimedPass (OwnedKey A) S) → is_kept n (rest_of_line line) ≡ true
       → HasTakenRequest idle has.taken.past (rest_of_line line) time next → HasTakenTimed n idle (lines ++ line ∷ []) next
   timed_taken next some one = record {
     timed = All-push (λ l. IsSome (time_of_line l)) lines line has.timed some_time;
@@ -61,7 +61,7 @@ module _ {A : Type 0} (n idle : ℕ) (lines : List (List ℕ)) (pass : TimedPass
     };
   }
 
-module _ {A : Type 0} (idle : ℕ) (requests : List (List ℕ × ℕ)) (pass : TimedPass (OwnedKey A)) (has : HasTakenRequests idle requests pass)
+module _ {A S : Type 0} (idle : ℕ) (requests : List (List ℕ × ℕ)) (pass : TimedPass (OwnedKey A) S) (has : HasTakenRequests idle requests pass)
     (curve : List ℕ) where
   pub idle_taken : ((past : List (OwnedKey A × ℕ)) → IsIdlePass same_line idle past pass → HasIdleMissesOf same_line idle (reverse past) curve)
       → HasIdleMissesOf bytes_eq idle requests curve

@@ -13,20 +13,20 @@ abbrev pub shown_of : {A : Type 0} → OwnedKey A × ℕ → List ℕ × ℕ
 shown_of r = (line_of r.0, r.1)
 
 -- the pass under this limit took these requests
-pub record HasTakenRequests {A : Type 0} (idle : ℕ) (requests : List (List ℕ × ℕ)) (pass : TimedPass (OwnedKey A)) : Type 0 where
+pub record HasTakenRequests {A S : Type 0} (idle : ℕ) (requests : List (List ℕ × ℕ)) (pass : TimedPass (OwnedKey A) S) : Type 0 where
   pub past : List (OwnedKey A × ℕ)
   pub shown : map shown_of (reverse past) ≡ requests
   pub taken : IsIdlePass same_line idle past pass
 
 -- after these requests the pass took one more, with this key and time
-pub record HasTakenRequest {A : Type 0} (idle : ℕ) (past : List (OwnedKey A × ℕ)) (line : List ℕ) (time : ℕ)
-    (pass : TimedPass (OwnedKey A)) : Type 0 where
+pub record HasTakenRequest {A S : Type 0} (idle : ℕ) (past : List (OwnedKey A × ℕ)) (line : List ℕ) (time : ℕ)
+    (pass : TimedPass (OwnedKey A) S) : Type 0 where
   pub key : OwnedKey A
   pub is : line_of key ≡ line
   pub taken : IsIdlePass same_line idle ((key, time) ∷ past) pass
 
 -- of lines that begin with times it took those that a sample keeps
-pub record HasTakenTimed {A : Type 0} (n idle : ℕ) (lines : List (List ℕ)) (pass : TimedPass (OwnedKey A)) : Type 0 where
+pub record HasTakenTimed {A S : Type 0} (n idle : ℕ) (lines : List (List ℕ)) (pass : TimedPass (OwnedKey A) S) : Type 0 where
   pub timed : HaveTimes lines
   pub taken : HasTakenRequests idle (kept_requests n (requests_of lines)) pass
 
