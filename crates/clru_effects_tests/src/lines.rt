@@ -1,25 +1,12 @@
-//! Each function of `clru_lines` once, but `capacity_of` and `digits_of`, which rows of `report` call, and the errors that only what
-//! is called shows.
+//! How `clru_lines` calls readers and writers, and the errors that only what is called shows. Rows of `report` call `capacity_of` and
+//! `digits_of`.
 
 use crate::fakes::{Breaking, Filling, Piecewise};
-use clru_lines::{
-    Key, LineBuffer, OwnedKey, ReadError, keys_of, next_line, read_input, write_text,
-};
-use clru_report::DefaultState;
+use clru_lines::{Key, LineBuffer, ReadError, keys_of, next_line, read_input, write_text};
 use ration::{Rationed, equal};
 use std::alloc::{Allocator, Global};
-use std::hash::BuildHasher;
 use std::io::{ErrorKind, Read};
 use std::test::Fail;
-
-#[test]
-fn a_reader_is_read_to_its_end(rt: HostRuntime) -> Result<(), Fail> {
-    let mut reader = b"a\nb".as_slice();
-    let input = read_input(rt.alloc(), &mut reader)?;
-    equal!(rt; input.as_slice(), b"a\nb".as_slice());
-    equal!(rt; reader.len(), 0);
-    Ok(())
-}
 
 // Bytes, and their lines.
 static LINES: &[(&[u8], &[&[u8]])] = &[
@@ -148,30 +135,6 @@ fn memory_is_asked_for_once(rt: HostRuntime) {
         let is_as_wanted = is_next(&mut buffer, &mut reader, &mut line, Some(wanted));
         equal!(rt; (is_as_wanted, heap.requests()), (true, 2), wanted);
     }
-}
-
-/// Whether a key that owns the bytes of one text is equal to another, has its hash, and has that of a key of the same bytes.
-fn is_alike(alloc: Global, text: &[u8], other: &[u8]) -> Option<(bool, bool, bool)> {
-    match (Vec::from_slice(alloc, text), Vec::from_slice(alloc, other)) {
-        (Ok(text), Ok(other)) => Some(compared(&OwnedKey(text), &OwnedKey(other))),
-        _ => None,
-    }
-}
-
-fn compared(key: &OwnedKey, other: &OwnedKey) -> (bool, bool, bool) {
-    let builder = DefaultState;
-    let hash = builder.hash_one(key);
-    (
-        key == other,
-        hash == builder.hash_one(other),
-        hash == builder.hash_one(&Key(&key.0)),
-    )
-}
-
-#[test]
-fn a_key_that_owns_its_bytes_is_them(rt: HostRuntime) {
-    equal!(rt; is_alike(rt.alloc(), b"a", b"a"), Some((true, true, true)));
-    equal!(rt; is_alike(rt.alloc(), b"a", b"b"), Some((false, false, true)));
 }
 
 /// The error where the text was not written, and what was taken of it: five bytes at most.
