@@ -1,56 +1,24 @@
-//! Each function of `clru_lines` once, but `capacity_of` and `digits_of`, which rows of `report` call, and the errors that only what
-//! is called shows.
+//! How `clru_lines` calls readers and writers, and the errors that only what is called shows. What it returns
+//! follows from clauses. Rows of `report` call `capacity_of` and `digits_of`.
 
 use crate::fakes::{Breaking, Filling, Piecewise};
-use clru_lines::{
-    Key, LineBuffer, OwnedKey, ReadError, keys_of, next_line, read_input, write_text,
-};
-use clru_report::DefaultState;
+use clru_lines::{LineBuffer, ReadError, keys_of, next_line, read_input, write_text};
 use ration::{Rationed, equal};
 use std::alloc::{Allocator, Global};
-use std::hash::BuildHasher;
 use std::io::{ErrorKind, Read};
 use std::test::Fail;
 
 #[test]
-fn a_reader_is_read_to_its_end(rt: HostRuntime) -> Result<(), Fail> {
-    let mut reader = b"a\nb".as_slice();
-    let input = read_input(rt.alloc(), &mut reader)?;
-    equal!(rt; input.as_slice(), b"a\nb".as_slice());
-    equal!(rt; reader.len(), 0);
-    Ok(())
-}
-
-// Bytes, and their lines.
-static LINES: &[(&[u8], &[&[u8]])] = &[
-    (b"", &[]),
-    (b"\n", &[b""]),
-    (b"a\n\nb", &[b"a", b"", b"b"]),
-    (b"a\r\nb\n", &[b"a\r", b"b"]),
-];
-
-#[test]
-fn lines_are_what_stands_between_newlines(rt: HostRuntime) {
-    for (bytes, lines) in LINES {
-        equal!(rt; has_lines(rt.alloc(), bytes, lines), true, *bytes);
-    }
+fn lines_stand_between_newlines(rt: HostRuntime) {
     equal!(rt; next_line(b"a\n\nb"), Some((b"a".as_slice(), b"\nb".as_slice())));
+    equal!(rt; number_of_keys(rt.alloc(), b"a\n\nb"), Some(3));
 }
 
-/// Whether the lines of the bytes are these, as keys.
-fn has_lines(alloc: Global, bytes: &[u8], lines: &[&[u8]]) -> bool {
+fn number_of_keys(alloc: Global, bytes: &[u8]) -> Option<usize> {
     match keys_of(alloc, bytes) {
-        Ok(keys) => are(&keys, lines),
-        Err(_) => false,
+        Ok(keys) => Some(keys.len()),
+        Err(_) => None,
     }
-}
-
-fn are(keys: &[Key], lines: &[&[u8]]) -> bool {
-    let mut same = keys.len() == lines.len();
-    for (key, line) in keys.iter().zip(lines.iter()) {
-        same = *key == Key(line) && same;
-    }
-    same
 }
 
 /// Pieces of an input, its lines, and how many bytes it has.
@@ -148,30 +116,6 @@ fn memory_is_asked_for_once(rt: HostRuntime) {
         let is_as_wanted = is_next(&mut buffer, &mut reader, &mut line, Some(wanted));
         equal!(rt; (is_as_wanted, heap.requests()), (true, 2), wanted);
     }
-}
-
-/// Whether a key that owns the bytes of one text is equal to another, has its hash, and has that of a key of the same bytes.
-fn is_alike(alloc: Global, text: &[u8], other: &[u8]) -> Option<(bool, bool, bool)> {
-    match (Vec::from_slice(alloc, text), Vec::from_slice(alloc, other)) {
-        (Ok(text), Ok(other)) => Some(compared(&OwnedKey(text), &OwnedKey(other))),
-        _ => None,
-    }
-}
-
-fn compared(key: &OwnedKey, other: &OwnedKey) -> (bool, bool, bool) {
-    let builder = DefaultState;
-    let hash = builder.hash_one(key);
-    (
-        key == other,
-        hash == builder.hash_one(other),
-        hash == builder.hash_one(&Key(&key.0)),
-    )
-}
-
-#[test]
-fn a_key_that_owns_its_bytes_is_them(rt: HostRuntime) {
-    equal!(rt; is_alike(rt.alloc(), b"a", b"a"), Some((true, true, true)));
-    equal!(rt; is_alike(rt.alloc(), b"a", b"b"), Some((false, false, true)));
 }
 
 /// The error where the text was not written, and what was taken of it: five bytes at most.

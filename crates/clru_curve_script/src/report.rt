@@ -1,15 +1,15 @@
 //! Blocks of an input, whose lines ask for reports of it: what the program `clru_mrc` writes for these words, and its status.
 
-use crate::answers::Answers;
-use crate::fault::Fault;
-use crate::lines::Line;
-use crate::out::Out;
-use crate::subject::{Subject, begin};
-use crate::words::{Words, Wrong};
-use crate::world::World;
 use clru_report::{
     Command, DefaultState, Options, Refusal, command_of, exit_status, run as report,
 };
+use clru_rows::answers::Answers;
+use clru_rows::fault::Fault;
+use clru_rows::lines::Line;
+use clru_rows::out::Out;
+use clru_rows::subject::{Subject, begin};
+use clru_rows::words::{Words, Wrong};
+use clru_rows::world::World;
 use ration::Rationed;
 use std::alloc::Global;
 

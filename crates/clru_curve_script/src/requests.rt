@@ -1,18 +1,16 @@
-//! Whole lists of requests: what a replay marks, and the least that any choice misses.
+//! Whole lists of requests: what each capacity misses, and the least that any choice misses.
 
-use crate::answers::Answers;
-use crate::fault::Fault;
 use crate::floors::floor_of;
-use crate::lines::Line;
 use crate::misses::{misses_of, sizes_of};
-use crate::out::Out;
-use crate::pairs::Key;
-use crate::requested::read_keys;
-use crate::subject::{Subject, run_lines};
-use crate::words::{Words, Wrong, capacity_of};
-use crate::world::World;
-use clru::replay;
 use clru_least::{Foresight, least};
+use clru_rows::answers::Answers;
+use clru_rows::fault::Fault;
+use clru_rows::lines::Line;
+use clru_rows::out::Out;
+use clru_rows::requested::{MOST, read_keys};
+use clru_rows::subject::{Subject, run_lines};
+use clru_rows::words::{Words, Wrong, capacity_of};
+use clru_rows::world::World;
 use std::alloc::Allocator;
 
 /// Makes each call anew, of the line alone.
@@ -30,7 +28,6 @@ impl Subject for Requests {
     fn call(&mut self, name: &str, words: &mut Words, out: &mut Out) {
         let world = self.world;
         match name {
-            "replay" => replayed(world, words, out),
             "misses" => misses_of(world, &read_keys(world, words), out),
             "sizes" => sizes_of(world, &read_keys(world, words), words, out),
             "floor" => floor_of(world, &read_keys(world, words), words, out),
@@ -41,51 +38,6 @@ impl Subject for Requests {
 
     fn fault(&self) -> Option<Fault> {
         None
-    }
-}
-
-/// The requests up to which each is written.
-pub(crate) const MOST: usize = 40;
-
-/// `replay CAPACITY KEYS`: M for each miss and H for each hit, and the number of misses; or the keys that came back for want of
-/// memory, or how many.
-fn replayed(world: &'static World, words: &mut Words, out: &mut Out) {
-    let capacity = words.capacity();
-    let list = read_keys(world, words);
-    let mut keys = Vec::new(&world.owned);
-    for key in &list {
-        if keys.push(Key::new(world, key)).is_err() {
-            world.is_short.set(true);
-        }
-    }
-    let before = world.heap.blocks();
-    match replay(&world.heap, capacity, keys, world.hashing()) {
-        Ok(answer) => {
-            if answer.marks.len() <= MOST {
-                for hit in &answer.marks {
-                    out.say(if *hit { "H " } else { "M " });
-                }
-            }
-            out.count("misses ", answer.misses);
-            out.count(" of ", answer.marks.len());
-        }
-        Err(keys) => say_back(keys.as_slice(), out),
-    }
-    if world.heap.blocks() != before {
-        out.say("; ? memory is left over");
-    }
-}
-
-/// Says that memory was refused, and which keys came back, or how many.
-fn say_back(keys: &[Key], out: &mut Out) {
-    out.say("no memory, back");
-    if keys.len() > MOST {
-        out.count(" ", keys.len());
-        return;
-    }
-    for key in keys {
-        out.say(" ");
-        out.say(&key.text);
     }
 }
 

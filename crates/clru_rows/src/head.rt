@@ -4,7 +4,7 @@ use crate::words::{Words, Wrong};
 
 /// std's hashes, or the first or the last number as the hash of all keys.
 #[derive(Clone, Copy)]
-pub(crate) enum Hash {
+pub enum Hash {
     Std,
     First,
     Last,
@@ -12,7 +12,7 @@ pub(crate) enum Hash {
 
 impl Hash {
     /// The hash of all keys, where it is one.
-    pub(crate) fn fixed(self) -> Option<u64> {
+    pub fn fixed(self) -> Option<u64> {
         match self {
             Hash::Std => None,
             Hash::First => Some(0),
@@ -23,30 +23,30 @@ impl Hash {
 
 /// What a first line asks for, of which each kind of block takes what it knows.
 #[derive(Clone, Copy)]
-pub(crate) struct Head {
-    pub(crate) capacity: usize,
+pub struct Head {
+    pub capacity: usize,
     /// The places that there is memory for from the start.
-    pub(crate) reserve: Option<usize>,
+    pub reserve: Option<usize>,
     /// The places up to which links take 4 bytes.
-    pub(crate) limit: Option<usize>,
+    pub limit: Option<usize>,
     /// The requests of the maker that pass before all are refused.
-    pub(crate) refuse: Option<usize>,
+    pub refuse: Option<usize>,
     /// Whether values weigh something, and
-    pub(crate) weighs: bool,
+    pub weighs: bool,
     /// whether that is the number that they are, and not their letters.
-    pub(crate) by_number: bool,
+    pub by_number: bool,
     /// Whether letters of either case are equal.
-    pub(crate) folded: bool,
+    pub folded: bool,
     /// How many entries it holds at first: the keys 0, 1, .. in this order, each with itself as its value, or with 0 where values
     /// weigh something.
-    pub(crate) filled: usize,
+    pub filled: usize,
     /// The hash that it names, or `None` where the block is run under each of them.
-    pub(crate) hash: Option<Hash>,
+    pub hash: Option<Hash>,
 }
 
 impl Head {
     /// Nothing is asked for.
-    pub(crate) fn empty() -> Head {
+    pub fn empty() -> Head {
         Head {
             capacity: 0,
             reserve: None,
@@ -62,7 +62,7 @@ impl Head {
 
     /// Reads what follows the name, in any order. A word `from_iter` is the last one: behind it stand the items. A block of
     /// requests, or of an input, says nothing but its hash.
-    pub(crate) fn read(words: &mut Words, name: &str) -> Head {
+    pub fn read(words: &mut Words, name: &str) -> Head {
         let mut head = Head::empty();
         let asks = ["cache", "costs", "list", "store", "store_costs", "runs"].contains(&name);
         for _ in 0..usize::MAX {

@@ -5,7 +5,7 @@ use std::num::NonZeroUsize;
 
 /// Why a line is no call.
 #[derive(Clone, Copy)]
-pub(crate) enum Wrong {
+pub enum Wrong {
     NoSuchCall,
     NoSuchWord,
     Missing,
@@ -21,7 +21,7 @@ pub(crate) enum Wrong {
 
 impl Wrong {
     /// Says so in place of an answer.
-    pub(crate) fn say(self, out: &mut Out) {
+    pub fn say(self, out: &mut Out) {
         out.clear();
         out.say(match self {
             Wrong::NoSuchCall => "? there is no such call",
@@ -40,13 +40,13 @@ impl Wrong {
 /// The words of a call that are left, and what is wrong with those that were read. A word that is missing is read as an empty
 /// one, and what is no number as 0, so that a call takes them without a look at each: the answer is then what is wrong.
 #[derive(Clone, Copy)]
-pub(crate) struct Words {
+pub struct Words {
     rest: &'static str,
-    pub(crate) wrong: Option<Wrong>,
+    pub wrong: Option<Wrong>,
 }
 
 impl Words {
-    pub(crate) fn new(text: &'static str) -> Words {
+    pub fn new(text: &'static str) -> Words {
         Words {
             rest: text,
             wrong: None,
@@ -54,7 +54,7 @@ impl Words {
     }
 
     /// The next word, where there is one.
-    pub(crate) fn next(&mut self) -> Option<&'static str> {
+    pub fn next(&mut self) -> Option<&'static str> {
         let text = self.rest.trim_start();
         let (word, rest) = text.split_once(' ').unwrap_or((text, ""));
         self.rest = rest;
@@ -62,12 +62,12 @@ impl Words {
     }
 
     /// Whether none is left.
-    pub(crate) fn is_empty(&self) -> bool {
+    pub fn is_empty(&self) -> bool {
         self.rest.trim_start().is_empty()
     }
 
     /// The next word, which has to be there.
-    pub(crate) fn word(&mut self) -> &'static str {
+    pub fn word(&mut self) -> &'static str {
         match self.next() {
             Some(word) => word,
             None => {
@@ -78,20 +78,20 @@ impl Words {
     }
 
     /// The next word as a number.
-    pub(crate) fn number(&mut self) -> usize {
+    pub fn number(&mut self) -> usize {
         let word = self.word();
         self.number_of(word)
     }
 
     /// So many words as numbers, up to two, and 0 for the others.
-    pub(crate) fn numbers(&mut self, count: usize) -> (usize, usize) {
+    pub fn numbers(&mut self, count: usize) -> (usize, usize) {
         let first = if count > 0 { self.number() } else { 0 };
         let second = if count > 1 { self.number() } else { 0 };
         (first, second)
     }
 
     /// A word as a number.
-    pub(crate) fn number_of(&mut self, word: &str) -> usize {
+    pub fn number_of(&mut self, word: &str) -> usize {
         match number_of(word) {
             Some(number) => number,
             None => {
@@ -102,7 +102,7 @@ impl Words {
     }
 
     /// The next word as a capacity.
-    pub(crate) fn capacity(&mut self) -> NonZeroUsize {
+    pub fn capacity(&mut self) -> NonZeroUsize {
         let number = self.number();
         if number == 0 {
             self.note(Wrong::NoCapacity);
@@ -111,7 +111,7 @@ impl Words {
     }
 
     /// Passes this word, where it is the next one.
-    pub(crate) fn passes(&mut self, word: &str) -> bool {
+    pub fn passes(&mut self, word: &str) -> bool {
         let mut ahead = *self;
         let is = ahead.next() == Some(word);
         if is {
@@ -121,7 +121,7 @@ impl Words {
     }
 
     /// The number behind this word, which comes next.
-    pub(crate) fn named(&mut self, word: &str) -> usize {
+    pub fn named(&mut self, word: &str) -> usize {
         if !self.passes(word) {
             self.note(Wrong::NoSuchWord);
         }
@@ -129,14 +129,14 @@ impl Words {
     }
 
     /// Says what is wrong, where nothing is so far.
-    pub(crate) fn note(&mut self, wrong: Wrong) {
+    pub fn note(&mut self, wrong: Wrong) {
         if self.wrong.is_none() {
             self.wrong = Some(wrong);
         }
     }
 
     /// Writes what is wrong in place of an answer, where something is, or a word is left.
-    pub(crate) fn end(&mut self, out: &mut Out) {
+    pub fn end(&mut self, out: &mut Out) {
         if !self.is_empty() {
             self.note(Wrong::TooMany);
         }
@@ -147,7 +147,7 @@ impl Words {
 }
 
 /// A number in digits, `max` for the greatest, or `max-` and how far it is below that.
-pub(crate) fn number_of(word: &str) -> Option<usize> {
+pub fn number_of(word: &str) -> Option<usize> {
     if let Some(rest) = word.strip_prefix("max") {
         if rest.is_empty() {
             return Some(usize::MAX);
@@ -161,6 +161,6 @@ pub(crate) fn number_of(word: &str) -> Option<usize> {
 }
 
 /// A number as a capacity, and 1 for 0.
-pub(crate) fn capacity_of(number: usize) -> NonZeroUsize {
+pub fn capacity_of(number: usize) -> NonZeroUsize {
     NonZeroUsize::new(number).unwrap_or(NonZeroUsize::MIN)
 }

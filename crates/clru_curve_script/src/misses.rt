@@ -1,14 +1,14 @@
 //! The misses of a list of requests at each capacity, by a pass and as a whole.
 
-use crate::out::Out;
 use crate::passes::{say_misses, say_sized, say_span};
-use crate::requests::MOST;
-use crate::words::Words;
-use crate::world::World;
 use clru::WeightScale;
 use clru_curve::{
     DistancePass, MissCurve, SizedCurve, SizedPass, SizedRequestError, miss_curve, sized_curve,
 };
+use clru_rows::out::Out;
+use clru_rows::requested::MOST;
+use clru_rows::words::Words;
+use clru_rows::world::World;
 use std::alloc::Allocator;
 use std::hash::BuildHasher;
 

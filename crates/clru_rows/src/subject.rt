@@ -8,7 +8,7 @@ use crate::words::Words;
 use crate::world::{Cost, World};
 
 /// A cache, a list or a store that lines call.
-pub(crate) trait Subject {
+pub trait Subject {
     /// Makes the call of that name, and writes what it answered.
     fn call(&mut self, name: &str, words: &mut Words, out: &mut Out);
 
@@ -17,7 +17,7 @@ pub(crate) trait Subject {
 }
 
 /// Answers the first line, and runs the others on what was made.
-pub(crate) fn begin<T: Subject + Drop>(
+pub fn begin<T: Subject + Drop>(
     world: &World,
     made: Option<T>,
     lines: &[Line],
@@ -34,7 +34,7 @@ pub(crate) fn begin<T: Subject + Drop>(
 
 /// Makes the calls of the lines, and looks at what is left at the end. Up to the first call, the last one is what the first line
 /// made.
-pub(crate) fn run_lines<T: Subject + Drop>(
+pub fn run_lines<T: Subject + Drop>(
     world: &World,
     mut subject: T,
     lines: &[Line],
@@ -85,7 +85,7 @@ fn is_refusal(answer: &str) -> bool {
 }
 
 /// Makes the call of a line. `times N` before it makes it so often, with the last answer as the answer.
-pub(crate) fn make<T: Subject>(subject: &mut T, line: &Line, out: &mut Out) {
+pub fn make<T: Subject>(subject: &mut T, line: &Line, out: &mut Out) {
     let mut words = Words::new(line.call);
     let mut count = 1;
     if words.passes("times") {
@@ -136,7 +136,7 @@ fn refuse(world: &World, words: &mut Words) {
 }
 
 /// What a call cost, without what is 0.
-pub(crate) fn say_cost(cost: Cost, out: &mut Out) {
+pub fn say_cost(cost: Cost, out: &mut Out) {
     let parts = [
         ("hashes ", cost.hashed),
         ("comparisons ", cost.compared),

@@ -1,11 +1,11 @@
 //! The floors of a list of requests, of what no policy misses less.
 
 use crate::misses::{ByColon, Heavy, heavy_of};
-use crate::out::Out;
-use crate::requests::MOST;
-use crate::words::{Words, capacity_of};
-use crate::world::World;
 use clru_least::{Floor, FloorPass, FloorRequestError, SizeFloor, floor};
+use clru_rows::out::Out;
+use clru_rows::requested::MOST;
+use clru_rows::words::{Words, capacity_of};
+use clru_rows::world::World;
 use std::alloc::Allocator;
 use std::hash::BuildHasher;
 

@@ -4,9 +4,12 @@ use crate::out::Out;
 use crate::words::Words;
 use crate::world::World;
 
+/// The requests up to which each is written.
+pub const MOST: usize = 40;
+
 /// Reads what is left of a line, without the word `hash` and the one behind it: `count N of M`, the numbers below M in turn, or the
 /// keys themselves. Behind `weigh M` a counted key has the rest of its number by M for a weight, behind a colon.
-pub(crate) fn read_keys(world: &'static World, words: &mut Words) -> Vec<&'static str> {
+pub fn read_keys(world: &'static World, words: &mut Words) -> Vec<&'static str> {
     let mut keys = Vec::new(world.alloc);
     for _ in 0..usize::MAX {
         match words.next() {

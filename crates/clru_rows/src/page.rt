@@ -2,25 +2,30 @@
 
 use crate::answers::Answers;
 use crate::head::{Hash, Head};
-use crate::lines::{Line, block_len, lines_of};
+use crate::lines::{Line, block_at, lines_of};
 use crate::out::Out;
 use crate::words::{Words, Wrong};
 use crate::world::World;
-use crate::{cache, costs, foresight, list, makers, passes, report, requests, runs, store, timed};
 use std::alloc::{AllocError, Global};
+
+/// What runs the blocks of a script, by their kinds.
+pub trait Blocks {
+    /// Makes the calls of a block, whose first line says the kind.
+    fn run(world: &'static World, block: &[Line], answers: &mut Answers);
+}
 
 /// The script with its answers, and how many of these are faults.
 #[derive(Drop)]
-pub(crate) struct Page {
-    pub(crate) out: Out,
-    pub(crate) faults: u64,
+pub struct Page {
+    pub out: Out,
+    pub faults: u64,
 }
 
 /// Where the answer begins in a line that has none yet.
 const COLUMN: usize = 34;
 
 /// Answers a script.
-pub(crate) fn answered(alloc: Global, script: &'static str) -> Result<Page, AllocError> {
+pub fn answered<B: Blocks>(alloc: Global, script: &'static str) -> Result<Page, AllocError> {
     let lines = lines_of(alloc, script)?;
     let mut page = Page {
         out: Out::new(alloc),
@@ -28,16 +33,10 @@ pub(crate) fn answered(alloc: Global, script: &'static str) -> Result<Page, Allo
     };
     let mut at = 0usize;
     for _ in 0..lines.len() {
-        let Some((_, rest)) = lines.split_at_checked(at) else {
-            break;
-        };
-        let len = block_len(rest);
-        if let Some((block, _)) = rest.split_at_checked(len) {
-            page.write(block, &answers_of(alloc, block));
-        }
-        at = at.saturating_add(len);
-        if at == lines.len() {
-            break;
+        if at < lines.len() {
+            let block = block_at(&lines, at);
+            page.write(block, &answers_of::<B>(alloc, block));
+            at = at.saturating_add(block.len());
         }
     }
     Ok(page)
@@ -67,12 +66,7 @@ impl Page {
             .max(line.text.len().saturating_add(1));
         let mut at = line.text.len();
         for part in answer.lines() {
-            for _ in at..column {
-                self.out.say(" ");
-            }
-            self.out.say("-> ");
-            self.out.say(part);
-            self.out.say("\n");
+            say_at(column.saturating_sub(at), part, &mut self.out);
             at = 0;
         }
         if answer.is_empty() {
@@ -81,8 +75,18 @@ impl Page {
     }
 }
 
+/// Says a part of an answer behind so many blanks.
+fn say_at(blanks: usize, part: &str, out: &mut Out) {
+    for _ in 0..blanks {
+        out.say(" ");
+    }
+    out.say("-> ");
+    out.say(part);
+    out.say("\n");
+}
+
 /// The answers of a block, under each of the hashes that its first line asks for.
-fn answers_of(alloc: Global, block: &[Line]) -> Answers {
+fn answers_of<B: Blocks>(alloc: Global, block: &[Line]) -> Answers {
     let mut words = Words::new(match block.first() {
         Some(first) => first.call,
         None => "",
@@ -95,18 +99,24 @@ fn answers_of(alloc: Global, block: &[Line]) -> Answers {
         return answers;
     }
     let first = head.hash.unwrap_or(Hash::Std);
-    let mut answers = attempt(alloc, block, head, first, None);
+    let mut answers = attempt::<B>(alloc, block, head, first, None);
     if head.hash.is_none() {
         for other in [Hash::First, Hash::Last] {
-            answers.compare(&attempt(alloc, block, head, other, None));
+            answers.compare(&attempt::<B>(alloc, block, head, other, None));
         }
     }
-    refuse_each(alloc, block, head, first, &mut answers);
+    refuse_each::<B>(alloc, block, head, first, &mut answers);
     answers
 }
 
 /// The answers of a block under one hash, in a world of its own.
-fn attempt(alloc: Global, block: &[Line], head: Head, hash: Hash, refused: Option<u64>) -> Answers {
+fn attempt<B: Blocks>(
+    alloc: Global,
+    block: &[Line],
+    head: Head,
+    hash: Hash,
+    refused: Option<u64>,
+) -> Answers {
     let mut answers = Answers::new(alloc, refused);
     let Ok(world) = World::new(alloc, head, hash.fixed()) else {
         answers.is_short = true;
@@ -115,7 +125,7 @@ fn attempt(alloc: Global, block: &[Line], head: Head, hash: Hash, refused: Optio
     if let Some(number) = refused {
         world.heap.refuse_one_after(number.saturating_sub(1));
     }
-    run(world, block, &mut answers);
+    B::run(world, block, &mut answers);
     if let Some(wrong) = answers.wrong {
         answers.list.clear();
         answers.refuse(block, wrong);
@@ -126,39 +136,22 @@ fn attempt(alloc: Global, block: &[Line], head: Head, hash: Hash, refused: Optio
     answers
 }
 
-fn run(world: &'static World, block: &[Line], answers: &mut Answers) {
-    let Some((first, lines)) = block.split_first() else {
-        return;
-    };
-    match first.name() {
-        "cache" => cache::run(world, first, lines, answers),
-        "costs" => costs::run(world, lines, answers),
-        "makers" => makers::run(world, lines, answers),
-        "list" => list::run(world, lines, answers),
-        "store" => store::run(world, lines, answers),
-        "store_costs" => store::run_costs(world, lines, answers),
-        "replay" | "misses" | "sizes" | "floor" | "least" => requests::run(world, block, answers),
-        "distances" => passes::run_distances(world, lines, answers),
-        "spans" => passes::run_spans(world, lines, answers),
-        "idle_distances" => timed::run_distances(world, first, lines, answers),
-        "idle_spans" => timed::run_spans(world, first, lines, answers),
-        "foresight" => foresight::run(world, first, lines, answers),
-        "runs" => runs::run(world, lines, answers),
-        "input" => report::run(world, first, lines, answers),
-        _ => answers.wrong = Some(Wrong::NothingMade),
-    }
-}
-
 /// How many requests are refused in turn at most.
 const MOST: u64 = 1000;
 
 /// Answers the lines `refuse each`.
-fn refuse_each(alloc: Global, block: &[Line], head: Head, hash: Hash, answers: &mut Answers) {
+fn refuse_each<B: Blocks>(
+    alloc: Global,
+    block: &[Line],
+    head: Head,
+    hash: Hash,
+    answers: &mut Answers,
+) {
     for (at, line) in block.iter().enumerate() {
         if line.call == "refuse each" {
             let (before, _) = block.split_at(at);
             let mut said = Out::new(alloc);
-            each_refused(alloc, before, head, hash, answers, &mut said);
+            each_refused::<B>(alloc, before, head, hash, answers, &mut said);
             answers.set(at, said);
         }
     }
@@ -166,7 +159,7 @@ fn refuse_each(alloc: Global, block: &[Line], head: Head, hash: Hash, answers: &
 
 /// Calls the lines with the first request for memory refused, with the second, and so on until none is. A call that finds
 /// no memory then is made again, and all others answer as before.
-fn each_refused(
+fn each_refused<B: Blocks>(
     alloc: Global,
     lines: &[Line],
     head: Head,
@@ -175,7 +168,7 @@ fn each_refused(
     said: &mut Out,
 ) {
     for number in 1..=MOST {
-        let again = attempt(alloc, lines, head, hash, Some(number));
+        let again = attempt::<B>(alloc, lines, head, hash, Some(number));
         if again.met.text.is_empty() {
             said.count("request ", number as usize);
             said.say(": none");

@@ -9,43 +9,43 @@ use std::cell::Cell;
 
 /// Counts, memory and notes of one run of a block of lines.
 #[derive(Drop)]
-pub(crate) struct World {
-    pub(crate) alloc: Global,
+pub struct World {
+    pub alloc: Global,
     /// What the first line asks for.
-    pub(crate) head: Head,
+    pub head: Head,
     /// The hash of all keys, where it is one.
-    pub(crate) fixed: Option<u64>,
-    pub(crate) compared: Cell<u64>,
-    pub(crate) hashed: Cell<u64>,
-    pub(crate) weighed: Cell<u64>,
-    pub(crate) fetched: Cell<u64>,
+    pub fixed: Option<u64>,
+    pub compared: Cell<u64>,
+    pub hashed: Cell<u64>,
+    pub weighed: Cell<u64>,
+    pub fetched: Cell<u64>,
     /// The fetches from the first of these numbers to below the second one fail, counted from the start of the block.
-    pub(crate) fails_from: Cell<u64>,
-    pub(crate) fails_below: Cell<u64>,
+    pub fails_from: Cell<u64>,
+    pub fails_below: Cell<u64>,
     /// The memory of caches, and
-    pub(crate) heap: Rationed<Global>,
+    pub heap: Rationed<Global>,
     /// that of keys and values.
-    pub(crate) owned: Rationed<Global>,
+    pub owned: Rationed<Global>,
     /// Whether a key or a value found none.
-    pub(crate) is_short: Cell<bool>,
+    pub is_short: Cell<bool>,
     /// What the last call did, in order.
     notes: Cell<String>,
 }
 
 /// What was counted: comparisons, hashes, weighings, fetches, requests for memory and their bytes.
 #[derive(Clone, Copy)]
-pub(crate) struct Cost {
-    pub(crate) compared: u64,
-    pub(crate) hashed: u64,
-    pub(crate) weighed: u64,
-    pub(crate) fetched: u64,
-    pub(crate) requests: u64,
-    pub(crate) bytes: u64,
+pub struct Cost {
+    pub compared: u64,
+    pub hashed: u64,
+    pub weighed: u64,
+    pub fetched: u64,
+    pub requests: u64,
+    pub bytes: u64,
 }
 
 impl Cost {
     /// What came since.
-    pub(crate) fn since(self, before: Cost) -> Cost {
+    pub fn since(self, before: Cost) -> Cost {
         Cost {
             compared: self.compared.wrapping_sub(before.compared),
             hashed: self.hashed.wrapping_sub(before.hashed),
@@ -58,13 +58,13 @@ impl Cost {
 }
 
 /// Counts one more.
-pub(crate) fn add(count: &Cell<u64>) {
+pub fn add(count: &Cell<u64>) {
     count.set(count.get().wrapping_add(1));
 }
 
 impl World {
     /// A new one, which stays as long as the program.
-    pub(crate) fn new(
+    pub fn new(
         alloc: Global,
         head: Head,
         fixed: Option<u64>,
@@ -92,14 +92,14 @@ impl World {
     }
 
     /// The builder of the block.
-    pub(crate) fn hashing(&'static self) -> Hashing {
+    pub fn hashing(&'static self) -> Hashing {
         Hashing {
             hashed: &self.hashed,
             fixed: self.fixed,
         }
     }
 
-    pub(crate) fn cost(&self) -> Cost {
+    pub fn cost(&self) -> Cost {
         Cost {
             compared: self.compared.get(),
             hashed: self.hashed.get(),
@@ -111,12 +111,12 @@ impl World {
     }
 
     /// Whether a block of caches, keys or values is there now.
-    pub(crate) fn is_used(&self) -> bool {
+    pub fn is_used(&self) -> bool {
         self.heap.blocks() != 0 || self.owned.blocks() != 0
     }
 
     /// Notes that something was done with a key or a value. Where there is no memory for it, the note is left out.
-    pub(crate) fn note(&self, what: &str, of: &str) {
+    pub fn note(&self, what: &str, of: &str) {
         let mut notes = self.notes.replace(String::new(self.alloc));
         if !notes.is_empty() {
             let _ = notes.push_str(", ");
@@ -130,7 +130,7 @@ impl World {
     }
 
     /// What was noted so far, which is then forgotten.
-    pub(crate) fn notes(&self) -> String {
+    pub fn notes(&self) -> String {
         self.notes.replace(String::new(self.alloc))
     }
 }

@@ -1,14 +1,14 @@
 //! Blocks of looks ahead: `foresight KEYS`, and then `room N` for the least misses with room for N keys.
 
-use crate::answers::Answers;
-use crate::fault::Fault;
-use crate::lines::Line;
-use crate::out::Out;
-use crate::requested::read_keys;
-use crate::subject::{Subject, begin};
-use crate::words::{Words, Wrong};
-use crate::world::World;
 use clru_least::Foresight;
+use clru_rows::answers::Answers;
+use clru_rows::fault::Fault;
+use clru_rows::lines::Line;
+use clru_rows::out::Out;
+use clru_rows::requested::read_keys;
+use clru_rows::subject::{Subject, begin};
+use clru_rows::words::{Words, Wrong};
+use clru_rows::world::World;
 use ration::Rationed;
 use std::alloc::Global;
 

@@ -1,4 +1,4 @@
-//! Keys, values, scales and hashes whose use is counted. Each key and each value owns a block of memory.
+//! Keys, values and hashes whose use is counted. Each key and each value owns a block of memory.
 ghost use Rattle.std.specs.Prelude.{◌≡◌, nat_eq, unwrap_or};
 ghost use Rattle.std.specs.Hash as fed;
 ghost use Rattle.std.specs.Hash.FoldHasher as folding;
@@ -9,7 +9,6 @@ ghost use Rattle.std.proofs.Common.{rules};
 use crate::out::Out;
 use crate::words::{Words, Wrong, number_of};
 use crate::world::{World, add};
-use clru::WeightScale;
 use ration::Rationed;
 use std::alloc::Global;
 use std::cell::Cell;
@@ -31,15 +30,15 @@ fn owned(world: &'static World, word: &str) -> Owned {
 }
 
 /// A word as a key. Its number is made of its letters, and two keys are equal where their numbers are.
-pub(crate) struct Key {
-    pub(crate) text: Owned,
-    pub(crate) number: u64,
+pub struct Key {
+    pub text: Owned,
+    pub number: u64,
     world: &'static World,
 }
 
 impl Key {
     /// The key of a word of at most eight letters. Where a block folds, upper and lower case are equal.
-    pub(crate) fn new(world: &'static World, word: &str) -> Key {
+    pub fn new(world: &'static World, word: &str) -> Key {
         let mut number = 0u64;
         for byte in word.bytes() {
             let letter = if world.head.folded {
@@ -57,7 +56,7 @@ impl Key {
     }
 
     /// The next word as a key.
-    pub(crate) fn next(world: &'static World, words: &mut Words) -> Key {
+    pub fn next(world: &'static World, words: &mut Words) -> Key {
         let word = words.word();
         if word.len() > 8 {
             words.note(Wrong::LongKey);
@@ -104,15 +103,15 @@ impl Hash for Key {
 }
 
 /// A word as a value. Contracts see its weight alone.
-pub(crate) struct Value {
-    pub(crate) text: Owned,
+pub struct Value {
+    pub text: Owned,
     weight: usize,
     world: &'static World,
 }
 
 impl Value {
     /// The value of a word. What should be a number and is none weighs 0.
-    pub(crate) fn new(world: &'static World, word: &str) -> Value {
+    pub fn new(world: &'static World, word: &str) -> Value {
         let weight = if !world.head.weighs {
             0
         } else if world.head.by_number {
@@ -128,7 +127,7 @@ impl Value {
     }
 
     /// The next word as a value.
-    pub(crate) fn next(world: &'static World, words: &mut Words) -> Value {
+    pub fn next(world: &'static World, words: &mut Words) -> Value {
         let word = words.word();
         if world.head.by_number {
             let _weight = words.number_of(word);
@@ -137,7 +136,7 @@ impl Value {
     }
 
     /// The word so many times, as a value that weighs its letters.
-    pub(crate) fn repeated(world: &'static World, word: &str, times: usize) -> Value {
+    pub fn repeated(world: &'static World, word: &str, times: usize) -> Value {
         let mut text = owned(world, word);
         for _ in 1..times {
             if text.push_str(word).is_err() {
@@ -152,24 +151,31 @@ impl Value {
         }
     }
 
-    pub(crate) fn say(&self, out: &mut Out) {
+    pub fn say(&self, out: &mut Out) {
         out.say(&self.text);
     }
 
     /// Another number in its place. Where there is no memory for it, it stays cut short.
-    pub(crate) fn set(&mut self, number: usize) {
+    pub fn set(&mut self, number: usize) {
         self.text.clear();
         let _ = write!(&mut self.text, "{number}");
     }
 
     /// The word of another value in its place, as far as there is memory for it.
-    pub(crate) fn copy(&mut self, other: &Value) {
+    pub fn copy(&mut self, other: &Value) {
         self.text.clear();
         let _ = self.text.push_str(&other.text);
     }
 
+    /// What it weighs.
+    pub fn weight(&self) -> usize
+        ensures weight { result ≡ self.now }
+    {
+        self.weight
+    }
+
     /// The number that it is, or 0 where it is none.
-    pub(crate) fn number(&self) -> usize {
+    pub fn number(&self) -> usize {
         number_of(&self.text).unwrap_or(0)
     }
 }
@@ -194,31 +200,16 @@ impl Model for Value {
     ghost view = { λ value. value.weight };
 }
 
-/// A value weighs what it says.
-#[derive(Clone, Copy)]
-pub(crate) struct Scale {
-    pub(crate) world: &'static World,
-}
-
-impl<K> WeightScale<K, Value> for Scale {
-    ghost weight = { λ _ _ value. value };
-
-    fn weight(&self, _key: &K, value: &Value) -> usize {
-        add(&self.world.weighed);
-        value.weight
-    }
-}
-
 /// A hash builder that counts the hashes: std's, or one that gives all keys one hash.
 #[derive(Clone, Copy)]
-pub(crate) struct Hashing {
-    pub(crate) hashed: &'static Cell<u64>,
-    pub(crate) fixed: Option<u64>,
+pub struct Hashing {
+    pub hashed: &'static Cell<u64>,
+    pub fixed: Option<u64>,
 }
 
 /// std's hasher, and the hash that is answered in its place where there is one.
 #[derive(Clone, Copy)]
-pub(crate) struct Folding {
+pub struct Folding {
     folder: FoldHasher,
     fixed: Option<u64>,
 }

@@ -4,7 +4,7 @@ use crate::out::Out;
 
 /// What a look after a call found.
 #[derive(Clone, Copy)]
-pub(crate) enum Fault {
+pub enum Fault {
     Blocks,
     Size,
     LookUp,
@@ -12,7 +12,7 @@ pub(crate) enum Fault {
 }
 
 /// Says what is wrong behind an answer, where something is.
-pub(crate) fn say_fault(fault: Option<Fault>, out: &mut Out) {
+pub fn say_fault(fault: Option<Fault>, out: &mut Out) {
     out.say(match fault {
         Some(Fault::Blocks) => "; ? pairs are forgotten, or go too early",
         Some(Fault::Size) => "; ? the size is above the capacity",

@@ -4,14 +4,14 @@ use std::alloc::Global;
 
 /// A text. What finds no memory is left out of it, and that is known at the end.
 #[derive(Drop)]
-pub(crate) struct Out {
-    pub(crate) text: String,
-    pub(crate) is_short: bool,
+pub struct Out {
+    pub text: String,
+    pub is_short: bool,
 }
 
 /// An answer without items: a proof of a function that gives one is short, where it has many calls.
 #[derive(Clone, Copy)]
-pub(crate) enum Outcome {
+pub enum Outcome {
     Number(Option<usize>),
     Truth(bool),
     Word(&'static str),
@@ -21,7 +21,7 @@ pub(crate) enum Outcome {
 
 impl Outcome {
     /// An item as a number, where there is one.
-    pub(crate) fn item(item: Option<u64>) -> Outcome {
+    pub fn item(item: Option<u64>) -> Outcome {
         Outcome::Number(match item {
             Some(item) => Some(item as usize),
             None => None,
@@ -30,40 +30,40 @@ impl Outcome {
 }
 
 impl Out {
-    pub(crate) fn new(alloc: Global) -> Out {
+    pub fn new(alloc: Global) -> Out {
         Out {
             text: String::new(alloc),
             is_short: false,
         }
     }
 
-    pub(crate) fn say(&mut self, text: &str) {
+    pub fn say(&mut self, text: &str) {
         if self.text.push_str(text).is_err() {
             self.is_short = true;
         }
     }
 
-    pub(crate) fn number(&mut self, number: usize) {
+    pub fn number(&mut self, number: usize) {
         if write!(&mut self.text, "{number}").is_err() {
             self.is_short = true;
         }
     }
 
     /// A word, and a number behind it.
-    pub(crate) fn count(&mut self, word: &str, number: usize) {
+    pub fn count(&mut self, word: &str, number: usize) {
         self.say(word);
         self.number(number);
     }
 
     /// What parts this from what stands before, where something does.
-    pub(crate) fn part(&mut self, mark: &str) {
+    pub fn part(&mut self, mark: &str) {
         if !self.text.is_empty() {
             self.say(mark);
         }
     }
 
     /// A number, or that there is none.
-    pub(crate) fn found(&mut self, number: Option<usize>) {
+    pub fn found(&mut self, number: Option<usize>) {
         match number {
             Some(number) => self.number(number),
             None => self.say("none"),
@@ -71,12 +71,12 @@ impl Out {
     }
 
     /// The word for a truth.
-    pub(crate) fn truth(&mut self, is: bool) {
+    pub fn truth(&mut self, is: bool) {
         self.say(if is { "yes" } else { "no" });
     }
 
     /// What a call answered. Answers whether there was such a call.
-    pub(crate) fn outcome(&mut self, outcome: Outcome) -> bool {
+    pub fn outcome(&mut self, outcome: Outcome) -> bool {
         match outcome {
             Outcome::Number(number) => self.found(number),
             Outcome::Truth(is) => self.truth(is),
@@ -87,14 +87,14 @@ impl Out {
     }
 
     /// A word for an answer that has none.
-    pub(crate) fn or(&mut self, word: &str) {
+    pub fn or(&mut self, word: &str) {
         if self.text.is_empty() {
             self.say(word);
         }
     }
 
     /// Begins anew.
-    pub(crate) fn clear(&mut self) {
+    pub fn clear(&mut self) {
         self.text.clear();
     }
 }

@@ -5,13 +5,13 @@ use std::alloc::{AllocError, Global};
 
 /// A line of a script, without its answer.
 #[derive(Clone, Copy)]
-pub(crate) struct Line {
+pub struct Line {
     /// What is written again, up to the arrow, and
-    pub(crate) text: &'static str,
+    pub text: &'static str,
     /// how far that reaches with its blanks, where an arrow stood.
-    pub(crate) width: Option<usize>,
+    pub width: Option<usize>,
     /// The call, without the comment. It is empty where the line has none.
-    pub(crate) call: &'static str,
+    pub call: &'static str,
 }
 
 /// What begins a block of lines.
@@ -56,13 +56,13 @@ impl Line {
     }
 
     /// The first word of the call.
-    pub(crate) fn name(&self) -> &'static str {
+    pub fn name(&self) -> &'static str {
         Words::new(self.call).next().unwrap_or("")
     }
 }
 
 /// The lines of a script.
-pub(crate) fn lines_of(alloc: Global, script: &'static str) -> Result<Vec<Line>, AllocError> {
+pub fn lines_of(alloc: Global, script: &'static str) -> Result<Vec<Line>, AllocError> {
     let mut lines = Vec::new(alloc);
     for text in script.lines() {
         if let Some(line) = Line::new(text) {
@@ -72,8 +72,14 @@ pub(crate) fn lines_of(alloc: Global, script: &'static str) -> Result<Vec<Line>,
     Ok(lines)
 }
 
-/// How many lines the first block has. What stands before a line that begins one is a block too. `list` alone is a call.
-pub(crate) fn block_len(lines: &[Line]) -> usize {
+/// The block that begins at a line. What stands before a line that begins one is a block too.
+pub fn block_at(lines: &[Line], start: usize) -> &[Line] {
+    let rest = lines.get(start..).unwrap_or(&[]);
+    rest.get(..block_len(rest)).unwrap_or(rest)
+}
+
+/// How many lines the first block has. `list` alone is a call.
+fn block_len(lines: &[Line]) -> usize {
     for (at, line) in lines.iter().enumerate() {
         if at > 0 && SUBJECTS.contains(&line.name()) && line.call != "list" {
             return at;

@@ -1,21 +1,20 @@
 //! Blocks of requests with times one by one, under an idle limit: `idle_distances LIMIT` of keys, and `idle_spans LIMIT` of keys with
 //! sizes. A request is `KEY@TIME` or `KEY:WEIGHT@TIME`.
 
-use crate::answers::Answers;
-use crate::fault::Fault;
-use crate::lines::Line;
 use crate::misses::weight_of;
-use crate::out::Out;
-use crate::pairs::{Hashing, Key};
 use crate::passes::{
     Heap, key_of, say_back, say_misses, say_refused, say_refused_again, say_sized, say_span,
 };
-use crate::requested::read_keys;
-use crate::requests::MOST;
-use crate::subject::{Subject, begin};
-use crate::words::{Words, Wrong};
-use crate::world::World;
 use clru_curve::{IdlePass, SizedIdlePass};
+use clru_rows::answers::Answers;
+use clru_rows::fault::Fault;
+use clru_rows::lines::Line;
+use clru_rows::out::Out;
+use clru_rows::pairs::{Hashing, Key};
+use clru_rows::requested::{MOST, read_keys};
+use clru_rows::subject::{Subject, begin};
+use clru_rows::words::{Words, Wrong};
+use clru_rows::world::World;
 use std::alloc::Allocator;
 use std::hash::BuildHasher;
 

@@ -1,17 +1,16 @@
 //! Blocks of requests one by one: `distances` of keys, and `spans` of keys with sizes.
 
-use crate::answers::Answers;
-use crate::fault::Fault;
-use crate::lines::Line;
 use crate::misses::weight_of;
-use crate::out::Out;
-use crate::pairs::{Hashing, Key};
-use crate::requested::read_keys;
-use crate::requests::MOST;
-use crate::subject::{Subject, begin};
-use crate::words::{Words, Wrong};
-use crate::world::World;
 use clru_curve::{DistancePass, MissCurve, SizedCurve, SizedPass, SizedRequestError};
+use clru_rows::answers::Answers;
+use clru_rows::fault::Fault;
+use clru_rows::lines::Line;
+use clru_rows::out::Out;
+use clru_rows::pairs::{Hashing, Key};
+use clru_rows::requested::{MOST, read_keys};
+use clru_rows::subject::{Subject, begin};
+use clru_rows::words::{Words, Wrong};
+use clru_rows::world::World;
 use ration::Rationed;
 use std::alloc::{Allocator, Global};
 use std::hash::BuildHasher;
