@@ -1,6 +1,7 @@
 //! Answers a script of calls: writes it again, each call with what it answered.
 #![tactic(auto)]
 
+mod aged;
 mod answers;
 mod cache;
 mod calls;

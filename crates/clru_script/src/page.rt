@@ -6,7 +6,7 @@ use crate::lines::{Line, block_len, lines_of};
 use crate::out::Out;
 use crate::words::{Words, Wrong};
 use crate::world::World;
-use crate::{cache, costs, foresight, list, makers, passes, report, requests, runs, store, timed};
+use crate::{aged, cache, costs, foresight, list, makers, passes, report, requests, runs, store, timed};
 use std::alloc::{AllocError, Global};
 
 /// The script with its answers, and how many of these are faults.
@@ -142,6 +142,8 @@ fn run(world: &'static World, block: &[Line], answers: &mut Answers) {
         "spans" => passes::run_spans(world, lines, answers),
         "idle_distances" => timed::run_distances(world, first, lines, answers),
         "idle_spans" => timed::run_spans(world, first, lines, answers),
+        "aged_misses" => aged::run_misses(world, first, lines, answers),
+        "aged_sizes" => aged::run_sizes(world, first, lines, answers),
         "foresight" => foresight::run(world, first, lines, answers),
         "runs" => runs::run(world, lines, answers),
         "input" => report::run(world, first, lines, answers),
