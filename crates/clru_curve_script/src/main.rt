@@ -1,6 +1,7 @@
 //! Makes the calls of a script on curves, floors and reports, and writes it again, each call with what it answered.
 #![tactic(auto)]
 
+mod aged;
 mod floors;
 mod foresight;
 mod misses;
@@ -31,6 +32,8 @@ impl Blocks for Kinds {
             "spans" => passes::run_spans(world, lines, answers),
             "idle_distances" => timed::run_distances(world, first, lines, answers),
             "idle_spans" => timed::run_spans(world, first, lines, answers),
+            "aged_misses" => aged::run_misses(world, first, lines, answers),
+            "aged_sizes" => aged::run_sizes(world, first, lines, answers),
             "foresight" => foresight::run(world, first, lines, answers),
             "input" => report::run(world, first, lines, answers),
             _ => answers.wrong = Some(Wrong::NothingMade),

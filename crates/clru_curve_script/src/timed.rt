@@ -178,7 +178,7 @@ fn call_spans<S: BuildHasher, A: Allocator + Copy>(
 }
 
 /// A request and its time.
-fn timed(request: &'static str, words: &mut Words) -> (&'static str, usize) {
+pub(crate) fn timed(request: &'static str, words: &mut Words) -> (&'static str, usize) {
     match request.split_once("@") {
         Some((text, time)) => (text, words.number_of(time)),
         None => (request, 0),

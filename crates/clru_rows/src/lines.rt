@@ -15,7 +15,7 @@ pub struct Line {
 }
 
 /// What begins a block of lines.
-const SUBJECTS: [&str; 18] = [
+const SUBJECTS: [&str; 20] = [
     "cache",
     "costs",
     "list",
@@ -28,6 +28,8 @@ const SUBJECTS: [&str; 18] = [
     "sizes",
     "spans",
     "idle_spans",
+    "aged_misses",
+    "aged_sizes",
     "floor",
     "least",
     "foresight",
