@@ -1,4 +1,3 @@
-use Rattle.std.proofs.Common.{ap}
 use Rattle.clru_curve.proofs.KeyTables.{IsKeyed-none}
 use Rattle.clru_curve.proofs.key_table.KeyTable.empty.Goals as goal
 

@@ -1,4 +1,4 @@
-use Rattle.std.proofs.Common.{◌≡◌, None, ap, ◌∙◌, sym, subst}
+use Rattle.std.proofs.Common.{◌≡◌, None, sym, subst}
 use Rattle.std.specs.Map.{lookup}
 use Rattle.clru_curve.proofs.KeyTables.{IsKeyed-insert}
 use Rattle.clru_curve.proofs.key_table.KeyTable.insert.Goals as goal

@@ -1,4 +1,4 @@
-use Rattle.std.proofs.Common.{◌≡◌, ◌+◌, ◌<◌, [], ◌∷◌, ◌++◌, None, length, refl, sym, ap, ◌∙◌, subst, arith}
+use Rattle.std.proofs.Common.{◌≡◌, ◌+◌, [], ◌∷◌, ◌++◌, None, refl, sym, ap, ◌∙◌, subst, arith}
 use Rattle.std.specs.Map.{lookup}
 use Rattle.clru_curve.proofs.LatestSizes.{total_zero, grown_totals, grown_lives, grown_less}
 use Rattle.clru_curve.proofs.SizedIdlePassing.{IsSizedIdlePass-new, IsSoundIdleBySize-new}
