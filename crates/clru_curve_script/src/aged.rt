@@ -70,11 +70,16 @@ pub(crate) fn run_sizes(
         idle,
         capacities,
     } = limits_of(world, first);
-    let made =
-        match SizedAgedPass::with_hasher(&world.heap, &capacities, idle, age, world.hashing()) {
-            Ok(pass) => Some(BySizes { world, pass }),
-            Err(_) => None,
-        };
+    let made = match SizedAgedPass::with_hasher(
+        &world.heap,
+        &capacities,
+        idle,
+        age,
+        world.hashing(),
+    ) {
+        Ok(pass) => Some(BySizes { world, pass }),
+        Err(_) => None,
+    };
     begin(world, made, lines, answers);
 }
 

@@ -1,5 +1,5 @@
 -- The rows of faithful tables.
-use Rattle.std.proofs.Common.{◌≡◌, ℕ, ◌-◌, ◌<◌, ◌≤◌, List, [], ◌∷◌, ◌++◌, refl, sym, ap, subst, ◌∙◌, append_assoc, arith}
+use Rattle.std.proofs.Common.{◌≡◌, ℕ, ◌<◌, ◌≤◌, List, [], ◌∷◌, ◌++◌, refl, sym, ap, subst, ◌∙◌, append_assoc, arith}
 use Rattle.std.specs.List.{AllByRecursion}
 use Rattle.clru_report.specs.Faithful.{AreAdded, AreNearLines, AreNearLinesFrom, AreWithAdded, IsFaithful, IsFurthest, IsNearLine, more, next, none, off, off_at, point, point_at}
 use Rattle.clru_report.specs.Knees.{is_foot, knees, knees_from}

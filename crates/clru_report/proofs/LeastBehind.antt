@@ -1,16 +1,16 @@
 -- The least capacity with a hit ratio of what the first lines leave: where that falls, the curve does.
-use Rattle.std.proofs.Common.{◌≡◌, ℕ, zero, suc, ◌+◌, ◌-◌, ◌<◌, ◌≤◌, ◌*◌, ◌^◌, Bool, true, false, cond, nat_le, nat_lt, leb-true, ltb-false, List, [], ◌∷◌, ◌++◌, length, get_or, take, drop, drop-cons, add-one, map, inl, inr, refl, sym, ap, subst, ◌∙◌, arith}
+use Rattle.std.proofs.Common.{◌≡◌, ℕ, zero, suc, ◌+◌, ◌-◌, ◌<◌, ◌≤◌, ◌*◌, ◌^◌, Bool, true, false, cond, nat_le, nat_lt, leb-true, ltb-false, List, [], ◌∷◌, ◌++◌, length, get_or, take, drop, drop-cons, add-one, map, inl, inr, refl, sym, ap, ◌∙◌, arith}
 use Rattle.std.specs.Prelude.{◌==◌, ◌||◌}
 use Rattle.std.specs.List.{filter, range_with_len}
-use Rattle.std.proofs.lemmas.Bool.{le-leb, ne_eqb, or_cases, or_left, or_parts, or_right, eq-eqb}
+use Rattle.std.proofs.lemmas.Bool.{le-leb, or_cases, or_left, or_parts, or_right, eq-eqb}
 use Rattle.std.proofs.lemmas.List.{take-append-drop}
 use Rattle.std.proofs.lemmas.List.Elements.{filter-append}
 use Rattle.std.proofs.lemmas.List.Sums.{count_by-le-length}
-use Rattle.clru_curve.specs.SizedCurves.{CurveBySize, hits_within, misses_within, missed_size_within, size_after}
+use Rattle.clru_curve.specs.SizedCurves.{CurveBySize, hits_within, misses_within, size_after}
 use Rattle.clru_model.proofs.Cases.{split}
 use Rattle.clru_report.specs.Capacities.{falls_from}
 use Rattle.clru_report.specs.Ratios.{has_ratio, is_enough, least_with}
-use Rattle.clru_report.specs.SizedAfterPasses.{StaysBetween, missed_left, misses_left, missing_left}
+use Rattle.clru_report.specs.SizedAfterPasses.{StaysBetween, missing_left}
 use Rattle.clru_report.proofs.Falls.{first, hits_grow}
 use Rattle.clru_report.proofs.RatioLemmas.{differ}
 use Rattle.clru_report.proofs.SizedAfterLemmas.{head_falls}

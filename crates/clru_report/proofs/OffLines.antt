@@ -1,8 +1,8 @@
 -- How far points lie off a straight line, and which of the capacities that were looked at lies furthest off.
-use Rattle.std.proofs.Common.{◌≡◌, ℕ, suc, ◌+◌, ◌-◌, ◌*◌, ◌/◌, ◌<◌, ◌≤◌, inl, inr, refl, sym, ap, subst, ◌∙◌, arith}
+use Rattle.std.proofs.Common.{◌≡◌, ℕ, ◌+◌, ◌-◌, ◌*◌, ◌/◌, ◌<◌, ◌≤◌, inl, inr, refl, sym, ap, subst, ◌∙◌, arith}
 use Rattle.std.proofs.Math.Nat.{mul-le-mul_right, sub_self}
 use Rattle.std.proofs.lemmas.Bool.{cases_lt}
-use Rattle.clru_report.specs.Faithful.{IsFurthest, IsNearLine, apart, off_at, point_at}
+use Rattle.clru_report.specs.Faithful.{IsFurthest, IsNearLine, apart, off_at}
 use Rattle.clru_report.specs.Scans.{IsGreatestOf}
 
 apart_self : (x y : ℕ) → y ≡ 0 → apart x (x + y) ≡ 0

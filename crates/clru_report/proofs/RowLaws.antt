@@ -1,5 +1,5 @@
 -- Each row has its floor below what it misses, and the least possible misses between both.
-use Rattle.std.proofs.Common.{ℕ, ◌<◌, ◌≤◌, Bool, true, List, Option, None, Some, sym, subst, arith}
+use Rattle.std.proofs.Common.{◌≤◌, Option, None, Some, sym, subst, arith}
 use Rattle.std.specs.Prelude.{IsSomeAnd, bytes_eq}
 use Rattle.clru_model.proofs.Floor.{floor_is_below_least}
 use Rattle.clru_model.proofs.Least.{least_below_replay}

@@ -339,11 +339,7 @@ where
 }
 
 /// Adds a key that is not held.
-fn add_seen<K, S, A>(
-    seen: &mut KeyTable<K, Fetched, S, A>,
-    key: K,
-    here: Fetched,
-) -> Result<(), K>
+fn add_seen<K, S, A>(seen: &mut KeyTable<K, Fetched, S, A>, key: K, here: Fetched) -> Result<(), K>
 where
     K: Eq + Hash + Drop,
     S: BuildHasher,

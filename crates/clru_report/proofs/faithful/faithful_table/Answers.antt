@@ -1,4 +1,4 @@
-use Rattle.std.proofs.Common.{◌++◌, [], map, sym, subst, arith}
+use Rattle.std.proofs.Common.{[], map, sym, subst, arith}
 use Rattle.std.specs.Int.NonZero.{non_zero_usize_get}
 use Rattle.std.proofs.lemmas.List.{append-nil, drop_all}
 use Rattle.clru_report.specs.Faithful.{AreAdded, AreWithAdded, none}

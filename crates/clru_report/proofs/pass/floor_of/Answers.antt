@@ -1,4 +1,4 @@
-use Rattle.std.proofs.Common.{None, Some, reverse, sym, subst, ◌∙◌}
+use Rattle.std.proofs.Common.{Some, reverse, sym, subst, ◌∙◌}
 use Rattle.std.specs.Prelude.{bytes_eq}
 use Rattle.clru_report.specs.Passes.{HasFloorPass, line_of}
 use Rattle.clru_report.proofs.FloorViews.{floor-view}

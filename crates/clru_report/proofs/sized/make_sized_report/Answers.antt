@@ -1,4 +1,4 @@
-use Rattle.std.proofs.Common.{◌≡◌, ap, string_bytes, sym, subst}
+use Rattle.std.proofs.Common.{ap, string_bytes, sym, subst}
 use Rattle.std.specs.Int.NonZero.{non_zero_usize_get}
 use Rattle.std.specs.Option.{is_some, option_map}
 use Rattle.clru_lines.specs.Lines.{lines_of}

@@ -1,4 +1,4 @@
-use Rattle.std.proofs.Common.{◌≡◌, ℕ, List, ◌-◌, ◌/◌, ◌^◌, false, map, ap, ◌∙◌, string_bytes, sym, subst}
+use Rattle.std.proofs.Common.{◌≡◌, ◌-◌, ◌/◌, ◌^◌, false, map, ap, ◌∙◌, string_bytes, sym, subst}
 use Rattle.std.specs.Int.NonZero.{non_zero_usize_get}
 use Rattle.clru_report.specs.Capacities.{capacities_of, usual}
 use Rattle.clru_report.specs.Faithful.{IsFaithful}

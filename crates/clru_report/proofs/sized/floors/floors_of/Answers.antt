@@ -1,4 +1,4 @@
-use Rattle.std.proofs.Common.{None, Some, reverse, sym, subst, ◌∙◌}
+use Rattle.std.proofs.Common.{Some, reverse, sym, subst, ◌∙◌}
 use Rattle.std.specs.Prelude.{bytes_eq}
 use Rattle.clru_report.specs.Passes.{HasFloorPass, line_of, weight_of_key}
 use Rattle.clru_report.specs.Sizes.{weight_of_line}

@@ -1,4 +1,4 @@
-use Rattle.std.proofs.Common.{◌≡◌, ℕ, List, ◌≤◌, ◌+◌, true, [], ◌∷◌, ◌++◌, get_or, length, map, take, take_all, sym, ap, subst, ◌∙◌, arith}
+use Rattle.std.proofs.Common.{◌≡◌, ◌≤◌, ◌+◌, true, [], ◌∷◌, ◌++◌, get_or, length, map, take, take_all, sym, ap, subst, ◌∙◌, arith}
 use Rattle.std.proofs.lemmas.List.{get_or-map, length-map, take-map}
 use Rattle.std.specs.Int.NonZero.{non_zero_usize_get}
 use Rattle.std.specs.List.{filter}

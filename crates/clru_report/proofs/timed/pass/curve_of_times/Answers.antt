@@ -1,8 +1,8 @@
 use Rattle.std.specs.Option.{is_none, is_some}
-use Rattle.std.proofs.Common.{◌≡◌, ◌+◌, true, not, ◌++◌, ◌∷◌, [], ℕ, List, Some, IfSome, append_assoc, append-nil, IsSome, refl, sym, length, ap, ◌∙◌, subst, arith}
+use Rattle.std.proofs.Common.{◌≡◌, ◌+◌, not, ◌++◌, ◌∷◌, [], ℕ, List, IfSome, append_assoc, append-nil, IsSome, refl, sym, length, ap, ◌∙◌, subst, arith}
 use Rattle.std.specs.Int.NonZero.{non_zero_usize_get}
 use Rattle.std.specs.Map.{keys_of}
-use Rattle.std.specs.Prelude.{bytes_eq, reverse, IsNone}
+use Rattle.std.specs.Prelude.{bytes_eq, reverse}
 use Rattle.std.proofs.lemmas.List.{length-append}
 use Rattle.std.proofs.lemmas.List.Elements.{All-nil}
 use Rattle.clru_curve.specs.IdlePasses.{HasIdleMissesOf}
