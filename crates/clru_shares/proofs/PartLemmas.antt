@@ -1,0 +1,31 @@
+-- The rows of the first shares, and of one more.
+use Rattle.std.proofs.Common.{◌≡◌, ℕ, zero, suc, ◌+◌, ◌<◌, ◌≤◌, List, [], ◌∷◌, ◌++◌, length, min, take, get_or, append_assoc, append-nil, refl, sym, ap, ◌∙◌, arith}
+use Rattle.std.specs.List.{sum_by}
+use Rattle.std.proofs.lemmas.List.Sums.{sum_by-append, sum_by-cons}
+use Rattle.clru_shares.specs.Passes.{part_of_share, parts_of_shares}
+use Rattle.clru_shares.specs.Shares.{Part, part_text, parts_text}
+use Rattle.clru_shares.specs.declared.share.Share.{Share}
+
+-- as many as the shorter list has are all
+pub parts_all : {A : Type 0} (shares : List (Share A)) (cs : List ℕ) (n : ℕ) → min (length shares) (length cs) ≤ n
+    → parts_of_shares (take n shares) (take n cs) ≡ parts_of_shares shares cs
+parts_all [] cs zero many = refl
+parts_all [] cs (suc n) many = refl
+parts_all (s ∷ shares) [] zero many = refl
+parts_all (s ∷ shares) [] (suc n) many = refl
+parts_all (s ∷ shares) (c ∷ cs) zero many = absurd (omega (arith, many))
+parts_all (s ∷ shares) (c ∷ cs) (suc n) many = ap (λ ps. part_of_share s c ∷ ps) (parts_all shares cs n (omega (arith, many)))
+
+pub texts_append : (ps qs : List Part) → parts_text (ps ++ qs) ≡ parts_text ps ++ parts_text qs
+texts_append [] qs = refl
+texts_append (p ∷ ps) qs = ap (λ t. part_text p ++ t) (texts_append ps qs) ∙ sym (append_assoc (part_text p) (parts_text ps) (parts_text qs))
+
+-- one more row
+pub parts_more : {A : Type 0} (shares : List (Share A)) (cs : List ℕ) (i : ℕ) (share : Share A) → i < length shares → i < length cs
+    → share ≡ get_or shares i share
+    → parts_of_shares (take (suc i) shares) (take (suc i) cs) ≡ parts_of_shares (take i shares) (take i cs) ++ part_of_share share (get_or cs i 0) ∷ []
+parts_more [] cs i share few short is = absurd (omega (arith, few))
+parts_more (s ∷ shares) [] i share few short is = absurd (omega (arith, short))
+parts_more (s ∷ shares) (c ∷ cs) zero share few short is = ap (λ x. part_of_share x c ∷ []) (sym is)
+parts_more (s ∷ shares) (c ∷ cs) (suc i) share few short is =
+    ap (λ ps. part_of_share s c ∷ ps) (parts_more shares cs i share (omega (arith, few)) (omega (arith, short)) is)

@@ -1,0 +1,94 @@
+-- Curves with the same numbers have the same best splits; the rows of shares are those of their classes.
+use Rattle.std.proofs.Common.{◌≡◌, ℕ, zero, suc, ◌+◌, ◌≤◌, ◌<◌, List, [], ◌∷◌, ◌++◌, length, map, Option, Some, refl, sym, ap, ◌∙◌, subst, arith}
+use Rattle.std.specs.Prelude.{bytes_eq, sum, unwrap_or, IsSome}
+use Rattle.std.specs.List.{All, AllZip, sum_by}
+use Rattle.std.proofs.lemmas.List.Sums.{sum_by-cons}
+use Rattle.clru_curve.specs.Curves.{misses_at}
+use Rattle.clru_split.specs.Splits.{missed_at, AreParts, total_missed, IsPart, IsSplit, IsBestSplit}
+use Rattle.clru_shares.specs.Classes.{requests_of}
+use Rattle.clru_shares.specs.Passes.{HaveShares, IsShareOf, missed_of, parts_of_shares}
+use Rattle.clru_shares.specs.Shares.{Part, missed_by, missed_with, part_of, parts_of}
+use Rattle.clru_shares.specs.declared.share.Share.{Share}
+
+-- what each of one list has is what its partner in the other has
+data Same {C D : Type 0} (p : C → ℕ → Option ℕ) (q : D → ℕ → Option ℕ) : List C → List D → Type 0 where
+  none : Same p q [] []
+  more : (c : C) (d : D) (cs : List C) (ds : List D) → ((k : ℕ) → p c k ≡ q d k) → Same p q cs ds → Same p q (c ∷ cs) (d ∷ ds)
+
+turned : {C D : Type 0} (p : C → ℕ → Option ℕ) (q : D → ℕ → Option ℕ) (cs : List C) (ds : List D) → Same p q cs ds → Same q p ds cs
+turned p q [] [] none = none
+turned p q (c ∷ cs) (d ∷ ds) (more c d cs ds e s) = more d c ds cs (λ k. sym (e k)) (turned p q cs ds s)
+
+module _ {C D : Type 0} (all : C → ℕ) (missed : C → ℕ → Option ℕ) (other : D → ℕ) (gone : D → ℕ → Option ℕ) (step : ℕ) where
+  parts_same : (cs : List C) (ds : List D) (ks : List ℕ) → Same (missed_at all missed) (missed_at other gone) cs ds
+      → AreParts all missed step cs ks → AreParts other gone step ds ks
+  parts_same [] [] [] none parts = tt
+  parts_same [] [] (k ∷ ks) none parts = parts
+  parts_same (c ∷ cs) (d ∷ ds) [] (more c d cs ds e s) parts = parts
+  parts_same (c ∷ cs) (d ∷ ds) (k ∷ ks) (more c d cs ds e s) parts = (
+    record { units = parts.0.units; multiple = parts.0.multiple; has_number = subst (λ o. IsSome o) (e k) parts.0.has_number },
+    parts_same cs ds ks s parts.1,
+  )
+
+  total_same : (cs : List C) (ds : List D) (ks : List ℕ) → Same (missed_at all missed) (missed_at other gone) cs ds
+      → total_missed all missed cs ks ≡ total_missed other gone ds ks
+  total_same [] [] ks none = refl
+  total_same (c ∷ cs) (d ∷ ds) [] (more c d cs ds e s) = refl
+  total_same (c ∷ cs) (d ∷ ds) (k ∷ ks) (more c d cs ds e s) =
+      ap (λ o. unwrap_or o 0 + total_missed all missed cs ks) (e k) ∙ ap (λ n. unwrap_or (missed_at other gone d k) 0 + n) (total_same cs ds ks s)
+
+module _ {C D : Type 0} (all : C → ℕ) (missed : C → ℕ → Option ℕ) (other : D → ℕ) (gone : D → ℕ → Option ℕ) (step budget : ℕ) where
+  pub best_same : (cs : List C) (ds : List D) (ks : List ℕ) → Same (missed_at all missed) (missed_at other gone) cs ds
+      → IsBestSplit all missed step budget cs ks → IsBestSplit other gone step budget ds ks
+  best_same cs ds ks same best =
+      let back = turned (missed_at all missed) (missed_at other gone) cs ds same in record {
+        split = record { parts = parts_same all missed other gone step cs ds ks same best.split.parts; within = best.split.within };
+        least = λ js is.
+            let low = best.least js (record { parts = parts_same other gone all missed step ds cs js back is.parts; within = is.within }) in
+            omega (arith, low, total_same all missed other gone step cs ds ks same, total_same other gone all missed step ds cs js back);
+      }
+
+module _ {A : Type 0} (lines : List (List ℕ)) where
+  -- what a share misses at a capacity is what its class does
+  number_same : (name : List ℕ) (share : Share A) → IsShareOf lines name share → (k : ℕ)
+      → missed_at (λ s. s.requests) (λ s k. Some (misses_at s.curve k)) share k ≡ missed_at length missed_by (requests_of name lines) k
+  number_same name share is zero = ap Some is.counted
+  number_same name share is (suc k) = ap Some (is.misses (suc k) (omega arith))
+
+  pub shares_same : (names : List (List ℕ)) (shares : List (Share A)) → HaveShares lines names shares
+      → Same (missed_at (λ (s : Share A). s.requests) (λ s k. Some (misses_at s.curve k))) (missed_at length missed_by) shares
+      (map (λ name. requests_of name lines) names)
+  shares_same [] [] have = none
+  shares_same [] (share ∷ shares) have = elim have [ ]
+  shares_same (name ∷ names) [] have = elim have [ ]
+  shares_same (name ∷ names) (share ∷ shares) have =
+      more share (requests_of name lines) shares (map (λ n. requests_of n lines) names) (number_same name share have.0) (shares_same names shares have.1)
+
+  missed_same : (name : List ℕ) (share : Share A) → IsShareOf lines name share → (c : ℕ)
+      → missed_of share c ≡ missed_with (requests_of name lines) c
+  missed_same name share is zero = is.counted
+  missed_same name share is (suc c) = is.misses (suc c) (omega arith)
+
+  pub rows_same : (names : List (List ℕ)) (shares : List (Share A)) (cs : List ℕ) → HaveShares lines names shares
+      → parts_of_shares shares cs ≡ parts_of lines names cs
+  rows_same [] [] cs have = refl
+  rows_same [] (share ∷ shares) cs have = elim have [ ]
+  rows_same (name ∷ names) [] cs have = elim have [ ]
+  rows_same (name ∷ names) (share ∷ shares) [] have = refl
+  rows_same (name ∷ names) (share ∷ shares) (c ∷ cs) have =
+      let is = have.0 in
+      rw (is.is, is.counted, missed_same name share is c) (ap (λ ps. part_of lines name c ∷ ps) (rows_same names shares cs have.1))
+
+  pub shares_long : (names : List (List ℕ)) (shares : List (Share A)) → HaveShares lines names shares → length shares ≡ length names
+  shares_long [] [] have = refl
+  shares_long [] (share ∷ shares) have = elim have [ ]
+  shares_long (name ∷ names) [] have = elim have [ ]
+  shares_long (name ∷ names) (share ∷ shares) have = ap suc (shares_long names shares have.1)
+
+  -- one more share
+  pub shares_more : (names : List (List ℕ)) (shares : List (Share A)) (name : List ℕ) (share : Share A) → HaveShares lines names shares
+      → IsShareOf lines name share → HaveShares lines (names ++ name ∷ []) (shares ++ share ∷ [])
+  shares_more [] [] name share have is = (is, tt)
+  shares_more [] (s ∷ shares) name share have is = elim have [ ]
+  shares_more (n ∷ names) [] name share have is = elim have [ ]
+  shares_more (n ∷ names) (s ∷ shares) name share have is = (have.0, shares_more names shares name share have.1 is)
