@@ -27,7 +27,6 @@ differs a b before = sym (is_eq-slice_cmp a b) ∙ ap is_eq (less_of (slice_cmp 
 pub differs_back : (a b : List ℕ) → IsBefore a b → bytes_eq b a ≡ false
 differs_back a b before = bytes_laws.symm b a ∙ differs a b before
 
-
 pub before_trans : (a b c : List ℕ) → IsBefore a b → IsBefore b c → IsBefore a c
 before_trans a b c p q =
     ap is_lt (nat_list_cmp_total.trans a b c (less_of (slice_cmp nat_cmp a b) p) (less_of (slice_cmp nat_cmp b c) q))
@@ -64,7 +63,7 @@ pub not_any : (names : List (List ℕ)) (name : List ℕ) → ((k : ℕ) → k <
     → list_any (bytes_eq name) names ≡ false
 not_any [] name each = refl
 not_any (n ∷ names) name each =
-    rw (bytes_laws.symm name n ∙ each 0 (omega arith)) (not_any names name (λ k low. each (1 + k) (omega (arith, low))))
+    rw (bytes_laws.symm name n ∙ each 0 (omega arith)) (not_any names name (λ k low. each (suc k) (omega (arith, low))))
 
 -- and has one that is at a place
 pub is_any : (names : List (List ℕ)) (name : List ℕ) (k : ℕ) → k < length names → get_or names k [] ≡ name
@@ -111,9 +110,9 @@ above names name at asc is long i (suc j) lt low more =
     (elim (cases_lt i at) [
       | inl below ↦ rw (get_or-insert_below names at name [] i below is.within) (asc i j (omega (arith, below, more)) (omega (arith, low, long)))
       | inr from ↦ elim (cases_eq i at) [
-          | inl here ↦ rw here (rw (get_or-insert_at names at name [] is.within) (is.before j (omega (arith, more)) (omega (arith, low, long))))
-          | inr other ↦ both_above names name at asc is i j (omega (arith, from, other)) lt (omega (arith, low, long))
-        ]
+        | inl here ↦ rw here (rw (get_or-insert_at names at name [] is.within) (is.before j (omega (arith, more)) (omega (arith, low, long))))
+        | inr other ↦ both_above names name at asc is i j (omega (arith, from, other)) lt (omega (arith, low, long))
+      ]
     ])
 
 -- with one more name where it belongs they still ascend
@@ -125,10 +124,10 @@ inserted_ascends names name at asc is i j lt low =
       | inl below ↦ rw (get_or-insert_below names at name [] i (omega (arith, lt, below)) is.within, get_or-insert_below names at name [] j below is.within)
           (asc i j lt (omega (arith, below, is.within)))
       | inr from ↦ elim (cases_eq j at) [
-          | inl here ↦ rw here (rw (get_or-insert_at names at name [] is.within, get_or-insert_below names at name [] i (omega (arith, lt, here)) is.within)
-              (is.behind i (omega (arith, lt, here))))
-          | inr other ↦ above names name at asc is long i j lt low (omega (arith, from, other))
-        ]
+        | inl here ↦ rw here (rw (get_or-insert_at names at name [] is.within, get_or-insert_below names at name [] i (omega (arith, lt, here)) is.within)
+            (is.behind i (omega (arith, lt, here))))
+        | inr other ↦ above names name at asc is long i j lt low (omega (arith, from, other))
+      ]
     ]
 
 -- where a name is found, or belongs

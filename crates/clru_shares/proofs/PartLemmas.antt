@@ -29,3 +29,24 @@ parts_more (s ∷ shares) [] i share few short is = absurd (omega (arith, short)
 parts_more (s ∷ shares) (c ∷ cs) zero share few short is = ap (λ x. part_of_share x c ∷ []) (sym is)
 parts_more (s ∷ shares) (c ∷ cs) (suc i) share few short is =
     ap (λ ps. part_of_share s c ∷ ps) (parts_more shares cs i share (omega (arith, few)) (omega (arith, short)) is)
+
+-- the same where i + 1 is written
+module _ {A : Type 0} (shares : List (Share A)) (cs : List ℕ) (i : ℕ) (share : Share A) (few : i < length shares) (short : i < length cs)
+    (is : share ≡ get_or shares i share) where
+  next_parts : parts_of_shares (take (i + 1) shares) (take (i + 1) cs) ≡ parts_of_shares (take i shares) (take i cs) ++ part_of_share share (get_or cs i 0) ∷ []
+  next_parts = let e : i + 1 ≡ suc i = omega arith in
+      ap (λ n. parts_of_shares (take n shares) (take n cs)) e ∙ parts_more shares cs i share few short is
+
+  pub text_next : (text before : List ℕ) → before ≡ text ++ parts_text (parts_of_shares (take i shares) (take i cs))
+      → before ++ part_text (part_of_share share (get_or cs i 0)) ≡ text ++ parts_text (parts_of_shares (take (i + 1) shares) (take (i + 1) cs))
+  text_next text before held =
+      ap (λ t. t ++ part_text (part_of_share share (get_or cs i 0))) held
+      ∙ append_assoc text (parts_text (parts_of_shares (take i shares) (take i cs))) (part_text (part_of_share share (get_or cs i 0)))
+      ∙ ap (λ t. text ++ t) (ap (λ t. parts_text (parts_of_shares (take i shares) (take i cs)) ++ t) (sym (append-nil (part_text (part_of_share share (get_or cs i 0)))))
+      ∙ sym (texts_append (parts_of_shares (take i shares) (take i cs)) (part_of_share share (get_or cs i 0) ∷ [])) ∙ ap parts_text (sym next_parts))
+
+  pub sum_next : (f : Part → ℕ) → sum_by f (parts_of_shares (take (i + 1) shares) (take (i + 1) cs))
+      ≡ sum_by f (parts_of_shares (take i shares) (take i cs)) + f (part_of_share share (get_or cs i 0))
+  sum_next f =
+      let parts = parts_of_shares (take i shares) (take i cs) in let more = part_of_share share (get_or cs i 0) in
+      omega (arith, ap (sum_by f) next_parts, sum_by-append f parts (more ∷ []), sum_by-cons f more [])

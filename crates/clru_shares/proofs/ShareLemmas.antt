@@ -7,35 +7,40 @@ use Rattle.clru_curve.specs.Curves.{misses_at}
 use Rattle.clru_split.specs.Splits.{missed_at, AreParts, total_missed, IsPart, IsSplit, IsBestSplit}
 use Rattle.clru_shares.specs.Classes.{requests_of}
 use Rattle.clru_shares.specs.Passes.{HaveShares, IsShareOf, missed_of, parts_of_shares}
-use Rattle.clru_shares.specs.Shares.{Part, missed_by, missed_with, part_of, parts_of}
+use Rattle.clru_shares.specs.Shares.{Part, part, missed_by, missed_with, part_of, parts_of}
 use Rattle.clru_shares.specs.declared.share.Share.{Share}
 
 -- what each of one list has is what its partner in the other has
-data Same {C D : Type 0} (p : C → ℕ → Option ℕ) (q : D → ℕ → Option ℕ) : List C → List D → Type 0 where
-  none : Same p q [] []
-  more : (c : C) (d : D) (cs : List C) (ds : List D) → ((k : ℕ) → p c k ≡ q d k) → Same p q cs ds → Same p q (c ∷ cs) (d ∷ ds)
+abbrev pub Same : {C D : Type 0} → (C → ℕ → Option ℕ) → (D → ℕ → Option ℕ) → List C → List D → Type 0
+Same p q cs ds = AllZip (λ c d. (k : ℕ) → p c k ≡ q d k) cs ds
 
 turned : {C D : Type 0} (p : C → ℕ → Option ℕ) (q : D → ℕ → Option ℕ) (cs : List C) (ds : List D) → Same p q cs ds → Same q p ds cs
-turned p q [] [] none = none
-turned p q (c ∷ cs) (d ∷ ds) (more c d cs ds e s) = more d c ds cs (λ k. sym (e k)) (turned p q cs ds s)
+turned p q [] [] s = tt
+turned p q [] (d ∷ ds) s = s
+turned p q (c ∷ cs) [] s = s
+turned p q (c ∷ cs) (d ∷ ds) s = (λ k. sym (s.0 k), turned p q cs ds s.1)
 
 module _ {C D : Type 0} (all : C → ℕ) (missed : C → ℕ → Option ℕ) (other : D → ℕ) (gone : D → ℕ → Option ℕ) (step : ℕ) where
   parts_same : (cs : List C) (ds : List D) (ks : List ℕ) → Same (missed_at all missed) (missed_at other gone) cs ds
       → AreParts all missed step cs ks → AreParts other gone step ds ks
-  parts_same [] [] [] none parts = tt
-  parts_same [] [] (k ∷ ks) none parts = parts
-  parts_same (c ∷ cs) (d ∷ ds) [] (more c d cs ds e s) parts = parts
-  parts_same (c ∷ cs) (d ∷ ds) (k ∷ ks) (more c d cs ds e s) parts = (
-    record { units = parts.0.units; multiple = parts.0.multiple; has_number = subst (λ o. IsSome o) (e k) parts.0.has_number },
-    parts_same cs ds ks s parts.1,
+  parts_same [] [] [] s parts = tt
+  parts_same [] [] (k ∷ ks) s parts = parts
+  parts_same [] (d ∷ ds) ks s parts = elim s [ ]
+  parts_same (c ∷ cs) [] ks s parts = elim s [ ]
+  parts_same (c ∷ cs) (d ∷ ds) [] s parts = parts
+  parts_same (c ∷ cs) (d ∷ ds) (k ∷ ks) s parts = (
+    record { units = parts.0.units; multiple = parts.0.multiple; has_number = subst (λ o. IsSome o) (s.0 k) parts.0.has_number },
+    parts_same cs ds ks s.1 parts.1,
   )
 
   total_same : (cs : List C) (ds : List D) (ks : List ℕ) → Same (missed_at all missed) (missed_at other gone) cs ds
       → total_missed all missed cs ks ≡ total_missed other gone ds ks
-  total_same [] [] ks none = refl
-  total_same (c ∷ cs) (d ∷ ds) [] (more c d cs ds e s) = refl
-  total_same (c ∷ cs) (d ∷ ds) (k ∷ ks) (more c d cs ds e s) =
-      ap (λ o. unwrap_or o 0 + total_missed all missed cs ks) (e k) ∙ ap (λ n. unwrap_or (missed_at other gone d k) 0 + n) (total_same cs ds ks s)
+  total_same [] [] ks s = refl
+  total_same [] (d ∷ ds) ks s = elim s [ ]
+  total_same (c ∷ cs) [] ks s = elim s [ ]
+  total_same (c ∷ cs) (d ∷ ds) [] s = refl
+  total_same (c ∷ cs) (d ∷ ds) (k ∷ ks) s =
+      ap (λ o. unwrap_or o 0 + total_missed all missed cs ks) (s.0 k) ∙ ap (λ n. unwrap_or (missed_at other gone d k) 0 + n) (total_same cs ds ks s.1)
 
 module _ {C D : Type 0} (all : C → ℕ) (missed : C → ℕ → Option ℕ) (other : D → ℕ) (gone : D → ℕ → Option ℕ) (step budget : ℕ) where
   pub best_same : (cs : List C) (ds : List D) (ks : List ℕ) → Same (missed_at all missed) (missed_at other gone) cs ds
@@ -58,11 +63,11 @@ module _ {A : Type 0} (lines : List (List ℕ)) where
   pub shares_same : (names : List (List ℕ)) (shares : List (Share A)) → HaveShares lines names shares
       → Same (missed_at (λ (s : Share A). s.requests) (λ s k. Some (misses_at s.curve k))) (missed_at length missed_by) shares
       (map (λ name. requests_of name lines) names)
-  shares_same [] [] have = none
+  shares_same [] [] have = tt
   shares_same [] (share ∷ shares) have = elim have [ ]
   shares_same (name ∷ names) [] have = elim have [ ]
   shares_same (name ∷ names) (share ∷ shares) have =
-      more share (requests_of name lines) shares (map (λ n. requests_of n lines) names) (number_same name share have.0) (shares_same names shares have.1)
+      (number_same name share have.0, shares_same names shares have.1)
 
   missed_same : (name : List ℕ) (share : Share A) → IsShareOf lines name share → (c : ℕ)
       → missed_of share c ≡ missed_with (requests_of name lines) c
@@ -77,7 +82,10 @@ module _ {A : Type 0} (lines : List (List ℕ)) where
   rows_same (name ∷ names) (share ∷ shares) [] have = refl
   rows_same (name ∷ names) (share ∷ shares) (c ∷ cs) have =
       let is = have.0 in
-      rw (is.is, is.counted, missed_same name share is c) (ap (λ ps. part_of lines name c ∷ ps) (rows_same names shares cs have.1))
+      ap (λ p. p ∷ parts_of_shares shares cs) (ap (λ n. part n c (missed_of share c) share.requests) is.is
+      ∙ ap (λ m. part name c m share.requests) (missed_same name share is c)
+      ∙ ap (λ r. part name c (missed_with (requests_of name lines) c) r) is.counted)
+      ∙ ap (λ ps. part_of lines name c ∷ ps) (rows_same names shares cs have.1)
 
   pub shares_long : (names : List (List ℕ)) (shares : List (Share A)) → HaveShares lines names shares → length shares ≡ length names
   shares_long [] [] have = refl

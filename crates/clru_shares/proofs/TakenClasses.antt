@@ -17,22 +17,22 @@ absurd_any : (names : List (List ℕ)) (name : List ℕ) (at : ℕ) → at < len
     → list_any (bytes_eq name) names ≡ false → {P : Type 0} → P
 absurd_any names name at low is none {P} = let has = is_any names name at low is in absurd (cc)
 
-map_insert : {S A : Type 0} (classes : List (Class S A)) (at : ℕ) (class : Class S A)
+map_insert : {S A H : Type 0} (classes : List (Class S A H)) (at : ℕ) (class : Class S A H)
     → map name_of (insert classes at class) ≡ insert (map name_of classes) at (name_of class)
 map_insert [] zero class = refl
 map_insert [] (suc at) class = refl
 map_insert (c ∷ cs) zero class = refl
 map_insert (c ∷ cs) (suc at) class = ap (λ ns. name_of c ∷ ns) (map_insert cs at class)
 
-module _ {S A : Type 0} (lines : List (List ℕ)) (line : List ℕ) where
+module _ {S A H : Type 0} (lines : List (List ℕ)) (line : List ℕ) where
   -- a line of another class changes nothing
-  pub taken_other : (class : Class S A) → bytes_eq (name_of class) (class_in line) ≡ false → HasTaken lines class
+  pub taken_other : (class : Class S A H) → bytes_eq (name_of class) (class_in line) ≡ false → HasTaken lines class
       → HasTaken (lines ++ line ∷ []) class
   taken_other class other is =
       let same = sym (none_more (name_of class) lines line other) in
       record { taken = subst (λ ls. HasTakenLines ls class.pass) same is.taken; counted = is.counted ∙ ap length same }
 
-  module _ (classes : List (Class S A)) (is : HaveTaken lines classes) (at : ℕ) (class : Class S A)
+  module _ (classes : List (Class S A H)) (is : HaveTaken lines classes) (at : ℕ) (class : Class S A H)
       (own : name_of class ≡ class_in line) (taken : HasTaken (lines ++ line ∷ []) class) (some : 0 < class.requests) where
     other_at : (k : ℕ) → k < length classes → bytes_eq (get_or (map name_of classes) k []) (class_in line) ≡ false
         → HasTaken (lines ++ line ∷ []) (get_or classes k class)
@@ -88,7 +88,7 @@ module _ {S A : Type 0} (lines : List (List ℕ)) (line : List ℕ) where
         }
 
 -- a class that belongs at a place has no line so far
-pub new_class : {S A : Type 0} (lines : List (List ℕ)) (classes : List (Class S A)) (name : List ℕ) (at : ℕ) → HaveTaken lines classes
+pub new_class : {S A H : Type 0} (lines : List (List ℕ)) (classes : List (Class S A H)) (name : List ℕ) (at : ℕ) → HaveTaken lines classes
     → BelongsAt (map name_of classes) name at → requests_of name lines ≡ []
 new_class lines classes name at is belongs =
     is.no_other name (not_any (map name_of classes) name (missing_each (map name_of classes) name at belongs))

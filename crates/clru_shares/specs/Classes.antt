@@ -1,6 +1,6 @@
 -- The classes of lines. Public clauses cite them.
-use Rattle.std.specs.Prelude.{◌≡◌, ℕ, ◌<◌, ◌==◌, Bool, true, false, not, ◌&&◌, ◌||◌, nat_lt, List, [], length, take, filter, bytes_eq, slice_index_or}
-use Rattle.std.specs.List.{All, list_all, list_any, position_or_len}
+use Rattle.std.specs.Prelude.{◌≡◌, ℕ, ◌<◌, ◌==◌, Bool, true, false, not, ◌&&◌, ◌||◌, nat_lt, List, [], length, take, filter, position, Option, None, Some, bytes_eq, slice_index_or}
+use Rattle.std.specs.List.{All, list_all, list_any}
 use Rattle.std.specs.Cmp.Lexicographic.{slice_cmp}
 use Rattle.std.specs.Ordering.{is_lt, nat_cmp}
 
@@ -9,14 +9,25 @@ abbrev pub is_class_byte : ℕ → Bool
 is_class_byte b = nat_lt 32 b && (nat_lt b 127
     && not (b == 34 || (b == 38 || (b == 44 || (b == 60 || (b == 62 || b == 92))))))
 
+-- 1 or more of them, and nothing else
+abbrev pub is_class : List ℕ → Bool
+is_class word = not (length word == 0) && list_all is_class_byte word
+
 -- what stands before a line's first blank
+abbrev pub class_at : List ℕ → Option ℕ → List ℕ
+class_at line None = line
+class_at line (Some at) = take at line
+
 abbrev pub class_in : List ℕ → List ℕ
-class_in line = take (position_or_len (λ b. b == 32) line) line
+class_in line = class_at line (position (λ b. b == 32) line)
 
 -- a blank follows, and it is a class
+abbrev pub has_class_at : List ℕ → Option ℕ → Bool
+has_class_at line None = false
+has_class_at line (Some at) = is_class (take at line)
+
 abbrev pub has_class : List ℕ → Bool
-has_class line = nat_lt (position_or_len (λ b. b == 32) line) (length line)
-    && (nat_lt 0 (length (class_in line)) && list_all is_class_byte (class_in line))
+has_class line = has_class_at line (position (λ b. b == 32) line)
 
 -- at most so many classes have parts of a budget
 abbrev pub most_classes : ℕ

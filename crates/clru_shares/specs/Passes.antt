@@ -20,24 +20,24 @@ pub record BelongsAt (names : List (List ℕ)) (name : List ℕ) (at : ℕ) : Ty
   pub behind : (k : ℕ) → k < at → IsBefore (slice_index_or names k []) name
   pub before : (k : ℕ) → at ≤ k → k < length names → IsBefore name (slice_index_or names k [])
 
-module _ {S A : Type 0} where
-  abbrev pub name_of : Class S A → List ℕ
+module _ {S A H : Type 0} where
+  abbrev pub name_of : Class S A H → List ℕ
   name_of class = class.name.items
 
   -- the class took its lines
-  pub record HasTaken (lines : List (List ℕ)) (class : Class S A) : Type 0 where
+  pub record HasTaken (lines : List (List ℕ)) (class : Class S A H) : Type 0 where
     pub taken : HasTakenLines (requests_of (name_of class) lines) class.pass
     pub counted : class.requests ≡ length (requests_of (name_of class) lines)
 
   -- each class took its lines, and no other class has any
-  pub record HaveTaken (lines : List (List ℕ)) (classes : List (Class S A)) : Type 0 where
+  pub record HaveTaken (lines : List (List ℕ)) (classes : List (Class S A H)) : Type 0 where
     pub ascending : AreAscending (map name_of classes)
     pub each : All (HasTaken lines) classes
     pub some : All (λ class. 0 < class.requests) classes
     pub no_other : (name : List ℕ) → list_any (bytes_eq name) (map name_of classes) ≡ false → requests_of name lines ≡ []
 
   -- the passes took these lines, each of which begins with a class
-  pub record HasTakenAll (lines : List (List ℕ)) (passes : Passes S A) : Type 0 where
+  pub record HasTakenAll (lines : List (List ℕ)) (passes : Passes S A H) : Type 0 where
     pub classed : All (λ line. has_class line ≡ true) lines
     pub classes : HaveTaken lines passes.classes.items
     pub all : HasTakenLines lines passes.all
