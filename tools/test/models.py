@@ -507,6 +507,34 @@ def idle_curve_of(requests, times, limit):
     return f"distinct {distinct}" + (f", misses{misses}" if distinct <= MOST else "")
 
 
+def aged(requests, times, capacity, idle, age):
+    """The misses of a cache that notes when it fetched each entry, and when it was used, and their size."""
+    held, room, misses, size = {}, capacity, 0, 0
+    for (key, takes), time in zip(requests, times):
+        is_fresh = False
+        if key in held:
+            _, fetched, used = held.pop(key)
+            room += takes
+            is_fresh = time - fetched <= age and (idle is None or time - used <= idle)
+        if not is_fresh:
+            fetched, misses, size = time, misses + 1, size + takes
+        held[key], room = (takes, fetched, time), room - takes
+        while room < 0:
+            room += held.pop(next(iter(held)))[0]
+    return misses, size
+
+
+def aged_of(requests, times, capacities, idle, age, by_size):
+    """What a pass at these capacities has counted."""
+    if not by_size:
+        misses = "".join(f" {aged([(key, 1) for key, _ in requests], times, capacity, idle, age)[0]}" for capacity in capacities)
+        return f"requests {len(requests)}, distinct {len(dict(requests))}, misses{misses}"
+    whole, sizes = sum(takes for _, takes in requests), dict(requests).values()
+    rows = [aged(requests, times, capacity, idle, age) for capacity in capacities]
+    return (f"requests {len(requests)} of size {whole}, distinct size {sum(sizes)}, greatest weight {max(sizes) - 1}, misses"
+            + "".join(f" {misses}" for misses, _ in rows) + ", of size" + "".join(f" {size}" for _, size in rows))
+
+
 def at_of(requests, capacity):
     if capacity < max(takes for _, takes in requests):
         return "none"

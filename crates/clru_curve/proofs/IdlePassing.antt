@@ -1,5 +1,5 @@
 -- What a pass over requests with times has taken, after one more request.
-use Rattle.std.proofs.Common.{◌≡◌, ℕ, suc, ◌+◌, ◌-◌, ◌<◌, ◌≤◌, Bool, true, false, cond, nat_le, List, [], ◌∷◌, ◌++◌, length, get_or, set, take, reverse, Option, Some, None, is_some, refl, sym, ap, ◌∙◌, subst, arith, take_all}
+use Rattle.std.proofs.Common.{◌≡◌, ℕ, suc, ◌+◌, ◌-◌, ◌<◌, ◌≤◌, Bool, true, false, cond, nat_le, List, [], ◌∷◌, ◌++◌, length, get_or, set, take, reverse, Option, Some, None, is_some, refl, sym, ap, ◌∙◌, subst, arith}
 use Rattle.std.proofs.lemmas.List.{length-map}
 use Rattle.std.proofs.lemmas.Map.{lookup-set_value, length-set_value}
 use Rattle.std.proofs.lemmas.Map.Made.{lookup-map_values}
@@ -9,10 +9,8 @@ use Rattle.std.specs.Option.{option_map}
 use Rattle.std.specs.Prelude.{sum}
 use Rattle.clru_model.specs.Ages.{is_recent}
 use Rattle.clru_model.specs.Distances.{distance}
-use Rattle.clru_model.specs.Entries.{plain_put}
 use Rattle.clru_model.specs.Requests.{holds, distinct, since}
 use Rattle.clru_model.proofs.Cases.{split}
-use Rattle.clru_model.proofs.Finding.{missed, plain_put-missed}
 use Rattle.clru_curve.specs.declared.numbered.Numbered.{Numbered}
 use Rattle.clru_curve.specs.declared.seen.Seen.{Seen}
 use Rattle.clru_curve.specs.IdlePasses.{TimedPass, timed_pass, IsIdlePass, HasIdleMissesOf}
@@ -65,14 +63,8 @@ module _ {K : Type 0} (eq : K → K → Bool) where
       → (y : K) → lookup (eq y) ((x, here) ∷ seen) ≡ cond (eq x y) (Some here) (lookup (eq y) seen)
   moved_new laws seen x here y = ap (λ b. cond b (Some here) (lookup (eq y) seen)) (laws.symm y x)
 
-  -- what was seen after a put of a new key
-  pub put_new : (seen : List (K × Seen)) (x : K) (here : Seen) (c : ℕ) → lookup (eq x) seen ≡ None → length seen < c
-      → plain_put eq c x here seen ≡ (x, here) ∷ seen
-  put_new seen x here c absent room =
-      plain_put-missed eq x (missed (eq x) (sym (ap is_some absent))) c here ∙ ap (λ es. (x, here) ∷ es) (take_all (c - 1) seen (omega (arith, room)))
-
   -- before the first request
-  pub IsIdlePass-none : IsEquivalence eq → (idle : ℕ) → IsIdlePass eq idle [] (timed_pass [] [] 0 [] idle)
+  pub IsIdlePass-none : {S : Type 0} {b : S} → IsEquivalence eq → (idle : ℕ) → IsIdlePass eq idle [] (timed_pass [] [] 0 [] idle b)
   IsIdlePass-none laws idle = record {
     limit = refl;
     ranked = IsRanked-none eq (λ x. 1) (distinct eq) (ones_from []) (λ p. refl);
@@ -82,8 +74,9 @@ module _ {K : Type 0} (eq : K → K → Bool) where
   }
 
   -- the same bits in other blocks
-  pub IsIdlePass-same : (idle : ℕ) (past : List (K × ℕ)) (seen : List (K × Seen)) (bs cs : List Numbered) (n : ℕ) (h : List ℕ) (l : ℕ)
-      → ((p : ℕ) → ones_from cs p ≡ ones_from bs p) → IsIdlePass eq idle past (timed_pass seen bs n h l) → IsIdlePass eq idle past (timed_pass seen cs n h l)
+  pub IsIdlePass-same : {S : Type 0} {b : S} (idle : ℕ) (past : List (K × ℕ)) (seen : List (K × Seen)) (bs cs : List Numbered) (n : ℕ) (h : List ℕ) (l : ℕ)
+      → ((p : ℕ) → ones_from cs p ≡ ones_from bs p) → IsIdlePass eq idle past (timed_pass seen bs n h l b)
+      → IsIdlePass eq idle past (timed_pass seen cs n h l b)
   IsIdlePass-same idle past seen bs cs n h l same is = record {
     limit = is.limit;
     ranked = IsRanked-same eq (λ x. 1) (distinct eq) (keys_of past) (positions_of seen) n (ones_from bs) (ones_from cs) same is.ranked;
@@ -92,8 +85,8 @@ module _ {K : Type 0} (eq : K → K → Bool) where
     requests = is.requests;
   }
 
-module _ {K : Type 0} (eq : K → K → Bool) (laws : IsEquivalence eq) (idle : ℕ) (past : List (K × ℕ)) (seen : List (K × Seen)) (bs : List Numbered) (n : ℕ)
-    (h : List ℕ) (l : ℕ) (x : K) (t : ℕ) (is : IsIdlePass eq idle past (timed_pass seen bs n h l)) where
+module _ {K S : Type 0} {b : S} (eq : K → K → Bool) (laws : IsEquivalence eq) (idle : ℕ) (past : List (K × ℕ)) (seen : List (K × Seen)) (bs : List Numbered) (n : ℕ)
+    (h : List ℕ) (l : ℕ) (x : K) (t : ℕ) (is : IsIdlePass eq idle past (timed_pass seen bs n h l b)) where
   -- a key that is not known was not requested
   not_held : lookup (eq x) seen ≡ None → holds eq x (keys_of past) ≡ false
   not_held absent = sym (seen_known eq (keys_of past) seen is.ranked.known x) ∙ ap is_some absent
@@ -106,13 +99,13 @@ module _ {K : Type 0} (eq : K → K → Bool) (laws : IsEquivalence eq) (idle : 
       none_of None h = refl
       none_of (Some p) h = cc
 
-  pub IsIdlePass-new : (c : ℕ) (cs : List Numbered) → lookup (eq x) seen ≡ None → length seen < c → ((p : ℕ) → ones_from cs p ≡ ones_from bs p + up_to p n)
-      → IsIdlePass eq idle ((x, t) ∷ past) (timed_pass (plain_put eq c x (seen_at n t) seen) cs (n + 1) (h ++ 0 ∷ []) l)
-  IsIdlePass-new c cs absent room counts =
+  pub IsIdlePass-new : (cs : List Numbered) → lookup (eq x) seen ≡ None → ((p : ℕ) → ones_from cs p ≡ ones_from bs p + up_to p n)
+      → IsIdlePass eq idle ((x, t) ∷ past) (timed_pass ((x, seen_at n t) ∷ seen) cs (n + 1) (h ++ 0 ∷ []) l b)
+  IsIdlePass-new cs absent counts =
       let here = seen_at n t in
       let one : n + 1 ≡ suc n = omega arith in
       let moved = moved_new eq laws seen x here in
-      rw (put_new eq seen x here c absent room, one) (record {
+      rw one (record {
         limit = is.limit;
         ranked = IsRanked-new eq laws (λ y. 1) (distinct eq) (distinct_measures eq laws)
             (keys_of past) (positions_of seen) (positions_of ((x, here) ∷ seen)) n (ones_from bs) (ones_from cs) x is.ranked
@@ -157,7 +150,7 @@ module _ {K : Type 0} (eq : K → K → Bool) (laws : IsEquivalence eq) (idle : 
     pub IsIdlePass-again : (d : ℕ) → d ≡ ones_from bs (suc s.position)
         → (cs : List Numbered) → ((q : ℕ) → ones_from cs q + up_to q s.position ≡ ones_from bs q + up_to q n)
         → IsIdlePass eq idle ((x, t) ∷ past)
-        (timed_pass (set_value (eq x) seen (seen_at n t)) cs (n + 1) (cond (nat_le (t - s.time) l) (set h d (get_or h d 0 + 1)) h) l)
+        (timed_pass (set_value (eq x) seen (seen_at n t)) cs (n + 1) (cond (nat_le (t - s.time) l) (set h d (get_or h d 0 + 1)) h) l b)
     IsIdlePass-again d at cs counts =
         let here = seen_at n t in
         let one : n + 1 ≡ suc n = omega arith in
@@ -174,7 +167,7 @@ module _ {K : Type 0} (eq : K → K → Bool) (laws : IsEquivalence eq) (idle : 
           requests = ap suc is.requests;
         })
 
-module _ {K : Type 0} (eq : K → K → Bool) (idle : ℕ) (past : List (K × ℕ)) (p : TimedPass K) (old curve result : List ℕ)
+module _ {K S : Type 0} (eq : K → K → Bool) (idle : ℕ) (past : List (K × ℕ)) (p : TimedPass K S) (old curve result : List ℕ)
     (is : IsIdlePass eq idle past p) (from : old ≡ p.histogram) where
   -- no sum of the numbers passes that of the requests
   pub sums_within : (k : ℕ) → sum (take k old) ≤ p.requests

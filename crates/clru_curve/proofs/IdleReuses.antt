@@ -22,7 +22,7 @@ keys_of-reverse (r ∷ rs) =
     ap keys_of (turned r rs) ∙ keys_of_push (reverse rs) r ∙ ap (λ l. l ++ r.0 ∷ []) (keys_of-reverse rs) ∙ sym (turned r.0 (keys_of rs))
 
 -- the size that is missed, with one more mark at the end
-size_of_misses_push : {K : Type 0} (weight : K → ℕ) (ms : List Bool) (ks : List K) (m : Bool) (k : K) → length ms ≡ length ks
+pub size_of_misses_push : {K : Type 0} (weight : K → ℕ) (ms : List Bool) (ks : List K) (m : Bool) (k : K) → length ms ≡ length ks
     → size_of_misses weight (ms ++ m ∷ []) (ks ++ k ∷ []) ≡ size_of_misses weight ms ks + cond m 0 (1 + weight k)
 size_of_misses_push weight [] [] m k same = omega arith
 size_of_misses_push weight [] (x ∷ ks) m k same = omega (arith, same)

@@ -1,14 +1,12 @@
 -- What a pass has taken, after one more request.
-use Rattle.std.proofs.Common.{◌≡◌, ℕ, suc, ◌+◌, ◌-◌, ◌<◌, ◌≤◌, Bool, true, false, cond, List, [], ◌∷◌, ◌++◌, length, get_or, set, take, reverse, Option, Some, None, is_some, refl, sym, ap, ◌∙◌, subst, arith, take_all}
+use Rattle.std.proofs.Common.{◌≡◌, ℕ, suc, ◌+◌, ◌<◌, ◌≤◌, Bool, true, false, cond, List, [], ◌∷◌, ◌++◌, length, get_or, set, take, reverse, Option, Some, None, is_some, refl, sym, ap, ◌∙◌, subst, arith}
 use Rattle.std.specs.Cmp.{IsEquivalence}
 use Rattle.std.specs.Prelude.{sum}
 use Rattle.std.specs.Map.{lookup, set_value}
 use Rattle.std.proofs.lemmas.Map.{lookup-set_value, length-set_value}
-use Rattle.clru_model.specs.Entries.{plain_put}
 use Rattle.clru_model.specs.Requests.{holds, distinct, since}
 use Rattle.clru_model.proofs.Cases.{split}
 use Rattle.clru_model.proofs.Distinct.{since-cons}
-use Rattle.clru_model.proofs.Finding.{missed, plain_put-missed}
 use Rattle.clru_curve.specs.Curves.{HasMissesOf}
 use Rattle.clru_model.specs.Distances.{distance}
 use Rattle.clru_curve.specs.declared.numbered.Numbered.{Numbered}
@@ -20,7 +18,7 @@ use Rattle.clru_curve.proofs.Ranks.{same_some, distinct_measures, IsRanked-none,
 
 module _ {K : Type 0} (eq : K → K → Bool) where
   -- before the first request
-  pub IsPass-none : IsPass eq [] (pass [] [] 0 [])
+  pub IsPass-none : {S : Type 0} {b : S} → IsPass eq [] (pass [] [] 0 [] b)
   IsPass-none = record {
     ranked = IsRanked-none eq (λ x. 1) (distinct eq) (ones_from []) (λ p. refl);
     counted = IsHistogram-none eq;
@@ -29,8 +27,8 @@ module _ {K : Type 0} (eq : K → K → Bool) where
   }
 
   -- the same bits in other blocks
-  pub IsPass-same : (past : List K) (positions : List (K × ℕ)) (bs cs : List Numbered) (n : ℕ) (h : List ℕ) → ((p : ℕ) → ones_from cs p ≡ ones_from bs p)
-      → IsPass eq past (pass positions bs n h) → IsPass eq past (pass positions cs n h)
+  pub IsPass-same : {S : Type 0} {b : S} (past : List K) (positions : List (K × ℕ)) (bs cs : List Numbered) (n : ℕ) (h : List ℕ) → ((p : ℕ) → ones_from cs p ≡ ones_from bs p)
+      → IsPass eq past (pass positions bs n h b) → IsPass eq past (pass positions cs n h b)
   IsPass-same past positions bs cs n h same is = record {
     ranked = IsRanked-same eq (λ x. 1) (distinct eq) past positions n (ones_from bs) (ones_from cs) same is.ranked;
     counted = is.counted;
@@ -38,8 +36,8 @@ module _ {K : Type 0} (eq : K → K → Bool) where
     latest = is.latest;
   }
 
-module _ {K : Type 0} (eq : K → K → Bool) (laws : IsEquivalence eq) (past : List K) (positions : List (K × ℕ)) (bs : List Numbered) (n : ℕ) (h : List ℕ)
-    (x : K) (is : IsPass eq past (pass positions bs n h)) where
+module _ {K S : Type 0} {b : S} (eq : K → K → Bool) (laws : IsEquivalence eq) (past : List K) (positions : List (K × ℕ)) (bs : List Numbered) (n : ℕ) (h : List ℕ)
+    (x : K) (is : IsPass eq past (pass positions bs n h b)) where
   -- a key that is not known was not requested
   not_held : lookup (eq x) positions ≡ None → holds eq x past ≡ false
   not_held absent = sym (is.ranked.known x) ∙ ap is_some absent
@@ -68,15 +66,13 @@ module _ {K : Type 0} (eq : K → K → Bool) (laws : IsEquivalence eq) (past : 
       let more : length (since eq y (x ∷ past)) ≡ suc (length (since eq y past)) = rw (since-cons eq y x past, back) refl in
       omega (arith, more, is.latest y q there))
 
-  pub IsPass-new : (c : ℕ) (cs : List Numbered) → lookup (eq x) positions ≡ None → length positions < c → ((p : ℕ) → ones_from cs p ≡ ones_from bs p + up_to p n)
-      → IsPass eq (x ∷ past) (pass (plain_put eq c x n positions) cs (n + 1) (h ++ 0 ∷ []))
-  IsPass-new c cs absent room counts =
-      let put : plain_put eq c x n positions ≡ (x, n) ∷ positions =
-      plain_put-missed eq x (missed (eq x) (sym (ap is_some absent))) c n ∙ ap (λ l. (x, n) ∷ l) (take_all (c - 1) positions (omega (arith, room))) in
+  pub IsPass-new : (cs : List Numbered) → lookup (eq x) positions ≡ None → ((p : ℕ) → ones_from cs p ≡ ones_from bs p + up_to p n)
+      → IsPass eq (x ∷ past) (pass ((x, n) ∷ positions) cs (n + 1) (h ++ 0 ∷ []) b)
+  IsPass-new cs absent counts =
       let one : n + 1 ≡ suc n = omega arith in
       let moved : (y : K) → lookup (eq y) ((x, n) ∷ positions) ≡ cond (eq x y) (Some n) (lookup (eq y) positions) =
       λ y. ap (λ b. cond b (Some n) (lookup (eq y) positions)) (laws.symm y x) in
-      rw (put, one) (record {
+      rw one (record {
         ranked = IsRanked-new eq laws (λ x. 1) (distinct eq) (distinct_measures eq laws)
             past positions ((x, n) ∷ positions) n (ones_from bs) (ones_from cs) x is.ranked moved (not_held absent) counts
             (omega (arith, is.ranked.few));
@@ -102,7 +98,7 @@ module _ {K : Type 0} (eq : K → K → Bool) (laws : IsEquivalence eq) (past : 
         omega (arith, few, is.requests, ap (λ d. get_or h d 0) (is.ranked.rank x p found))
 
     pub IsPass-again : (cs : List Numbered) → ((q : ℕ) → ones_from cs q + up_to q p ≡ ones_from bs q + up_to q n)
-        → IsPass eq (x ∷ past) (pass (set_value (eq x) positions n) cs (n + 1) (set h (ones_from bs (suc p)) (get_or h (ones_from bs (suc p)) 0 + 1)))
+        → IsPass eq (x ∷ past) (pass (set_value (eq x) positions n) cs (n + 1) (set h (ones_from bs (suc p)) (get_or h (ones_from bs (suc p)) 0 + 1)) b)
     IsPass-again cs counts =
         let one : n + 1 ≡ suc n = omega arith in
         let rank = is.ranked.rank x p found in
@@ -117,7 +113,7 @@ module _ {K : Type 0} (eq : K → K → Bool) (laws : IsEquivalence eq) (past : 
           latest = latest_more (set_value (eq x) positions n) moved;
         })
 
-module _ {K : Type 0} (eq : K → K → Bool) (past : List K) (p : Pass K) (old curve result : List ℕ) (is : IsPass eq past p) (from : old ≡ p.histogram) where
+module _ {K S : Type 0} (eq : K → K → Bool) (past : List K) (p : Pass K S) (old curve result : List ℕ) (is : IsPass eq past p) (from : old ≡ p.histogram) where
   -- no sum of the numbers passes that of the requests
   pub sums_within : (k : ℕ) → sum (take k old) ≤ p.requests
   sums_within k = omega (arith, is.counted.hits k, is.requests, ap (λ h. sum (take k h)) from)

@@ -177,7 +177,7 @@ module _ (kept hits : List Step) (n size d g : ℕ) (curve : CurveBySize) (from 
       omega (arith, here, same)
 
 -- the hits of a pass make the curve of its requests
-pub IsSizedCurveOf-by : {K : Type 0} (eq : K → K → Bool) (weight : K → ℕ) (past : List K) (p : PassBySize K) (curve : CurveBySize) (hits : List Step) (n d : ℕ)
+pub IsSizedCurveOf-by : {K S : Type 0} (eq : K → K → Bool) (weight : K → ℕ) (past : List K) (p : PassBySize K S) (curve : CurveBySize) (hits : List Step) (n d : ℕ)
     → IsSizedPass eq weight past p → hits ≡ p.hits → n ≡ p.requests → d ≡ total_from p.sizes 0 → IsCurveOfHits hits n p.size d p.greatest curve
     → IsSizedCurveOf eq weight (reverse past) curve
 IsSizedCurveOf-by eq weight past p curve hits n d is from all held of =

@@ -1,5 +1,5 @@
 -- What a pass over requests with times for keys with sizes has taken, after one more request.
-use Rattle.std.proofs.Common.{◌≡◌, ℕ, suc, ◌+◌, ◌-◌, ◌^◌, ◌<◌, ◌≤◌, Bool, true, false, cond, nat_le, nat_lt, List, [], ◌∷◌, ◌++◌, length, reverse, Some, None, is_some, refl, sym, ap, ◌∙◌, arith}
+use Rattle.std.proofs.Common.{◌≡◌, ℕ, suc, ◌+◌, ◌-◌, ◌^◌, ◌<◌, ◌≤◌, Bool, true, false, cond, nat_le, nat_lt, List, [], ◌∷◌, ◌++◌, reverse, Some, None, is_some, refl, sym, ap, ◌∙◌, arith}
 use Rattle.std.proofs.lemmas.List.{length_push, reverse-reverse}
 use Rattle.std.proofs.lemmas.List.Sums.{sum_by-cons, sum_by_push}
 use Rattle.std.proofs.lemmas.List.Sorted.{sum_by-IsPermutation, IsPermutation-reverse, length_permutation}
@@ -10,10 +10,9 @@ use Rattle.std.specs.Map.{keys_of, lookup, set_value}
 use Rattle.std.specs.Option.{option_map}
 use Rattle.clru_model.proofs.Cases.{split}
 use Rattle.clru_model.specs.Ages.{is_recent}
-use Rattle.clru_model.specs.Entries.{plain_put}
 use Rattle.clru_model.specs.Requests.{holds, distinct, since}
 use Rattle.clru_model.specs.Sizes.{SameWeights, total, span}
-use Rattle.clru_curve.proofs.IdlePassing.{position_found, same_length, seen_known, put_new, positions_move, times_move, moved_again, moved_new}
+use Rattle.clru_curve.proofs.IdlePassing.{position_found, same_length, seen_known, positions_move, times_move, moved_again, moved_new}
 use Rattle.clru_curve.proofs.IdleReuses.{reuse-late, reuse-soon, keys_of-reverse}
 use Rattle.clru_curve.proofs.Ranks.{distinct_measures, IsRanked-none, IsRanked-new, IsRanked-again}
 use Rattle.clru_curve.proofs.SizedCurves.{counts_by, sizes_by}
@@ -31,7 +30,7 @@ use Rattle.clru_curve.specs.Tree.{up_by, up_to}
 
 module _ {K : Type 0} (eq : K → K → Bool) where
   -- before the first request
-  pub IsSizedIdlePass-none : IsEquivalence eq → (weight : K → ℕ) (idle : ℕ) → IsSizedIdlePass eq weight idle [] (timed_pass_by_size [] [] 0 [] 0 0 idle)
+  pub IsSizedIdlePass-none : {S : Type 0} {b : S} → IsEquivalence eq → (weight : K → ℕ) (idle : ℕ) → IsSizedIdlePass eq weight idle [] (timed_pass_by_size [] [] 0 [] 0 0 idle b)
   IsSizedIdlePass-none laws weight idle = record {
     limit = refl;
     ranked = IsRanked-none eq (λ x. 1 + weight x) (total eq weight) (total_from []) (λ p. refl);
@@ -43,22 +42,22 @@ module _ {K : Type 0} (eq : K → K → Bool) where
     greatest = refl;
   }
 
-module _ {K : Type 0} (eq : K → K → Bool) (laws : IsEquivalence eq) (seen : List (K × Seen)) (ss : List Numbered) (n : ℕ) (hs : List Step) (a g l : ℕ) (x : K) (t : ℕ) where
-  module _ (weight : K → ℕ) (idle : ℕ) (past : List (K × ℕ)) (is : IsSizedIdlePass eq weight idle past (timed_pass_by_size seen ss n hs a g l)) where
+module _ {K S : Type 0} {b : S} (eq : K → K → Bool) (laws : IsEquivalence eq) (seen : List (K × Seen)) (ss : List Numbered) (n : ℕ) (hs : List Step) (a g l : ℕ) (x : K) (t : ℕ) where
+  module _ (weight : K → ℕ) (idle : ℕ) (past : List (K × ℕ)) (is : IsSizedIdlePass eq weight idle past (timed_pass_by_size seen ss n hs a g l b)) where
     not_held : lookup (eq x) seen ≡ None → holds eq x (keys_of past) ≡ false
     not_held absent = sym (seen_known eq (keys_of past) seen is.ranked.known x) ∙ ap is_some absent
 
     module _ (same : SameWeights eq weight) (w : ℕ) (weighs : weight x ≡ w) (g' : ℕ) (greater : g' ≡ cond (nat_lt g w) w g) (ts : List Numbered) where
-      pub IsSizedIdlePass-new : (c : ℕ) → lookup (eq x) seen ≡ None → length seen < c
+      pub IsSizedIdlePass-new : lookup (eq x) seen ≡ None
           → ((p : ℕ) → total_from ts p ≡ total_from ss p + up_by (w + 1) p n)
-          → IsSizedIdlePass eq weight idle ((x, t) ∷ past) (timed_pass_by_size (plain_put eq c x (seen_at n t) seen) ts (n + 1) hs (a + (w + 1)) g' l)
-      IsSizedIdlePass-new c absent room counts =
+          → IsSizedIdlePass eq weight idle ((x, t) ∷ past) (timed_pass_by_size ((x, seen_at n t) ∷ seen) ts (n + 1) hs (a + (w + 1)) g' l b)
+      IsSizedIdlePass-new absent counts =
           let here = seen_at n t in
           let size : w + 1 ≡ 1 + weight x = omega (arith, weighs) in
           let one : n + 1 ≡ suc n = omega arith in
           let moved = moved_new eq laws seen x here in
           let sized : (p : ℕ) → total_from ts p ≡ total_from ss p + up_by (1 + weight x) p n = λ p. counts p ∙ ap (λ s. total_from ss p + up_by s p n) size in
-          rw (put_new eq seen x here c absent room, one) (record {
+          rw one (record {
             limit = is.limit;
             ranked = IsRanked-new eq laws (λ y. 1 + weight y) (total eq weight) (total_measures eq laws weight same)
                 (keys_of past) (positions_of seen) (positions_of ((x, here) ∷ seen)) n (total_from ss) (total_from ts) x is.ranked
@@ -96,7 +95,7 @@ module _ {K : Type 0} (eq : K → K → Bool) (laws : IsEquivalence eq) (seen : 
 
         pub IsSizedIdlePass-again : ((p : ℕ) → total_from ts p + up_by (w + 1) p s.position ≡ total_from ss p + up_by (w + 1) p n)
             → IsSizedIdlePass eq weight idle ((x, t) ∷ past) (timed_pass_by_size (set_value (eq x) seen (seen_at n t)) ts (n + 1)
-            (cond (nat_le (t - s.time) l) (hs ++ step (total_from ss s.position) (w + 1) ∷ []) hs) (a + (w + 1)) g' l)
+            (cond (nat_le (t - s.time) l) (hs ++ step (total_from ss s.position) (w + 1) ∷ []) hs) (a + (w + 1)) g' l b)
         IsSizedIdlePass-again counts =
             let here = seen_at n t in
             let size : w + 1 ≡ 1 + weight x = omega (arith, weighs) in
@@ -120,16 +119,16 @@ module _ {K : Type 0} (eq : K → K → Bool) (laws : IsEquivalence eq) (seen : 
             })
 
   -- whatever the keys weigh
-  module _ (nodes : List ℕ) (sound : IsSoundIdleBySize eq nodes (timed_pass_by_size seen ss n hs a g l)) (w g' : ℕ) (fits : a + (w + 1) < 2 ^ 64)
+  module _ (nodes : List ℕ) (sound : IsSoundIdleBySize eq nodes (timed_pass_by_size seen ss n hs a g l b)) (w g' : ℕ) (fits : a + (w + 1) < 2 ^ 64)
       (ts : List Numbered) (nodes' : List ℕ) (summed : IsSummed ts nodes' (n + 1)) (held : total_from ts 0 ≤ a + (w + 1)) where
-    pub IsSoundIdleBySize-new : (c : ℕ) → length seen < c → lookup (eq x) seen ≡ None
+    pub IsSoundIdleBySize-new : lookup (eq x) seen ≡ None
         → ((p : ℕ) → live_from ts p ≡ live_from ss p + up_to p n)
-        → IsSoundIdleBySize eq nodes' (timed_pass_by_size (plain_put eq c x (seen_at n t) seen) ts (n + 1) hs (a + (w + 1)) g' l)
-    IsSoundIdleBySize-new c room absent counts =
+        → IsSoundIdleBySize eq nodes' (timed_pass_by_size ((x, seen_at n t) ∷ seen) ts (n + 1) hs (a + (w + 1)) g' l b)
+    IsSoundIdleBySize-new absent counts =
         let here = seen_at n t in
         let one : n + 1 ≡ suc n = omega arith in
         let absent_there : holds eq x sound.past ≡ false = sym (seen_known eq sound.past seen sound.ranked.known x) ∙ ap is_some absent in
-        rw (put_new eq seen x here c absent room) (record {
+        record {
           summed = summed;
           past = x ∷ sound.past;
           ranked = rw one (IsRanked-new eq laws (λ y. 1) (distinct eq) (distinct_measures eq laws)
@@ -140,12 +139,12 @@ module _ {K : Type 0} (eq : K → K → Bool) (laws : IsEquivalence eq) (seen : 
           held = held;
           hit_sizes = omega (arith, sound.hit_sizes);
           fits = fits;
-        })
+        }
 
     pub IsSoundIdleBySize-again : (s : Seen) (soon : Bool) (m : ℕ) → lookup (eq x) seen ≡ Some s
         → ((p : ℕ) → live_from ts p + up_to p s.position ≡ live_from ss p + up_to p n)
         → IsSoundIdleBySize eq nodes' (timed_pass_by_size (set_value (eq x) seen (seen_at n t)) ts (n + 1)
-        (cond soon (hs ++ step m (w + 1) ∷ []) hs) (a + (w + 1)) g' l)
+        (cond soon (hs ++ step m (w + 1) ∷ []) hs) (a + (w + 1)) g' l b)
     IsSoundIdleBySize-again s soon m found counts =
         let here = seen_at n t in
         let one : n + 1 ≡ suc n = omega arith in
@@ -168,7 +167,7 @@ module _ {K : Type 0} (eq : K → K → Bool) (laws : IsEquivalence eq) (seen : 
         }
 
 -- the hits of a pass make the curve of its requests
-pub IsSizedIdleCurveOf-by : {K : Type 0} (eq : K → K → Bool) (weight : K → ℕ) (idle : ℕ) (past : List (K × ℕ)) (p : TimedPassBySize K) (curve : CurveBySize)
+pub IsSizedIdleCurveOf-by : {K S : Type 0} (eq : K → K → Bool) (weight : K → ℕ) (idle : ℕ) (past : List (K × ℕ)) (p : TimedPassBySize K S) (curve : CurveBySize)
     (hits : List Step) (n d : ℕ) → IsSizedIdlePass eq weight idle past p → hits ≡ p.hits → n ≡ p.requests → d ≡ total_from p.sizes 0
     → IsCurveOfHits hits n p.size d p.greatest curve → IsSizedIdleCurveOf eq weight idle (reverse past) curve
 IsSizedIdleCurveOf-by eq weight idle past p curve hits n d is from all held of =

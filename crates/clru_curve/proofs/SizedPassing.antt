@@ -1,12 +1,10 @@
 -- What a pass over keys with sizes has taken, after one more request.
-use Rattle.std.proofs.Common.{◌≡◌, ℕ, suc, ◌+◌, ◌-◌, ◌^◌, ◌<◌, ◌≤◌, Bool, true, false, cond, nat_lt, List, [], ◌∷◌, ◌++◌, length, Some, None, is_some, refl, sym, ap, ◌∙◌, arith, take_all}
+use Rattle.std.proofs.Common.{◌≡◌, ℕ, suc, ◌+◌, ◌^◌, ◌<◌, ◌≤◌, Bool, true, false, cond, nat_lt, List, [], ◌∷◌, ◌++◌, Some, None, is_some, refl, sym, ap, ◌∙◌, arith}
 use Rattle.std.proofs.lemmas.List.{length_push}
 use Rattle.std.proofs.lemmas.List.Sums.{sum_by-cons, sum_by_push}
 use Rattle.std.proofs.lemmas.Map.{lookup-set_value, length-set_value}
 use Rattle.std.specs.Cmp.{IsEquivalence}
 use Rattle.std.specs.Map.{lookup, set_value}
-use Rattle.clru_model.proofs.Finding.{missed, plain_put-missed}
-use Rattle.clru_model.specs.Entries.{plain_put}
 use Rattle.clru_model.specs.Requests.{holds, distinct, since}
 use Rattle.clru_model.specs.Sizes.{SameWeights, total, span}
 use Rattle.clru_curve.proofs.Ranks.{IsMeasure, distinct_measures, IsRanked-none, IsRanked-new, IsRanked-again, latest_moved}
@@ -23,7 +21,7 @@ use Rattle.clru_curve.specs.Tree.{up_by, up_to}
 
 module _ {K : Type 0} (eq : K → K → Bool) where
   -- before the first request
-  pub IsSizedPass-none : (weight : K → ℕ) → IsSizedPass eq weight [] (pass_by_size [] [] 0 [] 0 0)
+  pub IsSizedPass-none : {S : Type 0} {b : S} (weight : K → ℕ) → IsSizedPass eq weight [] (pass_by_size [] [] 0 [] 0 0 b)
   IsSizedPass-none weight = record {
     ranked = IsRanked-none eq (λ x. 1 + weight x) (total eq weight) (total_from []) (λ p. refl);
     hits = AreHits-none eq weight;
@@ -34,7 +32,7 @@ module _ {K : Type 0} (eq : K → K → Bool) where
     latest = λ x q at. cc;
   }
 
-  pub IsSoundBySize-none : (nodes : List ℕ) → IsSummed [] nodes 0 → IsSoundBySize eq nodes (pass_by_size [] [] 0 [] 0 0)
+  pub IsSoundBySize-none : {S : Type 0} {b : S} (nodes : List ℕ) → IsSummed [] nodes 0 → IsSoundBySize eq nodes (pass_by_size [] [] 0 [] 0 0 b)
   IsSoundBySize-none nodes summed = record {
     summed = summed;
     past = [];
@@ -54,11 +52,6 @@ module _ {K : Type 0} (eq : K → K → Bool) (laws : IsEquivalence eq) (positio
       → (y : K) → lookup (eq y) (set_value (eq x) positions n) ≡ cond (eq x y) (Some n) (lookup (eq y) positions)
   moved_again p found y = lookup-set_value laws (eq x) (λ z v t. laws.congr x z v t) y n positions (rw found refl)
 
-  -- the entries after a put of a new key
-  put_new : (c : ℕ) → lookup (eq x) positions ≡ None → length positions < c → plain_put eq c x n positions ≡ (x, n) ∷ positions
-  put_new c absent room =
-      plain_put-missed eq x (missed (eq x) (sym (ap is_some absent))) c n ∙ ap (λ l. (x, n) ∷ l) (take_all (c - 1) positions (omega (arith, room)))
-
   -- what is noted of one more request, by any measure
   module _ (size : K → ℕ) (measure : List K → ℕ) (sums : IsMeasure eq size measure) (past : List K) (f f' : ℕ → ℕ)
       (r : IsRanked eq size measure past positions n f) where
@@ -74,8 +67,8 @@ module _ {K : Type 0} (eq : K → K → Bool) (laws : IsEquivalence eq) (positio
         IsRanked-again eq laws size measure sums past positions (set_value (eq x) positions n) n f f' x r (moved_again p found) p found counts
         (omega (arith, length-set_value (eq x) positions n, r.few))
 
-module _ {K : Type 0} (eq : K → K → Bool) (laws : IsEquivalence eq) (positions : List (K × ℕ)) (ss : List Numbered) (n : ℕ) (hs : List Step) (a g : ℕ) (x : K) where
-  module _ (weight : K → ℕ) (past : List K) (is : IsSizedPass eq weight past (pass_by_size positions ss n hs a g)) where
+module _ {K S : Type 0} {b : S} (eq : K → K → Bool) (laws : IsEquivalence eq) (positions : List (K × ℕ)) (ss : List Numbered) (n : ℕ) (hs : List Step) (a g : ℕ) (x : K) where
+  module _ (weight : K → ℕ) (past : List K) (is : IsSizedPass eq weight past (pass_by_size positions ss n hs a g b)) where
     -- a key that is not known was not requested
     not_held : lookup (eq x) positions ≡ None → holds eq x past ≡ false
     not_held absent = sym (is.ranked.known x) ∙ ap is_some absent
@@ -84,14 +77,14 @@ module _ {K : Type 0} (eq : K → K → Bool) (laws : IsEquivalence eq) (positio
     span_none absent = rw (not_held absent) refl
 
     module _ (same : SameWeights eq weight) (w : ℕ) (weighs : weight x ≡ w) (g' : ℕ) (greater : g' ≡ cond (nat_lt g w) w g) (ts : List Numbered) where
-      pub IsSizedPass-new : (c : ℕ) → lookup (eq x) positions ≡ None → length positions < c
+      pub IsSizedPass-new : lookup (eq x) positions ≡ None
           → ((t : ℕ) → total_from ts t ≡ total_from ss t + up_by (w + 1) t n)
-          → IsSizedPass eq weight (x ∷ past) (pass_by_size (plain_put eq c x n positions) ts (n + 1) hs (a + (w + 1)) g')
-      IsSizedPass-new c absent room counts =
+          → IsSizedPass eq weight (x ∷ past) (pass_by_size ((x, n) ∷ positions) ts (n + 1) hs (a + (w + 1)) g' b)
+      IsSizedPass-new absent counts =
           let size : w + 1 ≡ 1 + weight x = omega (arith, weighs) in
           let one : n + 1 ≡ suc n = omega arith in
           let sized : (t : ℕ) → total_from ts t ≡ total_from ss t + up_by (1 + weight x) t n = λ t. counts t ∙ ap (λ s. total_from ss t + up_by s t n) size in
-          rw (put_new eq laws positions n x c absent room, one) (record {
+          rw one (record {
             ranked = ranked_new eq laws positions n x (λ y. 1 + weight y) (total eq weight) (total_measures eq laws weight same) past (total_from ss) (total_from ts)
                 is.ranked absent sized;
             hits = AreHits-new eq weight past hs x is.hits (not_held absent);
@@ -119,7 +112,7 @@ module _ {K : Type 0} (eq : K → K → Bool) (laws : IsEquivalence eq) (positio
 
         pub IsSizedPass-again : ((t : ℕ) → total_from ts t + up_by (w + 1) t p ≡ total_from ss t + up_by (w + 1) t n)
             → IsSizedPass eq weight (x ∷ past)
-            (pass_by_size (set_value (eq x) positions n) ts (n + 1) (hs ++ step (total_from ss p) (w + 1) ∷ []) (a + (w + 1)) g')
+            (pass_by_size (set_value (eq x) positions n) ts (n + 1) (hs ++ step (total_from ss p) (w + 1) ∷ []) (a + (w + 1)) g' b)
         IsSizedPass-again counts =
             let size : w + 1 ≡ 1 + weight x = omega (arith, weighs) in
             let one : n + 1 ≡ suc n = omega arith in
@@ -137,14 +130,14 @@ module _ {K : Type 0} (eq : K → K → Bool) (laws : IsEquivalence eq) (positio
             })
 
   -- whatever the keys weigh
-  module _ (nodes : List ℕ) (sound : IsSoundBySize eq nodes (pass_by_size positions ss n hs a g)) (w g' : ℕ) (fits : a + (w + 1) < 2 ^ 64)
+  module _ (nodes : List ℕ) (sound : IsSoundBySize eq nodes (pass_by_size positions ss n hs a g b)) (w g' : ℕ) (fits : a + (w + 1) < 2 ^ 64)
       (ts : List Numbered) (nodes' : List ℕ) (summed : IsSummed ts nodes' (n + 1)) (held : total_from ts 0 ≤ a + (w + 1)) where
-    pub IsSoundBySize-new : (c : ℕ) → length positions < c → lookup (eq x) positions ≡ None
+    pub IsSoundBySize-new : lookup (eq x) positions ≡ None
         → ((t : ℕ) → live_from ts t ≡ live_from ss t + up_to t n)
-        → IsSoundBySize eq nodes' (pass_by_size (plain_put eq c x n positions) ts (n + 1) hs (a + (w + 1)) g')
-    IsSoundBySize-new c room absent counts =
+        → IsSoundBySize eq nodes' (pass_by_size ((x, n) ∷ positions) ts (n + 1) hs (a + (w + 1)) g' b)
+    IsSoundBySize-new absent counts =
         let one : n + 1 ≡ suc n = omega arith in
-        rw (put_new eq laws positions n x c absent room) (record {
+        record {
           summed = summed;
           past = x ∷ sound.past;
           ranked = rw one (ranked_new eq laws positions n x (λ y. 1) (distinct eq) (distinct_measures eq laws) sound.past (live_from ss) (live_from ts)
@@ -154,11 +147,11 @@ module _ {K : Type 0} (eq : K → K → Bool) (laws : IsEquivalence eq) (positio
           held = held;
           hit_sizes = omega (arith, sound.hit_sizes);
           fits = fits;
-        })
+        }
 
     pub IsSoundBySize-again : (p s : ℕ) → lookup (eq x) positions ≡ Some p
         → ((t : ℕ) → live_from ts t + up_to t p ≡ live_from ss t + up_to t n)
-        → IsSoundBySize eq nodes' (pass_by_size (set_value (eq x) positions n) ts (n + 1) (hs ++ step s (w + 1) ∷ []) (a + (w + 1)) g')
+        → IsSoundBySize eq nodes' (pass_by_size (set_value (eq x) positions n) ts (n + 1) (hs ++ step s (w + 1) ∷ []) (a + (w + 1)) g' b)
     IsSoundBySize-again p s found counts =
         let one : n + 1 ≡ suc n = omega arith in
         let more = length_push hs (step s (w + 1)) in

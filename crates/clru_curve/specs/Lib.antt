@@ -1,12 +1,16 @@
+pub mod AgedPasses
 pub mod Curves
 pub mod Errors
+pub mod Fetches
 pub mod IdlePasses
+pub mod KeyTables
 pub mod Latest
 pub mod LatestSizes
 pub mod Passes
 pub mod Ranked
 pub mod Rising
 pub mod Seen
+pub mod SizedAgedPasses
 pub mod SizedCurves
 pub mod SizedIdlePasses
 pub mod SizedPasses

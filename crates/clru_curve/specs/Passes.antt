@@ -8,23 +8,25 @@ use Rattle.clru_curve.specs.Latest.{ones_from, IsLatest}
 use Rattle.clru_curve.specs.Rising.{numbered_code}
 use Rattle.clru_curve.specs.Ranked.{IsRanked}
 
--- each key with the number of its latest request, blocks of bits for these, how many requests there were, and how many at each
--- distance
-pub record Pass (K : Type 0) : Type 0 where
+-- each key with the number of its latest request, blocks of bits for these, how many requests there were, how many at each
+-- distance, and the builder that hashes keys
+pub record Pass (K S : Type 0) : Type 0 where
   pub positions : List (K × ℕ)
   pub blocks : List Numbered
   pub requests : ℕ
   pub histogram : List ℕ
+  pub builder : S
 
-module _ {K : Type 0} where
-  abbrev pub pass : List (K × ℕ) → List Numbered → ℕ → List ℕ → Pass K
-  pass ps bs n h = record { positions = ps; blocks = bs; requests = n; histogram = h }
+module _ {K S : Type 0} where
+  abbrev pub pass : List (K × ℕ) → List Numbered → ℕ → List ℕ → S → Pass K S
+  pass ps bs n h b = record { positions = ps; blocks = bs; requests = n; histogram = h; builder = b }
 
-  abbrev pub pass_code : Coded K → Coded (Pass K)
-  pass_code k =
-      code_by (List (K × ℕ) × (List Numbered × (ℕ × List ℕ)))
-      (coded× (coded_list (coded× k coded_ℕ)) (coded× (coded_list numbered_code) (coded× coded_ℕ (coded_list coded_ℕ))))
-      (λ p. (p.positions, (p.blocks, (p.requests, p.histogram)))) (λ t. pass t.0 t.1.0 t.1.1.0 t.1.1.1) (λ _. refl)
+  abbrev pub pass_code : Coded K → Coded S → Coded (Pass K S)
+  pass_code k s =
+      code_by (List (K × ℕ) × (List Numbered × (ℕ × (List ℕ × S))))
+      (coded× (coded_list (coded× k coded_ℕ)) (coded× (coded_list numbered_code) (coded× coded_ℕ (coded× (coded_list coded_ℕ) s))))
+      (λ p. (p.positions, (p.blocks, (p.requests, (p.histogram, p.builder)))))
+      (λ t. pass t.0 t.1.0 t.1.1.0 t.1.1.1.0 t.1.1.1.1) (λ _. refl)
 
 module _ {K : Type 0} (eq : K → K → Bool) where
   -- as many numbers as distinct keys, of which the first k sum up to the hits at capacity k
@@ -33,14 +35,14 @@ module _ {K : Type 0} (eq : K → K → Bool) where
     pub hits : (k : ℕ) → misses eq k (reverse past) + sum (take k histogram) ≡ length past
 
   -- a pass that has taken these requests, the latest first
-  pub record IsPass (past : List K) (p : Pass K) : Type 0 where
+  pub record IsPass {S : Type 0} (past : List K) (p : Pass K S) : Type 0 where
     pub ranked : IsRanked eq (λ x. 1) (distinct eq) past p.positions p.requests (ones_from p.blocks)
     pub counted : IsHistogram past p.histogram
     pub requests : p.requests ≡ length past
     pub latest : (x : K) (q : ℕ) → lookup (eq x) p.positions ≡ Some q → q + 1 + length (since eq x past) ≡ length past
 
   -- what holds of every pass: it has taken some requests
-  pub record IsSound (nodes : List ℕ) (p : Pass K) : Type 0 where
+  pub record IsSound {S : Type 0} (nodes : List ℕ) (p : Pass K S) : Type 0 where
     pub latest : IsLatest p.blocks nodes p.requests
     pub past : List K
     pub taken : IsPass past p

@@ -16,8 +16,9 @@ use Rattle.clru_curve.specs.SizedCurves.{CurveBySize, step_code, hits_within, mi
 use Rattle.clru_curve.specs.SizedPasses.{PassBySize, pass_by_size, hit_size, IsSoundBySize}
 
 -- each key with the number and the time of its latest request; the sizes of these requests, with 0 for some others; how many requests
--- there were; for each that can hit its span and its size; the size of all requests, the greatest weight, and the idle limit
-pub record TimedPassBySize (K : Type 0) : Type 0 where
+-- there were; for each that can hit its span and its size; the size of all requests, the greatest weight, the idle limit, and
+-- the builder that hashes keys
+pub record TimedPassBySize (K S : Type 0) : Type 0 where
   pub seen : List (K × Seen)
   pub sizes : List Numbered
   pub requests : ℕ
@@ -25,22 +26,24 @@ pub record TimedPassBySize (K : Type 0) : Type 0 where
   pub size : ℕ
   pub greatest : ℕ
   pub limit : ℕ
+  pub builder : S
 
-module _ {K : Type 0} where
-  abbrev pub timed_pass_by_size : List (K × Seen) → List Numbered → ℕ → List Step → ℕ → ℕ → ℕ → TimedPassBySize K
-  timed_pass_by_size es ss n hs a g l = record { seen = es; sizes = ss; requests = n; hits = hs; size = a; greatest = g; limit = l }
+module _ {K S : Type 0} where
+  abbrev pub timed_pass_by_size : List (K × Seen) → List Numbered → ℕ → List Step → ℕ → ℕ → ℕ → S → TimedPassBySize K S
+  timed_pass_by_size es ss n hs a g l b =
+      record { seen = es; sizes = ss; requests = n; hits = hs; size = a; greatest = g; limit = l; builder = b }
 
-  abbrev pub timed_pass_by_size_code : Coded K → Coded (TimedPassBySize K)
-  timed_pass_by_size_code k =
-      code_by (List (K × Seen) × (List Numbered × (ℕ × (List Step × (ℕ × (ℕ × ℕ))))))
+  abbrev pub timed_pass_by_size_code : Coded K → Coded S → Coded (TimedPassBySize K S)
+  timed_pass_by_size_code k s =
+      code_by (List (K × Seen) × (List Numbered × (ℕ × (List Step × (ℕ × (ℕ × (ℕ × S)))))))
       (coded× (coded_list (coded× k seen_code)) (coded× (coded_list numbered_code)
-      (coded× coded_ℕ (coded× (coded_list step_code) (coded× coded_ℕ (coded× coded_ℕ coded_ℕ))))))
-      (λ p. (p.seen, (p.sizes, (p.requests, (p.hits, (p.size, (p.greatest, p.limit)))))))
-      (λ t. timed_pass_by_size t.0 t.1.0 t.1.1.0 t.1.1.1.0 t.1.1.1.1.0 t.1.1.1.1.1.0 t.1.1.1.1.1.1) (λ _. refl)
+      (coded× coded_ℕ (coded× (coded_list step_code) (coded× coded_ℕ (coded× coded_ℕ (coded× coded_ℕ s)))))))
+      (λ p. (p.seen, (p.sizes, (p.requests, (p.hits, (p.size, (p.greatest, (p.limit, p.builder))))))))
+      (λ t. timed_pass_by_size t.0 t.1.0 t.1.1.0 t.1.1.1.0 t.1.1.1.1.0 t.1.1.1.1.1.0 t.1.1.1.1.1.1.0 t.1.1.1.1.1.1.1) (λ _. refl)
 
   -- the same without times
-  abbrev pub untimed : TimedPassBySize K → PassBySize K
-  untimed p = pass_by_size (positions_of p.seen) p.sizes p.requests p.hits p.size p.greatest
+  abbrev pub untimed : TimedPassBySize K S → PassBySize K S
+  untimed p = pass_by_size (positions_of p.seen) p.sizes p.requests p.hits p.size p.greatest p.builder
 
 module _ {K : Type 0} (eq : K → K → Bool) where
   module _ (weight : K → ℕ) (idle : ℕ) where
@@ -59,7 +62,7 @@ module _ {K : Type 0} (eq : K → K → Bool) where
       pub size : (c : ℕ) → idle_missed_size c (reverse past) + hit_size c hits ≡ size_of_all weight (keys_of past)
 
     -- a pass with this limit that has taken these requests, the latest first
-    pub record IsSizedIdlePass (past : List (K × ℕ)) (p : TimedPassBySize K) : Type 0 where
+    pub record IsSizedIdlePass {S : Type 0} (past : List (K × ℕ)) (p : TimedPassBySize K S) : Type 0 where
       pub limit : p.limit ≡ idle
       pub ranked : IsRanked eq (λ x. 1 + weight x) (total eq weight)
           (keys_of past) (positions_of p.seen) p.requests (total_from p.sizes)
@@ -80,5 +83,5 @@ module _ {K : Type 0} (eq : K → K → Bool) where
       pub greatest_weight : curve.greatest_weight ≡ greatest_of weight (reverse (keys_of requests))
 
   -- what holds of every pass, whatever the keys weighed
-  abbrev pub IsSoundIdleBySize : List ℕ → TimedPassBySize K → Type 0
+  abbrev pub IsSoundIdleBySize : {S : Type 0} → List ℕ → TimedPassBySize K S → Type 0
   IsSoundIdleBySize nodes p = IsSoundBySize eq nodes (untimed p)

@@ -15,27 +15,29 @@ use Rattle.clru_model.specs.Requests.{distinct, since}
 use Rattle.clru_model.specs.Sizes.{total, misses_by_size, missed_size}
 
 -- each key with the number of its latest request; the sizes of these requests, with 0 for some others; how many requests there
--- were; for each that can hit its span and its size; the size of all requests, and the greatest weight
-pub record PassBySize (K : Type 0) : Type 0 where
+-- were; for each that can hit its span and its size; the size of all requests, the greatest weight, and the builder that hashes keys
+pub record PassBySize (K S : Type 0) : Type 0 where
   pub positions : List (K × ℕ)
   pub sizes : List Numbered
   pub requests : ℕ
   pub hits : List Step
   pub size : ℕ
   pub greatest : ℕ
+  pub builder : S
+
+module _ {K S : Type 0} where
+  abbrev pub pass_by_size : List (K × ℕ) → List Numbered → ℕ → List Step → ℕ → ℕ → S → PassBySize K S
+  pass_by_size ps ss n hs a g b = record { positions = ps; sizes = ss; requests = n; hits = hs; size = a; greatest = g; builder = b }
+
+  abbrev pub pass_by_size_code : Coded K → Coded S → Coded (PassBySize K S)
+  pass_by_size_code k s =
+      code_by (List (K × ℕ) × (List Numbered × (ℕ × (List Step × (ℕ × (ℕ × S))))))
+      (coded× (coded_list (coded× k coded_ℕ)) (coded× (coded_list numbered_code)
+      (coded× coded_ℕ (coded× (coded_list step_code) (coded× coded_ℕ (coded× coded_ℕ s))))))
+      (λ p. (p.positions, (p.sizes, (p.requests, (p.hits, (p.size, (p.greatest, p.builder)))))))
+      (λ t. pass_by_size t.0 t.1.0 t.1.1.0 t.1.1.1.0 t.1.1.1.1.0 t.1.1.1.1.1.0 t.1.1.1.1.1.1) (λ _. refl)
 
 module _ {K : Type 0} where
-  abbrev pub pass_by_size : List (K × ℕ) → List Numbered → ℕ → List Step → ℕ → ℕ → PassBySize K
-  pass_by_size ps ss n hs a g = record { positions = ps; sizes = ss; requests = n; hits = hs; size = a; greatest = g }
-
-  abbrev pub pass_by_size_code : Coded K → Coded (PassBySize K)
-  pass_by_size_code k =
-      code_by (List (K × ℕ) × (List Numbered × (ℕ × (List Step × (ℕ × ℕ)))))
-      (coded× (coded_list (coded× k coded_ℕ)) (coded× (coded_list numbered_code)
-      (coded× coded_ℕ (coded× (coded_list step_code) (coded× coded_ℕ coded_ℕ)))))
-      (λ p. (p.positions, (p.sizes, (p.requests, (p.hits, (p.size, p.greatest))))))
-      (λ t. pass_by_size t.0 t.1.0 t.1.1.0 t.1.1.1.0 t.1.1.1.1.0 t.1.1.1.1.1) (λ _. refl)
-
   -- the key that a refusal hands back
   abbrev pub key_of : SizedRequestError K → K
   key_of (NoMemory x) = x
@@ -73,7 +75,7 @@ module _ {K : Type 0} (eq : K → K → Bool) where
       pub again : length hits + distinct eq past ≡ length past
 
     -- a pass that has taken these requests, the latest first
-    pub record IsSizedPass (past : List K) (p : PassBySize K) : Type 0 where
+    pub record IsSizedPass {S : Type 0} (past : List K) (p : PassBySize K S) : Type 0 where
       pub ranked : IsRanked eq (λ x. 1 + weight x) (total eq weight)
           past p.positions p.requests (total_from p.sizes)
       pub hits : AreHits past p.hits
@@ -84,7 +86,7 @@ module _ {K : Type 0} (eq : K → K → Bool) where
       pub latest : (x : K) (q : ℕ) → lookup (eq x) p.positions ≡ Some q → q + 1 + length (since eq x past) ≡ length past
 
   -- what holds of every pass, whatever the keys weighed: each key has one size, and no sum passes that of all
-  pub record IsSoundBySize (nodes : List ℕ) (p : PassBySize K) : Type 0 where
+  pub record IsSoundBySize {S : Type 0} (nodes : List ℕ) (p : PassBySize K S) : Type 0 where
     pub summed : IsSummed p.sizes nodes p.requests
     pub past : List K
     pub ranked : IsRanked eq (λ x. 1) (distinct eq) past p.positions p.requests (live_from p.sizes)

@@ -1,9 +1,10 @@
 //! What `{:?}` prints of passes and curves: counts, and nothing of the keys.
 
+use crate::aged::AgedPass;
 use crate::curve::MissCurve;
 use crate::idle::IdlePass;
 use crate::pass::DistancePass;
-use crate::sized::{SizedCurve, SizedIdlePass, SizedPass};
+use crate::sized::{SizedAgedPass, SizedCurve, SizedIdlePass, SizedPass};
 use std::alloc::Allocator;
 use std::fmt;
 use std::hash::{BuildHasher, Hash};
@@ -44,6 +45,23 @@ impl<K: Eq + Hash, S: BuildHasher, A: Allocator + Copy> fmt::Debug for SizedIdle
             .field("size", &self.size)
             .field("distinct", &self.seen.len())
             .field("limit", &self.limit)
+            .finish()
+    }
+}
+
+impl<K: Eq + Hash, S: BuildHasher, A: Allocator + Copy> fmt::Debug for AgedPass<K, S, A> {
+    fn fmt<W: fmt::Write>(&self, f: &mut fmt::Formatter<W>) -> fmt::Result {
+        f.debug_struct("AgedPass")
+            .field("requests", &self.requests())
+            .finish()
+    }
+}
+
+impl<K: Eq + Hash, S: BuildHasher, A: Allocator + Copy> fmt::Debug for SizedAgedPass<K, S, A> {
+    fn fmt<W: fmt::Write>(&self, f: &mut fmt::Formatter<W>) -> fmt::Result {
+        f.debug_struct("SizedAgedPass")
+            .field("requests", &self.requests())
+            .field("size", &self.size())
             .finish()
     }
 }

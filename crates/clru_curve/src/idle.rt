@@ -2,16 +2,19 @@
 ghost use Rattle.std.specs.Prelude.{◌≡◌, ℕ, ◌+◌, ◌^◌, ◌<◌, List, [], ◌∷◌, length, reverse, slice_index, slice_set, ◌%◌, IfOk, IfErr, IfSome, OnOk, OnErr, IsOk, IsNone, IsSome, IsTrue, None, Some, is_some, true, false, if◌then◌else◌};
 ghost use Rattle.std.specs.List.{list_any};
 ghost use Rattle.std.specs.Map.{keys_of};
+ghost use Rattle.clru_linked_map.specs.LinkedMap.{hash_of};
 ghost use Rattle.clru_model.specs.Requests.{holds, distinct};
 ghost use Rattle.clru_model.specs.Distances.{distance};
 ghost use Rattle.clru_curve.specs.IdlePasses.{IsIdlePass, HasIdleMissesOf};
 ghost use Rattle.clru_curve.specs.Seen.{reuse_by};
 
 use crate::curve::MissCurve;
+use crate::key_table::KeyTable;
 use crate::latest::Latest;
-use crate::pass::{copied, double_if_full, misses_of, move_position, no_positions};
+use crate::pass::{copied, misses_of};
 use crate::seen::{Seen, is_soon};
-use clru::{CLruCache, DefaultState, NoMemory, ZeroWeightScale};
+use clru_list::NoMemory;
+use clru_model::DefaultState;
 use std::alloc::{Allocator, Global};
 use std::collections::hash_map::Equivalent;
 use std::hash::{BuildHasher, Hash};
@@ -25,7 +28,7 @@ use std::marker::Model;
 ///
 /// Takes the memory of a `DistancePass`, and 8 bytes more for each distinct key.
 pub struct IdlePass<K: Eq + Hash, S: BuildHasher = DefaultState, A: Allocator + Copy = Global> {
-    pub(crate) seen: CLruCache<K, Seen, S, ZeroWeightScale, A>,
+    pub(crate) seen: KeyTable<K, Seen, S, A>,
     pub(crate) latest: Latest<A>,
     histogram: Vec<usize, A>,
     pub(crate) limit: usize,
@@ -48,14 +51,14 @@ impl<K: Eq + Hash + Drop, S: BuildHasher + Drop, A: Allocator + Copy> Drop for I
 impl<K: Eq + Hash, S: BuildHasher, A: Allocator + Copy> Model for IdlePass<K, S, A> {
     ghost use Rattle.clru_curve.specs.IdlePasses.{TimedPass, timed_pass, timed_pass_code, IsSoundIdle};
 
-    ghost Value = { TimedPass K };
+    ghost Value = { TimedPass K S };
 
-    ghost coded = { timed_pass_code K.code };
+    ghost coded = { timed_pass_code K.code S.code };
 
-    ghost view = { λ p. timed_pass p.seen.entries p.latest.blocks.items p.latest.requests p.histogram.items p.limit };
+    ghost view = { λ p. timed_pass p.seen.entries p.latest.blocks.items p.latest.requests p.histogram.items p.limit p.seen.builder };
 
     ghost invariant = { λ p. IsSoundIdle K.eq p.latest.nodes.items
-        (timed_pass p.seen.entries p.latest.blocks.items p.latest.requests p.histogram.items p.limit) };
+        (timed_pass p.seen.entries p.latest.blocks.items p.latest.requests p.histogram.items p.limit p.seen.builder) };
 }
 
 impl<K: Eq + Hash, A: Allocator + Copy> IdlePass<K, DefaultState, A> {
@@ -75,7 +78,7 @@ impl<K: Eq + Hash, S: BuildHasher, A: Allocator + Copy> IdlePass<K, S, A> {
         ensures { IsIdlePass K.eq limit [] result }
     {
         IdlePass {
-            seen: no_positions(alloc, hash_builder),
+            seen: KeyTable::empty(alloc, hash_builder),
             latest: Latest::new(alloc),
             histogram: Vec::new(alloc),
             limit,
@@ -101,11 +104,11 @@ impl<K: Eq + Hash, S: BuildHasher, A: Allocator + Copy> IdlePass<K, S, A> {
         ensures memory { (idle : ℕ) (past : List (K × ℕ)) → IsIdlePass K.eq idle past self.old → holds K.eq key (keys_of past) ≡ true
             → 0 < length past % 64 → length past + 1 < 2 ^ 64 → IsOk result }
     {
-        // Its invariant says that some requests were taken.
-        let _ = &self.seen;
-        match self.request_again(&key, time) {
+        // (reading a field also tells the proof the pass's invariant: some requests were taken)
+        let hash = self.seen.hash(&key);
+        match self.again_at(hash, &key, time) {
             Ok(Some(distance)) => Ok(distance),
-            Ok(None) => match self.request_new(key, time) {
+            Ok(None) => match self.request_new(hash, key, time) {
                 Ok(()) => Ok(None),
                 Err(key) => Err(key),
             },
@@ -138,12 +141,39 @@ impl<K: Eq + Hash, S: BuildHasher, A: Allocator + Copy> IdlePass<K, S, A> {
         ensures memory { (idle : ℕ) (past : List (K × ℕ)) → IsIdlePass K.eq idle past self.old
             → 0 < length past % 64 → length past + 1 < 2 ^ 64 → IsOk result }
     {
+        let hash = self.seen.hash(key);
+        self.again_at(hash, key, time)
+    }
+
+    /// `request_again`, with the hash of the key.
+    fn again_at<Q: Equivalent<K>>(
+        &mut self,
+        hash: u64,
+        key: Q,
+        time: usize,
+    ) -> Result<Option<Option<usize>>, Q>
+        requires hash { hash ≡ hash_of Q.Hash S.BuildHasher S.Hasher.Hasher self.old.builder key }
+        ensures distance { (idle : ℕ) (past : List (K × ℕ)) (x : K) → IsIdlePass K.eq idle past self.old → IsTrue (Q.equivalent key x)
+            → IfOk result (λ d. IfSome d (λ e. e ≡ reuse_by K.eq (distance K.eq) idle (x, time) past)) }
+        ensures taken { (idle : ℕ) (past : List (K × ℕ)) (x : K) → IsIdlePass K.eq idle past self.old → IsTrue (Q.equivalent key x)
+            → IfOk result (λ d. IsSome d → IsIdlePass K.eq idle ((x, time) ∷ past) self.new) }
+        ensures known { (idle : ℕ) (past : List (K × ℕ)) → IsIdlePass K.eq idle past self.old
+            → IfOk result (λ d. is_some d ≡ list_any (Q.equivalent key) (keys_of past)) }
+        ensures not_taken { (idle : ℕ) (past : List (K × ℕ)) → IsIdlePass K.eq idle past self.old
+            → IfOk result (λ d. IsNone d → IsIdlePass K.eq idle past self.new) }
+        ensures refused { (idle : ℕ) (past : List (K × ℕ)) → IsIdlePass K.eq idle past self.old
+            → OnErr result (IsIdlePass K.eq idle past self.new) }
+        ensures given_back { IfErr result (λ back. back ≡ key) }
+        ensures memory { (idle : ℕ) (past : List (K × ℕ)) → IsIdlePass K.eq idle past self.old
+            → 0 < length past % 64 → length past + 1 < 2 ^ 64 → IsOk result }
+        ensures builder { self.new.builder ≡ self.old.builder }
+    {
         let Ok(()) = self.latest.make_ready() else {
             return Err(key);
         };
         let position = self.latest.requests;
         let here = Seen { position, time };
-        let Some(before) = move_position(&mut self.seen, key, here) else {
+        let Some(before) = self.seen.replace(hash, key, here) else {
             return Ok(None);
         };
         let distance = self.latest.remove(before.position);
@@ -152,10 +182,11 @@ impl<K: Eq + Hash, S: BuildHasher, A: Allocator + Copy> IdlePass<K, S, A> {
         Ok(Some(count_if(&mut self.histogram, soon, distance)))
     }
 
-    /// Takes one more request, of a key that was not requested before.
-    fn request_new(&mut self, key: K, time: usize) -> Result<(), K>
+    /// Takes one more request, of a key that was not requested before, with its hash.
+    fn request_new(&mut self, hash: u64, key: K, time: usize) -> Result<(), K>
     where
         K: Drop,
+        requires hash { hash ≡ hash_of K.Hash S.BuildHasher S.Hasher.Hasher self.old.builder key }
         requires new { (idle : ℕ) × (past : List (K × ℕ)) × IsIdlePass K.eq idle past self.old
             × (holds K.eq key (keys_of past) ≡ false) }
         ensures taken { (idle : ℕ) (past : List (K × ℕ)) → IsIdlePass K.eq idle past self.old
@@ -170,10 +201,9 @@ impl<K: Eq + Hash, S: BuildHasher, A: Allocator + Copy> IdlePass<K, S, A> {
         let Ok(()) = self.histogram.reserve(1) else {
             return Err(key);
         };
-        double_if_full(&mut self.seen);
         let position = self.latest.requests;
         let here = Seen { position, time };
-        if let Err((key, _)) = self.seen.put(key, here) {
+        if let Err(key) = self.seen.insert(hash, key, here) {
             return Err(key);
         }
         self.latest.push();

@@ -2,7 +2,7 @@
 //!
 //! Each number is proved to be `misses` of the definitions by which `replay` is proved; they mention no cache.
 //!
-//! A pass notes for each key the number of its latest request, in a cache that drops nothing, and a bit for each request,
+//! A pass notes for each key the number of its latest request, in a hash table, and a bit for each request,
 //! which is set if that request is the latest of its key. The distance of a request is the number of bits after the one
 //! of its key; a Fenwick tree over the blocks counts them. A request costs a look-up, and steps that grow as the
 //! logarithm of the number of requests. Bits stand in blocks, and blocks without a set bit are dropped, so memory grows with the
@@ -12,9 +12,12 @@
 //! keeps a size for each request.
 #![tactic(auto)]
 
+mod aged;
 mod curve;
 mod debug;
+mod fetches;
 mod idle;
+mod key_table;
 mod latest;
 mod list;
 mod numbered;
@@ -23,13 +26,17 @@ mod seen;
 mod sized;
 mod tree;
 
-pub use clru::{DefaultState, NoMemory, WeightScale};
+pub use aged::AgedPass;
+pub use clru_list::NoMemory;
 pub use clru_model::{
-    law_ages, law_bounds, law_distances, law_parts, law_sizes, law_spans_by_position,
+    DefaultState, WeightScale, law_ages, law_bounds, law_distances, law_parts, law_sizes,
+    law_spans_by_position,
 };
 pub use curve::MissCurve;
 pub use idle::IdlePass;
 pub use list::miss_curve;
 pub use pass::DistancePass;
-pub use sized::{SizedCurve, SizedIdlePass, SizedPass, SizedRequestError, Step, sized_curve};
+pub use sized::{
+    SizedAgedPass, SizedCurve, SizedIdlePass, SizedPass, SizedRequestError, Step, sized_curve,
+};
 pub use std::num::NonZeroUsize;

@@ -5,7 +5,7 @@ ghost use Rattle.clru_curve.specs.Curves.{HasMissesOf};
 
 use crate::curve::MissCurve;
 use crate::pass::DistancePass;
-use clru::NoMemory;
+use clru_list::NoMemory;
 use std::alloc::Allocator;
 use std::hash::{BuildHasher, Hash};
 

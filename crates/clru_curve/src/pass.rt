@@ -3,33 +3,30 @@ ghost use Rattle.std.specs.Prelude.{◌≡◌, ℕ, suc, ◌+◌, ◌%◌, ◌^�
 ghost use Rattle.std.specs.List.{list_any};
 ghost use Rattle.std.specs.Map.{lookup, set_value};
 ghost use Rattle.clru_model.specs.Requests.{holds, distinct, since};
-ghost use Rattle.clru.specs.Cache.{with_entries};
+ghost use Rattle.clru_linked_map.specs.LinkedMap.{hash_of};
 ghost use Rattle.clru_curve.specs.Curves.{HasMissesOf};
 ghost use Rattle.clru_model.specs.Distances.{distance};
 ghost use Rattle.clru_curve.specs.Passes.{IsPass};
 
 use crate::curve::MissCurve;
+use crate::key_table::KeyTable;
 use crate::latest::Latest;
-use clru::{CLruCache, DefaultState, NoMemory, ZeroWeightScale};
+use clru_list::NoMemory;
+use clru_model::DefaultState;
 use std::alloc::{Allocator, Global};
 use std::collections::hash_map::Equivalent;
 use std::hash::{BuildHasher, Hash};
 use std::marker::Model;
-use std::mem;
-use std::num::NonZeroUsize;
-
-/// The capacity of a pass's cache at first.
-const FIRST_CAPACITY: usize = 64;
 
 /// A pass over requests, which takes them one by one and returns the distance of each.
 ///
 /// Clauses describe the requests that it has taken, the latest first, by `IsPass`: none at first, then each taken request
 /// comes in front. It returns a curve at any time.
 ///
-/// Takes memory for a position in a cache and a number for each distinct key, and 24 bytes for each block of 64 requests that has
+/// Takes memory for a position in a hash table and a number for each distinct key, and 24 bytes for each block of 64 requests that has
 /// the latest of a key, and for half as many blocks more and 4.
 pub struct DistancePass<K: Eq + Hash, S: BuildHasher = DefaultState, A: Allocator + Copy = Global> {
-    pub(crate) positions: CLruCache<K, usize, S, ZeroWeightScale, A>,
+    pub(crate) positions: KeyTable<K, usize, S, A>,
     pub(crate) latest: Latest<A>,
     histogram: Vec<usize, A>,
 }
@@ -51,14 +48,14 @@ impl<K: Eq + Hash + Drop, S: BuildHasher + Drop, A: Allocator + Copy> Drop
 impl<K: Eq + Hash, S: BuildHasher, A: Allocator + Copy> Model for DistancePass<K, S, A> {
     ghost use Rattle.clru_curve.specs.Passes.{Pass, pass, pass_code, IsSound};
 
-    ghost Value = { Pass K };
+    ghost Value = { Pass K S };
 
-    ghost coded = { pass_code K.code };
+    ghost coded = { pass_code K.code S.code };
 
-    ghost view = { λ p. pass p.positions.entries p.latest.blocks.items p.latest.requests p.histogram.items };
+    ghost view = { λ p. pass p.positions.entries p.latest.blocks.items p.latest.requests p.histogram.items p.positions.builder };
 
     ghost invariant = { λ p. IsSound K.eq p.latest.nodes.items
-        (pass p.positions.entries p.latest.blocks.items p.latest.requests p.histogram.items) };
+        (pass p.positions.entries p.latest.blocks.items p.latest.requests p.histogram.items p.positions.builder) };
 }
 
 impl<K: Eq + Hash, A: Allocator + Copy> DistancePass<K, DefaultState, A> {
@@ -78,7 +75,7 @@ impl<K: Eq + Hash, S: BuildHasher, A: Allocator + Copy> DistancePass<K, S, A> {
         ensures { IsPass K.eq [] result }
     {
         DistancePass {
-            positions: no_positions(alloc, hash_builder),
+            positions: KeyTable::empty(alloc, hash_builder),
             latest: Latest::new(alloc),
             histogram: Vec::new(alloc),
         }
@@ -90,7 +87,7 @@ impl<K: Eq + Hash, S: BuildHasher, A: Allocator + Copy> DistancePass<K, S, A> {
     ///
     /// If memory is refused, or there were `usize::MAX` requests, it returns the key, and the pass is unchanged. A key that was
     /// requested before asks for memory at most once in 64 requests.
-    /// Cost: one hash and a walk along one chain, for a new key those of a `put` too; and steps that grow as the logarithm of
+    /// Cost: one hash and a walk along one chain, for a new key a second walk; and steps that grow as the logarithm of
     /// the number of requests.
     pub fn request(&mut self, key: K) -> Result<Option<usize>, K>
     where
@@ -102,11 +99,11 @@ impl<K: Eq + Hash, S: BuildHasher, A: Allocator + Copy> DistancePass<K, S, A> {
         ensures memory { (past : List K) → IsPass K.eq past self.old → holds K.eq key past ≡ true
             → 0 < length past % 64 → length past + 1 < 2 ^ 64 → IsOk result }
     {
-        // Its invariant says that some requests were taken.
-        let _ = &self.positions;
-        match self.request_again(&key) {
+        // (reading a field also tells the proof the pass's invariant: some requests were taken)
+        let hash = self.positions.hash(&key);
+        match self.request_again_with_hash(hash, &key) {
             Ok(Some(distance)) => Ok(Some(distance)),
-            Ok(None) => match self.request_new(key) {
+            Ok(None) => match self.request_new_with_hash(hash, key) {
                 Ok(()) => Ok(None),
                 Err(key) => Err(key),
             },
@@ -134,11 +131,47 @@ impl<K: Eq + Hash, S: BuildHasher, A: Allocator + Copy> DistancePass<K, S, A> {
         ensures memory { (past : List K) → IsPass K.eq past self.old
             → 0 < length past % 64 → length past + 1 < 2 ^ 64 → IsOk result }
     {
+        let hash = self.positions.hash(key);
+        self.request_again_with_hash(hash, key)
+    }
+
+    /// Returns the hash of a key, by a form of it, for the calls that take one. Every form of the key has it, and the pass keeps its
+    /// hash builder.
+    /// Cost: one hash.
+    pub fn hash<Q: Equivalent<K>>(&self, key: Q) -> u64
+        ensures { result ≡ hash_of Q.Hash S.BuildHasher S.Hasher.Hasher self.now.builder key }
+    {
+        self.positions.hash(key)
+    }
+
+    /// Does what `request_again` does, with the hash of the key, and leaves the hash builder as it was. So `request_new_with_hash`
+    /// may follow with the same hash.
+    /// Cost: that of `request_again` without a hash.
+    pub fn request_again_with_hash<Q: Equivalent<K>>(
+        &mut self,
+        hash: u64,
+        key: Q,
+    ) -> Result<Option<usize>, Q>
+        requires hash { hash ≡ hash_of Q.Hash S.BuildHasher S.Hasher.Hasher self.old.builder key }
+        ensures distance { (past : List K) (x : K) → IsPass K.eq past self.old → IsTrue (Q.equivalent key x)
+            → IfOk result (λ d. d ≡ distance K.eq x past) }
+        ensures taken { (past : List K) (x : K) → IsPass K.eq past self.old → IsTrue (Q.equivalent key x)
+            → IfOk result (λ d. IsSome d → IsPass K.eq (x ∷ past) self.new) }
+        ensures known { (past : List K) → IsPass K.eq past self.old
+            → IfOk result (λ d. is_some d ≡ list_any (Q.equivalent key) past) }
+        ensures not_taken { (past : List K) → IsPass K.eq past self.old
+            → IfOk result (λ d. IsNone d → IsPass K.eq past self.new) }
+        ensures refused { (past : List K) → IsPass K.eq past self.old → OnErr result (IsPass K.eq past self.new) }
+        ensures given_back { IfErr result (λ back. back ≡ key) }
+        ensures memory { (past : List K) → IsPass K.eq past self.old
+            → 0 < length past % 64 → length past + 1 < 2 ^ 64 → IsOk result }
+        ensures builder { self.new.builder ≡ self.old.builder }
+    {
         let Ok(()) = self.latest.make_ready() else {
             return Err(key);
         };
         let here = self.latest.requests;
-        let Some(position) = move_position(&mut self.positions, key, here) else {
+        let Some(position) = self.positions.replace(hash, key, here) else {
             return Ok(None);
         };
         let distance = self.latest.remove(position);
@@ -156,17 +189,33 @@ impl<K: Eq + Hash, S: BuildHasher, A: Allocator + Copy> DistancePass<K, S, A> {
         ensures position { (past : List K) (x : K) → IsPass K.eq past self.now → IsTrue (Q.equivalent key x)
             → IfSome result (λ p. p + 1 + length (since K.eq x past) ≡ length past) }
     {
-        self.positions.peek(key).copied()
+        let hash = self.positions.hash(key);
+        self.positions.get(hash, key)
     }
 
     /// Takes one more request, of a key that was not requested before, as `request_again` tells. Unlike `request` it does not look
     /// the key up first.
     ///
     /// If memory is refused, or there were `usize::MAX` requests, it returns the key, and the pass is unchanged.
-    /// Cost: that of a `put`, and steps that grow as the logarithm of the number of requests.
+    /// Cost: one hash, and steps that grow as the logarithm of the number of requests.
     pub fn request_new(&mut self, key: K) -> Result<(), K>
     where
         K: Drop,
+        requires new { (past : List K) × IsPass K.eq past self.old × (holds K.eq key past ≡ false) }
+        ensures taken { (past : List K) → IsPass K.eq past self.old → OnOk result (IsPass K.eq (key ∷ past) self.new) }
+        ensures refused { (past : List K) → IsPass K.eq past self.old → OnErr result (IsPass K.eq past self.new) }
+        ensures given_back { IfErr result (λ back. back ≡ key) }
+    {
+        let hash = self.positions.hash(&key);
+        self.request_new_with_hash(hash, key)
+    }
+
+    /// Does what `request_new` does, with the hash of the key, which `hash` returns and no call changes.
+    /// Cost: that of `request_new` without a hash.
+    pub fn request_new_with_hash(&mut self, hash: u64, key: K) -> Result<(), K>
+    where
+        K: Drop,
+        requires hash { hash ≡ hash_of K.Hash S.BuildHasher S.Hasher.Hasher self.old.builder key }
         requires new { (past : List K) × IsPass K.eq past self.old × (holds K.eq key past ≡ false) }
         ensures taken { (past : List K) → IsPass K.eq past self.old → OnOk result (IsPass K.eq (key ∷ past) self.new) }
         ensures refused { (past : List K) → IsPass K.eq past self.old → OnErr result (IsPass K.eq past self.new) }
@@ -178,8 +227,8 @@ impl<K: Eq + Hash, S: BuildHasher, A: Allocator + Copy> DistancePass<K, S, A> {
         let Ok(()) = self.histogram.reserve(1) else {
             return Err(key);
         };
-        double_if_full(&mut self.positions);
-        if let Err((key, _)) = self.positions.put(key, self.latest.requests) {
+        let here = self.latest.requests;
+        if let Err(key) = self.positions.insert(hash, key, here) {
             return Err(key);
         }
         self.latest.push();
@@ -219,63 +268,6 @@ impl<K: Eq + Hash, S: BuildHasher, A: Allocator + Copy> DistancePass<K, S, A> {
         };
         misses_of(&mut misses, self.latest.requests);
         Ok(MissCurve::from_misses(misses))
-    }
-}
-
-/// A cache that holds nothing. It takes no memory.
-pub(crate) fn no_positions<K: Eq + Hash, V: Copy, S: BuildHasher, A: Allocator + Copy>(
-    alloc: A,
-    hash_builder: S,
-) -> CLruCache<K, V, S, ZeroWeightScale, A>
-    ensures { result.entries ≡ [] }
-{
-    let capacity = NonZeroUsize::MIN.saturating_add(FIRST_CAPACITY - 1);
-    CLruCache::with_hasher(alloc, capacity, hash_builder)
-}
-
-/// Doubles the capacity of a cache that is full, so that a put drops nothing.
-///
-/// The capacity bounds how far the places grow, fourfold else; each takes two buckets and a link, which are all written at once.
-pub(crate) fn double_if_full<K, V, S, A>(positions: &mut CLruCache<K, V, S, ZeroWeightScale, A>)
-where
-    K: Eq + Hash + Drop,
-    V: Copy,
-    S: BuildHasher,
-    A: Allocator + Copy,
-    requires { length positions.old.entries + 1 < 2 ^ 64 }
-    ensures entries { positions.new.entries ≡ positions.old.entries }
-    ensures room { length positions.new.entries < positions.new.capacity }
-{
-    let length = positions.len();
-    if length < positions.capacity() {
-        return;
-    }
-    match NonZeroUsize::new(length.saturating_mul(2)) {
-        Some(capacity) => positions.resize(capacity),
-        None => unreachable!(),
-    }
-}
-
-/// Gives a key that is held another position, and returns the one that it had.
-pub(crate) fn move_position<K, V, S, A, Q>(
-    positions: &mut CLruCache<K, V, S, ZeroWeightScale, A>,
-    key: Q,
-    here: V,
-) -> Option<V>
-where
-    K: Eq + Hash,
-    V: Copy,
-    S: BuildHasher,
-    A: Allocator + Copy,
-    Q: Equivalent<K>,
-    ensures found { result ≡ lookup (Q.equivalent key) positions.old.entries }
-    ensures same { IsNone result → positions.new ≡ positions.old }
-    ensures moved { IsSome result → positions.new
-        ≡ with_entries positions.old (set_value (Q.equivalent key) positions.old.entries here) }
-{
-    match positions.peek_mut(key) {
-        Some(position) => Some(mem::replace(position, here)),
-        None => None,
     }
 }
 

@@ -1,5 +1,6 @@
 //! The same pass over requests of keys that weigh something.
 
+mod aged;
 mod curve;
 mod error;
 mod idle;
@@ -8,6 +9,7 @@ mod pass;
 mod sizes;
 mod step;
 
+pub use aged::SizedAgedPass;
 pub use curve::SizedCurve;
 pub use error::SizedRequestError;
 pub use idle::SizedIdlePass;

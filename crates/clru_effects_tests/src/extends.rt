@@ -1,6 +1,6 @@
 //! The memory of `extend` and of `from_iter`: their puts ask for it one by one, and the first refusal ends them.
 
-use crate::plain::{Plain, REQUESTS, holds_those_below, room, takes_out_those_below};
+use crate::plain::{Plain, REQUESTS, room};
 use clru::{CLruCache, DefaultState, NoMemory, NonZeroUsize};
 use ration::{Rationed, equal};
 use std::alloc::Global;
@@ -51,35 +51,20 @@ fn each_refusal_ends_an_extend(rt: HostRuntime) {
         } else {
             Ok(())
         };
-        equal!(rt; (ends(&heap, hundred, n), heap.blocks()), ((back, counts_after(n), true), 0), n);
+        equal!(rt; (ends(&heap, hundred, n), heap.blocks()), ((back, counts_after(n)), 0), n);
     }
 }
 
-/// What comes back of an extend by nine keys that is refused memory, its counts, and whether the cache then has what was
-/// stored and takes the rest.
+/// What comes back of an extend by nine keys that is refused memory, and its counts.
 fn ends(
     heap: &Rationed<Global>,
     capacity: NonZeroUsize,
     n: u64,
-) -> (Result<(), (u64, u64)>, Counts, bool) {
+) -> (Result<(), (u64, u64)>, Counts) {
     let drawn = Cell::new(0);
-    let mut cache = CLruCache::new(heap, capacity);
     heap.refuse_after(n);
-    let refused = extends(&mut cache, 0, 9, &drawn);
-    let counts = counts(heap, &drawn);
-    heap.refuse_none();
-    (
-        refused,
-        counts,
-        goes_on(&mut cache, stored_after(n), &drawn),
-    )
-}
-
-fn goes_on(cache: &mut Plain, stored: u64, drawn: &Cell<u64>) -> bool {
-    holds_those_below(cache, stored)
-        && extends(cache, stored, 9, drawn).is_ok()
-        && holds_those_below(cache, 9)
-        && takes_out_those_below(cache, 9)
+    let refused = extends(&mut CLruCache::new(heap, capacity), 0, 9, &drawn);
+    (refused, counts(heap, &drawn))
 }
 
 /// Counts how many there are.
@@ -144,19 +129,12 @@ fn each_refusal_ends_a_from_iter(rt: HostRuntime) {
     }
 }
 
-/// Whether nine keys make a cache of these where memory is refused, and the counts.
+/// Whether nine keys make a cache where memory is refused, and the counts.
 fn is_collected(heap: &Rationed<Global>, n: u64) -> (bool, Counts) {
     let drawn = Cell::new(0);
     heap.refuse_after(n);
-    let collected = match collects(heap, 9, &drawn) {
-        Ok(mut cache) => is_nine(&mut cache),
-        Err(NoMemory) => false,
-    };
+    let collected = collects(heap, 9, &drawn).is_ok();
     (collected, counts(heap, &drawn))
-}
-
-fn is_nine(cache: &mut Plain) -> bool {
-    cache.capacity() == 9 && holds_those_below(cache, 9) && takes_out_those_below(cache, 9)
 }
 
 // The places are 4, 16, 64, 256, and then 1,000, or 1,024 where the capacity comes last. Where it is known, the index is made for

@@ -70,7 +70,8 @@ fn distances(heap: &Rationed<Global>) -> Option<(usize, u64)> {
         return None;
     }
     let before = heap.requests();
-    match pass.request_again("apple") {
+    let hash = pass.hash("apple");
+    match pass.request_again_with_hash(hash, "apple") {
         Ok(Some(distance)) => Some((distance, heap.requests().wrapping_sub(before))),
         _ => None,
     }
@@ -97,7 +98,8 @@ fn spans(heap: &Rationed<Global>) -> Option<(usize, u64)> {
         return None;
     }
     let before = heap.requests();
-    match pass.request_again("apple", 1) {
+    let hash = pass.hash("apple");
+    match pass.request_again_with_hash(hash, "apple", 1) {
         Ok(Some(span)) => Some((span, heap.requests().wrapping_sub(before))),
         _ => None,
     }

@@ -2,20 +2,13 @@
 //!
 //! Owned values are dropped once, and refused memory changes nothing: iterators up to a refusal, constructors by a configuration,
 //! items that own memory, look-ups by a borrowed text, a source that takes memory itself, lent memory, an index above its limit for
-//! 4 bytes, and the counts of the allocator that refuses. For the programs: readers that fail, writers that are full or closed,
-//! the memory of a report, and the reading and writing of lines.
+//! 4 bytes, and the counts of the allocator that refuses. Those of programs are in `clru_report_tests`.
 #![tactic(auto)]
 
 #[cfg(test)]
 mod asserts;
 #[cfg(test)]
-mod costs;
-#[cfg(test)]
 mod extends;
-#[cfg(test)]
-mod fakes;
-#[cfg(test)]
-mod faults;
 #[cfg(test)]
 mod forms;
 #[cfg(test)]
@@ -23,8 +16,6 @@ mod index;
 pub mod kept;
 #[cfg(test)]
 mod lent;
-#[cfg(test)]
-mod lines;
 #[cfg(test)]
 mod lists;
 #[cfg(test)]
@@ -37,7 +28,5 @@ mod parts;
 mod plain;
 #[cfg(test)]
 mod rations;
-#[cfg(test)]
-mod shown;
 #[cfg(test)]
 mod stores;

@@ -1,13 +1,27 @@
 //! What a cache lends of what it was made with, and what a map and the allocator that refuses print.
 ghost use Rattle.std.specs.Prelude.{length};
+ghost use Rattle.std.specs.Hash.FoldHasher as folding;
 
-use crate::fakes::Counting;
 use crate::plain::room;
 use clru::{CLruCache, CLruCacheConfig, DefaultState, WeightScale};
 use clru_linked_map::LinkedHashMap;
 use ration::{Rationed, equal, shows};
 use std::alloc::{AllocError, Global};
-use std::cell::Cell;
+use std::hash::{BuildHasher, FoldHasher};
+
+/// A hash builder with a number of its own.
+#[derive(Clone, Copy)]
+struct Numbered(u64);
+
+impl BuildHasher for Numbered {
+    type Hasher = FoldHasher;
+
+    ghost build_hasher = { λ s. folding.initial };
+
+    fn build_hasher(&self) -> FoldHasher {
+        FoldHasher::default()
+    }
+}
 
 /// A text weighs its number of bytes.
 #[derive(Clone, Copy)]
@@ -21,18 +35,17 @@ impl WeightScale<u64, &'static str> for ByLength {
     }
 }
 
-type Texts<'a> = CLruCache<u64, &'static str, Counting<'a>, ByLength, &'a Rationed<Global>>;
+type Texts<'a> = CLruCache<u64, &'static str, Numbered, ByLength, &'a Rationed<Global>>;
 
 #[test]
 fn a_cache_lends_what_it_was_made_with(rt: HostRuntime) {
-    let count = Cell::new(7);
     let heap = Rationed::new(rt.alloc());
-    equal!(rt; lent_by_made(&heap, &count), Some((7, 3, 2)));
+    equal!(rt; lent_by_made(&heap), Some((7, 3, 2)));
 }
 
-fn lent_by_made(heap: &Rationed<Global>, count: &Cell<u64>) -> Option<(u64, usize, u64)> {
+fn lent_by_made(heap: &Rationed<Global>) -> Option<(u64, usize, u64)> {
     let config = CLruCacheConfig::new(room(4))
-        .with_hasher(Counting(count))
+        .with_hasher(Numbered(7))
         .with_memory(1)
         .with_scale(ByLength);
     match CLruCache::with_config(heap, config) {
@@ -41,10 +54,10 @@ fn lent_by_made(heap: &Rationed<Global>, count: &Cell<u64>) -> Option<(u64, usiz
     }
 }
 
-/// The count of hashes, the weight of a text, and the requests of the allocator.
+/// The number of the hash builder, the weight of a text, and the requests of the allocator.
 fn lent_by(cache: &Texts) -> (u64, usize, u64) {
     (
-        cache.hasher().0.get(),
+        cache.hasher().0,
         cache.scale().weight(&1, &"abc"),
         cache.allocator().requests(),
     )

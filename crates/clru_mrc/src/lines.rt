@@ -1,7 +1,7 @@
-//! What is noted of the lines of an input: how many there are, which one leads, and which is the first without a size.
+//! What is noted of the lines of an input: how many there are, which one leads, and which is the first without a size or a time.
 
 use crate::several::SizesOfKeys;
-use clru_report::{Options, Sample, size_of};
+use clru_report::{Options, Sample, size_of, time_of};
 use std::alloc::AllocError;
 use std::hash::RandomState;
 
@@ -23,6 +23,8 @@ pub(crate) struct Lines {
     pub(crate) size: u64,
     // Whether each line is to begin with a size.
     have_sizes: bool,
+    // Whether each line is to begin with a time.
+    have_times: bool,
     // The sizes of keys, where a key may have several.
     sizes: Option<SizesOfKeys>,
     // What is read of a line whose end is not read yet, and its last byte.
@@ -34,7 +36,7 @@ pub(crate) struct Lines {
     votes: u64,
     // How often the leader came since it leads.
     seen: u64,
-    // The number of the first line without a size.
+    // The number of the first line without a size, or without a time.
     odd_number: u64,
     odd: Vec<u8>,
 }
@@ -52,6 +54,7 @@ impl Lines {
             returns: 0,
             size: 0,
             have_sizes: options.sizes,
+            have_times: options.times.is_some(),
             // (of a sample no more is held than the sample)
             sizes: if options.sizes && !options.one_size && options.sample == Sample::Whole {
                 Some(SizesOfKeys::new(rt, seed))
@@ -114,11 +117,25 @@ impl Lines {
             Some(b'\r') => self.returns = self.returns.saturating_add(1),
             Some(_) => {}
         }
+        self.note_time();
         self.note_size();
         self.vote();
         self.begun.clear();
         self.last = None;
         self.is_long = false;
+    }
+
+    // (the time stands among the bytes that are kept, or the line has none)
+    fn note_time(&mut self) {
+        if self.have_times && self.odd_number == 0 && time_of(&self.begun).is_none() {
+            self.note_odd();
+        }
+    }
+
+    fn note_odd(&mut self) {
+        self.odd_number = self.count;
+        let beginning = self.begun.get(..SHOWN).unwrap_or(&self.begun);
+        let _ = self.odd.extend_from_slice(beginning);
     }
 
     // (the size stands among the bytes that are kept, or the line has none)
@@ -131,11 +148,7 @@ impl Lines {
                 self.size = self.size.saturating_add(size.get() as u64);
             }
             Some(_) => {}
-            None if self.odd_number == 0 => {
-                self.odd_number = self.count;
-                let beginning = self.begun.get(..SHOWN).unwrap_or(&self.begun);
-                let _ = self.odd.extend_from_slice(beginning);
-            }
+            None if self.odd_number == 0 => self.note_odd(),
             None => {}
         }
         if let Some(sizes) = &mut self.sizes {
@@ -187,7 +200,7 @@ impl Lines {
         }
     }
 
-    /// What stands in the line of this number, if it is the first without a size.
+    /// What stands in the line of this number, if it is the first without a size, or without a time.
     pub(crate) fn without_size(&self, number: usize) -> Option<&[u8]> {
         if self.odd_number == number as u64 {
             Some(self.odd.as_slice())
@@ -229,6 +242,21 @@ pub(crate) fn instead_of_size(line: &[u8]) -> &'static str {
         (0, None) => ", which is empty",
         (0, Some(b'-')) => ", where a - stands in place of the size",
         (0, _) => ", where no digit stands first",
+        (_, Some(b'\t')) => ", where a tab stands in place of the blank",
+        (_, Some(b' ')) => ", where the number is too great or has too many digits",
+        (_, None) => ", where nothing follows the number",
+        _ => ", where no blank follows the number",
+    }
+}
+
+/// What stands where a time should, in words that follow the line.
+pub(crate) fn instead_of_time(line: &[u8]) -> &'static str {
+    let other = line
+        .iter()
+        .find(|byte| !byte.is_ascii_digit() && **byte != b'.');
+    match (line.first(), other) {
+        (None, _) => ", which is empty",
+        (Some(first), _) if !first.is_ascii_digit() => ", where no digit stands first",
         (_, Some(b'\t')) => ", where a tab stands in place of the blank",
         (_, Some(b' ')) => ", where the number is too great or has too many digits",
         (_, None) => ", where nothing follows the number",

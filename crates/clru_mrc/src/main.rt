@@ -114,12 +114,21 @@ fn run_report(rt: &HostRuntime, options: &Options, progress: bool, seed: RandomS
             input.warn_of_ratio(output.last_row(options.sizes), options);
             None
         }
-        Err(Fault::NoSize(number)) => input.say_line(number),
+        Err(Fault::NoSize(number)) => input.say_line(number, options),
         Err(_) => None,
     };
-    match line {
-        Some(line) => report_outcome(rt, &outcome, &line),
-        None => report_outcome(rt, &outcome, ""),
+    let more = match &line {
+        Some(line) => line.as_str(),
+        None => "",
+    };
+    match outcome {
+        Err(Fault::NoSize(number)) if options.times.is_some() => {
+            let _ = eprintln!(rt;
+                "clru_mrc: line {number} has no time: with --times each begins with one and a blank, as in 1700000000.123 /index.html{more}"
+            );
+            exit_status(&outcome)
+        }
+        _ => report_outcome(rt, &outcome, more),
     }
 }
 

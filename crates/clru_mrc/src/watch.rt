@@ -1,6 +1,6 @@
 //! What standard error says of an input: how far it is read, and why it may be no log.
 
-use crate::lines::{FEW, Lines, instead_of_size, quoted};
+use crate::lines::{FEW, Lines, instead_of_size, instead_of_time, quoted};
 use crate::ratio::has_ratio;
 use crate::written::{LastRow, MILLION};
 use clru_report::{Capacities, Options, Sample};
@@ -25,7 +25,7 @@ pub(crate) struct Watch<'h, R> {
 }
 
 impl<'h, R: Read> Watch<'h, R> {
-    /// It tells of progress where it is asked to and the clock can be read, of a line without a size where each is to have one,
+    /// It tells of progress where it is asked to and the clock can be read, of a line without a size or a time where each is to have one,
     /// and of keys with several sizes unless each is to have one.
     pub(crate) fn new(
         rt: &'h HostRuntime,
@@ -205,10 +205,14 @@ impl<'h, R: Read> Watch<'h, R> {
         let _ = eprintln!(self.rt; "clru_mrc: {line}");
     }
 
-    /// What follows a fault that says that the line of this number has no size.
-    pub(crate) fn say_line(&self, number: usize) -> Option<String> {
+    /// What follows a fault that says that the line of this number has no size, or no time where each is to have one.
+    pub(crate) fn say_line(&self, number: usize, options: &Options) -> Option<String> {
         let line = self.lines.without_size(number)?;
-        let words = instead_of_size(line);
+        let words = if options.times.is_some() {
+            instead_of_time(line)
+        } else {
+            instead_of_size(line)
+        };
         let shown = quoted(self.rt, line).ok()?;
         format!(in self.rt.alloc(); ": it begins {shown}{words}").ok()
     }

@@ -4,14 +4,15 @@ use Rattle.std.specs.Prelude.{◌&&◌}
 use Rattle.std.specs.Option.{is_some, option_map}
 use Rattle.std.proofs.lemmas.Bool.{and_parts, or_left, or_right}
 use Rattle.clru_model.proofs.Cases.{split}
-use Rattle.clru_report.specs.Arguments.{IsSampleOf, after_goes_together, form_of, wants_all, wants_part}
-use Rattle.clru_report.specs.Choices.{is_of_all, is_summary, is_whole}
+use Rattle.clru_report.specs.Arguments.{AreTimesOf, IsSampleOf, after_goes_together, form_of, forms_go_together, go_together, samples_go_together, times_go_together, wants_all, wants_part}
+use Rattle.clru_report.specs.Choices.{is_of_all, is_summary, is_untimed, is_whole}
 use Rattle.clru_report.specs.CommandLine.{Asked}
 use Rattle.clru_report.specs.Refusals.{IsRefusedBy, IsRefusedFor}
 use Rattle.clru_lines.specs.declared.fault.Fault.{Fault}
 use Rattle.clru_report.specs.declared.options.Form.{Form}
 use Rattle.clru_report.specs.declared.options.Options.{Options}
 use Rattle.clru_report.specs.declared.options.Sample.{Sample}
+use Rattle.clru_report.specs.declared.options.Times.{Times}
 use Rattle.clru_report.specs.declared.options.Sample.TheVariants.{Whole, OneIn, Taken}
 
 whole_of : (asked : Asked) (sample : Sample) → wants_part asked ≡ false → IsSampleOf asked sample → is_whole sample ≡ true
@@ -27,6 +28,15 @@ no_summary asked none =
 pub some_viewed : {X Y : Type 0} (view : X → Y) (o : Option X) → is_some o ≡ true → is_some (option_map view o) ≡ true
 some_viewed view None is = cc is
 some_viewed view (Some x) is = refl
+
+pub none_viewed : {X Y : Type 0} (view : X → Y) (o : Option X) → is_some (option_map view o) ≡ is_some o
+none_viewed view None = refl
+none_viewed view (Some x) = refl
+
+-- times are asked for if there are limits
+pub asked_for_times : (times : Bool) (idle : Option ℕ) (o : Option Times) → AreTimesOf times idle o → is_some o ≡ true → times ≡ true
+asked_for_times times idle None are some = cc some
+asked_for_times times idle (Some limits) are some = are.0
 
 abbrev rest_together : Asked → Bool
 rest_together asked = not (is_some asked.after && wants_part asked) && not (is_some asked.after && asked.one_size)
@@ -68,6 +78,42 @@ module _ (least floor : Bool) (sample : Sample) (form : Form) (none : is_of_all 
       split (is_whole sample)
       (λ t. t)
       (λ f. absurd (cc (or_right least _ (or_right floor _ (or_left (not (is_whole sample)) (is_summary form) (ap not f))), none)))
+
+-- what goes together does so in each part
+pub record AreTogether (asked : Asked) : Type 0 where
+  pub forms : forms_go_together asked ≡ true
+  pub samples : samples_go_together asked ≡ true
+  pub after : after_goes_together asked ≡ true
+  pub times : times_go_together asked ≡ true
+
+pub parts_of : (asked : Asked) → go_together asked ≡ true → AreTogether asked
+parts_of asked together =
+    let parts = and_parts (forms_go_together asked) _ together in
+    let rest = and_parts (samples_go_together asked) _ parts.1 in
+    let last = and_parts (after_goes_together asked) _ rest.1 in
+    record { forms = parts.0; samples = rest.0; after = last.0; times = last.1 }
+
+-- beside times nothing is asked for that they do not have
+pub timed_alone : (asked : Asked) → times_go_together asked ≡ true → asked.times ≡ true
+    → is_untimed asked.least asked.floor asked.sizes (is_some asked.after) (form_of asked) ≡ false
+timed_alone asked together some =
+    let first = and_parts (not (is_some asked.max_idle && not asked.times)) _ together in
+    let second = and_parts (not (asked.times && wants_all asked)) _ first.1 in
+    let third = and_parts (not (asked.times && asked.sizes)) (not (asked.times && is_some asked.after)) second.1 in
+    let all : not (wants_all asked) ≡ true = rw some at second.0 in
+    let sizes : not asked.sizes ≡ true = rw some at third.0 in
+    let after : not (is_some asked.after) ≡ true = rw some at third.1 in
+    split asked.least
+    (λ t. absurd (cc (rw t at all)))
+    (λ l. split asked.floor
+    (λ t. absurd (cc (rw (l, t) at all)))
+    (λ f. split asked.summary
+    (λ t. absurd (cc (rw (l, f, t) at all)))
+    (λ s. split asked.sizes
+    (λ t. absurd (cc (rw t at sizes)))
+    (λ o. split (is_some asked.after)
+    (λ t. absurd (cc (rw t at after)))
+    (λ n. rw (l, f, o, n, no_summary asked s) refl)))))
 
 -- of a whole log the fault is that of all lines
 pub refused_whole : {A : Type 0} (sample : Sample) (fault : Fault) (options : Options A) (lines : List (List ℕ)) → is_whole sample ≡ true

@@ -29,3 +29,6 @@ mod SizedReports
 mod SizedSamples
 mod SortedSets
 pub mod TakenLines
+mod TimedForms
+mod TimedLines
+mod TimedViews

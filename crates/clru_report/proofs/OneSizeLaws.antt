@@ -19,6 +19,7 @@ use Rattle.std.proofs.lemmas.List.Folds.{list_all-append}
 use Rattle.clru_curve.specs.SizedCurves.{greatest_of}
 use Rattle.clru_lines.specs.Lines.{are_digits, is_capacity}
 use Rattle.clru_report.specs.OneSize.{greatest_of_key, tail_of_line, tail_from, with_greatest}
+use Rattle.clru_report.specs.OneSizeLaws.{IsSizeOfOne}
 use Rattle.clru_report.specs.Sizes.{HaveSizes, is_zero, size_before, size_in, size_of_line, weight_of_line}
 
 -- each digit that is written is one
@@ -127,6 +128,43 @@ none_greater lines line in_lines =
     let own : test (get_or lines in_lines.0 line) ≡ true =
     ap test at ∙ (bytes_eq-Decides (tail_of_line line) (tail_of_line line)).1 refl in
     omega (arith, among test lines in_lines.0 line in_lines.1 own, ap weight_of_line at, greatest_reversed (filter test lines))
+
+-- the greatest weight of those that pass, if it is more than 0, is that of one of them
+one_has_it : (test : List ℕ → Bool) (d : List ℕ) (lines : List (List ℕ)) → 0 < greatest (filter test lines)
+    → (k : ℕ) × (k < length lines) × (test (get_or lines k d) ≡ true) × (greatest (filter test lines) ≡ weight_of_line (get_or lines k d))
+one_has_it test d [] some = absurd (omega (arith, some))
+one_has_it test d (l ∷ ls) some =
+    split (test l)
+    (λ t. split (nat_lt (greatest (filter test ls)) (weight_of_line l))
+    (λ more. (0, (omega arith, (t, rw (t, more) refl))))
+    (λ less. let same : greatest (filter test (l ∷ ls)) ≡ greatest (filter test ls) = rw (t, less) refl in
+    let ih = one_has_it test d ls (subst (λ n. 0 < n) same some) in
+    (suc ih.0, (omega (arith, ih.1.0), (ih.1.1.0, same ∙ ih.1.1.1)))))
+    (λ f. let same : greatest (filter test (l ∷ ls)) ≡ greatest (filter test ls) = rw f refl in
+    let ih = one_has_it test d ls (subst (λ n. 0 < n) same some) in
+    (suc ih.0, (omega (arith, ih.1.0), (ih.1.1.0, same ∙ ih.1.1.1))))
+
+pub greatest_of_one : (lines : List (List ℕ)) (line : List ℕ) → Contains lines line → IsSizeOfOne lines line
+greatest_of_one lines line in_lines =
+    let test = λ (l : List ℕ). bytes_eq (tail_of_line line) (tail_of_line l) in
+    let at : get_or lines in_lines.0 line ≡ line = in_lines.2 in
+    let own : test (get_or lines in_lines.0 line) ≡ true =
+    ap test at ∙ (bytes_eq-Decides (tail_of_line line) (tail_of_line line)).1 refl in
+    let low = among test lines in_lines.0 line in_lines.1 own in
+    split (nat_lt 0 (greatest (filter test lines)))
+    (λ t. let found = one_has_it test line lines (ltb-true 0 (greatest (filter test lines)) t) in
+    record {
+      one = get_or lines found.0 line;
+      inside = (found.0, (found.1.0, refl));
+      same_key = sym ((bytes_eq-Decides (tail_of_line line) (tail_of_line (get_or lines found.0 line))).0 found.1.1.0);
+      size = omega (arith, found.1.1.1, greatest_reversed (filter test lines));
+    })
+    (λ f. record {
+      one = line;
+      inside = in_lines;
+      same_key = refl;
+      size = omega (arith, ltb-false 0 (greatest (filter test lines)) f, low, ap weight_of_line at, greatest_reversed (filter test lines));
+    })
 
 module _ (lines : List (List ℕ)) (line : List ℕ) (sizes : HaveSizes lines) (in_lines : Contains lines line) where
   has_size : IsSome (size_of_line line)

@@ -35,8 +35,8 @@ size_more lines rest line = omega (
   sum_by-cons (λ x. 1 + weight_of_line x) line rest,
 )
 
-pub counted_more : {A : Type 0} (floored : Bool) (n : ℕ) (lines : List (List ℕ)) (line : List ℕ) (size more : ℕ)
-    (pass next : PassBySize (OwnedKey A)) (reused after : Option Reused)
+pub counted_more : {A S : Type 0} (floored : Bool) (n : ℕ) (lines : List (List ℕ)) (line : List ℕ) (size more : ℕ)
+    (pass next : PassBySize (OwnedKey A) S) (reused after : Option Reused)
     → HasTakenOf floored n lines size pass reused → IsSome (size_of_line line) → more ≡ size + (1 + weight_of_line line)
     → HasTaken floored (kept_of n (lines ++ line ∷ [])) next after → HasTakenOf floored n (lines ++ line ∷ []) more next after
 counted_more floored n lines line size more pass next reused after of sized sum taken = record {

@@ -31,7 +31,7 @@ one_more : {A : Type 0} (lines : List (List ℕ)) (past : List (OwnedKey A)) (ke
 one_more lines past key line shown is =
     shown_more key past ∙ ap (λ ls. ls ++ line_of key ∷ []) shown ∙ ap (λ l. lines ++ l ∷ []) is
 
-pub key_taken : {A : Type 0} (past : List (OwnedKey A)) (key : OwnedKey A) (line : List ℕ) (next : Pass (OwnedKey A))
+pub key_taken : {A S : Type 0} (past : List (OwnedKey A)) (key : OwnedKey A) (line : List ℕ) (next : Pass (OwnedKey A) S)
     → line_of key ≡ line → IsPass same_line (key ∷ past) next → HasTakenKey past line next
 key_taken past key line next is taken = record { key = key; is = is; taken = taken }
 
@@ -49,10 +49,10 @@ module _ {A : Type 0} (lines : List (List ℕ)) (past : List (OwnedKey A)) (show
   foreseen_by least None h = h
   foreseen_by least (Some later) h = (h.0, record { past = past; shown = shown; taken = h.1 })
 
-module _ {A : Type 0} (least floored : Bool) (lines : List (List ℕ)) (pass : Pass (OwnedKey A)) (later : Option (List ℕ))
+module _ {A S : Type 0} (least floored : Bool) (lines : List (List ℕ)) (pass : Pass (OwnedKey A) S) (later : Option (List ℕ))
     (reused : Option Reused) (all : HasTakenFor least floored lines pass later reused) where
   -- one more line
-  pub one_taken : (line : List ℕ) (next : Pass (OwnedKey A)) (after : Option (List ℕ)) (more : Option Reused)
+  pub one_taken : (line : List ℕ) (next : Pass (OwnedKey A) S) (after : Option (List ℕ)) (more : Option Reused)
       → ((same : OwnedKey A) → line_of same ≡ line → HasForesight least (same ∷ all.past) after)
       → ((same : OwnedKey A) → line_of same ≡ line → HasFloorPass (λ _. 0) floored (same ∷ all.past) more)
       → HasTakenKey all.past line next → HasTakenFor least floored (lines ++ line ∷ []) next after more
@@ -70,9 +70,9 @@ module _ {A : Type 0} (least floored : Bool) (lines : List (List ℕ)) (pass : P
   pub foreseen_for : IsForeseenFor A least lines later
   foreseen_for = foreseen_by lines all.past all.shown least later all.foreseen
 
-module _ {A : Type 0} (lines : List (List ℕ)) (pass : Pass (OwnedKey A)) (taken : HasTakenLines lines pass) where
+module _ {A S : Type 0} (lines : List (List ℕ)) (pass : Pass (OwnedKey A) S) (taken : HasTakenLines lines pass) where
   -- one more line
-  pub line_taken : (line : List ℕ) (next : Pass (OwnedKey A)) → HasTakenKey taken.past line next → HasTakenLines (lines ++ line ∷ []) next
+  pub line_taken : (line : List ℕ) (next : Pass (OwnedKey A) S) → HasTakenKey taken.past line next → HasTakenLines (lines ++ line ∷ []) next
   line_taken line next one = record {
     past = one.key ∷ taken.past;
     shown = one_more lines taken.past one.key line taken.shown one.is;
@@ -93,14 +93,14 @@ module _ {A : Type 0} (lines : List (List ℕ)) (pass : Pass (OwnedKey A)) (take
         ∙ ap (distinct bytes_eq) (sym (reverse-reverse (map line_of taken.past))
         ∙ ap reverse (sym (map-reverse line_of taken.past) ∙ taken.shown))
 
-pub sized_taken : {A : Type 0} (past : List (OwnedKey A)) (key : OwnedKey A) (line : List ℕ) (next : PassBySize (OwnedKey A))
+pub sized_taken : {A S : Type 0} (past : List (OwnedKey A)) (key : OwnedKey A) (line : List ℕ) (next : PassBySize (OwnedKey A) S)
     → line_of key ≡ line → IsSizedPass same_line weight_of_key (key ∷ past) next → HasTakenSized past line next
 sized_taken past key line next is taken = record { key = key; is = is; taken = taken }
 
-module _ {A : Type 0} (floored : Bool) (lines : List (List ℕ)) (pass : PassBySize (OwnedKey A)) (reused : Option Reused)
+module _ {A S : Type 0} (floored : Bool) (lines : List (List ℕ)) (pass : PassBySize (OwnedKey A) S) (reused : Option Reused)
     (taken : HasTaken floored lines pass reused) where
   -- one more line, which has a size
-  pub taken_more : (line : List ℕ) (next : PassBySize (OwnedKey A)) (more : Option Reused) → IsSome (size_of_line line)
+  pub taken_more : (line : List ℕ) (next : PassBySize (OwnedKey A) S) (more : Option Reused) → IsSome (size_of_line line)
       → ((same : OwnedKey A) → line_of same ≡ line → HasFloorPass weight_of_line floored (same ∷ taken.past) more)
       → HasTakenSized taken.past line next → HasTaken floored (lines ++ line ∷ []) next more
   taken_more line next more size noted one = record {
@@ -119,11 +119,11 @@ module _ {A : Type 0} (floored : Bool) (lines : List (List ℕ)) (pass : PassByS
       (curve-view bytes_eq weight_of_line line_of (reverse taken.past) curve (made taken.past taken.taken))
 
 -- after lines with sizes the next is the first without
-take_before : (lines rest : List (List ℕ)) → take (length lines) (lines ++ rest) ≡ lines
+pub take_before : (lines rest : List (List ℕ)) → take (length lines) (lines ++ rest) ≡ lines
 take_before [] rest = refl
 take_before (l ∷ ls) rest = ap (λ xs. l ∷ xs) (take_before ls rest)
 
-next_of : (lines rest : List (List ℕ)) (line : List ℕ) → slice_get (lines ++ line ∷ rest) (length lines) ≡ Some line
+pub next_of : (lines rest : List (List ℕ)) (line : List ℕ) → slice_get (lines ++ line ∷ rest) (length lines) ≡ Some line
 next_of [] rest line = refl
 next_of (l ∷ ls) rest line = next_of ls rest line
 

@@ -19,6 +19,7 @@ use Rattle.clru_report.specs.declared.options.Form.TheVariants.{Table, Json, Pic
 use Rattle.clru_report.specs.declared.options.Look.{Look}
 use Rattle.clru_report.specs.declared.options.Options.{Options}
 use Rattle.clru_report.specs.declared.options.Sample.{Sample}
+use Rattle.clru_report.specs.declared.options.Times.{Times}
 use Rattle.clru_report.specs.declared.options.Sample.TheVariants.{Whole, OneIn, Taken}
 
 -- some capacity is named
@@ -102,8 +103,19 @@ abbrev pub after_goes_together : Asked → Bool
 after_goes_together asked = not (is_some asked.after && wants_all asked)
     && (not (is_some asked.after && wants_part asked) && not (is_some asked.after && asked.one_size))
 
+-- limits need times, and beside these neither what is of all requests is asked for, nor sizes, nor that the first are not counted
+abbrev pub times_go_together : Asked → Bool
+times_go_together asked = not (is_some asked.max_idle && not asked.times)
+    && (not (asked.times && wants_all asked) && (not (asked.times && asked.sizes) && not (asked.times && is_some asked.after)))
+
 abbrev pub go_together : Asked → Bool
-go_together asked = forms_go_together asked && (samples_go_together asked && after_goes_together asked)
+go_together asked = forms_go_together asked
+    && (samples_go_together asked && (after_goes_together asked && times_go_together asked))
+
+-- lines begin with times, and this is the limit
+abbrev pub AreTimesOf : Bool → Option ℕ → Option Times → Type 0
+AreTimesOf times idle None = times ≡ false
+AreTimesOf times idle (Some limits) = (times ≡ true) × (limits.max_idle ≡ idle)
 
 module _ {A : Type 0} where
   -- what a draft holds, as numbers and bytes
@@ -128,6 +140,8 @@ module _ {A : Type 0} where
     unit = option_map string_bytes draft.look.unit;
     from = option_map non_zero_usize_get draft.look.from;
     to = option_map non_zero_usize_get draft.look.to;
+    times = draft.times;
+    max_idle = draft.max_idle;
   }
 
   -- the capacities are all, or those of these numbers for one key in n, or that of a ratio of the hits or of the hit bytes, or the
@@ -157,6 +171,7 @@ module _ {A : Type 0} where
     pub sample : IsSampleOf asked options.sample
     pub after : option_map non_zero_usize_get options.after ≡ asked.after
     pub look : IsLookOf asked options.look
+    pub times : AreTimesOf asked.times asked.max_idle options.times
     pub capacities : AreCapacitiesOf asked.all asked.named asked.hit_ratio asked.byte_hit_ratio (one_in options.sample) options.capacities
 
   -- a report is asked for, and these are its options

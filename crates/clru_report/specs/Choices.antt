@@ -37,3 +37,7 @@ is_summary Summary = true
 -- something is asked for that requests behind the first ones do not have
 abbrev pub is_of_all : Bool → Bool → Sample → Form → Bool
 is_of_all least floor sample form = least || (floor || (not (is_whole sample) || is_summary form))
+
+-- something is asked for that requests with times do not have
+abbrev pub is_untimed : Bool → Bool → Bool → Bool → Form → Bool
+is_untimed least floor sizes behind form = least || (floor || (sizes || (behind || is_summary form)))

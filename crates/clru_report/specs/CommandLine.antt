@@ -4,8 +4,9 @@ use Rattle.std.specs.List.{slice_split, starts_with}
 use Rattle.std.specs.Option.{option_and_then, option_or}
 use Rattle.clru_report.specs.Numbers.{number_in}
 use Rattle.clru_report.specs.Ratios.{ratio_in}
+use Rattle.clru_report.specs.Times.{duration_in}
 use Rattle.clru_report.specs.declared.arguments.Value.{Value}
-use Rattle.clru_report.specs.declared.arguments.Value.TheVariants.{Capacities, Sample, Sampled, Requests, After, Title, Unit, From, To, HitRatio, ByteHitRatio}
+use Rattle.clru_report.specs.declared.arguments.Value.TheVariants.{Capacities, Sample, Sampled, Requests, After, Title, Unit, From, To, HitRatio, ByteHitRatio, MaxIdle}
 
 -- what was asked for so far
 pub record Asked : Type 0 where
@@ -28,6 +29,8 @@ pub record Asked : Type 0 where
   pub unit : Option (List ℕ)
   pub from : Option ℕ
   pub to : Option ℕ
+  pub times : Bool
+  pub max_idle : Option ℕ
 
 -- nothing
 abbrev pub nothing : Asked
@@ -51,6 +54,8 @@ nothing = record {
   unit = None;
   from = None;
   to = None;
+  times = false;
+  max_idle = None;
 }
 
 -- f of a value, if there is one
@@ -81,6 +86,7 @@ with_value_of Title word asked = Some (record asked { title = Some word })
 with_value_of Unit word asked = Some (record asked { unit = Some word })
 with_value_of From word asked = with_value (λ n. record asked { from = Some n }) (number_in word)
 with_value_of To word asked = with_value (λ n. record asked { to = Some n }) (number_in word)
+with_value_of MaxIdle word asked = with_value (λ t. record asked { max_idle = Some t }) (duration_in word)
 
 -- the value that follows an argument, if one does
 abbrev pub value_behind : List ℕ → Option Value
@@ -95,7 +101,8 @@ value_behind word =
     (if bytes_eq word (codes "--title") then Some Title else
     (if bytes_eq word (codes "--unit") then Some Unit else
     (if bytes_eq word (codes "--from") then Some From else
-    (if bytes_eq word (codes "--to") then Some To else None))))))))))
+    (if bytes_eq word (codes "--to") then Some To else
+    (if bytes_eq word (codes "--max-idle") then Some MaxIdle else None)))))))))))
 
 -- what is asked for after a flag, if the argument is one
 abbrev pub with_flag : List ℕ → Asked → Option Asked
@@ -107,7 +114,8 @@ with_flag word asked =
     (if bytes_eq word (codes "--floor") then Some (record asked { floor = true }) else
     (if bytes_eq word (codes "--json") then Some (record asked { json = true }) else
     (if bytes_eq word (codes "--svg") then Some (record asked { svg = true }) else
-    (if bytes_eq word (codes "--summary") then Some (record asked { summary = true }) else None)))))))
+    (if bytes_eq word (codes "--summary") then Some (record asked { summary = true }) else
+    (if bytes_eq word (codes "--times") then Some (record asked { times = true }) else None))))))))
 
 -- what is asked for after an argument that no value follows, if the word is one
 abbrev pub with_argument : List ℕ → Asked → Option Asked

@@ -14,6 +14,7 @@ pub mod Numbers
 pub mod OneSize
 pub mod OneSizeLaws
 pub mod Passes
+pub mod PlainRows
 pub mod RatioLaws
 pub mod Ratios
 pub mod Refusals
@@ -27,3 +28,6 @@ pub mod SizedReport
 pub mod SizedTables
 pub mod Sizes
 pub mod Tables
+pub mod Timed
+pub mod TimedPasses
+pub mod Times

@@ -18,3 +18,13 @@ KeysStay = (lines : List (List ℕ)) (line : List ℕ) → HaveSizes lines → C
 abbrev pub NoneIsGreater : Type 0
 NoneIsGreater = (lines : List (List ℕ)) (line : List ℕ) → Contains lines line
     → 1 + weight_of_line line ≤ greatest_of_key lines (tail_of_line line)
+
+-- and one has it
+pub record IsSizeOfOne (lines : List (List ℕ)) (line : List ℕ) : Type 0 where
+  pub one : List ℕ
+  pub inside : Contains lines one
+  pub same_key : tail_of_line one ≡ tail_of_line line
+  pub size : greatest_of_key lines (tail_of_line line) ≡ 1 + weight_of_line one
+
+abbrev pub GreatestIsOfOne : Type 0
+GreatestIsOfOne = (lines : List (List ℕ)) (line : List ℕ) → Contains lines line → IsSizeOfOne lines line

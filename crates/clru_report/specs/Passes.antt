@@ -3,7 +3,7 @@ use Rattle.std.specs.Prelude.{◌≡◌, Bool, true, false, ◌&&◌, Option, No
 use Rattle.std.specs.List.{All, Contains}
 use Rattle.clru_curve.specs.SizedCurves.{CurveBySize, IsSizedCurveOf, misses_within, missed_size_within}
 use Rattle.clru_curve.specs.SizedPasses.{PassBySize, IsSizedPass}
-use Rattle.clru_curve.specs.Curves.{HasMissesOf}
+use Rattle.clru_curve.specs.Curves.{HasMissesOf, misses_at}
 use Rattle.clru_curve.specs.Passes.{IsPass, Pass}
 use Rattle.clru_least.specs.Passes.{IsForesight}
 use Rattle.clru_least.specs.FloorNumbers.{Floored, IsFloorOf, IsSizeFloorOf, floor_at, size_floor_at}
@@ -30,6 +30,10 @@ use Rattle.clru_report.specs.declared.text.Counts.{Counts}
 use Rattle.clru_report.specs.declared.sized.floors.Floors.{Floors}
 use Rattle.clru_report.specs.declared.sized.floors.RowFloor.{RowFloor}
 use Rattle.clru_report.specs.declared.sized.rows.SizedRow.{SizedRow}
+
+-- at each capacity the curve has so many misses
+abbrev pub HasMisses : (ℕ → ℕ) → List ℕ → Type 0
+HasMisses m curve = (k : ℕ) → 0 < k → misses_at curve k ≡ m k
 
 -- the bytes of the line that a key is
 abbrev pub line_of : {A : Type 0} → OwnedKey A → List ℕ
@@ -75,13 +79,13 @@ pub record IsSizedCurveOfKept (n : ℕ) (input : List ℕ) (lines : List (List �
   pub in_bytes : bytes ≡ length input
 
 -- the pass took these lines
-pub record HasTakenLines {A : Type 0} (lines : List (List ℕ)) (pass : Pass (OwnedKey A)) : Type 0 where
+pub record HasTakenLines {A S : Type 0} (lines : List (List ℕ)) (pass : Pass (OwnedKey A) S) : Type 0 where
   pub past : List (OwnedKey A)
   pub shown : map line_of (reverse past) ≡ lines
   pub taken : IsPass same_line past pass
 
 -- after these keys the pass took one more, of this line
-pub record HasTakenKey {A : Type 0} (past : List (OwnedKey A)) (line : List ℕ) (pass : Pass (OwnedKey A)) : Type 0 where
+pub record HasTakenKey {A S : Type 0} (past : List (OwnedKey A)) (line : List ℕ) (pass : Pass (OwnedKey A) S) : Type 0 where
   pub key : OwnedKey A
   pub is : line_of key ≡ line
   pub taken : IsPass same_line (key ∷ past) pass
@@ -103,7 +107,7 @@ HasFloorPass weight floor past None = floor ≡ false
 HasFloorPass weight floor past (Some reused) = (floor ≡ true) × IsFloorPass same_line (λ key. weight (line_of key)) past reused
 
 -- the pass took these lines, and so did what is asked for beside it
-pub record HasTakenFor {A : Type 0} (least floor : Bool) (lines : List (List ℕ)) (pass : Pass (OwnedKey A))
+pub record HasTakenFor {A S : Type 0} (least floor : Bool) (lines : List (List ℕ)) (pass : Pass (OwnedKey A) S)
     (later : Option (List ℕ)) (reused : Option Reused) : Type 0 where
   pub past : List (OwnedKey A)
   pub shown : map line_of (reverse past) ≡ lines
@@ -138,7 +142,7 @@ IsTextByKeys Picture least floor counts knees rows text = HasTable (table_text f
 IsTextByKeys Summary least floor counts knees rows text = text ≡ summary_text counts.requests counts.distinct counts.bytes
 
 -- the pass took these lines, each of which has a size, and so did that for a floor if it is asked for
-pub record HasTaken {A : Type 0} (floor : Bool) (lines : List (List ℕ)) (pass : PassBySize (OwnedKey A)) (reused : Option Reused) : Type 0 where
+pub record HasTaken {A S : Type 0} (floor : Bool) (lines : List (List ℕ)) (pass : PassBySize (OwnedKey A) S) (reused : Option Reused) : Type 0 where
   pub past : List (OwnedKey A)
   pub shown : map line_of (reverse past) ≡ lines
   pub sizes : HaveSizes lines
@@ -146,13 +150,13 @@ pub record HasTaken {A : Type 0} (floor : Bool) (lines : List (List ℕ)) (pass 
   pub floored : HasFloorPass weight_of_line floor past reused
 
 -- after these keys the pass took one more, of this line
-pub record HasTakenSized {A : Type 0} (past : List (OwnedKey A)) (line : List ℕ) (pass : PassBySize (OwnedKey A)) : Type 0 where
+pub record HasTakenSized {A S : Type 0} (past : List (OwnedKey A)) (line : List ℕ) (pass : PassBySize (OwnedKey A) S) : Type 0 where
   pub key : OwnedKey A
   pub is : line_of key ≡ line
   pub taken : IsSizedPass same_line weight_of_key (key ∷ past) pass
 
 -- of these lines, each of which has a size, and which have that size together, the passes took those that a sample keeps
-pub record HasTakenOf {A : Type 0} (floor : Bool) (n : ℕ) (lines : List (List ℕ)) (size : ℕ) (pass : PassBySize (OwnedKey A))
+pub record HasTakenOf {A S : Type 0} (floor : Bool) (n : ℕ) (lines : List (List ℕ)) (size : ℕ) (pass : PassBySize (OwnedKey A) S)
     (reused : Option Reused) : Type 0 where
   pub sizes : HaveSizes lines
   pub summed : size ≡ size_of_lines lines

@@ -7,6 +7,7 @@ pub use Rattle.clru_report.specs.LineFaults.{fault_from}
 use Rattle.clru_lines.specs.Lines.{lines_of}
 use Rattle.clru_report.specs.OneSize.{counted_lines}
 use Rattle.clru_report.specs.Sizes.{HaveSizes, greatest_size, size_of_line, size_of_lines}
+use Rattle.clru_report.specs.Timed.{IsUntimed}
 use Rattle.clru_lines.specs.declared.fault.Fault.{Fault}
 use Rattle.clru_lines.specs.declared.fault.Fault.TheVariants.{BadCapacity, Memory, Reading, Writing, Closed, NoSize, TooLarge, TooSmall}
 use Rattle.clru_report.specs.declared.options.Capacities.{Capacities}
@@ -16,6 +17,7 @@ use Rattle.clru_report.specs.declared.options.Form.TheVariants.{Table, Json, Pic
 use Rattle.clru_report.specs.declared.options.Options.{Options}
 use Rattle.clru_report.specs.declared.options.Sample.{Sample}
 use Rattle.clru_report.specs.declared.options.Sample.TheVariants.{Whole, OneIn, Taken}
+use Rattle.clru_report.specs.declared.options.Times.{Times}
 
 -- the fault is one of the input, or of a capacity beside it
 abbrev pub is_of_input : Fault → Bool
@@ -86,7 +88,16 @@ IsRefusedFor fault options lines = (fault_of options lines ≡ Some fault) × Is
 abbrev pub IsRefusedBy : {A : Type 0} → Sample → Fault → Options A → List (List ℕ) → Type 0
 IsRefusedBy sample fault options lines = (fault_by sample options lines ≡ Some fault) × IsSaidOf fault options lines
 
+-- the input has no report by keys or by size, for the reason that the fault says
+abbrev pub IsRefusedPlain : {A : Type 0} → Fault → Options A → List ℕ → Type 0
+IsRefusedPlain fault options input = (options.sizes ≡ true)
+    × IsRefusedBy options.sample fault options (counted_lines options.one_size (lines_of input))
+
+-- nor has one whose lines begin with times
+abbrev pub IsRefusedUnder : {A : Type 0} → Option Times → Fault → Options A → List ℕ → Type 0
+IsRefusedUnder None fault options input = IsRefusedPlain fault options input
+IsRefusedUnder (Some limits) fault options input = IsUntimed fault (lines_of input)
+
 -- the input has no report, for the reason that the fault says
 abbrev pub IsRefused : {A : Type 0} → Fault → Options A → List ℕ → Type 0
-IsRefused fault options input = (options.sizes ≡ true)
-    × IsRefusedBy options.sample fault options (counted_lines options.one_size (lines_of input))
+IsRefused fault options input = IsRefusedUnder options.times fault options input

@@ -16,11 +16,13 @@ use Rattle.clru_report.specs.Samples.{kept_of, numbers_of, numbers_times, times}
 use Rattle.clru_report.specs.SizedAfter.{IsReportBySizeAfter}
 use Rattle.clru_report.specs.SizedReport.{IsReportBySizeOf}
 use Rattle.clru_report.specs.Tables.{HasTable, capacity_of_row, table_text, summary_text}
+use Rattle.clru_report.specs.Timed.{IsTimedReport}
 use Rattle.clru_report.specs.declared.options.Form.{Form}
 use Rattle.clru_report.specs.declared.options.Form.TheVariants.{Table, Json, Picture, Summary}
 use Rattle.clru_report.specs.declared.options.Options.{Options}
 use Rattle.clru_report.specs.declared.options.Sample.{Sample}
 use Rattle.clru_report.specs.declared.options.Sample.TheVariants.{Whole, OneIn, Taken}
+use Rattle.clru_report.specs.declared.options.Times.{Times}
 use Rattle.clru_report.specs.declared.rows.Row.{Row}
 
 module _ {K : Type 0} (eq : K → K → Bool) (requests : List K) where
@@ -125,6 +127,11 @@ IsReportBy true options input text =
     IsReportBySizeFrom (option_map non_zero_usize_get options.after) options input
     (counted_lines options.one_size (lines_of input)) text
 
+-- where lines begin with times, under the limits
+abbrev pub IsReportUnder : {A : Type 0} → Option Times → Options A → List ℕ → List ℕ → Type 0
+IsReportUnder None options input text = IsReportBy options.sizes options input text
+IsReportUnder (Some limits) options input text = IsTimedReport limits options input (lines_of input) text
+
 -- the text that the options ask for, of an input whose lines are the requests
 abbrev pub IsReport : {A : Type 0} → Options A → List ℕ → List ℕ → Type 0
-IsReport options input text = IsReportBy options.sizes options input text
+IsReport options input text = IsReportUnder options.times options input text

@@ -3,15 +3,17 @@ ghost use Rattle.std.specs.Prelude.{◌≡◌, ◌<◌, ◌≤◌, ◌++◌, ◌
 ghost use Rattle.std.specs.Int.NonZero.{non_zero_usize_get};
 ghost use Rattle.std.specs.List.{slice_split};
 ghost use Rattle.std.specs.Option.{is_none, option_map};
-ghost use Rattle.clru_report.specs.Arguments.{after_goes_together, AreCapacitiesOf, asked_by, form_of as form_by, forms_go_together, go_together, is_half_told, is_wrong, IsAskedFor, IsRefusedLine, IsSampleOf, IsSortedSet, one_in as one_in_by, part_of, samples_go_together, reading_after, wants_all, wants_look, wants_more, wants_part, wants_rows, wants_two, ratios_go_together, wants_ratio};
+ghost use Rattle.clru_report.specs.Arguments.{after_goes_together, AreCapacitiesOf, AreTimesOf, asked_by, form_of as form_by, forms_go_together, go_together, is_half_told, is_wrong, IsAskedFor, IsRefusedLine, IsSampleOf, IsSortedSet, one_in as one_in_by, part_of, samples_go_together, reading_after, wants_all, wants_look, wants_more, wants_part, wants_rows, wants_two, ratios_go_together, wants_ratio, times_go_together};
 ghost use Rattle.clru_report.specs.Choices.{AreAscending};
 ghost use Rattle.clru_report.specs.CommandLine.{numbers_and, read_all, read_word, value_behind, with_argument, with_flag, with_value_of, asks, nothing, wrong as is_not_read};
 ghost use Rattle.clru_report.specs.Numbers.{number_in};
 ghost use Rattle.clru_report.specs.Ratios.{ratio_in};
+ghost use Rattle.clru_report.specs.Times.{duration_in};
 
 use crate::numbers::number_of_word;
-use crate::options::{Capacities, Form, Look, Options, Sample};
+use crate::options::{Capacities, Form, Look, Options, Sample, Times};
 use crate::ratio::{Billionths, ratio_of_word};
+use crate::timed::duration_of_word;
 use std::alloc::{Allocator, Global};
 use std::convert::AsStr;
 use std::num::NonZeroUsize;
@@ -55,6 +57,8 @@ struct Draft<A: Allocator> {
     requests: Option<NonZeroUsize>,
     after: Option<NonZeroUsize>,
     look: Look<A>,
+    times: bool,
+    max_idle: Option<usize>,
 }
 
 // What follows an argument.
@@ -71,6 +75,7 @@ enum Value {
     Unit,
     From,
     To,
+    MaxIdle,
 }
 
 // What one word leads to.
@@ -133,6 +138,8 @@ fn draft_of<A: Allocator + Copy>(alloc: A) -> Draft<A>
             from: None,
             to: None,
         },
+        times: false,
+        max_idle: None,
     }
 }
 
@@ -213,6 +220,7 @@ fn value_of(word: &str) -> Option<Value>
         "--unit" => Some(Value::Unit),
         "--from" => Some(Value::From),
         "--to" => Some(Value::To),
+        "--max-idle" => Some(Value::MaxIdle),
         _ => None,
     }
 }
@@ -231,6 +239,7 @@ fn take_flag<A: Allocator>(draft: &mut Draft<A>, word: &str) -> bool
         "--json" => draft.json = true,
         "--svg" => draft.svg = true,
         "--summary" => draft.summary = true,
+        "--times" => draft.times = true,
         _ => return false,
     }
     true
@@ -258,6 +267,7 @@ fn take_value<A: Allocator + Copy>(
         Value::Unit => draft.look.unit = Some(text_of(alloc, word)?),
         Value::From => draft.look.from = Some(number_named(alloc, value, word)?),
         Value::To => draft.look.to = Some(number_named(alloc, value, word)?),
+        Value::MaxIdle => draft.max_idle = Some(duration_named(alloc, value, word)?),
     }
     Ok(())
 }
@@ -300,6 +310,20 @@ fn ratio_named<A: Allocator + Copy>(
     }
 }
 
+fn duration_named<A: Allocator + Copy>(
+    alloc: A,
+    value: Value,
+    word: &str,
+) -> Result<usize, Refusal<A>>
+    ensures duration { IfOk result (λ duration. duration_in word.now ≡ Some duration) }
+    ensures refused { IfErr result (λ refusal. is_wrong refusal ≡ true → duration_in word.now ≡ None) }
+{
+    match duration_of_word(word) {
+        Some(duration) => Ok(duration),
+        None => Err(no_duration(alloc, value, word)),
+    }
+}
+
 // What is wrong where the word is not there, or is none of those.
 fn no_value(value: Value) -> &'static str {
     match value {
@@ -315,6 +339,7 @@ fn no_value(value: Value) -> &'static str {
             "--title and --unit want a text: write --title 'May, all servers'"
         }
         Value::From | Value::To => { "--from and --to want a capacity: write --from 1000 --to 1M" }
+        Value::MaxIdle => "--max-idle wants a time: write --max-idle 10m",
     }
 }
 
@@ -385,6 +410,8 @@ fn finish<A: Allocator + Copy>(alloc: A, draft: Draft<A>) -> Result<Command<A>, 
         requests: _,
         after,
         look,
+        times,
+        max_idle,
     } = draft;
     Ok(Command::Report(Options {
         capacities: capacities_of(named, all, hit_ratio, byte_hit_ratio, sample),
@@ -396,7 +423,19 @@ fn finish<A: Allocator + Copy>(alloc: A, draft: Draft<A>) -> Result<Command<A>, 
         after,
         form,
         look,
+        times: times_of(times, max_idle),
     }))
+}
+
+// How lines begin with times, if they do.
+fn times_of(times: bool, max_idle: Option<usize>) -> Option<Times>
+    ensures { AreTimesOf times max_idle result }
+{
+    if times {
+        Some(Times { max_idle })
+    } else {
+        None
+    }
 }
 
 // Those that are named, once each and in order. Of a sample they are so many times less, at least 1.
@@ -499,7 +538,10 @@ fn conflict_in<A: Allocator>(draft: &Draft<A>) -> Option<&'static str>
     if let Some(line) = conflict_of_sample(draft) {
         return Some(line);
     }
-    conflict_of_after(draft)
+    if let Some(line) = conflict_of_after(draft) {
+        return Some(line);
+    }
+    conflict_of_times(draft)
 }
 
 // Which arguments do not go with a hit ratio.
@@ -590,6 +632,26 @@ fn conflict_of_after<A: Allocator>(draft: &Draft<A>) -> Option<&'static str>
     }
     if draft.after.is_some() && draft.one_size {
         return Some("--after and --one-size do not go together: leave one out");
+    }
+    None
+}
+
+fn conflict_of_times<A: Allocator>(draft: &Draft<A>) -> Option<&'static str>
+    ensures { is_none result ≡ times_go_together (asked_by draft.now) }
+{
+    if draft.max_idle.is_some() && !draft.times {
+        return Some("--max-idle is of times: write --times as well, and a time before each key");
+    }
+    if draft.times && asks_for_all(draft) {
+        return Some(
+            "--times does not go with --least, --floor or --summary: these know no times, so leave one out",
+        );
+    }
+    if draft.times && draft.sizes {
+        return Some("--times counts keys alone, so it does not go with --sizes: leave one out");
+    }
+    if draft.times && draft.after.is_some() {
+        return Some("--times and --after do not go together: leave one out");
     }
     None
 }
@@ -705,6 +767,19 @@ fn no_ratio<A: Allocator + Copy>(alloc: A, value: Value, word: &str) -> Refusal<
     }
     let line = format!(in alloc;
         "{word:?} is no hit ratio: write a part of all as 0.8 or 80%, more than 0 and at most 1, with up to nine decimals, or seven before %"
+    );
+    match line {
+        Ok(line) => Refusal::Wrong(line),
+        Err(_) => Refusal::Memory,
+    }
+}
+
+fn no_duration<A: Allocator + Copy>(alloc: A, value: Value, word: &str) -> Refusal<A> {
+    if word.is_empty() || word.starts_with("--") {
+        return wrong(alloc, no_value(value));
+    }
+    let line = format!(in alloc;
+        "{word:?} is no time: write a number in the unit of the log, as 3600 or 0.5, or if that is the second also 30s, 10m, 1.5h or 7d"
     );
     match line {
         Ok(line) => Refusal::Wrong(line),

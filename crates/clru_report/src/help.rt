@@ -40,6 +40,12 @@ are shown. Between the usual rows you may interpolate.
     --after N    the first N requests fill the cache and are not counted: misses
                  and ratios are those of the other requests; not with --least,
                  --floor, --one-size, --summary or a sample
+    --times      each line begins with a time and a blank, before its key: a
+                 number, with decimals if need be; not with --sizes, --least,
+                 --floor, --after or --summary
+    --max-idle T with --times: entries expire when they were not requested for
+                 longer than T, so that their next request misses; T is in the
+                 unit of the times, or if that is the second 30s, 10m, 1.5h, 7d
     --json       the table as JSON: an object a line, by the columns' names
     --svg        a picture instead of the table; with --sizes it has a line
                  for the bytes too
@@ -63,8 +69,8 @@ Lines are hashed with a seed from the system, which changes no result.
 
 Status: 0 done, 2 wrong arguments or a capacity below the greatest size, 3 no
 memory, 4 input or seed not read, 5 output not written, 6 a line without a size
-or sizes that are too large together. A fault is one line on standard error, and
-so is a warning about the input.
+or a time, or sizes that are too large together. A fault is one line on standard
+error, and so is a warning about the input.
 ";
 
 /// The name of the program and its version, with a newline.

@@ -1,5 +1,5 @@
 //! What is true of each row of a table, whatever the requests are.
-ghost use Rattle.clru_report.specs.OneSizeLaws.{KeysStay, NoneIsGreater, SizesAreGreatest};
+ghost use Rattle.clru_report.specs.OneSizeLaws.{GreatestIsOfOne, KeysStay, NoneIsGreater, SizesAreGreatest};
 ghost use Rattle.clru_report.specs.RatioLaws.{ByteHitRatioIsLeast, HitRatioIsLeast, SizedHitRatioIsLeast};
 ghost use Rattle.clru_report.specs.RowLaws.{FloorIsBelowMisses, LeastIsBetween, SizedFloorsAreBelow};
 
@@ -20,9 +20,10 @@ pub fn law_hit_ratios()
 {}
 
 /// States that, if each key has one size, the line of a request that counts has the key of its line in the input, and the greatest
-/// size of that key; and no line of that key has a greater one.
+/// size of that key; no line of that key has a greater one, and one has it.
 pub fn law_one_size()
     ensures size { SizesAreGreatest }
     ensures key { KeysStay }
     ensures none { NoneIsGreater }
+    ensures of_one { GreatestIsOfOne }
 {}

@@ -1,7 +1,7 @@
 //! What a report is asked to have.
 ghost use Rattle.std.specs.Prelude.{◌≡◌, true, false};
 ghost use Rattle.std.specs.Option.{is_some};
-ghost use Rattle.clru_report.specs.Choices.{AreAscending, is_of_all, is_whole};
+ghost use Rattle.clru_report.specs.Choices.{AreAscending, is_of_all, is_untimed, is_whole};
 
 use crate::ratio::Billionths;
 use std::alloc::{Allocator, Global};
@@ -47,6 +47,14 @@ pub enum Sample {
     OneIn(NonZeroUsize),
     /// All of an input that holds all requests of one key in so many, of so many requests in all.
     Taken(NonZeroUsize, usize),
+}
+
+/// Each line begins with a time, and entries may expire.
+#[derive(Clone, Copy, Debug, PartialEq, Eq)]
+pub struct Times {
+    /// The greatest idle time, in millionths of the unit of the times: the time since the latest request of a key, after which
+    /// its next request misses at every capacity. Without it entries do not expire.
+    pub max_idle: Option<usize>,
 }
 
 /// How a picture looks, beside what it shows.
@@ -97,6 +105,10 @@ pub struct Options<A: Allocator = Global> {
 
     pub look: Look<A>,
 
+    /// Whether each line begins with a time and a blank, before its key, and when entries expire. It goes with neither the least nor
+    /// a floor, sizes, a summary, or first requests that are not counted.
+    pub times: Option<Times>,
+
     // The least possible misses are those of all requests, by keys.
     ghost least_of_all: { least ≡ true → (sizes ≡ false) × (is_whole sample ≡ true) },
 
@@ -105,6 +117,9 @@ pub struct Options<A: Allocator = Global> {
 
     // The requests behind the first ones have the sizes of their lines.
     ghost after_sizes: { is_some after ≡ true → one_size ≡ false },
+
+    // Of requests with times all are counted, and only their misses are known.
+    ghost timed: { is_some times ≡ true → is_untimed least floor sizes (is_some after) form ≡ false },
 
     ghost ascending: { AreAscending capacities },
 }

@@ -123,11 +123,12 @@ pub fn take_key<S: BuildHasher, A: Allocator + Copy>(
     ensures { (past : List (OwnedKey A)) → IsPass same_line past pass.old
         → OnOk result (HasTakenKey past (line_of key.now) pass.new) }
 {
-    match pass.request_again(key) {
+    let hash = pass.hash(key);
+    match pass.request_again_with_hash(hash, key) {
         Ok(Some(_)) => Ok(()),
         Ok(None) => {
             let bytes = Vec::from_slice(alloc, &key.0)?;
-            match pass.request_new(OwnedKey(bytes)) {
+            match pass.request_new_with_hash(hash, OwnedKey(bytes)) {
                 Ok(()) => Ok(()),
                 Err(_) => Err(AllocError),
             }

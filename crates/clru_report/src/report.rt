@@ -5,8 +5,8 @@ ghost use Rattle.std.specs.Option.{option_map};
 ghost use Rattle.clru_lines.specs.Whole.{ReadWhole};
 ghost use Rattle.clru_report.specs.Faults.{is_of_writing};
 ghost use Rattle.clru_report.specs.Passes.{wants_floor, wants_least};
-ghost use Rattle.clru_report.specs.Refusals.{is_of_input, IsRefused};
-ghost use Rattle.clru_report.specs.Report.{IsInForm, IsReport, IsReportByKeys, IsReportByKeysFrom};
+ghost use Rattle.clru_report.specs.Refusals.{is_of_input, IsRefused, IsRefusedPlain};
+ghost use Rattle.clru_report.specs.Report.{IsInForm, IsReport, IsReportBy, IsReportByKeys, IsReportByKeysFrom};
 
 use crate::after::report_after;
 use crate::fault::read_fault;
@@ -16,6 +16,7 @@ use crate::rows::{rows_of_all, usual_table};
 use crate::sample::text_of_sample;
 use crate::sized::make_sized_report;
 use crate::text::{Counts, text_by_keys};
+use crate::timed::make_timed_report;
 use clru_lines::{Fault, ReadError};
 use std::alloc::Allocator;
 use std::hash::BuildHasher;
@@ -34,6 +35,25 @@ pub fn make_report<R: Read, S: BuildHasher + Copy, A: Allocator + Copy>(
         (λ input. IsReport options.now input (string_bytes text))) }
     ensures refused { IfErr result (λ fault. is_of_input fault ≡ true
         → ReadWhole (R.remaining reader.old) (R.remaining reader.new) (λ input. IsRefused fault options.now input)) }
+    ensures fault { IfErr result (λ fault. is_of_writing fault ≡ false) }
+{
+    match options.times {
+        None => report_without_times(alloc, options, reader, hash_builder),
+        Some(limits) => make_timed_report(alloc, options, limits, reader, hash_builder),
+    }
+}
+
+// Of lines that begin with no times.
+fn report_without_times<R: Read, S: BuildHasher + Copy, A: Allocator + Copy>(
+    alloc: A,
+    options: &Options<A>,
+    reader: &mut R,
+    hash_builder: S,
+) -> Result<String<A>, Fault>
+    ensures report { IfOk result (λ text. ReadWhole (R.remaining reader.old) (R.remaining reader.new)
+        (λ input. IsReportBy options.now.sizes options.now input (string_bytes text))) }
+    ensures refused { IfErr result (λ fault. is_of_input fault ≡ true
+        → ReadWhole (R.remaining reader.old) (R.remaining reader.new) (λ input. IsRefusedPlain fault options.now input)) }
     ensures fault { IfErr result (λ fault. is_of_writing fault ≡ false) }
 {
     if options.sizes {

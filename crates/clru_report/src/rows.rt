@@ -5,9 +5,12 @@ ghost use Rattle.std.specs.Str.{bytes_eq};
 ghost use Rattle.clru_curve.specs.Curves.{HasMissesOf, misses_at};
 ghost use Rattle.clru_least.specs.FloorNumbers.{IsFloorOf};
 ghost use Rattle.clru_model.specs.Requests.{distinct};
-ghost use Rattle.clru_report.specs.Passes.{HasForeseen, IsFloorFor, IsForeseenFor};
+ghost use Rattle.clru_report.specs.Capacities.{capacities_of, usual};
+ghost use Rattle.clru_report.specs.Faithful.{IsFaithful};
+ghost use Rattle.clru_report.specs.Passes.{HasForeseen, HasMisses, IsFloorFor, IsForeseenFor};
 ghost use Rattle.clru_report.specs.Knees.{knees};
-ghost use Rattle.clru_report.specs.Report.{AreRows, IsUsualTable, capacities_asked, misses_of};
+ghost use Rattle.clru_report.specs.PlainRows.{ArePlainRows};
+ghost use Rattle.clru_report.specs.Report.{AreRows, capacities_asked};
 ghost use Rattle.clru_report.specs.Tables.{capacity_of_row};
 
 use crate::capacities::{capacities_for, usual_capacities};
@@ -39,29 +42,26 @@ pub(crate) fn usual_table<A: Allocator + Copy>(
     curve: &MissCurve<A>,
     whole: usize,
 ) -> Result<UsualTable<A>, AllocError>
-    ensures table { (lines : List (List ℕ)) → HasMissesOf bytes_eq lines curve.now
-        → length curve.now ≡ distinct bytes_eq (reverse lines)
-        → IfOk result (λ t. IsUsualTable whole lines (map non_zero_usize_get t.capacities.items)) }
-    ensures knees { (lines : List (List ℕ)) → HasMissesOf bytes_eq lines curve.now
-        → length curve.now ≡ distinct bytes_eq (reverse lines)
-        → IfOk result (λ t. t.knees.items ≡ knees (misses_of lines) whole (map non_zero_usize_get t.capacities.items)) }
+    ensures table { (m : ℕ → ℕ) (keys : ℕ) → HasMisses m curve.now → length curve.now ≡ keys
+        → IfOk result (λ t. IsFaithful m whole (usual keys) (map non_zero_usize_get t.capacities.items)) }
+    ensures knees { (m : ℕ → ℕ) (keys : ℕ) → HasMisses m curve.now → length curve.now ≡ keys
+        → IfOk result (λ t. t.knees.items ≡ knees m whole (map non_zero_usize_get t.capacities.items)) }
 {
     let usual = usual_capacities(alloc, curve.distinct())?;
     table_with_knees(alloc, &ByKeys(curve.as_slice()), whole, &usual)
 }
 
-// The rows that the options ask for, over the curve of requests, to which so many are the whole, and its usual table, with their
-// misses alone.
-fn rows_for<A: Allocator + Copy>(
+/// The rows that the options ask for, over the curve of requests, to which so many are the whole, and its usual table, with their
+/// misses alone.
+pub(crate) fn rows_for<A: Allocator + Copy>(
     alloc: A,
     options: &Options<A>,
     curve: &MissCurve<A>,
     whole: usize,
     table: &[NonZeroUsize],
 ) -> Result<Vec<Row, A>, AllocError>
-    ensures { (lines : List (List ℕ)) → HasMissesOf bytes_eq lines curve.now
-        → length curve.now ≡ distinct bytes_eq (reverse lines) → IfOk result (λ rows. AreRows bytes_eq lines false false
-        (capacities_asked options.now whole lines (map non_zero_usize_get table.now)) rows.items) }
+    ensures { (m : ℕ → ℕ) (keys : ℕ) → HasMisses m curve.now → length curve.now ≡ keys → IfOk result (λ rows. ArePlainRows m
+        (capacities_of options.now.capacities m whole keys (map non_zero_usize_get table.now)) rows.items) }
 {
     let capacities = capacities_for(alloc, &options.capacities, curve.as_slice(), whole, table)?;
     rows_at(alloc, curve, &capacities)
@@ -73,8 +73,8 @@ pub(crate) fn rows_at<A: Allocator>(
     curve: &MissCurve<A>,
     capacities: &[NonZeroUsize],
 ) -> Result<Vec<Row, A>, AllocError>
-    ensures { (lines : List (List ℕ)) → HasMissesOf bytes_eq lines curve.now
-        → IfOk result (λ rows. AreRows bytes_eq lines false false (map non_zero_usize_get capacities.now) rows.items) }
+    ensures { (m : ℕ → ℕ) → HasMisses m curve.now
+        → IfOk result (λ rows. ArePlainRows m (map non_zero_usize_get capacities.now) rows.items) }
 {
     let mut rows = Vec::new(alloc);
     for capacity in capacities {

@@ -110,7 +110,8 @@ fn rows_of_sample<A: Allocator + Copy>(
     rows_times(alloc, &rows, one_in, requests)
 }
 
-fn rows_times<A: Allocator>(
+/// Returns the rows of a sample, each as one of all requests.
+pub(crate) fn rows_times<A: Allocator>(
     alloc: A,
     rows: &[Row],
     one_in: NonZeroUsize,

@@ -1,17 +1,18 @@
 //! Blocks of calls of a cache.
 
-use crate::answers::Answers;
 use crate::calls::{called, walk_owned};
-use crate::fault::Fault;
-use crate::lines::Line;
-use crate::out::Out;
-use crate::pairs::{Hashing, Key, Scale, Value};
 use crate::plain::{pairs_of, plain};
-use crate::subject::{Subject, begin};
+use crate::scale::Scale;
 use crate::whole::cache_fault;
-use crate::words::{Words, Wrong, capacity_of};
-use crate::world::World;
 use clru::{CLruCache, CLruCacheConfig, WeightScale, ZeroWeightScale};
+use clru_rows::answers::Answers;
+use clru_rows::fault::Fault;
+use clru_rows::lines::Line;
+use clru_rows::out::Out;
+use clru_rows::pairs::{Hashing, Key, Value};
+use clru_rows::subject::{Subject, begin};
+use clru_rows::words::{Words, Wrong, capacity_of};
+use clru_rows::world::World;
 use ration::Rationed;
 use std::alloc::{Allocator, Global};
 use std::hash::{BuildHasher, Hash};

@@ -4,11 +4,11 @@ mod arms;
 
 use crate::cache::Any;
 use crate::closures::Keep;
-use crate::out::Out;
-use crate::pairs::{Key, Value};
-use crate::words::{Words, Wrong};
-use crate::world::World;
 use clru::{CLruCacheIntoIter, CLruCacheIter, PutError, WeightScale};
+use clru_rows::out::Out;
+use clru_rows::pairs::{Key, Value};
+use clru_rows::words::{Words, Wrong};
+use clru_rows::world::World;
 use std::alloc::Allocator;
 use std::hash::BuildHasher;
 

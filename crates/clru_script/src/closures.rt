@@ -1,8 +1,8 @@
 //! The closures that a line can name. Each notes its calls in the world.
 
-use crate::pairs::{Key, Value};
-use crate::words::{Words, Wrong};
-use crate::world::World;
+use clru_rows::pairs::{Key, Value};
+use clru_rows::words::{Words, Wrong};
+use clru_rows::world::World;
 
 /// Which entries a retain keeps.
 #[derive(Clone, Copy)]

@@ -1,13 +1,13 @@
 //! Blocks of costs: each line is a call of a cache of its own, and what it costs is the answer.
 
-use crate::answers::Answers;
 use crate::cache::{plain_of, weighted_of};
-use crate::fault::say_fault;
-use crate::lines::Line;
-use crate::out::Out;
-use crate::subject::{Subject, make, say_cost};
-use crate::words::Wrong;
-use crate::world::World;
+use clru_rows::answers::Answers;
+use clru_rows::fault::say_fault;
+use clru_rows::lines::Line;
+use clru_rows::out::Out;
+use clru_rows::subject::{Subject, make, say_cost};
+use clru_rows::words::Wrong;
+use clru_rows::world::World;
 
 /// Runs a block.
 pub(crate) fn run(world: &'static World, lines: &[Line], answers: &mut Answers) {

@@ -1,16 +1,16 @@
 //! Blocks of calls of a list of numbers.
 
-use crate::answers::Answers;
-use crate::fault::Fault;
-use crate::lines::Line;
 use crate::list::change::change;
 use crate::list::read::read;
 use crate::list::whole::list_fault;
-use crate::out::Out;
-use crate::subject::{Subject, run_lines};
-use crate::words::{Words, Wrong};
-use crate::world::World;
 use clru_list::FixedSizeList;
+use clru_rows::answers::Answers;
+use clru_rows::fault::Fault;
+use clru_rows::lines::Line;
+use clru_rows::out::Out;
+use clru_rows::subject::{Subject, run_lines};
+use clru_rows::words::{Words, Wrong};
+use clru_rows::world::World;
 use ration::Rationed;
 use std::alloc::Global;
 

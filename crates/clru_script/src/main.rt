@@ -1,62 +1,49 @@
-//! Answers a script of calls: writes it again, each call with what it answered.
+//! Makes the calls of a script on caches, lists and stores, and writes it again, each call with what it answered.
 #![tactic(auto)]
 
-mod answers;
 mod cache;
 mod calls;
 mod closures;
 mod costs;
-mod fault;
-mod floors;
-mod foresight;
-mod head;
-mod lines;
 mod list;
 mod makers;
-mod misses;
-mod out;
-mod page;
-mod pairs;
-mod passes;
 mod plain;
-mod report;
-mod requested;
-mod requests;
+mod replays;
 mod runs;
+mod scale;
 mod store;
-mod subject;
-mod timed;
 mod whole;
-mod words;
-mod world;
 
-use clru_lines::{read_input, write_text};
+use clru_rows::answer;
+use clru_rows::answers::Answers;
+use clru_rows::lines::Line;
+use clru_rows::page::Blocks;
+use clru_rows::words::Wrong;
+use clru_rows::world::World;
 use std::process::ExitCode;
 
-/// The statuses of a run without a fault, with one, and of one that could not be made.
-const WELL: u8 = 0;
+/// The kinds of blocks that this program runs.
+struct Kinds;
 
-const FAULTS: u8 = 1;
-
-const FAILED: u8 = 2;
+impl Blocks for Kinds {
+    fn run(world: &'static World, block: &[Line], answers: &mut Answers) {
+        let Some((first, lines)) = block.split_first() else {
+            return;
+        };
+        match first.name() {
+            "cache" => cache::run(world, first, lines, answers),
+            "costs" => costs::run(world, lines, answers),
+            "makers" => makers::run(world, lines, answers),
+            "list" => list::run(world, lines, answers),
+            "store" => store::run(world, lines, answers),
+            "store_costs" => store::run_costs(world, lines, answers),
+            "replay" => replays::run(world, block, answers),
+            "runs" => runs::run(world, lines, answers),
+            _ => answers.wrong = Some(Wrong::NothingMade),
+        }
+    }
+}
 
 fn main(rt: HostRuntime) -> ExitCode {
-    let Ok(input) = read_input(rt.alloc(), &mut rt.stdin()) else {
-        return ExitCode::from(FAILED);
-    };
-    let input: &'static [u8] = input.leak();
-    let Ok(script) = str::from_utf8(input) else {
-        return ExitCode::from(FAILED);
-    };
-    let Ok(page) = page::answered(rt.alloc(), script) else {
-        return ExitCode::from(FAILED);
-    };
-    if page.out.is_short {
-        return ExitCode::from(FAILED);
-    }
-    match write_text(&mut rt.stdout(), page.out.text.as_bytes()) {
-        Ok(()) if page.faults == 0 => ExitCode::from(WELL),
-        Ok(()) => ExitCode::from(FAULTS),
-        Err(_) => ExitCode::from(FAILED),
-    }
+    ExitCode::from(answer::<Kinds, _, _>(rt.alloc(), &mut rt.stdin(), &mut rt.stdout()))
 }

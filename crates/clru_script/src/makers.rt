@@ -1,15 +1,16 @@
 //! Blocks of makers: each line makes a cache, and its answer is what that asked for, and for how many pairs there is room then
 //! with no further request.
 
-use crate::answers::Answers;
 use crate::cache::{Any, put_number};
-use crate::lines::Line;
-use crate::out::Out;
-use crate::pairs::{Hashing, Key, Scale, Value};
-use crate::subject::say_cost;
-use crate::words::{Words, Wrong};
-use crate::world::{Cost, World};
+use crate::scale::Scale;
 use clru::{CLruCache, CLruCacheConfig, WeightScale};
+use clru_rows::answers::Answers;
+use clru_rows::lines::Line;
+use clru_rows::out::Out;
+use clru_rows::pairs::{Hashing, Key, Value};
+use clru_rows::subject::say_cost;
+use clru_rows::words::{Words, Wrong};
+use clru_rows::world::{Cost, World};
 use std::alloc::Allocator;
 use std::hash::BuildHasher;
 

@@ -3,11 +3,11 @@
 use crate::cache::Any;
 use crate::calls::{called, say_back, say_pair, say_stored, say_value};
 use crate::closures::{Failed, Form, Keep};
-use crate::out::Out;
-use crate::pairs::{Key, Value};
-use crate::words::{Words, Wrong};
-use crate::world::World;
 use clru::{CLruCacheIterMut, Put, TryPutError, ZeroWeightScale};
+use clru_rows::out::Out;
+use clru_rows::pairs::{Key, Value};
+use clru_rows::words::{Words, Wrong};
+use clru_rows::world::World;
 use std::alloc::Allocator;
 use std::hash::BuildHasher;
 use std::mem;

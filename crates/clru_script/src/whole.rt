@@ -1,10 +1,10 @@
 //! What has to hold of a cache after each call.
 
 use crate::cache::Any;
-use crate::fault::Fault;
-use crate::pairs::{Key, Value};
-use crate::world::World;
 use clru::WeightScale;
+use clru_rows::fault::Fault;
+use clru_rows::pairs::{Key, Value};
+use clru_rows::world::World;
 use std::alloc::Allocator;
 use std::hash::BuildHasher;
 

@@ -1,6 +1,5 @@
-//! The examples of the docs, run.
+//! Examples of the docs, run, as far as no clause tells their results.
 
 mod caches;
-mod curves;
 mod files;
 mod owners;

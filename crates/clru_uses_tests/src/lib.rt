@@ -1,4 +1,4 @@
-//! The callers and examples of `clru_uses`, run; the laws at types of a caller's.
+//! The examples of `clru_uses`, run; the laws at types of a caller's; what types print. A caller whose clauses tell its result is not run.
 #![tactic(auto)]
 
 #[cfg(test)]
@@ -8,32 +8,18 @@ mod errors;
 #[cfg(test)]
 mod examples;
 #[cfg(test)]
-mod finding;
-#[cfg(test)]
-mod idioms;
-#[cfg(test)]
 mod laws;
 #[cfg(test)]
-mod lends;
-#[cfg(test)]
 mod lists;
-#[cfg(test)]
-mod makers;
 #[cfg(test)]
 mod of_lists;
 #[cfg(test)]
 mod passes;
 #[cfg(test)]
-mod performed;
-#[cfg(test)]
 mod printed;
-#[cfg(test)]
-mod runs;
 #[cfg(test)]
 mod shown;
 #[cfg(test)]
 mod splits;
-#[cfg(test)]
-mod stores;
 #[cfg(test)]
 mod walks;

@@ -1,46 +1,9 @@
-//! Callers that walk, also over very many entries.
+//! A cursor over very many entries.
 
 use crate::lists::{Sizes, room};
 use clru::CLruCache;
-use clru_uses::walks::{ends, halve_by_both_ends, halve_by_cursor, oldest, total, total_backwards};
+use clru_uses::walks::{ends, halve_by_both_ends};
 use ration::equal;
-use std::alloc::Global;
-use std::process::Abort;
-
-/// The ends of a cache.
-type Ends = (Option<(u64, u64)>, Option<(u64, u64)>);
-
-#[test]
-fn callers_walk(rt: HostRuntime) {
-    equal!(rt; totals(rt.alloc()), (0, 0));
-    let mut cache = CLruCache::new(rt.alloc(), room(3));
-    walk(&rt, &mut cache);
-    equal!(rt; oldest(cache), Some((2, 50)));
-}
-
-/// The totals of no pages.
-fn totals(alloc: Global) -> (u64, u64) {
-    let cache = CLruCache::new(alloc, room(3));
-    (total(&cache), total_backwards(&cache))
-}
-
-fn walk(rt: &impl Abort, cache: &mut Sizes) {
-    equal!(rt; ends_of_four(cache), (Some((4, 400)), Some((2, 200))));
-    equal!(rt; ends_of_quarters(cache), (Some((4, 100)), Some((2, 50))));
-}
-
-fn ends_of_four(cache: &mut Sizes) -> Ends {
-    for page in 1..=4u64 {
-        let _ = cache.put(page, page.wrapping_mul(100));
-    }
-    ends(cache)
-}
-
-fn ends_of_quarters(cache: &mut Sizes) -> Ends {
-    halve_by_cursor(cache);
-    halve_by_both_ends(cache);
-    ends(cache)
-}
 
 /// A step from an end of the list at each entry would take minutes.
 #[test]

@@ -2,20 +2,23 @@
 ghost use Rattle.std.specs.Prelude.{◌≡◌, ℕ, ◌+◌, ◌^◌, ◌<◌, ◌≤◌, ◌↔◌, List, [], ◌∷◌, ◌++◌, reverse, vec_len, vec_capacity, IfOk, IfErr, IfSome, IsErrAnd, OnOk, OnErr, IsOk, IsNone, IsSome, IsTrue, None, Some, is_some, if◌then◌else◌};
 ghost use Rattle.std.specs.List.{list_any};
 ghost use Rattle.std.specs.Map.{keys_of, lookup};
+ghost use Rattle.clru_linked_map.specs.LinkedMap.{hash_of};
 ghost use Rattle.clru_model.specs.Sizes.{SameWeights, span};
 ghost use Rattle.clru_curve.specs.Seen.{reuse_by};
 ghost use Rattle.clru_curve.specs.SizedCurves.{step};
 ghost use Rattle.clru_curve.specs.SizedIdlePasses.{IsSizedIdlePass, IsSizedIdleCurveOf};
 ghost use Rattle.clru_curve.specs.SizedPasses.{key_of, IsTooLarge};
 
-use crate::pass::{copied, double_if_full, move_position, no_positions};
+use crate::key_table::KeyTable;
+use crate::pass::copied;
 use crate::seen::{Seen, is_soon};
 use crate::sized::curve::SizedCurve;
 use crate::sized::error::SizedRequestError;
 use crate::sized::pass::greater;
 use crate::sized::sizes::Sizes;
 use crate::sized::step::Step;
-use clru::{CLruCache, DefaultState, NoMemory, ZeroWeightScale};
+use clru_list::NoMemory;
+use clru_model::DefaultState;
 use std::alloc::{Allocator, Global};
 use std::collections::hash_map::Equivalent;
 use std::hash::{BuildHasher, Hash};
@@ -33,7 +36,7 @@ pub struct SizedIdlePass<
     S: BuildHasher = DefaultState,
     A: Allocator + Copy = Global,
 > {
-    pub(crate) seen: CLruCache<K, Seen, S, ZeroWeightScale, A>,
+    pub(crate) seen: KeyTable<K, Seen, S, A>,
     pub(crate) latest: Sizes<A>,
     // For each request that can hit, from which capacity on it does, and its own size, which is missed below.
     hits: Vec<Step, A>,
@@ -62,14 +65,14 @@ impl<K: Eq + Hash + Drop, S: BuildHasher + Drop, A: Allocator + Copy> Drop
 impl<K: Eq + Hash, S: BuildHasher, A: Allocator + Copy> Model for SizedIdlePass<K, S, A> {
     ghost use Rattle.clru_curve.specs.SizedIdlePasses.{TimedPassBySize, timed_pass_by_size, timed_pass_by_size_code, IsSoundIdleBySize};
 
-    ghost Value = { TimedPassBySize K };
+    ghost Value = { TimedPassBySize K S };
 
-    ghost coded = { timed_pass_by_size_code K.code };
+    ghost coded = { timed_pass_by_size_code K.code S.code };
 
-    ghost view = { λ p. timed_pass_by_size p.seen.entries p.latest.sizes.items p.latest.requests p.hits.items p.size p.greatest p.limit };
+    ghost view = { λ p. timed_pass_by_size p.seen.entries p.latest.sizes.items p.latest.requests p.hits.items p.size p.greatest p.limit p.seen.builder };
 
     ghost invariant = { λ p. IsSoundIdleBySize K.eq p.latest.nodes.items
-        (timed_pass_by_size p.seen.entries p.latest.sizes.items p.latest.requests p.hits.items p.size p.greatest p.limit) };
+        (timed_pass_by_size p.seen.entries p.latest.sizes.items p.latest.requests p.hits.items p.size p.greatest p.limit p.seen.builder) };
 }
 
 impl<K: Eq + Hash, A: Allocator + Copy> SizedIdlePass<K, DefaultState, A> {
@@ -89,7 +92,7 @@ impl<K: Eq + Hash, S: BuildHasher, A: Allocator + Copy> SizedIdlePass<K, S, A> {
         ensures { (w : K → ℕ) → IsSizedIdlePass K.eq w limit [] result }
     {
         SizedIdlePass {
-            seen: no_positions(alloc, hash_builder),
+            seen: KeyTable::empty(alloc, hash_builder),
             latest: Sizes::new(alloc),
             hits: Vec::new(alloc),
             size: 0,
@@ -122,9 +125,10 @@ impl<K: Eq + Hash, S: BuildHasher, A: Allocator + Copy> SizedIdlePass<K, S, A> {
         ensures given_back { IfErr result (λ e. key_of e ≡ key) }
         ensures too_large { IsErrAnd result IsTooLarge ↔ (2 ^ 64 ≤ self.old.size + (1 + weight)) }
     {
-        match self.again(&key, time, weight) {
+        let hash = self.seen.hash(&key);
+        match self.again(hash, &key, time, weight) {
             Ok(Some(span)) => Ok(span),
-            Ok(None) => match self.request_new(key, time, weight) {
+            Ok(None) => match self.request_new(hash, key, time, weight) {
                 Ok(()) => Ok(None),
                 Err(key) => Err(SizedRequestError::NoMemory(key)),
             },
@@ -160,16 +164,19 @@ impl<K: Eq + Hash, S: BuildHasher, A: Allocator + Copy> SizedIdlePass<K, S, A> {
         ensures given_back { IfErr result (λ e. key_of e ≡ key) }
         ensures too_large { IsErrAnd result IsTooLarge ↔ (2 ^ 64 ≤ self.old.size + (1 + weight)) }
     {
-        self.again(key, time, weight)
+        let hash = self.seen.hash(key);
+        self.again(hash, key, time, weight)
     }
 
-    /// `request_again`, which also says by what was seen alone whether the key is known, whatever keys weighed.
+    /// `request_again`, with the hash of the key. It also says by what was seen alone whether the key is known, whatever keys weighed.
     fn again<Q: Equivalent<K>>(
         &mut self,
+        hash: u64,
         key: Q,
         time: usize,
         weight: usize,
     ) -> Result<Option<Option<usize>>, SizedRequestError<Q>>
+        requires hash { hash ≡ hash_of Q.Hash S.BuildHasher S.Hasher.Hasher self.old.builder key }
         ensures span { (w : K → ℕ) (idle : ℕ) (past : List (K × ℕ)) (x : K) → SameWeights K.eq w → IsSizedIdlePass K.eq w idle past self.old
             → w x ≡ weight → IsTrue (Q.equivalent key x)
             → IfOk result (λ s. IfSome s (λ t. t ≡ reuse_by K.eq (span K.eq w) idle (x, time) past)) }
@@ -196,7 +203,7 @@ impl<K: Eq + Hash, S: BuildHasher, A: Allocator + Copy> SizedIdlePass<K, S, A> {
         };
         let position = self.latest.requests;
         let here = Seen { position, time };
-        let Some(before) = move_position(&mut self.seen, key, here) else {
+        let Some(before) = self.seen.replace(hash, key, here) else {
             return Ok(None);
         };
         let span = self.latest.remove(before.position);
@@ -209,10 +216,11 @@ impl<K: Eq + Hash, S: BuildHasher, A: Allocator + Copy> SizedIdlePass<K, S, A> {
         Ok(Some(reuse))
     }
 
-    /// Takes one more request, of a key that was not requested before.
-    fn request_new(&mut self, key: K, time: usize, weight: usize) -> Result<(), K>
+    /// Takes one more request, of a key that was not requested before, with its hash.
+    fn request_new(&mut self, hash: u64, key: K, time: usize, weight: usize) -> Result<(), K>
     where
         K: Drop,
+        requires hash { hash ≡ hash_of K.Hash S.BuildHasher S.Hasher.Hasher self.old.builder key }
         requires new { lookup (K.eq key) self.old.seen ≡ None }
         requires fits { self.old.size + (1 + weight) < 2 ^ 64 }
         ensures taken { (w : K → ℕ) (idle : ℕ) (past : List (K × ℕ)) → SameWeights K.eq w → IsSizedIdlePass K.eq w idle past self.old
@@ -225,10 +233,9 @@ impl<K: Eq + Hash, S: BuildHasher, A: Allocator + Copy> SizedIdlePass<K, S, A> {
         let Ok(()) = self.latest.make_ready() else {
             return Err(key);
         };
-        double_if_full(&mut self.seen);
         let position = self.latest.requests;
         let here = Seen { position, time };
-        if let Err((key, _)) = self.seen.put(key, here) {
+        if let Err(key) = self.seen.insert(hash, key, here) {
             return Err(key);
         }
         self.latest.push(weight + 1);

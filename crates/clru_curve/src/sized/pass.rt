@@ -2,17 +2,20 @@
 ghost use Rattle.std.specs.Prelude.{◌≡◌, ℕ, ◌+◌, ◌^◌, ◌<◌, ◌≤◌, ◌↔◌, nat_lt, List, [], ◌∷◌, length, reverse, IfOk, IfErr, IfSome, IsErrAnd, OnOk, OnErr, IsOk, IsNone, IsSome, IsTrue, None, is_some, false, if◌then◌else◌};
 ghost use Rattle.std.specs.List.{list_any};
 ghost use Rattle.std.specs.Map.{lookup};
+ghost use Rattle.clru_linked_map.specs.LinkedMap.{hash_of};
 ghost use Rattle.clru_model.specs.Requests.{holds, since};
 ghost use Rattle.clru_model.specs.Sizes.{SameWeights, span};
 ghost use Rattle.clru_curve.specs.SizedPasses.{IsSizedPass, key_of, IsTooLarge};
 ghost use Rattle.clru_curve.specs.SizedCurves.{IsSizedCurveOf};
 
-use crate::pass::{copied, double_if_full, move_position, no_positions};
+use crate::key_table::KeyTable;
+use crate::pass::copied;
 use crate::sized::curve::SizedCurve;
 use crate::sized::error::SizedRequestError;
 use crate::sized::sizes::Sizes;
 use crate::sized::step::Step;
-use clru::{CLruCache, DefaultState, NoMemory, ZeroWeightScale};
+use clru_list::NoMemory;
+use clru_model::DefaultState;
 use std::alloc::{Allocator, Global};
 use std::collections::hash_map::Equivalent;
 use std::hash::{BuildHasher, Hash};
@@ -25,10 +28,10 @@ use std::marker::Model;
 /// another weight than before, the clauses say nothing, and the calls are as safe as ever. Clauses describe the taken
 /// requests, the latest first, by `IsSizedPass`. It returns a curve at any time.
 ///
-/// Takes memory for a position in a cache and a size for each distinct key, for half as many sizes more, and 16 bytes for each
+/// Takes memory for a position in a hash table and a size for each distinct key, for half as many sizes more, and 16 bytes for each
 /// request whose key came before.
 pub struct SizedPass<K: Eq + Hash, S: BuildHasher = DefaultState, A: Allocator + Copy = Global> {
-    pub(crate) positions: CLruCache<K, usize, S, ZeroWeightScale, A>,
+    pub(crate) positions: KeyTable<K, usize, S, A>,
     pub(crate) latest: Sizes<A>,
     // For each request that can hit, from which capacity on it does, and its own size, which is missed below.
     hits: Vec<Step, A>,
@@ -54,14 +57,14 @@ impl<K: Eq + Hash + Drop, S: BuildHasher + Drop, A: Allocator + Copy> Drop for S
 impl<K: Eq + Hash, S: BuildHasher, A: Allocator + Copy> Model for SizedPass<K, S, A> {
     ghost use Rattle.clru_curve.specs.SizedPasses.{PassBySize, pass_by_size, pass_by_size_code, IsSoundBySize};
 
-    ghost Value = { PassBySize K };
+    ghost Value = { PassBySize K S };
 
-    ghost coded = { pass_by_size_code K.code };
+    ghost coded = { pass_by_size_code K.code S.code };
 
-    ghost view = { λ p. pass_by_size p.positions.entries p.latest.sizes.items p.latest.requests p.hits.items p.size p.greatest };
+    ghost view = { λ p. pass_by_size p.positions.entries p.latest.sizes.items p.latest.requests p.hits.items p.size p.greatest p.positions.builder };
 
     ghost invariant = { λ p. IsSoundBySize K.eq p.latest.nodes.items
-        (pass_by_size p.positions.entries p.latest.sizes.items p.latest.requests p.hits.items p.size p.greatest) };
+        (pass_by_size p.positions.entries p.latest.sizes.items p.latest.requests p.hits.items p.size p.greatest p.positions.builder) };
 }
 
 impl<K: Eq + Hash, A: Allocator + Copy> SizedPass<K, DefaultState, A> {
@@ -81,7 +84,7 @@ impl<K: Eq + Hash, S: BuildHasher, A: Allocator + Copy> SizedPass<K, S, A> {
         ensures { (w : K → ℕ) → IsSizedPass K.eq w [] result }
     {
         SizedPass {
-            positions: no_positions(alloc, hash_builder),
+            positions: KeyTable::empty(alloc, hash_builder),
             latest: Sizes::new(alloc),
             hits: Vec::new(alloc),
             size: 0,
@@ -95,7 +98,7 @@ impl<K: Eq + Hash, S: BuildHasher, A: Allocator + Copy> SizedPass<K, S, A> {
     ///
     /// If memory is refused, or the sizes of all requests with this one exceed `usize::MAX`, it returns the key, and the pass
     /// is unchanged.
-    /// Cost: one hash and a walk along one chain, for a new key those of a `put` too; and steps that grow as the logarithm of
+    /// Cost: one hash and a walk along one chain, for a new key a second walk; and steps that grow as the logarithm of
     /// the number of requests.
     pub fn request(&mut self, key: K, weight: usize) -> Result<Option<usize>, SizedRequestError<K>>
     where
@@ -109,9 +112,10 @@ impl<K: Eq + Hash, S: BuildHasher, A: Allocator + Copy> SizedPass<K, S, A> {
         ensures given_back { IfErr result (λ e. key_of e ≡ key) }
         ensures too_large { IsErrAnd result IsTooLarge ↔ (2 ^ 64 ≤ self.old.size + (1 + weight)) }
     {
-        match self.again(&key, weight) {
+        let hash = self.positions.hash(&key);
+        match self.again(hash, &key, weight) {
             Ok(Some(span)) => Ok(Some(span)),
-            Ok(None) => match self.take_new(key, weight) {
+            Ok(None) => match self.take_new(hash, key, weight) {
                 Ok(()) => Ok(None),
                 Err(key) => Err(SizedRequestError::NoMemory(key)),
             },
@@ -146,7 +150,42 @@ impl<K: Eq + Hash, S: BuildHasher, A: Allocator + Copy> SizedPass<K, S, A> {
         ensures given_back { IfErr result (λ e. key_of e ≡ key) }
         ensures too_large { IsErrAnd result IsTooLarge ↔ (2 ^ 64 ≤ self.old.size + (1 + weight)) }
     {
-        self.again(key, weight)
+        let hash = self.positions.hash(key);
+        self.request_again_with_hash(hash, key, weight)
+    }
+
+    /// Returns the hash of a key, by a form of it, for the calls that take one. Every form of the key has it, and the pass keeps its
+    /// hash builder.
+    /// Cost: one hash.
+    pub fn hash<Q: Equivalent<K>>(&self, key: Q) -> u64
+        ensures { result ≡ hash_of Q.Hash S.BuildHasher S.Hasher.Hasher self.now.builder key }
+    {
+        self.positions.hash(key)
+    }
+
+    /// Does what `request_again` does, with the hash of the key. `request_new_with_hash` may follow with the same hash.
+    /// Cost: that of `request_again` without a hash.
+    pub fn request_again_with_hash<Q: Equivalent<K>>(
+        &mut self,
+        hash: u64,
+        key: Q,
+        weight: usize,
+    ) -> Result<Option<usize>, SizedRequestError<Q>>
+        requires hash { hash ≡ hash_of Q.Hash S.BuildHasher S.Hasher.Hasher self.old.builder key }
+        ensures span { (w : K → ℕ) (past : List K) (x : K) → SameWeights K.eq w → IsSizedPass K.eq w past self.old
+            → w x ≡ weight → IsTrue (Q.equivalent key x) → IfOk result (λ s. s ≡ span K.eq w x past) }
+        ensures taken { (w : K → ℕ) (past : List K) (x : K) → SameWeights K.eq w → IsSizedPass K.eq w past self.old
+            → w x ≡ weight → IsTrue (Q.equivalent key x)
+            → IfOk result (λ s. IsSome s → IsSizedPass K.eq w (x ∷ past) self.new) }
+        ensures known { (w : K → ℕ) (past : List K) → IsSizedPass K.eq w past self.old
+            → IfOk result (λ s. is_some s ≡ list_any (Q.equivalent key) past) }
+        ensures size { IfOk result (λ s. IsSome s → self.new.size ≡ self.old.size + (1 + weight)) }
+        ensures not_taken { IfOk result (λ s. IsNone s → self.new ≡ self.old) }
+        ensures refused { OnErr result (self.new ≡ self.old) }
+        ensures given_back { IfErr result (λ e. key_of e ≡ key) }
+        ensures too_large { IsErrAnd result IsTooLarge ↔ (2 ^ 64 ≤ self.old.size + (1 + weight)) }
+    {
+        self.again(hash, key, weight)
     }
 
     /// Takes one more request, of a key of this weight that was not requested before, as `request_again` tells. Unlike `request`
@@ -154,7 +193,7 @@ impl<K: Eq + Hash, S: BuildHasher, A: Allocator + Copy> SizedPass<K, S, A> {
     ///
     /// If memory is refused, or the sizes of all requests with this one exceed `usize::MAX`, it returns the key, and the pass
     /// is unchanged.
-    /// Cost: that of a `put`, and steps that grow as the logarithm of the number of requests.
+    /// Cost: one hash, and steps that grow as the logarithm of the number of requests.
     pub fn request_new(&mut self, key: K, weight: usize) -> Result<(), SizedRequestError<K>>
     where
         K: Drop,
@@ -166,10 +205,33 @@ impl<K: Eq + Hash, S: BuildHasher, A: Allocator + Copy> SizedPass<K, S, A> {
         ensures given_back { IfErr result (λ e. key_of e ≡ key) }
         ensures too_large { IsErrAnd result IsTooLarge ↔ (2 ^ 64 ≤ self.old.size + (1 + weight)) }
     {
+        let hash = self.positions.hash(&key);
+        self.request_new_with_hash(hash, key, weight)
+    }
+
+    /// Does what `request_new` does, with the hash of the key, which `hash` returns and no call changes.
+    /// Cost: that of `request_new` without a hash.
+    pub fn request_new_with_hash(
+        &mut self,
+        hash: u64,
+        key: K,
+        weight: usize,
+    ) -> Result<(), SizedRequestError<K>>
+    where
+        K: Drop,
+        requires hash { hash ≡ hash_of K.Hash S.BuildHasher S.Hasher.Hasher self.old.builder key }
+        requires new { (w : K → ℕ) × (past : List K) × IsSizedPass K.eq w past self.old × (holds K.eq key past ≡ false) }
+        ensures taken { (w : K → ℕ) (past : List K) → SameWeights K.eq w → IsSizedPass K.eq w past self.old
+            → w key ≡ weight → OnOk result (IsSizedPass K.eq w (key ∷ past) self.new) }
+        ensures size { OnOk result (self.new.size ≡ self.old.size + (1 + weight)) }
+        ensures refused { OnErr result (self.new ≡ self.old) }
+        ensures given_back { IfErr result (λ e. key_of e ≡ key) }
+        ensures too_large { IsErrAnd result IsTooLarge ↔ (2 ^ 64 ≤ self.old.size + (1 + weight)) }
+    {
         if weight >= usize::MAX - self.size {
             return Err(SizedRequestError::TooLarge(key));
         }
-        match self.take_new(key, weight) {
+        match self.take_new(hash, key, weight) {
             Ok(()) => Ok(()),
             Err(key) => Err(SizedRequestError::NoMemory(key)),
         }
@@ -184,15 +246,18 @@ impl<K: Eq + Hash, S: BuildHasher, A: Allocator + Copy> SizedPass<K, S, A> {
         ensures position { (w : K → ℕ) (past : List K) (x : K) → IsSizedPass K.eq w past self.now → IsTrue (Q.equivalent key x)
             → IfSome result (λ p. p + 1 + length (since K.eq x past) ≡ length past) }
     {
-        self.positions.peek(key).copied()
+        let hash = self.positions.hash(key);
+        self.positions.get(hash, key)
     }
 
-    /// `request_again`, which also says by the positions alone whether the key is known, whatever keys weighed.
+    /// `request_again`, with the hash of the key. It also says by the positions alone whether the key is known, whatever keys weighed.
     fn again<Q: Equivalent<K>>(
         &mut self,
+        hash: u64,
         key: Q,
         weight: usize,
     ) -> Result<Option<usize>, SizedRequestError<Q>>
+        requires hash { hash ≡ hash_of Q.Hash S.BuildHasher S.Hasher.Hasher self.old.builder key }
         ensures span { (w : K → ℕ) (past : List K) (x : K) → SameWeights K.eq w → IsSizedPass K.eq w past self.old
             → w x ≡ weight → IsTrue (Q.equivalent key x) → IfOk result (λ s. s ≡ span K.eq w x past) }
         ensures taken { (w : K → ℕ) (past : List K) (x : K) → SameWeights K.eq w → IsSizedPass K.eq w past self.old
@@ -217,7 +282,7 @@ impl<K: Eq + Hash, S: BuildHasher, A: Allocator + Copy> SizedPass<K, S, A> {
             return Err(SizedRequestError::NoMemory(key));
         };
         let here = self.latest.requests;
-        let Some(position) = move_position(&mut self.positions, key, here) else {
+        let Some(position) = self.positions.replace(hash, key, here) else {
             return Ok(None);
         };
         let span = self.latest.remove(position);
@@ -232,10 +297,11 @@ impl<K: Eq + Hash, S: BuildHasher, A: Allocator + Copy> SizedPass<K, S, A> {
         Ok(Some(span))
     }
 
-    /// Takes one more request, of a key that fits and was not requested before.
-    fn take_new(&mut self, key: K, weight: usize) -> Result<(), K>
+    /// Takes one more request, of a key that fits and was not requested before, with its hash.
+    fn take_new(&mut self, hash: u64, key: K, weight: usize) -> Result<(), K>
     where
         K: Drop,
+        requires hash { hash ≡ hash_of K.Hash S.BuildHasher S.Hasher.Hasher self.old.builder key }
         requires new { lookup (K.eq key) self.old.positions ≡ None }
         requires fits { self.old.size + (1 + weight) < 2 ^ 64 }
         ensures taken { (w : K → ℕ) (past : List K) → SameWeights K.eq w → IsSizedPass K.eq w past self.old
@@ -248,8 +314,8 @@ impl<K: Eq + Hash, S: BuildHasher, A: Allocator + Copy> SizedPass<K, S, A> {
         let Ok(()) = self.latest.make_ready() else {
             return Err(key);
         };
-        double_if_full(&mut self.positions);
-        if let Err((key, _)) = self.positions.put(key, self.latest.requests) {
+        let here = self.latest.requests;
+        if let Err(key) = self.positions.insert(hash, key, here) {
             return Err(key);
         }
         self.latest.push(weight + 1);

@@ -190,11 +190,12 @@ fn take_line<S: BuildHasher, A: Allocator + Copy>(
     ensures { (past : List (OwnedKey A)) → IsSizedPass same_line weight_of_key past pass.old
         → OnOk result (HasTakenSized past (line_of key.now) pass.new) }
 {
-    match pass.request_again(key, weight) {
+    let hash = pass.hash(key);
+    match pass.request_again_with_hash(hash, key, weight) {
         Ok(Some(_)) => Ok(()),
         Ok(None) => {
             let bytes = Vec::from_slice(alloc, &key.0)?;
-            match pass.request_new(OwnedKey(bytes), weight) {
+            match pass.request_new_with_hash(hash, OwnedKey(bytes), weight) {
                 Ok(()) => Ok(()),
                 Err(_) => Err(AllocError),
             }

@@ -2,11 +2,11 @@
 
 use crate::cache::Any;
 use crate::calls::{say_found, say_popped, say_taken, say_value};
-use crate::out::Out;
-use crate::pairs::{Key, Value};
-use crate::words::Words;
-use crate::world::World;
 use clru::WeightScale;
+use clru_rows::out::Out;
+use clru_rows::pairs::{Key, Value};
+use clru_rows::words::Words;
+use clru_rows::world::World;
 use std::alloc::Allocator;
 use std::hash::BuildHasher;
 

@@ -2,10 +2,10 @@
 
 use crate::list::Numbers;
 use crate::list::lend::{retain, retain_mut, swap, writes};
-use crate::out::{Out, Outcome};
-use crate::words::Words;
-use crate::world::World;
 use clru_list::PushError;
+use clru_rows::out::{Out, Outcome};
+use clru_rows::words::Words;
+use clru_rows::world::World;
 use std::alloc::Allocator;
 
 /// Makes a call that may change the list. Answers `false` where the name is none of these.

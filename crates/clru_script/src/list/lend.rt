@@ -2,9 +2,9 @@
 
 use crate::closures::Keep;
 use crate::list::Numbers;
-use crate::out::Out;
-use crate::words::{Words, Wrong};
-use crate::world::World;
+use clru_rows::out::Out;
+use clru_rows::words::{Words, Wrong};
+use clru_rows::world::World;
 use std::alloc::Allocator;
 use std::mem;
 

@@ -2,9 +2,9 @@
 
 use crate::calls::say_hint;
 use crate::list::Numbers;
-use crate::out::{Out, Outcome};
-use crate::words::{Words, Wrong};
 use clru_list::FixedSizeListIter;
+use clru_rows::out::{Out, Outcome};
+use clru_rows::words::{Words, Wrong};
 use std::alloc::Allocator;
 
 /// A walk over places and items.

@@ -1,7 +1,7 @@
 //! What has to hold of a list after each call.
 
-use crate::fault::Fault;
 use crate::list::Numbers;
+use clru_rows::fault::Fault;
 use std::alloc::Allocator;
 
 /// What is wrong with a list, if anything: its walks from both ends, by an iterator and by places, its ends and its size.

@@ -1,7 +1,7 @@
 //! The answers of a run in words.
 
-use crate::out::Out;
 use clru::{PutError, TryPutError};
+use clru_rows::out::Out;
 use clru_runs::{Answer, Attempt};
 
 type Pair = (usize, usize);

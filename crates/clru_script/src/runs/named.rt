@@ -1,8 +1,8 @@
 //! The calls of a run by their names.
 
 use crate::runs::arms::{arity, call_of};
-use crate::words::{Words, Wrong};
-use crate::world::World;
+use clru_rows::words::{Words, Wrong};
+use clru_rows::world::World;
 use clru_runs::{Attempt, Call, PlainCall};
 use ration::Rationed;
 use std::alloc::Global;

@@ -1,9 +1,9 @@
 //! Caches of numbers over memory that is counted.
 
 use crate::cache::empty;
-use crate::pairs::Hashing;
-use crate::world::World;
 use clru::{CLruCache, WeightScale};
+use clru_rows::pairs::Hashing;
+use clru_rows::world::World;
 use ration::Rationed;
 use std::alloc::Global;
 

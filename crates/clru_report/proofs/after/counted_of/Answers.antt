@@ -8,7 +8,7 @@ use Rattle.clru_report.specs.After.{AreRowsBehind, capacities_behind, misses_beh
 use Rattle.clru_report.specs.Capacities.{capacities_of, usual}
 use Rattle.clru_report.specs.Faithful.{AreWithAdded, IsFaithful}
 use Rattle.clru_report.specs.Knees.{knees}
-use Rattle.clru_report.specs.Report.{AreRows}
+use Rattle.clru_report.specs.Report.{AreRows, misses_of}
 use Rattle.clru_report.proofs.AfterLemmas.{behind_is, left, left_at, long}
 use Rattle.clru_report.proofs.CapacityLemmas.{capacities-alike, usual_some}
 use Rattle.clru_report.proofs.FaithfulTables.{faithful_alike, knees_alike}
@@ -39,7 +39,7 @@ returns g c n lines whole before counted =
     ∙ capacities-alike (misses_at ns) m alike asked all (length ns) table ∙ ap (λ d. capacities_of asked m all d table) many
     ∙ ap (λ w. capacities_of asked m w kinds table) counted in
     let rows = subst (AreRows bytes_eq lines false false (map non_zero_usize_get c.deref-5.result.now)) (sym c.deref-6.ensures.value)
-    (c.in_ok-whole.ensures lines whole.misses) in
+    (c.in_ok-whole.ensures (misses_of lines) whole.misses) in
     let left_over = c.in_ok-rows.ensures n lines (map non_zero_usize_get c.deref-5.result.now) before rows in (
       table,
       subst (λ w. IsFaithful m w (usual kinds) table) counted faithful,

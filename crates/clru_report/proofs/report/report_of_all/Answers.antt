@@ -5,7 +5,7 @@ use Rattle.clru_curve.specs.Curves.{HasMissesOf}
 use Rattle.clru_lines.specs.Lines.{lines_of}
 use Rattle.clru_model.specs.Requests.{distinct}
 use Rattle.clru_report.specs.Passes.{IsFloorFor, IsForeseenFor, wants_floor, wants_least}
-use Rattle.clru_report.specs.Report.{AreRows, capacities_asked}
+use Rattle.clru_report.specs.Report.{AreRows, capacities_asked, misses_of}
 use Rattle.clru_report.proofs.Forms.{form_of_all}
 use Rattle.clru_report.proofs.Samples.{all_kept}
 use Rattle.clru_report.proofs.report.report_of_all.Goals as goal
@@ -17,6 +17,7 @@ returns-in-Ok-text_by_keys g c =
     let least = c.asks_for_least-least.result in let floored = c.asks_for_floor-floored.result in
     let has = subst (λ ls. HasMissesOf bytes_eq ls curve) whole of.misses in
     let kinds = subst (λ ls. length curve ≡ distinct bytes_eq (reverse ls)) whole of.distinct_keys in
+    let many = distinct bytes_eq (reverse lines) in
     let table = map non_zero_usize_get c.in-Ok.table.capacities.items in let asked = capacities_asked options (length lines) lines table in
     let found = c.in-Ok-rows_of_all.ensures lines least floored has kinds
     (subst (λ ls. IsForeseenFor g.row.A.Denot least ls c.in_ok-curve.foresight) whole read.3.1)
@@ -32,7 +33,7 @@ returns-in-Ok-text_by_keys g c =
       read.0,
       read.1,
       read.2,
-      form_of_all options read.0 _ table c.deref-3.result.now c.deref-2.result.now text (c.in-Ok.ensures.table lines has kinds)
-          (c.deref-3.ensures.value ∙ c.in-Ok.ensures.knees lines has kinds) of.counted options.form
+      form_of_all options read.0 _ table c.deref-3.result.now c.deref-2.result.now text (c.in-Ok.ensures.table (misses_of lines) many has kinds)
+          (c.deref-3.ensures.value ∙ c.in-Ok.ensures.knees (misses_of lines) many has kinds) of.counted options.form
           c.in-Ok-text_by_keys.ensures rowed (c.distinct.ensures ∙ kinds) of.in_bytes,
     )

@@ -1,5 +1,7 @@
 use Rattle.std.proofs.Common.{◌≡◌, ℕ, List, ◌-◌, ◌/◌, ◌^◌, false, map, ap, ◌∙◌, string_bytes, sym, subst}
 use Rattle.std.specs.Int.NonZero.{non_zero_usize_get}
+use Rattle.std.specs.Prelude.{bytes_eq, reverse}
+use Rattle.clru_model.specs.Requests.{distinct}
 use Rattle.clru_report.specs.Knees.{knees}
 use Rattle.clru_report.specs.Passes.{IsTextByKeys, wants_floor}
 use Rattle.clru_report.specs.Report.{AreRowsOfSample, IsUsualTable, knees_of_sample, misses_of}
@@ -14,9 +16,9 @@ returns g c input kept has many floor in_bytes =
     let options = c.args.options.now in let n = non_zero_usize_get c.args.one_in in let all = c.args.requests in
     let table = map non_zero_usize_get c.in_ok-table.table.capacities.items in let most = 2 ^ 64 - 1 in
     let whole : all / c.get.result ≡ all / n = ap (λ k. all / k) c.get.ensures.value in
-    let usual = subst (λ w. IsUsualTable w kept table) whole (c.in_ok-table.ensures.table kept has many) in
+    let usual = subst (λ w. IsUsualTable w kept table) whole (c.in_ok-table.ensures.table (misses_of kept) (distinct bytes_eq (reverse kept)) has many) in
     let marked : c.in_ok-knees.knees.items ≡ knees_of_sample n all kept table = c.in_ok-knees.ensures
-    ∙ ap (map (times n most)) (c.deref-2.ensures.value ∙ c.in_ok-table.ensures.knees kept has many
+    ∙ ap (map (times n most)) (c.deref-2.ensures.value ∙ c.in_ok-table.ensures.knees (misses_of kept) (distinct bytes_eq (reverse kept)) has many
     ∙ ap (λ w. knees (misses_of kept) w table) whole) in
     let rows = subst (λ cs. AreRowsOfSample options (wants_floor options) n all kept cs c.in_ok-rows.rows.items)
     (ap (map non_zero_usize_get) c.deref.ensures.value) (c.in_ok-rows.ensures kept (wants_floor options) has many floor) in

@@ -28,15 +28,12 @@ pub returns-in-Err-request_new-clause-refused : goal.returns-in-Err-request_new-
 returns-in-Err-request_new-clause-refused g c idle past before =
     c.in-Err-request_new.ensures.refused idle past (c.in-Ok-None.ensures.not_taken idle past before (ap is_some c.in-Ok-None.field-0-is))
 
-pub request_new-requires : goal.request_new-requires
-request_new-requires g c =
+pub request_new-requires-clause-new : goal.request_new-requires-clause-new
+request_new-requires-clause-new g c =
     let idle = c.self.inside.limit in let past = c.self.invariant.past in
-    let before = subst (λ v. IsIdlePass g.K.PartialEq.eq idle past v) c.self.view_is c.self.invariant.taken in
-    record {
-      new = (
-        idle,
-        past,
-        c.in-Ok-None.ensures.not_taken idle past before (ap is_some c.in-Ok-None.field-0-is),
-        sym (c.in-Ok-None.ensures.known idle past before) ∙ ap is_some c.in-Ok-None.field-0-is,
-      );
-    }
+    let before = subst (λ v. IsIdlePass g.K.PartialEq.eq idle past v) c.self.view_is c.self.invariant.taken in (
+      idle,
+      past,
+      c.in-Ok-None.ensures.not_taken idle past before (ap is_some c.in-Ok-None.field-0-is),
+      sym (c.in-Ok-None.ensures.known idle past before) ∙ ap is_some c.in-Ok-None.field-0-is,
+    )

@@ -1,4 +1,4 @@
-use Rattle.std.proofs.Common.{◌<◌, ◌∷◌, sym, ap, subst, arith, length}
+use Rattle.std.proofs.Common.{◌∷◌, sym, ap, subst, arith}
 use Rattle.clru_curve.specs.Tree.{up_to}
 use Rattle.clru_curve.specs.IdlePasses.{IsIdlePass}
 use Rattle.clru_curve.proofs.IdlePassing.{IsIdlePass-same, IsIdlePass-new, absent_key}
@@ -44,7 +44,7 @@ invariant_of-self-in-Err g c =
     record {
       latest = e.kept;
       past = inv.past;
-      taken = rw (c.in-Err.ensures.entries, c.double_if_full.ensures.entries, e.requests, c.reserve.ensures.items)
+      taken = rw (c.in-Err.ensures.refused, e.requests, c.reserve.ensures.items)
           (IsIdlePass-same eq s.limit inv.past s.seen.entries s.latest.blocks.items c.make_ready.new.self.blocks.items s.latest.requests
           s.histogram.items s.limit e.ones inv.taken);
     }
@@ -52,9 +52,15 @@ invariant_of-self-in-Err g c =
 pub returns-in-Err-clause-refused : goal.returns-in-Err-clause-refused
 returns-in-Err-clause-refused g c idle past before =
     let eq = g.K.PartialEq.eq in let s = c.self.inside in let e = c.make_ready.ensures in
-    rw (c.in-Err.ensures.entries, c.double_if_full.ensures.entries, e.requests, c.reserve.ensures.items)
+    rw (c.in-Err.ensures.refused, e.requests, c.reserve.ensures.items)
     (IsIdlePass-same eq idle past s.seen.entries s.latest.blocks.items c.make_ready.new.self.blocks.items s.latest.requests s.histogram.items s.limit
     e.ones (subst (λ v. IsIdlePass eq idle past v) (sym c.self.view_is) before))
+
+pub insert-requires-clause-new : goal.insert-requires-clause-new
+insert-requires-clause-new g c =
+    let s = c.self.inside in let new = c.requires.new in
+    absent_key g.K.PartialEq.eq g.met.K.Eq.laws new.0 new.1 s.seen.entries s.latest.blocks.items s.latest.requests s.histogram.items s.limit c.args.key c.args.time
+    (subst (λ v. IsIdlePass g.K.PartialEq.eq new.0 new.1 v) (sym c.self.view_is) new.2) new.3
 
 pub invariant_of-self-2 : goal.invariant_of-self-2
 invariant_of-self-2 g c =
@@ -62,21 +68,18 @@ invariant_of-self-2 g c =
     let n = s.latest.requests in let new = c.requires.new in let t = c.args.time in
     let absent = absent_key eq laws new.0 new.1 s.seen.entries s.latest.blocks.items n s.histogram.items s.limit c.args.key t
     (subst (λ v. IsIdlePass eq new.0 new.1 v) (sym c.self.view_is) new.2) new.3 in
-    let room : length s.seen.entries < c.double_if_full.new.positions.capacity =
-    omega (arith, c.double_if_full.ensures.room, ap (λ l. length l) c.double_if_full.ensures.entries) in
     record {
       latest = c.push.ensures.kept;
       past = (c.args.key, t) ∷ inv.past;
       taken = rw (
-        c.in_default-put.ensures.entries,
-        c.double_if_full.ensures.entries,
+        c.in_default-insert.ensures.taken,
         c.push.ensures.requests,
         e.requests,
         c.push_reserved.ensures.items,
         c.reserve.ensures.items,
       )
           (IsIdlePass-new eq laws s.limit inv.past s.seen.entries s.latest.blocks.items n s.histogram.items s.limit c.args.key t inv.taken
-          c.double_if_full.new.positions.capacity c.push.new.self.blocks.items absent room
+          c.push.new.self.blocks.items absent
           (λ q. omega (arith, c.push.ensures.ones q, e.ones q, ap (λ r. up_to q r) e.requests)));
     }
 
@@ -87,9 +90,7 @@ returns-clause-taken g c idle past before =
     let n = s.latest.requests in let new = c.requires.new in let t = c.args.time in
     let absent = absent_key eq laws new.0 new.1 s.seen.entries s.latest.blocks.items n s.histogram.items s.limit c.args.key t
     (subst (λ v. IsIdlePass eq new.0 new.1 v) (sym c.self.view_is) new.2) new.3 in
-    let room : length s.seen.entries < c.double_if_full.new.positions.capacity =
-    omega (arith, c.double_if_full.ensures.room, ap (λ l. length l) c.double_if_full.ensures.entries) in
-    rw (c.in_default-put.ensures.entries, c.double_if_full.ensures.entries, c.push.ensures.requests, e.requests, c.push_reserved.ensures.items, c.reserve.ensures.items)
-    (IsIdlePass-new eq laws idle past s.seen.entries s.latest.blocks.items n s.histogram.items s.limit c.args.key t is c.double_if_full.new.positions.capacity
-    c.push.new.self.blocks.items absent room
+    rw (c.in_default-insert.ensures.taken, c.push.ensures.requests, e.requests, c.push_reserved.ensures.items, c.reserve.ensures.items)
+    (IsIdlePass-new eq laws idle past s.seen.entries s.latest.blocks.items n s.histogram.items s.limit c.args.key t is
+    c.push.new.self.blocks.items absent
     (λ q. omega (arith, c.push.ensures.ones q, e.ones q, ap (λ r. up_to q r) e.requests)))

@@ -7,10 +7,10 @@ invariant_of-result g c =
     record {
       latest = c.new.ensures.kept;
       past = [];
-      taken = rw (c.no_positions.ensures, c.new.ensures.blocks, c.new.ensures.requests, c.new-2.ensures.items)
+      taken = rw (c.empty.ensures, c.new.ensures.blocks, c.new.ensures.requests, c.new-2.ensures.items)
           (IsIdlePass-none g.K.PartialEq.eq g.met.K.Eq.laws c.args.limit);
     }
 
 pub returns : goal.returns
-returns g c = rw (c.no_positions.ensures, c.new.ensures.blocks, c.new.ensures.requests, c.new-2.ensures.items)
+returns g c = rw (c.empty.ensures, c.new.ensures.blocks, c.new.ensures.requests, c.new-2.ensures.items)
     (IsIdlePass-none g.K.PartialEq.eq g.met.K.Eq.laws c.args.limit)

@@ -8,8 +8,7 @@ returns-clause-known g c past before =
     let eq = g.K.PartialEq.eq in let s = c.self.inside in
     let is = subst (λ v. IsPass eq past v) (sym c.self.view_is) before in
     cc (
-      c.copied.ensures,
-      c.peek.ensures,
+      c.get.ensures,
       form_known eq g.met.K.Eq.laws (g.Q.Equivalent.equivalent c.args.key) (g.met.Q.Equivalent.respects_eq c.args.key) s.positions.entries past is.ranked.known,
     )
 
@@ -17,6 +16,6 @@ pub returns-clause-position : goal.returns-clause-position
 returns-clause-position g c past x before passes =
     let eq = g.K.PartialEq.eq in let s = c.self.inside in
     let is = subst (λ v. IsPass eq past v) (sym c.self.view_is) before in
-    some_by c.copied.result (λ p at. is.latest x p
+    some_by c.get.result (λ p at. is.latest x p
     (found_as eq g.met.K.Eq.laws (g.Q.Equivalent.equivalent c.args.key) (g.met.Q.Equivalent.respects_eq c.args.key) s.positions.entries x (Some p) passes
-    (sym (c.copied.ensures ∙ c.peek.ensures) ∙ at)))
+    (sym c.get.ensures ∙ at)))

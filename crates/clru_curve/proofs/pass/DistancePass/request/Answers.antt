@@ -12,6 +12,6 @@ returns-in-Ok-Some-clause-taken g c past before =
 pub returns-in-Ok-clause-taken : goal.returns-in-Ok-clause-taken
 returns-in-Ok-clause-taken g c past before = c.in-Ok.ensures.taken past (c.in-Ok-None.ensures.not_taken past before (ap is_some c.in-Ok-None.field-0-is))
 
-pub returns-in-Err-request_new-clause-refused : goal.returns-in-Err-request_new-clause-refused
-returns-in-Err-request_new-clause-refused g c past before =
-    c.in-Err-request_new.ensures.refused past (c.in-Ok-None.ensures.not_taken past before (ap is_some c.in-Ok-None.field-0-is))
+pub returns-in-Err-request_new_with_hash-clause-refused : goal.returns-in-Err-request_new_with_hash-clause-refused
+returns-in-Err-request_new_with_hash-clause-refused g c past before =
+    c.in-Err-request_new_with_hash.ensures.refused past (c.in-Ok-None.ensures.not_taken past before (ap is_some c.in-Ok-None.field-0-is))

@@ -7,8 +7,8 @@ invariant_of-result g c =
     record {
       latest = c.new.ensures.kept;
       past = [];
-      taken = rw (c.no_positions.ensures, c.new.ensures.blocks, c.new.ensures.requests, c.new-2.ensures.items) (IsPass-none g.K.PartialEq.eq);
+      taken = rw (c.empty.ensures, c.new.ensures.blocks, c.new.ensures.requests, c.new-2.ensures.items) (IsPass-none g.K.PartialEq.eq);
     }
 
 pub returns : goal.returns
-returns g c = rw (c.no_positions.ensures, c.new.ensures.blocks, c.new.ensures.requests, c.new-2.ensures.items) (IsPass-none g.K.PartialEq.eq)
+returns g c = rw (c.empty.ensures, c.new.ensures.blocks, c.new.ensures.requests, c.new-2.ensures.items) (IsPass-none g.K.PartialEq.eq)

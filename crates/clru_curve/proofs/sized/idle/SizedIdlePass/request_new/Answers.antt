@@ -1,4 +1,4 @@
-use Rattle.std.proofs.Common.{◌≡◌, ◌+◌, ◌<◌, [], ◌∷◌, ◌++◌, None, length, refl, sym, ap, ◌∙◌, subst, arith}
+use Rattle.std.proofs.Common.{◌≡◌, ◌+◌, [], ◌∷◌, ◌++◌, None, refl, sym, ap, ◌∙◌, subst, arith}
 use Rattle.std.specs.Map.{lookup}
 use Rattle.clru_curve.proofs.LatestSizes.{total_zero, grown_totals, grown_lives, grown_less}
 use Rattle.clru_curve.proofs.SizedIdlePassing.{IsSizedIdlePass-new, IsSoundIdleBySize-new}
@@ -21,18 +21,16 @@ invariant_of-self-2 g c =
     let eq = g.K.PartialEq.eq in let laws = g.met.K.Eq.laws in let s = c.self.inside in let inv = c.self.invariant in
     let ss = s.latest.sizes.items in let n = s.latest.requests in let e = c.make_ready.ensures in let w = c.args.weight in
     let absent = subst (λ v. lookup (eq c.args.key) v.seen ≡ None) (sym c.self.view_is) c.requires.new in
-    let room : length s.seen.entries < c.double_if_full.new.positions.capacity =
-    omega (arith, c.double_if_full.ensures.room, ap (λ l. length l) c.double_if_full.ensures.entries) in
     let d = c.push.new.self in let ts = d.sizes.items in
     let grown = c.push.ensures.sizes ∙ ap (λ l. l ++ numbered c.make_ready.new.self.requests (w + 1) ∷ []) e.sizes
     ∙ ap (λ k. ss ++ numbered k (w + 1) ∷ []) e.requests in
     let requests : d.requests ≡ n + 1 = omega (arith, c.push.ensures.requests, e.requests) in
-    rw (c.in_default-put.ensures.entries, c.double_if_full.ensures.entries, requests, e.requests)
+    rw (c.in_default-insert.ensures.taken, requests, e.requests)
     (IsSoundIdleBySize-new eq laws s.seen.entries ss n s.hits.items s.size s.greatest s.limit c.args.key c.args.time s.latest.nodes.items inv
     w c.greater-greatest.result (omega (arith, c.requires.fits, ap (λ v. v.size) c.self.view_is)) ts d.nodes.items
     (subst (λ k. IsSummed ts d.nodes.items k) requests c.push.ensures.kept)
     (omega (arith, grown_less ss ts ts n w (λ t. refl) (λ t. refl) grown, inv.held))
-    c.double_if_full.new.positions.capacity room absent
+    absent
     (grown_lives ss ts ts n w (λ t. refl) (λ t. refl) grown))
 
 pub returns-clause-taken : goal.returns-clause-taken
@@ -41,13 +39,11 @@ returns-clause-taken g c weight idle past same_weights before weighs =
     let ss = s.latest.sizes.items in let n = s.latest.requests in let e = c.make_ready.ensures in let w = c.args.weight in
     let is = subst (λ v. IsSizedIdlePass eq weight idle past v) (sym c.self.view_is) before in
     let absent = subst (λ v. lookup (eq c.args.key) v.seen ≡ None) (sym c.self.view_is) c.requires.new in
-    let room : length s.seen.entries < c.double_if_full.new.positions.capacity =
-    omega (arith, c.double_if_full.ensures.room, ap (λ l. length l) c.double_if_full.ensures.entries) in
     let d = c.push.new.self in let ts = d.sizes.items in
     let grown = c.push.ensures.sizes ∙ ap (λ l. l ++ numbered c.make_ready.new.self.requests (w + 1) ∷ []) e.sizes
     ∙ ap (λ k. ss ++ numbered k (w + 1) ∷ []) e.requests in
     let requests : d.requests ≡ n + 1 = omega (arith, c.push.ensures.requests, e.requests) in
-    rw (c.in_default-put.ensures.entries, c.double_if_full.ensures.entries, requests, e.requests)
+    rw (c.in_default-insert.ensures.taken, requests, e.requests)
     (IsSizedIdlePass-new eq laws s.seen.entries ss n s.hits.items s.size s.greatest s.limit c.args.key c.args.time weight idle past is same_weights w weighs
-    c.greater-greatest.result c.greater-greatest.ensures ts c.double_if_full.new.positions.capacity absent room
+    c.greater-greatest.result c.greater-greatest.ensures ts absent
     (grown_totals ss ts ts n w (λ t. refl) (λ t. refl) grown))

@@ -1,6 +1,6 @@
 use Rattle.std.proofs.Common.{◌≡◌, ◌+◌, suc, [], ◌∷◌, ◌++◌, Some, None, refl, sym, ap, ◌∙◌, subst, arith}
 use Rattle.std.specs.Map.{set_value}
-use Rattle.clru.specs.Cache.{with_entries}
+use Rattle.clru_curve.specs.KeyTables.{keyed}
 use Rattle.clru_model.proofs.Forms.{form_is}
 use Rattle.clru_curve.proofs.Forms.{key_at, found_as}
 use Rattle.clru_curve.proofs.LatestSizes.{total_zero, removed_less, moved_lives, moved_totals, moved_less}
@@ -10,13 +10,13 @@ use Rattle.clru_curve.specs.Rising.{numbered}
 use Rattle.clru_curve.specs.SizedPasses.{IsSizedPass}
 use Rattle.clru_curve.proofs.sized.pass.SizedPass.again.Goals as goal
 
-pub returns-in_default-move_position-clause-span : goal.returns-in_default-move_position-clause-span
-returns-in_default-move_position-clause-span g c w past x same before weighs passes =
+pub returns-in_default-replace-clause-span : goal.returns-in_default-replace-clause-span
+returns-in_default-replace-clause-span g c w past x same before weighs passes =
     let eq = g.K.PartialEq.eq in let laws = g.met.K.Eq.laws in let s = c.self.inside in
     let is = subst (λ v. IsSizedPass eq w past v) (sym c.self.view_is) before in
     span_none eq laws s.positions.entries s.latest.sizes.items s.latest.requests s.hits.items s.size s.greatest x w past is
     (found_as eq laws (g.Q.Equivalent.equivalent c.args.key) (g.met.Q.Equivalent.respects_eq c.args.key) s.positions.entries x None passes
-    (sym c.in_default-move_position.ensures.found))
+    (sym c.in_default-replace.ensures.found))
 
 pub remove-span-requires-clause-live : goal.remove-span-requires-clause-live
 remove-span-requires-clause-live g c =
@@ -56,8 +56,8 @@ invariant_of-self-2 g c =
     let ss = s.latest.sizes.items in let n = s.latest.requests in let p = c.in-Some.position in let e = c.make_ready.ensures in let w = c.args.weight in
     let at = key_at eq laws (g.Q.Equivalent.equivalent c.args.key) (g.met.Q.Equivalent.respects_eq c.args.key)
     s.positions.entries p (sym c.in-Some.ensures.found) in
-    let moved = c.in-Some.ensures.moved refl
-    ∙ ap (λ t. with_entries s.positions (set_value t s.positions.entries c.make_ready.new.self.requests)) at.same in
+    let moved = c.in-Some.ensures.replaced refl
+    ∙ ap (λ t. keyed (set_value t s.positions.entries c.make_ready.new.self.requests) s.positions.builder) at.same in
     let left = c.remove-span.new.self.sizes.items in let pushed = c.push.new.self.sizes.items in
     let d = c.drop_empty.new.self in let ts = d.sizes.items in
     let removed = subst (λ l. IsRemoved l p left) e.sizes c.remove-span.ensures.removed in
@@ -89,8 +89,8 @@ returns-clause-taken g c w past x same before weighs passes some =
     let ss = s.latest.sizes.items in let n = s.latest.requests in let p = c.in-Some.position in let e = c.make_ready.ensures in let v = c.args.weight in
     let is = subst (λ v. IsSizedPass eq w past v) (sym c.self.view_is) before in
     let found = found_as eq laws test form s.positions.entries x (Some p) passes (sym c.in-Some.ensures.found) in
-    let moved = c.in-Some.ensures.moved refl
-    ∙ ap (λ t. with_entries s.positions (set_value t s.positions.entries c.make_ready.new.self.requests)) (form_is eq test form x passes) in
+    let moved = c.in-Some.ensures.replaced refl
+    ∙ ap (λ t. keyed (set_value t s.positions.entries c.make_ready.new.self.requests) s.positions.builder) (form_is eq test form x passes) in
     let left = c.remove-span.new.self.sizes.items in let pushed = c.push.new.self.sizes.items in
     let d = c.drop_empty.new.self in let ts = d.sizes.items in
     let removed = subst (λ l. IsRemoved l p left) e.sizes c.remove-span.ensures.removed in

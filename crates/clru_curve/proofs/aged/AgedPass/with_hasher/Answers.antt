@@ -1,0 +1,4 @@
+use Rattle.clru_curve.proofs.aged.AgedPass.with_hasher.Goals as goal
+
+pub returns-in-Ok : goal.returns-in-Ok
+returns-in-Ok g c = c.in-Ok.ensures (λ _. 0)

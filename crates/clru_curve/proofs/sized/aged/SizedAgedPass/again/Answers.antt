@@ -1,0 +1,118 @@
+use Rattle.std.proofs.Common.{◌≡◌, ◌+◌, suc, [], ◌∷◌, ◌++◌, Some, refl, sym, ap, ◌∙◌, subst, arith}
+use Rattle.std.specs.Map.{set_value}
+use Rattle.clru_model.proofs.Forms.{form_is}
+use Rattle.clru_curve.proofs.Forms.{key_at, found_as}
+use Rattle.clru_curve.proofs.IdlePassing.{position_found}
+use Rattle.clru_curve.proofs.LatestSizes.{total_zero, removed_less, moved_lives, moved_totals, moved_less}
+use Rattle.clru_curve.proofs.SizedAgedPassing.{seen_found, IsSizedAgedPass-again, IsSoundAgedBySize-again, size_there}
+use Rattle.clru_curve.specs.Fetches.{fetched_at, seens_of, is_row_hit}
+use Rattle.clru_curve.specs.LatestSizes.{sizes_from, total_from, live_from, IsRemoved, IsSummed}
+use Rattle.clru_curve.specs.Rising.{numbered}
+use Rattle.clru_curve.specs.Seen.{seen_at}
+use Rattle.clru_curve.specs.SizedAgedPasses.{IsSizedAgedPass}
+use Rattle.clru_curve.proofs.sized.aged.SizedAgedPass.again.Goals as goal
+
+pub remove-span-requires-clause-live : goal.remove-span-requires-clause-live
+remove-span-requires-clause-live g c =
+    let eq = g.K.PartialEq.eq in let b = c.in-Some.before in let p = b.seen.position in let e = c.make_ready.ensures in
+    let es = c.self.inside.seen.entries in
+    let at = key_at eq g.met.K.Eq.laws (g.Q.Equivalent.equivalent c.args.key) (g.met.Q.Equivalent.respects_eq c.args.key)
+    es b (sym c.in-Some.ensures.found) in
+    omega (
+      arith,
+      c.self.invariant.sound.ranked.latest at.key p (position_found eq (seens_of es) at.key b.seen (seen_found eq es at.key b at.found)),
+      ap (λ l. live_from l p) e.sizes,
+      ap (λ l. live_from l (suc p)) e.sizes,
+    )
+
+pub remove-span-requires-clause-fits : goal.remove-span-requires-clause-fits
+remove-span-requires-clause-fits g c =
+    let ss = c.self.inside.latest.sizes.items in let inv = c.self.invariant.sound in
+    omega (arith, ap (λ l. sizes_from l 0) c.make_ready.ensures.sizes, total_zero ss, inv.held, inv.fits)
+
+pub push-requires-clause-fits : goal.push-requires-clause-fits
+push-requires-clause-fits g c =
+    let ss = c.self.inside.latest.sizes.items in let inv = c.self.invariant.sound in let p = c.in-Some.before.seen.position in
+    let left = c.remove-span.new.self.sizes.items in
+    let removed = subst (λ l. IsRemoved l p left) c.make_ready.ensures.sizes c.remove-span.ensures.removed in
+    omega (arith, removed_less ss left p removed, total_zero left, inv.held, c.if-weight-self.false)
+
+pub push-requires-clause-countable : goal.push-requires-clause-countable
+push-requires-clause-countable g c =
+    let inv = c.self.invariant.sound in
+    omega (arith, c.remove-span.ensures.requests, c.make_ready.ensures.requests, inv.many, c.if-weight-self.false)
+
+pub drop_empty-requires-clause-fits : goal.drop_empty-requires-clause-fits
+drop_empty-requires-clause-fits g c =
+    let ss = c.self.inside.latest.sizes.items in let inv = c.self.invariant.sound in let p = c.in-Some.before.seen.position in
+    let left = c.remove-span.new.self.sizes.items in let pushed = c.push.new.self.sizes.items in
+    let removed = subst (λ l. IsRemoved l p left) c.make_ready.ensures.sizes c.remove-span.ensures.removed in
+    let less = moved_less ss left pushed pushed p c.remove-span.new.self.requests c.args.weight (λ t. refl) (λ t. refl) removed c.push.ensures.sizes in
+    omega (arith, less, total_zero pushed, inv.held, c.if-weight-self.false)
+
+pub take-requires-clause-inside : goal.take-requires-clause-inside
+take-requires-clause-inside g c =
+    let eq = g.K.PartialEq.eq in let b = c.in-Some.before in
+    let at = key_at eq g.met.K.Eq.laws (g.Q.Equivalent.equivalent c.args.key) (g.met.Q.Equivalent.respects_eq c.args.key)
+    c.self.inside.seen.entries b (sym c.in-Some.ensures.found) in
+    c.self.invariant.inside at.key b at.found
+
+pub take-requires-clause-few : goal.take-requires-clause-few
+take-requires-clause-few g c = λ i. omega (arith, c.self.invariant.few i, c.self.invariant.sound.many, c.if-weight-self.false)
+
+pub take-requires-clause-small : goal.take-requires-clause-small
+take-requires-clause-small g c = λ i. omega (arith, c.self.invariant.small i, c.if-weight-self.false)
+
+pub invariant_of-self-2 : goal.invariant_of-self-2
+invariant_of-self-2 g c =
+    let eq = g.K.PartialEq.eq in let laws = g.met.K.Eq.laws in let s = c.self.inside in let inv = c.self.invariant in
+    let ss = s.latest.sizes.items in let n = s.latest.requests in let b = c.in-Some.before in let p = b.seen.position in
+    let e = c.make_ready.ensures in let w = c.args.weight in let f = s.fetches in let took = c.take.new.self in
+    let at = key_at eq laws (g.Q.Equivalent.equivalent c.args.key) (g.met.Q.Equivalent.respects_eq c.args.key)
+    s.seen.entries b (sym c.in-Some.ensures.found) in
+    let moved = c.in-Some.ensures.moved
+    ∙ ap (λ t. set_value t s.seen.entries (fetched_at (seen_at c.make_ready.new.self.requests c.args.time) b.first)) at.same in
+    let left = c.remove-span.new.self.sizes.items in let pushed = c.push.new.self.sizes.items in
+    let d = c.drop_empty.new.self in let ts = d.sizes.items in
+    let removed = subst (λ l. IsRemoved l p left) e.sizes c.remove-span.ensures.removed in
+    let number = c.remove-span.ensures.requests ∙ e.requests in
+    let grown = c.push.ensures.sizes ∙ ap (λ k. left ++ numbered k (w + 1) ∷ []) number in
+    let requests : d.requests ≡ n + 1 = omega (arith, c.drop_empty.ensures.requests, c.push.ensures.requests, number) in
+    let totals = c.drop_empty.ensures.totals in let lives = c.drop_empty.ensures.live in
+    let hits = is_row_hit c.is_in_limit-soon.result c.remove-span.result c.args.time f.age b.first f.capacities.items f.times.items in
+    rw (moved, requests, c.take.ensures.capacities, c.take.ensures.age, e.requests)
+    (IsSoundAgedBySize-again eq laws s.seen.entries ss n f.capacities.items f.misses.items f.missed_sizes.items f.times.items f.age s.size s.greatest s.idle
+    at.key c.args.time s.latest.nodes.items inv
+    w c.greater-greatest.result (omega (arith, c.if-weight-self.false, inv.sound.fits)) ts d.nodes.items
+    (subst (λ k. IsSummed ts d.nodes.items k) requests c.drop_empty.ensures.kept)
+    (omega (arith, moved_less ss left ts pushed p n w totals lives removed grown, inv.sound.held))
+    hits took.misses.items took.missed_sizes.items took.times.items c.take.ensures.misses c.take.ensures.missed_sizes
+    b at.found (moved_lives ss left ts pushed p n w totals lives removed grown) c.take.ensures.times)
+
+pub returns-clause-taken : goal.returns-clause-taken
+returns-clause-taken g c w cs idle age past x same before weighs passes some =
+    let eq = g.K.PartialEq.eq in let laws = g.met.K.Eq.laws in let s = c.self.inside in let inv = c.self.invariant in
+    let test = g.Q.Equivalent.equivalent c.args.key in let form = g.met.Q.Equivalent.respects_eq c.args.key in
+    let ss = s.latest.sizes.items in let n = s.latest.requests in let b = c.in-Some.before in let p = b.seen.position in
+    let e = c.make_ready.ensures in let v = c.args.weight in let f = s.fetches in let took = c.take.new.self in
+    let is = subst (λ v. IsSizedAgedPass eq w cs idle age past v) (sym c.self.view_is) before in
+    let found = found_as eq laws test form s.seen.entries x (Some b) passes (sym c.in-Some.ensures.found) in
+    let moved = c.in-Some.ensures.moved
+    ∙ ap (λ t. set_value t s.seen.entries (fetched_at (seen_at c.make_ready.new.self.requests c.args.time) b.first)) (form_is eq test form x passes) in
+    let left = c.remove-span.new.self.sizes.items in let pushed = c.push.new.self.sizes.items in
+    let d = c.drop_empty.new.self in let ts = d.sizes.items in
+    let removed = subst (λ l. IsRemoved l p left) e.sizes c.remove-span.ensures.removed in
+    let number = c.remove-span.ensures.requests ∙ e.requests in
+    let grown = c.push.ensures.sizes ∙ ap (λ k. left ++ numbered k (v + 1) ∷ []) number in
+    let requests : d.requests ≡ n + 1 = omega (arith, c.drop_empty.ensures.requests, c.push.ensures.requests, number) in
+    let span = c.remove-span.ensures.total ∙ ap (λ l. total_from l p) e.sizes in
+    let there = size_there eq laws s.seen.entries ss n f.capacities.items f.misses.items f.missed_sizes.items f.times.items f.age s.size s.greatest s.idle
+    x c.args.time s.latest.nodes.items inv w cs idle age past is same v weighs c.greater-greatest.result c.greater-greatest.ensures ts
+    took.misses.items took.missed_sizes.items took.times.items b found in
+    rw (moved, requests, c.take.ensures.capacities, c.take.ensures.age, e.requests)
+    (IsSizedAgedPass-again eq laws s.seen.entries ss n f.capacities.items f.misses.items f.missed_sizes.items f.times.items f.age s.size s.greatest s.idle
+    x c.args.time s.latest.nodes.items inv w cs idle age past is same v weighs c.greater-greatest.result c.greater-greatest.ensures ts
+    took.misses.items took.missed_sizes.items took.times.items b found
+    c.is_in_limit-soon.result c.remove-span.result c.is_in_limit-soon.ensures span
+    (moved_totals ss left ts pushed p n v c.drop_empty.ensures.totals c.drop_empty.ensures.live removed grown n inv.sound.summed.rising there)
+    c.take.ensures.misses c.take.ensures.missed_sizes c.take.ensures.times)

@@ -1,0 +1,46 @@
+//! Makes the calls of a script on curves, floors and reports, and writes it again, each call with what it answered.
+#![tactic(auto)]
+
+mod aged;
+mod floors;
+mod foresight;
+mod misses;
+mod passes;
+mod report;
+mod requests;
+mod timed;
+
+use clru_rows::answer;
+use clru_rows::answers::Answers;
+use clru_rows::lines::Line;
+use clru_rows::page::Blocks;
+use clru_rows::words::Wrong;
+use clru_rows::world::World;
+use std::process::ExitCode;
+
+/// The kinds of blocks that this program runs.
+struct Kinds;
+
+impl Blocks for Kinds {
+    fn run(world: &'static World, block: &[Line], answers: &mut Answers) {
+        let Some((first, lines)) = block.split_first() else {
+            return;
+        };
+        match first.name() {
+            "misses" | "sizes" | "floor" | "least" => requests::run(world, block, answers),
+            "distances" => passes::run_distances(world, lines, answers),
+            "spans" => passes::run_spans(world, lines, answers),
+            "idle_distances" => timed::run_distances(world, first, lines, answers),
+            "idle_spans" => timed::run_spans(world, first, lines, answers),
+            "aged_misses" => aged::run_misses(world, first, lines, answers),
+            "aged_sizes" => aged::run_sizes(world, first, lines, answers),
+            "foresight" => foresight::run(world, first, lines, answers),
+            "input" => report::run(world, first, lines, answers),
+            _ => answers.wrong = Some(Wrong::NothingMade),
+        }
+    }
+}
+
+fn main(rt: HostRuntime) -> ExitCode {
+    ExitCode::from(answer::<Kinds, _, _>(rt.alloc(), &mut rt.stdin(), &mut rt.stdout()))
+}

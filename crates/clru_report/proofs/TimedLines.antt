@@ -1,0 +1,89 @@
+-- What a pass knows that has taken lines with times: one more line, and the curve.
+use Rattle.std.proofs.Common.{◌≡◌, ℕ, ◌+◌, Bool, true, false, cond, List, [], ◌∷◌, ◌++◌, IsNone, IsSome, Option, None, Some, append-nil, map, length, reverse, take, refl, sym, ap, ◌∙◌, subst}
+use Rattle.std.specs.Prelude.{bytes_eq, unwrap_or, IsSomeAnd}
+use Rattle.std.specs.List.{slice_get}
+use Rattle.std.specs.Map.{keys_of}
+use Rattle.std.proofs.lemmas.Grind.{reverse_onto}
+use Rattle.std.proofs.lemmas.List.{map-append, reverse-reverse}
+use Rattle.std.proofs.lemmas.List.Elements.{All-push, filter-append}
+use Rattle.clru_curve.specs.IdlePasses.{HasIdleMissesOf, IsIdlePass, TimedPass}
+use Rattle.clru_lines.specs.declared.lines.OwnedKey.{OwnedKey}
+use Rattle.clru_model.proofs.Views.{distinct-map, map-reverse}
+use Rattle.clru_model.specs.Requests.{distinct}
+use Rattle.clru_report.specs.Passes.{line_of, same_line}
+use Rattle.clru_report.specs.Samples.{is_kept}
+use Rattle.clru_report.specs.Timed.{IsFirstUntimed}
+use Rattle.clru_report.specs.TimedPasses.{HasTakenRequest, HasTakenRequests, HasTakenTimed, shown_of}
+use Rattle.clru_report.specs.Times.{HaveTimes, kept_requests, request_of, requests_of, rest_of_line, time_of_line}
+use Rattle.clru_report.proofs.TakenLines.{next_of, take_before}
+use Rattle.clru_report.proofs.TimedViews.{idle_misses-view, keys-view}
+
+pub request_taken : {A S : Type 0} (idle : ℕ) (past : List (OwnedKey A × ℕ)) (key : OwnedKey A) (line : List ℕ) (time : ℕ) (next : TimedPass (OwnedKey A) S)
+    → line_of key ≡ line → IsIdlePass same_line idle ((key, time) ∷ past) next → HasTakenRequest idle past line time next
+request_taken idle past key line time next is taken = record { key = key; is = is; taken = taken }
+
+-- the kept requests of one more line
+kept_more : (n : ℕ) (lines : List (List ℕ)) (line : List ℕ) → kept_requests n (requests_of (lines ++ line ∷ []))
+    ≡ kept_requests n (requests_of lines) ++ cond (is_kept n (rest_of_line line)) (request_of line ∷ []) []
+kept_more n lines line =
+    ap (kept_requests n) (map-append request_of lines (line ∷ []))
+    ∙ filter-append (λ (r : List ℕ × ℕ). is_kept n r.0) (requests_of lines) (request_of line ∷ [])
+
+module _ {A S : Type 0} (n idle : ℕ) (lines : List (List ℕ)) (pass : TimedPass (OwnedKey A) S) (has : HasTakenTimed n idle lines pass)
+    (line : List ℕ) (time : ℕ) (timed : time_of_line line ≡ Some time) where
+  some_time : IsSome (time_of_line line)
+  some_time = rw timed refl
+
+  -- a line that is not kept
+  pub timed_skipped : is_kept n (rest_of_line line) ≡ false → HasTakenTimed n idle (lines ++ line ∷ []) pass
+  timed_skipped none = record {
+    timed = All-push (λ l. IsSome (time_of_line l)) lines line has.timed some_time;
+    taken = subst (λ rs. HasTakenRequests idle rs pass) (sym (kept_more n lines line
+        ∙ ap (λ b. kept_requests n (requests_of lines) ++ cond b (request_of line ∷ []) []) none
+        ∙ append-nil (kept_requests n (requests_of lines)))) has.taken;
+  }
+
+  -- one that is
+  pub timed_taken : (next : TimedPass (OwnedKey A) S) → is_kept n (rest_of_line line) ≡ true
+      → HasTakenRequest idle has.taken.past (rest_of_line line) time next → HasTakenTimed n idle (lines ++ line ∷ []) next
+  timed_taken next some one = record {
+    timed = All-push (λ l. IsSome (time_of_line l)) lines line has.timed some_time;
+    taken = record {
+      past = (one.key, time) ∷ has.taken.past;
+      shown = ap (map shown_of) (reverse_onto has.taken.past (one.key, time) [])
+          ∙ map-append shown_of (reverse has.taken.past) ((one.key, time) ∷ [])
+          ∙ ap (λ rs. rs ++ (line_of one.key, time) ∷ []) has.taken.shown
+          ∙ ap (λ l. kept_requests n (requests_of lines) ++ (l, time) ∷ []) one.is
+          ∙ ap (λ o. kept_requests n (requests_of lines) ++ (rest_of_line line, unwrap_or o 0) ∷ []) (sym timed)
+          ∙ sym (kept_more n lines line
+          ∙ ap (λ b. kept_requests n (requests_of lines) ++ cond b (request_of line ∷ []) []) some);
+      taken = one.taken;
+    };
+  }
+
+module _ {A S : Type 0} (idle : ℕ) (requests : List (List ℕ × ℕ)) (pass : TimedPass (OwnedKey A) S) (has : HasTakenRequests idle requests pass)
+    (curve : List ℕ) where
+  pub idle_taken : ((past : List (OwnedKey A × ℕ)) → IsIdlePass same_line idle past pass → HasIdleMissesOf same_line idle (reverse past) curve)
+      → HasIdleMissesOf bytes_eq idle requests curve
+  idle_taken made =
+      subst (λ rs. HasIdleMissesOf bytes_eq idle rs curve) has.shown
+      (λ k some. made has.past has.taken k some ∙ sym (idle_misses-view bytes_eq line_of k idle (reverse has.past)))
+
+  pub kinds_taken : ((past : List (OwnedKey A × ℕ)) → IsIdlePass same_line idle past pass → length curve ≡ distinct same_line (keys_of past))
+      → length curve ≡ distinct bytes_eq (reverse (keys_of requests))
+  kinds_taken made =
+      let turned : map shown_of has.past ≡ reverse requests =
+      sym (reverse-reverse (map shown_of has.past)) ∙ ap reverse (sym (map-reverse shown_of has.past) ∙ has.shown) in
+      made has.past has.taken ∙ sym (distinct-map bytes_eq line_of (keys_of has.past))
+      ∙ ap (distinct bytes_eq) (sym (keys-view bytes_eq line_of has.past) ∙ ap keys_of turned
+      ∙ map-reverse (λ (r : List ℕ × ℕ). r.0) requests)
+
+-- after lines with times the next is the first without
+pub first_untimed : (lines rest : List (List ℕ)) (line : List ℕ) (n : ℕ) → HaveTimes lines → n ≡ length lines + 1
+    → IsNone (time_of_line line) → IsFirstUntimed n (lines ++ line ∷ rest)
+first_untimed lines rest line n timed counted none = (
+  length lines,
+  counted,
+  subst HaveTimes (sym (take_before lines (line ∷ rest))) timed,
+  subst (λ o. IsSomeAnd o (λ l. IsNone (time_of_line l))) (sym (next_of lines rest line)) none,
+)

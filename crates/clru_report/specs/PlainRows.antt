@@ -1,0 +1,13 @@
+-- Rows of a table that show misses alone. Public clauses cite them.
+use Rattle.std.specs.Prelude.{◌≡◌, ℕ, List, map, None}
+use Rattle.std.specs.List.{All}
+use Rattle.clru_report.specs.Tables.{capacity_of_row}
+use Rattle.clru_report.specs.declared.rows.Row.{Row}
+
+-- a row of which no more is known than how many miss at its capacity
+abbrev pub IsPlainRow : (ℕ → ℕ) → Row → Type 0
+IsPlainRow m row = (row.misses ≡ m (capacity_of_row row)) × (row.least ≡ None) × (row.floor ≡ None)
+
+-- one such row for each capacity, in order
+abbrev pub ArePlainRows : (ℕ → ℕ) → List ℕ → List Row → Type 0
+ArePlainRows m capacities rows = (map capacity_of_row rows ≡ capacities) × All (IsPlainRow m) rows
