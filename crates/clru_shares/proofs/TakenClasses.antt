@@ -4,12 +4,12 @@ use Rattle.std.specs.Prelude.{bytes_eq}
 use Rattle.std.specs.List.{All, insert, list_any}
 use Rattle.std.proofs.lemmas.Bool.{cases_eq}
 use Rattle.std.proofs.lemmas.List.{length-map, length-set, get_or-map, get_or-set_same, get_or-set_other, map-append, map-set, set-get_or}
-use Rattle.std.proofs.lemmas.List.Elements.{All-append, All-cons, All-drop, All-from_get_or, All-get_or, All-set, All-take}
+use Rattle.std.proofs.lemmas.List.Elements.{All-append, All-cons, All-drop, All-from_get_or, All-nil, All-set, All-take}
 use Rattle.clru_model.proofs.Cases.{split}
 use Rattle.clru_report.specs.Passes.{HasTakenLines}
 use Rattle.clru_report.proofs.SettledCurves.{same_bytes}
 use Rattle.clru_shares.proofs.ClassLemmas.{differs_back, held_alone, inserted_ascends, is_any, missing_each, none_inserted, none_more, not_any}
-use Rattle.clru_shares.specs.Classes.{AreAscending, IsBefore, class_in, requests_of}
+use Rattle.clru_shares.specs.Classes.{AreAscending, AreClasses, class_in, requests_of}
 use Rattle.clru_shares.specs.Passes.{BelongsAt, HasTaken, HaveTaken, IsHeldAt, name_of}
 use Rattle.clru_shares.specs.declared.classes.Class.{Class}
 
@@ -92,3 +92,34 @@ pub new_class : {S A H : Type 0} (lines : List (List ℕ)) (classes : List (Clas
     → BelongsAt (map name_of classes) name at → requests_of name lines ≡ []
 new_class lines classes name at is belongs =
     is.no_other name (not_any (map name_of classes) name (missing_each (map name_of classes) name at belongs))
+
+-- without a line there is no class
+pub none_taken : {S A H : Type 0} (classes : List (Class S A H)) → classes ≡ [] → HaveTaken [] classes
+none_taken classes empty = subst (HaveTaken []) (sym empty) (record {
+  ascending = λ i j lt low. absurd (omega (arith, low));
+  each = All-nil (HasTaken []);
+  some = All-nil (λ c. 0 < c.requests);
+  no_other = λ name none. refl;
+})
+
+requested : {S A H : Type 0} (lines : List (List ℕ)) (classes : List (Class S A H)) → All (HasTaken lines) classes
+    → All (λ c. 0 < c.requests) classes → (k : ℕ) → k < length (map name_of classes) → 0 < length (requests_of (get_or (map name_of classes) k []) lines)
+requested lines [] each some k low = absurd (omega (arith, low))
+requested lines (c ∷ cs) each some k low =
+    let there : k < length (c ∷ cs) = subst (λ n. k < n) (length-map (c ∷ cs) name_of) low in
+    subst (λ n. 0 < length (requests_of n lines)) (sym (get_or-map name_of (c ∷ cs) k c [] there))
+    (omega (arith, (each k c there).counted, some k c there))
+
+-- their names are the classes of the lines
+pub names_are : {S A H : Type 0} (lines : List (List ℕ)) (classes : List (Class S A H)) → HaveTaken lines classes
+    → AreClasses lines (map name_of classes)
+names_are lines classes is = record {
+  ascending = is.ascending;
+  requested = All-from_get_or (λ name. 0 < length (requests_of name lines)) (map name_of classes) [] (requested lines classes is.each is.some);
+  no_other = is.no_other;
+}
+
+-- one that belongs at a place is none of them
+pub is_other : {S A H : Type 0} (classes : List (Class S A H)) (name : List ℕ) (at : ℕ) → BelongsAt (map name_of classes) name at
+    → list_any (bytes_eq name) (map name_of classes) ≡ false
+is_other classes name at belongs = not_any (map name_of classes) name (missing_each (map name_of classes) name at belongs)

@@ -8,8 +8,10 @@ pub loop-index-preserved : goal.loop-index-preserved
 loop-index-preserved g c =
     let shares = c.args.shares.now in let cs = c.args.capacities.now in let i = c.loop-index.index in
     let low : i < min (length shares) (length cs) = omega (arith, c.loop-index-test.true, c.min-count.ensures) in
+    let text = c.loop-index.text.items in let share = c.index-shares-index.result in let own = get_or cs i 0 in
     c.in_ok-push_part.ensures
-    ∙ ap (λ n. c.loop-index.text.items ++ part_text (part n (get_or cs i 0) (missed_of c.index-shares-index.result (get_or cs i 0)) c.index-shares-index.result.requests)) c.deref.ensures.value
+    ∙ ap (λ n. text ++ part_text (part n own c.missed.result share.requests)) c.deref.ensures.value
+    ∙ ap (λ m. text ++ part_text (part share.name.items own m share.requests)) c.missed.ensures
     ∙ text_next shares cs i c.index-shares-index.result (omega (arith, low)) (omega (arith, low)) c.index-shares-index.is c.args.text.now.items c.loop-index.text.items c.loop-index.invariant
 
 pub returns : goal.returns
