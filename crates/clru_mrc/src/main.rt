@@ -59,8 +59,7 @@ fn parse_args(rt: &HostRuntime, progress: &mut bool) -> Result<Asked, Refusal> {
                 }
             }
             match budget_of(rt, &rest) {
-                Some(Ok(budget)) => Ok(Asked::Split(budget)),
-                Some(Err(refusal)) => Err(refusal),
+                Some(budget) => Ok(Asked::Split(budget?)),
                 None => Ok(Asked::Command(command_of(rt.alloc(), &rest)?)),
             }
         }

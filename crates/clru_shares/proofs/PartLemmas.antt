@@ -52,8 +52,8 @@ module _ {A : Type 0} (shares : List (Share A)) (cs : List ℕ) (i : ℕ) (share
       omega (arith, ap (sum_by f) next_parts, sum_by-append f parts (more ∷ []), sum_by-cons f more [])
 
 -- a text that is made of five pieces, one after another
-pub pieces_laid : {start a b c d e h p x y z : List ℕ} → start ≡ [] → a ≡ start ++ h → b ≡ a ++ p → c ≡ b ++ x → d ≡ c ++ y → e ≡ d ++ z
-    → e ≡ h ++ (p ++ (x ++ (y ++ z)))
-pieces_laid {h = h} {p = p} {x = x} {y = y} {z = z} none first second third fourth fifth =
+pub pieces_laid : {start a b c d e : List ℕ} (h p x y z : List ℕ) → start ≡ [] → a ≡ start ++ h → b ≡ a ++ p → c ≡ b ++ x → d ≡ c ++ y
+    → e ≡ d ++ z → e ≡ h ++ (p ++ (x ++ (y ++ z)))
+pieces_laid h p x y z none first second third fourth fifth =
     fifth ∙ ap (λ t. t ++ z) (fourth ∙ ap (λ t. t ++ y) (third ∙ ap (λ t. t ++ x) (second ∙ ap (λ t. t ++ p) (first ∙ ap (λ t. t ++ h) none))))
     ∙ append_assoc ((h ++ p) ++ x) y z ∙ append_assoc (h ++ p) x (y ++ z) ∙ append_assoc h p (x ++ (y ++ z))

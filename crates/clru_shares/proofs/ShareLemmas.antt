@@ -1,13 +1,13 @@
 -- Curves with the same numbers have the same best splits; the rows of shares are those of their classes.
 use Rattle.std.proofs.Common.{◌≡◌, ℕ, zero, suc, ◌+◌, ◌≤◌, ◌<◌, List, [], ◌∷◌, ◌++◌, length, map, Option, Some, refl, sym, ap, ◌∙◌, subst, arith}
-use Rattle.std.specs.Prelude.{bytes_eq, sum, unwrap_or, IsSome}
+use Rattle.std.specs.Prelude.{◌*◌, ◌/◌, bytes_eq, codes, max, replicate, sum, unwrap_or, IsSome}
 use Rattle.std.specs.List.{All, AllZip, sum_by}
 use Rattle.std.proofs.lemmas.List.Sums.{sum_by-cons}
-use Rattle.clru_curve.specs.Curves.{misses_at}
+use Rattle.clru_curve.specs.Curves.{HasMissesOf, misses_at}
 use Rattle.clru_split.specs.Splits.{missed_at, AreParts, total_missed, IsPart, IsSplit, IsBestSplit}
 use Rattle.clru_shares.specs.Classes.{requests_of}
-use Rattle.clru_shares.specs.Passes.{HaveShares, IsShareOf, missed_of, parts_of_shares}
-use Rattle.clru_shares.specs.Shares.{Part, part, missed_by, missed_with, part_of, parts_of}
+use Rattle.clru_shares.specs.Passes.{HaveShares, IsShareOf, missed_of, part_of_share, parts_of_shares}
+use Rattle.clru_shares.specs.Shares.{Part, part, missed_by, missed_with, part_of, parts_of, split_text, step_for, table_text}
 use Rattle.clru_shares.specs.declared.share.Share.{Share}
 
 -- what each of one list has is what its partner in the other has
@@ -100,3 +100,34 @@ module _ {A : Type 0} (lines : List (List ℕ)) where
   shares_more [] (s ∷ shares) name share have is = elim have [ ]
   shares_more (n ∷ names) [] name share have is = elim have [ ]
   shares_more (n ∷ names) (s ∷ shares) name share have is = (have.0, shares_more names shares name share have.1 is)
+
+  missed_of_all : (share : Share A) → share.requests ≡ length lines → HasMissesOf bytes_eq lines share.curve → (c : ℕ)
+      → missed_of share c ≡ missed_with lines c
+  missed_of_all share counted misses zero = counted
+  missed_of_all share counted misses (suc c) = misses (suc c) (omega arith)
+
+  -- the row of one cache for all lines
+  pub one_same : (share : Share A) (name : List ℕ) → share.name.items ≡ name → share.requests ≡ length lines
+      → HasMissesOf bytes_eq lines share.curve → (c : ℕ) → part_of_share share c ≡ part name c (missed_with lines c) (length lines)
+  one_same share name named counted misses c =
+      ap (λ n. part n c (missed_of share c) share.requests) named
+      ∙ ap (λ m. part name c m share.requests) (missed_of_all share counted misses c)
+      ∙ ap (λ r. part name c (missed_with lines c) r) counted
+
+  -- the table of the shares is that of their classes
+  pub table_same : (names : List (List ℕ)) (shares : List (Share A)) (cs : List ℕ) → HaveShares lines names shares
+      → (budget step requests : ℕ) (one : Part) → step ≡ step_for budget → requests ≡ length lines
+      → one ≡ part (codes "one for all") budget (missed_with lines budget) (length lines)
+      → table_text requests (parts_of_shares shares cs)
+      (parts_of_shares shares (replicate (length shares) (budget / max 1 (length shares) / step * step))) one
+      ≡ split_text budget lines names cs
+  table_same names shares cs have budget step requests one stepped counted is =
+      let equal = λ (k s : ℕ). replicate k (budget / max 1 k / s * s) in
+      let best = parts_of_shares shares cs in
+      ap (λ s. table_text requests best (parts_of_shares shares (equal (length shares) s)) one) stepped
+      ∙ ap (λ k. table_text requests best (parts_of_shares shares (equal k (step_for budget))) one) (shares_long names shares have)
+      ∙ ap (λ ps. table_text requests ps (parts_of_shares shares (equal (length names) (step_for budget))) one) (rows_same names shares cs have)
+      ∙ ap (λ ps. table_text requests (parts_of lines names cs) ps one) (rows_same names shares (equal (length names) (step_for budget)) have)
+      ∙ ap (λ p. table_text requests (parts_of lines names cs) (parts_of lines names (equal (length names) (step_for budget))) p) is
+      ∙ ap (λ n. table_text n (parts_of lines names cs) (parts_of lines names (equal (length names) (step_for budget)))
+      (part (codes "one for all") budget (missed_with lines budget) (length lines))) counted

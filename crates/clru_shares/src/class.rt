@@ -47,7 +47,7 @@ fn has_class_bytes_alone(word: &[u8]) -> bool
 fn is_of_class(byte: u8) -> bool
     ensures { result ≡ is_class_byte byte }
 {
-    b' ' < byte && byte < 127 && !is_special(byte)
+    b' ' < byte && byte < b'\x7f' && !is_special(byte)
 }
 
 fn is_special(byte: u8) -> bool

@@ -1,5 +1,5 @@
-use Rattle.std.proofs.Common.{◌≡◌, [], ◌∷◌, map, take, length, refl, sym, ap, ◌∙◌, subst, arith}
-use Rattle.std.proofs.lemmas.List.{map-append, take_more, take-all}
+use Rattle.std.proofs.Common.{◌≡◌, ◌++◌, [], ◌∷◌, map, take, length, refl, sym, ap, ◌∙◌, subst, arith}
+use Rattle.std.proofs.lemmas.List.{map-append, take_more, take_all}
 use Rattle.clru_shares.specs.Passes.{HasTaken, HaveShares, name_of}
 use Rattle.clru_shares.proofs.ShareLemmas.{shares_more}
 use Rattle.clru_shares.proofs.share.shares_of.Goals as goal
@@ -20,4 +20,6 @@ loop-class-preserved g c lines is =
     (c.loop-class.invariant lines is) (c.in_ok-share_of.ensures lines taken)))
 
 pub returns : goal.returns
-returns g c = ?
+returns g c lines is =
+    subst (λ cs. HaveShares lines (map name_of cs) c.loop-class.shares.items)
+    (take_all c.loop-class.class-index c.args.classes.now c.loop-class-test.false) (c.loop-class.invariant lines is)

@@ -10,7 +10,7 @@ pub returns : goal.returns
 returns g c =
     let all = c.args.all.now in let budget = non_zero_usize_get c.args.budget in
     let before = c.push_together.new.text.items in let last = c.push_together-2.new.text.items in
-    pieces_laid c.new-text.ensures.items c.in_ok-extend_from_slice.ensures.items c.in_ok-push_parts.ensures c.in_ok-push_together.ensures
+    pieces_laid _ _ _ _ _ c.new-text.ensures.items c.in_ok-extend_from_slice.ensures.items c.in_ok-push_parts.ensures c.in_ok-push_together.ensures
     (c.in_ok-push_together-2.ensures
     ∙ ap (λ cs. before ++ part_text (together (codes "equal parts") all.requests (parts_of_shares c.args.shares.now cs)))
     (c.deref.ensures.value ∙ c.in_ok-equal.ensures))
