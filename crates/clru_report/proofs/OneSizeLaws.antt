@@ -1,5 +1,5 @@
 -- A line with the greatest size of its key has that size and that key.
-use Rattle.std.proofs.Common.{◌≡◌, ℕ, zero, suc, drop-cons, reverse, ltb-true, ltb-false, ◌-◌, ◌+◌, ◌<◌, ◌≤◌, ◌^◌, ◌%◌, Bool, true, false, cond, ◌&&◌, List, [], ◌∷◌, ◌++◌, length, length-append, take, drop, get_or, max, Option, None, Some, IsSome, refl, ap, ◌∙◌, subst, arith}
+use Rattle.std.proofs.Common.{◌≡◌, ℕ, zero, suc, drop-cons, reverse, ltb-true, ltb-false, ◌-◌, ◌+◌, ◌<◌, ◌≤◌, ◌^◌, ◌%◌, Bool, true, false, cond, ◌&&◌, List, [], ◌∷◌, ◌++◌, length, length-append, take, drop, get_or, max, Option, None, Some, IsSome, refl, sym, ap, ◌∙◌, subst, arith}
 use Rattle.std.specs.Prelude.{bytes_eq, decimal, nat_lt, position, ◌==◌}
 use Rattle.std.specs.Option.{option_map_or}
 use Rattle.std.specs.Char.{is_ascii_digit}
@@ -130,19 +130,19 @@ none_greater lines line in_lines =
     omega (arith, among test lines in_lines.0 line in_lines.1 own, ap weight_of_line at, greatest_reversed (filter test lines))
 
 -- the greatest weight of those that pass, if it is more than 0, is that of one of them
-one_has_it : (test : List ℕ → Bool) (d : List ℕ) (lines : List (List ℕ)) → 0 < greatest (filter test lines)
-    → (k : ℕ) × (k < length lines) × (test (get_or lines k d) ≡ true) × (greatest (filter test lines) ≡ weight_of_line (get_or lines k d))
-one_has_it test d [] some = absurd (omega (arith, some))
-one_has_it test d (l ∷ ls) some =
+one_has_it : (test : List ℕ → Bool) (lines : List (List ℕ)) → 0 < greatest (filter test lines)
+    → (one : List ℕ) × Contains lines one × (test one ≡ true) × (greatest (filter test lines) ≡ weight_of_line one)
+one_has_it test [] some = absurd (omega (arith, some))
+one_has_it test (l ∷ ls) some =
+    let behind : greatest (filter test (l ∷ ls)) ≡ greatest (filter test ls) → (one : List ℕ) × Contains (l ∷ ls) one × (test one ≡ true)
+    × (greatest (filter test (l ∷ ls)) ≡ weight_of_line one) = λ same.
+    let ih = one_has_it test ls (subst (λ n. 0 < n) same some) in
+    (ih.0, (suc ih.1.0, omega (arith, ih.1.1), ih.1.2), ih.2, same ∙ ih.3) in
     split (test l)
     (λ t. split (nat_lt (greatest (filter test ls)) (weight_of_line l))
-    (λ more. (0, (omega arith, (t, rw (t, more) refl))))
-    (λ less. let same : greatest (filter test (l ∷ ls)) ≡ greatest (filter test ls) = rw (t, less) refl in
-    let ih = one_has_it test d ls (subst (λ n. 0 < n) same some) in
-    (suc ih.0, (omega (arith, ih.1.0), (ih.1.1.0, same ∙ ih.1.1.1)))))
-    (λ f. let same : greatest (filter test (l ∷ ls)) ≡ greatest (filter test ls) = rw f refl in
-    let ih = one_has_it test d ls (subst (λ n. 0 < n) same some) in
-    (suc ih.0, (omega (arith, ih.1.0), (ih.1.1.0, same ∙ ih.1.1.1))))
+    (λ more. (l, (0, omega arith, refl), t, rw (t, more) refl))
+    (λ less. behind (rw (t, less) refl)))
+    (λ f. behind (rw f refl))
 
 pub greatest_of_one : (lines : List (List ℕ)) (line : List ℕ) → Contains lines line → IsSizeOfOne lines line
 greatest_of_one lines line in_lines =
@@ -152,12 +152,12 @@ greatest_of_one lines line in_lines =
     ap test at ∙ (bytes_eq-Decides (tail_of_line line) (tail_of_line line)).1 refl in
     let low = among test lines in_lines.0 line in_lines.1 own in
     split (nat_lt 0 (greatest (filter test lines)))
-    (λ t. let found = one_has_it test line lines (ltb-true 0 (greatest (filter test lines)) t) in
+    (λ t. let found = one_has_it test lines (ltb-true 0 (greatest (filter test lines)) t) in
     record {
-      one = get_or lines found.0 line;
-      inside = (found.0, (found.1.0, refl));
-      same_key = sym ((bytes_eq-Decides (tail_of_line line) (tail_of_line (get_or lines found.0 line))).0 found.1.1.0);
-      size = omega (arith, found.1.1.1, greatest_reversed (filter test lines));
+      one = found.0;
+      inside = found.1;
+      same_key = sym ((bytes_eq-Decides (tail_of_line line) (tail_of_line found.0)).0 found.2);
+      size = omega (arith, found.3, greatest_reversed (filter test lines));
     })
     (λ f. record {
       one = line;

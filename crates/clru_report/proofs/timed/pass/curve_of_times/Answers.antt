@@ -37,7 +37,7 @@ lines-preserved-in-Ok-true-take_timed g c =
       omega (arith, before.2, length-append before.0 (line ∷ [])),
       omega (arith, before.2, fits),
       none_map c.lines.refused (λ so. subst (λ l. HasTakenTimed (non_zero_usize_get c.args.one_in) c.args.idle (before.0 ++ l ∷ []) c.take_timed.new.pass)
-      c.deref.ensures.value (c.in-Ok-true-take_timed.ensures.taken c.args.idle before.0 so c.in-Ok-true-take_timed.field-0-test)) before.4,
+          c.deref.ensures.value (c.in-Ok-true-take_timed.ensures.taken c.args.idle before.0 so c.in-Ok-true-take_timed.field-0-test)) before.4,
       no_some _ c.lines.refused (ap not c.if-is_none.ensures),
     )
 
