@@ -37,13 +37,7 @@ fn no_budget(rt: &HostRuntime) -> Refusal {
 
 /// Writes how the budget is split, and gives the exit status.
 pub(crate) fn split_budget(rt: &HostRuntime, budget: NonZeroUsize, seed: RandomState) -> u8 {
-    let outcome = run_split(
-        rt.alloc(),
-        budget,
-        &mut rt.stdin(),
-        &mut rt.stdout(),
-        seed,
-    );
+    let outcome = run_split(rt.alloc(), budget, &mut rt.stdin(), &mut rt.stdout(), seed);
     match &outcome {
         Ok(()) | Err(SplitFault::Other(Fault::Closed)) => {}
         Err(fault) => {
