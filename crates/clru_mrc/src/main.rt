@@ -4,24 +4,38 @@
 mod lines;
 mod ratio;
 mod several;
+mod split;
 mod watch;
 mod written;
 
 use clru_report::{
     Command, Fault, HELP, Options, Refusal, VERSION, command_of, exit_status, run, write_report,
 };
+use split::{budget_of, split_budget};
 use std::env;
 use std::hash::RandomState;
 use std::io::{ErrorKind, IsTerminal};
+use std::num::NonZeroUsize;
 use std::process::ExitCode;
 use watch::Watch;
 use written::Written;
+
+// What the arguments ask for.
+#[derive(Drop)]
+enum Asked {
+    Command(Command),
+    Split(NonZeroUsize),
+}
 
 fn main(rt: HostRuntime) -> ExitCode {
     // A terminal sees how far the input is read, and so does who asks.
     let mut progress = rt.stderr().is_terminal();
     match parse_args(&rt, &mut progress) {
-        Ok(command) => ExitCode::from(run_command(&rt, &command, progress)),
+        Ok(Asked::Command(command)) => ExitCode::from(run_command(&rt, &command, progress)),
+        Ok(Asked::Split(budget)) => ExitCode::from(match seed_of(&rt) {
+            Some(seed) => split_budget(&rt, budget, seed),
+            None => 4,
+        }),
         Err(Refusal::Wrong(line)) => {
             say(&rt, &line);
             ExitCode::from(2)
@@ -31,7 +45,7 @@ fn main(rt: HostRuntime) -> ExitCode {
 }
 
 // What the arguments ask for. `--progress` asks nothing of the report.
-fn parse_args(rt: &HostRuntime, progress: &mut bool) -> Result<Command, Refusal> {
+fn parse_args(rt: &HostRuntime, progress: &mut bool) -> Result<Asked, Refusal> {
     match env::args(rt) {
         Ok(words) => {
             let mut rest = Vec::new(rt.alloc());
@@ -44,7 +58,10 @@ fn parse_args(rt: &HostRuntime, progress: &mut bool) -> Result<Command, Refusal>
                     };
                 }
             }
-            command_of(rt.alloc(), &rest)
+            match budget_of(rt, &rest) {
+                Some(budget) => Ok(Asked::Split(budget?)),
+                None => Ok(Asked::Command(command_of(rt.alloc(), &rest)?)),
+            }
         }
         Err(error) if error.kind() == ErrorKind::OutOfMemory => Err(Refusal::Memory),
         Err(_) => Err(no_text(rt)),
@@ -66,15 +83,23 @@ fn run_command(rt: &HostRuntime, command: &Command, progress: bool) -> u8 {
     let outcome = match command {
         Command::Help => write_report(&mut rt.stdout(), HELP.as_bytes()),
         Command::Version => write_report(&mut rt.stdout(), VERSION.as_bytes()),
-        Command::Report(options) => match RandomState::new(rt) {
-            Ok(seed) => return run_report(rt, options, progress, seed),
-            Err(_) => {
-                say(rt, "the system gives no random bytes, so there is no seed");
-                return 4;
-            }
+        Command::Report(options) => match seed_of(rt) {
+            Some(seed) => return run_report(rt, options, progress, seed),
+            None => return 4,
         },
     };
     report_outcome(rt, &outcome, "")
+}
+
+// The seed for hashes, or else a line that says that there is none.
+fn seed_of(rt: &HostRuntime) -> Option<RandomState> {
+    match RandomState::new(rt) {
+        Ok(seed) => Some(seed),
+        Err(_) => {
+            say(rt, "the system gives no random bytes, so there is no seed");
+            None
+        }
+    }
 }
 
 // Writes the report, tells what of its input looks wrong, and gives the exit status.

@@ -17,18 +17,18 @@ mod OffLines
 mod OneSizeLaws
 mod RatioLaws
 mod RatioLemmas
-mod ReportLemmas
+pub mod ReportLemmas
 mod RowLaws
 mod RowLemmas
 mod Samples
-mod SettledCurves
+pub mod SettledCurves
 mod SizeViews
 mod SizedAfterLemmas
 mod SizedPieces
 mod SizedReports
 mod SizedSamples
 mod SortedSets
-mod TakenLines
+pub mod TakenLines
 mod TimedForms
 mod TimedLines
 mod TimedViews

@@ -13,7 +13,7 @@ use Rattle.clru_report.specs.Passes.{IsSettled}
 use Rattle.clru_report.specs.Sizes.{weight_of_line}
 
 -- bytes are compared as they are
-same_bytes : (xs ys : List ℕ) → bytes_eq xs ys ≡ true → xs ≡ ys
+pub same_bytes : (xs ys : List ℕ) → bytes_eq xs ys ≡ true → xs ≡ ys
 same_bytes xs ys = (bytes_eq-Decides xs ys).0
 
 alike : (xs : List ℕ) → bytes_eq xs xs ≡ true

@@ -8,7 +8,8 @@ use clru_lines::{Fault, ReadError};
 use std::io::{Error, ErrorKind};
 
 /// Returns why an input was not read.
-pub(crate) fn read_fault(error: ReadError) -> Fault
+/// Cost: none.
+pub fn read_fault(error: ReadError) -> Fault
     ensures memory { error ≡ ReadError.Memory → result ≡ Fault.Memory }
     ensures reading { error ≡ ReadError.Reading → result ≡ Fault.Reading }
     ensures not_of_input { is_of_input result ≡ false }

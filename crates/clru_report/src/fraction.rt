@@ -8,8 +8,9 @@ use std::fmt;
 #[derive(Clone, Copy, Debug, PartialEq, Eq)]
 pub struct Millionths(pub u128);
 
-/// How many millionths a number is of all, rounded, a half up.
-pub(crate) fn ratio_of(number: usize, all: usize) -> Millionths
+/// Returns how many millionths a number is of all, rounded, a half up. Of none it is as of one.
+/// Cost: none.
+pub fn ratio_of(number: usize, all: usize) -> Millionths
     ensures { result.0 ≡ millionths number all }
 {
     let whole = all.max(1) as u128;

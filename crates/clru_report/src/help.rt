@@ -61,6 +61,11 @@ are shown. Between the usual rows you may interpolate.
                  the greatest size in the sample on
     --sampled N --requests M
                  the input is already a sample of one key in N, of M requests
+    --split N    divides a budget of N keys among the classes of the log: each
+                 line begins with its class and a blank, and is the key as a
+                 whole; the table has a row for each class, with its part, and
+                 one each for this best split, equal parts, and one cache for
+                 all; these two are then the only arguments
     --progress   shows on standard error once a second how far the input is
                  read, as on a terminal
     -h, --help; -V, --version
@@ -68,9 +73,9 @@ are shown. Between the usual rows you may interpolate.
 Lines are hashed with a seed from the system, which changes no result.
 
 Status: 0 done, 2 wrong arguments or a capacity below the greatest size, 3 no
-memory, 4 input or seed not read, 5 output not written, 6 a line without a size
-or a time, or sizes that are too large together. A fault is one line on standard
-error, and so is a warning about the input.
+memory, 4 input or seed not read, 5 output not written, 6 a line without a size,
+a time or a class, sizes that are too large together or too many classes. A
+fault is one line on standard error, and so is a warning about the input.
 ";
 
 /// The name of the program and its version, with a newline.

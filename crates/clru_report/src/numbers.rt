@@ -9,7 +9,8 @@ use std::num::NonZeroUsize;
 
 /// Returns the number that a word names, or `None` if it names none: digits and a unit, if there is one, without the blanks around
 /// them. With a unit there may be decimals behind a point.
-pub(crate) fn number_of_word(word: &str) -> Option<NonZeroUsize>
+/// Cost: a step for each byte.
+pub fn number_of_word(word: &str) -> Option<NonZeroUsize>
     ensures { option_map non_zero_usize_get result ≡ number_in word.now }
 {
     let bytes = word.trim().as_bytes();

@@ -113,7 +113,8 @@ fn take_kept<S: BuildHasher, A: Allocator + Copy>(
 }
 
 /// Takes one more line. It is copied where it is new.
-pub(crate) fn take_key<S: BuildHasher, A: Allocator + Copy>(
+/// Cost: that of `request_again`, and for a new line also a copy and that of `request_new`.
+pub fn take_key<S: BuildHasher, A: Allocator + Copy>(
     alloc: A,
     pass: &mut DistancePass<OwnedKey<A>, S, A>,
     key: &OwnedKey<A>,

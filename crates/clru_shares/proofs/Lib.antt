@@ -1,0 +1,4 @@
+mod ClassLemmas
+mod PartLemmas
+mod ShareLemmas
+mod TakenClasses

@@ -1,0 +1,94 @@
+use Rattle.std.specs.Option.{is_none}
+use Rattle.std.proofs.Common.{◌≡◌, true, false, not, ℕ, List, ◌++◌, ◌∷◌, [], append_assoc, append-nil, refl, sym, length, ap, ◌∙◌, subst, arith, IfSome}
+use Rattle.std.proofs.lemmas.List.{length-append}
+use Rattle.std.proofs.lemmas.List.Elements.{All-nil}
+use Rattle.clru_report.proofs.ReportLemmas.{no_none, no_some, none_map, of_none, some_map}
+use Rattle.clru_shares.specs.Classes.{has_class}
+use Rattle.clru_shares.specs.Faults.{comes_of_a_line, comes_of_writing}
+use Rattle.clru_shares.specs.Passes.{HasTakenAll}
+use Rattle.clru_shares.specs.Refusals.{IsSaidOfLines}
+use Rattle.clru_shares.proofs.TakenClasses.{none_taken}
+use Rattle.clru_shares.proofs.reading.read_classes.Goals as goal
+
+pub lines-init : goal.lines-init
+lines-init g c = (
+  [],
+  c.new-buffer.ensures (g.R.Read.remaining c.args.reader.now),
+  refl,
+  omega arith,
+  record {
+    classed = All-nil (λ line. has_class line ≡ true);
+    classes = none_taken c.new.result.items c.new.ensures.items;
+    all = record { past = []; shown = refl; taken = c.with_hasher.ensures };
+    counted = refl;
+  },
+  tt,
+)
+
+pub take_both-requires : goal.take_both-requires
+take_both-requires g c =
+    let before = c.lines.invariant in
+    let so = of_none c.lines.refused (ap not c.if-is_none.ensures) before.4 in
+    (before.0, so, omega (arith, before.2))
+
+pub lines-preserved-in-Ok : goal.lines-preserved-in-Ok
+lines-preserved-in-Ok g c =
+    let before = c.lines.invariant in let start = g.R.Read.remaining c.args.reader.now in
+    let line = c.read_line.new.line.items in
+    let fits = c.in-Ok-true.ensures.fits start before.0 before.1 c.in-Ok-true.field-0-test in (
+      before.0 ++ line ∷ [],
+      c.in-Ok-true.ensures.line start before.0 before.1 c.in-Ok-true.field-0-test,
+      omega (arith, before.2, length-append before.0 (line ∷ [])),
+      omega (arith, before.2, fits),
+      none_map c.lines.refused (λ so. c.in-Ok.ensures.taken before.0 so (omega (arith, before.2))) before.4,
+      no_some _ c.lines.refused (ap not c.if-is_none.ensures),
+    )
+
+pub lines-preserved-in-Err-take_both : goal.lines-preserved-in-Err-take_both
+lines-preserved-in-Err-take_both g c =
+    let before = c.lines.invariant in let start = g.R.Read.remaining c.args.reader.now in
+    let line = c.read_line.new.line.items in let fault = c.in-Err-take_both.fault in
+    let fits = c.in-Ok-true.ensures.fits start before.0 before.1 c.in-Ok-true.field-0-test in
+    let so = of_none c.lines.refused (ap not c.if-is_none.ensures) before.4 in (
+      before.0 ++ line ∷ [],
+      c.in-Ok-true.ensures.line start before.0 before.1 c.in-Ok-true.field-0-test,
+      omega (arith, before.2, length-append before.0 (line ∷ [])),
+      omega (arith, before.2, fits),
+      tt,
+      (
+        c.in-Err-take_both.ensures.fault,
+        λ of rest. subst (IsSaidOfLines fault) (sym (append_assoc before.0 (line ∷ []) rest))
+            (c.in-Err-take_both.ensures.refused before.0 rest so (omega (arith, before.2)) of),
+      ),
+    )
+
+pub lines-preserved : goal.lines-preserved
+lines-preserved g c =
+    let before = c.lines.invariant in let start = g.R.Read.remaining c.args.reader.now in
+    let line = c.read_line.new.line.items in
+    let fits = c.in-Ok-true.ensures.fits start before.0 before.1 c.in-Ok-true.field-0-test in (
+      before.0 ++ line ∷ [],
+      c.in-Ok-true.ensures.line start before.0 before.1 c.in-Ok-true.field-0-test,
+      omega (arith, before.2, length-append before.0 (line ∷ [])),
+      omega (arith, before.2, fits),
+      no_none _ c.lines.refused (ap not c.if-is_none.ensures),
+      some_map c.lines.refused (λ fault so. (
+        so.0,
+        λ of rest. subst (IsSaidOfLines fault) (sym (append_assoc before.0 (line ∷ []) rest)) (so.1 of (line ∷ rest)),
+      )) before.5,
+    )
+
+pub returns-in-Some-clause-refused : goal.returns-in-Some-clause-refused
+returns-in-Some-clause-refused g c of =
+    let before = c.lines.invariant in let start = g.R.Read.remaining c.args.reader.now in let fault = c.in-Some.fault in
+    let read = c.in-Ok-false.ensures.end start before.0 before.1 c.in-Ok-false.field-0-test in
+    let so = subst (λ o. IfSome o (λ f. (comes_of_writing f ≡ false)
+    × (comes_of_a_line f ≡ true → (rest : List (List ℕ)) → IsSaidOfLines f (before.0 ++ rest)))) c.in-Some.is before.5 in
+    (read.0, read.1, read.2, subst (IsSaidOfLines fault) (append-nil before.0 ∙ sym read.3.0) (so.1 of []))
+
+pub returns-in-Some-clause-fault : goal.returns-in-Some-clause-fault
+returns-in-Some-clause-fault g c =
+    let before = c.lines.invariant in
+    let so = subst (λ o. IfSome o (λ f. (comes_of_writing f ≡ false)
+    × (comes_of_a_line f ≡ true → (rest : List (List ℕ)) → IsSaidOfLines f (before.0 ++ rest)))) c.in-Some.is before.5 in
+    so.0

@@ -1,0 +1,38 @@
+use Rattle.std.proofs.Common.{◌≡◌, true, false, [], ◌∷◌, length, map, is_some, refl, sym, ap, ◌∙◌, subst, arith}
+use Rattle.std.specs.Prelude.{bytes_eq}
+use Rattle.std.specs.List.{list_any}
+use Rattle.std.proofs.lemmas.List.{length-append, length-map}
+use Rattle.std.proofs.lemmas.List.Elements.{All-push}
+use Rattle.clru_report.specs.Passes.{line_of}
+use Rattle.clru_report.proofs.TakenLines.{line_taken}
+use Rattle.clru_shares.specs.Classes.{class_in, has_class}
+use Rattle.clru_shares.specs.Passes.{name_of}
+use Rattle.clru_shares.proofs.TakenClasses.{is_other, names_are}
+use Rattle.clru_shares.proofs.reading.take_both.Goals as goal
+
+pub returns-in-Ok-false-clause-refused : goal.returns-in-Ok-false-clause-refused
+returns-in-Ok-false-clause-refused g c lines rest is counted of =
+    let classes = c.args.passes.now.classes.items in let line = line_of c.args.key.now in
+    let own = c.in-Some.ensures.class ∙ ap class_in c.deref.ensures.value in
+    let full = c.in-Ok-false.ensures.full c.in-Ok-false.field-0-test in
+    record {
+      before = lines;
+      line = line;
+      rest = rest;
+      is = refl;
+      number = counted;
+      names = map name_of classes;
+      classes = names_are lines classes is.classes;
+      full = omega (arith, full.0, length-map classes name_of);
+      other = subst (λ n. list_any (bytes_eq n) (map name_of classes) ≡ false) own (is_other classes c.in-Some.name.now full.1.0 full.1.1);
+    }
+
+pub returns-clause-taken : goal.returns-clause-taken
+returns-clause-taken g c lines is counted =
+    let line = line_of c.args.key.now in let same = c.deref.ensures.value in
+    record {
+      classed = All-push (λ l. has_class l ≡ true) lines line is.classed (ap has_class (sym same) ∙ sym c.in-Some.ensures.has_class);
+      classes = c.in-Ok-true.ensures.taken lines is.classes (c.in-Some.ensures.class ∙ ap class_in same) c.in-Ok-true.field-0-test;
+      all = line_taken lines c.args.passes.now.all is.all line c.take_key.new.pass (c.in-Ok.ensures is.all.past is.all.taken);
+      counted = omega (arith, counted, length-append lines (line ∷ []));
+    }

@@ -1,0 +1,31 @@
+-- What is printed of a fault of a split, and its exit status. Public clauses cite them.
+use Rattle.std.specs.Prelude.{ℕ, Bool, true, false, List, ◌++◌, codes, decimal}
+use Rattle.clru_lines.specs.Faults.{fault_text, status_of}
+use Rattle.clru_report.specs.Faults.{is_of_writing}
+use Rattle.clru_shares.specs.declared.fault.SplitFault.{SplitFault}
+use Rattle.clru_shares.specs.declared.fault.SplitFault.TheVariants.{NoClass, TooManyClasses, Other}
+
+abbrev pub split_fault_text : SplitFault → List ℕ
+split_fault_text (NoClass n) = codes "line " ++ (decimal n
+    ++ codes " has no class: with --split each begins with one and a blank, as in images /logo.png")
+split_fault_text (TooManyClasses n) = codes "line " ++ (decimal n
+    ++ codes " has one class too many: with --split there are at most 256")
+split_fault_text (Other fault) = fault_text fault
+
+-- the exit status of each
+abbrev pub split_status_of : SplitFault → ℕ
+split_status_of (NoClass n) = 6
+split_status_of (TooManyClasses n) = 6
+split_status_of (Other fault) = status_of fault
+
+-- the writer took a part of the text at most
+abbrev pub comes_of_writing : SplitFault → Bool
+comes_of_writing (NoClass n) = false
+comes_of_writing (TooManyClasses n) = false
+comes_of_writing (Other fault) = is_of_writing fault
+
+-- the fault is one of a line
+abbrev pub comes_of_a_line : SplitFault → Bool
+comes_of_a_line (NoClass n) = true
+comes_of_a_line (TooManyClasses n) = true
+comes_of_a_line (Other fault) = false

@@ -1,0 +1,5 @@
+pub mod Classes
+pub mod Faults
+pub mod Passes
+pub mod Refusals
+pub mod Shares

@@ -1,0 +1,51 @@
+//! Why an input has no table of a split, and the exit status of each fault.
+ghost use Rattle.std.specs.Prelude.{◌≡◌, IfErr, IsOk, Some};
+ghost use Rattle.clru_shares.specs.Faults.{split_fault_text, split_status_of};
+
+use clru_report::{Fault, exit_status};
+use std::error::Error;
+use std::fmt;
+
+/// Why a split ends without its whole output.
+#[derive(Clone, Copy, Debug, PartialEq, Eq)]
+pub enum SplitFault {
+    /// The line of this number, counted from 1, begins with no class.
+    NoClass(usize),
+    /// The line of this number has a class, and the lines before it have as many others as can be.
+    TooManyClasses(usize),
+    /// What any report may meet.
+    Other(Fault),
+}
+
+impl fmt::Display for SplitFault {
+    ghost output = { λ fault. Some (split_fault_text fault) };
+
+    fn fmt<W: fmt::Write>(&self, f: &mut fmt::Formatter<W>) -> fmt::Result {
+        match self {
+            SplitFault::NoClass(number) => write!(
+                f,
+                "line {number} has no class: with --split each begins with one and a blank, as in images /logo.png"
+            ),
+            SplitFault::TooManyClasses(number) => write!(
+                f,
+                "line {number} has one class too many: with --split there are at most 256"
+            ),
+            SplitFault::Other(fault) => write!(f, "{fault}"),
+        }
+    }
+}
+
+impl Error for SplitFault {}
+
+/// Returns the exit status of a split.
+/// Cost: none.
+pub fn split_status(outcome: &Result<(), SplitFault>) -> u8
+    ensures success { IsOk outcome.now → result ≡ 0 }
+    ensures fault { IfErr outcome.now (λ f. result ≡ split_status_of f) }
+{
+    match outcome {
+        Ok(()) => 0,
+        Err(SplitFault::NoClass(_) | SplitFault::TooManyClasses(_)) => 6,
+        Err(SplitFault::Other(fault)) => exit_status(&Err(*fault)),
+    }
+}

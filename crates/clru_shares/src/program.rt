@@ -1,0 +1,113 @@
+//! From the reader to the writer.
+ghost use Rattle.std.specs.Prelude.{◌≡◌, ℕ, List, true, false, take, IfErr, IfOk, OnOk};
+ghost use Rattle.std.specs.Int.NonZero.{non_zero_usize_get};
+ghost use Rattle.std.specs.Io.KnownBytes.{Appends, Keeps};
+ghost use Rattle.clru_lines.specs.Lines.{lines_of};
+ghost use Rattle.clru_lines.specs.Whole.{ReadWhole};
+ghost use Rattle.clru_shares.specs.Faults.{comes_of_a_line, comes_of_writing};
+ghost use Rattle.clru_shares.specs.Passes.{HasTakenAll};
+ghost use Rattle.clru_shares.specs.Refusals.{IsSaidOfLines};
+ghost use Rattle.clru_shares.specs.Shares.{IsSplitTable, step_for};
+
+use crate::fault::SplitFault;
+use crate::reading::{Passes, read_classes};
+use crate::share::{Share, shares_of};
+use crate::table::table_of;
+use clru_report::{Fault, write_report};
+use clru_split::split;
+use std::alloc::{AllocError, Allocator};
+use std::hash::BuildHasher;
+use std::io::{Read, Write};
+use std::num::NonZeroUsize;
+
+// At most so many steps are within the budget.
+const MOST_STEPS: usize = 1000;
+
+/// Reads the whole input, and then writes the table of a best split of the budget among its classes. Lines are hashed with
+/// `hash_builder`: a best split is one under each that is lawful.
+/// Cost: that of two readings, and of `split` for at most a thousand steps.
+pub fn run_split<R: Read, W: Write, S: BuildHasher + Copy, A: Allocator + Copy>(
+    alloc: A,
+    budget: NonZeroUsize,
+    reader: &mut R,
+    writer: &mut W,
+    hash_builder: S,
+) -> Result<(), SplitFault>
+    // The writer got a table of the whole input.
+    ensures written { OnOk result (ReadWhole (R.remaining reader.old) (R.remaining reader.new)
+        (λ input. (text : List ℕ) × IsSplitTable (non_zero_usize_get budget) (lines_of input) text
+        × Appends (W.contents writer.old) (W.contents writer.new) text)) }
+    // The writer got a beginning of a table of the whole input.
+    ensures cut_short { IfErr result (λ fault. comes_of_writing fault ≡ true
+        → ReadWhole (R.remaining reader.old) (R.remaining reader.new)
+        (λ input. (text : List ℕ) × IsSplitTable (non_zero_usize_get budget) (lines_of input) text
+        × (n : ℕ) × Appends (W.contents writer.old) (W.contents writer.new) (take n text))) }
+    // A line of the input is not what a split wants, for the reason that the fault says.
+    ensures refused { IfErr result (λ fault. comes_of_a_line fault ≡ true
+        → ReadWhole (R.remaining reader.old) (R.remaining reader.new) (λ input. IsSaidOfLines fault (lines_of input))) }
+    // Any fault but those of writing comes before the first write.
+    ensures silent { IfErr result (λ fault. comes_of_writing fault ≡ false
+        → Keeps (W.contents writer.old) (W.contents writer.new)) }
+{
+    let text = match make_split(alloc, budget, reader, hash_builder) {
+        Ok(text) => text,
+        Err(fault) => return Err(fault),
+    };
+    match write_report(writer, &text) {
+        Ok(()) => Ok(()),
+        Err(fault) => Err(SplitFault::Other(fault)),
+    }
+}
+
+/// Returns the table of a best split of the budget among the classes of all that a reader gives.
+/// Cost: that of two readings, and of `split` for at most a thousand steps.
+pub fn make_split<R: Read, S: BuildHasher + Copy, A: Allocator + Copy>(
+    alloc: A,
+    budget: NonZeroUsize,
+    reader: &mut R,
+    hash_builder: S,
+) -> Result<Vec<u8, A>, SplitFault>
+    ensures table { IfOk result (λ text. ReadWhole (R.remaining reader.old) (R.remaining reader.new)
+        (λ input. IsSplitTable (non_zero_usize_get budget) (lines_of input) text.items)) }
+    ensures refused { IfErr result (λ fault. comes_of_a_line fault ≡ true
+        → ReadWhole (R.remaining reader.old) (R.remaining reader.new) (λ input. IsSaidOfLines fault (lines_of input))) }
+    ensures fault { IfErr result (λ fault. comes_of_writing fault ≡ false) }
+{
+    let passes = match read_classes(alloc, reader, hash_builder) {
+        Ok(passes) => passes,
+        Err(fault) => return Err(fault),
+    };
+    match table_for(alloc, budget, &passes) {
+        Ok(text) => Ok(text),
+        Err(_) => Err(SplitFault::Other(Fault::Memory)),
+    }
+}
+
+fn table_for<S: BuildHasher + Copy, A: Allocator + Copy>(
+    alloc: A,
+    budget: NonZeroUsize,
+    passes: &Passes<S, A>,
+) -> Result<Vec<u8, A>, AllocError>
+    ensures { (lines : List (List ℕ)) → HasTakenAll lines passes.now
+        → IfOk result (λ text. IsSplitTable (non_zero_usize_get budget) lines text.items) }
+{
+    let shares = shares_of(alloc, &passes.classes)?;
+    let Ok(curve) = passes.all.curve(alloc) else {
+        return Err(AllocError);
+    };
+    let all = Share {
+        name: Vec::from_slice(alloc, b"one for all")?,
+        requests: passes.requests,
+        curve,
+    };
+    let step = step_of(budget);
+    let capacities = split(alloc, step, budget.get(), &shares)?;
+    table_of(alloc, budget, step, &shares, &capacities, &all)
+}
+
+// The least step of which at most a thousand are within the budget.
+fn step_of(budget: NonZeroUsize) -> NonZeroUsize
+    ensures { non_zero_usize_get result ≡ step_for (non_zero_usize_get budget) }
+{
+    NonZeroUsize::MIN.saturating_add(budget.get() / (MOST_STEPS + 1))
+}
