@@ -1,4 +1,5 @@
-//! The examples of `clru_uses`, run; the laws at types of a caller's; what types print. A caller whose clauses tell its result is not run.
+//! The examples and some callers of `clru_uses`, run; the laws at types of a caller's; what types print. Of other callers the clauses
+//! tell the result.
 #![tactic(auto)]
 
 #[cfg(test)]
@@ -7,6 +8,8 @@ mod asserts;
 mod errors;
 #[cfg(test)]
 mod examples;
+#[cfg(test)]
+mod idioms;
 #[cfg(test)]
 mod laws;
 #[cfg(test)]
@@ -21,5 +24,7 @@ mod printed;
 mod shown;
 #[cfg(test)]
 mod splits;
+#[cfg(test)]
+mod stores;
 #[cfg(test)]
 mod walks;
