@@ -2,6 +2,7 @@
 use Rattle.std.specs.Prelude.{ℕ, Bool, true, false, List, ◌++◌, codes, decimal}
 use Rattle.clru_lines.specs.Faults.{fault_text, status_of}
 use Rattle.clru_report.specs.Faults.{is_of_writing}
+use Rattle.clru_report.specs.Refusals.{is_of_input}
 use Rattle.clru_shares.specs.declared.fault.SplitFault.{SplitFault}
 use Rattle.clru_shares.specs.declared.fault.SplitFault.TheVariants.{NoClass, TooManyClasses, Other}
 
@@ -24,8 +25,8 @@ comes_of_writing (NoClass n) = false
 comes_of_writing (TooManyClasses n) = false
 comes_of_writing (Other fault) = is_of_writing fault
 
--- the fault is one of a line
+-- the fault is one of the input
 abbrev pub comes_of_a_line : SplitFault → Bool
 comes_of_a_line (NoClass n) = true
 comes_of_a_line (TooManyClasses n) = true
-comes_of_a_line (Other fault) = false
+comes_of_a_line (Other fault) = is_of_input fault

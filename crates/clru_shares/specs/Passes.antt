@@ -3,7 +3,7 @@ use Rattle.std.specs.Prelude.{◌≡◌, ℕ, zero, suc, ◌<◌, ◌≤◌, Lis
 use Rattle.std.specs.List.{All, AllZip, list_any}
 use Rattle.clru_curve.specs.Curves.{HasMissesOf, misses_at}
 use Rattle.clru_report.specs.Passes.{HasTakenLines}
-use Rattle.clru_shares.specs.Classes.{AreAscending, IsBefore, has_class, requests_of}
+use Rattle.clru_shares.specs.Classes.{AreAscending, IsBefore, has_class, most_classes, requests_of}
 use Rattle.clru_shares.specs.Shares.{Part}
 use Rattle.clru_shares.specs.declared.classes.Class.{Class}
 use Rattle.clru_shares.specs.declared.reading.Passes.{Passes}
@@ -40,6 +40,7 @@ module _ {S A H : Type 0} where
   pub record HasTakenAll (lines : List (List ℕ)) (passes : Passes S A H) : Type 0 where
     pub classed : All (λ line. has_class line ≡ true) lines
     pub classes : HaveTaken lines passes.classes.items
+    pub few : length passes.classes.items ≤ most_classes
     pub all : HasTakenLines lines passes.all
     pub counted : passes.requests ≡ length lines
 

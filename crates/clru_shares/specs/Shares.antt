@@ -1,19 +1,20 @@
 -- The table of a split. The numbers are those of the definitions of requests: no cache and no algorithm is in sight. Public clauses cite it.
-use Rattle.std.specs.Prelude.{◌≡◌, ℕ, zero, suc, ◌+◌, ◌*◌, ◌/◌, List, [], ◌∷◌, ◌++◌, true, length, map, max, replicate, Option, Some, codes, decimal, bytes_eq}
+use Rattle.std.specs.Prelude.{◌≡◌, ℕ, zero, suc, ◌+◌, ◌*◌, ◌/◌, ◌≤◌, List, [], ◌∷◌, ◌++◌, true, length, map, max, replicate, Option, Some, codes, decimal, bytes_eq}
 use Rattle.std.specs.List.{All, sum_by}
 use Rattle.clru_model.specs.Requests.{misses}
 use Rattle.clru_report.specs.Columns.{fraction_text, millionths}
 use Rattle.clru_split.specs.Splits.{IsBestSplit}
-use Rattle.clru_shares.specs.Classes.{AreClasses, has_class, requests_of}
+use Rattle.clru_shares.specs.Classes.{AreClasses, has_class, most_classes, requests_of}
 
 -- the least step of which at most a thousand are within the budget
 abbrev pub step_for : ℕ → ℕ
 step_for budget = budget / 1001 + 1
 
--- what misses: without a cache all requests do
+-- what misses in a cache
 abbrev pub missed_by : List (List ℕ) → ℕ → Option ℕ
 missed_by requests c = Some (misses bytes_eq c requests)
 
+-- without one all requests do
 abbrev pub missed_with : List (List ℕ) → ℕ → ℕ
 missed_with requests zero = length requests
 missed_with requests (suc c) = misses bytes_eq (suc c) requests
@@ -71,5 +72,6 @@ pub record IsSplitTable (budget : ℕ) (lines : List (List ℕ)) (text : List �
   pub capacities : List ℕ
   pub classed : All (λ line. has_class line ≡ true) lines
   pub classes : AreClasses lines names
+  pub few : length names ≤ most_classes
   pub best : IsBestSplit length missed_by (step_for budget) budget (map (λ name. requests_of name lines) names) capacities
   pub is : text ≡ split_text budget lines names capacities

@@ -54,6 +54,8 @@ pub(crate) fn take_classed<S: BuildHasher + Copy, A: Allocator + Copy>(
         → IfOk result (λ has_room. has_room ≡ true → HaveTaken (lines ++ line_of key.now ∷ []) classes.new.items) }
     ensures full { IfOk result (λ has_room. has_room ≡ false
         → (most_classes ≤ length classes.old.items) × ((at : ℕ) × BelongsAt (map name_of classes.old.items) name.now at)) }
+    ensures few { IfOk result (λ has_room. has_room ≡ true → length classes.old.items ≤ most_classes
+        → length classes.new.items ≤ most_classes) }
 {
     match place_of(classes, name) {
         Ok(at) => {

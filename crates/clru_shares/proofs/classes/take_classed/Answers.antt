@@ -1,5 +1,6 @@
-use Rattle.std.proofs.Common.{◌≡◌, ◌<◌, ◌++◌, ◌∷◌, [], length, map, get_or, sym, ap, ◌∙◌, subst, arith}
+use Rattle.std.proofs.Common.{◌≡◌, ◌<◌, ◌≤◌, ◌++◌, ◌∷◌, [], length, map, get_or, sym, ap, ◌∙◌, subst, arith}
 use Rattle.std.proofs.lemmas.List.{get_or-map, length-map}
+use Rattle.std.proofs.lemmas.List.Edits.{length-insert}
 use Rattle.std.proofs.lemmas.List.Elements.{All-get_or}
 use Rattle.clru_report.specs.Passes.{line_of}
 use Rattle.clru_shares.specs.Classes.{AreAscending}
@@ -50,5 +51,22 @@ returns-after-insert-clause-taken g c lines is own =
           (taken_new lines line classes is at c.in_ok-class-in-Err.class (made.name ∙ own)
           (made.taken lines (new_class lines classes c.args.name.now at is belongs) own) made.some
           (subst (λ n. BelongsAt (map name_of classes) n at) own belongs)))
+      | in-Err-insert w ↦ rw w.result-is tt
+    ]
+
+pub returns-after-insert-clause-few : goal.returns-after-insert-clause-few
+returns-after-insert-clause-few g c =
+    let classes = c.args.classes.now.items in let at = c.in-Err.at in
+    let within : at ≤ length classes = omega (arith, c.in-Err.ensures.missing.within, length-map c.deref.result.now name_of, ap length c.deref.ensures.value) in
+    elim c.match-insert.branch [
+      | in-Ok-insert w ↦ rw w.result-is (λ same few. omega (
+        arith,
+        ap length w.in-Ok-insert.ensures.items,
+        length-insert classes at c.in_ok-class-in-Err.class within,
+        c.if-len-ge-MOST_CLASSES.false,
+        c.len.ensures,
+        ap length c.deref.ensures.value,
+        c.deref.ensures.len,
+      ))
       | in-Err-insert w ↦ rw w.result-is tt
     ]

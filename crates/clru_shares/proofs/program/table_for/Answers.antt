@@ -1,6 +1,7 @@
-use Rattle.std.proofs.Common.{◌≡◌, ℕ, Some, length, map, sym, ap, ◌∙◌, subst}
+use Rattle.std.proofs.Common.{◌≡◌, ℕ, Some, length, map, sym, ap, ◌∙◌, subst, arith}
 use Rattle.std.specs.Prelude.{codes}
 use Rattle.std.specs.Int.NonZero.{non_zero_usize_get}
+use Rattle.std.proofs.lemmas.List.{length-map}
 use Rattle.clru_curve.specs.Curves.{misses_at}
 use Rattle.clru_split.specs.Splits.{IsBestSplit}
 use Rattle.clru_report.proofs.ReportLemmas.{ok_map}
@@ -31,6 +32,7 @@ returns g c lines taken =
       capacities = cs;
       classed = taken.classed;
       classes = names_are lines classes taken.classes;
+      few = omega (arith, taken.few, length-map classes name_of);
       best = best_same all missed length missed_by step budget shares (map (λ name. requests_of name lines) names) cs
           (shares_same lines names shares have) best;
       is = is ∙ rw (c.deref-3.ensures.value, c.deref-4.ensures.value)

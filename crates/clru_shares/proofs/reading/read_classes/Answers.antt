@@ -2,6 +2,7 @@ use Rattle.std.specs.Option.{is_none}
 use Rattle.std.proofs.Common.{◌≡◌, true, false, not, ℕ, List, ◌++◌, ◌∷◌, [], append_assoc, append-nil, refl, sym, length, ap, ◌∙◌, subst, arith, IfSome}
 use Rattle.std.proofs.lemmas.List.{length-append}
 use Rattle.std.proofs.lemmas.List.Elements.{All-nil}
+use Rattle.clru_report.specs.Refusals.{is_of_input}
 use Rattle.clru_report.proofs.ReportLemmas.{no_none, no_some, none_map, of_none, some_map}
 use Rattle.clru_shares.specs.Classes.{has_class}
 use Rattle.clru_shares.specs.Faults.{comes_of_a_line, comes_of_writing}
@@ -19,6 +20,7 @@ lines-init g c = (
   record {
     classed = All-nil (λ line. has_class line ≡ true);
     classes = none_taken c.new.result.items c.new.ensures.items;
+    few = omega (arith, ap length c.new.ensures.items);
     all = record { past = []; shown = refl; taken = c.with_hasher.ensures };
     counted = refl;
   },
@@ -43,6 +45,14 @@ lines-preserved-in-Ok g c =
       none_map c.lines.refused (λ so. c.in-Ok.ensures.taken before.0 so (omega (arith, before.2))) before.4,
       no_some _ c.lines.refused (ap not c.if-is_none.ensures),
     )
+
+pub returns-in-Err-Other-clause-refused : goal.returns-in-Err-Other-clause-refused
+returns-in-Err-Other-clause-refused g c of =
+    let before = c.lines.invariant in
+    let so = of_none c.lines.refused (ap not c.if-is_none.ensures) before.4 in
+    let is = c.in-Err-Other.field-0-is in
+    absurd (subst (λ f. IsSaidOfLines f (before.0 ++ c.read_line.new.line.items ∷ [])) is
+    (c.in-Err-Other.ensures.refused before.0 [] so (omega (arith, before.2)) (ap comes_of_a_line is ∙ ap is_of_input (sym c.in-Err-Other.fault-is) ∙ of)))
 
 pub lines-preserved-in-Err-take_both : goal.lines-preserved-in-Err-take_both
 lines-preserved-in-Err-take_both g c =

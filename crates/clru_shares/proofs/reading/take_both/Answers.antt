@@ -10,6 +10,20 @@ use Rattle.clru_shares.specs.Passes.{name_of}
 use Rattle.clru_shares.proofs.TakenClasses.{is_other, names_are}
 use Rattle.clru_shares.proofs.reading.take_both.Goals as goal
 
+pub returns-in_default-clause-refused : goal.returns-in_default-clause-refused
+returns-in_default-clause-refused g c lines rest is counted of =
+    let classes = c.args.passes.now.classes.items in
+    record {
+      before = lines;
+      line = line_of c.args.key.now;
+      rest = rest;
+      is = refl;
+      number = counted;
+      classed = is.classed;
+      few = (map name_of classes, names_are lines classes is.classes, omega (arith, is.few, length-map classes name_of));
+      none = ap has_class (sym c.deref.ensures.value) ∙ sym c.in_default.ensures.has_class;
+    }
+
 pub returns-in-Ok-false-clause-refused : goal.returns-in-Ok-false-clause-refused
 returns-in-Ok-false-clause-refused g c lines rest is counted of =
     let classes = c.args.passes.now.classes.items in let line = line_of c.args.key.now in
@@ -21,9 +35,11 @@ returns-in-Ok-false-clause-refused g c lines rest is counted of =
       rest = rest;
       is = refl;
       number = counted;
+      classed = is.classed;
+      own = ap has_class (sym c.deref.ensures.value) ∙ sym c.in-Some.ensures.has_class;
       names = map name_of classes;
       classes = names_are lines classes is.classes;
-      full = omega (arith, full.0, length-map classes name_of);
+      full = omega (arith, full.0, is.few, length-map classes name_of);
       other = subst (λ n. list_any (bytes_eq n) (map name_of classes) ≡ false) own (is_other classes c.in-Some.name.now full.1.0 full.1.1);
     }
 
@@ -33,6 +49,7 @@ returns-clause-taken g c lines is counted =
     record {
       classed = All-push (λ l. has_class l ≡ true) lines line is.classed (ap has_class (sym same) ∙ sym c.in-Some.ensures.has_class);
       classes = c.in-Ok-true.ensures.taken lines is.classes (c.in-Some.ensures.class ∙ ap class_in same) c.in-Ok-true.field-0-test;
+      few = c.in-Ok-true.ensures.few c.in-Ok-true.field-0-test is.few;
       all = line_taken lines c.args.passes.now.all is.all line c.take_key.new.pass (c.in-Ok.ensures is.all.past is.all.taken);
       counted = omega (arith, counted, length-append lines (line ∷ []));
     }
