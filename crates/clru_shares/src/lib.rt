@@ -1,6 +1,6 @@
 //! One budget for several caches, from a log whose lines begin with a class: the program `clru_mrc --split`, but for its `main`.
 //!
-//! [`run`] takes the table of a best split from a reader to a writer, beside equal parts and one cache for all. `specs/Classes`
+//! [`run_split`] takes the table of a best split from a reader to a writer, beside equal parts and one cache for all. `specs/Classes`
 //! defines the classes of lines, `specs/Shares` the table, and `specs/Refusals` which inputs have none.
 #![tactic(auto)]
 

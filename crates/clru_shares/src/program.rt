@@ -25,7 +25,7 @@ const MOST_STEPS: usize = 1000;
 
 /// Reads the whole input, and then writes the table of a best split of the budget among its classes. Lines are hashed with
 /// `hash_builder`: a best split is one under each that is lawful.
-/// Cost: that of two readings, and of `split` for at most a thousand steps.
+/// Cost: two look-ups a line, and that of `split` for at most a thousand steps.
 pub fn run_split<R: Read, W: Write, S: BuildHasher + Copy, A: Allocator + Copy>(
     alloc: A,
     budget: NonZeroUsize,
@@ -60,7 +60,7 @@ pub fn run_split<R: Read, W: Write, S: BuildHasher + Copy, A: Allocator + Copy>(
 }
 
 /// Returns the table of a best split of the budget among the classes of all that a reader gives.
-/// Cost: that of two readings, and of `split` for at most a thousand steps.
+/// Cost: two look-ups a line, and that of `split` for at most a thousand steps.
 pub fn make_split<R: Read, S: BuildHasher + Copy, A: Allocator + Copy>(
     alloc: A,
     budget: NonZeroUsize,
