@@ -2,7 +2,7 @@
 //
 // Both get the same words and the same log; status and text have to be the same, byte for byte. The last lines ask whether the
 // comparison sees a difference, whether a small block, a small text and a second call answer as they should, and whether the page's
-// worker cuts the columns of lines.
+// worker cuts the columns of lines. Words that begin with --split are for the module's function of that name, and its help lacks their paragraph.
 import { spawnSync } from "node:child_process";
 import { readFileSync } from "node:fs";
 import { runInNewContext } from "node:vm";
@@ -50,7 +50,7 @@ class Instance {
         }
     }
 
-    report(words, input, blockSize, textSize) {
+    ask(words, input, blockSize, textSize) {
         const bytes = Buffer.from(words.map((word) => `${word}\n`).join(""));
         let end = this.base;
         const place = (size) => {
@@ -66,8 +66,11 @@ class Instance {
         view.setBigUint64(pair + 8, BigInt(blockSize), true);
         new Uint8Array(this.memory.buffer, argumentsAt, bytes.length).set(bytes);
         new Uint8Array(this.memory.buffer, logAt, input.length).set(input);
-        const numbers = [pair, argumentsAt, bytes.length, logAt, input.length, 5, 7, text, textSize, written].map(BigInt);
-        const status = this.exports.report(...numbers);
+        const behind = [logAt, input.length, 5, 7, text, textSize, written];
+        const [name, ...before] = words[0] === "--split"
+            ? ["split", pair, words[1], Number(words.includes("--sizes")), words.includes("--json") ? 1 : words.includes("--svg") ? 2 : 0]
+            : ["report", pair, argumentsAt, bytes.length];
+        const status = this.exports[name](...before.map(BigInt), ...behind.map(BigInt));
         const length = Number(new DataView(this.memory.buffer).getBigUint64(written, true));
         return [status, Buffer.from(new Uint8Array(this.memory.buffer, text, length)).toString("latin1")];
     }
@@ -93,6 +96,8 @@ function same(name, got, wanted) {
 }
 
 const MIB = 1 << 20;
+const classed = Buffer.from(log(20000, 3000, false).toString().replace(/^\/p\/(\d*)(\d)$/gm, "c$2 /$1"));
+const classedSizes = Buffer.from(log(5000, 700, true).toString().replace(/^(\d+) \/p\/(\d*)(\d)$/gm, "c$3 $1 /$2"));
 const plain = log(20000, 3000, false), sized = log(5000, 700, true), short = Buffer.from("a\nb\na\nc\nb\na\nd\na\nb\ne");
 const cases = [
     ["a table", [], plain], ["a picture", ["--svg"], plain], ["the least", ["--least"], plain], ["all", ["--all"], plain],
@@ -100,25 +105,34 @@ const cases = [
     ["sizes", ["--sizes"], sized], ["all sizes", ["--sizes", "--all", "--svg"], sized], ["sizes at", ["--sizes", "--at=2KiB"], sized],
     ["a floor", ["--floor", "--least", "--svg"], plain], ["requests after the first ones", ["--after", "100", "--svg"], plain], ["floors by size", ["--floor", "--sizes", "--svg"], sized],
     ["an empty log", [], Buffer.alloc(0)], ["bytes of any kind", [], Buffer.from([0, 255, 10, 195, 10, 0, 255, 10, 13])],
-    ["help", ["--help"], short], ["the version", ["-V"], short],
+    ["the version", ["-V"], short],
     ["no such word", ["--no"], short], ["no capacity", ["--at", "0"], short], ["words that do not go together", ["--all", "--at=1"], short],
     ["no size", ["--sizes"], Buffer.from("5 a\nb\n")], ["too large", ["--sizes"], Buffer.from("18446744073709551615 a\n1 b\n")],
     ["below the greatest size", ["--sizes", "--at=2"], Buffer.from("5 a\n")],
+    ["times", ["--times", "--max-idle", "2.5"], sized], ["no time", ["--times"], Buffer.from("5 a\nb\n")],
+    ["a split", ["--split", "500"], classed], ["a split in JSON", ["--split", "500", "--json"], classed],
+    ["a picture of a split", ["--split", "1200", "--svg"], classed], ["a split of nothing", ["--split", "9"], Buffer.alloc(0)],
+    ["a split by size", ["--split", "900", "--sizes"], classedSizes], ["no size behind a class", ["--split", "9", "--sizes"], classed],
+    ["no class", ["--split", "9"], Buffer.from("a b\nc\n")],
+    ["too many classes", ["--split", "9", "--svg"], Buffer.from(Array.from({ length: 257 }, (_, it) => `${it} a\n`).join(""))],
 ];
 const instance = new Instance();
 for (const [name, words, input] of cases) {
-    same(name, instance.report(words, input, 16 * MIB, 4 * MIB), native(words, input));
+    same(name, instance.ask(words, input, 16 * MIB, 4 * MIB), native(words, input));
 }
-same("a block that is too small", instance.report([], plain, 4096, MIB), [3, "clru_mrc: memory ran out\n"]);
-same("a text that is too short", instance.report([], plain, 16 * MIB, 20), [5, "clru_mrc: standard o"]);
-same("a block of no bytes", instance.report(["--svg"], plain, 0, MIB), [3, "clru_mrc: memory ran out\n"]);
+same("a block that is too small", instance.ask([], plain, 4096, MIB), [3, "clru_mrc: memory ran out\n"]);
+same("a text that is too short", instance.ask([], plain, 16 * MIB, 20), [5, "clru_mrc: standard o"]);
+same("a block of no bytes", instance.ask(["--svg"], plain, 0, MIB), [3, "clru_mrc: memory ran out\n"]);
+const help = native(["--help"], short)[1];
+same("help", instance.ask(["--help"], short, MIB, MIB), [0, help.slice(0, help.indexOf("\n    --split"))]);
+same("no budget", instance.ask(["--split", "0"], classed, MIB, MIB), [2, "clru_mrc: a budget is at least 1\n"]);
 const other = Buffer.concat([short, Buffer.from("\nf\n")]);
-const [, one] = instance.report([], short, MIB, MIB), [, two] = instance.report([], other, MIB, MIB);
+const [, one] = instance.ask([], short, MIB, MIB), [, two] = instance.ask([], other, MIB, MIB);
 same("another log", [Number(one !== two), ""], [1, ""]);
 // What the page's worker cuts: lines of 17 bytes, which fill the megabyte that it holds back but for 16.
 const Cutter = runInNewContext(`${readFileSync(new URL("worker.js", import.meta.url), "utf8")}\nCutter`);
 const cutLines = [];
-const cutter = new Cutter({ split: "blanks", keys: [3, 1], size: 2, answers: [], method: 0, status: 0 }, (bytes) => cutLines.push(Buffer.from(bytes)));
+const cutter = new Cutter({ split: "blanks", keys: [3, 1], size: 2, time: 0, answers: [], method: 0, status: 0 }, (bytes) => cutLines.push(Buffer.from(bytes)));
 const columns = Array.from({ length: 70000 }, (_, line) => [1000 + line % 9000, 2000 + line % 7000, 100000 + line]);
 cutter.take(Buffer.from(columns.map((words) => words.join(" ") + "\n").join("")));
 cutter.end();

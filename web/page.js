@@ -9,7 +9,7 @@ const show = (id, shown) => $(id).toggleAttribute("hidden", !shown);
 const FORMS = {
     combined: { name: "nginx, Apache, Varnish", split: "blanks", keys: "7", size: "10", method: 6, status: 9 },
     vhost: { name: "Apache, the host in front", split: "blanks", keys: "1,8", size: "11", method: 7, status: 10 },
-    squid: { name: "Squid", split: "blanks", keys: "7", size: "5", method: 6, status: 4 },
+    squid: { name: "Squid", split: "blanks", keys: "7", size: "5", time: "1", method: 6, status: 4 },
     cloudfront: { name: "CloudFront", split: "tabs", keys: "16,8", size: "4", method: 6, status: 9, comments: true },
     commas: { name: "Columns, commas between (CSV)", split: "commas" },
     tabs: { name: "Columns, tabs between (TSV)", split: "tabs" },
@@ -153,9 +153,11 @@ function takeForm(name) {
     const named = (column) => (name === "json" && looked.fields[column - 1]) || column || "";
     $("keys").value = named(suggested.keys);
     $("size").value = named(suggested.size);
+    $("time").value = named(suggested.time);
     $("keys-hint").textContent = `A click on a column's ${name === "json" ? "name" : "number"} takes it as the key. ` +
         `Several columns, as ${name === "json" ? "host,uri" : "1,8"}, are joined with a blank between.`;
     $("sizes").checked = name === "lines" && looked.lines.length > 0 && looked.lines.every(isSized);
+    $("times").checked = false;
     $("answered").checked = form.method > 0;
     $("queries").checked = false;
     for (const id of ["keys-label", "keys-hint", "queries-label"]) show(id, form.split !== null);
@@ -174,24 +176,26 @@ function suggestedColumns(names, values) {
     const key = isKey(/ur[il]$|^path|[._]path$/i) || isKey(/key|ur[il]|path|page|obj|item|\bid\b|_id/i) ||
         column(values, (value, i) => i !== size && !/^"?[\d.]*"?$/.test(value)) || Math.min(2, values.length);
     size ||= column(values, (value, i) => i > key && isNumber(value));
-    return { keys: String(key), size: String(size || "") };
+    const time = column(names, (name) => /time|^ts$|date/i.test(name));
+    return { keys: String(key), size: String(size || ""), time: String(time || "") };
 }
 
 // A column by its number, or a field of JSON by its name.
 const columnOf = (word) => (form.split === "json" && looked.fields.indexOf(word.trim()) + 1) || Number(word.trim());
 const chosenKeys = () => $("keys").value.split(",").map(columnOf);
 const chosenSize = () => ($("sizes").checked ? columnOf($("size").value) : 0);
+const chosenTime = () => ($("times").checked ? columnOf($("time").value) : 0);
 
 // Which columns are wanted and where they stand; null where a field is no number of a column.
 function cutOf() {
     if (!form.split) return { split: null };
-    const [keys, size] = [chosenKeys(), chosenSize()];
+    const [keys, size, time] = [chosenKeys(), chosenSize(), chosenTime()];
     const most = form.split === "json" ? looked.fields.length : 200;
     const isColumn = (column) => Number.isInteger(column) && column > 0 && column <= most;
-    if (!keys.every(isColumn) || ($("sizes").checked && !isColumn(size))) return null;
+    if (!keys.every(isColumn) || ($("sizes").checked && !isColumn(size)) || ($("times").checked && !isColumn(time))) return null;
     const answers = $("answered").checked && form.method ? (size ? ["200"] : ["200", "304"]) : [];
     return {
-        split: form.split, keys, size, answers, method: form.method || 0, status: form.status || 0,
+        split: form.split, keys, size, time, classed: wordsOf()[0] === "--split", answers, method: form.method || 0, status: form.status || 0,
         heading: $("heading").checked && !form.keys, comments: Boolean(form.comments), queries: $("queries").checked,
         fields: form.split === "json" ? looked.fields : [],
     };
@@ -201,6 +205,8 @@ function cutOf() {
 function showColumns() {
     const cut = cutOf();
     show("size-label", form.split !== null && $("sizes").checked);
+    show("time-label", form.split !== null && $("times").checked);
+    for (const id of ["idle-label", "idle-hint"]) show(id, $("times").checked);
     const canLeast = !$("sizes").checked;
     $("least").disabled = !canLeast;
     $("least-words").classList.toggle("off", !canLeast);
@@ -238,13 +244,13 @@ function headByColumns(cut) {
     const lines = looked.lines.map((line) => line.columns[form.split]);
     const names = form.split === "json" ? looked.fields : [];
     const count = Math.max(names.length, ...lines.map((line) => line.length));
-    const classOf = (column) => (cut?.keys.includes(column) ? "key" : cut?.size === column ? "size" : "");
+    const classOf = (column) => (cut?.keys.includes(column) ? "key" : cut?.size === column ? "size" : cut?.time === column ? "time" : "");
     const [top, body] = [document.createElement("thead"), document.createElement("tbody")];
     const row = top.insertRow();
     for (let column = 1; column <= count; column++) {
         const cell = element("th", "", classOf(column));
         const name = names[column - 1] ?? String(column);
-        const button = element("button", { key: `${name} key`, size: `${name} size` }[classOf(column)] || name);
+        const button = element("button", classOf(column) ? `${name} ${classOf(column)}` : name);
         button.type = "button";
         button.ariaLabel = `Take ${names.length ? "field" : "column"} ${name} as the key`;
         button.onclick = () => {
@@ -267,6 +273,8 @@ function headByColumns(cut) {
 
 function wordsOf() {
     const words = [];
+    const budget = $("budget").value.replace(/[\s,]/g, "");
+    if (budget) return ["--split", budget, ...($("sizes").checked ? ["--sizes"] : [])];
     const at = $("at").value.trim();
     if (at) words.push("--at", at);
     const after = $("after").value.trim();
@@ -275,6 +283,8 @@ function wordsOf() {
     if ($("sizes").checked) words.push("--sizes");
     if ($("least").checked && !$("sizes").checked) words.push("--least");
     if ($("floor").checked) words.push("--floor");
+    const idle = $("idle").value.trim();
+    if ($("times").checked) words.push("--times", ...(idle ? ["--max-idle", idle] : []));
     return words;
 }
 
@@ -286,6 +296,11 @@ function run(event) {
         showFault("A column is a number from 1 on.", "Look at the fields of columns.");
         return;
     }
+    const [first, budget] = wordsOf();
+    if (first === "--split" && !isBudget(budget)) {
+        showFault("A budget is a number of keys or bytes from 1 on.", "Look at the field of the budget, or leave it empty.");
+        return;
+    }
     asked = { cut: null, words: wordsOf(), command: commandOf(cut, wordsOf()), settings: settings(), clock: asked?.clock };
     showProgress({ read: 0, size: file.size });
     // (the worker ends what it does for the last mark first)
@@ -293,6 +308,9 @@ function run(event) {
     enter("running");
     worker.postMessage({ run: { turn, file, cut, words: asked.words } });
 }
+
+// Whether the module takes a budget: it has 64 bits.
+const isBudget = (word) => /^\d{1,20}$/.test(word) && BigInt(word) > 0n && BigInt(word) < 1n << 64n;
 
 // Ends the worker. The next one looks at the file again, and the settings stay.
 function stop() {
@@ -361,6 +379,10 @@ function showReport(answered) {
     if (!/\n./.test(report.csv)) $("notes").append("\nNo request is left to count after the first ones.");
     $("state").textContent = `Done: read in ${answered.seconds[0]} s, counted in ${answered.seconds[1]} s.`;
     showRows();
+    const isSplit = asked.words[0] === "--split";
+    $("result-heading").textContent = isSplit ? "The split" : "The curve";
+    show("curve-advice", !isSplit);
+    show("split-advice", isSplit);
     for (const id of ["mark", "slide", "mark-hint"]) show(id, false);
     $("says").textContent = "";
     show("result", true);
@@ -370,12 +392,13 @@ function showReport(answered) {
 
 const MOST_ROWS = 1000;
 const HEADINGS = {
-    capacity: "Capacity", misses: "Misses", miss_ratio: "Miss ratio", least_misses: "Least possible", missed_bytes: "Missed bytes",
+    class: "Class", capacity: "Capacity", misses: "Misses", miss_ratio: "Miss ratio", least_misses: "Least possible", missed_bytes: "Missed bytes",
     floor_misses: "Floor", floor_missed_bytes: "Floor of bytes", byte_miss_ratio: "Byte miss ratio", saved_per_key: "Saved per key", saved_per_byte: "Saved per byte", knee: "Knee",
 };
 
 // A number as the table shows it: whole ones by thousands, what is saved by three digits, a knee by a mark.
 function shown(name, word) {
+    if (name === "class") return word;
     if (name === "knee") return word === "1" ? "\u2022" : "";
     if (name.startsWith("saved")) return Number(word) < 100 ? String(Number(Number(word).toPrecision(3))) : number(Math.round(word));
     return word.includes(".") ? word : word.replace(/\B(?=(\d{3})+$)/g, ",");
@@ -391,6 +414,7 @@ function showRows() {
         row.forEach((word, i) => made.append(element("td", shown(names[i], word))));
     }
     $("rows").replaceChildren(top, body);
+    $("rows").classList.toggle("classed", names[0] === "class");
     const cutShort = `The first ${number(MOST_ROWS)} of ${number(rows.length)} rows; the CSV has all.`;
     $("cut-short").textContent = rows.length > MOST_ROWS ? cutShort : "";
 }
@@ -431,6 +455,9 @@ function adviceFor(text, memory = 0) {
     const column = "Look at the column of the size";
     if (text.includes("has no size")) return `Lines are counted as the program reads them. ${column}, or count no bytes.`;
     if (text.includes("add up to more")) return `${column}.`;
+    if (text.includes("has no time")) return "Lines are counted as the program reads them. Look at the column of the time: it is a number.";
+    if (/has no class|class too many/.test(text)) return "Lines are split as the program reads them: name the column of the class first, as 1,8.";
+    if (text.includes("is no time")) return "Change the field of the time after which entries expire.";
     if (!text.includes("memory ran out")) return "";
     const got = memory ? `The page got ${bytesOf(memory)} of memory and no more. ` : "";
     return `${got}In a terminal the program can have all of the machine's: ${asked?.command || "clru_mrc < FILE"}`;
@@ -472,19 +499,28 @@ function commandOf(cut, words) {
     return (looked.packed ? `zcat < ${name} | ${awk} | ${asks}` : `${awk} ${path} | ${asks}`) + unknown;
 }
 
+// What a request has, in its order, as worker.js has it.
+function orderOf({ keys, size, time, classed }) {
+    const named = keys.map((column) => ({ column, isKey: true }));
+    return [{ column: time }, ...named.splice(0, classed ? 1 : 0), { column: size }, ...named].filter(({ column }) => column);
+}
+
 // A field of JSON by its names, one in the other, as text in which a newline is a blank.
-function jqOf({ keys, size, fields, queries }) {
+function jqOf(cut) {
+    const { size, fields, queries } = cut;
     const path = (column) => `.${fields[column - 1].split(".").map((name) => JSON.stringify(name).replace(/'/g, "'\\''")).join(".")}`;
     const text = 'tostring | gsub("\\n"; " ")';
-    const parts = keys.map((column) => `(${path(column)} | ${text}${queries ? ' | sub("\\\\?.*"; "")' : ""})`);
-    if (size) parts.unshift(`(${path(size)} | ${text})`);
-    const tests = [...keys, ...(size ? [size] : [])].map((column) => `${path(column)} != null`);
+    const order = orderOf(cut);
+    const parts = order.map(({ column, isKey }) => `(${path(column)} | ${text}${queries && isKey ? ' | sub("\\\\?.*"; "")' : ""})`);
+    const tests = order.map(({ column }) => column).map((column) => `${path(column)} != null`);
     if (size) tests.push(`${path(size)} != "-"`);
     return `fromjson? | objects | select(${tests.join(" and ")}) | [${parts.join(", ")}] | join(" ")`;
 }
 
-function awkOf({ split, keys, size, method, status, answers, heading, comments, queries }) {
-    const most = Math.max(...keys, size, ...(answers.length ? [method, status] : []));
+function awkOf(cut) {
+    const { split, keys, size, method, status, answers, heading, comments, queries } = cut;
+    const columns = orderOf(cut).map(({ column }) => column);
+    const most = Math.max(...columns, ...(answers.length ? [method, status] : []));
     const tests = [heading && "NR > 1", comments && "!/^#/", `NF >= ${most}`];
     if (answers.length) {
         tests.push(`$${method} ~ /^"?GET$/`);
@@ -492,9 +528,8 @@ function awkOf({ split, keys, size, method, status, answers, heading, comments, 
     }
     if (size) tests.push(`$${size} != "-"`);
     const cuts = queries ? keys.map((key) => `sub(/\\?.*/, "", $${key}); `).join("") : "";
-    const key = keys.map((column) => `$${column}`).join(", ");
     const returns = looked.lines.some((line) => line.returns) && split ? '{ sub(/\\r$/, "") } ' : "";
-    return `${returns}${tests.filter(Boolean).join(" && ")} { ${cuts}print ${size ? `$${size}, ` : ""}${key} }`;
+    return `${returns}${tests.filter(Boolean).join(" && ")} { ${cuts}print ${columns.map((column) => `$${column}`).join(", ")} }`;
 }
 
 // --- The mark --------------------------------------------------------------------------------------------------------------------
@@ -658,8 +693,9 @@ function begin() {
         }
     };
     $("form").onchange = () => takeForm($("form").value);
-    for (const id of ["keys", "size", "sizes", "heading", "answered", "queries"]) $(id).oninput = showColumns;
-    for (const id of ["at", "after", "all", "least", "floor"]) $(id).oninput = markStale;
+    for (const id of ["keys", "size", "time", "sizes", "times", "heading", "answered", "queries"]) $(id).oninput = showColumns;
+    for (const id of ["at", "after", "idle", "all", "least", "floor"]) $(id).oninput = markStale;
+    $("budget").oninput = showColumns;
     $("copy").onclick = copy;
     $("settings").onsubmit = run;
     $("stop").onclick = stop;

@@ -4,8 +4,9 @@
 // Messages to it: {module}, first of all; {look: file}, {sample: cut} and {run: {turn, file, cut, words}}. It answers with
 // {looked}, {sampled}, {progress}, {cut}, {nothing}, {estimate}, {report}, {marks} and {fault}, each of which the page knows by its name;
 // those of a run have its turn beside them.
-// A cut is {split, keys, size, heading, comments, method, status, answers, queries, fields}: columns are counted from 1, 0 stands for
-// none; of JSON they are those of the fields.
+// A cut is {split, keys, size, time, classed, heading, comments, method, status, answers, queries, fields}: columns are counted from 1, 0
+// stands for none; of JSON they are those of the fields. Where the first key is the class of a split, it is `classed`, and `words`, which
+// are the program's, begin with --split.
 
 const CHUNK = 8 << 20;
 const HEAD = 256 << 10;
@@ -124,13 +125,21 @@ function endsWith(bytes, from, to, word) {
     return true;
 }
 
-// Cuts keys, and sizes where there are some, out of lines, and hands on bytes in which each line is a request.
+// What a request has, in its order: time and size stand before the key, but the size behind the class of a split.
+function orderOf({ keys, size, time, classed }) {
+    const named = keys.map((column) => ({ column, kind: "key" }));
+    const sized = [...named.splice(0, classed ? 1 : 0), { column: size, kind: "size" }, ...named];
+    return [{ column: time, kind: "time" }, ...sized].filter(({ column }) => column > 0);
+}
+
+// Cuts keys, and times and sizes where there are some, out of lines, and hands on bytes in which each line is a request.
 class Cutter {
     constructor(cut, emit) {
         this.cut = cut;
         this.emit = emit;
         this.split = SPLITTERS[cut.split];
-        this.most = Math.max(...cut.keys, cut.size, ...(cut.answers.length ? [cut.method, cut.status] : []));
+        this.order = orderOf(cut);
+        this.most = Math.max(...this.order.map(({ column }) => column), ...(cut.answers.length ? [cut.method, cut.status] : []));
         this.begins = new Uint32Array(this.most);
         this.ends = new Uint32Array(this.most);
         this.rest = new Uint8Array(0);
@@ -165,7 +174,7 @@ class Cutter {
     }
 
     line(bytes, from, to) {
-        const { cut, begins, ends } = this;
+        const { cut, begins, ends, order } = this;
         this.lines++;
         if (cut.heading && this.lines === 1) return;
         if (cut.comments && bytes[from] === SHARP) return;
@@ -178,21 +187,20 @@ class Cutter {
             this.left.answered++;
             return;
         }
-        this.room((to - from + 1) * (cut.keys.length + 1) + 1);
+        this.room((to - from + 1) * order.length + 1);
         const before = this.used;
-        if (cut.size) {
-            if (!this.writeSize(bytes, begins[cut.size - 1], ends[cut.size - 1])) {
+        for (let i = 0; i < order.length; i++) {
+            const { column, kind } = order[i];
+            const [begin, end] = [begins[column - 1], ends[column - 1]];
+            // (a blank between columns, or different ones could make one key)
+            if (i > 0) this.out[this.used++] = BLANK;
+            if (kind === "key") this.writeKey(bytes, begin, end);
+            else if (!this.writeNumber(bytes, begin, end) && kind === "size") {
                 this.used = before;
                 this.left.sizeless++;
                 return;
             }
-            this.out[this.used++] = BLANK;
         }
-        // (a blank between columns, or different ones could make one key)
-        cut.keys.forEach((key, i) => {
-            if (i > 0) this.out[this.used++] = BLANK;
-            this.writeKey(bytes, begins[key - 1], ends[key - 1]);
-        });
         this.out[this.used++] = NEWLINE;
     }
 
@@ -226,15 +234,15 @@ class Cutter {
         this.used = used;
     }
 
-    // Whether there is a size: a log has `-` where it knows none. What is no number is for the program to refuse.
-    writeSize(bytes, from, to) {
+    // Writes a column without its quotes, and answers whether it has a number: a log has `-` where it knows none. What else is no number
+    // is for the program to refuse.
+    writeNumber(bytes, from, to) {
         if (bytes[from] === QUOTE && bytes[to - 1] === QUOTE && to - from > 1) {
             from++;
             to--;
         }
-        if (to - from === 1 && bytes[from] === DASH) return false;
         for (let at = from; at < to; at++) this.out[this.used++] = bytes[at];
-        return true;
+        return to - from !== 1 || bytes[from] !== DASH;
     }
 }
 
@@ -263,18 +271,17 @@ class JsonCutter extends Cutter {
         const { cut } = this;
         this.lines++;
         const fields = fieldsOf(new TextDecoder().decode(bytes.subarray(from, to)));
-        const keys = cut.keys.map((key) => fields.get(cut.fields[key - 1]));
-        if (keys.includes(undefined)) {
+        const words = orderOf(cut).map(({ column, kind }) => ({ kind, word: fields.get(cut.fields[column - 1]) }));
+        if (words.some(({ kind, word }) => kind !== "size" && word === undefined)) {
             this.left.short++;
             return;
         }
-        const size = cut.size ? fields.get(cut.fields[cut.size - 1]) : "";
-        if (size === undefined || size === "-") {
+        if (words.some(({ kind, word }) => kind === "size" && (word === undefined || word === "-"))) {
             this.left.sizeless++;
             return;
         }
-        const key = keys.map((word) => (cut.queries ? word.replace(/\?.*/, "") : word)).join(" ");
-        const line = new TextEncoder().encode(`${cut.size ? `${size} ` : ""}${key}\n`);
+        const shown = words.map(({ kind, word }) => (cut.queries && kind === "key" ? word.replace(/\?.*/, "") : word));
+        const line = new TextEncoder().encode(`${shown.join(" ")}\n`);
         this.room(line.length);
         this.out.set(line, this.used);
         this.used += line.length;
@@ -314,6 +321,9 @@ class Passer {
 
 class NoMemory extends Error {}
 
+// The form of a split that is a picture.
+const PICTURE = 2n;
+
 const PAGE = 65536;
 const STRIDE = 16 << 20;
 const aligned = (at) => Math.ceil(at / 16) * 16;
@@ -321,9 +331,10 @@ const aligned = (at) => Math.ceil(at / 16) * 16;
 // The module with a log in its memory: first the log, behind it words and text, and then the block that the program gets.
 class Program {
     constructor(instance) {
-        const { memory, report, __heap_base: base } = instance.exports;
+        const { memory, report, split, __heap_base: base } = instance.exports;
         this.memory = memory;
         this.report = report;
+        this.split = split;
         this.words = aligned(Number(base.value));
         this.log = this.words + 32;
         this.end = this.log;
@@ -358,7 +369,7 @@ class Program {
         // (memory that is not written to costs nothing, and a block that is too small a whole pass)
         this.block = Math.max(this.block, 4 * STRIDE + 2 * (this.end - this.log));
         for (;;) {
-            const asked = this.call(given);
+            const asked = this.call(given, words[0] === "--split" ? words[1] : "", words.includes("--sizes") ? 1n : 0n);
             if (asked.status === 3 && this.fits(given.length, this.text, this.block * 2)) this.block *= 2;
             else if (asked.status === 5 && this.fits(given.length, this.text * 2, this.block)) this.text *= 2;
             else return asked;
@@ -369,7 +380,8 @@ class Program {
         return this.reach(aligned(this.end) + aligned(given) + aligned(text) + block + 32);
     }
 
-    call(given) {
+    // The text of a split of the budget, where there is one, or else what the words ask for.
+    call(given, budget, sizes) {
         const argumentsAt = aligned(this.end) + 16;
         const textAt = aligned(argumentsAt + given.length);
         const blockAt = aligned(textAt + this.text);
@@ -383,8 +395,11 @@ class Program {
         words[2] = 0n;
         new Uint8Array(this.memory.buffer, argumentsAt, given.length).set(given);
         const seed = crypto.getRandomValues(new BigUint64Array(2));
-        const numbers = [this.words, argumentsAt, given.length, this.log, this.end - this.log].map(BigInt);
-        const status = this.report(...numbers, ...seed, BigInt(textAt), BigInt(this.text), BigInt(this.words + 16));
+        const [loan, log] = [[this.words], [this.log, this.end - this.log]].map((numbers) => numbers.map(BigInt));
+        const back = [textAt, this.text, this.words + 16].map(BigInt);
+        const status = budget
+            ? this.split(...loan, BigInt(budget), sizes, PICTURE, ...log, ...seed, ...back)
+            : this.report(...loan, BigInt(argumentsAt), BigInt(given.length), ...log, ...seed, ...back);
         const written = Number(new BigUint64Array(this.memory.buffer, this.words + 16, 1)[0]);
         return { status, text: new TextDecoder().decode(new Uint8Array(this.memory.buffer, textAt, written)) };
     }
@@ -423,13 +438,15 @@ function marksFor(program, picture, words) {
     const rows = rowsOf(tableOf(picture));
     if (!rows.length) return null;
     const sizes = words.filter((word) => word === "--sizes");
-    const after = words.includes("--after") ? words.slice(words.indexOf("--after")).slice(0, 2) : [];
+    const pair = (name) => (words.includes(name) ? words.slice(words.indexOf(name)).slice(0, 2) : []);
+    const after = pair("--after");
+    const times = [...words.filter((word) => word === "--times"), ...pair("--max-idle")];
     // (a summary is of all requests, so it does not tell the bytes after the first ones)
     if (sizes.length && after.length) return null;
     const whole = wholeOf(program, picture, sizes);
     whole.last = Math.max(whole.last, rows.at(-1)[0]);
     if (whole.last > Number.MAX_SAFE_INTEGER || whole.bytes > Number.MAX_SAFE_INTEGER) return null;
-    const marks = program.ask(["--at", markedBetween(whole.first, whole.last).join(","), ...sizes, ...after]);
+    const marks = program.ask(["--at", markedBetween(whole.first, whole.last).join(","), ...sizes, ...after, ...times]);
     return marks.status === 0 ? { ...whole, rows: rowsOf(marks.text) } : null;
 }
 
@@ -534,7 +551,8 @@ async function run({ file, cut, words }, say) {
     const seconds = [read - begun, performance.now() - read].map((time) => (time / 1000).toFixed(1));
     say({ report: { ...report, seconds, memory: program.memory.buffer.byteLength } });
     if (report.status !== 0) return;
-    say({ marks: marksFor(program, report.text, words) });
+    // (a split has no capacities to mark)
+    say({ marks: words[0] === "--split" ? null : marksFor(program, report.text, words) });
 }
 
 async function answer(data, say) {

@@ -225,6 +225,7 @@ pub extern "C" fn clru_split(
         → IsBestSplit missed_without missed_with 1 budget (rows_of (budget + 1) (length parts.old) missed.now) parts.new }
     ensures left { result ≢ OK → parts.new ≡ parts.old }
     ensures codes { IsCode ⊥ (length missed.now ≡ length parts.old * (budget + 1)) result }
+    ensures never_refused { parts.old ≡ [] → result ≢ NO_MEMORY }
     ensures length { length parts.new ≡ length parts.old }
 {
     parts_of(alloc, missed, budget, parts)

@@ -1,5 +1,5 @@
 //! The parts of a budget that several caches get, by arrays of what each misses.
-ghost use Rattle.std.specs.Prelude.{◌≡◌, ◌≢◌, ◌+◌, ◌*◌, length, IfOk};
+ghost use Rattle.std.specs.Prelude.{◌≡◌, ◌≢◌, ◌+◌, ◌*◌, [], length, IfOk, IsOk};
 ghost use Rattle.clru_split.specs.Splits.{IsBestSplit};
 ghost use Rattle.clru_c.specs.Codes.{IsCode};
 ghost use Rattle.clru_c.specs.Parts.{missed_without, missed_with, rows_of};
@@ -57,6 +57,7 @@ pub(crate) fn parts_of<A: Allocator + Copy>(
         → IsBestSplit missed_without missed_with 1 budget (rows_of (budget + 1) (length parts.old) missed.now) parts.new }
     ensures left { result ≢ OK → parts.new ≡ parts.old }
     ensures codes { IsCode ⊥ (length missed.now ≡ length parts.old * (budget + 1)) result }
+    ensures never_refused { parts.old ≡ [] → result ≢ NO_MEMORY }
 {
     if missed.len() as u128 != parts.len() as u128 * (budget as u128 + 1) {
         return WRONG_LENGTH;
@@ -79,7 +80,8 @@ fn rows_in<'a, A: Allocator>(
     count: usize,
 ) -> Result<Vec<Row<'a>, A>, AllocError>
     requires many { length missed.now ≡ count * (budget + 1) }
-    ensures { IfOk result (λ rows. rows.items ≡ rows_of (budget + 1) count missed.now) }
+    ensures rows { IfOk result (λ rows. rows.items ≡ rows_of (budget + 1) count missed.now) }
+    ensures never_refused { count ≡ 0 → IsOk result }
 {
     let mut rows = Vec::new(alloc);
     let mut rest = missed;

@@ -50,23 +50,21 @@ sizes_clear (s ∷ ss) zero m (suc j) inside = omega arith
 sizes_clear (s ∷ ss) (suc i) m zero inside = let ih = sizes_clear ss i m zero (omega (arith, inside)) in omega (arith, ih)
 sizes_clear (s ∷ ss) (suc i) m (suc j) inside = sizes_clear ss i m j (omega (arith, inside))
 
--- the first sizes, with one more
-sizes_take : (ss : List Numbered) (i : ℕ) → i < length ss → (j : ℕ) → sizes_from (take i ss) j + up_by (value_at ss i) j i ≡ sizes_from (take (suc i) ss) j
-sizes_take [] i inside j = omega (arith, inside)
-sizes_take (s ∷ ss) zero inside zero = omega arith
-sizes_take (s ∷ ss) zero inside (suc j) = omega arith
-sizes_take (s ∷ ss) (suc i) inside zero = let ih = sizes_take ss i (omega (arith, inside)) zero in omega (arith, ih)
-sizes_take (s ∷ ss) (suc i) inside (suc j) = sizes_take ss i (omega (arith, inside)) j
+-- the first sizes
+sizes_take-le : (ss : List Numbered) (i j : ℕ) → j ≤ i → sizes_from (take i ss) j + sizes_from ss i ≡ sizes_from ss j
+sizes_take-le [] zero j le = omega arith
+sizes_take-le [] (suc i) j le = omega arith
+sizes_take-le (s ∷ ss) zero zero le = omega arith
+sizes_take-le (s ∷ ss) zero (suc j) le = absurd (omega (arith, le))
+sizes_take-le (s ∷ ss) (suc i) zero le = omega (arith, sizes_take-le ss i 0 (omega arith))
+sizes_take-le (s ∷ ss) (suc i) (suc j) le = sizes_take-le ss i j (omega (arith, le))
 
-take_few : (ss : List Numbered) (i : ℕ) → sizes_from (take i ss) 0 ≤ sizes_from ss 0
-take_few [] zero = omega arith
-take_few [] (suc i) = omega arith
-take_few (s ∷ ss) zero = omega arith
-take_few (s ∷ ss) (suc i) = omega (arith, take_few ss i)
-
-pub take_fits : (ss : List Numbered) (i : ℕ) → i < length ss → (j : ℕ) → sizes_from (take i ss) (16 * j) + value_at ss i ≤ sizes_from ss 0
-take_fits ss i inside j =
-    omega (arith, sizes_few (take i ss) (16 * j), sizes_take ss i inside 0, up_by-le (value_at ss i) 0 i (omega arith), take_few ss (suc i))
+sizes_take-ge : (ss : List Numbered) (i j : ℕ) → i ≤ j → sizes_from (take i ss) j ≡ 0
+sizes_take-ge [] zero j ge = refl
+sizes_take-ge [] (suc i) j ge = refl
+sizes_take-ge (s ∷ ss) zero j ge = refl
+sizes_take-ge (s ∷ ss) (suc i) zero ge = absurd (omega (arith, ge))
+sizes_take-ge (s ∷ ss) (suc i) (suc j) ge = sizes_take-ge ss i j (omega (arith, ge))
 
 -- the first of a block is no later than a size where the block is no later than the size's
 up_by-block : (a j n : ℕ) → up_by a (16 * j) n ≡ up_by a j (n / 16)
@@ -77,9 +75,32 @@ up_by-block a j n =
       | inr le ↦ omega (arith, up_by-le a (16 * j) n le, up_by-le a j (n / 16) (omega (arith, whole, rest, le)))
     ]
 
-pub blocks_take : (ss : List Numbered) (i : ℕ) → i < length ss → (j : ℕ)
-    → sizes_from (take i ss) (16 * j) + up_by (value_at ss i) j (i / 16) ≡ sizes_from (take (suc i) ss) (16 * j)
-blocks_take ss i inside j = omega (arith, sizes_take ss i inside (16 * j), up_by-block (value_at ss i) j i)
+-- the first sizes, with some more of one block
+module _ (ss : List Numbered) (at end more : ℕ) (order : at ≤ end) (one_block : end ≤ 16 * (at / 16 + 1)) (sum : more + sizes_from ss end ≡ sizes_from ss at) where
+  pub blocks_take : (j : ℕ) → sizes_from (take at ss) (16 * j) + up_by more j (at / 16) ≡ sizes_from (take end ss) (16 * j)
+  blocks_take j =
+      let whole = div-add-mod' at 16 in let rest = mod_below at 16 (omega arith) in
+      elim (cases_lt at (16 * j)) [
+        | inl gt ↦ omega (
+          arith,
+          sizes_take-ge ss at (16 * j) (omega (arith, gt)),
+          sizes_take-ge ss end (16 * j) (omega (arith, one_block, whole, rest, gt)),
+          up_by-gt more j (at / 16) (omega (arith, whole, rest, gt)),
+        )
+        | inr le ↦ omega (
+          arith,
+          sizes_take-le ss at (16 * j) le,
+          sizes_take-le ss end (16 * j) (omega (arith, order, le)),
+          up_by-le more j (at / 16) (omega (arith, whole, rest, le)),
+          sum,
+        )
+      ]
+
+  pub take_fits : (j : ℕ) → sizes_from (take at ss) (16 * j) + more ≤ sizes_from ss 0
+  take_fits j = elim (cases_lt at (16 * j)) [
+    | inl gt ↦ omega (arith, sizes_take-ge ss at (16 * j) (omega (arith, gt)), sizes_few ss at, sum)
+    | inr le ↦ omega (arith, sizes_take-le ss at (16 * j) le, sizes_few ss (16 * j), sum)
+  ]
 
 -- the same by number
 pub total_zero : (ss : List Numbered) → total_from ss 0 ≡ sizes_from ss 0

@@ -71,8 +71,8 @@ module _ {K : Type 0} (eq : K → K → Bool) where
       ∙ split (eq x y) (λ u. rw u refl) (λ v. rw v (sym (seen_of (eq y) seen)))
 
   -- before the first request
-  pub IsSizedAgedPass-none : IsEquivalence eq → (weight : K → ℕ) (cs : List ℕ) (idle : Option ℕ) (age : ℕ)
-      → IsSizedAgedPass eq weight cs idle age [] (aged_pass_by_size [] [] 0 (fetch_table cs (replicate (length cs) 0) (replicate (length cs) 0) [] age) 0 0 idle)
+  pub IsSizedAgedPass-none : {S : Type 0} {b : S} → IsEquivalence eq → (weight : K → ℕ) (cs : List ℕ) (idle : Option ℕ) (age : ℕ)
+      → IsSizedAgedPass eq weight cs idle age [] (aged_pass_by_size [] [] 0 (fetch_table cs (replicate (length cs) 0) (replicate (length cs) 0) [] age) 0 0 idle b)
   IsSizedAgedPass-none laws weight cs idle age = record {
     places = refl;
     idle_limit = refl;
@@ -90,8 +90,8 @@ module _ {K : Type 0} (eq : K → K → Bool) where
     greatest = refl;
   }
 
-  pub IsSoundAgedBySize-none : (cs nodes : List ℕ) (age : ℕ) (idle : Option ℕ) → IsSummed [] nodes 0
-      → IsSoundAgedBySize eq nodes (aged_pass_by_size [] [] 0 (fetch_table cs (replicate (length cs) 0) (replicate (length cs) 0) [] age) 0 0 idle)
+  pub IsSoundAgedBySize-none : {S : Type 0} {b : S} (cs nodes : List ℕ) (age : ℕ) (idle : Option ℕ) → IsSummed [] nodes 0
+      → IsSoundAgedBySize eq nodes (aged_pass_by_size [] [] 0 (fetch_table cs (replicate (length cs) 0) (replicate (length cs) 0) [] age) 0 0 idle b)
   IsSoundAgedBySize-none cs nodes age idle summed = record {
     sound = IsSoundBySize-none eq nodes summed;
     misses_length = length-replicate (length cs) 0;
@@ -102,9 +102,9 @@ module _ {K : Type 0} (eq : K → K → Bool) where
     apart = λ x y s t at. cc;
   }
 
-module _ {K : Type 0} (eq : K → K → Bool) (laws : IsEquivalence eq) (seen : List (K × Fetched)) (ss : List Numbered) (n : ℕ)
+module _ {K S : Type 0} {b : S} (eq : K → K → Bool) (laws : IsEquivalence eq) (seen : List (K × Fetched)) (ss : List Numbered) (n : ℕ)
     (ps ms zs ts : List ℕ) (ag a g : ℕ) (l : Option ℕ) (x : K) (t : ℕ) (nodes : List ℕ)
-    (sound : IsSoundAgedBySize eq nodes (aged_pass_by_size seen ss n (fetch_table ps ms zs ts ag) a g l)) where
+    (sound : IsSoundAgedBySize eq nodes (aged_pass_by_size seen ss n (fetch_table ps ms zs ts ag) a g l b)) where
   -- what was noted of other keys stays within their own times
   others_stay : (hits : ℕ → Bool) (f : ℕ) (us ts' : List ℕ) (x : K) → AreFetched hits (length ps) f t us ts'
       → ((q : ℕ) → q < length ts → get_or us q 0 ≡ get_or ts q 0)
@@ -119,7 +119,7 @@ module _ {K : Type 0} (eq : K → K → Bool) (laws : IsEquivalence eq) (seen : 
       ]
 
   module _ (weight : K → ℕ) (cs : List ℕ) (idle : Option ℕ) (age : ℕ) (past : List (K × ℕ))
-      (is : IsSizedAgedPass eq weight cs idle age past (aged_pass_by_size seen ss n (fetch_table ps ms zs ts ag) a g l)) where
+      (is : IsSizedAgedPass eq weight cs idle age past (aged_pass_by_size seen ss n (fetch_table ps ms zs ts ag) a g l b)) where
     not_held : lookup (eq x) seen ≡ None → holds eq x (keys_of past) ≡ false
     not_held absent = sym (fetched_known eq (keys_of past) seen is.ranked.known x) ∙ ap is_some absent
 
@@ -134,7 +134,7 @@ module _ {K : Type 0} (eq : K → K → Bool) (laws : IsEquivalence eq) (seen : 
           → AreCounted (λ i. false) (length ps) (w + 1) zs zs'
           → AreFetched (λ i. false) (length ps) (length ts) t (ts ++ replicate (length ps) t) ts'
           → IsSizedAgedPass eq weight cs idle age ((x, t) ∷ past)
-          (aged_pass_by_size ((x, fetched_at (seen_at n t) (length ts)) ∷ seen) ss' (n + 1) (fetch_table ps ms' zs' ts' ag) (a + (w + 1)) g' l)
+          (aged_pass_by_size ((x, fetched_at (seen_at n t) (length ts)) ∷ seen) ss' (n + 1) (fetch_table ps ms' zs' ts' ag) (a + (w + 1)) g' l b)
       IsSizedAgedPass-new absent counts misses sizes times =
           let here = seen_at n t in let seen' = (x, fetched_at here (length ts)) ∷ seen in
           let one : n + 1 ≡ suc n = omega arith in
@@ -188,7 +188,7 @@ module _ {K : Type 0} (eq : K → K → Bool) (laws : IsEquivalence eq) (seen : 
             → AreCounted (is_row_hit soon span t ag s.first ps ts) (length ps) (w + 1) zs zs'
             → AreFetched (is_row_hit soon span t ag s.first ps ts) (length ps) s.first t ts ts'
             → IsSizedAgedPass eq weight cs idle age ((x, t) ∷ past)
-            (aged_pass_by_size (set_value (eq x) seen (fetched_at (seen_at n t) s.first)) ss' (n + 1) (fetch_table ps ms' zs' ts' ag) (a + (w + 1)) g' l)
+            (aged_pass_by_size (set_value (eq x) seen (fetched_at (seen_at n t) s.first)) ss' (n + 1) (fetch_table ps ms' zs' ts' ag) (a + (w + 1)) g' l b)
         IsSizedAgedPass-again soon span within_limit spans counts misses sizes times =
             let here = seen_at n t in let seen' = set_value (eq x) seen (fetched_at here s.first) in
             let one : n + 1 ≡ suc n = omega arith in
@@ -233,7 +233,7 @@ module _ {K : Type 0} (eq : K → K → Bool) (laws : IsEquivalence eq) (seen : 
       (misses : AreCounted hits (length ps) 1 ms ms') (sizes : AreCounted hits (length ps) (w + 1) zs zs') where
     pub IsSoundAgedBySize-new : lookup (eq x) seen ≡ None → ((p : ℕ) → live_from ss' p ≡ live_from ss p + up_to p n)
         → AreFetched hits (length ps) (length ts) t (ts ++ replicate (length ps) t) ts'
-        → IsSoundAgedBySize eq nodes' (aged_pass_by_size ((x, fetched_at (seen_at n t) (length ts)) ∷ seen) ss' (n + 1) (fetch_table ps ms' zs' ts' ag) (a + (w + 1)) g' l)
+        → IsSoundAgedBySize eq nodes' (aged_pass_by_size ((x, fetched_at (seen_at n t) (length ts)) ∷ seen) ss' (n + 1) (fetch_table ps ms' zs' ts' ag) (a + (w + 1)) g' l b)
     IsSoundAgedBySize-new absent counts times =
         let here = seen_at n t in let seen' = (x, fetched_at here (length ts)) ∷ seen in
         let one : n + 1 ≡ suc n = omega arith in
@@ -278,7 +278,7 @@ module _ {K : Type 0} (eq : K → K → Bool) (laws : IsEquivalence eq) (seen : 
     pub IsSoundAgedBySize-again : (s : Fetched) → lookup (eq x) seen ≡ Some s
         → ((p : ℕ) → live_from ss' p + up_to p s.seen.position ≡ live_from ss p + up_to p n)
         → AreFetched hits (length ps) s.first t ts ts'
-        → IsSoundAgedBySize eq nodes' (aged_pass_by_size (set_value (eq x) seen (fetched_at (seen_at n t) s.first)) ss' (n + 1) (fetch_table ps ms' zs' ts' ag) (a + (w + 1)) g' l)
+        → IsSoundAgedBySize eq nodes' (aged_pass_by_size (set_value (eq x) seen (fetched_at (seen_at n t) s.first)) ss' (n + 1) (fetch_table ps ms' zs' ts' ag) (a + (w + 1)) g' l b)
     IsSoundAgedBySize-again s found counts times =
         let here = seen_at n t in let seen' = set_value (eq x) seen (fetched_at here s.first) in
         let one : n + 1 ≡ suc n = omega arith in

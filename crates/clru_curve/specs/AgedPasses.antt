@@ -11,5 +11,5 @@ module _ {K : Type 0} (eq : K → K → Bool) (idle : Option ℕ) (age : ℕ) wh
 
 module _ {K : Type 0} (eq : K → K → Bool) where
   -- a pass with these capacities and limits that has taken these requests, the latest first: one by size, where each key weighs 0
-  abbrev pub IsAgedPass : List ℕ → Option ℕ → ℕ → List (K × ℕ) → AgedPassBySize K → Type 0
+  abbrev pub IsAgedPass : {S : Type 0} → List ℕ → Option ℕ → ℕ → List (K × ℕ) → AgedPassBySize K S → Type 0
   IsAgedPass capacities idle age past p = IsSizedAgedPass eq (λ _. 0) capacities idle age past p

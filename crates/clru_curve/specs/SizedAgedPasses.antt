@@ -33,8 +33,9 @@ fetch_table_code = code_by (List ℕ × (List ℕ × (List ℕ × (List ℕ × �
     (λ t. fetch_table t.0 t.1.0 t.1.1.0 t.1.1.1.0 t.1.1.1.1) (λ _. refl)
 
 -- each key with the number and the time of its latest request, and where its times of fetches begin; the sizes of these requests, with 0
--- for some others; how many requests there were; the table of fetches; the size of all requests, the greatest weight, and the idle limit
-pub record AgedPassBySize (K : Type 0) : Type 0 where
+-- for some others; how many requests there were; the table of fetches; the size of all requests, the greatest weight, the idle limit, and
+-- the builder that hashes keys
+pub record AgedPassBySize (K S : Type 0) : Type 0 where
   pub seen : List (K × Fetched)
   pub sizes : List Numbered
   pub requests : ℕ
@@ -42,18 +43,20 @@ pub record AgedPassBySize (K : Type 0) : Type 0 where
   pub size : ℕ
   pub greatest : ℕ
   pub idle : Option ℕ
+  pub builder : S
 
-module _ {K : Type 0} where
-  abbrev pub aged_pass_by_size : List (K × Fetched) → List Numbered → ℕ → FetchTable → ℕ → ℕ → Option ℕ → AgedPassBySize K
-  aged_pass_by_size es ss n f a g l = record { seen = es; sizes = ss; requests = n; fetches = f; size = a; greatest = g; idle = l }
+module _ {K S : Type 0} where
+  abbrev pub aged_pass_by_size : List (K × Fetched) → List Numbered → ℕ → FetchTable → ℕ → ℕ → Option ℕ → S → AgedPassBySize K S
+  aged_pass_by_size es ss n f a g l b =
+      record { seen = es; sizes = ss; requests = n; fetches = f; size = a; greatest = g; idle = l; builder = b }
 
-  abbrev pub aged_pass_by_size_code : Coded K → Coded (AgedPassBySize K)
-  aged_pass_by_size_code k =
-      code_by (List (K × Fetched) × (List Numbered × (ℕ × (FetchTable × (ℕ × (ℕ × Option ℕ))))))
+  abbrev pub aged_pass_by_size_code : Coded K → Coded S → Coded (AgedPassBySize K S)
+  aged_pass_by_size_code k s =
+      code_by (List (K × Fetched) × (List Numbered × (ℕ × (FetchTable × (ℕ × (ℕ × (Option ℕ × S)))))))
       (coded× (coded_list (coded× k fetched_code)) (coded× (coded_list numbered_code)
-      (coded× coded_ℕ (coded× fetch_table_code (coded× coded_ℕ (coded× coded_ℕ (coded_option coded_ℕ)))))))
-      (λ p. (p.seen, (p.sizes, (p.requests, (p.fetches, (p.size, (p.greatest, p.idle)))))))
-      (λ t. aged_pass_by_size t.0 t.1.0 t.1.1.0 t.1.1.1.0 t.1.1.1.1.0 t.1.1.1.1.1.0 t.1.1.1.1.1.1) (λ _. refl)
+      (coded× coded_ℕ (coded× fetch_table_code (coded× coded_ℕ (coded× coded_ℕ (coded× (coded_option coded_ℕ) s)))))))
+      (λ p. (p.seen, (p.sizes, (p.requests, (p.fetches, (p.size, (p.greatest, (p.idle, p.builder))))))))
+      (λ t. aged_pass_by_size t.0 t.1.0 t.1.1.0 t.1.1.1.0 t.1.1.1.1.0 t.1.1.1.1.1.0 t.1.1.1.1.1.1.0 t.1.1.1.1.1.1.1) (λ _. refl)
 
 module _ {K : Type 0} (eq : K → K → Bool) where
   -- of requests with the latest first those that miss
@@ -80,7 +83,8 @@ module _ {K : Type 0} (eq : K → K → Bool) where
           → lookup (eq x) (fetches_of (hit_by_size eq weight c) idle (Some age) past) ≡ Some (slice_index ts (s.first + i))
 
   -- a pass with these capacities and limits that has taken these requests, the latest first
-  pub record IsSizedAgedPass (weight : K → ℕ) (capacities : List ℕ) (idle : Option ℕ) (age : ℕ) (past : List (K × ℕ)) (p : AgedPassBySize K) : Type 0 where
+  pub record IsSizedAgedPass {S : Type 0} (weight : K → ℕ) (capacities : List ℕ) (idle : Option ℕ) (age : ℕ) (past : List (K × ℕ))
+      (p : AgedPassBySize K S) : Type 0 where
     pub places : p.fetches.capacities ≡ capacities
     pub idle_limit : p.idle ≡ idle
     pub age_limit : p.fetches.age ≡ age
@@ -98,10 +102,9 @@ module _ {K : Type 0} (eq : K → K → Bool) where
   abbrev pub IsApart : ℕ → ℕ → ℕ → Type 0
   IsApart n a b = (a + n ≤ b) ⊎ (b + n ≤ a)
 
-  -- what holds of every pass, whatever the keys weighed and however they are hashed (0 stands for the builder): each key has times of its
-  -- own, and no number passes that of all requests
-  pub record IsSoundAgedBySize (nodes : List ℕ) (p : AgedPassBySize K) : Type 0 where
-    pub sound : IsSoundBySize eq {S = ℕ} nodes (pass_by_size (positions_of (seens_of p.seen)) p.sizes p.requests [] p.size p.greatest 0)
+  -- what holds of every pass, whatever the keys weighed: each key has times of its own, and no number passes that of all requests
+  pub record IsSoundAgedBySize {S : Type 0} (nodes : List ℕ) (p : AgedPassBySize K S) : Type 0 where
+    pub sound : IsSoundBySize eq nodes (pass_by_size (positions_of (seens_of p.seen)) p.sizes p.requests [] p.size p.greatest p.builder)
     pub misses_length : length p.fetches.misses ≡ length p.fetches.capacities
     pub missed_length : length p.fetches.missed_sizes ≡ length p.fetches.capacities
     pub few : (i : ℕ) → slice_index p.fetches.misses i ≤ p.requests

@@ -34,9 +34,9 @@ impl<K: Eq + Hash + Drop, S: BuildHasher + Drop, A: Allocator + Copy> Drop for A
 impl<K: Eq + Hash, S: BuildHasher, A: Allocator + Copy> Model for AgedPass<K, S, A> {
     ghost use Rattle.clru_curve.specs.SizedAgedPasses.{AgedPassBySize, aged_pass_by_size_code};
 
-    ghost Value = { AgedPassBySize K };
+    ghost Value = { AgedPassBySize K S };
 
-    ghost coded = { aged_pass_by_size_code K.code };
+    ghost coded = { aged_pass_by_size_code K.code S.code };
 
     ghost view = { λ p. p.pass };
 }

@@ -106,9 +106,9 @@ impl<K: Eq + Hash, S: BuildHasher, A: Allocator + Copy> IdlePass<K, S, A> {
     {
         // (reading a field also tells the proof the pass's invariant: some requests were taken)
         let hash = self.seen.hash(&key);
-        match self.again_at(hash, &key, time) {
+        match self.request_again_with_hash(hash, &key, time) {
             Ok(Some(distance)) => Ok(distance),
-            Ok(None) => match self.request_new(hash, key, time) {
+            Ok(None) => match self.request_new_with_hash(hash, key, time) {
                 Ok(()) => Ok(None),
                 Err(key) => Err(key),
             },
@@ -142,11 +142,22 @@ impl<K: Eq + Hash, S: BuildHasher, A: Allocator + Copy> IdlePass<K, S, A> {
             → 0 < length past % 64 → length past + 1 < 2 ^ 64 → IsOk result }
     {
         let hash = self.seen.hash(key);
-        self.again_at(hash, key, time)
+        self.request_again_with_hash(hash, key, time)
     }
 
-    /// `request_again`, with the hash of the key.
-    fn again_at<Q: Equivalent<K>>(
+    /// Returns the hash of a key, by a form of it, for the calls that take one. Every form of the key has it, and the pass keeps its
+    /// hash builder.
+    /// Cost: one hash.
+    pub fn hash<Q: Equivalent<K>>(&self, key: Q) -> u64
+        ensures { result ≡ hash_of Q.Hash S.BuildHasher S.Hasher.Hasher self.now.builder key }
+    {
+        self.seen.hash(key)
+    }
+
+    /// Does what `request_again` does, with the hash of the key, and leaves the hash builder as it was. So `request_new_with_hash`
+    /// may follow with the same hash.
+    /// Cost: that of `request_again` without a hash.
+    pub fn request_again_with_hash<Q: Equivalent<K>>(
         &mut self,
         hash: u64,
         key: Q,
@@ -182,8 +193,12 @@ impl<K: Eq + Hash, S: BuildHasher, A: Allocator + Copy> IdlePass<K, S, A> {
         Ok(Some(count_if(&mut self.histogram, soon, distance)))
     }
 
-    /// Takes one more request, of a key that was not requested before, with its hash.
-    fn request_new(&mut self, hash: u64, key: K, time: usize) -> Result<(), K>
+    /// Takes one more request, at this time, of a key that was not requested before, as `request_again` tells, with its hash. Unlike
+    /// `request` it does not look the key up first.
+    ///
+    /// If memory is refused, or there were `usize::MAX` requests, it returns the key, and the pass is unchanged.
+    /// Cost: that of the same call of a `DistancePass`.
+    pub fn request_new_with_hash(&mut self, hash: u64, key: K, time: usize) -> Result<(), K>
     where
         K: Drop,
         requires hash { hash ≡ hash_of K.Hash S.BuildHasher S.Hasher.Hasher self.old.builder key }

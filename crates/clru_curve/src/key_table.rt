@@ -1,9 +1,12 @@
 //! `KeyTable`: keys with a value each, of which nothing is dropped. A caller hashes a key once for all calls.
-ghost use Rattle.std.specs.Prelude.{◌≡◌, ◌+◌, ◌^◌, ◌<◌, [], ◌∷◌, length, IfErr, OnOk, OnErr, IsNone, IsSome, None};
+ghost use Rattle.std.specs.Prelude.{◌≡◌, ◌+◌, ◌^◌, ◌<◌, [], ◌∷◌, length, IfErr, IfSome, OnOk, OnErr, IsNone, IsSome, None};
 ghost use Rattle.std.specs.Map.{lookup, set_value};
 ghost use Rattle.clru_linked_map.specs.LinkedMap.{hash_of};
+ghost use Rattle.clru_curve.specs.Fetches.{fetched_at};
 ghost use Rattle.clru_curve.specs.KeyTables.{keyed};
 
+use crate::fetches::Fetched;
+use crate::seen::Seen;
 use clru_linked_map::LinkedHashMap;
 use std::alloc::Allocator;
 use std::collections::hash_map::Equivalent;
@@ -103,6 +106,30 @@ impl<K: Eq + Hash, V: Copy, S: BuildHasher, A: Allocator + Copy> KeyTable<K, V, 
         };
         self.map.push_front(hash, key, value);
         Ok(())
+    }
+}
+
+impl<K: Eq + Hash, S: BuildHasher, A: Allocator + Copy> KeyTable<K, Fetched, S, A> {
+    /// Gives the key, whose hash is given, another latest request if it is held, and returns what was noted of it.
+    pub(crate) fn see_again<Q: Equivalent<K>>(
+        &mut self,
+        hash: u64,
+        key: Q,
+        here: Seen,
+    ) -> Option<Fetched>
+        requires hash { hash ≡ hash_of Q.Hash S.BuildHasher S.Hasher.Hasher self.old.builder key }
+        ensures found { result ≡ lookup (Q.equivalent key) self.old.entries }
+        ensures same { IsNone result → self.new ≡ self.old }
+        ensures moved { IfSome result (λ before. self.new
+            ≡ keyed (set_value (Q.equivalent key) self.old.entries (fetched_at here before.first)) self.old.builder) }
+    {
+        match self.map.get_mut(hash, key) {
+            Some(held) => {
+                let first = held.first;
+                Some(mem::replace(held, Fetched { seen: here, first }))
+            }
+            None => None,
+        }
     }
 }
 

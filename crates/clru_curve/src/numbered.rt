@@ -23,13 +23,12 @@ pub(crate) fn place_of(values: &[Numbered], number: usize) -> usize
         return guess;
     }
     let mut first = 0;
-    let mut end = values.len();
-    while end - first > 1 {
-        let middle = first + (end - first) / 2;
-        if values[middle].number <= number {
-            first = middle;
-        } else {
-            end = middle;
+    let mut count = values.len();
+    while count > 1 {
+        let half = count / 2;
+        count -= half;
+        if values[first + half].number <= number {
+            first += half;
         }
     }
     first

@@ -190,6 +190,18 @@ impl<K: Eq + Hash, S: BuildHasher, A: Allocator + Copy> DistancePass<K, S, A> {
             → IfSome result (λ p. p + 1 + length (since K.eq x past) ≡ length past) }
     {
         let hash = self.positions.hash(key);
+        self.latest_request_with_hash(hash, key)
+    }
+
+    /// Does what `latest_request` does, with the hash of the key.
+    /// Cost: a walk along one chain.
+    pub fn latest_request_with_hash<Q: Equivalent<K>>(&self, hash: u64, key: Q) -> Option<usize>
+        requires hash { hash ≡ hash_of Q.Hash S.BuildHasher S.Hasher.Hasher self.now.builder key }
+        ensures known { (past : List K) → IsPass K.eq past self.now
+            → is_some result ≡ list_any (Q.equivalent key) past }
+        ensures position { (past : List K) (x : K) → IsPass K.eq past self.now → IsTrue (Q.equivalent key x)
+            → IfSome result (λ p. p + 1 + length (since K.eq x past) ≡ length past) }
+    {
         self.positions.get(hash, key)
     }
 

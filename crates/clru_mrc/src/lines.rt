@@ -21,7 +21,7 @@ pub(crate) struct Lines {
     after: u64,
     // The sizes of the counted lines together, where each is to begin with one.
     pub(crate) size: u64,
-    // Whether each line is to begin with a size.
+    // Whether each line is to begin with a size, behind its time if it has one.
     have_sizes: bool,
     // Whether each line is to begin with a time.
     have_times: bool,
@@ -143,7 +143,7 @@ impl Lines {
         if !self.have_sizes {
             return;
         }
-        match size_of(&self.begun) {
+        match size_of(sized_part(&self.begun, self.have_times)) {
             Some(size) if self.count > self.after => {
                 self.size = self.size.saturating_add(size.get() as u64);
             }
@@ -153,7 +153,7 @@ impl Lines {
         }
         if let Some(sizes) = &mut self.sizes {
             if !self.is_long {
-                sizes.note(&self.begun);
+                sizes.note(sized_part(&self.begun, self.have_times));
             }
         }
     }
@@ -232,6 +232,17 @@ pub(crate) fn quoted(rt: &HostRuntime, line: &[u8]) -> Result<String, AllocError
     }
     text.push('"')?;
     Ok(text)
+}
+
+/// What is to begin with the size: the line, or what follows its time and a blank.
+pub(crate) fn sized_part(line: &[u8], has_time: bool) -> &[u8] {
+    if !has_time {
+        return line;
+    }
+    match line.iter().position(|byte| *byte == b' ') {
+        Some(at) => line.get(at.saturating_add(1)..).unwrap_or(&[]),
+        None => &[],
+    }
 }
 
 /// What stands where a size should, in words that follow the line.

@@ -11,7 +11,8 @@ mod written;
 use clru_report::{
     Command, Fault, HELP, Options, Refusal, VERSION, command_of, exit_status, run, write_report,
 };
-use split::{budget_of, split_budget};
+use clru_shares::{SplitOptions, split_options_of};
+use split::{Budget, SPLIT_HELP, split_budget};
 use std::env;
 use std::hash::RandomState;
 use std::io::{ErrorKind, IsTerminal};
@@ -24,7 +25,7 @@ use written::Written;
 #[derive(Drop)]
 enum Asked {
     Command(Command),
-    Split(NonZeroUsize),
+    Split(SplitOptions),
 }
 
 fn main(rt: HostRuntime) -> ExitCode {
@@ -32,8 +33,8 @@ fn main(rt: HostRuntime) -> ExitCode {
     let mut progress = rt.stderr().is_terminal();
     match parse_args(&rt, &mut progress) {
         Ok(Asked::Command(command)) => ExitCode::from(run_command(&rt, &command, progress)),
-        Ok(Asked::Split(budget)) => ExitCode::from(match seed_of(&rt) {
-            Some(seed) => split_budget(&rt, budget, seed),
+        Ok(Asked::Split(options)) => ExitCode::from(match seed_of(&rt) {
+            Some(seed) => split_budget(&rt, options, seed),
             None => 4,
         }),
         Err(Refusal::Wrong(line)) => {
@@ -44,12 +45,16 @@ fn main(rt: HostRuntime) -> ExitCode {
     }
 }
 
-// What the arguments ask for. `--progress` asks nothing of the report.
+// What the arguments ask for. `--progress` asks nothing of the report, and `--split` has a budget beside it.
 fn parse_args(rt: &HostRuntime, progress: &mut bool) -> Result<Asked, Refusal> {
     match env::args(rt) {
         Ok(words) => {
             let mut rest = Vec::new(rt.alloc());
+            let mut budget = Budget::new();
             for word in words.skip(1) {
+                if budget.take(rt, word.as_str())? {
+                    continue;
+                }
                 if word.as_str() == "--progress" {
                     *progress = true;
                 } else {
@@ -58,9 +63,10 @@ fn parse_args(rt: &HostRuntime, progress: &mut bool) -> Result<Asked, Refusal> {
                     };
                 }
             }
-            match budget_of(rt, &rest) {
-                Some(budget) => Ok(Asked::Split(budget?)),
-                None => Ok(Asked::Command(command_of(rt.alloc(), &rest)?)),
+            let command = command_of(rt.alloc(), &rest)?;
+            match budget.end(rt)? {
+                Some(budget) => split_asked(rt, budget, command),
+                None => Ok(Asked::Command(command)),
             }
         }
         Err(error) if error.kind() == ErrorKind::OutOfMemory => Err(Refusal::Memory),
@@ -68,11 +74,27 @@ fn parse_args(rt: &HostRuntime, progress: &mut bool) -> Result<Asked, Refusal> {
     }
 }
 
+// Help and version are printed whatever else is asked for.
+fn split_asked(rt: &HostRuntime, budget: NonZeroUsize, command: Command) -> Result<Asked, Refusal> {
+    let Command::Report(options) = &command else {
+        return Ok(Asked::Command(command));
+    };
+    match split_options_of(budget, options) {
+        Ok(options) => Ok(Asked::Split(options)),
+        Err(line) => Err(wrong(rt, line)),
+    }
+}
+
 fn no_text(rt: &HostRuntime) -> Refusal {
-    match String::from_str(
-        rt.alloc(),
+    wrong(
+        rt,
         "an argument is no UTF-8 text: clru_mrc --help names them",
-    ) {
+    )
+}
+
+// The line of a refusal.
+fn wrong(rt: &HostRuntime, line: &str) -> Refusal {
+    match String::from_str(rt.alloc(), line) {
         Ok(line) => Refusal::Wrong(line),
         Err(_) => Refusal::Memory,
     }
@@ -81,7 +103,7 @@ fn no_text(rt: &HostRuntime) -> Refusal {
 // Does it, and gives the exit status.
 fn run_command(rt: &HostRuntime, command: &Command, progress: bool) -> u8 {
     let outcome = match command {
-        Command::Help => write_report(&mut rt.stdout(), HELP.as_bytes()),
+        Command::Help => write_help(rt),
         Command::Version => write_report(&mut rt.stdout(), VERSION.as_bytes()),
         Command::Report(options) => match seed_of(rt) {
             Some(seed) => return run_report(rt, options, progress, seed),
@@ -89,6 +111,12 @@ fn run_command(rt: &HostRuntime, command: &Command, progress: bool) -> u8 {
         },
     };
     report_outcome(rt, &outcome, "")
+}
+
+// The help of reports, and behind it that of splits.
+fn write_help(rt: &HostRuntime) -> Result<(), Fault> {
+    write_report(&mut rt.stdout(), HELP.as_bytes())?;
+    write_report(&mut rt.stdout(), SPLIT_HELP.as_bytes())
 }
 
 // The seed for hashes, or else a line that says that there is none.
@@ -121,6 +149,12 @@ fn run_report(rt: &HostRuntime, options: &Options, progress: bool, seed: RandomS
         None => "",
     };
     match outcome {
+        Err(Fault::NoSize(number)) if options.times.is_some() && options.sizes => {
+            let _ = eprintln!(rt;
+                "clru_mrc: line {number} has no time and size: with --times --sizes each begins with both, as in 1700000000.123 512 /index.html{more}"
+            );
+            exit_status(&outcome)
+        }
         Err(Fault::NoSize(number)) if options.times.is_some() => {
             let _ = eprintln!(rt;
                 "clru_mrc: line {number} has no time: with --times each begins with one and a blank, as in 1700000000.123 /index.html{more}"

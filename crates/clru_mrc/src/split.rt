@@ -1,43 +1,72 @@
 //! One budget for several caches: what follows `--split`, and its run.
 
+use crate::wrong;
 use clru_report::{Fault, Refusal, number_of_word};
-use clru_shares::{SplitFault, run_split, split_status};
-use std::convert::AsStr;
+use clru_shares::{SplitFault, SplitOptions, run_split, split_status};
 use std::hash::RandomState;
 use std::num::NonZeroUsize;
 
-/// The budget that the arguments name, where the first one is `--split`: it is the other one.
-pub(crate) fn budget_of<S: AsStr>(
-    rt: &HostRuntime,
-    words: &[S],
-) -> Option<Result<NonZeroUsize, Refusal>> {
-    let first = words.first()?;
-    if first.as_str() != "--split" {
-        return None;
-    }
-    if words.len() == 2 {
-        if let Some(word) = words.get(1) {
-            if let Some(budget) = number_of_word(word.as_str()) {
-                return Some(Ok(budget));
-            }
+/// What `--help` prints of splits.
+pub(crate) const SPLIT_HELP: &str = "
+    --split N    divides a budget of N keys, or with --sizes of N bytes, among
+                 the classes of the log: each line begins with its class and a
+                 blank, with --sizes then its size and a blank, and is the key
+                 as a whole; the table has a row for each class, with its part,
+                 and one each for this best split, equal parts, and one cache
+                 for all; with --sizes, --json and --svg only; status 6 is then
+                 also a line without a class, or too many classes
+";
+
+/// The budget that the arguments name: the word after `--split`.
+#[derive(Clone, Copy)]
+pub(crate) struct Budget {
+    named: Option<NonZeroUsize>,
+    // The next word names it.
+    is_next: bool,
+}
+
+impl Budget {
+    pub(crate) fn new() -> Budget {
+        Budget {
+            named: None,
+            is_next: false,
         }
     }
-    Some(Err(no_budget(rt)))
+
+    /// Looks at one more word. Returns whether it is `--split`, or the budget. The last one counts.
+    pub(crate) fn take(&mut self, rt: &HostRuntime, word: &str) -> Result<bool, Refusal> {
+        if self.is_next {
+            let Some(budget) = number_of_word(word) else {
+                return Err(no_budget(rt));
+            };
+            self.named = Some(budget);
+            self.is_next = false;
+            return Ok(true);
+        }
+        self.is_next = word == "--split";
+        Ok(self.is_next)
+    }
+
+    /// The words ended. Returns the budget, if there is one.
+    pub(crate) fn end(&self, rt: &HostRuntime) -> Result<Option<NonZeroUsize>, Refusal> {
+        if self.is_next {
+            Err(no_budget(rt))
+        } else {
+            Ok(self.named)
+        }
+    }
 }
 
 fn no_budget(rt: &HostRuntime) -> Refusal {
-    match String::from_str(
-        rt.alloc(),
-        "--split wants a budget in keys, and no other argument: write --split 10000",
-    ) {
-        Ok(line) => Refusal::Wrong(line),
-        Err(_) => Refusal::Memory,
-    }
+    wrong(
+        rt,
+        "--split wants a budget: write --split 10000, or with --sizes --split 2GB",
+    )
 }
 
 /// Writes how the budget is split, and gives the exit status.
-pub(crate) fn split_budget(rt: &HostRuntime, budget: NonZeroUsize, seed: RandomState) -> u8 {
-    let outcome = run_split(rt.alloc(), budget, &mut rt.stdin(), &mut rt.stdout(), seed);
+pub(crate) fn split_budget(rt: &HostRuntime, options: SplitOptions, seed: RandomState) -> u8 {
+    let outcome = run_split(rt.alloc(), options, &mut rt.stdin(), &mut rt.stdout(), seed);
     match &outcome {
         Ok(()) | Err(SplitFault::Other(Fault::Closed)) => {}
         Err(fault) => {

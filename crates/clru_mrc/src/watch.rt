@@ -1,9 +1,9 @@
 //! What standard error says of an input: how far it is read, and why it may be no log.
 
-use crate::lines::{FEW, Lines, instead_of_size, instead_of_time, quoted};
+use crate::lines::{FEW, Lines, instead_of_size, instead_of_time, quoted, sized_part};
 use crate::ratio::has_ratio;
 use crate::written::{LastRow, MILLION};
-use clru_report::{Capacities, Options, Sample};
+use clru_report::{Capacities, Options, Sample, time_of};
 use std::hash::RandomState;
 use std::io::{self, Read};
 use std::time::{Duration, Instant};
@@ -88,6 +88,8 @@ impl<'h, R: Read> Watch<'h, R> {
         if let Some((several, keys)) = self.lines.several_sizes() {
             let without = if options.after.is_some() {
                 "without --after, "
+            } else if options.times.is_some() {
+                "without --times, "
             } else {
                 ""
             };
@@ -208,10 +210,10 @@ impl<'h, R: Read> Watch<'h, R> {
     /// What follows a fault that says that the line of this number has no size, or no time where each is to have one.
     pub(crate) fn say_line(&self, number: usize, options: &Options) -> Option<String> {
         let line = self.lines.without_size(number)?;
-        let words = if options.times.is_some() {
-            instead_of_time(line)
-        } else {
-            instead_of_size(line)
+        let words = match (options.times, time_of(line)) {
+            (None, _) => instead_of_size(line),
+            (Some(_), None) => instead_of_time(line),
+            (Some(_), Some(_)) => instead_of_size(sized_part(line, true)),
         };
         let shown = quoted(self.rt, line).ok()?;
         format!(in self.rt.alloc(); ": it begins {shown}{words}").ok()

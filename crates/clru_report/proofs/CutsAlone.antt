@@ -1,14 +1,16 @@
 -- Where the first requests are not counted, nothing is asked for that is of all.
-use Rattle.std.proofs.Common.{◌≡◌, ℕ, List, Bool, true, false, not, Option, None, Some, refl, ap}
-use Rattle.std.specs.Prelude.{◌&&◌}
+use Rattle.std.proofs.Common.{◌≡◌, ℕ, List, Bool, true, false, not, Option, None, Some, refl, sym, ap, ◌∙◌}
+use Rattle.std.specs.Prelude.{◌&&◌, ◌||◌}
 use Rattle.std.specs.Option.{is_some, option_map}
 use Rattle.std.proofs.lemmas.Bool.{and_parts, or_left, or_right}
 use Rattle.clru_model.proofs.Cases.{split}
-use Rattle.clru_report.specs.Arguments.{AreTimesOf, IsSampleOf, after_goes_together, form_of, forms_go_together, go_together, samples_go_together, times_go_together, wants_all, wants_part}
-use Rattle.clru_report.specs.Choices.{is_of_all, is_summary, is_untimed, is_whole}
+use Rattle.clru_report.specs.Arguments.{AreCapacitiesOf, AreTimesOf, IsSampleOf, after_goes_together, ages_go_together, form_of, forms_go_together, go_together, is_some_of, ratios_go_together, samples_go_together, times_go_together, wants_all, wants_part, wants_ratio}
+use Rattle.clru_report.specs.Choices.{is_aged, is_at_named, is_named, is_of_all, is_picture, is_summary, is_untimed, is_whole}
 use Rattle.clru_report.specs.CommandLine.{Asked}
 use Rattle.clru_report.specs.Refusals.{IsRefusedBy, IsRefusedFor}
 use Rattle.clru_lines.specs.declared.fault.Fault.{Fault}
+use Rattle.clru_report.specs.declared.options.Capacities.{Capacities}
+use Rattle.clru_report.specs.declared.options.Capacities.TheVariants.{Usual, Each, Named, HitRatio, ByteHitRatio}
 use Rattle.clru_report.specs.declared.options.Form.{Form}
 use Rattle.clru_report.specs.declared.options.Options.{Options}
 use Rattle.clru_report.specs.declared.options.Sample.{Sample}
@@ -34,9 +36,15 @@ none_viewed view None = refl
 none_viewed view (Some x) = refl
 
 -- times are asked for if there are limits
-pub asked_for_times : (times : Bool) (idle : Option ℕ) (o : Option Times) → AreTimesOf times idle o → is_some o ≡ true → times ≡ true
-asked_for_times times idle None are some = cc some
-asked_for_times times idle (Some limits) are some = are.0
+pub asked_for_times : (times : Bool) (idle age : Option ℕ) (o : Option Times) → AreTimesOf times idle age o → is_some o ≡ true
+    → times ≡ true
+asked_for_times times idle age None are some = cc some
+asked_for_times times idle age (Some limits) are some = are.0
+
+pub asked_for_age : (times : Bool) (idle age : Option ℕ) (o : Option Times) → AreTimesOf times idle age o → is_aged o ≡ true
+    → is_some age ≡ true
+asked_for_age times idle age None are some = cc some
+asked_for_age times idle age (Some limits) are some = sym (ap is_some are.2) ∙ some
 
 abbrev rest_together : Asked → Bool
 rest_together asked = not (is_some asked.after && wants_part asked) && not (is_some asked.after && asked.one_size)
@@ -85,23 +93,25 @@ pub record AreTogether (asked : Asked) : Type 0 where
   pub samples : samples_go_together asked ≡ true
   pub after : after_goes_together asked ≡ true
   pub times : times_go_together asked ≡ true
+  pub ages : ages_go_together asked ≡ true
 
 pub parts_of : (asked : Asked) → go_together asked ≡ true → AreTogether asked
 parts_of asked together =
     let parts = and_parts (forms_go_together asked) _ together in
     let rest = and_parts (samples_go_together asked) _ parts.1 in
-    let last = and_parts (after_goes_together asked) _ rest.1 in
-    record { forms = parts.0; samples = rest.0; after = last.0; times = last.1 }
+    let more = and_parts (after_goes_together asked) _ rest.1 in
+    let last = and_parts (times_go_together asked) (ages_go_together asked) more.1 in
+    record { forms = parts.0; samples = rest.0; after = more.0; times = last.0; ages = last.1 }
 
 -- beside times nothing is asked for that they do not have
 pub timed_alone : (asked : Asked) → times_go_together asked ≡ true → asked.times ≡ true
-    → is_untimed asked.least asked.floor asked.sizes (is_some asked.after) (form_of asked) ≡ false
+    → is_untimed asked.least asked.floor asked.one_size (is_some asked.after) (form_of asked) ≡ false
 timed_alone asked together some =
     let first = and_parts (not (is_some asked.max_idle && not asked.times)) _ together in
     let second = and_parts (not (asked.times && wants_all asked)) _ first.1 in
-    let third = and_parts (not (asked.times && asked.sizes)) (not (asked.times && is_some asked.after)) second.1 in
+    let third = and_parts (not (asked.times && asked.one_size)) (not (asked.times && is_some asked.after)) second.1 in
     let all : not (wants_all asked) ≡ true = rw some at second.0 in
-    let sizes : not asked.sizes ≡ true = rw some at third.0 in
+    let sizes : not asked.one_size ≡ true = rw some at third.0 in
     let after : not (is_some asked.after) ≡ true = rw some at third.1 in
     split asked.least
     (λ t. absurd (cc (rw t at all)))
@@ -109,11 +119,63 @@ timed_alone asked together some =
     (λ t. absurd (cc (rw (l, t) at all)))
     (λ f. split asked.summary
     (λ t. absurd (cc (rw (l, f, t) at all)))
-    (λ s. split asked.sizes
+    (λ s. split asked.one_size
     (λ t. absurd (cc (rw t at sizes)))
     (λ o. split (is_some asked.after)
     (λ t. absurd (cc (rw t at after)))
     (λ n. rw (l, f, o, n, no_summary asked s) refl)))))
+
+-- so no summary is written of them
+pub timed_rows : (least floor one_size behind : Bool) (form : Form) → is_untimed least floor one_size behind form ≡ false
+    → is_summary form ≡ false
+timed_rows least floor one_size behind form none =
+    split (is_summary form)
+    (λ t. absurd (cc (or_right least _ (or_right floor _ (or_right one_size _ (or_right behind (is_summary form) t))), none)))
+    (λ f. f)
+
+-- beside named capacities no hit ratio is asked for
+no_ratio : (asked : Asked) → forms_go_together asked ≡ true → is_some_of asked.named ≡ true → wants_ratio asked ≡ true → ⊥
+no_ratio asked together some wants =
+    let ratios = and_parts (ratios_go_together asked) _ together in
+    let first = and_parts (not (is_some asked.hit_ratio && is_some asked.byte_hit_ratio)) _ ratios.0 in
+    let second = and_parts (not (wants_ratio asked && (asked.all || is_some_of asked.named))) _ first.1 in
+    let none : not (asked.all || is_some_of asked.named) ≡ true = rw wants at second.0 in
+    cc (rw (or_right asked.all (is_some_of asked.named) some) at none)
+
+-- capacities that are named are no others
+named_alone : {A : Type 0} (asked : Asked) → forms_go_together asked ≡ true → is_some_of asked.named ≡ true
+    → (n : ℕ) (capacities : Capacities A)
+    → AreCapacitiesOf asked.all asked.named asked.hit_ratio asked.byte_hit_ratio n capacities → is_named capacities ≡ true
+named_alone asked together some n Usual are = absurd (cc (rw are.1 at some))
+named_alone asked together some n Each are =
+    let ratios = and_parts (ratios_go_together asked) _ together in
+    absurd (cc (rw (are, some) at (and_parts (not (asked.all && is_some_of asked.named)) _ ratios.1).0))
+named_alone asked together some n (Named named) are = refl
+named_alone asked together some n (HitRatio r) are = absurd (no_ratio asked together some (rw are refl))
+named_alone asked together some n (ByteHitRatio r) are =
+    absurd (no_ratio asked together some (or_right (is_some asked.hit_ratio) (is_some asked.byte_hit_ratio) (rw are refl)))
+
+no_picture : (asked : Asked) → asked.svg ≡ false → is_picture (form_of asked) ≡ false
+no_picture asked none =
+    split asked.summary (λ t. rw t refl) (λ f. rw (f, none) (split asked.json (λ t. rw t refl) (λ g. rw g refl)))
+
+-- beside an age limit a table by keys at named capacities is asked for
+pub named_for_age : {A : Type 0} (asked : Asked) → forms_go_together asked ≡ true → ages_go_together asked ≡ true → is_some asked.max_age ≡ true
+    → (n : ℕ) (capacities : Capacities A)
+    → AreCapacitiesOf asked.all asked.named asked.hit_ratio asked.byte_hit_ratio n capacities
+    → is_at_named asked.sizes capacities (form_of asked) ≡ true
+named_for_age asked forms ages some n capacities are =
+    let first = and_parts (not (is_some asked.max_age && not asked.times)) _ ages in
+    let second = and_parts (not (is_some asked.max_age && not (is_some_of asked.named)))
+    (not (is_some asked.max_age && (asked.svg || asked.sizes))) first.1 in
+    let named : not (not (is_some_of asked.named)) ≡ true = rw some at second.0 in
+    let plain : not (asked.svg || asked.sizes) ≡ true = rw some at second.1 in
+    let are_named = named_alone asked forms (split (is_some_of asked.named) (λ t. t) (λ f. absurd (cc (rw f at named)))) n capacities are in
+    split asked.svg
+    (λ t. absurd (cc (rw t at plain)))
+    (λ s. split asked.sizes
+    (λ t. absurd (cc (rw (s, t) at plain)))
+    (λ o. rw (o, are_named, no_picture asked s) refl))
 
 -- of a whole log the fault is that of all lines
 pub refused_whole : {A : Type 0} (sample : Sample) (fault : Fault) (options : Options A) (lines : List (List ℕ)) → is_whole sample ≡ true

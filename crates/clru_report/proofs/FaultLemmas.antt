@@ -1,14 +1,13 @@
 -- Which fault lines have, and which capacities beside them.
-use Rattle.std.proofs.Common.{◌≡◌, ℕ, ◌+◌, ◌≤◌, ◌^◌, Bool, true, false, cond, nat_le, List, ◌∷◌, Option, None, Some, map, inl, inr, refl, ap, ◌∙◌}
+use Rattle.std.proofs.Common.{◌≡◌, ℕ, ◌+◌, ◌≤◌, ◌^◌, Bool, true, false, cond, ltb-true, nat_le, ◌||◌, List, [], ◌∷◌, Option, None, Some, map, inl, inr, refl, ap, ◌∙◌}
 use Rattle.std.specs.Prelude.{nat_lt}
 use Rattle.std.specs.Int.NonZero.{non_zero_usize_get}
-use Rattle.std.specs.List.{All}
+use Rattle.std.specs.List.{All, list_any}
 use Rattle.std.specs.Option.{is_none, option_or}
 use Rattle.std.proofs.lemmas.Bool.{cases_lt, le-leb, lt-leb, le-ltb, lt-ltb}
 use Rattle.std.proofs.lemmas.List.Elements.{All-weaker}
-use Rattle.std.proofs.lemmas.List.Folds.{list_any_at, list_any_none}
-use Rattle.clru_report.specs.Faults.{is_of_writing}
-use Rattle.clru_report.specs.Passes.{IsOfLines}
+use Rattle.std.proofs.lemmas.List.Folds.{Any-from_list_any, list_any_at, list_any_none}
+use Rattle.clru_report.specs.Choices.{is_summary}
 use Rattle.clru_report.specs.Capacities.{sized_capacities_of}
 use Rattle.clru_report.specs.Faults.{is_of_writing}
 use Rattle.clru_report.specs.Passes.{IsOfLines}
@@ -48,6 +47,10 @@ module _ (number size : ℕ) (line : List ℕ) (rest : List (List ℕ)) where
       | inr large ↦ absurd (fits large)
     ]
 
+pub any_shown : {X : Type 0} (p : ℕ → Bool) (f : X → ℕ) (xs : List X) → list_any (λ x. p (f x)) xs ≡ list_any p (map f xs)
+any_shown p f [] = refl
+any_shown p f (x ∷ xs) = ap (λ b. p (f x) || b) (any_shown p f xs)
+
 module _ {A : Type 0} where
   -- where no capacity is below a number, none is named
   pub none_named : (asked : Capacities A) (m s : ℕ → ℕ) (requests size g d n : ℕ) (table : List ℕ)
@@ -71,6 +74,24 @@ module _ {A : Type 0} where
       let at = is.1 in
       list_any_at (λ c. nat_lt c n) (map non_zero_usize_get named.items) at.0 is.0 at.1
       (ap (λ c. nat_lt c n) at.2 ∙ lt-ltb is.0 n is.2)
+
+  -- and one that is found is named
+  pub named_one : (asked : Capacities A) (n : ℕ) → names_below asked n ≡ true → NamesBelow asked n
+  named_one Usual n is = cc is
+  named_one Each n is = cc is
+  named_one (HitRatio r) n is = cc is
+  named_one (ByteHitRatio r) n is = cc is
+  named_one (Named named) n is =
+      let found = Any-from_list_any (λ c. nat_lt c n) (map non_zero_usize_get named.items) is in
+      (found.1, (found.0, found.2, found.3), ltb-true found.1 n found.4)
+
+  -- capacities of which one is too small have that fault, if the form has capacities
+  pub some_beside : (form : Form) (asked : Capacities A) (n : ℕ) → is_summary form ≡ false → names_below asked n ≡ true
+      → fault_beside form asked n ≡ Some (TooSmall n)
+  some_beside Table asked n rows h = ap (λ b. cond b (Some (TooSmall n)) None) h
+  some_beside Json asked n rows h = ap (λ b. cond b (Some (TooSmall n)) None) h
+  some_beside Picture asked n rows h = ap (λ b. cond b (Some (TooSmall n)) None) h
+  some_beside Summary asked n rows h = cc rows
 
   -- capacities of which none is too small have no fault
   pub none_beside : (form : Form) (asked : Capacities A) (n : ℕ) → names_below asked n ≡ false → fault_beside form asked n ≡ None

@@ -2,6 +2,7 @@ mod AfterLemmas
 mod CapacityLemmas
 mod Choices
 mod CommandLines
+mod CurveNumbers
 mod CutsAlone
 mod FaithfulTables
 mod Falls
@@ -22,11 +23,15 @@ mod RowLaws
 mod RowLemmas
 mod Samples
 pub mod SettledCurves
+mod SettledIdle
 mod SizeViews
 mod SizedAfterLemmas
+mod SizedIdleViews
 mod SizedPieces
 mod SizedReports
 mod SizedSamples
+mod SizedTimedForms
+mod SizedTimedLines
 mod SortedSets
 pub mod TakenLines
 mod TimedForms

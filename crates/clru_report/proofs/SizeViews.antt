@@ -22,7 +22,7 @@ module _ {X Y : Type 0} (eq : Y → Y → Bool) (weight : Y → ℕ) (view : X �
       ∙ ap (λ n. cond (holds (same eq view) x earlier) n (1 + weight (view x) + n)) (total-view earlier)
 
   module _ (c : ℕ) where
-    hit-view : (past : List X) (x : X) → hit_by_size eq weight c (view x) (map view past) ≡ hit_by_size (same eq view) seen c x past
+    pub hit-view : (past : List X) (x : X) → hit_by_size eq weight c (view x) (map view past) ≡ hit_by_size (same eq view) seen c x past
     hit-view past x =
         ap (λ b. b && nat_le (1 + weight (view x) + total eq weight (since eq (view x) (map view past))) c) (holds-map eq view x past)
         ∙ ap (λ n. holds (same eq view) x past && nat_le (1 + weight (view x) + n) c)
@@ -49,7 +49,7 @@ module _ {X Y : Type 0} (eq : Y → Y → Bool) (weight : Y → ℕ) (view : X �
       sum_by-cons (λ y. 1 + weight y) (view x) (map view ks) ∙ ap (λ n. 1 + weight (view x) + n) (size-view ks)
       ∙ sym (sum_by-cons (λ z. 1 + seen z) x ks)
 
-  greatest-view : (ks : List X) → greatest_of weight (map view ks) ≡ greatest_of seen ks
+  pub greatest-view : (ks : List X) → greatest_of weight (map view ks) ≡ greatest_of seen ks
   greatest-view [] = refl
   greatest-view (x ∷ ks) = ap (λ n. cond (nat_lt n (weight (view x))) (weight (view x)) n) (greatest-view ks)
 

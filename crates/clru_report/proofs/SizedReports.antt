@@ -11,8 +11,7 @@ use Rattle.clru_least.specs.FloorNumbers.{size_floor_at}
 use Rattle.clru_model.specs.Floor.{floor_misses}
 use Rattle.clru_model.specs.Requests.{distinct, holds}
 use Rattle.clru_model.specs.Sizes.{total, misses_by_size}
-use Rattle.clru_report.specs.Capacities.{sized_capacities_of, usual_from}
-use Rattle.clru_report.specs.Faithful.{IsFaithful}
+use Rattle.clru_report.specs.Capacities.{sized_capacities_of}
 use Rattle.clru_report.specs.Knees.{knees}
 use Rattle.clru_report.specs.Faults.{is_of_writing}
 use Rattle.clru_report.specs.Passes.{AreFloorsFor, IsOfAsked, IsOfCapacities, IsRowOf, IsTableOf, IsUsualOn, capacities_on, distinct_in, floors_at}
@@ -26,8 +25,9 @@ use Rattle.clru_report.specs.declared.options.Capacities.{Capacities}
 use Rattle.clru_report.specs.declared.options.Options.{Options}
 use Rattle.clru_report.specs.declared.sized.floors.Floors.{Floors}
 use Rattle.clru_report.specs.declared.sized.rows.SizedRow.{SizedRow}
-use Rattle.clru_report.proofs.CapacityLemmas.{none_below, sized-alike, usual_from_some, usual_high}
-use Rattle.clru_report.proofs.FaithfulTables.{faithful_alike, knees_alike, table_from}
+use Rattle.clru_report.proofs.CapacityLemmas.{none_below, usual_high}
+use Rattle.clru_report.proofs.CurveNumbers.{capacities_by, usual_by}
+use Rattle.clru_report.proofs.FaithfulTables.{table_from}
 use Rattle.clru_report.proofs.FaultLemmas.{none_beside, none_named, one_named, told_beside}
 use Rattle.clru_report.proofs.SettledCurves.{bytes_laws, same_weights}
 
@@ -48,24 +48,14 @@ module _ (lines : List (List ℕ)) (curve : CurveBySize) (is : IsSizedCurveOf by
   pub capacities_are : {A : Type 0} (asked : Capacities A) (requests size : ℕ) (table : List ℕ)
       → capacities_on curve asked requests size table
       ≡ sized_capacities_of asked missing (missed_of lines) requests size (greatest_size lines) (distinct_size lines) table
-  capacities_are asked requests size table =
-      sized-alike (misses_within curve) missing (missed_size_within curve) (missed_of lines) is.misses is.missed_size
-      asked requests size (1 + curve.greatest_weight) curve.distinct_size table
-      ∙ ap (λ g. sized_capacities_of asked missing (missed_of lines) requests size g curve.distinct_size table) greatest_is
-      ∙ ap (λ d. sized_capacities_of asked missing (missed_of lines) requests size (greatest_size lines) d table) is.distinct_size
+  capacities_are =
+      capacities_by curve missing (missed_of lines) (greatest_size lines) (distinct_size lines) is.misses is.missed_size greatest_is is.distinct_size
 
   -- the usual table of the curve, and its knees, are those of the lines
   pub usual_is : (whole : ℕ) (table marked : List ℕ) → IsUsualOn curve whole table marked
       → IsSizedUsualTable whole lines table × (marked ≡ knees (missed_of lines) whole table)
-  usual_is whole table marked u =
-      let capacities = usual_from (1 + curve.greatest_weight) curve.distinct_size in
-      let some = usual_from_some (1 + curve.greatest_weight) curve.distinct_size in
-      let usual : capacities ≡ usual_from (greatest_size lines) (distinct_size lines) =
-      ap (λ g. usual_from g curve.distinct_size) greatest_is ∙ ap (usual_from (greatest_size lines)) is.distinct_size in (
-        subst (λ cs. IsFaithful (missed_of lines) whole cs table) usual
-            (faithful_alike (missed_size_within curve) (missed_of lines) (λ c _. is.missed_size c) whole capacities table some u.faithful.added),
-        u.marks ∙ knees_alike (missed_size_within curve) (missed_of lines) (λ c _. is.missed_size c) whole capacities table some u.faithful.added,
-      )
+  usual_is =
+      usual_by curve missing (missed_of lines) (greatest_size lines) (distinct_size lines) is.misses is.missed_size greatest_is is.distinct_size
 
   -- no row of it is below the greatest size
   usual_above : (whole : ℕ) (table marked : List ℕ) → IsUsualOn curve whole table marked

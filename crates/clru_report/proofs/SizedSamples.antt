@@ -1,6 +1,6 @@
 -- Of lines of which some are kept, and of the curve of the kept ones: one more line, and the report.
-use Rattle.std.proofs.Common.{◌≡◌, ℕ, ◌+◌, ◌-◌, ◌^◌, nat_le, Bool, Option, List, [], ◌∷◌, ◌++◌, IsSome, min, length, reverse, ap, ◌∙◌, subst, arith}
-use Rattle.std.specs.Prelude.{bytes_eq}
+use Rattle.std.proofs.Common.{◌≡◌, ℕ, ◌+◌, ◌-◌, ◌/◌, ◌^◌, nat_le, Bool, false, true, Option, List, [], ◌∷◌, ◌++◌, IsSome, map, min, length, reverse, ap, ◌∙◌, subst, arith}
+use Rattle.std.specs.Prelude.{◌&&◌, bytes_eq}
 use Rattle.std.specs.List.{filter}
 use Rattle.std.proofs.lemmas.List.Elements.{All-push, All-weaker}
 use Rattle.std.proofs.lemmas.List.Sums.{sum_by-append, sum_by-cons}
@@ -9,16 +9,19 @@ use Rattle.clru_curve.specs.SizedPasses.{PassBySize}
 use Rattle.clru_least.specs.Reuses.{Reused}
 use Rattle.clru_lines.specs.declared.lines.OwnedKey.{OwnedKey}
 use Rattle.clru_model.specs.Requests.{distinct}
-use Rattle.clru_report.specs.Passes.{AreFloorsFor, AreRowsOf, HasTaken, HasTakenOf, IsRowOf, IsSizedCurveOfKept, capacities_on, distinct_in}
+use Rattle.clru_report.specs.Passes.{AreFloorsFor, AreRowsOf, HasTaken, HasTakenOf, IsRowOf, IsSizedCurveOfKept, capacities_on, distinct_in, has_rows}
+use Rattle.clru_report.specs.SampleTables.{IsSampledTable, IsSampledText}
 use Rattle.clru_report.specs.Samples.{kept_of, times}
-use Rattle.clru_report.specs.SizedReport.{AreSizedRows, IsSizedRow, distinct_size, sized_capacities_of_sample, summary_by_size_of_sample}
-use Rattle.clru_report.specs.SizedTables.{sized_summary_text}
+use Rattle.clru_report.specs.SizedReport.{AreSizedRows, IsInFormBySizeOfSample, IsSizedRow, IsSizedTableOfSample, distinct_size, sized_capacities_of_sample, summary_by_size_of_sample}
+use Rattle.clru_report.specs.SizedTables.{sized_summary_text, sized_table_text}
 use Rattle.clru_report.specs.Sizes.{greatest_size, size_of_line, size_of_lines, weight_of_line}
+use Rattle.clru_report.specs.declared.options.Form.{Form}
+use Rattle.clru_report.specs.declared.options.Form.TheVariants.{Table, Json, Picture, Summary}
 use Rattle.clru_report.specs.declared.options.Options.{Options}
 use Rattle.clru_report.specs.declared.sized.floors.Floors.{Floors}
 use Rattle.clru_report.specs.declared.sized.rows.SizedRow.{SizedRow}
 use Rattle.clru_report.proofs.Samples.{all_kept}
-use Rattle.clru_report.proofs.SizedReports.{capacities_are, distinct_are, greatest_is, row_is}
+use Rattle.clru_report.proofs.SizedReports.{capacities_are, distinct_are, greatest_is, row_is, usual_is}
 
 -- a sample of one in one is the curve of all lines
 pub of_all : (input : List ℕ) (lines : List (List ℕ)) (curve : CurveBySize) (requests size bytes : ℕ)
@@ -47,7 +50,7 @@ counted_more floored n lines line size more pass next reused after of sized sum 
 
 module _ (kept : List (List ℕ)) (curve : CurveBySize) (is : IsSizedCurveOf bytes_eq weight_of_line kept curve) where
   -- the capacities that the curve answers are those at which kept lines have rows
-  pub rows_kept : {A : Type 0} (options : Options A) (floors : Option (Floors A)) (requests size : ℕ) (table : List ℕ) (rows : List SizedRow)
+  rows_kept : {A : Type 0} (options : Options A) (floors : Option (Floors A)) (requests size : ℕ) (table : List ℕ) (rows : List SizedRow)
       → AreFloorsFor options.floor kept floors
       → AreRowsOf curve floors (filter (λ c. nat_le (1 + curve.greatest_weight) c) (capacities_on curve options.capacities requests size table)) rows
       → AreSizedRows kept options.floor (sized_capacities_of_sample options requests size kept table) rows
@@ -57,7 +60,7 @@ module _ (kept : List (List ℕ)) (curve : CurveBySize) (is : IsSizedCurveOf byt
     All-weaker (IsRowOf curve floors) (IsSizedRow kept options.floor) (row_is kept curve is options.floor floors both) rows t.1,
   )
 
-  pub summary_kept : (input text : List ℕ) (n all size bytes : ℕ) → text ≡ sized_summary_text all
+  summary_kept : (input text : List ℕ) (n all size bytes : ℕ) → text ≡ sized_summary_text all
       (times n (2 ^ 64 - 1) (distinct_in curve)) bytes size (times n (2 ^ 64 - 1) curve.distinct_size)
       (min (1 + curve.greatest_weight) curve.distinct_size)
       → bytes ≡ length input → text ≡ summary_by_size_of_sample input n all size kept
@@ -71,3 +74,24 @@ module _ (kept : List (List ℕ)) (curve : CurveBySize) (is : IsSizedCurveOf byt
       (min (1 + curve.greatest_weight) k)) is.distinct_size
       ∙ ap (λ k. sized_summary_text all (times n most (distinct bytes_eq (reverse kept))) (length input) size
       (times n most (distinct_size kept)) (min k (distinct_size kept))) (greatest_is kept curve is)
+
+  -- the text of the curve is that of the kept lines
+  module _ {A : Type 0} (options : Options A) (floors : Option (Floors A)) (n all size : ℕ) where
+    sampled_table : (json : Bool) (text : List ℕ) → AreFloorsFor options.floor kept floors
+        → IsSampledTable curve floors options n all size json text → IsSizedTableOfSample options n all size kept json text
+    sampled_table json text both t =
+        let usual = usual_is kept curve is (size / n) t.table t.marked t.usual in (
+          t.table,
+          t.shown,
+          usual.0,
+          (t.rowed.0, rows_kept options floors (all / n) (size / n) t.table t.rowed.0 both t.rowed.1, t.rowed.2),
+          t.is ∙ ap (λ ks. sized_table_text json options.floor all size (map (times n (2 ^ 64 - 1)) ks) t.shown) usual.1,
+        )
+
+    pub sampled_form : (form : Form) (input text : List ℕ) (bytes : ℕ) → AreFloorsFor (has_rows form && options.floor) kept floors
+        → bytes ≡ length input → IsSampledText curve floors options n all size form bytes text
+        → IsInFormBySizeOfSample options n all size kept form input text
+    sampled_form Table input text bytes both in_bytes t = sampled_table false text both t
+    sampled_form Json input text bytes both in_bytes t = sampled_table true text both t
+    sampled_form Picture input text bytes both in_bytes t = (t.0, sampled_table false t.0 both t.1, t.2)
+    sampled_form Summary input text bytes both in_bytes t = summary_kept input text n all size bytes t in_bytes

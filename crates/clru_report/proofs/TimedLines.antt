@@ -1,10 +1,12 @@
 -- What a pass knows that has taken lines with times: one more line, and the curve.
-use Rattle.std.proofs.Common.{◌≡◌, ℕ, ◌+◌, true, false, cond, List, [], ◌∷◌, ◌++◌, IsNone, IsSome, Some, append-nil, map, length, reverse, refl, sym, ap, ◌∙◌, subst}
+use Rattle.std.proofs.Common.{◌≡◌, ℕ, ◌+◌, true, false, cond, Option, List, [], ◌∷◌, ◌++◌, IsNone, IsSome, Some, append-nil, map, length, reverse, refl, sym, ap, ◌∙◌, subst}
 use Rattle.std.specs.Prelude.{bytes_eq, unwrap_or, IsSomeAnd}
 use Rattle.std.specs.Map.{keys_of}
 use Rattle.std.proofs.lemmas.Grind.{reverse_onto}
 use Rattle.std.proofs.lemmas.List.{map-append, reverse-reverse}
 use Rattle.std.proofs.lemmas.List.Elements.{All-push, filter-append}
+use Rattle.clru_curve.specs.AgedPasses.{IsAgedPass, aged_misses_at}
+use Rattle.clru_curve.specs.SizedAgedPasses.{AgedPassBySize}
 use Rattle.clru_curve.specs.IdlePasses.{HasIdleMissesOf, IsIdlePass, TimedPass}
 use Rattle.clru_lines.specs.declared.lines.OwnedKey.{OwnedKey}
 use Rattle.clru_model.proofs.Views.{distinct-map, map-reverse}
@@ -15,36 +17,36 @@ use Rattle.clru_report.specs.Timed.{IsFirstUntimed}
 use Rattle.clru_report.specs.TimedPasses.{HasTakenRequest, HasTakenRequests, HasTakenTimed, shown_of}
 use Rattle.clru_report.specs.Times.{HaveTimes, kept_requests, request_of, requests_of, rest_of_line, time_of_line}
 use Rattle.clru_report.proofs.TakenLines.{next_of, take_before}
-use Rattle.clru_report.proofs.TimedViews.{idle_misses-view, keys-view}
+use Rattle.clru_report.proofs.TimedViews.{aged_misses-view, idle_misses-view, keys-view}
 
-pub request_taken : {A S : Type 0} (idle : ℕ) (past : List (OwnedKey A × ℕ)) (key : OwnedKey A) (line : List ℕ) (time : ℕ) (next : TimedPass (OwnedKey A) S)
-    → line_of key ≡ line → IsIdlePass same_line idle ((key, time) ∷ past) next → HasTakenRequest idle past line time next
-request_taken idle past key line time next is taken = record { key = key; is = is; taken = taken }
+pub request_taken : {A P : Type 0} (Is : List (OwnedKey A × ℕ) → P → Type 0) (past : List (OwnedKey A × ℕ)) (key : OwnedKey A) (line : List ℕ) (time : ℕ) (next : P)
+    → line_of key ≡ line → Is ((key, time) ∷ past) next → HasTakenRequest Is past line time next
+request_taken Is past key line time next is taken = record { key = key; is = is; taken = taken }
 
 -- the kept requests of one more line
-kept_more : (n : ℕ) (lines : List (List ℕ)) (line : List ℕ) → kept_requests n (requests_of (lines ++ line ∷ []))
+pub kept_more : (n : ℕ) (lines : List (List ℕ)) (line : List ℕ) → kept_requests n (requests_of (lines ++ line ∷ []))
     ≡ kept_requests n (requests_of lines) ++ cond (is_kept n (rest_of_line line)) (request_of line ∷ []) []
 kept_more n lines line =
     ap (kept_requests n) (map-append request_of lines (line ∷ []))
     ∙ filter-append (λ (r : List ℕ × ℕ). is_kept n r.0) (requests_of lines) (request_of line ∷ [])
 
-module _ {A S : Type 0} (n idle : ℕ) (lines : List (List ℕ)) (pass : TimedPass (OwnedKey A) S) (has : HasTakenTimed n idle lines pass)
+module _ {A P : Type 0} (Is : List (OwnedKey A × ℕ) → P → Type 0) (n : ℕ) (lines : List (List ℕ)) (pass : P) (has : HasTakenTimed Is n lines pass)
     (line : List ℕ) (time : ℕ) (timed : time_of_line line ≡ Some time) where
   some_time : IsSome (time_of_line line)
   some_time = rw timed refl
 
   -- a line that is not kept
-  pub timed_skipped : is_kept n (rest_of_line line) ≡ false → HasTakenTimed n idle (lines ++ line ∷ []) pass
+  pub timed_skipped : is_kept n (rest_of_line line) ≡ false → HasTakenTimed Is n (lines ++ line ∷ []) pass
   timed_skipped none = record {
     timed = All-push (λ l. IsSome (time_of_line l)) lines line has.timed some_time;
-    taken = subst (λ rs. HasTakenRequests idle rs pass) (sym (kept_more n lines line
+    taken = subst (λ rs. HasTakenRequests Is rs pass) (sym (kept_more n lines line
         ∙ ap (λ b. kept_requests n (requests_of lines) ++ cond b (request_of line ∷ []) []) none
         ∙ append-nil (kept_requests n (requests_of lines)))) has.taken;
   }
 
   -- one that is
-  pub timed_taken : (next : TimedPass (OwnedKey A) S) → is_kept n (rest_of_line line) ≡ true
-      → HasTakenRequest idle has.taken.past (rest_of_line line) time next → HasTakenTimed n idle (lines ++ line ∷ []) next
+  pub timed_taken : (next : P) → is_kept n (rest_of_line line) ≡ true
+      → HasTakenRequest Is has.taken.past (rest_of_line line) time next → HasTakenTimed Is n (lines ++ line ∷ []) next
   timed_taken next some one = record {
     timed = All-push (λ l. IsSome (time_of_line l)) lines line has.timed some_time;
     taken = record {
@@ -60,7 +62,7 @@ module _ {A S : Type 0} (n idle : ℕ) (lines : List (List ℕ)) (pass : TimedPa
     };
   }
 
-module _ {A S : Type 0} (idle : ℕ) (requests : List (List ℕ × ℕ)) (pass : TimedPass (OwnedKey A) S) (has : HasTakenRequests idle requests pass)
+module _ {A S : Type 0} (idle : ℕ) (requests : List (List ℕ × ℕ)) (pass : TimedPass (OwnedKey A) S) (has : HasTakenRequests (IsIdlePass same_line idle) requests pass)
     (curve : List ℕ) where
   pub idle_taken : ((past : List (OwnedKey A × ℕ)) → IsIdlePass same_line idle past pass → HasIdleMissesOf same_line idle (reverse past) curve)
       → HasIdleMissesOf bytes_eq idle requests curve
@@ -76,6 +78,22 @@ module _ {A S : Type 0} (idle : ℕ) (requests : List (List ℕ × ℕ)) (pass :
       made has.past has.taken ∙ sym (distinct-map bytes_eq line_of (keys_of has.past))
       ∙ ap (distinct bytes_eq) (sym (keys-view bytes_eq line_of has.past) ∙ ap keys_of turned
       ∙ map-reverse (λ (r : List ℕ × ℕ). r.0) requests)
+
+map_alike : (f g : ℕ → ℕ) → ((n : ℕ) → f n ≡ g n) → (ns : List ℕ) → map f ns ≡ map g ns
+map_alike f g same [] = refl
+map_alike f g same (n ∷ ns) = cc (same n, map_alike f g same ns)
+
+-- so many miss at each capacity under an age limit
+pub aged_taken : {A S : Type 0} (capacities : List ℕ) (idle : Option ℕ) (age : ℕ) (requests : List (List ℕ × ℕ))
+    (pass : AgedPassBySize (OwnedKey A) S) (has : HasTakenRequests (IsAgedPass same_line capacities idle age) requests pass) (misses : List ℕ)
+    → ((past : List (OwnedKey A × ℕ)) → IsAgedPass same_line capacities idle age past pass
+    → misses ≡ map (λ k. aged_misses_at same_line idle age k (reverse past)) capacities)
+    → misses ≡ map (λ k. aged_misses_at bytes_eq idle age k requests) capacities
+aged_taken capacities idle age requests pass has misses made =
+    subst (λ rs. misses ≡ map (λ k. aged_misses_at bytes_eq idle age k rs) capacities) has.shown
+    (made has.past has.taken ∙ map_alike (λ k. aged_misses_at same_line idle age k (reverse has.past))
+    (λ k. aged_misses_at bytes_eq idle age k (map shown_of (reverse has.past)))
+    (λ k. sym (aged_misses-view bytes_eq line_of k idle age (reverse has.past))) capacities)
 
 -- after lines with times the next is the first without
 pub first_untimed : (lines rest : List (List ℕ)) (line : List ℕ) (n : ℕ) → HaveTimes lines → n ≡ length lines + 1

@@ -3,6 +3,7 @@ use Rattle.std.proofs.Common.{◌≡◌, ℕ, ◌-◌, Bool, true, false, cond, 
 use Rattle.std.specs.List.{count_by}
 use Rattle.std.specs.Map.{keys_of, lookup}
 use Rattle.std.specs.Option.{option_map_or}
+use Rattle.clru_curve.specs.AgedPasses.{aged_misses_at}
 use Rattle.clru_curve.specs.IdlePasses.{idle_misses}
 use Rattle.clru_model.proofs.Cases.{split}
 use Rattle.clru_model.proofs.Views.{same, distinct-map, holds-map, since-map}
@@ -59,3 +60,9 @@ module _ {X Y : Type 0} (eq : Y → Y → Bool) (view : X → Y) where
     pub idle_misses-view : (idle : ℕ) (rs : List (X × ℕ)) → idle_misses eq idle k (map viewed rs) ≡ idle_misses (same eq view) idle k rs
     idle_misses-view idle rs =
         ap (count_by not) (aged_marks-view (hit eq k) (hit (same eq view) k) (Some idle) None hit-view [] [] rs)
+
+    -- and under an age limit
+    pub aged_misses-view : (idle : Option ℕ) (age : ℕ) (rs : List (X × ℕ))
+        → aged_misses_at eq idle age k (map viewed rs) ≡ aged_misses_at (same eq view) idle age k rs
+    aged_misses-view idle age rs =
+        ap (count_by not) (aged_marks-view (hit eq k) (hit (same eq view) k) idle (Some age) hit-view [] [] rs)

@@ -103,19 +103,25 @@ abbrev pub after_goes_together : Asked → Bool
 after_goes_together asked = not (is_some asked.after && wants_all asked)
     && (not (is_some asked.after && wants_part asked) && not (is_some asked.after && asked.one_size))
 
--- limits need times, and beside these neither what is of all requests is asked for, nor sizes, nor that the first are not counted
+-- limits need times, and beside these neither what is of all requests is asked for, nor one size for each key, nor that the first
+-- are not counted
 abbrev pub times_go_together : Asked → Bool
 times_go_together asked = not (is_some asked.max_idle && not asked.times)
-    && (not (asked.times && wants_all asked) && (not (asked.times && asked.sizes) && not (asked.times && is_some asked.after)))
+    && (not (asked.times && wants_all asked) && (not (asked.times && asked.one_size) && not (asked.times && is_some asked.after)))
+
+-- an age limit needs times and capacities that are named, and beside it neither a picture nor sizes are asked for
+abbrev pub ages_go_together : Asked → Bool
+ages_go_together asked = not (is_some asked.max_age && not asked.times)
+    && (not (is_some asked.max_age && not (is_some_of asked.named)) && not (is_some asked.max_age && (asked.svg || asked.sizes)))
 
 abbrev pub go_together : Asked → Bool
 go_together asked = forms_go_together asked
-    && (samples_go_together asked && (after_goes_together asked && times_go_together asked))
+    && (samples_go_together asked && (after_goes_together asked && (times_go_together asked && ages_go_together asked)))
 
--- lines begin with times, and this is the limit
-abbrev pub AreTimesOf : Bool → Option ℕ → Option Times → Type 0
-AreTimesOf times idle None = times ≡ false
-AreTimesOf times idle (Some limits) = (times ≡ true) × (limits.max_idle ≡ idle)
+-- lines begin with times, and these are the limits
+abbrev pub AreTimesOf : Bool → Option ℕ → Option ℕ → Option Times → Type 0
+AreTimesOf times idle age None = times ≡ false
+AreTimesOf times idle age (Some limits) = (times ≡ true) × (limits.max_idle ≡ idle) × (limits.max_age ≡ age)
 
 module _ {A : Type 0} where
   -- what a draft holds, as numbers and bytes
@@ -142,6 +148,7 @@ module _ {A : Type 0} where
     to = option_map non_zero_usize_get draft.look.to;
     times = draft.times;
     max_idle = draft.max_idle;
+    max_age = draft.max_age;
   }
 
   -- the capacities are all, or those of these numbers for one key in n, or that of a ratio of the hits or of the hit bytes, or the
@@ -171,7 +178,7 @@ module _ {A : Type 0} where
     pub sample : IsSampleOf asked options.sample
     pub after : option_map non_zero_usize_get options.after ≡ asked.after
     pub look : IsLookOf asked options.look
-    pub times : AreTimesOf asked.times asked.max_idle options.times
+    pub times : AreTimesOf asked.times asked.max_idle asked.max_age options.times
     pub capacities : AreCapacitiesOf asked.all asked.named asked.hit_ratio asked.byte_hit_ratio (one_in options.sample) options.capacities
 
   -- a report is asked for, and these are its options

@@ -1,13 +1,15 @@
 -- What the options of a report hold to. Their type cites it.
-use Rattle.std.specs.Prelude.{ℕ, Bool, true, false, not, ◌||◌, List, [], map}
+use Rattle.std.specs.Prelude.{ℕ, Bool, true, false, not, ◌&&◌, ◌||◌, Option, None, Some, List, [], map}
 use Rattle.std.specs.Int.NonZero.{non_zero_usize_get}
 use Rattle.std.specs.List.Sorted.{IsStrictlyIncreasing}
+use Rattle.std.specs.Option.{is_some}
 use Rattle.clru_report.specs.declared.options.Capacities.{Capacities}
 use Rattle.clru_report.specs.declared.options.Capacities.TheVariants.{Usual, Each, Named, HitRatio, ByteHitRatio}
 use Rattle.clru_report.specs.declared.options.Form.{Form}
 use Rattle.clru_report.specs.declared.options.Form.TheVariants.{Table, Json, Picture, Summary}
 use Rattle.clru_report.specs.declared.options.Sample.{Sample}
 use Rattle.clru_report.specs.declared.options.Sample.TheVariants.{Whole, OneIn, Taken}
+use Rattle.clru_report.specs.declared.options.Times.{Times}
 
 -- the capacities that are named
 abbrev pub named_in : {A : Type 0} → Capacities A → List ℕ
@@ -40,4 +42,33 @@ is_of_all least floor sample form = least || (floor || (not (is_whole sample) ||
 
 -- something is asked for that requests with times do not have
 abbrev pub is_untimed : Bool → Bool → Bool → Bool → Form → Bool
-is_untimed least floor sizes behind form = least || (floor || (sizes || (behind || is_summary form)))
+is_untimed least floor one_size behind form = least || (floor || (one_size || (behind || is_summary form)))
+
+-- capacities are named
+abbrev pub is_named : {A : Type 0} → Capacities A → Bool
+is_named Usual = false
+is_named Each = false
+is_named (Named named) = true
+is_named (HitRatio r) = false
+is_named (ByteHitRatio r) = false
+
+abbrev pub is_json : Form → Bool
+is_json Table = false
+is_json Json = true
+is_json Picture = false
+is_json Summary = false
+
+abbrev pub is_picture : Form → Bool
+is_picture Table = false
+is_picture Json = false
+is_picture Picture = true
+is_picture Summary = false
+
+-- entries expire by age
+abbrev pub is_aged : Option Times → Bool
+is_aged None = false
+is_aged (Some limits) = is_some limits.max_age
+
+-- a table by keys is asked for, at capacities that are named
+abbrev pub is_at_named : {A : Type 0} → Bool → Capacities A → Form → Bool
+is_at_named sizes capacities form = not sizes && (is_named capacities && not (is_picture form))

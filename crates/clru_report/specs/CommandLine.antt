@@ -6,7 +6,7 @@ use Rattle.clru_report.specs.Numbers.{number_in}
 use Rattle.clru_report.specs.Ratios.{ratio_in}
 use Rattle.clru_report.specs.Times.{duration_in}
 use Rattle.clru_report.specs.declared.arguments.Value.{Value}
-use Rattle.clru_report.specs.declared.arguments.Value.TheVariants.{Capacities, Sample, Sampled, Requests, After, Title, Unit, From, To, HitRatio, ByteHitRatio, MaxIdle}
+use Rattle.clru_report.specs.declared.arguments.Value.TheVariants.{Capacities, Sample, Sampled, Requests, After, Title, Unit, From, To, HitRatio, ByteHitRatio, MaxIdle, MaxAge}
 
 -- what was asked for so far
 pub record Asked : Type 0 where
@@ -31,6 +31,7 @@ pub record Asked : Type 0 where
   pub to : Option ℕ
   pub times : Bool
   pub max_idle : Option ℕ
+  pub max_age : Option ℕ
 
 -- nothing
 abbrev pub nothing : Asked
@@ -56,6 +57,7 @@ nothing = record {
   to = None;
   times = false;
   max_idle = None;
+  max_age = None;
 }
 
 -- f of a value, if there is one
@@ -87,6 +89,7 @@ with_value_of Unit word asked = Some (record asked { unit = Some word })
 with_value_of From word asked = with_value (λ n. record asked { from = Some n }) (number_in word)
 with_value_of To word asked = with_value (λ n. record asked { to = Some n }) (number_in word)
 with_value_of MaxIdle word asked = with_value (λ t. record asked { max_idle = Some t }) (duration_in word)
+with_value_of MaxAge word asked = with_value (λ t. record asked { max_age = Some t }) (duration_in word)
 
 -- the value that follows an argument, if one does
 abbrev pub value_behind : List ℕ → Option Value
@@ -102,7 +105,8 @@ value_behind word =
     (if bytes_eq word (codes "--unit") then Some Unit else
     (if bytes_eq word (codes "--from") then Some From else
     (if bytes_eq word (codes "--to") then Some To else
-    (if bytes_eq word (codes "--max-idle") then Some MaxIdle else None)))))))))))
+    (if bytes_eq word (codes "--max-idle") then Some MaxIdle else
+    (if bytes_eq word (codes "--max-age") then Some MaxAge else None))))))))))))
 
 -- what is asked for after a flag, if the argument is one
 abbrev pub with_flag : List ℕ → Asked → Option Asked

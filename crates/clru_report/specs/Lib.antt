@@ -20,12 +20,15 @@ pub mod Ratios
 pub mod Refusals
 pub mod Report
 pub mod RowLaws
+pub mod SampleTables
 pub mod Samples
 pub mod Scans
 pub mod SizedAfter
 pub mod SizedAfterPasses
 pub mod SizedReport
 pub mod SizedTables
+pub mod SizedTimed
+pub mod SizedTimedPasses
 pub mod Sizes
 pub mod Tables
 pub mod Timed

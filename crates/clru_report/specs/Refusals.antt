@@ -8,6 +8,7 @@ use Rattle.clru_lines.specs.Lines.{lines_of}
 use Rattle.clru_report.specs.OneSize.{counted_lines}
 use Rattle.clru_report.specs.Sizes.{HaveSizes, greatest_size, size_of_line, size_of_lines}
 use Rattle.clru_report.specs.Timed.{IsUntimed}
+use Rattle.clru_report.specs.Times.{rests_of}
 use Rattle.clru_lines.specs.declared.fault.Fault.{Fault}
 use Rattle.clru_lines.specs.declared.fault.Fault.TheVariants.{BadCapacity, Memory, Reading, Writing, Closed, NoSize, TooLarge, TooSmall}
 use Rattle.clru_report.specs.declared.options.Capacities.{Capacities}
@@ -93,10 +94,15 @@ abbrev pub IsRefusedPlain : {A : Type 0} → Fault → Options A → List ℕ �
 IsRefusedPlain fault options input = (options.sizes ≡ true)
     × IsRefusedBy options.sample fault options (counted_lines options.one_size (lines_of input))
 
--- nor has one whose lines begin with times
+-- nor has one whose lines begin with times, by keys, or by size, where what follows the times begins with sizes
+abbrev pub IsRefusedTimed : {A : Type 0} → Bool → Fault → Options A → List ℕ → Type 0
+IsRefusedTimed false fault options input = IsUntimed fault (lines_of input)
+IsRefusedTimed true fault options input = IsRefusedBy options.sample fault options (rests_of (lines_of input))
+
+-- nor has one whose lines begin with times or not
 abbrev pub IsRefusedUnder : {A : Type 0} → Option Times → Fault → Options A → List ℕ → Type 0
 IsRefusedUnder None fault options input = IsRefusedPlain fault options input
-IsRefusedUnder (Some limits) fault options input = IsUntimed fault (lines_of input)
+IsRefusedUnder (Some limits) fault options input = IsRefusedTimed options.sizes fault options input
 
 -- the input has no report, for the reason that the fault says
 abbrev pub IsRefused : {A : Type 0} → Fault → Options A → List ℕ → Type 0

@@ -15,6 +15,7 @@ use Rattle.clru_report.specs.OneSize.{counted_lines}
 use Rattle.clru_report.specs.Samples.{kept_of, numbers_of, numbers_times, times}
 use Rattle.clru_report.specs.SizedAfter.{IsReportBySizeAfter}
 use Rattle.clru_report.specs.SizedReport.{IsReportBySizeOf}
+use Rattle.clru_report.specs.SizedTimed.{IsTimedReportBySize}
 use Rattle.clru_report.specs.Tables.{HasTable, capacity_of_row, table_text, summary_text}
 use Rattle.clru_report.specs.Timed.{IsTimedReport}
 use Rattle.clru_report.specs.declared.options.Form.{Form}
@@ -127,10 +128,15 @@ IsReportBy true options input text =
     IsReportBySizeFrom (option_map non_zero_usize_get options.after) options input
     (counted_lines options.one_size (lines_of input)) text
 
--- where lines begin with times, under the limits
+-- where lines begin with times, under the limits, by keys, or by size, where sizes follow the times
+abbrev pub IsReportTimed : {A : Type 0} → Bool → Times → Options A → List ℕ → List ℕ → Type 0
+IsReportTimed false limits options input text = IsTimedReport limits options input (lines_of input) text
+IsReportTimed true limits options input text = IsTimedReportBySize limits options (lines_of input) text
+
+-- where lines begin with times or not
 abbrev pub IsReportUnder : {A : Type 0} → Option Times → Options A → List ℕ → List ℕ → Type 0
 IsReportUnder None options input text = IsReportBy options.sizes options input text
-IsReportUnder (Some limits) options input text = IsTimedReport limits options input (lines_of input) text
+IsReportUnder (Some limits) options input text = IsReportTimed options.sizes limits options input text
 
 -- the text that the options ask for, of an input whose lines are the requests
 abbrev pub IsReport : {A : Type 0} → Options A → List ℕ → List ℕ → Type 0

@@ -1,14 +1,16 @@
 -- What is written for lines that begin with times, where entries may expire. The numbers are those of the definitions of requests
 -- with times: no cache is in sight. Public clauses cite it.
-use Rattle.std.specs.Prelude.{◌≡◌, ℕ, ◌+◌, ◌-◌, ◌/◌, ◌^◌, Bool, true, false, List, length, map, reverse, take, IsNone, IsSomeAnd, bytes_eq, unwrap_or}
+use Rattle.std.specs.Prelude.{◌≡◌, ℕ, ◌+◌, ◌-◌, ◌/◌, ◌^◌, Bool, true, false, Option, None, Some, List, [], length, map, reverse, take, IsNone, IsSomeAnd, bytes_eq, unwrap_or}
 use Rattle.std.specs.Int.NonZero.{non_zero_usize_get}
 use Rattle.std.specs.List.{slice_get}
 use Rattle.std.specs.Map.{keys_of}
+use Rattle.clru_curve.specs.AgedPasses.{aged_misses_at}
 use Rattle.clru_curve.specs.IdlePasses.{idle_misses}
 use Rattle.clru_lines.specs.declared.fault.Fault.{Fault}
 use Rattle.clru_lines.specs.declared.fault.Fault.TheVariants.{BadCapacity, Memory, Reading, Writing, Closed, NoSize, TooLarge, TooSmall}
 use Rattle.clru_model.specs.Requests.{distinct}
 use Rattle.clru_report.specs.Capacities.{capacities_of, usual}
+use Rattle.clru_report.specs.Choices.{is_json, named_in}
 use Rattle.clru_report.specs.Faithful.{IsFaithful}
 use Rattle.clru_report.specs.Knees.{knees}
 use Rattle.clru_report.specs.PlainRows.{ArePlainRows}
@@ -83,10 +85,30 @@ IsReportOfKept limits options kept read bytes text =
     IsInFormOn options (misses_under limits kept) (distinct bytes_eq (reverse (keys_of kept))) (part_in options.sample)
     (all_by options.sample read) options.form bytes text
 
+-- how many of the requests miss at a capacity under an age limit as well
+abbrev pub misses_in_age : ℕ → Times → List (List ℕ × ℕ) → ℕ → ℕ
+misses_in_age age limits requests c = aged_misses_at bytes_eq limits.max_idle age c requests
+
+-- the table at the capacities that are named where so many miss at each, of one key in n and so many requests in all: it has no knees
+abbrev pub IsTableAt : {A : Type 0} → Options A → (ℕ → ℕ) → ℕ → ℕ → List ℕ → Type 0
+IsTableAt options m n all text = (rows : List Row) × (shown : List Row) × ArePlainRows m (named_in options.capacities) rows
+    × (map numbers_of shown ≡ map (numbers_times n all) rows)
+    × (text ≡ table_text (is_json options.form) false options.floor all [] shown)
+
+-- the report of these kept requests, by keys, where this is the age limit, if there is one
+abbrev pub IsReportInAge : {A : Type 0} → Option ℕ → Times → Options A → List (List ℕ × ℕ) → ℕ → ℕ → List ℕ → Type 0
+IsReportInAge None limits options kept read bytes text = IsReportOfKept limits options kept read bytes text
+IsReportInAge (Some age) limits options kept read bytes text =
+    IsTableAt options (misses_in_age age limits kept) (part_in options.sample) (all_by options.sample read) text
+
+-- the report of an input whose lines begin with times, by keys, under such an age limit
+abbrev pub IsTimedReportIn : {A : Type 0} → Option ℕ → Times → Options A → List ℕ → List (List ℕ) → List ℕ → Type 0
+IsTimedReportIn age limits options input lines text = HaveTimes lines
+    × IsReportInAge age limits options (kept_requests (kept_in options.sample) (requests_of lines)) (length lines) (length input) text
+
 -- the report of an input whose lines begin with times, by keys
 abbrev pub IsTimedReport : {A : Type 0} → Times → Options A → List ℕ → List (List ℕ) → List ℕ → Type 0
-IsTimedReport limits options input lines text = HaveTimes lines
-    × IsReportOfKept limits options (kept_requests (kept_in options.sample) (requests_of lines)) (length lines) (length input) text
+IsTimedReport limits options input lines text = IsTimedReportIn limits.max_age limits options input lines text
 
 -- the line of this number, counted from 1, is the first that begins with no time
 abbrev pub IsFirstUntimed : ℕ → List (List ℕ) → Type 0

@@ -1,34 +1,35 @@
 -- What a pass over lines with times has taken, and its curve. No public clause cites it.
-use Rattle.std.specs.Prelude.{◌≡◌, ℕ, List, ◌∷◌, length, map, reverse, bytes_eq}
+use Rattle.std.specs.Prelude.{◌≡◌, ℕ, Option, List, ◌∷◌, length, map, reverse, bytes_eq}
 use Rattle.std.specs.Map.{keys_of}
-use Rattle.clru_curve.specs.IdlePasses.{HasIdleMissesOf, IsIdlePass, TimedPass}
+use Rattle.clru_curve.specs.AgedPasses.{aged_misses_at}
+use Rattle.clru_curve.specs.IdlePasses.{HasIdleMissesOf}
 use Rattle.clru_lines.specs.Lines.{lines_of}
 use Rattle.clru_lines.specs.declared.lines.OwnedKey.{OwnedKey}
 use Rattle.clru_model.specs.Requests.{distinct}
-use Rattle.clru_report.specs.Passes.{line_of, same_line}
+use Rattle.clru_report.specs.Passes.{line_of}
 use Rattle.clru_report.specs.Times.{HaveTimes, kept_requests, requests_of}
 
 -- what a request shows
 abbrev pub shown_of : {A : Type 0} → OwnedKey A × ℕ → List ℕ × ℕ
 shown_of r = (line_of r.0, r.1)
 
--- the pass under this limit took these requests
-pub record HasTakenRequests {A S : Type 0} (idle : ℕ) (requests : List (List ℕ × ℕ)) (pass : TimedPass (OwnedKey A) S) : Type 0 where
+-- the pass took these requests, where what it has taken is said in this way
+pub record HasTakenRequests {A P : Type 0} (Is : List (OwnedKey A × ℕ) → P → Type 0) (requests : List (List ℕ × ℕ)) (pass : P) : Type 0 where
   pub past : List (OwnedKey A × ℕ)
   pub shown : map shown_of (reverse past) ≡ requests
-  pub taken : IsIdlePass same_line idle past pass
+  pub taken : Is past pass
 
 -- after these requests the pass took one more, with this key and time
-pub record HasTakenRequest {A S : Type 0} (idle : ℕ) (past : List (OwnedKey A × ℕ)) (line : List ℕ) (time : ℕ)
-    (pass : TimedPass (OwnedKey A) S) : Type 0 where
+pub record HasTakenRequest {A P : Type 0} (Is : List (OwnedKey A × ℕ) → P → Type 0) (past : List (OwnedKey A × ℕ)) (line : List ℕ) (time : ℕ)
+    (pass : P) : Type 0 where
   pub key : OwnedKey A
   pub is : line_of key ≡ line
-  pub taken : IsIdlePass same_line idle ((key, time) ∷ past) pass
+  pub taken : Is ((key, time) ∷ past) pass
 
 -- of lines that begin with times it took those that a sample keeps
-pub record HasTakenTimed {A S : Type 0} (n idle : ℕ) (lines : List (List ℕ)) (pass : TimedPass (OwnedKey A) S) : Type 0 where
+pub record HasTakenTimed {A P : Type 0} (Is : List (OwnedKey A × ℕ) → P → Type 0) (n : ℕ) (lines : List (List ℕ)) (pass : P) : Type 0 where
   pub timed : HaveTimes lines
-  pub taken : HasTakenRequests idle (kept_requests n (requests_of lines)) pass
+  pub taken : HasTakenRequests Is (kept_requests n (requests_of lines)) pass
 
 -- the curve of the lines of an input that a sample keeps, with the number of all lines and that of the bytes
 pub record IsTimedCurveOf (n idle : ℕ) (input : List ℕ) (curve : List ℕ) (requests bytes : ℕ) : Type 0 where
@@ -37,3 +38,10 @@ pub record IsTimedCurveOf (n idle : ℕ) (input : List ℕ) (curve : List ℕ) (
   pub distinct_keys : length curve ≡ distinct bytes_eq (reverse (keys_of (kept_requests n (requests_of (lines_of input)))))
   pub counted : requests ≡ length (lines_of input)
   pub in_bytes : bytes ≡ length input
+
+-- the misses at these capacities under these limits of the lines of an input that a sample keeps, with the number of all lines
+pub record AreTimedMissesOf (n : ℕ) (capacities : List ℕ) (idle : Option ℕ) (age : ℕ) (input : List ℕ)
+    (misses : List ℕ) (requests : ℕ) : Type 0 where
+  pub timed : HaveTimes (lines_of input)
+  pub each : misses ≡ map (λ c. aged_misses_at bytes_eq idle age c (kept_requests n (requests_of (lines_of input)))) capacities
+  pub counted : requests ≡ length (lines_of input)

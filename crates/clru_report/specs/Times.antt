@@ -51,6 +51,10 @@ rest_behind line (Some time) = drop (unwrap_or (position (λ b. b == 32) line) 0
 abbrev pub rest_of_line : List ℕ → List ℕ
 rest_of_line line = rest_behind line (time_of_line line)
 
+-- what follows the times of lines
+abbrev pub rests_of : List (List ℕ) → List (List ℕ)
+rests_of lines = map rest_of_line lines
+
 -- the request of a line, with its time
 abbrev pub request_of : List ℕ → List ℕ × ℕ
 request_of line = (rest_of_line line, unwrap_or (time_of_line line) 0)
@@ -71,9 +75,19 @@ span_named unit =
     (if bytes_eq unit (codes "h") then Some 3600 else
     (if bytes_eq unit (codes "d") then Some 86400 else None))))
 
--- so many times a time
+-- so many units of that many millionths and their decimals; what is less than a millionth is cut off
+abbrev pub decimal_span : ℕ → List ℕ → List ℕ → Option ℕ
+decimal_span unit whole decimals = option_and_then (λ n. option_and_then (λ part.
+    in_time (n * unit + part * unit / 10 ^ length decimals)) (digits_named decimals)) (digits_named whole)
+
+-- figures whose first point stands there, if they have one
+abbrev pub span_at : ℕ → List ℕ → Option ℕ → Option ℕ
+span_at unit figures None = option_and_then (λ n. in_time (n * unit)) (digits_named figures)
+span_at unit figures (Some at) = decimal_span unit (take at figures) (drop (at + 1) figures)
+
+-- so many times that many seconds, in millionths
 abbrev pub times_span : List ℕ → ℕ → Option ℕ
-times_span figures span = option_and_then (λ t. in_time (t * span)) (time_in figures)
+times_span figures span = span_at (span * 10 ^ 6) figures (position (λ b. b == 46) figures)
 
 -- how long a time the word names, without the blanks around it
 abbrev pub duration_in : List ℕ → Option ℕ

@@ -2,18 +2,21 @@
 ghost use Rattle.std.specs.Prelude.{◌≡◌, ◌<◌, ◌≤◌, ◌++◌, ◌==◌, true, false, None, Some, IfErr, IfOk, IsSomeAnd, [], ◌∷◌, length, map, OnOk, string_bytes};
 ghost use Rattle.std.specs.Int.NonZero.{non_zero_usize_get};
 ghost use Rattle.std.specs.List.{slice_split};
-ghost use Rattle.std.specs.Option.{is_none, option_map};
-ghost use Rattle.clru_report.specs.Arguments.{after_goes_together, AreCapacitiesOf, AreTimesOf, asked_by, form_of as form_by, forms_go_together, go_together, is_half_told, is_wrong, IsAskedFor, IsRefusedLine, IsSampleOf, IsSortedSet, one_in as one_in_by, part_of, samples_go_together, reading_after, wants_all, wants_look, wants_more, wants_part, wants_rows, wants_two, ratios_go_together, wants_ratio, times_go_together};
+ghost use Rattle.std.specs.Option.{option_map};
+ghost use Rattle.clru_report.specs.Arguments.{AreCapacitiesOf, AreTimesOf, asked_by, form_of as form_by, go_together, is_wrong, IsAskedFor, IsRefusedLine, IsSampleOf, IsSortedSet, one_in as one_in_by, part_of, reading_after};
 ghost use Rattle.clru_report.specs.Choices.{AreAscending};
 ghost use Rattle.clru_report.specs.CommandLine.{numbers_and, read_all, read_word, value_behind, with_argument, with_flag, with_value_of, asks, nothing, wrong as is_not_read};
 ghost use Rattle.clru_report.specs.Numbers.{number_in};
 ghost use Rattle.clru_report.specs.Ratios.{ratio_in};
 ghost use Rattle.clru_report.specs.Times.{duration_in};
 
+mod conflicts;
+
 use crate::numbers::number_of_word;
 use crate::options::{Capacities, Form, Look, Options, Sample, Times};
 use crate::ratio::{Billionths, ratio_of_word};
 use crate::timed::duration_of_word;
+use conflicts::conflict_in;
 use std::alloc::{Allocator, Global};
 use std::convert::AsStr;
 use std::num::NonZeroUsize;
@@ -59,6 +62,7 @@ struct Draft<A: Allocator> {
     look: Look<A>,
     times: bool,
     max_idle: Option<usize>,
+    max_age: Option<usize>,
 }
 
 // What follows an argument.
@@ -76,6 +80,7 @@ enum Value {
     From,
     To,
     MaxIdle,
+    MaxAge,
 }
 
 // What one word leads to.
@@ -140,6 +145,7 @@ fn draft_of<A: Allocator + Copy>(alloc: A) -> Draft<A>
         },
         times: false,
         max_idle: None,
+        max_age: None,
     }
 }
 
@@ -221,6 +227,7 @@ fn value_of(word: &str) -> Option<Value>
         "--from" => Some(Value::From),
         "--to" => Some(Value::To),
         "--max-idle" => Some(Value::MaxIdle),
+        "--max-age" => Some(Value::MaxAge),
         _ => None,
     }
 }
@@ -268,6 +275,7 @@ fn take_value<A: Allocator + Copy>(
         Value::From => draft.look.from = Some(number_named(alloc, value, word)?),
         Value::To => draft.look.to = Some(number_named(alloc, value, word)?),
         Value::MaxIdle => draft.max_idle = Some(duration_named(alloc, value, word)?),
+        Value::MaxAge => draft.max_age = Some(duration_named(alloc, value, word)?),
     }
     Ok(())
 }
@@ -340,6 +348,7 @@ fn no_value(value: Value) -> &'static str {
         }
         Value::From | Value::To => { "--from and --to want a capacity: write --from 1000 --to 1M" }
         Value::MaxIdle => "--max-idle wants a time: write --max-idle 10m",
+        Value::MaxAge => "--max-age wants a time: write --max-age 1h",
     }
 }
 
@@ -412,6 +421,7 @@ fn finish<A: Allocator + Copy>(alloc: A, draft: Draft<A>) -> Result<Command<A>, 
         look,
         times,
         max_idle,
+        max_age,
     } = draft;
     Ok(Command::Report(Options {
         capacities: capacities_of(named, all, hit_ratio, byte_hit_ratio, sample),
@@ -423,16 +433,16 @@ fn finish<A: Allocator + Copy>(alloc: A, draft: Draft<A>) -> Result<Command<A>, 
         after,
         form,
         look,
-        times: times_of(times, max_idle),
+        times: times_of(times, max_idle, max_age),
     }))
 }
 
 // How lines begin with times, if they do.
-fn times_of(times: bool, max_idle: Option<usize>) -> Option<Times>
-    ensures { AreTimesOf times max_idle result }
+fn times_of(times: bool, max_idle: Option<usize>, max_age: Option<usize>) -> Option<Times>
+    ensures { AreTimesOf times max_idle max_age result }
 {
     if times {
-        Some(Times { max_idle })
+        Some(Times { max_idle, max_age })
     } else {
         None
     }
@@ -526,188 +536,6 @@ fn sample_of<A: Allocator>(draft: &Draft<A>) -> Sample
         }
     }
     Sample::Whole
-}
-
-// Which arguments do not go together, if any do not.
-fn conflict_in<A: Allocator>(draft: &Draft<A>) -> Option<&'static str>
-    ensures { is_none result ≡ go_together (asked_by draft.now) }
-{
-    if let Some(line) = conflict_of(draft) {
-        return Some(line);
-    }
-    if let Some(line) = conflict_of_sample(draft) {
-        return Some(line);
-    }
-    if let Some(line) = conflict_of_after(draft) {
-        return Some(line);
-    }
-    conflict_of_times(draft)
-}
-
-// Which arguments do not go with a hit ratio.
-fn conflict_of_ratio<A: Allocator>(draft: &Draft<A>) -> Option<&'static str>
-    ensures { is_none result ≡ ratios_go_together (asked_by draft.now) }
-{
-    if draft.hit_ratio.is_some() && draft.byte_hit_ratio.is_some() {
-        return Some("--hit-ratio and --byte-hit-ratio do not go together: leave one out");
-    }
-    if asks_for_ratio(draft) && (draft.all || !draft.named.is_empty()) {
-        return Some(
-            "a hit ratio asks for one capacity, so it goes with neither --at nor --all: leave one out",
-        );
-    }
-    if draft.byte_hit_ratio.is_some() && !draft.sizes {
-        return Some(
-            "--byte-hit-ratio counts bytes: write --sizes as well, and a size before each key",
-        );
-    }
-    None
-}
-
-fn asks_for_ratio<A: Allocator>(draft: &Draft<A>) -> bool
-    ensures { result ≡ wants_ratio (asked_by draft.now) }
-{
-    draft.hit_ratio.is_some() || draft.byte_hit_ratio.is_some()
-}
-
-// Which arguments do not go together, those of a sample aside.
-fn conflict_of<A: Allocator>(draft: &Draft<A>) -> Option<&'static str>
-    ensures { is_none result ≡ forms_go_together (asked_by draft.now) }
-{
-    if let Some(line) = conflict_of_ratio(draft) {
-        return Some(line);
-    }
-    if draft.all && !draft.named.is_empty() {
-        return Some("--all and --at do not go together: leave one out");
-    }
-    if draft.summary && asks_for_rows(draft) {
-        return Some(
-            "--summary goes alone, or with --sizes or a sample: leave the other arguments out",
-        );
-    }
-    if draft.sizes && draft.least {
-        return Some(
-            "--least and --sizes do not go together: the least in bytes is too hard to compute, so leave one out",
-        );
-    }
-    if draft.json && draft.svg {
-        return Some("--json and --svg do not go together: leave one out");
-    }
-    if draft.one_size && !draft.sizes {
-        return Some("--one-size is of sizes: write --sizes as well");
-    }
-    if asks_for_look(draft) && !draft.svg {
-        return Some("--title, --unit, --from and --to are of a picture: write --svg as well");
-    }
-    None
-}
-
-fn conflict_of_sample<A: Allocator>(draft: &Draft<A>) -> Option<&'static str>
-    ensures { is_none result ≡ samples_go_together (asked_by draft.now) }
-{
-    if asks_for_two(draft) {
-        return Some("--sample and --sampled do not go together: leave one out");
-    }
-    if tells_half(draft) {
-        return Some(
-            "--sampled and --requests go together: write how many requests there were in all",
-        );
-    }
-    if asks_for_more(draft) {
-        return Some("a sample does not go with --least: take the whole log for it");
-    }
-    None
-}
-
-fn conflict_of_after<A: Allocator>(draft: &Draft<A>) -> Option<&'static str>
-    ensures { is_none result ≡ after_goes_together (asked_by draft.now) }
-{
-    if draft.after.is_some() && asks_for_all(draft) {
-        return Some(
-            "--after does not go with --least, --floor or --summary: these are of all requests, so leave one out",
-        );
-    }
-    if draft.after.is_some() && asks_for_part(draft) {
-        return Some("--after does not go with a sample: take the whole log for it");
-    }
-    if draft.after.is_some() && draft.one_size {
-        return Some("--after and --one-size do not go together: leave one out");
-    }
-    None
-}
-
-fn conflict_of_times<A: Allocator>(draft: &Draft<A>) -> Option<&'static str>
-    ensures { is_none result ≡ times_go_together (asked_by draft.now) }
-{
-    if draft.max_idle.is_some() && !draft.times {
-        return Some("--max-idle is of times: write --times as well, and a time before each key");
-    }
-    if draft.times && asks_for_all(draft) {
-        return Some(
-            "--times does not go with --least, --floor or --summary: these know no times, so leave one out",
-        );
-    }
-    if draft.times && draft.sizes {
-        return Some("--times counts keys alone, so it does not go with --sizes: leave one out");
-    }
-    if draft.times && draft.after.is_some() {
-        return Some("--times and --after do not go together: leave one out");
-    }
-    None
-}
-
-// Whether something is asked for that is of all requests.
-fn asks_for_all<A: Allocator>(draft: &Draft<A>) -> bool
-    ensures { result ≡ wants_all (asked_by draft.now) }
-{
-    draft.least || draft.floor || draft.summary
-}
-
-fn asks_for_part<A: Allocator>(draft: &Draft<A>) -> bool
-    ensures { result ≡ wants_part (asked_by draft.now) }
-{
-    draft.sample.is_some() || draft.sampled.is_some()
-}
-
-fn asks_for_two<A: Allocator>(draft: &Draft<A>) -> bool
-    ensures { result ≡ wants_two (asked_by draft.now) }
-{
-    draft.sample.is_some() && draft.sampled.is_some()
-}
-
-// Of a sample that was taken before it has to be said of how many requests, and of no other one.
-fn tells_half<A: Allocator>(draft: &Draft<A>) -> bool
-    ensures { result ≡ is_half_told (asked_by draft.now) }
-{
-    (draft.sampled.is_some() && draft.requests.is_none())
-        || (draft.requests.is_some() && draft.sampled.is_none())
-}
-
-// Whether something is asked for that no sample has.
-fn asks_for_more<A: Allocator>(draft: &Draft<A>) -> bool
-    ensures { result ≡ wants_more (asked_by draft.now) }
-{
-    (draft.sample.is_some() || draft.sampled.is_some()) && draft.least
-}
-
-fn asks_for_look<A: Allocator>(draft: &Draft<A>) -> bool
-    ensures { result ≡ wants_look (asked_by draft.now) }
-{
-    let look = &draft.look;
-    look.title.is_some() || look.unit.is_some() || look.from.is_some() || look.to.is_some()
-}
-
-// Whether something is asked for that no summary has.
-fn asks_for_rows<A: Allocator>(draft: &Draft<A>) -> bool
-    ensures { result ≡ wants_rows (asked_by draft.now) }
-{
-    draft.all
-        || !draft.named.is_empty()
-        || draft.least
-        || draft.floor
-        || draft.svg
-        || draft.json
-        || asks_for_ratio(draft)
 }
 
 fn wrong<A: Allocator + Copy>(alloc: A, line: &str) -> Refusal<A> {

@@ -40,12 +40,15 @@ are shown. Between the usual rows you may interpolate.
     --after N    the first N requests fill the cache and are not counted: misses
                  and ratios are those of the other requests; not with --least,
                  --floor, --one-size, --summary or a sample
-    --times      each line begins with a time and a blank, before its key: a
-                 number, with decimals if need be; not with --sizes, --least,
-                 --floor, --after or --summary
+    --times      each line begins with a time and a blank, before its size (with
+                 --sizes) and key: a number, with decimals if need be; not with
+                 --one-size, --least, --floor, --after or --summary
     --max-idle T with --times: entries expire when they were not requested for
                  longer than T, so that their next request misses; T is in the
                  unit of the times, or if that is the second 30s, 10m, 1.5h, 7d
+    --max-age T  with --times and --at: entries expire T after their fetch, so
+                 that their next request misses and fetches them anew; not with
+                 --svg or --sizes
     --json       the table as JSON: an object a line, by the columns' names
     --svg        a picture instead of the table; with --sizes it has a line
                  for the bytes too
@@ -61,11 +64,6 @@ are shown. Between the usual rows you may interpolate.
                  the greatest size in the sample on
     --sampled N --requests M
                  the input is already a sample of one key in N, of M requests
-    --split N    divides a budget of N keys among the classes of the log: each
-                 line begins with its class and a blank, and is the key as a
-                 whole; the table has a row for each class, with its part, and
-                 one each for this best split, equal parts, and one cache for
-                 all; these two are then the only arguments
     --progress   shows on standard error once a second how far the input is
                  read, as on a terminal
     -h, --help; -V, --version
@@ -73,9 +71,9 @@ are shown. Between the usual rows you may interpolate.
 Lines are hashed with a seed from the system, which changes no result.
 
 Status: 0 done, 2 wrong arguments or a capacity below the greatest size, 3 no
-memory, 4 input or seed not read, 5 output not written, 6 a line without a size,
-a time or a class, sizes that are too large together or too many classes. A
-fault is one line on standard error, and so is a warning about the input.
+memory, 4 input or seed not read, 5 output not written, 6 a line without a size
+or a time, or sizes that are too large together. A fault is one line on standard
+error, and so is a warning about the input.
 ";
 
 /// The name of the program and its version, with a newline.

@@ -45,6 +45,7 @@ pub use numbers::number_of_word;
 pub use options::{Capacities, Form, Look, Options, Sample, Times};
 pub use output::write_report;
 pub use pass::take_key;
+pub use picture::STYLE;
 pub use program::run;
 pub use ratio::Billionths;
 pub use report::make_report;

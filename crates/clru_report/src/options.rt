@@ -1,7 +1,7 @@
 //! What a report is asked to have.
 ghost use Rattle.std.specs.Prelude.{◌≡◌, true, false};
 ghost use Rattle.std.specs.Option.{is_some};
-ghost use Rattle.clru_report.specs.Choices.{AreAscending, is_of_all, is_untimed, is_whole};
+ghost use Rattle.clru_report.specs.Choices.{AreAscending, is_aged, is_at_named, is_of_all, is_untimed, is_whole};
 
 use crate::ratio::Billionths;
 use std::alloc::{Allocator, Global};
@@ -53,8 +53,12 @@ pub enum Sample {
 #[derive(Clone, Copy, Debug, PartialEq, Eq)]
 pub struct Times {
     /// The greatest idle time, in millionths of the unit of the times: the time since the latest request of a key, after which
-    /// its next request misses at every capacity. Without it entries do not expire.
+    /// its next request misses at every capacity. Without it entries do not expire when idle.
     pub max_idle: Option<usize>,
+
+    /// The greatest age, in the same unit: the time since the latest miss of a key at a capacity, after which its next request misses
+    /// there. It goes with a table by keys at named capacities alone, whose column `knee` is 0.
+    pub max_age: Option<usize>,
 }
 
 /// How a picture looks, beside what it shows.
@@ -105,8 +109,8 @@ pub struct Options<A: Allocator = Global> {
 
     pub look: Look<A>,
 
-    /// Whether each line begins with a time and a blank, before its key, and when entries expire. It goes with neither the least nor
-    /// a floor, sizes, a summary, or first requests that are not counted.
+    /// Whether each line begins with a time and a blank, before its size, if it has one, and its key, and when entries expire. It
+    /// goes with neither the least nor a floor, one size for each key, a summary, or first requests that are not counted.
     pub times: Option<Times>,
 
     // The least possible misses are those of all requests, by keys.
@@ -119,7 +123,10 @@ pub struct Options<A: Allocator = Global> {
     ghost after_sizes: { is_some after ≡ true → one_size ≡ false },
 
     // Of requests with times all are counted, and only their misses are known.
-    ghost timed: { is_some times ≡ true → is_untimed least floor sizes (is_some after) form ≡ false },
+    ghost timed: { is_some times ≡ true → is_untimed least floor one_size (is_some after) form ≡ false },
+
+    // Where entries expire by age, misses are known at capacities alone that are named before, and by keys.
+    ghost aged: { is_aged times ≡ true → is_at_named sizes capacities form ≡ true },
 
     ghost ascending: { AreAscending capacities },
 }

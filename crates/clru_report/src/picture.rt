@@ -27,7 +27,7 @@ use plot::{Line, Plot};
 use scale::Scale;
 use std::alloc::{AllocError, Allocator};
 use std::fmt::{self, Write};
-use style::STYLE;
+pub use style::STYLE;
 
 /// The picture, with the table in its description.
 pub(crate) fn picture_of<A: Allocator + Copy>(

@@ -3,20 +3,21 @@ ghost use Rattle.std.specs.Prelude.{◌≡◌, true, false, IfErr, IfOk, string_
 ghost use Rattle.std.specs.Int.NonZero.{non_zero_usize_get};
 ghost use Rattle.std.specs.Option.{option_map};
 ghost use Rattle.clru_lines.specs.Whole.{ReadWhole};
+ghost use Rattle.clru_report.specs.Choices.{is_summary};
 ghost use Rattle.clru_report.specs.Faults.{is_of_writing};
 ghost use Rattle.clru_report.specs.Passes.{wants_floor, wants_least};
-ghost use Rattle.clru_report.specs.Refusals.{is_of_input, IsRefused, IsRefusedPlain};
-ghost use Rattle.clru_report.specs.Report.{IsInForm, IsReport, IsReportBy, IsReportByKeys, IsReportByKeysFrom};
+ghost use Rattle.clru_report.specs.Refusals.{is_of_input, IsRefused, IsRefusedPlain, IsRefusedTimed};
+ghost use Rattle.clru_report.specs.Report.{IsInForm, IsReport, IsReportBy, IsReportByKeys, IsReportByKeysFrom, IsReportTimed};
 
 use crate::after::report_after;
 use crate::fault::read_fault;
-use crate::options::{Form, Options, Sample};
+use crate::options::{Form, Options, Sample, Times};
 use crate::pass::curve_by_keys;
 use crate::rows::{rows_of_all, usual_table};
 use crate::sample::text_of_sample;
 use crate::sized::make_sized_report;
 use crate::text::{Counts, text_by_keys};
-use crate::timed::make_timed_report;
+use crate::timed::{make_sized_timed_report, make_timed_report};
 use clru_lines::{Fault, ReadError};
 use std::alloc::Allocator;
 use std::hash::BuildHasher;
@@ -39,7 +40,7 @@ pub fn make_report<R: Read, S: BuildHasher + Copy, A: Allocator + Copy>(
 {
     match options.times {
         None => report_without_times(alloc, options, reader, hash_builder),
-        Some(limits) => make_timed_report(alloc, options, limits, reader, hash_builder),
+        Some(limits) => report_with_times(alloc, options, limits, reader, hash_builder),
     }
 }
 
@@ -63,6 +64,28 @@ fn report_without_times<R: Read, S: BuildHasher + Copy, A: Allocator + Copy>(
         Ok(text) => Ok(text),
         Err(error) => Err(read_fault(error)),
     }
+}
+
+// Of lines that begin with times.
+fn report_with_times<R: Read, S: BuildHasher + Copy, A: Allocator + Copy>(
+    alloc: A,
+    options: &Options<A>,
+    limits: Times,
+    reader: &mut R,
+    hash_builder: S,
+) -> Result<String<A>, Fault>
+    requires { is_summary options.now.form ≡ false }
+    ensures report { IfOk result (λ text. ReadWhole (R.remaining reader.old) (R.remaining reader.new)
+        (λ input. IsReportTimed options.now.sizes limits options.now input (string_bytes text))) }
+    ensures refused { IfErr result (λ fault. is_of_input fault ≡ true
+        → ReadWhole (R.remaining reader.old) (R.remaining reader.new)
+        (λ input. IsRefusedTimed options.now.sizes fault options.now input)) }
+    ensures fault { IfErr result (λ fault. is_of_writing fault ≡ false) }
+{
+    if !options.sizes {
+        return make_timed_report(alloc, options, limits, reader, hash_builder);
+    }
+    make_sized_timed_report(alloc, options, limits, reader, hash_builder)
 }
 
 // By keys.

@@ -39,9 +39,9 @@ use clru_lines::Fault;
 pub(crate) use floors::Floors;
 pub use line::size_of;
 use one_size::curve_of_counted;
+pub(crate) use pass::count_line;
 use rows::sized_rows_for;
-pub(crate) use sample::Totals;
-use sample::text_of_sized_sample;
+pub(crate) use sample::{Totals, text_of_sized_sample};
 use std::alloc::Allocator;
 use std::hash::BuildHasher;
 use std::io::Read;
@@ -130,7 +130,8 @@ fn sized_report_of_sample<R: Read, S: BuildHasher + Copy, A: Allocator + Copy>(
         requests,
         size,
     };
-    match text_of_sized_sample(alloc, options, &curve, &floors, totals, bytes) {
+    let distinct = distinct_of(&curve);
+    match text_of_sized_sample(alloc, options, &curve, &floors, totals, distinct, bytes) {
         Ok(text) => Ok(text),
         Err(_) => Err(Fault::Memory),
     }
@@ -166,7 +167,8 @@ fn sized_report_of_sampled<R: Read, S: BuildHasher + Copy, A: Allocator + Copy>(
         requests,
         size: times(one_in, usize::MAX, size),
     };
-    match text_of_sized_sample(alloc, options, &curve, &floors, totals, bytes) {
+    let distinct = distinct_of(&curve);
+    match text_of_sized_sample(alloc, options, &curve, &floors, totals, distinct, bytes) {
         Ok(text) => Ok(text),
         Err(_) => Err(Fault::Memory),
     }
@@ -249,7 +251,8 @@ fn sized_picture_for<A: Allocator + Copy>(
         requests: curve.requests(),
         size: curve.size(),
     };
-    match picture_by_size(alloc, curve, floors, totals, options, &table) {
+    let distinct = distinct_of(curve);
+    match picture_by_size(alloc, curve, floors, totals, distinct, options, &table) {
         Ok(text) => Ok(text),
         Err(_) => Err(Fault::Memory),
     }

@@ -1,5 +1,5 @@
 //! The report of an input whose lines begin with times, where entries may expire.
-ghost use Rattle.std.specs.Prelude.{◌≡◌, ◌<◌, ◌^◌, ◌-◌, ℕ, true, false, length, IfErr, IfOk, string_bytes};
+ghost use Rattle.std.specs.Prelude.{◌≡◌, ◌<◌, ◌^◌, ◌-◌, ℕ, None, true, false, length, IfErr, IfOk, string_bytes};
 ghost use Rattle.std.specs.Int.NonZero.{non_zero_usize_get};
 ghost use Rattle.clru_lines.specs.Lines.{lines_of};
 ghost use Rattle.clru_lines.specs.Whole.{ReadWhole};
@@ -7,15 +7,20 @@ ghost use Rattle.clru_report.specs.Faults.{is_of_writing};
 ghost use Rattle.clru_report.specs.Passes.{HasMisses};
 ghost use Rattle.clru_report.specs.Refusals.{is_of_input};
 ghost use Rattle.clru_report.specs.Samples.{times as times_of};
-ghost use Rattle.clru_report.specs.Timed.{all_by, idle_limit, IsInFormOn, IsTimedReport, IsUntimed, kept_in as kept_by, part_in as part_by};
+ghost use Rattle.clru_report.specs.Timed.{all_by, idle_limit, IsInFormOn, IsTimedReport, IsTimedReportIn, IsUntimed, kept_in as kept_by, part_in as part_by};
 
+mod aged;
+mod by_size;
 mod pass;
+mod sized_pass;
 mod time;
 
 use crate::options::{Options, Sample, Times};
 use crate::rows::{rows_for, usual_table};
 use crate::sample::{knees_times, rows_times, times};
 use crate::text::{Counts, text_by_keys};
+use aged::aged_report;
+pub(crate) use by_size::make_sized_timed_report;
 use clru_curve::MissCurve;
 use clru_lines::Fault;
 use pass::curve_of_times;
@@ -36,6 +41,26 @@ pub(crate) fn make_timed_report<R: Read, S: BuildHasher + Drop, A: Allocator + C
 ) -> Result<String<A>, Fault>
     ensures report { IfOk result (λ text. ReadWhole (R.remaining reader.old) (R.remaining reader.new)
         (λ input. IsTimedReport limits options.now input (lines_of input) (string_bytes text))) }
+    ensures refused { IfErr result (λ fault. is_of_input fault ≡ true → ReadWhole (R.remaining reader.old) (R.remaining reader.new)
+        (λ input. IsUntimed fault (lines_of input))) }
+    ensures fault { IfErr result (λ fault. is_of_writing fault ≡ false) }
+{
+    match limits.max_age {
+        None => idle_report(alloc, options, limits, reader, hash_builder),
+        Some(age) => aged_report(alloc, options, limits, age, reader, hash_builder),
+    }
+}
+
+// Where there is no age limit.
+fn idle_report<R: Read, S: BuildHasher + Drop, A: Allocator + Copy>(
+    alloc: A,
+    options: &Options<A>,
+    limits: Times,
+    reader: &mut R,
+    hash_builder: S,
+) -> Result<String<A>, Fault>
+    ensures report { IfOk result (λ text. ReadWhole (R.remaining reader.old) (R.remaining reader.new)
+        (λ input. IsTimedReportIn None limits options.now input (lines_of input) (string_bytes text))) }
     ensures refused { IfErr result (λ fault. is_of_input fault ≡ true → ReadWhole (R.remaining reader.old) (R.remaining reader.new)
         (λ input. IsUntimed fault (lines_of input))) }
     ensures fault { IfErr result (λ fault. is_of_writing fault ≡ false) }

@@ -1,10 +1,13 @@
--- The rows of the first shares, and of one more.
-use Rattle.std.proofs.Common.{◌≡◌, ℕ, zero, suc, ◌+◌, ◌<◌, ◌≤◌, List, [], ◌∷◌, ◌++◌, length, min, take, get_or, append_assoc, append-nil, refl, sym, ap, ◌∙◌, arith}
+-- The rows of the first shares, and of one more; and texts of rows, one behind another.
+use Rattle.std.proofs.Common.{◌≡◌, ℕ, Bool, zero, suc, ◌+◌, ◌<◌, ◌≤◌, List, [], ◌∷◌, ◌++◌, length, map, min, take, get_or, append_assoc, append-nil, codes, refl, sym, ap, ◌∙◌, arith}
 use Rattle.std.specs.List.{sum_by}
+use Rattle.std.proofs.lemmas.List.{map-append, take_more}
 use Rattle.std.proofs.lemmas.List.Sums.{sum_by-append, sum_by-cons}
-use Rattle.clru_shares.specs.Passes.{part_of_share, parts_of_shares}
-use Rattle.clru_shares.specs.Shares.{Part, part_text, parts_text}
+use Rattle.clru_shares.specs.Forms.{Part, row_text, rows_text}
+use Rattle.clru_shares.specs.Passes.{part_of_row, part_of_share, parts_of_shares}
+use Rattle.clru_shares.specs.Shares.{rows, together}
 use Rattle.clru_shares.specs.declared.share.Share.{Share}
+use Rattle.clru_shares.specs.declared.table.Row.{Row}
 
 -- as many as the shorter list has are all
 pub parts_all : {A : Type 0} (shares : List (Share A)) (cs : List ℕ) (n : ℕ) → min (length shares) (length cs) ≤ n
@@ -16,12 +19,8 @@ parts_all (s ∷ shares) [] (suc n) many = refl
 parts_all (s ∷ shares) (c ∷ cs) zero many = absurd (omega (arith, many))
 parts_all (s ∷ shares) (c ∷ cs) (suc n) many = ap (λ ps. part_of_share s c ∷ ps) (parts_all shares cs n (omega (arith, many)))
 
-pub texts_append : (ps qs : List Part) → parts_text (ps ++ qs) ≡ parts_text ps ++ parts_text qs
-texts_append [] qs = refl
-texts_append (p ∷ ps) qs = ap (λ t. part_text p ++ t) (texts_append ps qs) ∙ sym (append_assoc (part_text p) (parts_text ps) (parts_text qs))
-
 -- one more row
-pub parts_more : {A : Type 0} (shares : List (Share A)) (cs : List ℕ) (i : ℕ) (share : Share A) → i < length shares → i < length cs
+parts_more : {A : Type 0} (shares : List (Share A)) (cs : List ℕ) (i : ℕ) (share : Share A) → i < length shares → i < length cs
     → share ≡ get_or shares i share
     → parts_of_shares (take (suc i) shares) (take (suc i) cs) ≡ parts_of_shares (take i shares) (take i cs) ++ part_of_share share (get_or cs i 0) ∷ []
 parts_more [] cs i share few short is = absurd (omega (arith, few))
@@ -31,29 +30,53 @@ parts_more (s ∷ shares) (c ∷ cs) (suc i) share few short is =
     ap (λ ps. part_of_share s c ∷ ps) (parts_more shares cs i share (omega (arith, few)) (omega (arith, short)) is)
 
 -- the same where i + 1 is written
-module _ {A : Type 0} (shares : List (Share A)) (cs : List ℕ) (i : ℕ) (share : Share A) (few : i < length shares) (short : i < length cs)
-    (is : share ≡ get_or shares i share) where
-  next_parts : parts_of_shares (take (i + 1) shares) (take (i + 1) cs) ≡ parts_of_shares (take i shares) (take i cs) ++ part_of_share share (get_or cs i 0) ∷ []
-  next_parts = let e : i + 1 ≡ suc i = omega arith in
-      ap (λ n. parts_of_shares (take n shares) (take n cs)) e ∙ parts_more shares cs i share few short is
+pub next_parts : {A : Type 0} (shares : List (Share A)) (cs : List ℕ) (i : ℕ) (share : Share A) → i < length shares → i < length cs
+    → share ≡ get_or shares i share
+    → parts_of_shares (take (i + 1) shares) (take (i + 1) cs) ≡ parts_of_shares (take i shares) (take i cs) ++ part_of_share share (get_or cs i 0) ∷ []
+next_parts shares cs i share few short is = let e : i + 1 ≡ suc i = omega arith in
+    ap (λ n. parts_of_shares (take n shares) (take n cs)) e ∙ parts_more shares cs i share few short is
 
-  pub text_next : (text before : List ℕ) → before ≡ text ++ parts_text (parts_of_shares (take i shares) (take i cs))
-      → before ++ part_text (part_of_share share (get_or cs i 0)) ≡ text ++ parts_text (parts_of_shares (take (i + 1) shares) (take (i + 1) cs))
-  text_next text before held =
-      ap (λ t. t ++ part_text (part_of_share share (get_or cs i 0))) held
-      ∙ append_assoc text (parts_text (parts_of_shares (take i shares) (take i cs))) (part_text (part_of_share share (get_or cs i 0)))
-      ∙ ap (λ t. text ++ t) (ap (λ t. parts_text (parts_of_shares (take i shares) (take i cs)) ++ t) (sym (append-nil (part_text (part_of_share share (get_or cs i 0)))))
-      ∙ sym (texts_append (parts_of_shares (take i shares) (take i cs)) (part_of_share share (get_or cs i 0) ∷ [])) ∙ ap parts_text (sym next_parts))
+-- the sum over one more row
+pub sum_more : {A : Type 0} (f : Part → ℕ) (made : List (Row A)) (i : ℕ) (row : Row A) → i < length made → row ≡ get_or made i row
+    → sum_by f (map part_of_row (take (i + 1) made)) ≡ sum_by f (map part_of_row (take i made)) + f (part_of_row row)
+sum_more f made i row low is =
+    let before = map part_of_row (take i made) in
+    let all : map part_of_row (take (i + 1) made) ≡ before ++ part_of_row row ∷ [] =
+    ap (map part_of_row) (take_more made i row low) ∙ map-append part_of_row (take i made) (get_or made i row ∷ [])
+    ∙ ap (λ x. before ++ part_of_row x ∷ []) (sym is) in
+    omega (arith, ap (sum_by f) all, sum_by-append f before (part_of_row row ∷ []), sum_by-cons f (part_of_row row) [])
 
-  pub sum_next : (f : Part → ℕ) → sum_by f (parts_of_shares (take (i + 1) shares) (take (i + 1) cs))
-      ≡ sum_by f (parts_of_shares (take i shares) (take i cs)) + f (part_of_share share (get_or cs i 0))
-  sum_next f =
-      let parts = parts_of_shares (take i shares) (take i cs) in let more = part_of_share share (get_or cs i 0) in
-      omega (arith, ap (sum_by f) next_parts, sum_by-append f parts (more ∷ []), sum_by-cons f more [])
+-- the rows of classes and of the three ways
+pub rows_laid : (b e o : Part) (ps qs : List Part) (requests size : ℕ) (best equal : List Part) (one : Part) → ps ≡ best → qs ≡ equal
+    → b ≡ together (codes "best split") requests size ps → e ≡ together (codes "equal parts") requests size qs → o ≡ one
+    → ps ++ (b ∷ e ∷ o ∷ []) ≡ rows requests size best equal one
+rows_laid b e o ps qs requests size best equal one parts others first second third =
+    let split = together (codes "best split") requests size in let evenly = together (codes "equal parts") requests size in
+    ap (λ x. ps ++ (x ∷ e ∷ o ∷ [])) first ∙ ap (λ x. ps ++ (split ps ∷ x ∷ o ∷ [])) second ∙ ap (λ x. ps ++ (split ps ∷ evenly qs ∷ x ∷ [])) third
+    ∙ ap (λ x. x ++ (split x ∷ evenly qs ∷ one ∷ [])) parts ∙ ap (λ x. best ++ (split best ∷ evenly x ∷ one ∷ [])) others
 
--- a text that is made of five pieces, one after another
-pub pieces_laid : {start a b c d e : List ℕ} (h p x y z : List ℕ) → start ≡ [] → a ≡ start ++ h → b ≡ a ++ p → c ≡ b ++ x → d ≡ c ++ y
-    → e ≡ d ++ z → e ≡ h ++ (p ++ (x ++ (y ++ z)))
-pieces_laid h p x y z none first second third fourth fifth =
-    fifth ∙ ap (λ t. t ++ z) (fourth ∙ ap (λ t. t ++ y) (third ∙ ap (λ t. t ++ x) (second ∙ ap (λ t. t ++ p) (first ∙ ap (λ t. t ++ h) none))))
-    ∙ append_assoc ((h ++ p) ++ x) y z ∙ append_assoc (h ++ p) x (y ++ z) ∙ append_assoc h p (x ++ (y ++ z))
+module _ (json by_size : Bool) where
+  rows_append : (ps qs : List Part) → rows_text json by_size (ps ++ qs) ≡ rows_text json by_size ps ++ rows_text json by_size qs
+  rows_append [] qs = refl
+  rows_append (p ∷ ps) qs = ap (λ t. row_text json by_size p ++ t) (rows_append ps qs)
+      ∙ sym (append_assoc (row_text json by_size p) (rows_text json by_size ps) (rows_text json by_size qs))
+
+  -- the texts of rows and of three more, one behind another
+  pub texts_laid : (text : List ℕ) {t1 t2 t3 t4 : List ℕ} (ps : List Part) (b e o : Part) → t1 ≡ text ++ rows_text json by_size ps
+      → t2 ≡ t1 ++ row_text json by_size b → t3 ≡ t2 ++ row_text json by_size e → t4 ≡ t3 ++ row_text json by_size o
+      → t4 ≡ text ++ rows_text json by_size (ps ++ (b ∷ e ∷ o ∷ []))
+  texts_laid text ps b e o first second third fourth =
+      let r = row_text json by_size in let all = rows_text json by_size ps in
+      fourth ∙ ap (λ t. t ++ r o) (third ∙ ap (λ t. t ++ r e) (second ∙ ap (λ t. t ++ r b) first))
+      ∙ append_assoc ((text ++ all) ++ r b) (r e) (r o) ∙ append_assoc (text ++ all) (r b) (r e ++ r o)
+      ∙ append_assoc text all (r b ++ (r e ++ r o))
+      ∙ ap (λ t. text ++ t) (ap (λ z. all ++ (r b ++ (r e ++ z))) (sym (append-nil (r o))) ∙ sym (rows_append ps (b ∷ e ∷ o ∷ [])))
+
+-- a text that is made of six pieces, one behind another
+pub six_laid : (text : List ℕ) {t1 t2 t3 t4 t5 t6 : List ℕ} (a b c d e f : List ℕ) → t1 ≡ text ++ a → t2 ≡ t1 ++ b → t3 ≡ t2 ++ c
+    → t4 ≡ t3 ++ d → t5 ≡ t4 ++ e → t6 ≡ t5 ++ f → t6 ≡ text ++ (a ++ (b ++ (c ++ (d ++ (e ++ f)))))
+six_laid text a b c d e f first second third fourth fifth sixth =
+    sixth ∙ ap (λ t. t ++ f) (fifth ∙ ap (λ t. t ++ e) (fourth ∙ ap (λ t. t ++ d) (third ∙ ap (λ t. t ++ c) (second ∙ ap (λ t. t ++ b) first))))
+    ∙ append_assoc ((((text ++ a) ++ b) ++ c) ++ d) e f ∙ append_assoc (((text ++ a) ++ b) ++ c) d (e ++ f)
+    ∙ append_assoc ((text ++ a) ++ b) c (d ++ (e ++ f)) ∙ append_assoc (text ++ a) b (c ++ (d ++ (e ++ f)))
+    ∙ append_assoc text a (b ++ (c ++ (d ++ (e ++ f))))

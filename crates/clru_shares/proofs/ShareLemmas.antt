@@ -1,13 +1,19 @@
 -- Curves with the same numbers have the same best splits; the rows of shares are those of their classes.
-use Rattle.std.proofs.Common.{◌≡◌, ℕ, zero, suc, ◌+◌, ◌≤◌, ◌<◌, List, [], ◌∷◌, ◌++◌, length, map, Option, Some, refl, sym, ap, ◌∙◌, subst, arith}
+use Rattle.std.proofs.Common.{◌≡◌, ℕ, zero, suc, ◌+◌, ◌≤◌, ◌<◌, Bool, true, false, cond, List, [], ◌∷◌, ◌++◌, length, map, nat_lt, reverse, Option, Some, None, refl, sym, ap, ◌∙◌, subst, arith}
 use Rattle.std.specs.Prelude.{◌*◌, ◌/◌, bytes_eq, codes, max, replicate, sum, unwrap_or, IsSome}
 use Rattle.std.specs.List.{All, AllZip, sum_by}
-use Rattle.std.proofs.lemmas.List.Sums.{sum_by-cons}
-use Rattle.clru_curve.specs.Curves.{HasMissesOf, misses_at}
+use Rattle.clru_curve.specs.SizedCurves.{greatest_of, misses_within, missed_size_within}
+use Rattle.clru_model.specs.Sizes.{misses_by_size, missed_size}
 use Rattle.clru_split.specs.Splits.{missed_at, AreParts, total_missed, IsPart, IsSplit, IsBestSplit}
 use Rattle.clru_shares.specs.Classes.{requests_of}
-use Rattle.clru_shares.specs.Passes.{HaveShares, IsShareOf, missed_of, part_of_share, parts_of_shares}
-use Rattle.clru_shares.specs.Shares.{Part, part, missed_by, missed_with, part_of, parts_of, split_text, step_for, table_text}
+use Rattle.clru_shares.specs.Forms.{Part}
+use Rattle.clru_shares.specs.LinePasses.{IsCurveBy}
+use Rattle.clru_shares.specs.Passes.{HaveShares, IsShare, part_of_share, parts_of_shares}
+use Rattle.clru_shares.specs.ShareCurves.{all_by, all_of_share, missed_by_curve, missed_of_share, missed_pair}
+use Rattle.clru_shares.specs.Shares.{all_of, greatest_weight, missed_by, missed_in, part_of, part_with, parts_of, rows, split_rows, step_for}
+use Rattle.clru_shares.specs.Sizes.{size_in, weight_behind}
+use Rattle.clru_shares.specs.declared.curve.LineCurve.{LineCurve}
+use Rattle.clru_shares.specs.declared.curve.LineCurve.TheVariants.{ByKeys, BySize}
 use Rattle.clru_shares.specs.declared.share.Share.{Share}
 
 -- what each of one list has is what its partner in the other has
@@ -53,81 +59,103 @@ module _ {C D : Type 0} (all : C → ℕ) (missed : C → ℕ → Option ℕ) (o
             omega (arith, low, total_same all missed other gone step cs ds ks same, total_same other gone all missed step ds cs js back);
       }
 
-module _ {A : Type 0} (lines : List (List ℕ)) where
-  -- what a share misses at a capacity is what its class does
-  number_same : (name : List ℕ) (share : Share A) → IsShareOf lines name share → (k : ℕ)
-      → missed_at (λ s. s.requests) (λ s k. Some (misses_at s.curve k)) share k ≡ missed_at length missed_by (requests_of name lines) k
-  number_same name share is zero = ap Some is.counted
-  number_same name share is (suc k) = ap Some (is.misses (suc k) (omega arith))
+module _ {A : Type 0} where
+  -- what a curve says is what its requests miss
+  price_same : (sizes : Bool) (requests : List (List ℕ)) (n s : ℕ) (curve : LineCurve A) → IsCurveBy sizes requests curve
+      → n ≡ length requests → s ≡ size_in sizes requests → (c : ℕ)
+      → missed_at (λ k. all_by k n s) missed_by_curve curve c ≡ missed_at (all_of sizes) (missed_by sizes) requests c
+  price_same false requests n s (ByKeys curve) is counted summed zero = ap Some counted
+  price_same false requests n s (ByKeys curve) is counted summed (suc c) = ap Some (is (suc c) (omega arith))
+  price_same false requests n s (BySize curve) is counted summed c = absurd is
+  price_same true requests n s (ByKeys curve) is counted summed c = absurd is
+  price_same true requests n s (BySize curve) is counted summed zero = ap Some summed
+  price_same true requests n s (BySize curve) is counted summed (suc c) =
+      ap (λ g. cond (nat_lt g (suc c)) (Some (missed_size_within curve (suc c))) None) is.greatest_weight
+      ∙ ap (λ m. cond (nat_lt (greatest_weight requests) (suc c)) (Some m) None) (is.missed_size (suc c))
 
-  pub shares_same : (names : List (List ℕ)) (shares : List (Share A)) → HaveShares lines names shares
-      → Same (missed_at (λ (s : Share A). s.requests) (λ s k. Some (misses_at s.curve k))) (missed_at length missed_by) shares
+  pair_same : (sizes : Bool) (requests : List (List ℕ)) (curve : LineCurve A) → IsCurveBy sizes requests curve → (c : ℕ)
+      → missed_pair curve c ≡ missed_in sizes requests c
+  pair_same false requests (ByKeys curve) is zero = refl
+  pair_same false requests (ByKeys curve) is (suc c) = ap (λ m. Some (m, 0)) (is (suc c) (omega arith))
+  pair_same false requests (BySize curve) is c = absurd is
+  pair_same true requests (ByKeys curve) is c = absurd is
+  pair_same true requests (BySize curve) is zero = refl
+  pair_same true requests (BySize curve) is (suc c) =
+      ap (λ g. cond (nat_lt g (suc c)) (Some (misses_within curve (suc c), missed_size_within curve (suc c))) None) is.greatest_weight
+      ∙ ap (λ m. cond (nat_lt (greatest_weight requests) (suc c)) (Some (m, missed_size_within curve (suc c))) None) (is.misses (suc c))
+      ∙ ap (λ m. cond (nat_lt (greatest_weight requests) (suc c)) (Some (misses_by_size bytes_eq weight_behind (suc c) requests, m)) None)
+      (is.missed_size (suc c))
+
+  -- a share has the numbers of its curve
+  number_same : {X : Type 0} (p : X → ℕ → Option ℕ) (x : X) (share : Share A)
+      → ((c : ℕ) → missed_at (λ k. all_by k share.requests share.size) missed_by_curve share.curve c ≡ p x c)
+      → (c : ℕ) → missed_at all_of_share missed_of_share share c ≡ p x c
+  number_same p x share is zero = is zero
+  number_same p x share is (suc c) = is (suc c)
+
+  -- and so are the rows
+  pub row_same : (sizes : Bool) (requests : List (List ℕ)) (name : List ℕ) (share : Share A) → IsShare sizes requests name share
+      → (c : ℕ) → part_of_share share c ≡ part_of sizes requests name c
+  row_same sizes requests name share is c =
+      ap (λ n. part_with n c share.requests share.size (missed_pair share.curve c)) is.is
+      ∙ ap (λ n. part_with name c n share.size (missed_pair share.curve c)) is.counted
+      ∙ ap (λ s. part_with name c (length requests) s (missed_pair share.curve c)) is.summed
+      ∙ ap (part_with name c (length requests) (size_in sizes requests)) (pair_same sizes requests share.curve is.curve c)
+
+module _ {A : Type 0} (sizes : Bool) (lines : List (List ℕ)) where
+  pub shares_same : (names : List (List ℕ)) (shares : List (Share A)) → HaveShares sizes lines names shares
+      → Same (missed_at all_of_share missed_of_share) (missed_at (all_of sizes) (missed_by sizes)) shares
       (map (λ name. requests_of name lines) names)
   shares_same [] [] have = tt
   shares_same [] (share ∷ shares) have = elim have [ ]
   shares_same (name ∷ names) [] have = elim have [ ]
   shares_same (name ∷ names) (share ∷ shares) have =
-      (number_same name share have.0, shares_same names shares have.1)
+      let is = have.0 in (
+        number_same (missed_at (all_of sizes) (missed_by sizes)) (requests_of name lines) share
+            (price_same sizes (requests_of name lines) share.requests share.size share.curve is.curve is.counted is.summed),
+        shares_same names shares have.1,
+      )
 
-  missed_same : (name : List ℕ) (share : Share A) → IsShareOf lines name share → (c : ℕ)
-      → missed_of share c ≡ missed_with (requests_of name lines) c
-  missed_same name share is zero = is.counted
-  missed_same name share is (suc c) = is.misses (suc c) (omega arith)
-
-  pub rows_same : (names : List (List ℕ)) (shares : List (Share A)) (cs : List ℕ) → HaveShares lines names shares
-      → parts_of_shares shares cs ≡ parts_of lines names cs
+  pub rows_same : (names : List (List ℕ)) (shares : List (Share A)) (cs : List ℕ) → HaveShares sizes lines names shares
+      → parts_of_shares shares cs ≡ parts_of sizes lines names cs
   rows_same [] [] cs have = refl
   rows_same [] (share ∷ shares) cs have = elim have [ ]
   rows_same (name ∷ names) [] cs have = elim have [ ]
   rows_same (name ∷ names) (share ∷ shares) [] have = refl
   rows_same (name ∷ names) (share ∷ shares) (c ∷ cs) have =
-      let is = have.0 in
-      ap (λ p. p ∷ parts_of_shares shares cs) (ap (λ n. part n c (missed_of share c) share.requests) is.is
-      ∙ ap (λ m. part name c m share.requests) (missed_same name share is c)
-      ∙ ap (λ r. part name c (missed_with (requests_of name lines) c) r) is.counted)
-      ∙ ap (λ ps. part_of lines name c ∷ ps) (rows_same names shares cs have.1)
+      ap (λ p. p ∷ parts_of_shares shares cs) (row_same sizes (requests_of name lines) name share have.0 c)
+      ∙ ap (λ ps. part_of sizes (requests_of name lines) name c ∷ ps) (rows_same names shares cs have.1)
 
-  pub shares_long : (names : List (List ℕ)) (shares : List (Share A)) → HaveShares lines names shares → length shares ≡ length names
+  pub shares_long : (names : List (List ℕ)) (shares : List (Share A)) → HaveShares sizes lines names shares → length shares ≡ length names
   shares_long [] [] have = refl
   shares_long [] (share ∷ shares) have = elim have [ ]
   shares_long (name ∷ names) [] have = elim have [ ]
   shares_long (name ∷ names) (share ∷ shares) have = ap suc (shares_long names shares have.1)
 
   -- one more share
-  pub shares_more : (names : List (List ℕ)) (shares : List (Share A)) (name : List ℕ) (share : Share A) → HaveShares lines names shares
-      → IsShareOf lines name share → HaveShares lines (names ++ name ∷ []) (shares ++ share ∷ [])
+  pub shares_more : (names : List (List ℕ)) (shares : List (Share A)) (name : List ℕ) (share : Share A) → HaveShares sizes lines names shares
+      → IsShare sizes (requests_of name lines) name share → HaveShares sizes lines (names ++ name ∷ []) (shares ++ share ∷ [])
   shares_more [] [] name share have is = (is, tt)
   shares_more [] (s ∷ shares) name share have is = elim have [ ]
   shares_more (n ∷ names) [] name share have is = elim have [ ]
   shares_more (n ∷ names) (s ∷ shares) name share have is = (have.0, shares_more names shares name share have.1 is)
 
-  missed_of_all : (share : Share A) → share.requests ≡ length lines → HasMissesOf bytes_eq lines share.curve → (c : ℕ)
-      → missed_of share c ≡ missed_with lines c
-  missed_of_all share counted misses zero = counted
-  missed_of_all share counted misses (suc c) = misses (suc c) (omega arith)
-
-  -- the row of one cache for all lines
-  pub one_same : (share : Share A) (name : List ℕ) → share.name.items ≡ name → share.requests ≡ length lines
-      → HasMissesOf bytes_eq lines share.curve → (c : ℕ) → part_of_share share c ≡ part name c (missed_with lines c) (length lines)
-  one_same share name named counted misses c =
-      ap (λ n. part n c (missed_of share c) share.requests) named
-      ∙ ap (λ m. part name c m share.requests) (missed_of_all share counted misses c)
-      ∙ ap (λ r. part name c (missed_with lines c) r) counted
-
-  -- the table of the shares is that of their classes
-  pub table_same : (names : List (List ℕ)) (shares : List (Share A)) (cs : List ℕ) → HaveShares lines names shares
-      → (budget step requests : ℕ) (one : Part) → step ≡ step_for budget → requests ≡ length lines
-      → one ≡ part (codes "one for all") budget (missed_with lines budget) (length lines)
-      → table_text requests (parts_of_shares shares cs)
+  -- the rows of the shares are those of their classes
+  pub table_same : (names : List (List ℕ)) (shares : List (Share A)) (cs : List ℕ) → HaveShares sizes lines names shares
+      → (budget step requests size : ℕ) (one : Part) → step ≡ step_for budget → requests ≡ length lines → size ≡ size_in sizes lines
+      → one ≡ part_of sizes lines (codes "one for all") budget
+      → rows requests size (parts_of_shares shares cs)
       (parts_of_shares shares (replicate (length shares) (budget / max 1 (length shares) / step * step))) one
-      ≡ split_text budget lines names cs
-  table_same names shares cs have budget step requests one stepped counted is =
+      ≡ split_rows sizes budget lines names cs
+  table_same names shares cs have budget step requests size one stepped counted summed is =
       let equal = λ (k s : ℕ). replicate k (budget / max 1 k / s * s) in
       let best = parts_of_shares shares cs in
-      ap (λ s. table_text requests best (parts_of_shares shares (equal (length shares) s)) one) stepped
-      ∙ ap (λ k. table_text requests best (parts_of_shares shares (equal k (step_for budget))) one) (shares_long names shares have)
-      ∙ ap (λ ps. table_text requests ps (parts_of_shares shares (equal (length names) (step_for budget))) one) (rows_same names shares cs have)
-      ∙ ap (λ ps. table_text requests (parts_of lines names cs) ps one) (rows_same names shares (equal (length names) (step_for budget)) have)
-      ∙ ap (λ p. table_text requests (parts_of lines names cs) (parts_of lines names (equal (length names) (step_for budget))) p) is
-      ∙ ap (λ n. table_text n (parts_of lines names cs) (parts_of lines names (equal (length names) (step_for budget)))
-      (part (codes "one for all") budget (missed_with lines budget) (length lines))) counted
+      ap (λ s. rows requests size best (parts_of_shares shares (equal (length shares) s)) one) stepped
+      ∙ ap (λ k. rows requests size best (parts_of_shares shares (equal k (step_for budget))) one) (shares_long names shares have)
+      ∙ ap (λ ps. rows requests size ps (parts_of_shares shares (equal (length names) (step_for budget))) one) (rows_same names shares cs have)
+      ∙ ap (λ ps. rows requests size (parts_of sizes lines names cs) ps one) (rows_same names shares (equal (length names) (step_for budget)) have)
+      ∙ ap (λ p. rows requests size (parts_of sizes lines names cs) (parts_of sizes lines names (equal (length names) (step_for budget))) p) is
+      ∙ ap (λ n. rows n size (parts_of sizes lines names cs) (parts_of sizes lines names (equal (length names) (step_for budget)))
+      (part_of sizes lines (codes "one for all") budget)) counted
+      ∙ ap (λ s. rows (length lines) s (parts_of sizes lines names cs) (parts_of sizes lines names (equal (length names) (step_for budget)))
+      (part_of sizes lines (codes "one for all") budget)) summed

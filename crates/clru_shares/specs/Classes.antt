@@ -1,5 +1,5 @@
 -- The classes of lines. Public clauses cite them.
-use Rattle.std.specs.Prelude.{◌≡◌, ℕ, ◌<◌, ◌==◌, Bool, true, false, not, ◌&&◌, ◌||◌, nat_lt, List, [], length, take, filter, position, Option, None, Some, bytes_eq, slice_index_or}
+use Rattle.std.specs.Prelude.{◌≡◌, ℕ, ◌+◌, ◌<◌, ◌==◌, Bool, true, false, not, ◌&&◌, ◌||◌, nat_lt, List, [], length, take, drop, filter, position, Option, None, Some, bytes_eq, slice_index_or}
 use Rattle.std.specs.List.{All, list_all, list_any}
 use Rattle.std.specs.Cmp.Lexicographic.{slice_cmp}
 use Rattle.std.specs.Ordering.{is_lt, nat_cmp}
@@ -28,6 +28,14 @@ has_class_at line (Some at) = is_class (take at line)
 
 abbrev pub has_class : List ℕ → Bool
 has_class line = has_class_at line (position (λ b. b == 32) line)
+
+-- what follows a line's first blank: what the line would be without a class
+abbrev pub rest_at : List ℕ → Option ℕ → List ℕ
+rest_at line None = []
+rest_at line (Some at) = drop (at + 1) line
+
+abbrev pub rest_in : List ℕ → List ℕ
+rest_in line = rest_at line (position (λ b. b == 32) line)
 
 -- at most so many classes have parts of a budget
 abbrev pub most_classes : ℕ

@@ -1,5 +1,10 @@
+pub mod Arguments
 pub mod Classes
 pub mod Faults
+pub mod Forms
+pub mod LinePasses
 pub mod Passes
 pub mod Refusals
+pub mod ShareCurves
 pub mod Shares
+pub mod Sizes

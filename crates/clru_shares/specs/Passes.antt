@@ -1,13 +1,17 @@
 -- What the passes of classes have taken. No public clause cites it.
-use Rattle.std.specs.Prelude.{◌≡◌, ℕ, zero, suc, ◌<◌, ◌≤◌, List, [], ◌∷◌, length, map, true, false, bytes_eq, slice_index_or}
+use Rattle.std.specs.Prelude.{◌≡◌, ℕ, ◌<◌, ◌≤◌, Bool, List, [], ◌∷◌, ◌++◌, length, map, true, false, bytes_eq, slice_index_or}
 use Rattle.std.specs.List.{All, AllZip, list_any}
-use Rattle.clru_curve.specs.Curves.{HasMissesOf, misses_at}
-use Rattle.clru_report.specs.Passes.{HasTakenLines}
 use Rattle.clru_shares.specs.Classes.{AreAscending, IsBefore, has_class, most_classes, requests_of}
-use Rattle.clru_shares.specs.Shares.{Part}
+use Rattle.clru_shares.specs.Forms.{Part}
+use Rattle.clru_shares.specs.LinePasses.{HasTakenBy, IsCurveBy}
+use Rattle.clru_shares.specs.ShareCurves.{missed_pair}
+use Rattle.clru_shares.specs.Shares.{part_with}
+use Rattle.clru_shares.specs.Sizes.{is_sized, size_in}
 use Rattle.clru_shares.specs.declared.classes.Class.{Class}
 use Rattle.clru_shares.specs.declared.reading.Passes.{Passes}
 use Rattle.clru_shares.specs.declared.share.Share.{Share}
+use Rattle.clru_shares.specs.declared.table.Row.{Row}
+use Rattle.clru_shares.specs.declared.table.Table.{Table}
 
 -- the class is held at this place
 pub record IsHeldAt (names : List (List ℕ)) (name : List ℕ) (at : ℕ) : Type 0 where
@@ -24,46 +28,63 @@ module _ {S A H : Type 0} where
   abbrev pub name_of : Class S A H → List ℕ
   name_of class = class.name.items
 
-  -- the class took its lines
-  pub record HasTaken (lines : List (List ℕ)) (class : Class S A H) : Type 0 where
-    pub taken : HasTakenLines (requests_of (name_of class) lines) class.pass
+  -- the class took its lines, by size or by keys
+  pub record HasTaken (sizes : Bool) (lines : List (List ℕ)) (class : Class S A H) : Type 0 where
+    pub taken : HasTakenBy sizes (requests_of (name_of class) lines) class.pass
     pub counted : class.requests ≡ length (requests_of (name_of class) lines)
+    pub summed : class.size ≡ size_in sizes (requests_of (name_of class) lines)
 
   -- each class took its lines, and no other class has any
-  pub record HaveTaken (lines : List (List ℕ)) (classes : List (Class S A H)) : Type 0 where
+  pub record HaveTaken (sizes : Bool) (lines : List (List ℕ)) (classes : List (Class S A H)) : Type 0 where
     pub ascending : AreAscending (map name_of classes)
-    pub each : All (HasTaken lines) classes
+    pub each : All (HasTaken sizes lines) classes
     pub some : All (λ class. 0 < class.requests) classes
     pub no_other : (name : List ℕ) → list_any (bytes_eq name) (map name_of classes) ≡ false → requests_of name lines ≡ []
 
-  -- the passes took these lines, each of which begins with a class
-  pub record HasTakenAll (lines : List (List ℕ)) (passes : Passes S A H) : Type 0 where
+  -- the passes took these lines, each of which begins with a class, and by size then with a size
+  pub record HasTakenAll (sizes : Bool) (lines : List (List ℕ)) (passes : Passes S A H) : Type 0 where
     pub classed : All (λ line. has_class line ≡ true) lines
-    pub classes : HaveTaken lines passes.classes.items
+    pub sized : All (λ line. is_sized sizes line ≡ true) lines
+    pub classes : HaveTaken sizes lines passes.classes.items
     pub few : length passes.classes.items ≤ most_classes
-    pub all : HasTakenLines lines passes.all
+    pub all : HasTakenBy sizes lines passes.all
     pub counted : passes.requests ≡ length lines
+    pub summed : passes.size ≡ size_in sizes lines
 
--- the curve of a class's lines
-pub record IsShareOf {A : Type 0} (lines : List (List ℕ)) (name : List ℕ) (share : Share A) : Type 0 where
+-- the curve of these requests, with their number and size
+pub record IsShare {A : Type 0} (sizes : Bool) (requests : List (List ℕ)) (name : List ℕ) (share : Share A) : Type 0 where
   pub is : share.name.items ≡ name
-  pub counted : share.requests ≡ length (requests_of name lines)
-  pub misses : HasMissesOf bytes_eq (requests_of name lines) share.curve
+  pub counted : share.requests ≡ length requests
+  pub summed : share.size ≡ size_in sizes requests
+  pub curve : IsCurveBy sizes requests share.curve
+
+-- that of a class's lines
+abbrev pub IsShareOf : {A : Type 0} → Bool → List (List ℕ) → List ℕ → Share A → Type 0
+IsShareOf sizes lines name share = IsShare sizes (requests_of name lines) name share
 
 -- those of the classes of these names
-abbrev pub HaveShares : {A : Type 0} → List (List ℕ) → List (List ℕ) → List (Share A) → Type 0
-HaveShares lines names shares = AllZip (IsShareOf lines) names shares
-
--- what misses in a cache of its own, where capacity 0 is none
-abbrev pub missed_of : {A : Type 0} → Share A → ℕ → ℕ
-missed_of share zero = share.requests
-missed_of share (suc c) = misses_at share.curve (suc c)
+abbrev pub HaveShares : {A : Type 0} → Bool → List (List ℕ) → List (List ℕ) → List (Share A) → Type 0
+HaveShares sizes lines names shares = AllZip (IsShareOf sizes lines) names shares
 
 -- the row of it
 abbrev pub part_of_share : {A : Type 0} → Share A → ℕ → Part
-part_of_share share c = record { name = share.name.items; capacity = c; misses = missed_of share c; requests = share.requests }
+part_of_share share c = part_with share.name.items c share.requests share.size (missed_pair share.curve c)
 
 abbrev pub parts_of_shares : {A : Type 0} → List (Share A) → List ℕ → List Part
 parts_of_shares [] cs = []
 parts_of_shares (share ∷ shares) [] = []
 parts_of_shares (share ∷ shares) (c ∷ cs) = part_of_share share c ∷ parts_of_shares shares cs
+
+abbrev pub part_of_row : {A : Type 0} → Row A → Part
+part_of_row row = record {
+  name = row.name.items;
+  capacity = row.capacity;
+  misses = row.misses;
+  requests = row.requests;
+  missed_size = row.missed_size;
+  size = row.size;
+}
+
+-- the rows in their order
+abbrev pub parts_of_table : {A : Type 0} → Table A → List Part
+parts_of_table table = map part_of_row table.parts.items ++ (part_of_row table.best ∷ part_of_row table.equal ∷ part_of_row table.one ∷ [])

@@ -1,9 +1,10 @@
 -- Which inputs have no split, and why. Public clauses cite them.
-use Rattle.std.specs.Prelude.{◌≡◌, ℕ, ◌+◌, ◌≤◌, true, false, List, ◌∷◌, ◌++◌, length, bytes_eq}
+use Rattle.std.specs.Prelude.{◌≡◌, ℕ, ◌+◌, ◌^◌, ◌≤◌, Bool, true, false, List, [], ◌∷◌, ◌++◌, length, bytes_eq}
 use Rattle.std.specs.List.{All, list_any}
 use Rattle.clru_shares.specs.Classes.{AreClasses, class_in, has_class, most_classes}
+use Rattle.clru_shares.specs.Sizes.{is_sized, own_size, size_in}
 use Rattle.clru_shares.specs.declared.fault.SplitFault.{SplitFault}
-use Rattle.clru_shares.specs.declared.fault.SplitFault.TheVariants.{NoClass, TooManyClasses, Other}
+use Rattle.clru_shares.specs.declared.fault.SplitFault.TheVariants.{NoClass, TooManyClasses, NoSize, TooLarge, Other}
 
 -- there are no more classes than can be
 abbrev pub HaveFewClasses : List (List ℕ) → Type 0
@@ -34,8 +35,32 @@ pub record IsOneTooMany (n : ℕ) (lines : List (List ℕ)) : Type 0 where
   pub full : length names ≡ most_classes
   pub other : list_any (bytes_eq (class_in line)) names ≡ false
 
--- what a fault says of the lines
-abbrev pub IsSaidOfLines : SplitFault → List (List ℕ) → Type 0
-IsSaidOfLines (NoClass n) lines = IsFirstWithoutClass n lines
-IsSaidOfLines (TooManyClasses n) lines = IsOneTooMany n lines
-IsSaidOfLines (Other fault) lines = ⊥
+-- the line of this number, counted from 1, is the first without a size behind its class, and each line has a class up to it
+pub record IsFirstWithoutSize (n : ℕ) (lines : List (List ℕ)) : Type 0 where
+  pub before : List (List ℕ)
+  pub line : List ℕ
+  pub rest : List (List ℕ)
+  pub is : lines ≡ before ++ line ∷ rest
+  pub number : n ≡ length before + 1
+  pub classed : All (λ l. has_class l ≡ true) before
+  pub sized : All (λ l. is_sized true l ≡ true) before
+  pub own : has_class line ≡ true
+  pub none : is_sized true line ≡ false
+
+-- the sizes of the lines up to one of them are too large together for a number, and each has a class and a size
+pub record HasLargeSizes (lines : List (List ℕ)) : Type 0 where
+  pub before : List (List ℕ)
+  pub line : List ℕ
+  pub rest : List (List ℕ)
+  pub is : lines ≡ before ++ line ∷ rest
+  pub classed : All (λ l. has_class l ≡ true) (before ++ line ∷ [])
+  pub sized : All (λ l. is_sized true l ≡ true) (before ++ line ∷ [])
+  pub large : 2 ^ 64 ≤ size_in true before + own_size true line
+
+-- what a fault says of the lines: by size, or by keys
+abbrev pub IsSaidOfLines : Bool → SplitFault → List (List ℕ) → Type 0
+IsSaidOfLines sizes (NoClass n) lines = IsFirstWithoutClass n lines
+IsSaidOfLines sizes (TooManyClasses n) lines = IsOneTooMany n lines
+IsSaidOfLines sizes (NoSize n) lines = (sizes ≡ true) × IsFirstWithoutSize n lines
+IsSaidOfLines sizes TooLarge lines = (sizes ≡ true) × HasLargeSizes lines
+IsSaidOfLines sizes (Other fault) lines = ⊥

@@ -1,77 +1,88 @@
 -- The table of a split. The numbers are those of the definitions of requests: no cache and no algorithm is in sight. Public clauses cite it.
-use Rattle.std.specs.Prelude.{◌≡◌, ℕ, zero, suc, ◌+◌, ◌*◌, ◌/◌, ◌≤◌, List, [], ◌∷◌, ◌++◌, true, length, map, max, replicate, Option, Some, codes, decimal, bytes_eq}
+use Rattle.std.specs.Prelude.{◌≡◌, ℕ, zero, suc, ◌+◌, ◌*◌, ◌/◌, ◌≤◌, nat_lt, Bool, true, false, List, [], ◌∷◌, ◌++◌, length, map, max, replicate, reverse, Option, Some, None, codes, bytes_eq, if◌then◌else◌}
 use Rattle.std.specs.List.{All, sum_by}
+use Rattle.clru_curve.specs.SizedCurves.{greatest_of}
 use Rattle.clru_model.specs.Requests.{misses}
-use Rattle.clru_report.specs.Columns.{fraction_text, millionths}
+use Rattle.clru_model.specs.Sizes.{misses_by_size, missed_size as missed_size_of}
 use Rattle.clru_split.specs.Splits.{IsBestSplit}
 use Rattle.clru_shares.specs.Classes.{AreClasses, has_class, most_classes, requests_of}
+use Rattle.clru_shares.specs.Forms.{IsTextOf, Part}
+use Rattle.clru_shares.specs.Sizes.{is_sized, size_in, weight_behind}
+use Rattle.clru_shares.specs.declared.form.SplitForm.{SplitForm}
 
 -- the least step of which at most a thousand are within the budget
 abbrev pub step_for : ℕ → ℕ
 step_for budget = budget / 1001 + 1
 
--- what misses in a cache
-abbrev pub missed_by : List (List ℕ) → ℕ → Option ℕ
-missed_by requests c = Some (misses bytes_eq c requests)
+-- each request of a class has room at a capacity that is greater than this
+abbrev pub greatest_weight : List (List ℕ) → ℕ
+greatest_weight requests = greatest_of weight_behind (reverse requests)
 
--- without one all requests do
-abbrev pub missed_with : List (List ℕ) → ℕ → ℕ
-missed_with requests zero = length requests
-missed_with requests (suc c) = misses bytes_eq (suc c) requests
+-- what misses without a cache: requests, or by size their size
+abbrev pub all_of : Bool → List (List ℕ) → ℕ
+all_of false requests = length requests
+all_of true requests = size_in true requests
 
--- what stands in a row
-pub record Part : Type 0 where
-  pub name : List ℕ
-  pub capacity : ℕ
-  pub misses : ℕ
-  pub requests : ℕ
+-- and in a cache: by size where each request has room
+abbrev pub missed_by : Bool → List (List ℕ) → ℕ → Option ℕ
+missed_by false requests c = Some (misses bytes_eq c requests)
+missed_by true requests c = if nat_lt (greatest_weight requests) c then Some (missed_size_of bytes_eq weight_behind c requests) else None
 
-abbrev pub part : List ℕ → ℕ → ℕ → ℕ → Part
-part name c m n = record { name = name; capacity = c; misses = m; requests = n }
+-- the requests that miss in a cache where each has room, and by size their size
+abbrev pub missed_in : Bool → List (List ℕ) → ℕ → Option (ℕ × ℕ)
+missed_in false requests zero = None
+missed_in false requests (suc c) = Some (misses bytes_eq (suc c) requests, 0)
+missed_in true requests zero = None
+missed_in true requests (suc c) = if nat_lt (greatest_weight requests) (suc c) then
+    Some (misses_by_size bytes_eq weight_behind (suc c) requests, missed_size_of bytes_eq weight_behind (suc c) requests) else None
 
--- a class with a capacity of its own
-abbrev pub part_of : List (List ℕ) → List ℕ → ℕ → Part
-part_of lines name c = part name c (missed_with (requests_of name lines) c) (length (requests_of name lines))
+-- a row of so many requests of this size: where one has no room there is no cache, so all miss
+abbrev pub part_with : List ℕ → ℕ → ℕ → ℕ → Option (ℕ × ℕ) → Part
+part_with name c n s None = record { name = name; capacity = 0; misses = n; requests = n; missed_size = s; size = s }
+part_with name c n s (Some m) = record { name = name; capacity = c; misses = m.0; requests = n; missed_size = m.1; size = s }
+
+-- requests with a capacity of their own
+abbrev pub part_of : Bool → List (List ℕ) → List ℕ → ℕ → Part
+part_of sizes requests name c = part_with name c (length requests) (size_in sizes requests) (missed_in sizes requests c)
 
 -- each class with its capacity
-abbrev pub parts_of : List (List ℕ) → List (List ℕ) → List ℕ → List Part
-parts_of lines [] cs = []
-parts_of lines (name ∷ names) [] = []
-parts_of lines (name ∷ names) (c ∷ cs) = part_of lines name c ∷ parts_of lines names cs
+abbrev pub parts_of : Bool → List (List ℕ) → List (List ℕ) → List ℕ → List Part
+parts_of sizes lines [] cs = []
+parts_of sizes lines (name ∷ names) [] = []
+parts_of sizes lines (name ∷ names) (c ∷ cs) = part_of sizes (requests_of name lines) name c ∷ parts_of sizes lines names cs
 
--- all of them together, of so many requests
-abbrev pub together : List ℕ → ℕ → List Part → Part
-together name requests parts = part name (sum_by (λ p. p.capacity) parts) (sum_by (λ p. p.misses) parts) requests
+-- all of them together, of so many requests of this size
+abbrev pub together : List ℕ → ℕ → ℕ → List Part → Part
+together name requests size parts = record {
+  name = name;
+  capacity = sum_by (λ p. p.capacity) parts;
+  misses = sum_by (λ p. p.misses) parts;
+  requests = requests;
+  missed_size = sum_by (λ p. p.missed_size) parts;
+  size = size;
+}
 
 -- as much for each class, in whole steps
 abbrev pub equal_part : ℕ → ℕ → ℕ
 equal_part budget classes = budget / max 1 classes / step_for budget * step_for budget
 
-abbrev pub part_text : Part → List ℕ
-part_text p = p.name ++ (codes "," ++ (decimal p.capacity ++ (codes "," ++ (decimal p.misses ++ (codes ","
-    ++ (fraction_text (millionths p.misses p.requests) ++ codes "\n"))))))
-
-abbrev pub parts_text : List Part → List ℕ
-parts_text [] = []
-parts_text (p ∷ ps) = part_text p ++ parts_text ps
-
 -- a row for each class, and one for each of the three ways to spend the budget
-abbrev pub table_text : ℕ → List Part → List Part → Part → List ℕ
-table_text requests best equal one = codes "class,capacity,misses,miss_ratio\n"
-    ++ (parts_text best ++ (part_text (together (codes "best split") requests best)
-    ++ (part_text (together (codes "equal parts") requests equal) ++ part_text one)))
+abbrev pub rows : ℕ → ℕ → List Part → List Part → Part → List Part
+rows requests size best equal one = best ++ (together (codes "best split") requests size best
+    ∷ together (codes "equal parts") requests size equal ∷ one ∷ [])
 
-abbrev pub split_text : ℕ → List (List ℕ) → List (List ℕ) → List ℕ → List ℕ
-split_text budget lines names capacities = table_text (length lines) (parts_of lines names capacities)
-    (parts_of lines names (replicate (length names) (equal_part budget (length names))))
-    (part (codes "one for all") budget (missed_with lines budget) (length lines))
+abbrev pub split_rows : Bool → ℕ → List (List ℕ) → List (List ℕ) → List ℕ → List Part
+split_rows sizes budget lines names capacities = rows (length lines) (size_in sizes lines) (parts_of sizes lines names capacities)
+    (parts_of sizes lines names (replicate (length names) (equal_part budget (length names))))
+    (part_of sizes lines (codes "one for all") budget)
 
--- a table of a best split of the budget among the classes of these lines
-pub record IsSplitTable (budget : ℕ) (lines : List (List ℕ)) (text : List ℕ) : Type 0 where
+-- the table of a best split of the budget among the classes of these lines, in a form: by keys, or by size, where each line has one
+pub record IsSplitTable (form : SplitForm) (sizes : Bool) (budget : ℕ) (lines : List (List ℕ)) (text : List ℕ) : Type 0 where
   pub names : List (List ℕ)
   pub capacities : List ℕ
   pub classed : All (λ line. has_class line ≡ true) lines
+  pub sized : All (λ line. is_sized sizes line ≡ true) lines
   pub classes : AreClasses lines names
   pub few : length names ≤ most_classes
-  pub best : IsBestSplit length missed_by (step_for budget) budget (map (λ name. requests_of name lines) names) capacities
-  pub is : text ≡ split_text budget lines names capacities
+  pub best : IsBestSplit (all_of sizes) (missed_by sizes) (step_for budget) budget (map (λ name. requests_of name lines) names) capacities
+  pub is : IsTextOf form sizes (split_rows sizes budget lines names capacities) text

@@ -1,7 +1,7 @@
 //! The class that a line begins with.
 ghost use Rattle.std.specs.Prelude.{◌≡◌, ◌==◌, ◌<◌, ◌≤◌, ◌||◌, length, is_some, position, take, IfSome};
 ghost use Rattle.std.specs.List.{list_all};
-ghost use Rattle.clru_shares.specs.Classes.{class_in, has_class, is_class as is_class_by, is_class_byte};
+ghost use Rattle.clru_shares.specs.Classes.{class_in, has_class, is_class as is_class_by, is_class_byte, rest_in};
 
 /// Returns the class that a line begins with: what stands before its first blank, if these are one or more visible ASCII characters
 /// without `"`, `&`, `,`, `<`, `>` and `\`. Otherwise it returns `None`.
@@ -13,6 +13,16 @@ pub fn class_of(line: &[u8]) -> Option<&[u8]>
     match blank_at(line) {
         Some(at) => class_before(line, at),
         None => None,
+    }
+}
+
+/// Returns what follows a line's first blank: what the line would be without a class.
+pub(crate) fn rest_of(line: &[u8]) -> &[u8]
+    ensures { result.now ≡ rest_in line.now }
+{
+    match blank_at(line) {
+        Some(at) => &line[at + 1..],
+        None => &[],
     }
 }
 

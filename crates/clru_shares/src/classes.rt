@@ -1,12 +1,12 @@
 //! A pass for each class.
-ghost use Rattle.std.specs.Prelude.{◌≡◌, ◌≤◌, ℕ, List, [], ◌∷◌, ◌++◌, length, map, ◌<◌, true, false, IfErr, IfOk, OnOk};
+ghost use Rattle.std.specs.Prelude.{◌≡◌, ◌≤◌, ℕ, Bool, List, [], ◌∷◌, ◌++◌, length, map, ◌<◌, true, false, IfErr, IfOk, OnOk};
 ghost use Rattle.clru_report.specs.Passes.{line_of};
 ghost use Rattle.clru_shares.specs.Classes.{AreAscending, class_in, most_classes, requests_of};
 ghost use Rattle.clru_shares.specs.Passes.{BelongsAt, HasTaken, HaveTaken, IsHeldAt, name_of};
+ghost use Rattle.clru_shares.specs.Sizes.{own_size};
 
-use clru_curve::DistancePass;
+use crate::pass::{LinePass, empty_pass, take};
 use clru_lines::OwnedKey;
-use clru_report::take_key;
 use std::alloc::{AllocError, Allocator};
 use std::cmp::Ordering;
 use std::hash::BuildHasher;
@@ -14,12 +14,13 @@ use std::hash::BuildHasher;
 /// More classes than these are refused.
 pub(crate) const MOST_CLASSES: usize = 256;
 
-/// A class: the pass over its lines, and how many these are.
+/// A class: the pass over its lines, how many these are, and by size their size together.
 #[derive(Drop)]
 pub(crate) struct Class<S: BuildHasher + Copy, A: Allocator + Copy> {
     pub(crate) name: Vec<u8, A>,
     pub(crate) requests: usize,
-    pub(crate) pass: DistancePass<OwnedKey<A>, S, A>,
+    pub(crate) size: usize,
+    pub(crate) pass: LinePass<S, A>,
 }
 
 /// Returns where the class is among the others, or else where it belongs.
@@ -41,17 +42,20 @@ pub(crate) fn place_of<S: BuildHasher + Copy, A: Allocator + Copy>(
     Err(classes.len())
 }
 
-/// Takes one more line of a class, which may be new. Returns whether there was room for the class.
+/// Takes one more line of a class, which may be new, of this size. Returns whether there was room for the class.
 pub(crate) fn take_classed<S: BuildHasher + Copy, A: Allocator + Copy>(
     alloc: A,
     hash_builder: S,
+    sizes: bool,
     classes: &mut Vec<Class<S, A>, A>,
     name: &[u8],
     key: &OwnedKey<A>,
+    size: usize,
 ) -> Result<bool, AllocError>
-    requires { (lines : List (List ℕ)) × HaveTaken lines classes.old.items }
-    ensures taken { (lines : List (List ℕ)) → HaveTaken lines classes.old.items → name.now ≡ class_in (line_of key.now)
-        → IfOk result (λ has_room. has_room ≡ true → HaveTaken (lines ++ line_of key.now ∷ []) classes.new.items) }
+    requires size { size ≡ own_size sizes (line_of key.now) }
+    requires taken { (lines : List (List ℕ)) × HaveTaken sizes lines classes.old.items }
+    ensures taken { (lines : List (List ℕ)) → HaveTaken sizes lines classes.old.items → name.now ≡ class_in (line_of key.now)
+        → IfOk result (λ has_room. has_room ≡ true → HaveTaken sizes (lines ++ line_of key.now ∷ []) classes.new.items) }
     ensures full { IfOk result (λ has_room. has_room ≡ false
         → (most_classes ≤ length classes.old.items) × ((at : ℕ) × BelongsAt (map name_of classes.old.items) name.now at)) }
     ensures few { IfOk result (λ has_room. has_room ≡ true → length classes.old.items ≤ most_classes
@@ -59,14 +63,14 @@ pub(crate) fn take_classed<S: BuildHasher + Copy, A: Allocator + Copy>(
 {
     match place_of(classes, name) {
         Ok(at) => {
-            take_line(alloc, &mut classes[at], key)?;
+            take_line(alloc, &mut classes[at], key, size)?;
             Ok(true)
         }
         Err(at) => {
             if classes.len() >= MOST_CLASSES {
                 return Ok(false);
             }
-            let class = class_with(alloc, hash_builder, name, key)?;
+            let class = class_with(alloc, hash_builder, sizes, name, key, size)?;
             match classes.insert(at, class) {
                 Ok(()) => Ok(true),
                 Err(_) => Err(AllocError),
@@ -79,39 +83,48 @@ pub(crate) fn take_classed<S: BuildHasher + Copy, A: Allocator + Copy>(
 fn class_with<S: BuildHasher + Copy, A: Allocator + Copy>(
     alloc: A,
     hash_builder: S,
+    sizes: bool,
     name: &[u8],
     key: &OwnedKey<A>,
+    size: usize,
 ) -> Result<Class<S, A>, AllocError>
+    requires { size ≡ own_size sizes (line_of key.now) }
     ensures name { IfOk result (λ class. name_of class ≡ name.now) }
     ensures taken { (lines : List (List ℕ)) → requests_of name.now lines ≡ [] → name.now ≡ class_in (line_of key.now)
-        → IfOk result (HasTaken (lines ++ line_of key.now ∷ [])) }
+        → IfOk result (HasTaken sizes (lines ++ line_of key.now ∷ [])) }
     ensures some { IfOk result (λ class. 0 < class.requests) }
 {
     let mut class = Class {
         name: Vec::from_slice(alloc, name)?,
         requests: 0,
-        pass: DistancePass::with_hasher(alloc, hash_builder),
+        size: 0,
+        pass: empty_pass(alloc, hash_builder, sizes),
     };
-    take_line(alloc, &mut class, key)?;
+    take_line(alloc, &mut class, key, size)?;
     Ok(class)
 }
 
-// Takes one more line of this class.
+// Takes one more line of this class, of this size.
 fn take_line<S: BuildHasher + Copy, A: Allocator + Copy>(
     alloc: A,
     class: &mut Class<S, A>,
     key: &OwnedKey<A>,
+    size: usize,
 ) -> Result<(), AllocError>
-    requires { (lines : List (List ℕ)) × HasTaken lines class.old }
+    requires { (sizes : Bool) × (lines : List (List ℕ)) × HasTaken sizes lines class.old × (size ≡ own_size sizes (line_of key.now)) }
     ensures name { name_of class.new ≡ name_of class.old }
-    ensures taken { (lines : List (List ℕ)) → HasTaken lines class.old → name_of class.old ≡ class_in (line_of key.now)
-        → OnOk result (HasTaken (lines ++ line_of key.now ∷ []) class.new) }
+    ensures taken { (sizes : Bool) (lines : List (List ℕ)) → HasTaken sizes lines class.old → size ≡ own_size sizes (line_of key.now)
+        → name_of class.old ≡ class_in (line_of key.now) → OnOk result (HasTaken sizes (lines ++ line_of key.now ∷ []) class.new) }
     ensures some { OnOk result (0 < class.new.requests) }
 {
     let Some(requests) = class.requests.checked_add(1) else {
         return Err(AllocError);
     };
-    take_key(alloc, &mut class.pass, key)?;
+    let Some(total) = class.size.checked_add(size) else {
+        return Err(AllocError);
+    };
+    take(alloc, &mut class.pass, key, size)?;
     class.requests = requests;
+    class.size = total;
     Ok(())
 }

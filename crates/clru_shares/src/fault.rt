@@ -13,6 +13,10 @@ pub enum SplitFault {
     NoClass(usize),
     /// The line of this number has a class, and the lines before it have as many others as can be.
     TooManyClasses(usize),
+    /// Nothing that is a size follows the class of the line of this number, and by size one does in each line.
+    NoSize(usize),
+    /// The sizes of all lines together pass the greatest `usize`.
+    TooLarge,
     /// What any report may meet.
     Other(Fault),
 }
@@ -30,6 +34,13 @@ impl fmt::Display for SplitFault {
                 f,
                 "line {number} has one class too many: with --split there are at most 256"
             ),
+            SplitFault::NoSize(number) => write!(
+                f,
+                "line {number} has no size: with --split and --sizes one follows the class, as in images 512 /logo.png"
+            ),
+            SplitFault::TooLarge => {
+                f.write_str("the sizes of all lines add up to more than 18446744073709551615")
+            }
             SplitFault::Other(fault) => write!(f, "{fault}"),
         }
     }
@@ -45,7 +56,12 @@ pub fn split_status(outcome: &Result<(), SplitFault>) -> u8
 {
     match outcome {
         Ok(()) => 0,
-        Err(SplitFault::NoClass(_) | SplitFault::TooManyClasses(_)) => 6,
+        Err(
+            SplitFault::NoClass(_)
+            | SplitFault::TooManyClasses(_)
+            | SplitFault::NoSize(_)
+            | SplitFault::TooLarge,
+        ) => 6,
         Err(SplitFault::Other(fault)) => exit_status(&Err(*fault)),
     }
 }

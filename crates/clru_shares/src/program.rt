@@ -9,7 +9,10 @@ ghost use Rattle.clru_shares.specs.Passes.{HasTakenAll};
 ghost use Rattle.clru_shares.specs.Refusals.{IsSaidOfLines};
 ghost use Rattle.clru_shares.specs.Shares.{IsSplitTable, step_for};
 
+use crate::curve::curve_of;
 use crate::fault::SplitFault;
+use crate::form::text_of;
+use crate::options::SplitOptions;
 use crate::reading::{Passes, read_classes};
 use crate::share::{Share, shares_of};
 use crate::table::table_of;
@@ -23,33 +26,33 @@ use std::num::NonZeroUsize;
 // At most so many steps are within the budget.
 const MOST_STEPS: usize = 1000;
 
-/// Reads the whole input, and then writes the table of a best split of the budget among its classes. Lines are hashed with
-/// `hash_builder`: a best split is one under each that is lawful.
+/// Reads the whole input, and then writes the table of a best split of the budget among its classes, in this form. Lines are hashed
+/// with `hash_builder`: a best split is one under each that is lawful.
 /// Cost: two look-ups a line, and that of `split` for at most a thousand steps.
 pub fn run_split<R: Read, W: Write, S: BuildHasher + Copy, A: Allocator + Copy>(
     alloc: A,
-    budget: NonZeroUsize,
+    options: SplitOptions,
     reader: &mut R,
     writer: &mut W,
     hash_builder: S,
 ) -> Result<(), SplitFault>
     // The writer got a table of the whole input.
     ensures written { OnOk result (ReadWhole (R.remaining reader.old) (R.remaining reader.new)
-        (λ input. (text : List ℕ) × IsSplitTable (non_zero_usize_get budget) (lines_of input) text
+        (λ input. (text : List ℕ) × IsSplitTable options.form options.sizes (non_zero_usize_get options.budget) (lines_of input) text
         × Appends (W.contents writer.old) (W.contents writer.new) text)) }
     // The writer got a beginning of a table of the whole input.
     ensures cut_short { IfErr result (λ fault. comes_of_writing fault ≡ true
         → ReadWhole (R.remaining reader.old) (R.remaining reader.new)
-        (λ input. (text : List ℕ) × IsSplitTable (non_zero_usize_get budget) (lines_of input) text
+        (λ input. (text : List ℕ) × IsSplitTable options.form options.sizes (non_zero_usize_get options.budget) (lines_of input) text
         × (n : ℕ) × Appends (W.contents writer.old) (W.contents writer.new) (take n text))) }
     // A line of the input is not what a split wants, for the reason that the fault says.
     ensures refused { IfErr result (λ fault. comes_of_a_line fault ≡ true
-        → ReadWhole (R.remaining reader.old) (R.remaining reader.new) (λ input. IsSaidOfLines fault (lines_of input))) }
+        → ReadWhole (R.remaining reader.old) (R.remaining reader.new) (λ input. IsSaidOfLines options.sizes fault (lines_of input))) }
     // Any fault but those of writing comes before the first write.
     ensures silent { IfErr result (λ fault. comes_of_writing fault ≡ false
         → Keeps (W.contents writer.old) (W.contents writer.new)) }
 {
-    let text = match make_split(alloc, budget, reader, hash_builder) {
+    let text = match make_split(alloc, options, reader, hash_builder) {
         Ok(text) => text,
         Err(fault) => return Err(fault),
     };
@@ -59,50 +62,54 @@ pub fn run_split<R: Read, W: Write, S: BuildHasher + Copy, A: Allocator + Copy>(
     }
 }
 
-/// Returns the table of a best split of the budget among the classes of all that a reader gives.
+/// Returns the table of a best split of the budget among the classes of all that a reader gives, in this form.
 /// Cost: two look-ups a line, and that of `split` for at most a thousand steps.
 pub fn make_split<R: Read, S: BuildHasher + Copy, A: Allocator + Copy>(
     alloc: A,
-    budget: NonZeroUsize,
+    options: SplitOptions,
     reader: &mut R,
     hash_builder: S,
 ) -> Result<Vec<u8, A>, SplitFault>
     ensures table { IfOk result (λ text. ReadWhole (R.remaining reader.old) (R.remaining reader.new)
-        (λ input. IsSplitTable (non_zero_usize_get budget) (lines_of input) text.items)) }
+        (λ input. IsSplitTable options.form options.sizes (non_zero_usize_get options.budget) (lines_of input) text.items)) }
     ensures refused { IfErr result (λ fault. comes_of_a_line fault ≡ true
-        → ReadWhole (R.remaining reader.old) (R.remaining reader.new) (λ input. IsSaidOfLines fault (lines_of input))) }
+        → ReadWhole (R.remaining reader.old) (R.remaining reader.new) (λ input. IsSaidOfLines options.sizes fault (lines_of input))) }
     ensures fault { IfErr result (λ fault. comes_of_writing fault ≡ false) }
 {
-    let passes = match read_classes(alloc, reader, hash_builder) {
+    let passes = match read_classes(alloc, options.sizes, reader, hash_builder) {
         Ok(passes) => passes,
         Err(fault) => return Err(fault),
     };
-    match table_for(alloc, budget, &passes) {
+    match text_for(alloc, options, &passes) {
         Ok(text) => Ok(text),
         Err(_) => Err(SplitFault::Other(Fault::Memory)),
     }
 }
 
-fn table_for<S: BuildHasher + Copy, A: Allocator + Copy>(
+fn text_for<S: BuildHasher + Copy, A: Allocator + Copy>(
     alloc: A,
-    budget: NonZeroUsize,
+    options: SplitOptions,
     passes: &Passes<S, A>,
 ) -> Result<Vec<u8, A>, AllocError>
-    ensures { (lines : List (List ℕ)) → HasTakenAll lines passes.now
-        → IfOk result (λ text. IsSplitTable (non_zero_usize_get budget) lines text.items) }
+    ensures { (lines : List (List ℕ)) → HasTakenAll options.sizes lines passes.now
+        → IfOk result (λ text. IsSplitTable options.form options.sizes (non_zero_usize_get options.budget) lines text.items) }
 {
     let shares = shares_of(alloc, &passes.classes)?;
-    let Ok(curve) = passes.all.curve(alloc) else {
-        return Err(AllocError);
-    };
     let all = Share {
         name: Vec::from_slice(alloc, b"one for all")?,
         requests: passes.requests,
-        curve,
+        size: passes.size,
+        curve: curve_of(alloc, &passes.all)?,
     };
+    let SplitOptions {
+        budget,
+        sizes,
+        form,
+    } = options;
     let step = step_of(budget);
     let capacities = split(alloc, step, budget.get(), &shares)?;
-    table_of(alloc, budget, step, &shares, &capacities, &all)
+    let table = table_of(alloc, sizes, budget, step, &shares, &capacities, &all)?;
+    text_of(alloc, form, &table)
 }
 
 // The least step of which at most a thousand are within the budget.

@@ -1,36 +1,42 @@
 //! The curve of a class.
-ghost use Rattle.std.specs.Prelude.{◌≡◌, ℕ, List, map, IfOk};
+ghost use Rattle.std.specs.Prelude.{◌≡◌, ℕ, Bool, List, map, IfOk};
 ghost use Rattle.clru_shares.specs.Passes.{HasTaken, HaveShares, HaveTaken, IsShareOf, name_of};
 
 use crate::classes::Class;
-use clru_curve::MissCurve;
+use crate::curve::{LineCurve, curve_of};
 use clru_split::Curve;
 use std::alloc::{AllocError, Allocator};
 use std::hash::BuildHasher;
 use std::num::NonZeroUsize;
 
-/// A class with the number of its requests, and what misses at every capacity.
+/// A class with the number and the size of its requests, and what misses at every capacity.
 #[derive(Drop)]
 pub(crate) struct Share<A: Allocator> {
     pub(crate) name: Vec<u8, A>,
     pub(crate) requests: usize,
-    pub(crate) curve: MissCurve<A>,
+    pub(crate) size: usize,
+    pub(crate) curve: LineCurve<A>,
 }
 
 impl<A: Allocator> Curve for Share<A> {
-    ghost use Rattle.std.specs.Prelude.{Some};
-    ghost use Rattle.clru_curve.specs.Curves.{misses_at};
+    ghost use Rattle.clru_shares.specs.ShareCurves.{all_of_share, missed_of_share};
 
-    ghost all = { λ s. s.requests };
+    ghost all = { all_of_share };
 
-    ghost missed = { λ s k. Some (misses_at s.curve k) };
+    ghost missed = { missed_of_share };
 
     fn all(&self) -> usize {
-        self.requests
+        match &self.curve {
+            LineCurve::ByKeys(_) => self.requests,
+            LineCurve::BySize(_) => self.size,
+        }
     }
 
     fn missed(&self, capacity: NonZeroUsize) -> Option<usize> {
-        Some(self.curve.misses(capacity))
+        match &self.curve {
+            LineCurve::ByKeys(curve) => Some(curve.misses(capacity)),
+            LineCurve::BySize(curve) => curve.missed_size(capacity),
+        }
     }
 }
 
@@ -39,8 +45,8 @@ pub(crate) fn shares_of<S: BuildHasher + Copy, A: Allocator + Copy>(
     alloc: A,
     classes: &[Class<S, A>],
 ) -> Result<Vec<Share<A>, A>, AllocError>
-    ensures { (lines : List (List ℕ)) → HaveTaken lines classes.now → IfOk result (λ shares.
-        HaveShares lines (map name_of classes.now) shares.items) }
+    ensures { (sizes : Bool) (lines : List (List ℕ)) → HaveTaken sizes lines classes.now → IfOk result (λ shares.
+        HaveShares sizes lines (map name_of classes.now) shares.items) }
 {
     let mut shares = Vec::new(alloc);
     for class in classes {
@@ -53,14 +59,13 @@ fn share_of<S: BuildHasher + Copy, A: Allocator + Copy>(
     alloc: A,
     class: &Class<S, A>,
 ) -> Result<Share<A>, AllocError>
-    ensures { (lines : List (List ℕ)) → HasTaken lines class.now → IfOk result (IsShareOf lines (name_of class.now)) }
+    ensures { (sizes : Bool) (lines : List (List ℕ)) → HasTaken sizes lines class.now
+        → IfOk result (IsShareOf sizes lines (name_of class.now)) }
 {
-    let Ok(curve) = class.pass.curve(alloc) else {
-        return Err(AllocError);
-    };
     Ok(Share {
         name: Vec::from_slice(alloc, &class.name)?,
         requests: class.requests,
-        curve,
+        size: class.size,
+        curve: curve_of(alloc, &class.pass)?,
     })
 }

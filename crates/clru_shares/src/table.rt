@@ -1,59 +1,81 @@
-//! The text of the table.
-ghost use Rattle.std.specs.Prelude.{◌≡◌, ◌++◌, ◌*◌, ◌/◌, max, length, replicate, IfOk, OnOk};
+//! The rows of the table.
+ghost use Rattle.std.specs.Prelude.{◌≡◌, ◌*◌, ◌/◌, length, map, max, replicate, IfOk};
 ghost use Rattle.std.specs.Int.NonZero.{non_zero_usize_get};
 ghost use Rattle.std.specs.List.{sum_by};
-ghost use Rattle.clru_shares.specs.Passes.{missed_of, part_of_share, parts_of_shares};
-ghost use Rattle.clru_shares.specs.Shares.{part, part_text, parts_text, table_text};
+ghost use Rattle.clru_shares.specs.Passes.{part_of_row, part_of_share, parts_of_shares, parts_of_table};
+ghost use Rattle.clru_shares.specs.ShareCurves.{missed_pair};
+ghost use Rattle.clru_shares.specs.Shares.{rows, together};
 
+use crate::curve::LineCurve;
 use crate::share::Share;
-use clru_report::ratio_of;
 use std::alloc::{AllocError, Allocator};
 use std::num::NonZeroUsize;
 
-const HEADER: &[u8] = b"class,capacity,misses,miss_ratio\n";
+/// A class with a capacity, or a way to spend the budget.
+#[derive(Drop)]
+pub(crate) struct Row<A: Allocator> {
+    pub(crate) name: Vec<u8, A>,
+    pub(crate) capacity: usize,
+    pub(crate) misses: usize,
 
-/// Returns the table of these shares with these capacities, and of one cache for all.
+    /// How many requests there are.
+    pub(crate) requests: usize,
+
+    /// By size what is missed, and the size of the requests. By keys both are 0.
+    pub(crate) missed_size: usize,
+    pub(crate) size: usize,
+}
+
+/// The table of a split.
+#[derive(Drop)]
+pub(crate) struct Table<A: Allocator> {
+    pub(crate) by_size: bool,
+
+    /// What is split, of which only a picture tells.
+    pub(crate) budget: usize,
+
+    /// The classes with their parts of the best split.
+    pub(crate) parts: Vec<Row<A>, A>,
+
+    /// The same classes with equal parts, which only a picture shows.
+    pub(crate) equal_parts: Vec<Row<A>, A>,
+
+    /// All classes together: the best split, equal parts, and one cache for all.
+    pub(crate) best: Row<A>,
+    pub(crate) equal: Row<A>,
+    pub(crate) one: Row<A>,
+}
+
+/// Returns the table of these shares with these capacities, and of one cache for all, by size or by keys.
 pub(crate) fn table_of<A: Allocator + Copy>(
     alloc: A,
+    by_size: bool,
     budget: NonZeroUsize,
     step: NonZeroUsize,
     shares: &[Share<A>],
     capacities: &[usize],
     all: &Share<A>,
-) -> Result<Vec<u8, A>, AllocError>
-    ensures { IfOk result (λ text. text.items ≡ table_text all.now.requests (parts_of_shares shares.now capacities.now)
+) -> Result<Table<A>, AllocError>
+    ensures by_size { IfOk result (λ table. table.by_size ≡ by_size) }
+    ensures rows { IfOk result (λ table. parts_of_table table ≡ rows all.now.requests all.now.size (parts_of_shares shares.now capacities.now)
         (parts_of_shares shares.now (replicate (length shares.now) (non_zero_usize_get budget / max 1 (length shares.now)
         / non_zero_usize_get step * non_zero_usize_get step))) (part_of_share all.now (non_zero_usize_get budget))) }
 {
-    let equal = equal_capacities(alloc, budget, step, shares.len())?;
-    let mut text = Vec::new(alloc);
-    text.extend_from_slice(HEADER)?;
-    push_parts(alloc, &mut text, shares, capacities)?;
-    push_together(
-        alloc,
-        &mut text,
-        b"best split",
-        shares,
-        capacities,
-        all.requests,
-    )?;
-    push_together(
-        alloc,
-        &mut text,
-        b"equal parts",
-        shares,
-        &equal,
-        all.requests,
-    )?;
-    push_part(
-        alloc,
-        &mut text,
-        &all.name,
-        budget.get(),
-        missed(all, budget.get()),
-        all.requests,
-    )?;
-    Ok(text)
+    let capacity_of_each = equal_capacities(alloc, budget, step, shares.len())?;
+    let parts = rows_of(alloc, shares, capacities)?;
+    let equal_parts = rows_of(alloc, shares, &capacity_of_each)?;
+    let best = together_of(alloc, b"best split", &parts, all.requests, all.size)?;
+    let equal = together_of(alloc, b"equal parts", &equal_parts, all.requests, all.size)?;
+    let one = row_of(alloc, all, budget.get())?;
+    Ok(Table {
+        by_size,
+        budget: budget.get(),
+        parts,
+        equal_parts,
+        best,
+        equal,
+        one,
+    })
 }
 
 // As much for each, in whole steps.
@@ -72,95 +94,104 @@ fn equal_capacities<A: Allocator>(
     Ok(capacities)
 }
 
-// What misses with this capacity alone.
-fn missed<A: Allocator>(share: &Share<A>, capacity: usize) -> usize
-    ensures { result ≡ missed_of share.now capacity }
-{
-    match NonZeroUsize::new(capacity) {
-        Some(capacity) => share.curve.misses(capacity),
-        None => share.requests,
-    }
-}
-
 // The row of each.
-fn push_parts<A: Allocator + Copy>(
+fn rows_of<A: Allocator + Copy>(
     alloc: A,
-    text: &mut Vec<u8, A>,
     shares: &[Share<A>],
     capacities: &[usize],
-) -> Result<(), AllocError>
-    ensures { OnOk result (text.new.items ≡ text.old.items ++ parts_text (parts_of_shares shares.now capacities.now)) }
+) -> Result<Vec<Row<A>, A>, AllocError>
+    ensures { IfOk result (λ made. map part_of_row made.items ≡ parts_of_shares shares.now capacities.now) }
 {
+    let mut made = Vec::new(alloc);
     let count = shares.len().min(capacities.len());
     for index in 0..count {
-        let share = &shares[index];
-        let capacity = capacities[index];
-        push_part(
-            alloc,
-            text,
-            &share.name,
-            capacity,
-            missed(share, capacity),
-            share.requests,
-        )?;
+        made.push(row_of(alloc, &shares[index], capacities[index])?)?;
     }
-    Ok(())
+    Ok(made)
 }
 
-// The row of all of them together.
-fn push_together<A: Allocator + Copy>(
+fn row_of<A: Allocator + Copy>(
     alloc: A,
-    text: &mut Vec<u8, A>,
-    name: &[u8],
-    shares: &[Share<A>],
-    capacities: &[usize],
-    requests: usize,
-) -> Result<(), AllocError>
-    ensures { OnOk result (text.new.items ≡ text.old.items ++ part_text (part name.now
-        (sum_by (λ p. p.capacity) (parts_of_shares shares.now capacities.now))
-        (sum_by (λ p. p.misses) (parts_of_shares shares.now capacities.now)) requests)) }
+    share: &Share<A>,
+    capacity: usize,
+) -> Result<Row<A>, AllocError>
+    ensures { IfOk result (λ row. part_of_row row ≡ part_of_share share.now capacity) }
 {
-    let (capacity, misses) = sums_of(shares, capacities)?;
-    push_part(alloc, text, name, capacity, misses, requests)
+    let name = Vec::from_slice(alloc, &share.name)?;
+    match missed(&share.curve, capacity) {
+        Some((misses, missed_size)) => Ok(Row {
+            name,
+            capacity,
+            misses,
+            requests: share.requests,
+            missed_size,
+            size: share.size,
+        }),
+        None => Ok(Row {
+            name,
+            capacity: 0,
+            misses: share.requests,
+            requests: share.requests,
+            missed_size: share.size,
+            size: share.size,
+        }),
+    }
 }
 
-// The sums of capacities and misses. They are those of parts of one budget and one log, so they do not overflow.
-fn sums_of<A: Allocator>(
-    shares: &[Share<A>],
-    capacities: &[usize],
-) -> Result<(usize, usize), AllocError>
-    ensures capacity { IfOk result (λ sums. sums.0 ≡ sum_by (λ p. p.capacity) (parts_of_shares shares.now capacities.now)) }
-    ensures misses { IfOk result (λ sums. sums.1 ≡ sum_by (λ p. p.misses) (parts_of_shares shares.now capacities.now)) }
+// The requests that miss with this capacity alone, and by size their size, if each has room.
+fn missed<A: Allocator>(curve: &LineCurve<A>, capacity: usize) -> Option<(usize, usize)>
+    ensures { result ≡ missed_pair curve.now capacity }
+{
+    let capacity = NonZeroUsize::new(capacity)?;
+    match curve {
+        LineCurve::ByKeys(curve) => Some((curve.misses(capacity), 0)),
+        LineCurve::BySize(curve) => {
+            Some((curve.misses(capacity)?, curve.missed_size(capacity)?))
+        }
+    }
+}
+
+// The row of all of them together, of so many requests of this size.
+fn together_of<A: Allocator + Copy>(
+    alloc: A,
+    name: &[u8],
+    parts: &[Row<A>],
+    requests: usize,
+    size: usize,
+) -> Result<Row<A>, AllocError>
+    ensures { IfOk result (λ row. part_of_row row ≡ together name.now requests size (map part_of_row parts.now)) }
+{
+    let (capacity, misses, missed_size) = sums_of(parts)?;
+    Ok(Row {
+        name: Vec::from_slice(alloc, name)?,
+        capacity,
+        misses,
+        requests,
+        missed_size,
+        size,
+    })
+}
+
+// The sums of capacities, misses and missed sizes. They are those of parts of one budget and one log, so they do not overflow.
+fn sums_of<A: Allocator>(parts: &[Row<A>]) -> Result<(usize, usize, usize), AllocError>
+    ensures capacity { IfOk result (λ sums. sums.0 ≡ sum_by (λ p. p.capacity) (map part_of_row parts.now)) }
+    ensures misses { IfOk result (λ sums. sums.1 ≡ sum_by (λ p. p.misses) (map part_of_row parts.now)) }
+    ensures missed_size { IfOk result (λ sums. sums.2 ≡ sum_by (λ p. p.missed_size) (map part_of_row parts.now)) }
 {
     let mut capacity: usize = 0;
     let mut misses: usize = 0;
-    let count = shares.len().min(capacities.len());
-    for index in 0..count {
-        let own = capacities[index];
-        let (Some(more), Some(missed)) = (
-            capacity.checked_add(own),
-            misses.checked_add(missed(&shares[index], own)),
+    let mut missed_size: usize = 0;
+    for part in parts {
+        let (Some(more), Some(missed), Some(lost)) = (
+            capacity.checked_add(part.capacity),
+            misses.checked_add(part.misses),
+            missed_size.checked_add(part.missed_size),
         ) else {
             return Err(AllocError);
         };
         capacity = more;
         misses = missed;
+        missed_size = lost;
     }
-    Ok((capacity, misses))
-}
-
-fn push_part<A: Allocator + Copy>(
-    alloc: A,
-    text: &mut Vec<u8, A>,
-    name: &[u8],
-    capacity: usize,
-    misses: usize,
-    requests: usize,
-) -> Result<(), AllocError>
-    ensures { OnOk result (text.new.items ≡ text.old.items ++ part_text (part name.now capacity misses requests)) }
-{
-    let ratio = ratio_of(misses, requests);
-    let numbers = format!(in alloc; ",{capacity},{misses},{ratio}\n")?;
-    text.extend_from_slice(name)?;
-    text.extend_from_slice(numbers.as_bytes())
+    Ok((capacity, misses, missed_size))
 }

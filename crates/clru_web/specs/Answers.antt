@@ -1,6 +1,7 @@
 -- What the result of a call says of its arguments and of the log. A is the type of the allocator's handle, which options hold.
 use Rattle.std.specs.Fmt.Cut.{IsTextOrCut}
-use Rattle.std.specs.Prelude.{◌≡◌, ℕ, not, List, [], ◌∷◌, ◌++◌, bytes_eq, codes, take, if◌then◌else◌}
+use Rattle.std.specs.Option.{is_some}
+use Rattle.std.specs.Prelude.{◌≡◌, ℕ, not, Bool, List, [], ◌∷◌, ◌++◌, bytes_eq, codes, decimal, take, if◌then◌else◌}
 use Rattle.std.specs.List.{filter}
 use Rattle.std.specs.Str.{is_utf8}
 use Rattle.std.specs.Str.Lines.{lines}
@@ -10,6 +11,7 @@ use Rattle.clru_report.specs.Report.{IsReport}
 use Rattle.clru_report.specs.Refusals.{IsRefused}
 use Rattle.clru_lines.specs.Faults.{fault_text, status_of}
 use Rattle.clru_lines.specs.declared.fault.Fault.{Fault}
+use Rattle.clru_lines.specs.declared.fault.Fault.TheVariants.{NoSize}
 use Rattle.clru_report.specs.declared.options.Options.{Options}
 use Rattle.clru_report.specs.declared.help.TheConstants.{HELP, VERSION}
 
@@ -36,10 +38,22 @@ IsSaid what room text = text ≡ take room (codes "clru_mrc: " ++ (what ++ 10 �
 abbrev pub IsTold : Fault → ℕ → List ℕ → Type 0
 IsTold fault room text = (what : List ℕ) × IsTextOrCut 160 (fault_text fault) what × IsSaid what room text
 
+abbrev pub no_time_text : ℕ → List ℕ
+no_time_text n = codes "line " ++ (decimal n ++ codes " has no time: with --times each begins with one and a blank, as in 1700000000.123 /index.html")
+
+-- what is printed of a fault of a log: where each line is to have a time, the one that is missing is no size
+abbrev pub log_fault_text : Bool → Fault → List ℕ
+log_fault_text timed (NoSize n) = if timed then no_time_text n else fault_text (NoSize n)
+log_fault_text timed fault = fault_text fault
+
+-- the text is the line of a fault of a log
+abbrev pub IsToldOfLog : Bool → Fault → ℕ → List ℕ → Type 0
+IsToldOfLog timed fault room text = (what : List ℕ) × IsTextOrCut 160 (log_fault_text timed fault) what × IsSaid what room text
+
 -- these options have no report of the log, for a reason that has this exit status, and the text tells it
 abbrev pub IsRefusedWith : {A : Type 0} → ℕ → Options A → List ℕ → ℕ → List ℕ → Type 0
 IsRefusedWith status options log room text = (fault : Fault) × IsRefused fault options log × (status_of fault ≡ status)
-    × IsTold fault room text
+    × IsToldOfLog (is_some options.times) fault room text
 
 -- a report is asked for, and the log has none
 abbrev pub HasNoReport : Type 0 → ℕ → Reading → List ℕ → ℕ → List ℕ → Type 0

@@ -4,7 +4,7 @@ ghost use Rattle.clru_web.specs.Answers.{HasNoReport, IsRefusedWith, IsTextOf, I
 ghost use Rattle.clru_report.specs.Arguments.{is_wrong, IsAskedFor, IsRefusedLine};
 ghost use Rattle.clru_report.specs.Report.{IsReport};
 
-use crate::text::{put_whole, say, tell};
+use crate::text::{put_whole, say, tell, tell_no_time};
 use clru_report::{Command, Fault, HELP, Options, Refusal, VERSION, command_of, make_report};
 use std::alloc::{AllocError, Allocator};
 use std::hash::BuildHasher;
@@ -65,6 +65,9 @@ fn run_report<S: BuildHasher + Copy, A: Allocator + Copy>(
     let mut left = log;
     match make_report(alloc, options, &mut left, hash_builder) {
         Ok(report) => put_whole(report.as_bytes(), text, written),
+        Err(Fault::NoSize(number)) if options.times.is_some() => {
+            tell_no_time(number, text, written)
+        }
         Err(fault) => tell(fault, text, written),
     }
 }

@@ -3,6 +3,7 @@
 
 mod answer;
 mod exports;
+mod split;
 #[cfg(test)]
 mod tests;
 mod text;

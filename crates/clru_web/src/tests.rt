@@ -1,5 +1,5 @@
 // What a call answers, beside what `clru_mrc` writes for the same words and log; and where block or text are too small.
-use crate::exports::report;
+use crate::exports::{report, split};
 use crate::text::tell;
 use clru_lines::Seed;
 use clru_report::Fault;
@@ -95,6 +95,79 @@ static CALLS: &[(usize, &str, &str, usize, u32, &str)] = &[
         6,
         "clru_mrc: line 2 has no size: with --sizes each begins with one and a blank, as in 512 /index.html\n",
     ),
+    (
+        ENOUGH,
+        "--times",
+        "5 a\nb\n",
+        256,
+        6,
+        "clru_mrc: line 2 has no time: with --times each begins with one and a blank, as in 1700000000.123 /index.html\n",
+    ),
+];
+
+// of a block, a budget, whether there are sizes, a form, a log and the room for the text the status and the text
+static SPLITS: &[(usize, usize, u64, u64, &str, usize, u32, &str)] = &[
+    (
+        ENOUGH,
+        2,
+        0,
+        0,
+        "b x\na y\na y\n",
+        256,
+        0,
+        "class,capacity,misses,miss_ratio\na,1,1,0.500000\nb,0,1,1.000000\nbest split,1,2,0.666667\nequal parts,2,2,0.666667\none for all,2,2,0.666667\n",
+    ),
+    (
+        ENOUGH,
+        1,
+        0,
+        1,
+        "",
+        256,
+        0,
+        "{\"class\":\"best split\",\"capacity\":0,\"misses\":0,\"miss_ratio\":0.000000}\n{\"class\":\"equal parts\",\"capacity\":0,\"misses\":0,\"miss_ratio\":0.000000}\n{\"class\":\"one for all\",\"capacity\":1,\"misses\":0,\"miss_ratio\":0.000000}\n",
+    ),
+    (
+        ENOUGH,
+        0,
+        1,
+        0,
+        "a b\n",
+        256,
+        2,
+        "clru_mrc: a budget is at least 1\n",
+    ),
+    (64, 2, 0, 2, "a b\n", 256, 3, "clru_mrc: memory ran out\n"),
+    (
+        ENOUGH,
+        2,
+        0,
+        2,
+        "a b\n",
+        256,
+        5,
+        "clru_mrc: standard output cannot be written\n",
+    ),
+    (
+        ENOUGH,
+        2,
+        0,
+        0,
+        "a b\nc\n",
+        256,
+        6,
+        "clru_mrc: line 2 has no class: with --split each begins with one and a blank, as in images /logo.png\n",
+    ),
+    (
+        ENOUGH,
+        7,
+        1,
+        0,
+        "b 5 x\na 3 y\na 3 y\n",
+        256,
+        0,
+        "class,capacity,misses,miss_ratio,missed_bytes,byte_miss_ratio\na,3,1,0.500000,3,0.500000\nb,0,1,1.000000,5,1.000000\nbest split,3,2,0.666667,8,0.727273\nequal parts,3,2,0.666667,8,0.727273\none for all,7,2,0.666667,8,0.727273\n",
+    ),
 ];
 
 // The first bytes of an array, as many as there is room for.
@@ -112,6 +185,31 @@ fn a_call_answers_as_the_program(rt: HostRuntime) {
         let code = report(
             loan,
             words.as_bytes(),
+            log.as_bytes(),
+            1,
+            2,
+            first(&mut text, *room),
+            &mut written,
+        );
+        equal(
+            &rt,
+            (code, text.get(..written)),
+            (*status, Some(wanted.as_bytes())),
+        );
+    }
+}
+
+#[test]
+fn a_split_answers_as_the_program(rt: HostRuntime) {
+    for (size, budget, sizes, form, log, room, status, wanted) in SPLITS {
+        let loan = Loan::taken(&rt.alloc(), *size).expect(&rt, "a block");
+        let mut text = [0; 256];
+        let mut written = 0;
+        let code = split(
+            loan,
+            *budget,
+            *sizes,
+            *form,
             log.as_bytes(),
             1,
             2,

@@ -1,13 +1,33 @@
 //! The text that is handed back.
-ghost use Rattle.std.specs.Prelude.{◌≡◌, ◌⊎◌, ◌+◌, ◌-◌, ◌<◌, ◌≤◌, ◌++◌, length, min, take};
+ghost use Rattle.std.specs.Prelude.{◌≡◌, true, Some, ◌⊎◌, ◌+◌, ◌-◌, ◌<◌, ◌≤◌, ◌++◌, length, min, take};
 ghost use Rattle.clru_lines.specs.Faults.{status_of};
-ghost use Rattle.clru_web.specs.Answers.{IsSaid, IsTold};
+ghost use Rattle.clru_lines.specs.declared.fault.Fault.TheVariants.{NoSize};
+ghost use Rattle.clru_shares.specs.Faults.{split_status_of};
+ghost use Rattle.clru_web.specs.Answers.{IsSaid, IsTold, IsToldOfLog, no_time_text};
+ghost use Rattle.clru_web.specs.Splits.{IsToldOfSplit};
 
 use clru_report::{Fault, exit_status};
-use std::fmt::InlineText;
+use clru_shares::{SplitFault, split_status};
+use std::fmt::{self, InlineText};
 
-// The line of a fault. The longest has some 110 bytes.
+// The line of a fault. The longest has some 120 bytes.
 type FaultLine = InlineText<160>;
+
+// What is printed of a line without a time.
+#[derive(Clone, Copy)]
+struct NoTime(usize);
+
+impl fmt::Display for NoTime {
+    ghost output = { λ t. Some (no_time_text t.0) };
+
+    fn fmt<W: fmt::Write>(&self, f: &mut fmt::Formatter<W>) -> fmt::Result {
+        let number = self.0;
+        write!(
+            f,
+            "line {number} has no time: with --times each begins with one and a blank, as in 1700000000.123 /index.html"
+        )
+    }
+}
 
 /// Writes the bytes and returns 0, or 5 if there is no room for all of them.
 pub(crate) fn put_whole(bytes: &[u8], text: &mut [u8], written: &mut usize) -> u32
@@ -37,6 +57,30 @@ pub(crate) fn tell(fault: Fault, text: &mut [u8], written: &mut usize) -> u32
     let line = FaultLine::of(fault);
     say(line.as_str().as_bytes(), text, written);
     exit_status(&Err(fault)) as u32
+}
+
+/// Writes the program's line for a line of the log without a time, and returns its exit status.
+pub(crate) fn tell_no_time(number: usize, text: &mut [u8], written: &mut usize) -> u32
+    ensures status { result ≡ 6 }
+    ensures told { IsToldOfLog true (NoSize number) (length text.old) (take written.new text.new) }
+    ensures within { written.new ≤ length text.new }
+    ensures length { length text.new ≡ length text.old }
+{
+    let line = FaultLine::of(NoTime(number));
+    say(line.as_str().as_bytes(), text, written);
+    6
+}
+
+/// Writes the program's line for a fault of a split, and returns its exit status.
+pub(crate) fn tell_split(fault: SplitFault, text: &mut [u8], written: &mut usize) -> u32
+    ensures status { result ≡ split_status_of fault }
+    ensures told { IsToldOfSplit fault (length text.old) (take written.new text.new) }
+    ensures within { written.new ≤ length text.new }
+    ensures length { length text.new ≡ length text.old }
+{
+    let told = FaultLine::of(fault);
+    say(told.as_str().as_bytes(), text, written);
+    split_status(&Err(fault)) as u32
 }
 
 /// Writes a line that begins with the program's name, as much as there is room for.

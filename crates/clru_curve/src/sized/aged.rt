@@ -1,9 +1,9 @@
 //! `SizedAgedPass`, which takes requests with times of keys with sizes, and counts misses at given capacities under an age limit.
 ghost use Rattle.std.specs.Prelude.{◌≡◌, ℕ, ◌+◌, ◌^◌, ◌<◌, ◌≤◌, ◌↔◌, List, [], ◌∷◌, reverse, length, map, IfOk, IfErr, IfSome, IsErrAnd, OnOk, OnErr, IsTrue, IsNone, None, Option, is_some, true, false};
 ghost use Rattle.std.specs.List.{list_any};
-ghost use Rattle.std.specs.Map.{keys_of, lookup, set_value};
+ghost use Rattle.std.specs.Map.{keys_of, lookup};
+ghost use Rattle.clru_linked_map.specs.LinkedMap.{hash_of};
 ghost use Rattle.clru_model.specs.Sizes.{SameWeights, total};
-ghost use Rattle.clru_curve.specs.Fetches.{fetched_at};
 ghost use Rattle.clru_curve.specs.SizedAgedPasses.{IsSizedAgedPass, aged_misses_by_size, aged_missed_size};
 ghost use Rattle.clru_curve.specs.SizedCurves.{size_of_all, greatest_of};
 ghost use Rattle.clru_curve.specs.SizedPasses.{key_of, IsTooLarge};
@@ -64,17 +64,17 @@ impl<K: Eq + Hash + Drop, S: BuildHasher + Drop, A: Allocator + Copy> Drop
 impl<K: Eq + Hash, S: BuildHasher, A: Allocator + Copy> Model for SizedAgedPass<K, S, A> {
     ghost use Rattle.clru_curve.specs.SizedAgedPasses.{AgedPassBySize, aged_pass_by_size, aged_pass_by_size_code, fetch_table, IsSoundAgedBySize};
 
-    ghost Value = { AgedPassBySize K };
+    ghost Value = { AgedPassBySize K S };
 
-    ghost coded = { aged_pass_by_size_code K.code };
+    ghost coded = { aged_pass_by_size_code K.code S.code };
 
     ghost view = { λ p. aged_pass_by_size p.seen.entries p.latest.sizes.items p.latest.requests
         (fetch_table p.fetches.capacities.items p.fetches.misses.items p.fetches.missed_sizes.items p.fetches.times.items p.fetches.age)
-        p.size p.greatest p.idle };
+        p.size p.greatest p.idle p.seen.builder };
 
     ghost invariant = { λ p. IsSoundAgedBySize K.eq p.latest.nodes.items (aged_pass_by_size p.seen.entries p.latest.sizes.items p.latest.requests
         (fetch_table p.fetches.capacities.items p.fetches.misses.items p.fetches.missed_sizes.items p.fetches.times.items p.fetches.age)
-        p.size p.greatest p.idle) };
+        p.size p.greatest p.idle p.seen.builder) };
 }
 
 impl<K: Eq + Hash, A: Allocator + Copy> SizedAgedPass<K, DefaultState, A> {
@@ -141,9 +141,10 @@ impl<K: Eq + Hash, S: BuildHasher, A: Allocator + Copy> SizedAgedPass<K, S, A> {
         ensures given_back { IfErr result (λ e. key_of e ≡ key) }
         ensures too_large { IsErrAnd result IsTooLarge ↔ (2 ^ 64 ≤ self.old.size + (1 + weight)) }
     {
-        match self.again(&key, time, weight) {
+        let hash = self.seen.hash(&key);
+        match self.again(hash, &key, time, weight) {
             Ok(true) => Ok(()),
-            Ok(false) => match self.request_new(key, time, weight) {
+            Ok(false) => match self.request_new(hash, key, time, weight) {
                 Ok(()) => Ok(()),
                 Err(key) => Err(SizedRequestError::NoMemory(key)),
             },
@@ -176,16 +177,19 @@ impl<K: Eq + Hash, S: BuildHasher, A: Allocator + Copy> SizedAgedPass<K, S, A> {
         ensures given_back { IfErr result (λ e. key_of e ≡ key) }
         ensures too_large { IsErrAnd result IsTooLarge ↔ (2 ^ 64 ≤ self.old.size + (1 + weight)) }
     {
-        self.again(key, time, weight)
+        let hash = self.seen.hash(key);
+        self.again(hash, key, time, weight)
     }
 
-    /// `request_again`, which also says by what was seen alone whether the key is known, whatever keys weighed.
+    /// `request_again`, with the hash of the key. It also says by what was seen alone whether the key is known, whatever keys weighed.
     fn again<Q: Equivalent<K>>(
         &mut self,
+        hash: u64,
         key: Q,
         time: usize,
         weight: usize,
     ) -> Result<bool, SizedRequestError<Q>>
+        requires hash { hash ≡ hash_of Q.Hash S.BuildHasher S.Hasher.Hasher self.old.builder key }
         ensures taken { (w : K → ℕ) (cs : List ℕ) (idle : Option ℕ) (age : ℕ) (past : List (K × ℕ)) (x : K) → SameWeights K.eq w
             → IsSizedAgedPass K.eq w cs idle age past self.old → w x ≡ weight → IsTrue (Q.equivalent key x)
             → IfOk result (λ taken. IsTrue taken → IsSizedAgedPass K.eq w cs idle age ((x, time) ∷ past) self.new) }
@@ -206,7 +210,7 @@ impl<K: Eq + Hash, S: BuildHasher, A: Allocator + Copy> SizedAgedPass<K, S, A> {
         };
         let position = self.latest.requests;
         let here = Seen { position, time };
-        let Some(before) = move_seen(&mut self.seen, key, here) else {
+        let Some(before) = self.seen.see_again(hash, key, here) else {
             return Ok(false);
         };
         let span = self.latest.remove(before.seen.position);
@@ -219,10 +223,11 @@ impl<K: Eq + Hash, S: BuildHasher, A: Allocator + Copy> SizedAgedPass<K, S, A> {
         Ok(true)
     }
 
-    /// Takes one more request, of a key that was not requested before.
-    fn request_new(&mut self, key: K, time: usize, weight: usize) -> Result<(), K>
+    /// Takes one more request, of a key that was not requested before, with its hash.
+    fn request_new(&mut self, hash: u64, key: K, time: usize, weight: usize) -> Result<(), K>
     where
         K: Drop,
+        requires hash { hash ≡ hash_of K.Hash S.BuildHasher S.Hasher.Hasher self.old.builder key }
         requires new { lookup (K.eq key) self.old.seen ≡ None }
         requires fits { self.old.size + (1 + weight) < 2 ^ 64 }
         ensures taken { (w : K → ℕ) (cs : List ℕ) (idle : Option ℕ) (age : ℕ) (past : List (K × ℕ)) → SameWeights K.eq w
@@ -246,7 +251,7 @@ impl<K: Eq + Hash, S: BuildHasher, A: Allocator + Copy> SizedAgedPass<K, S, A> {
             seen: Seen { position, time },
             first,
         };
-        if let Err(key) = add_seen(&mut self.seen, key, here) {
+        if let Err(key) = self.seen.insert(hash, key, here) {
             return Err(key);
         }
         self.latest.push(size);
@@ -291,7 +296,7 @@ impl<K: Eq + Hash, S: BuildHasher, A: Allocator + Copy> SizedAgedPass<K, S, A> {
         ensures { (w : K → ℕ) (cs : List ℕ) (idle : Option ℕ) (age : ℕ) (past : List (K × ℕ))
             → IsSizedAgedPass K.eq w cs idle age past self.now → result ≡ size_of_all w (keys_of past) }
     {
-        self.size
+        self.size // of each request, not of each key
     }
 
     /// Returns the size of all distinct keys so far.
@@ -309,47 +314,6 @@ impl<K: Eq + Hash, S: BuildHasher, A: Allocator + Copy> SizedAgedPass<K, S, A> {
         ensures { (w : K → ℕ) (cs : List ℕ) (idle : Option ℕ) (age : ℕ) (past : List (K × ℕ))
             → IsSizedAgedPass K.eq w cs idle age past self.now → result ≡ greatest_of w (keys_of past) }
     {
-        self.greatest
+        self.greatest // 0 without requests
     }
-}
-
-/// Notes another latest request of a key that is held, and returns what was noted of it.
-fn move_seen<K, S, A, Q>(
-    seen: &mut KeyTable<K, Fetched, S, A>,
-    key: Q,
-    here: Seen,
-) -> Option<Fetched>
-where
-    K: Eq + Hash,
-    S: BuildHasher,
-    A: Allocator + Copy,
-    Q: Equivalent<K>,
-    ensures found { result ≡ lookup (Q.equivalent key) seen.old.entries }
-    ensures same { IsNone result → seen.new.entries ≡ seen.old.entries }
-    ensures moved { IfSome result (λ before. seen.new.entries
-        ≡ set_value (Q.equivalent key) seen.old.entries (fetched_at here before.first)) }
-{
-    let hash = seen.hash(key);
-    let Some(before) = seen.get(hash, key) else {
-        return None;
-    };
-    let first = before.first;
-    seen.replace(hash, key, Fetched { seen: here, first });
-    Some(before)
-}
-
-/// Adds a key that is not held.
-fn add_seen<K, S, A>(seen: &mut KeyTable<K, Fetched, S, A>, key: K, here: Fetched) -> Result<(), K>
-where
-    K: Eq + Hash + Drop,
-    S: BuildHasher,
-    A: Allocator + Copy,
-    requires new { lookup (K.eq key) seen.old.entries ≡ None }
-    requires countable { length seen.old.entries + 1 < 2 ^ 64 }
-    ensures added { OnOk result (seen.new.entries ≡ (key, here) ∷ seen.old.entries) }
-    ensures refused { OnErr result (seen.new.entries ≡ seen.old.entries) }
-    ensures given_back { IfErr result (λ back. back ≡ key) }
-{
-    let hash = seen.hash(&key);
-    seen.insert(hash, key, here)
 }

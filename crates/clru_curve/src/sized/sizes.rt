@@ -158,8 +158,12 @@ fn sum_anew(nodes: &mut [usize], sizes: &[Numbered])
     ensures counted { IsCounted (λ j. sizes_from sizes.now (16 * j)) nodes.new }
 {
     nodes.fill(0);
-    for at in 0..sizes.len() {
-        add_at(nodes, at / BLOCK, sizes[at].value);
+    let mut at = 0;
+    while at < sizes.len() {
+        let block = at / BLOCK;
+        let end = ((block + 1) * BLOCK).min(sizes.len());
+        add_at(nodes, block, sum_between(sizes, at, end));
+        at = end;
     }
 }
 

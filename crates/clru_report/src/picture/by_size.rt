@@ -7,19 +7,20 @@ use super::picture_of;
 use super::plot::{Line, Plot};
 use crate::options::{Capacities, Options};
 use crate::sample::times;
-use crate::sized::{Floors, Totals, distinct_of, first_capacity, sized_capacities_for};
+use crate::sized::{Floors, Totals, first_capacity, sized_capacities_for};
 use clru_curve::{SizedCurve, Step};
 use std::alloc::{AllocError, Allocator};
 use std::num::NonZeroUsize;
 
 /// The picture of a curve: which part of the requests misses, and which of their size, with a line for the floor of this one if it is
-/// there. Where the curve is of one key in some
-/// number, it shows what that says of all requests, as rows do.
+/// there. The curve has so many distinct keys. Where it is of one key in some number, the picture shows what that says of all
+/// requests, as rows do.
 pub(crate) fn picture_by_size<A: Allocator + Copy>(
     alloc: A,
     curve: &SizedCurve<A>,
     floors: &Option<Floors<A>>,
     totals: Totals,
+    distinct: usize,
     options: &Options<A>,
     table: &str,
 ) -> Result<String<A>, AllocError>
@@ -41,7 +42,7 @@ pub(crate) fn picture_by_size<A: Allocator + Copy>(
     };
     let plot = Plot {
         requests: totals.requests,
-        distinct: times(one_in, usize::MAX, distinct_of(curve)),
+        distinct: times(one_in, usize::MAX, distinct),
         one_in,
         after: options.after,
         unit: "bytes",
@@ -123,6 +124,7 @@ fn lines_of<A: Allocator + Copy>(
     let one_in = totals.one_in;
     let least = first_capacity(curve);
     let (misses, missed_size) = missed_at(curve, (first / one_in.get()).max(least));
+    let (fewest, fewest_size) = missed_at(curve, curve.distinct_size());
     let hits = curve.requests().saturating_sub(misses);
     let steps = curve.as_slice().get(hits..).unwrap_or(&[]);
     let (marks, marks_of_sizes) = marks_of(alloc, curve, totals, capacities)?;
@@ -133,7 +135,7 @@ fn lines_of<A: Allocator + Copy>(
         whole: totals.requests,
         start: times(one_in, totals.requests, misses),
         steps: steps_of_requests(alloc, steps, totals, misses)?,
-        floor: times(one_in, totals.requests, distinct_of(curve)),
+        floor: times(one_in, totals.requests, fewest),
         marks,
     })?;
     lines.push(Line {
@@ -142,7 +144,7 @@ fn lines_of<A: Allocator + Copy>(
         whole: totals.size,
         start: times(one_in, totals.size, missed_size),
         steps: steps_of_sizes(alloc, steps, totals)?,
-        floor: times(one_in, totals.size, curve.distinct_size()),
+        floor: times(one_in, totals.size, fewest_size),
         marks: marks_of_sizes,
     })?;
     Ok(lines)

@@ -3,7 +3,7 @@
 /// A picture that is shown small has larger letters, and fewer of the numbers. The marks can be told apart without
 /// their colours, and the page behind the picture shows nowhere; round a picture that is a file of its own it is dark or light as
 /// the picture. On paper it is as on a light page.
-pub(crate) const STYLE: &str = "<style>
+pub const STYLE: &str = "<style>
 .clru_mrc{max-width:100%;height:auto;color-scheme:light dark}
 .clru_mrc text{font-family:sans-serif;font-size:150px;fill:#222}
 .clru_mrc .page{fill:#fff}

@@ -113,7 +113,7 @@ pub(super) fn count_and_take<S: BuildHasher, A: Allocator + Copy>(
 }
 
 /// Returns the size of all lines with one more, of this number.
-pub(super) fn count_line(line: &[u8], number: usize, size: usize) -> Result<usize, Fault>
+pub(crate) fn count_line(line: &[u8], number: usize, size: usize) -> Result<usize, Fault>
     ensures sum { IfOk result (λ more. more ≡ size + (1 + weight_of_line line.now)) }
     ensures sized { OnOk result (IsSome (size_of_line line.now)) }
     ensures refused { (lines rest : List (List ℕ)) → HaveSizes lines → size ≡ size_of_lines lines → number ≡ length lines + 1

@@ -1,15 +1,12 @@
 //! The text of a report by size of a sample.
-ghost use Rattle.std.specs.Prelude.{◌≡◌, ℕ, ◌+◌, ◌-◌, ◌/◌, ◌^◌, List, length, map, min, nat_le, IfOk, string_bytes};
+ghost use Rattle.std.specs.Prelude.{◌≡◌, ◌+◌, ◌-◌, ◌/◌, ◌^◌, map, min, nat_le, IfOk, string_bytes};
 ghost use Rattle.std.specs.Int.NonZero.{non_zero_usize_get};
 ghost use Rattle.std.specs.List.{filter};
-ghost use Rattle.std.specs.Str.{bytes_eq};
-ghost use Rattle.clru_curve.specs.SizedCurves.{IsSizedCurveOf};
 ghost use Rattle.std.specs.Option.{option_map};
-ghost use Rattle.clru_report.specs.Passes.{AreFloorsFor, capacities_on, distinct_in, IsSettled, wants_floor};
+ghost use Rattle.clru_report.specs.Passes.{capacities_on, distinct_in, IsSettled};
+ghost use Rattle.clru_report.specs.SampleTables.{AreSampledRows, IsSampledTable, IsSampledText};
 ghost use Rattle.clru_report.specs.Samples.{floor_times, sized_numbers_of, sized_numbers_times, times as times_of};
-ghost use Rattle.clru_report.specs.SizedReport.{AreSizedRowsOfSample, IsInFormBySizeOfSample, IsSizedTableOfSample};
 ghost use Rattle.clru_report.specs.SizedTables.{sized_summary_text};
-ghost use Rattle.clru_report.specs.Sizes.{weight_of_line};
 
 use super::capacities::{first_capacity, sized_capacities_for, sized_usual_table};
 use super::floors::{Floors, RowFloor};
@@ -30,26 +27,26 @@ pub(crate) struct Totals {
     pub(crate) size: usize,
 }
 
-/// The text in the form that is asked for, of a curve of kept requests.
-pub(super) fn text_of_sized_sample<A: Allocator + Copy>(
+/// The text in the form that is asked for, of a curve of kept requests, which has so many distinct keys.
+pub(crate) fn text_of_sized_sample<A: Allocator + Copy>(
     alloc: A,
     options: &Options<A>,
     curve: &SizedCurve<A>,
     floors: &Option<Floors<A>>,
     totals: Totals,
+    distinct: usize,
     bytes: usize,
 ) -> Result<String<A>, AllocError>
     requires { IsSettled curve.now }
-    ensures { (input : List ℕ) (kept : List (List ℕ)) → IsSizedCurveOf bytes_eq weight_of_line kept curve.now
-        → AreFloorsFor (wants_floor options.now) kept floors.now → bytes ≡ length input → IfOk result (λ text. IsInFormBySizeOfSample options.now (non_zero_usize_get totals.one_in)
-        totals.requests totals.size kept options.now.form input (string_bytes text)) }
+    ensures { IfOk result (λ text. IsSampledText curve.now floors.now options.now (non_zero_usize_get totals.one_in)
+        totals.requests totals.size options.now.form bytes (string_bytes text)) }
 {
     match options.form {
         Form::Table => table_of_sized_sample(alloc, options, curve, floors, totals, false),
         Form::Json => table_of_sized_sample(alloc, options, curve, floors, totals, true),
         Form::Picture => {
             let table = table_of_sized_sample(alloc, options, curve, floors, totals, false)?;
-            picture_by_size(alloc, curve, floors, totals, options, &table)
+            picture_by_size(alloc, curve, floors, totals, distinct, options, &table)
         }
         Form::Summary => summary_of_sized_sample(alloc, curve, totals, bytes),
     }
@@ -64,10 +61,8 @@ fn table_of_sized_sample<A: Allocator + Copy>(
     json: bool,
 ) -> Result<String<A>, AllocError>
     requires { IsSettled curve.now }
-    ensures { (kept : List (List ℕ)) → IsSizedCurveOf bytes_eq weight_of_line kept curve.now
-        → AreFloorsFor options.now.floor kept floors.now → IfOk result (λ text.
-        IsSizedTableOfSample options.now (non_zero_usize_get totals.one_in) totals.requests totals.size kept json
-        (string_bytes text)) }
+    ensures { IfOk result (λ text. IsSampledTable curve.now floors.now options.now (non_zero_usize_get totals.one_in)
+        totals.requests totals.size json (string_bytes text)) }
 {
     let table = sized_usual_table(alloc, curve, totals.size / totals.one_in.get())?;
     let rows = rows_of_sized_sample(alloc, options, curve, floors, &table.capacities, totals)?;
@@ -93,10 +88,8 @@ fn rows_of_sized_sample<A: Allocator + Copy>(
     totals: Totals,
 ) -> Result<Vec<SizedRow, A>, AllocError>
     requires { IsSettled curve.now }
-    ensures { (kept : List (List ℕ)) → IsSizedCurveOf bytes_eq weight_of_line kept curve.now
-        → AreFloorsFor options.now.floor kept floors.now → IfOk result (λ shown.
-        AreSizedRowsOfSample options.now (non_zero_usize_get totals.one_in) totals.requests totals.size kept
-        (map non_zero_usize_get table.now) shown.items) }
+    ensures { IfOk result (λ shown. AreSampledRows curve.now floors.now options.now (non_zero_usize_get totals.one_in)
+        totals.requests totals.size (map non_zero_usize_get table.now) shown.items) }
 {
     let capacities = capacities_from_first(alloc, &options.capacities, curve, totals, table)?;
     let Ok(rows) = sized_rows_at(alloc, curve, floors, &capacities) else {

@@ -75,8 +75,8 @@ fn take_timed<S: BuildHasher, A: Allocator + Copy>(
     key: &mut OwnedKey<A>,
     line: &[u8],
 ) -> Result<bool, AllocError>
-    ensures taken { (idle : ℕ) (lines : List (List ℕ)) → HasTakenTimed (non_zero_usize_get one_in) idle lines pass.old
-        → IfOk result (λ timed. timed ≡ true → HasTakenTimed (non_zero_usize_get one_in) idle (lines ++ line.now ∷ []) pass.new) }
+    ensures taken { (idle : ℕ) (lines : List (List ℕ)) → HasTakenTimed (IsIdlePass same_line idle) (non_zero_usize_get one_in) lines pass.old
+        → IfOk result (λ timed. timed ≡ true → HasTakenTimed (IsIdlePass same_line idle) (non_zero_usize_get one_in) (lines ++ line.now ∷ []) pass.new) }
     ensures untimed { IfOk result (λ timed. timed ≡ false → time_of_line line.now ≡ None) }
 {
     let Some((time, rest)) = split_time(line) else {
@@ -95,9 +95,9 @@ fn take_kept<S: BuildHasher, A: Allocator + Copy>(
     rest: &[u8],
     time: usize,
 ) -> Result<(), AllocError>
-    ensures { (idle : ℕ) (lines : List (List ℕ)) (line : List ℕ) → HasTakenTimed (non_zero_usize_get one_in) idle lines pass.old
+    ensures { (idle : ℕ) (lines : List (List ℕ)) (line : List ℕ) → HasTakenTimed (IsIdlePass same_line idle) (non_zero_usize_get one_in) lines pass.old
         → time_of_line line ≡ Some time → rest.now ≡ rest_of_line line
-        → OnOk result (HasTakenTimed (non_zero_usize_get one_in) idle (lines ++ line ∷ []) pass.new) }
+        → OnOk result (HasTakenTimed (IsIdlePass same_line idle) (non_zero_usize_get one_in) (lines ++ line ∷ []) pass.new) }
 {
     if !is_kept(rest, one_in) {
         return Ok(());
@@ -115,7 +115,7 @@ fn take_request<S: BuildHasher, A: Allocator + Copy>(
     time: usize,
 ) -> Result<(), AllocError>
     ensures { (idle : ℕ) (past : List (OwnedKey A × ℕ)) → IsIdlePass same_line idle past pass.old
-        → OnOk result (HasTakenRequest idle past (line_of key.now) time pass.new) }
+        → OnOk result (HasTakenRequest (IsIdlePass same_line idle) past (line_of key.now) time pass.new) }
 {
     match pass.request_again(key, time) {
         Ok(Some(_)) => Ok(()),

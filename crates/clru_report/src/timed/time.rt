@@ -1,6 +1,6 @@
 //! The time that a line begins with, and how long a time a word names.
 ghost use Rattle.std.specs.Prelude.{◌≡◌, ◌<◌, ◌≤◌, ◌^◌, ◌==◌, length, position, None, Some, IfNone, IfSome};
-ghost use Rattle.clru_report.specs.Times.{decimal_time, duration_in, in_time as in_time_by, millionths_of as millionths_by, rest_of_line, span_named as span_by, time_in as time_by, time_of_line};
+ghost use Rattle.clru_report.specs.Times.{decimal_span, decimal_time, duration_in, in_time as in_time_by, millionths_of as millionths_by, rest_of_line, span_named as span_by, time_in as time_by, time_of_line, times_span as times_span_by};
 
 use crate::numbers::{point_at, unit_at};
 use clru_lines::digits_of;
@@ -81,14 +81,35 @@ fn millionths_of(part: u128, places: usize) -> u128
 }
 
 /// Returns how long a time a word names, in millionths of the unit of the log, or `None` if it names none. Behind the figures of a
-/// time may stand `s`, `m`, `h` or `d`, if that unit is the second.
+/// time may stand `s`, `m`, `h` or `d`, if that unit is the second. What is less than a millionth is cut off.
 pub(crate) fn duration_of_word(word: &str) -> Option<usize>
     ensures { result ≡ duration_in word.now }
 {
     let bytes = word.trim().as_bytes();
     let at = unit_at(bytes);
-    let span = span_named(&bytes[at..])?;
-    in_time(time_in(&bytes[..at])? as u128 * span)
+    times_span(&bytes[..at], span_named(&bytes[at..])?)
+}
+
+// So many times that many seconds.
+fn times_span(figures: &[u8], span: u128) -> Option<usize>
+    requires { span < 2 ^ 17 }
+    ensures { result ≡ times_span_by figures.now span }
+{
+    let unit = span * MILLION;
+    match point_at(figures) {
+        None => in_time(digits_of(figures)? * unit),
+        Some(at) => decimals_of(unit, &figures[..at], &figures[at + 1..]),
+    }
+}
+
+// So many units and their decimals.
+fn decimals_of(unit: u128, whole: &[u8], decimals: &[u8]) -> Option<usize>
+    requires { unit < 2 ^ 41 }
+    ensures { result ≡ decimal_span unit whole.now decimals.now }
+{
+    let whole = digits_of(whole)?;
+    let part = digits_of(decimals)?;
+    in_time(whole * unit + part * unit / 10u128.pow(decimals.len() as u32))
 }
 
 const HOUR: u128 = 60 * 60;

@@ -1,13 +1,13 @@
-use Rattle.std.proofs.Common.{◌≡◌, ℕ, ◌<◌, ◌≤◌, ◌-◌, length}
+use Rattle.std.proofs.Common.{◌≡◌, ℕ, ◌+◌, ◌<◌, ◌≤◌, length}
 use Rattle.clru_curve.specs.Rising.{number_at}
 use Rattle.clru_curve.proofs.numbered.place_of.Given as goal
 
-abbrev pub invariant-loop-end : goal.invariant-loop-end
-invariant-loop-end l = record {
-  order : l.first < l.end;
-  within : l.end ≤ length l.values;
-  there : (i : ℕ) → i < length l.values → number_at l.values i ≡ l.number → (l.first ≤ i) × (i < l.end);
+abbrev pub invariant-loop-count : goal.invariant-loop-count
+invariant-loop-count l = record {
+  some : 0 < l.count;
+  within : l.first + l.count ≤ length l.values;
+  there : (i : ℕ) → i < length l.values → number_at l.values i ≡ l.number → (l.first ≤ i) × (i < l.first + l.count);
 }
 
-abbrev pub decreases-loop-end : goal.decreases-loop-end
-decreases-loop-end l = l.end - l.first
+abbrev pub decreases-loop-count : goal.decreases-loop-count
+decreases-loop-count l = l.count

@@ -5,6 +5,7 @@ use Rattle.clru_report.specs.OneSize.{counted_lines}
 use Rattle.clru_report.specs.Passes.{AreFloorsFor}
 use Rattle.clru_report.specs.Samples.{kept_of}
 use Rattle.clru_report.specs.SizedReport.{IsInFormBySizeOfSample}
+use Rattle.clru_report.proofs.SizedSamples.{sampled_form}
 use Rattle.clru_report.proofs.sized.sized_report_of_sample.Goals as goal
 
 pub returns-in-Ok-clause-report : goal.returns-in-Ok-clause-report
@@ -21,6 +22,7 @@ returns-in-Ok-clause-report g c =
         of.no_fault,
         subst (λ s. IsInFormBySizeOfSample options n (length lines) s kept options.form read.0 text) of.summed
             (subst (λ r. IsInFormBySizeOfSample options n r c.in_ok-curve.size kept options.form read.0 text) of.counted
-            (c.in-Ok.ensures read.0 kept of.of_kept both of.in_bytes)),
+            (sampled_form kept c.in_ok-curve.curve of.of_kept options c.in_ok-curve.floors n c.in_ok-curve.requests c.in_ok-curve.size
+            options.form read.0 text c.in_ok-curve.bytes both of.in_bytes c.in-Ok.ensures)),
       ),
     )

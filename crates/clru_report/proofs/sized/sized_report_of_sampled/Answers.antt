@@ -6,7 +6,7 @@ use Rattle.clru_report.specs.Passes.{AreFloorsFor}
 use Rattle.clru_report.specs.Samples.{times}
 use Rattle.clru_report.specs.SizedReport.{IsInFormBySizeOfSample}
 use Rattle.clru_report.proofs.Samples.{all_kept}
-use Rattle.clru_report.proofs.SizedSamples.{of_all}
+use Rattle.clru_report.proofs.SizedSamples.{of_all, sampled_form}
 use Rattle.clru_report.proofs.sized.sized_report_of_sampled.Goals as goal
 
 pub returns-in-Ok-clause-report : goal.returns-in-Ok-clause-report
@@ -23,6 +23,7 @@ returns-in-Ok-clause-report g c =
         of.sizes,
         of.no_fault,
         subst (λ s. IsInFormBySizeOfSample options n c.args.requests s lines options.form read.0 (string_bytes c.in-Ok.text))
-            (c.times.ensures ∙ ap (times n (2 ^ 64 - 1)) of.summed) (c.in-Ok.ensures read.0 lines whole both of.in_bytes),
+            (c.times.ensures ∙ ap (times n (2 ^ 64 - 1)) of.summed) (sampled_form lines c.in_ok-curve.curve whole options
+            floors n c.args.requests c.times.result options.form read.0 (string_bytes c.in-Ok.text) c.in_ok-curve.bytes both of.in_bytes c.in-Ok.ensures),
       ),
     )

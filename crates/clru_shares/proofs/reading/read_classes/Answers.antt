@@ -8,6 +8,8 @@ use Rattle.clru_shares.specs.Classes.{has_class}
 use Rattle.clru_shares.specs.Faults.{comes_of_a_line, comes_of_writing}
 use Rattle.clru_shares.specs.Passes.{HasTakenAll}
 use Rattle.clru_shares.specs.Refusals.{IsSaidOfLines}
+use Rattle.clru_shares.specs.Sizes.{is_sized}
+use Rattle.clru_shares.proofs.PassLemmas.{none_sized}
 use Rattle.clru_shares.proofs.TakenClasses.{none_taken}
 use Rattle.clru_shares.proofs.reading.read_classes.Goals as goal
 
@@ -19,10 +21,12 @@ lines-init g c = (
   omega arith,
   record {
     classed = All-nil (λ line. has_class line ≡ true);
-    classes = none_taken c.new.result.items c.new.ensures.items;
+    sized = All-nil (λ line. is_sized c.args.sizes line ≡ true);
+    classes = none_taken c.args.sizes c.new.result.items c.new.ensures.items;
     few = omega (arith, ap length c.new.ensures.items);
-    all = record { past = []; shown = refl; taken = c.with_hasher.ensures };
+    all = c.empty_pass.ensures;
     counted = refl;
+    summed = sym (none_sized c.args.sizes);
   },
   tt,
 )
@@ -51,7 +55,7 @@ returns-in-Err-Other-clause-refused g c of =
     let before = c.lines.invariant in
     let so = of_none c.lines.refused (ap not c.if-is_none.ensures) before.4 in
     let is = c.in-Err-Other.field-0-is in
-    absurd (subst (λ f. IsSaidOfLines f (before.0 ++ c.read_line.new.line.items ∷ [])) is
+    absurd (subst (λ f. IsSaidOfLines c.args.sizes f (before.0 ++ c.read_line.new.line.items ∷ [])) is
     (c.in-Err-Other.ensures.refused before.0 [] so (omega (arith, before.2)) (ap comes_of_a_line is ∙ ap is_of_input (sym c.in-Err-Other.fault-is) ∙ of)))
 
 pub lines-preserved-in-Err-take_both : goal.lines-preserved-in-Err-take_both
@@ -67,7 +71,7 @@ lines-preserved-in-Err-take_both g c =
       tt,
       (
         c.in-Err-take_both.ensures.fault,
-        λ of rest. subst (IsSaidOfLines fault) (sym (append_assoc before.0 (line ∷ []) rest))
+        λ of rest. subst (IsSaidOfLines c.args.sizes fault) (sym (append_assoc before.0 (line ∷ []) rest))
             (c.in-Err-take_both.ensures.refused before.0 rest so (omega (arith, before.2)) of),
       ),
     )
@@ -84,7 +88,7 @@ lines-preserved g c =
       no_none _ c.lines.refused (ap not c.if-is_none.ensures),
       some_map c.lines.refused (λ fault so. (
         so.0,
-        λ of rest. subst (IsSaidOfLines fault) (sym (append_assoc before.0 (line ∷ []) rest)) (so.1 of (line ∷ rest)),
+        λ of rest. subst (IsSaidOfLines c.args.sizes fault) (sym (append_assoc before.0 (line ∷ []) rest)) (so.1 of (line ∷ rest)),
       )) before.5,
     )
 
@@ -93,12 +97,12 @@ returns-in-Some-clause-refused g c of =
     let before = c.lines.invariant in let start = g.R.Read.remaining c.args.reader.now in let fault = c.in-Some.fault in
     let read = c.in-Ok-false.ensures.end start before.0 before.1 c.in-Ok-false.field-0-test in
     let so = subst (λ o. IfSome o (λ f. (comes_of_writing f ≡ false)
-    × (comes_of_a_line f ≡ true → (rest : List (List ℕ)) → IsSaidOfLines f (before.0 ++ rest)))) c.in-Some.is before.5 in
-    (read.0, read.1, read.2, subst (IsSaidOfLines fault) (append-nil before.0 ∙ sym read.3.0) (so.1 of []))
+    × (comes_of_a_line f ≡ true → (rest : List (List ℕ)) → IsSaidOfLines c.args.sizes f (before.0 ++ rest)))) c.in-Some.is before.5 in
+    (read.0, read.1, read.2, subst (IsSaidOfLines c.args.sizes fault) (append-nil before.0 ∙ sym read.3.0) (so.1 of []))
 
 pub returns-in-Some-clause-fault : goal.returns-in-Some-clause-fault
 returns-in-Some-clause-fault g c =
     let before = c.lines.invariant in
     let so = subst (λ o. IfSome o (λ f. (comes_of_writing f ≡ false)
-    × (comes_of_a_line f ≡ true → (rest : List (List ℕ)) → IsSaidOfLines f (before.0 ++ rest)))) c.in-Some.is before.5 in
+    × (comes_of_a_line f ≡ true → (rest : List (List ℕ)) → IsSaidOfLines c.args.sizes f (before.0 ++ rest)))) c.in-Some.is before.5 in
     so.0

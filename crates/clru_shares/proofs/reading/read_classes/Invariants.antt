@@ -10,9 +10,9 @@ abbrev pub invariant-lines : goal.invariant-lines
 invariant-lines g l = (lines : List (List ℕ))
     × HasReturned (g.R.Read.remaining l.initial.reader) (g.R.Read.remaining l.reader) l.buffer lines
     × (l.number ≡ length lines) × (l.number < 2 ^ 64)
-    × IfNone l.refused (HasTakenAll lines l.passes)
+    × IfNone l.refused (HasTakenAll l.sizes lines l.passes)
     × IfSome l.refused (λ fault. (comes_of_writing fault ≡ false)
-    × (comes_of_a_line fault ≡ true → (rest : List (List ℕ)) → IsSaidOfLines fault (lines ++ rest)))
+    × (comes_of_a_line fault ≡ true → (rest : List (List ℕ)) → IsSaidOfLines l.sizes fault (lines ++ rest)))
 
 abbrev pub decreases-lines : goal.decreases-lines
 decreases-lines g l = 2 ^ 64 - l.number

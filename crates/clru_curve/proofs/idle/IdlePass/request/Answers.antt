@@ -24,12 +24,12 @@ pub returns-in-Ok-clause-taken : goal.returns-in-Ok-clause-taken
 returns-in-Ok-clause-taken g c idle past before =
     c.in-Ok.ensures.taken idle past (c.in-Ok-None.ensures.not_taken idle past before (ap is_some c.in-Ok-None.field-0-is))
 
-pub returns-in-Err-request_new-clause-refused : goal.returns-in-Err-request_new-clause-refused
-returns-in-Err-request_new-clause-refused g c idle past before =
-    c.in-Err-request_new.ensures.refused idle past (c.in-Ok-None.ensures.not_taken idle past before (ap is_some c.in-Ok-None.field-0-is))
+pub returns-in-Err-request_new_with_hash-clause-refused : goal.returns-in-Err-request_new_with_hash-clause-refused
+returns-in-Err-request_new_with_hash-clause-refused g c idle past before =
+    c.in-Err-request_new_with_hash.ensures.refused idle past (c.in-Ok-None.ensures.not_taken idle past before (ap is_some c.in-Ok-None.field-0-is))
 
-pub request_new-requires-clause-new : goal.request_new-requires-clause-new
-request_new-requires-clause-new g c =
+pub request_new_with_hash-requires-clause-new : goal.request_new_with_hash-requires-clause-new
+request_new_with_hash-requires-clause-new g c =
     let idle = c.self.inside.limit in let past = c.self.invariant.past in
     let before = subst (λ v. IsIdlePass g.K.PartialEq.eq idle past v) c.self.view_is c.self.invariant.taken in (
       idle,

@@ -5,8 +5,9 @@ use Rattle.std.specs.Map.{keys_of}
 use Rattle.std.specs.Prelude.{bytes_eq, reverse}
 use Rattle.std.proofs.lemmas.List.{length-append}
 use Rattle.std.proofs.lemmas.List.Elements.{All-nil}
-use Rattle.clru_curve.specs.IdlePasses.{HasIdleMissesOf}
+use Rattle.clru_curve.specs.IdlePasses.{HasIdleMissesOf, IsIdlePass}
 use Rattle.clru_model.specs.Requests.{distinct}
+use Rattle.clru_report.specs.Passes.{same_line}
 use Rattle.clru_report.specs.Timed.{IsFirstUntimed}
 use Rattle.clru_report.specs.TimedPasses.{HasTakenTimed}
 use Rattle.clru_report.specs.Times.{HaveTimes, kept_requests, requests_of, time_of_line}
@@ -36,7 +37,7 @@ lines-preserved-in-Ok-true-take_timed g c =
       c.in-Ok-true.ensures.line start before.0 before.1 c.in-Ok-true.field-0-test,
       omega (arith, before.2, length-append before.0 (line ∷ [])),
       omega (arith, before.2, fits),
-      none_map c.lines.refused (λ so. subst (λ l. HasTakenTimed (non_zero_usize_get c.args.one_in) c.args.idle (before.0 ++ l ∷ []) c.take_timed.new.pass)
+      none_map c.lines.refused (λ so. subst (λ l. HasTakenTimed (IsIdlePass same_line c.args.idle) (non_zero_usize_get c.args.one_in) (before.0 ++ l ∷ []) c.take_timed.new.pass)
           c.deref.ensures.value (c.in-Ok-true-take_timed.ensures.taken c.args.idle before.0 so c.in-Ok-true-take_timed.field-0-test)) before.4,
       no_some _ c.lines.refused (ap not c.if-is_none.ensures),
     )

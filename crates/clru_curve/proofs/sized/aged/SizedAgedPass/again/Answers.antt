@@ -6,6 +6,7 @@ use Rattle.clru_curve.proofs.IdlePassing.{position_found}
 use Rattle.clru_curve.proofs.LatestSizes.{total_zero, removed_less, moved_lives, moved_totals, moved_less}
 use Rattle.clru_curve.proofs.SizedAgedPassing.{seen_found, IsSizedAgedPass-again, IsSoundAgedBySize-again, size_there}
 use Rattle.clru_curve.specs.Fetches.{fetched_at, seens_of, is_row_hit}
+use Rattle.clru_curve.specs.KeyTables.{keyed}
 use Rattle.clru_curve.specs.LatestSizes.{sizes_from, total_from, live_from, IsRemoved, IsSummed}
 use Rattle.clru_curve.specs.Rising.{numbered}
 use Rattle.clru_curve.specs.Seen.{seen_at}
@@ -63,6 +64,31 @@ take-requires-clause-few g c = λ i. omega (arith, c.self.invariant.few i, c.sel
 pub take-requires-clause-small : goal.take-requires-clause-small
 take-requires-clause-small g c = λ i. omega (arith, c.self.invariant.small i, c.if-weight-self.false)
 
+pub invariant_of-self-in_default-see_again : goal.invariant_of-self-in_default-see_again
+invariant_of-self-in_default-see_again g c =
+    let inv = c.self.invariant in let e = c.make_ready.ensures in let ready = c.make_ready.new.self in
+    let summed = subst (λ k. IsSummed c.self.inside.latest.sizes.items ready.nodes.items k) e.requests
+    (subst (λ l. IsSummed l ready.nodes.items ready.requests) e.sizes e.kept) in
+    rw (c.in_default-see_again.ensures.same refl, e.sizes, e.requests)
+    (record {
+      sound = record {
+        summed = summed;
+        past = inv.sound.past;
+        ranked = inv.sound.ranked;
+        few_hits = inv.sound.few_hits;
+        many = inv.sound.many;
+        held = inv.sound.held;
+        hit_sizes = inv.sound.hit_sizes;
+        fits = inv.sound.fits;
+      };
+      misses_length = inv.misses_length;
+      missed_length = inv.missed_length;
+      few = inv.few;
+      small = inv.small;
+      inside = inv.inside;
+      apart = inv.apart;
+    })
+
 pub invariant_of-self-2 : goal.invariant_of-self-2
 invariant_of-self-2 g c =
     let eq = g.K.PartialEq.eq in let laws = g.met.K.Eq.laws in let s = c.self.inside in let inv = c.self.invariant in
@@ -71,7 +97,7 @@ invariant_of-self-2 g c =
     let at = key_at eq laws (g.Q.Equivalent.equivalent c.args.key) (g.met.Q.Equivalent.respects_eq c.args.key)
     s.seen.entries b (sym c.in-Some.ensures.found) in
     let moved = c.in-Some.ensures.moved
-    ∙ ap (λ t. set_value t s.seen.entries (fetched_at (seen_at c.make_ready.new.self.requests c.args.time) b.first)) at.same in
+    ∙ ap (λ t. keyed (set_value t s.seen.entries (fetched_at (seen_at c.make_ready.new.self.requests c.args.time) b.first)) s.seen.builder) at.same in
     let left = c.remove-span.new.self.sizes.items in let pushed = c.push.new.self.sizes.items in
     let d = c.drop_empty.new.self in let ts = d.sizes.items in
     let removed = subst (λ l. IsRemoved l p left) e.sizes c.remove-span.ensures.removed in
@@ -98,7 +124,8 @@ returns-clause-taken g c w cs idle age past x same before weighs passes some =
     let is = subst (λ v. IsSizedAgedPass eq w cs idle age past v) (sym c.self.view_is) before in
     let found = found_as eq laws test form s.seen.entries x (Some b) passes (sym c.in-Some.ensures.found) in
     let moved = c.in-Some.ensures.moved
-    ∙ ap (λ t. set_value t s.seen.entries (fetched_at (seen_at c.make_ready.new.self.requests c.args.time) b.first)) (form_is eq test form x passes) in
+    ∙ ap (λ t. keyed (set_value t s.seen.entries (fetched_at (seen_at c.make_ready.new.self.requests c.args.time) b.first)) s.seen.builder)
+    (form_is eq test form x passes) in
     let left = c.remove-span.new.self.sizes.items in let pushed = c.push.new.self.sizes.items in
     let d = c.drop_empty.new.self in let ts = d.sizes.items in
     let removed = subst (λ l. IsRemoved l p left) e.sizes c.remove-span.ensures.removed in

@@ -1,4 +1,4 @@
-use Rattle.std.proofs.Common.{sym, ◌∙◌, subst, arith}
+use Rattle.std.proofs.Common.{sym, subst, arith}
 use Rattle.clru_curve.proofs.LatestSizes.{total_zero}
 use Rattle.clru_curve.specs.SizedAgedPasses.{IsSizedAgedPass}
 use Rattle.clru_curve.proofs.sized.aged.SizedAgedPass.distinct_size.Goals as goal
@@ -9,4 +9,4 @@ total-requires g c = omega (arith, total_zero c.self.inside.latest.sizes.items, 
 pub returns : goal.returns
 returns g c w cs idle age past before =
     let is = subst (λ v. IsSizedAgedPass g.K.PartialEq.eq w cs idle age past v) (sym c.self.view_is) before in
-    c.total.ensures ∙ sym (total_zero c.self.inside.latest.sizes.items) ∙ is.held
+    omega (arith, c.total.ensures, total_zero c.self.inside.latest.sizes.items, is.held)

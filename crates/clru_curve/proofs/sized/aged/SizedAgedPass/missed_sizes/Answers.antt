@@ -7,5 +7,8 @@ pub returns : goal.returns
 returns g c w cs idle age past before =
     let eq = g.K.PartialEq.eq in let s = c.self.inside in
     let is = subst (λ v. IsSizedAgedPass eq w cs idle age past v) (sym c.self.view_is) before in
-    c.deref.ensures.value ∙ rows_map (λ k. aged_missed_size eq w idle age k (reverse past)) cs s.fetches.missed_sizes.items
-    (c.self.invariant.missed_length ∙ ap (λ l. length l) is.places) (λ i inside. (is.rows i inside).missed_size)
+    cc (
+      c.deref.ensures.value,
+      rows_map (λ k. aged_missed_size eq w idle age k (reverse past)) cs s.fetches.missed_sizes.items
+          (c.self.invariant.missed_length ∙ ap (λ l. length l) is.places) (λ i inside. (is.rows i inside).missed_size),
+    )

@@ -8,12 +8,12 @@ use Rattle.clru_curve.specs.Rising.{numbered}
 use Rattle.clru_curve.specs.SizedAgedPasses.{IsSizedAgedPass}
 use Rattle.clru_curve.proofs.sized.aged.SizedAgedPass.request_new.Goals as goal
 
-pub add_seen-requires-clause-new : goal.add_seen-requires-clause-new
-add_seen-requires-clause-new g c =
+pub insert-requires-clause-new : goal.insert-requires-clause-new
+insert-requires-clause-new g c =
     subst (λ v. lookup (g.K.PartialEq.eq c.args.key) v.seen ≡ None) (sym c.self.view_is) c.requires.new
 
-pub add_seen-requires-clause-countable : goal.add_seen-requires-clause-countable
-add_seen-requires-clause-countable g c =
+pub insert-requires-clause-countable : goal.insert-requires-clause-countable
+insert-requires-clause-countable g c =
     omega (
       arith,
       many_seen g.K.PartialEq.eq c.self.inside.seen.entries,
@@ -85,7 +85,7 @@ invariant_of-self-2 g c =
     (f.times.items ++ replicate (length v.items) c.args.time) took.times.items) has.capacities
     (subst (λ l. AreFetched (λ i. false) (length ready.capacities.items) (length l) c.args.time
     (l ++ replicate (length ready.capacities.items) c.args.time) took.times.items) has.times c.take_new.ensures.times) in
-    rw (c.in_default-add_seen.ensures.added, requests, c.take_new.ensures.capacities, has.capacities, c.take_new.ensures.age, has.age, e.requests, first)
+    rw (c.in_default-insert.ensures.taken, requests, c.take_new.ensures.capacities, has.capacities, c.take_new.ensures.age, has.age, e.requests, first)
     (IsSoundAgedBySize-new eq laws s.seen.entries ss n f.capacities.items f.misses.items f.missed_sizes.items f.times.items f.age s.size s.greatest s.idle
     c.args.key c.args.time s.latest.nodes.items inv
     w c.greater-greatest.result (omega (arith, c.requires.fits, ap (λ v. v.size) c.self.view_is)) ts d.nodes.items
@@ -114,7 +114,7 @@ returns-clause-taken g c weight cs idle age past same_weights before weighs =
     (f.times.items ++ replicate (length v.items) c.args.time) took.times.items) has.capacities
     (subst (λ l. AreFetched (λ i. false) (length ready.capacities.items) (length l) c.args.time
     (l ++ replicate (length ready.capacities.items) c.args.time) took.times.items) has.times c.take_new.ensures.times) in
-    rw (c.in_default-add_seen.ensures.added, requests, c.take_new.ensures.capacities, has.capacities, c.take_new.ensures.age, has.age, e.requests, first)
+    rw (c.in_default-insert.ensures.taken, requests, c.take_new.ensures.capacities, has.capacities, c.take_new.ensures.age, has.age, e.requests, first)
     (IsSizedAgedPass-new eq laws s.seen.entries ss n f.capacities.items f.misses.items f.missed_sizes.items f.times.items f.age s.size s.greatest s.idle
     c.args.key c.args.time s.latest.nodes.items inv weight cs idle age past is same_weights w weighs
     c.greater-greatest.result c.greater-greatest.ensures ts took.misses.items took.missed_sizes.items took.times.items absent

@@ -1,0 +1,34 @@
+//! The curve of a pass over lines.
+ghost use Rattle.std.specs.Prelude.{◌≡◌, ℕ, Bool, List, IfOk};
+ghost use Rattle.clru_shares.specs.LinePasses.{HasTakenBy, IsCurveBy};
+
+use crate::pass::LinePass;
+use clru_curve::{MissCurve, SizedCurve};
+use std::alloc::{AllocError, Allocator};
+use std::hash::BuildHasher;
+
+/// What misses at every capacity.
+#[derive(Drop)]
+pub(crate) enum LineCurve<A: Allocator> {
+    ByKeys(MissCurve<A>),
+    BySize(SizedCurve<A>),
+}
+
+/// Returns the curve of the lines so far.
+pub(crate) fn curve_of<S: BuildHasher + Copy, A: Allocator + Copy>(
+    alloc: A,
+    pass: &LinePass<S, A>,
+) -> Result<LineCurve<A>, AllocError>
+    ensures { (sizes : Bool) (lines : List (List ℕ)) → HasTakenBy sizes lines pass.now → IfOk result (IsCurveBy sizes lines) }
+{
+    match pass {
+        LinePass::OfKeys(pass) => match pass.curve(alloc) {
+            Ok(curve) => Ok(LineCurve::ByKeys(curve)),
+            Err(_) => Err(AllocError),
+        },
+        LinePass::OfSizes(pass) => match pass.curve(alloc) {
+            Ok(curve) => Ok(LineCurve::BySize(curve)),
+            Err(_) => Err(AllocError),
+        },
+    }
+}

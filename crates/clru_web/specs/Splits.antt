@@ -1,0 +1,29 @@
+-- What the result of a split says of the log. Public clauses cite it.
+use Rattle.std.specs.Fmt.Cut.{IsTextOrCut}
+use Rattle.std.specs.Prelude.{ℕ, zero, suc, Bool, true, false, List}
+use Rattle.clru_lines.specs.Lines.{lines_of}
+use Rattle.clru_shares.specs.Faults.{split_fault_text}
+use Rattle.clru_shares.specs.Refusals.{IsSaidOfLines}
+use Rattle.clru_shares.specs.declared.fault.SplitFault.{SplitFault}
+use Rattle.clru_shares.specs.declared.form.SplitForm.{SplitForm}
+use Rattle.clru_shares.specs.declared.form.SplitForm.TheVariants.{Table, Json, Picture}
+use Rattle.clru_web.specs.Answers.{IsSaid}
+
+-- by size or by keys
+abbrev pub has_sizes : ℕ → Bool
+has_sizes zero = false
+has_sizes (suc n) = true
+
+-- the form of a number
+abbrev pub form_of : ℕ → SplitForm
+form_of zero = Table
+form_of (suc zero) = Json
+form_of (suc (suc n)) = Picture
+
+-- the text is the line of a fault; what has over 160 bytes, as none has, may be cut
+abbrev pub IsToldOfSplit : SplitFault → ℕ → List ℕ → Type 0
+IsToldOfSplit fault room text = (what : List ℕ) × IsTextOrCut 160 (split_fault_text fault) what × IsSaid what room text
+
+-- the log has no split, for a reason that the text tells
+abbrev pub HasNoSplit : Bool → List ℕ → ℕ → List ℕ → Type 0
+HasNoSplit sizes log room text = (fault : SplitFault) × IsSaidOfLines sizes fault (lines_of log) × IsToldOfSplit fault room text
