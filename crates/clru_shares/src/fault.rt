@@ -13,7 +13,7 @@ pub enum SplitFault {
     NoClass(usize),
     /// The line of this number has a class, and the lines before it have as many others as can be.
     TooManyClasses(usize),
-    /// Nothing that is a size follows the class of the line of this number, and by size one does in each line.
+    /// By size: the line of this number has a class, but no size follows it.
     NoSize(usize),
     /// The sizes of all lines together pass the greatest `usize`.
     TooLarge,

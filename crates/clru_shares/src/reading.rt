@@ -27,7 +27,7 @@ pub(crate) struct Passes<S: BuildHasher + Copy, A: Allocator + Copy> {
     pub(crate) size: usize,
 }
 
-/// Returns the passes over all lines, each of which begins with a class, and by size then with a size.
+/// Returns the passes over all lines. Each line must begin with a class; by size, a size must follow.
 ///
 /// The fault of a line is returned once all is read, because it is one of the whole input; refused memory at once.
 pub(crate) fn read_classes<R: Read, S: BuildHasher + Copy, A: Allocator + Copy>(

@@ -5,7 +5,7 @@ ghost use Rattle.clru_shares.specs.Sizes.{is_sized, own_size};
 use crate::class::rest_of;
 use clru_report::size_of;
 
-/// Returns the size of a line, or `None` if it is to have one, which what follows its class begins with, and has none. By keys it is 0.
+/// Returns the size that follows the class of a line, or `None` if there is none. By keys lines have no sizes, and it returns 0.
 pub(crate) fn size_of_request(sizes: bool, line: &[u8]) -> Option<usize>
     ensures size { IfSome result (λ size. size ≡ own_size sizes line.now) }
     ensures is_sized { is_some result ≡ is_sized sizes line.now }

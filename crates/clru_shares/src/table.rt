@@ -31,7 +31,7 @@ pub(crate) struct Row<A: Allocator> {
 pub(crate) struct Table<A: Allocator> {
     pub(crate) by_size: bool,
 
-    /// What is split, of which only a picture tells.
+    /// The budget. Only a picture shows it.
     pub(crate) budget: usize,
 
     /// The classes with their parts of the best split.

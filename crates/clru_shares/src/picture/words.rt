@@ -14,7 +14,7 @@ pub(super) fn write_number<W: Write>(text: &mut W, number: usize) -> fmt::Result
     write!(text, ",{rest:03}")
 }
 
-/// A number of things, of which one has the name.
+/// A number, and the name of what it counts: `one` behind 1, and `several` behind any other.
 pub(super) fn write_counted<W: Write>(
     text: &mut W,
     number: usize,
