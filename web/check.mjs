@@ -98,6 +98,7 @@ function same(name, got, wanted) {
 const MIB = 1 << 20;
 const classed = Buffer.from(log(20000, 3000, false).toString().replace(/^\/p\/(\d*)(\d)$/gm, "c$2 /$1"));
 const classedSizes = Buffer.from(log(5000, 700, true).toString().replace(/^(\d+) \/p\/(\d*)(\d)$/gm, "c$3 $1 /$2"));
+const timedSizes = Buffer.from(log(5000, 700, true).toString().split("\n").map((line, at) => line && `${at}.5 ${line}`).join("\n"));
 const plain = log(20000, 3000, false), sized = log(5000, 700, true), short = Buffer.from("a\nb\na\nc\nb\na\nd\na\nb\ne");
 const cases = [
     ["a table", [], plain], ["a picture", ["--svg"], plain], ["the least", ["--least"], plain], ["all", ["--all"], plain],
@@ -109,7 +110,10 @@ const cases = [
     ["no such word", ["--no"], short], ["no capacity", ["--at", "0"], short], ["words that do not go together", ["--all", "--at=1"], short],
     ["no size", ["--sizes"], Buffer.from("5 a\nb\n")], ["too large", ["--sizes"], Buffer.from("18446744073709551615 a\n1 b\n")],
     ["below the greatest size", ["--sizes", "--at=2"], Buffer.from("5 a\n")],
-    ["times", ["--times", "--max-idle", "2.5"], sized], ["no time", ["--times"], Buffer.from("5 a\nb\n")],
+    ["times", ["--times", "--max-idle", "2.5"], sized], ["ages", ["--times", "--max-age", "900", "--at", "5,200"], sized],
+    ["ages by size", ["--times", "--sizes", "--max-age", "9", "--max-idle", "5", "--at", "9000,90000"], timedSizes],
+    ["an age without capacities", ["--times", "--max-age", "9"], sized], ["no time", ["--times"], Buffer.from("5 a\nb\n")],
+    ["no size behind a time", ["--times", "--sizes"], Buffer.from("1 5 a\n2 b\n")],
     ["a split", ["--split", "500"], classed], ["a split in JSON", ["--split", "500", "--json"], classed],
     ["a picture of a split", ["--split", "1200", "--svg"], classed], ["a split of nothing", ["--split", "9"], Buffer.alloc(0)],
     ["a split by size", ["--split", "900", "--sizes"], classedSizes], ["no size behind a class", ["--split", "9", "--sizes"], classed],

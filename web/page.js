@@ -206,7 +206,7 @@ function showColumns() {
     const cut = cutOf();
     show("size-label", form.split !== null && $("sizes").checked);
     show("time-label", form.split !== null && $("times").checked);
-    for (const id of ["idle-label", "idle-hint"]) show(id, $("times").checked);
+    for (const id of ["idle-label", "idle-hint", "age-label", "age-hint"]) show(id, $("times").checked);
     const canLeast = !$("sizes").checked;
     $("least").disabled = !canLeast;
     $("least-words").classList.toggle("off", !canLeast);
@@ -283,8 +283,8 @@ function wordsOf() {
     if ($("sizes").checked) words.push("--sizes");
     if ($("least").checked && !$("sizes").checked) words.push("--least");
     if ($("floor").checked) words.push("--floor");
-    const idle = $("idle").value.trim();
-    if ($("times").checked) words.push("--times", ...(idle ? ["--max-idle", idle] : []));
+    const [idle, age] = ["idle", "age"].map((id) => $(id).value.trim());
+    if ($("times").checked) words.push("--times", ...(idle ? ["--max-idle", idle] : []), ...(age ? ["--max-age", age] : []));
     return words;
 }
 
@@ -363,14 +363,18 @@ function bytesOf(count) {
 
 // --- What the program wrote ----------------------------------------------------------------------------------------------------
 
+const tableOf = (picture) => picture.slice(picture.indexOf("<desc>\n") + 7, picture.indexOf("</desc>\n"));
+
 function showReport(answered) {
     clearInterval(asked.clock);
     if (answered.status !== 0) {
         showFault(answered.text.trimEnd(), adviceFor(answered.text, answered.memory));
         return;
     }
-    report = { svg: answered.text, csv: answered.text.slice(answered.text.indexOf("<desc>\n") + 7, answered.text.indexOf("</desc>\n")) };
-    $("picture").replaceChildren(document.importNode(new DOMParser().parseFromString(report.svg, "image/svg+xml").documentElement, true));
+    const drawn = answered.drawn;
+    report = { svg: drawn ? answered.text : "", csv: drawn ? tableOf(answered.text) : answered.text };
+    $("picture").replaceChildren(...(drawn ? [document.importNode(new DOMParser().parseFromString(report.svg, "image/svg+xml").documentElement, true)] : []));
+    for (const id of ["plot", "save-svg"]) show(id, drawn);
     $("svg").textContent = report.svg;
     $("csv").textContent = report.csv;
     $("command").textContent = asked.command;
@@ -380,8 +384,8 @@ function showReport(answered) {
     $("state").textContent = `Done: read in ${answered.seconds[0]} s, counted in ${answered.seconds[1]} s.`;
     showRows();
     const isSplit = asked.words[0] === "--split";
-    $("result-heading").textContent = isSplit ? "The split" : "The curve";
-    show("curve-advice", !isSplit);
+    $("result-heading").textContent = isSplit ? "The split" : drawn ? "The curve" : "The table";
+    show("curve-advice", !isSplit && drawn);
     show("split-advice", isSplit);
     for (const id of ["mark", "slide", "mark-hint"]) show(id, false);
     $("says").textContent = "";
@@ -451,10 +455,12 @@ function adviceFor(text, memory = 0) {
     const least = /name numbers from (\d+) on/.exec(text);
     if (least && text.includes("greatest size")) return `Name capacities from ${least[1]} on, or leave the field empty.`;
     if (/is no capacity|empty number|wants capacities/.test(text)) return "Change the field of capacities, or leave it empty.";
+    if (text.includes("--max-age counts")) return "For an age name capacities in their field, and nothing beside it.";
     if (text.includes("go together")) return "Leave one of them out.";
     const column = "Look at the column of the size";
     if (text.includes("has no size")) return `Lines are counted as the program reads them. ${column}, or count no bytes.`;
     if (text.includes("add up to more")) return `${column}.`;
+    if (text.includes("no time and size")) return `Lines are counted as the program reads them. ${column} and at that of the time: both are numbers.`;
     if (text.includes("has no time")) return "Lines are counted as the program reads them. Look at the column of the time: it is a number.";
     if (/has no class|class too many/.test(text)) return "Lines are split as the program reads them: name the column of the class first, as 1,8.";
     if (text.includes("is no time")) return "Change the field of the time after which entries expire.";
@@ -694,7 +700,7 @@ function begin() {
     };
     $("form").onchange = () => takeForm($("form").value);
     for (const id of ["keys", "size", "time", "sizes", "times", "heading", "answered", "queries"]) $(id).oninput = showColumns;
-    for (const id of ["at", "after", "idle", "all", "least", "floor"]) $(id).oninput = markStale;
+    for (const id of ["at", "after", "idle", "age", "all", "least", "floor"]) $(id).oninput = markStale;
     $("budget").oninput = showColumns;
     $("copy").onclick = copy;
     $("settings").onsubmit = run;

@@ -547,12 +547,14 @@ async function run({ file, cut, words }, say) {
         return;
     }
     if (words.includes("--all") && words.includes("--least")) say({ estimate: estimateFor(program, words) });
-    const report = program.ask([...words, "--svg"]);
+    // (under an age limit there are tables alone)
+    const drawn = !words.includes("--max-age");
+    const report = program.ask([...words, ...(drawn ? ["--svg"] : [])]);
     const seconds = [read - begun, performance.now() - read].map((time) => (time / 1000).toFixed(1));
-    say({ report: { ...report, seconds, memory: program.memory.buffer.byteLength } });
+    say({ report: { ...report, drawn, seconds, memory: program.memory.buffer.byteLength } });
     if (report.status !== 0) return;
-    // (a split has no capacities to mark)
-    say({ marks: words[0] === "--split" ? null : marksFor(program, report.text, words) });
+    // (a split has no capacities to mark, and neither has a table alone)
+    say({ marks: words[0] === "--split" || !drawn ? null : marksFor(program, report.text, words) });
 }
 
 async function answer(data, say) {

@@ -1,9 +1,9 @@
-"""The arms of clru_script that follow from the calls: of a cache, by their signatures, and of runs, by `clru_runs/src/call.rt`."""
+"""The arms of clru_rows that follow from the calls: of a cache, by their signatures, and of runs, by `clru_runs/src/call.rt`."""
 import re
 
 import source
 
-SCRIPT = source.CRATES / "clru_script" / "src"
+ROWS = source.CRATES / "clru_rows" / "src"
 # How what a call returns is written.
 SAYS = {
     "Option<&V>": "say_value({}, out)",
@@ -22,11 +22,11 @@ OF_CALLS = """\
 
 use crate::cache::Any;
 use crate::calls::{say_found, say_popped, say_taken, say_value};
+use crate::out::Out;
+use crate::pairs::{Key, Value};
+use crate::words::Words;
+use crate::world::World;
 use clru::WeightScale;
-use clru_rows::out::Out;
-use clru_rows::pairs::{Key, Value};
-use clru_rows::words::Words;
-use clru_rows::world::World;
 use std::alloc::Allocator;
 use std::hash::BuildHasher;
 
@@ -184,4 +184,4 @@ def of_runs():
 
 def written():
     """The files that are written, each with its text."""
-    return {SCRIPT / "calls" / "arms.rt": of_calls(), SCRIPT / "runs" / "arms.rt": of_runs()}
+    return {ROWS / "calls" / "arms.rt": of_calls(), ROWS / "runs" / "arms.rt": of_runs()}

@@ -5,12 +5,11 @@ import re
 TOP = pathlib.Path(__file__).resolve().parent.parent.parent
 CRATES, SCRIPTS = TOP / "crates", TOP / "scripts"
 # Crates of tests and of examples; all others are the product.
-NO_PRODUCT = re.compile(r"ration|clru_(files|rows|script|curve_script|uses)|\w+_tests")
+NO_PRODUCT = re.compile(r"clru_(files|rows|script|uses)|\w+_tests")
 FUNCTION = re.compile(r"(\s*)(pub(?:\([a-z]+\))? )?(?:const |extern \"C\" )*fn (\w+)")
 LEAVES_IMPL = re.compile(r"\}|(?:pub(?:\(\w+\))? )?(?:const |extern \"C\" )*(?:fn|trait|mod)\b")
-# The programs that answer scripts, each with the kinds of blocks that it runs.
-PROGRAMS = {name: re.findall(r'"(\w+)"', (CRATES / name / "src/main.rt").read_text()) for name in ("clru_script", "clru_curve_script")}
-SUBJECTS = [kind for kinds in PROGRAMS.values() for kind in kinds]
+# The kinds of blocks that scripts have.
+SUBJECTS = re.findall(r'"(\w+)"', "".join((CRATES / name).read_text() for name in ("clru_rows/src/kinds.rt", "clru_script/src/main.rt")))
 
 
 def product(crates=CRATES):
@@ -152,30 +151,6 @@ def variants():
         body = re.search(rf"^pub enum {kind}<K, V> {{\n(.*?)^}}", text, re.M | re.S)[1]
         for word, takes in re.findall(r"^    ([A-Z]\w+)(?:\((.*)\))?,", body, re.M):
             yield re.sub(r"(?<!^)([A-Z])", r"_\1", word).lower(), kind, word, takes
-
-
-def parts(text):
-    """A script by the program that runs its blocks: each has blank lines for the calls of other programs' blocks, and no answers of them."""
-    found, owner = {name: [] for name in PROGRAMS}, None
-    for row in text.split("\n"):
-        call = row.split("->")[0].split("#")[0].strip()
-        if call and call != "list":
-            owner = next((name for name, kinds in PROGRAMS.items() if call.split()[0] in kinds), owner)
-        for name, rows in found.items():
-            if owner in (name, None) or row.startswith("#"):
-                rows.append(row)
-            elif not row.strip().startswith("->"):
-                rows.append("")
-    return {name: "\n".join(rows) for name, rows in found.items() if any(row and not row.startswith("#") for row in rows)}
-
-
-def programs(paths):
-    """Built programs, each with its name. Without paths those of the crates."""
-    built = [pathlib.Path(path).resolve() for path in paths] or [CRATES / name / "out" / name for name in PROGRAMS]
-    for path in built:
-        if not path.is_file() or path.name.split(".")[0] not in PROGRAMS:
-            raise SystemExit(f"there is no program {path}: build it by `rt run` in its crate, one of {', '.join(PROGRAMS)}")
-    return [(path.name.split(".")[0], path) for path in built]
 
 
 def script_lines():

@@ -3,7 +3,7 @@ use Rattle.std.proofs.Common.{◌≡◌, ℕ, zero, suc, ◌*◌, ◌<◌, ◌�
 use Rattle.std.proofs.lemmas.List.{append_assoc}
 use Rattle.std.proofs.lemmas.Nat.{mul-le}
 use Rattle.clru_c.specs.Parts.{rows_of}
-use Rattle.clru_split.specs.Splits.{AreParts}
+use Rattle.clru_curve.specs.Splits.{AreParts}
 
 -- there are as many rows as are asked for
 pub length-rows : (width n : ℕ) (array : List ℕ) → length (rows_of width n array) ≡ n

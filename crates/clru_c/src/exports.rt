@@ -8,7 +8,7 @@ ghost use Rattle.clru_c.specs.Codes.{IsCode};
 ghost use Rattle.clru_c.specs.Objects.{AreSizedMisses, IsFloorCode, IsSizedCode, same_object, weight_of};
 ghost use Rattle.clru_c.specs.OneSize.{first_other, greatest_of_each};
 ghost use Rattle.clru_c.specs.Parts.{missed_without, missed_with, rows_of};
-ghost use Rattle.clru_split.specs.Splits.{IsBestSplit};
+ghost use Rattle.clru_curve.specs.Splits.{IsBestSplit};
 
 use crate::arrays::{hits_at, least_by_room, misses_by_capacity};
 use crate::codes::{NO_MEMORY, OK};

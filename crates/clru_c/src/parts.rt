@@ -1,11 +1,11 @@
 //! The parts of a budget that several caches get, by arrays of what each misses.
 ghost use Rattle.std.specs.Prelude.{◌≡◌, ◌≢◌, ◌+◌, ◌*◌, [], length, IfOk, IsOk};
-ghost use Rattle.clru_split.specs.Splits.{IsBestSplit};
+ghost use Rattle.clru_curve.specs.Splits.{IsBestSplit};
 ghost use Rattle.clru_c.specs.Codes.{IsCode};
 ghost use Rattle.clru_c.specs.Parts.{missed_without, missed_with, rows_of};
 
 use crate::codes::{NO_MEMORY, OK, WRONG_LENGTH};
-use clru_split::{Curve, NonZeroUsize, split};
+use clru_curve::{Curve, NonZeroUsize, split};
 use std::alloc::{AllocError, Allocator};
 use std::marker::Model;
 

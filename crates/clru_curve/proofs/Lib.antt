@@ -15,6 +15,7 @@ pub mod KeyTables
 pub mod Latests
 pub mod Nodes
 pub mod Passing
+pub mod PositionPassing
 pub mod Ranks
 pub mod Refusals
 pub mod Rising
@@ -26,3 +27,8 @@ pub mod SizedIdlePassing
 pub mod SizedPassing
 pub mod Totals
 pub mod UpTo
+pub mod Apart
+pub mod Following
+pub mod Merged
+pub mod Rows
+pub mod SizedCaches

@@ -19,13 +19,13 @@ use Rattle.clru_curve.specs.declared.seen.Seen.{Seen}
 use Rattle.clru_curve.specs.Fetches.{fetched_at, seens_of, is_row_hit, AreCounted, AreFetched}
 use Rattle.clru_curve.specs.LatestSizes.{total_from, live_from, IsSummed}
 use Rattle.clru_curve.specs.Seen.{seen_at, positions_of}
-use Rattle.clru_curve.specs.SizedAgedPasses.{fetch_table, aged_pass_by_size, IsSizedAgedPass, IsSoundAgedBySize, IsApart}
+use Rattle.clru_curve.specs.SizedAgedPasses.{AgedPassBySize, fetch_table, aged_pass_by_size, IsSizedAgedPass, IsSoundAgedBySize, IsApart}
 use Rattle.clru_curve.specs.Tree.{up_by, up_to}
 use Rattle.clru_curve.proofs.AgedRows.{new_misses, known_hits, IsAgedRow-step}
 use Rattle.clru_curve.proofs.FetchTables.{AreCounted-below}
 use Rattle.clru_curve.proofs.IdlePassing.{position_found, seen_known, positions_move, times_move}
 use Rattle.clru_curve.proofs.Ranks.{distinct_measures, IsRanked-none, IsRanked-new, IsRanked-again}
-use Rattle.clru_curve.proofs.SizedPassing.{IsSoundBySize-none}
+use Rattle.clru_curve.proofs.SizedPassing.{IsSoundBySize-none, IsSoundBySize-nodes}
 use Rattle.clru_curve.proofs.Totals.{total_measures}
 use Rattle.clru_curve.proofs.UpTo.{up_by-le}
 
@@ -100,6 +100,19 @@ module _ {K : Type 0} (eq : K → K → Bool) where
     small = λ i. omega (arith, zeros (length cs) i);
     inside = λ x s at. cc;
     apart = λ x y s t at. cc;
+  }
+
+  -- it holds over other nodes that have the same sums
+  pub IsSoundAgedBySize-nodes : {S : Type 0} {nodes nodes' : List ℕ} {p : AgedPassBySize K S} → IsSummed p.sizes nodes' p.requests
+      → IsSoundAgedBySize eq nodes p → IsSoundAgedBySize eq nodes' p
+  IsSoundAgedBySize-nodes summed s = record {
+    sound = IsSoundBySize-nodes eq summed s.sound;
+    misses_length = s.misses_length;
+    missed_length = s.missed_length;
+    few = s.few;
+    small = s.small;
+    inside = s.inside;
+    apart = s.apart;
   }
 
 module _ {K S : Type 0} {b : S} (eq : K → K → Bool) (laws : IsEquivalence eq) (seen : List (K × Fetched)) (ss : List Numbered) (n : ℕ)

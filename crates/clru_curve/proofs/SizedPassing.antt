@@ -1,5 +1,5 @@
 -- What a pass over keys with sizes has taken, after one more request.
-use Rattle.std.proofs.Common.{◌≡◌, ℕ, suc, ◌+◌, ◌^◌, ◌<◌, ◌≤◌, Bool, true, false, cond, nat_lt, List, [], ◌∷◌, ◌++◌, Some, None, is_some, refl, sym, ap, ◌∙◌, arith}
+use Rattle.std.proofs.Common.{◌≡◌, ℕ, suc, ◌+◌, ◌↔◌, ◌-◌, ◌^◌, ◌<◌, ◌≤◌, Bool, true, false, cond, nat_lt, List, [], ◌∷◌, ◌++◌, Some, None, is_some, refl, sym, ap, ◌∙◌, arith}
 use Rattle.std.proofs.lemmas.List.{length_push}
 use Rattle.std.proofs.lemmas.List.Sums.{sum_by-cons, sum_by_push}
 use Rattle.std.proofs.lemmas.Map.{lookup-set_value, length-set_value}
@@ -16,8 +16,12 @@ use Rattle.clru_curve.specs.declared.sized.step.Step.{Step}
 use Rattle.clru_curve.specs.LatestSizes.{total_from, live_from, IsSummed}
 use Rattle.clru_curve.specs.Ranked.{IsRanked}
 use Rattle.clru_curve.specs.SizedCurves.{step}
-use Rattle.clru_curve.specs.SizedPasses.{pass_by_size, IsSizedPass, IsSoundBySize}
+use Rattle.clru_curve.specs.SizedPasses.{PassBySize, pass_by_size, IsSizedPass, IsSoundBySize}
 use Rattle.clru_curve.specs.Tree.{up_by, up_to}
+
+-- a size that is not too large
+pub not_too_large : {size old weight : ℕ} → size ≡ old → weight < 2 ^ 64 - 1 - size → ⊥ ↔ (2 ^ 64 ≤ old + (1 + weight))
+not_too_large is small = (λ no. absurd no, λ large. omega (arith, is, small, large))
 
 module _ {K : Type 0} (eq : K → K → Bool) where
   -- before the first request
@@ -42,6 +46,20 @@ module _ {K : Type 0} (eq : K → K → Bool) where
     held = omega arith;
     hit_sizes = omega arith;
     fits = omega arith;
+  }
+
+  -- it holds over other nodes that have the same sums
+  pub IsSoundBySize-nodes : {S : Type 0} {nodes nodes' : List ℕ} {p : PassBySize K S} → IsSummed p.sizes nodes' p.requests
+      → IsSoundBySize eq nodes p → IsSoundBySize eq nodes' p
+  IsSoundBySize-nodes summed sound = record {
+    summed = summed;
+    past = sound.past;
+    ranked = sound.ranked;
+    few_hits = sound.few_hits;
+    many = sound.many;
+    held = sound.held;
+    hit_sizes = sound.hit_sizes;
+    fits = sound.fits;
   }
 
 module _ {K : Type 0} (eq : K → K → Bool) (laws : IsEquivalence eq) (positions : List (K × ℕ)) (n : ℕ) (x : K) where

@@ -1,4 +1,6 @@
 pub mod AgedPasses
+pub mod Apart
+pub mod Classes
 pub mod Curves
 pub mod Errors
 pub mod Fetches
@@ -7,11 +9,14 @@ pub mod KeyTables
 pub mod Latest
 pub mod LatestSizes
 pub mod Passes
+pub mod PositionPasses
 pub mod Ranked
 pub mod Rising
+pub mod Rows
 pub mod Seen
 pub mod SizedAgedPasses
 pub mod SizedCurves
 pub mod SizedIdlePasses
 pub mod SizedPasses
+pub mod Splits
 pub mod Tree

@@ -17,8 +17,13 @@ use std::mem;
 /// The capacity of a table at first.
 const FIRST_CAPACITY: usize = 64;
 
-/// Keys with a value each, found by their hashes.
-pub(crate) struct KeyTable<K: Eq + Hash, V, S: BuildHasher, A: Allocator + Copy> {
+/// Keys with a value each, found by their hashes. Nothing is dropped.
+///
+/// Calls take the hash of a key, which `hash` returns for each form of it, and no call changes the hash builder. Clauses see the
+/// entries, the latest inserted first.
+///
+/// Takes memory for each key and its value, and two buckets and a link of 4 bytes each.
+pub struct KeyTable<K: Eq + Hash, V, S: BuildHasher, A: Allocator + Copy> {
     map: LinkedHashMap<K, V, S, A>,
 }
 
@@ -43,8 +48,9 @@ impl<K: Eq + Hash, V, S: BuildHasher, A: Allocator + Copy> Model for KeyTable<K,
 }
 
 impl<K: Eq + Hash, V: Copy, S: BuildHasher, A: Allocator + Copy> KeyTable<K, V, S, A> {
-    /// A table that holds nothing. It takes no memory.
-    pub(crate) fn empty(alloc: A, hash_builder: S) -> Self
+    /// Creates a table that holds nothing.
+    /// Cost: no request for memory.
+    pub fn empty(alloc: A, hash_builder: S) -> Self
         ensures { result ≡ keyed [] hash_builder }
     {
         KeyTable {
@@ -52,22 +58,25 @@ impl<K: Eq + Hash, V: Copy, S: BuildHasher, A: Allocator + Copy> KeyTable<K, V, 
         }
     }
 
-    /// The number of keys.
-    pub(crate) fn len(&self) -> usize
+    /// Returns the number of keys.
+    /// Cost: a read.
+    pub fn len(&self) -> usize
         ensures { result ≡ length self.now.entries }
     {
         self.map.len()
     }
 
-    /// The hash of a key. Every form of the key has it.
-    pub(crate) fn hash<Q: Equivalent<K>>(&self, key: Q) -> u64
+    /// Returns the hash of a key. Every form of the key has it.
+    /// Cost: one hash.
+    pub fn hash<Q: Equivalent<K>>(&self, key: Q) -> u64
         ensures { result ≡ hash_of Q.Hash S.BuildHasher S.Hasher.Hasher self.now.builder key }
     {
         self.map.hash(key)
     }
 
-    /// The value of the key, whose hash is given.
-    pub(crate) fn get<Q: Equivalent<K>>(&self, hash: u64, key: Q) -> Option<V>
+    /// Returns the value of the key, whose hash is given.
+    /// Cost: a walk along one chain.
+    pub fn get<Q: Equivalent<K>>(&self, hash: u64, key: Q) -> Option<V>
         requires hash { hash ≡ hash_of Q.Hash S.BuildHasher S.Hasher.Hasher self.now.builder key }
         ensures { result ≡ lookup (Q.equivalent key) self.now.entries }
     {
@@ -75,7 +84,8 @@ impl<K: Eq + Hash, V: Copy, S: BuildHasher, A: Allocator + Copy> KeyTable<K, V, 
     }
 
     /// Gives the key, whose hash is given, another value if it is held, and returns the one that it had.
-    pub(crate) fn replace<Q: Equivalent<K>>(&mut self, hash: u64, key: Q, value: V) -> Option<V>
+    /// Cost: a walk along one chain.
+    pub fn replace<Q: Equivalent<K>>(&mut self, hash: u64, key: Q, value: V) -> Option<V>
         requires hash { hash ≡ hash_of Q.Hash S.BuildHasher S.Hasher.Hasher self.old.builder key }
         ensures found { result ≡ lookup (Q.equivalent key) self.old.entries }
         ensures same { IsNone result → self.new ≡ self.old }
@@ -88,11 +98,9 @@ impl<K: Eq + Hash, V: Copy, S: BuildHasher, A: Allocator + Copy> KeyTable<K, V, 
         }
     }
 
-    /// Takes a new key, whose hash is given, with its value. If memory is refused, it returns the key.
-    ///
-    /// The capacity bounds how far the places of the map grow, fourfold else; each takes two buckets and a link, which are all
-    /// written at once. So the capacity doubles when the map is full.
-    pub(crate) fn insert(&mut self, hash: u64, key: K, value: V) -> Result<(), K>
+    /// Takes a new key, whose hash is given, with its value. If memory is refused, it returns the key, and the table is unchanged.
+    /// Cost: two writes; memory for twice as many keys when the table is full.
+    pub fn insert(&mut self, hash: u64, key: K, value: V) -> Result<(), K>
         requires hash { hash ≡ hash_of K.Hash S.BuildHasher S.Hasher.Hasher self.old.builder key }
         requires new { lookup (K.eq key) self.old.entries ≡ None }
         requires countable { length self.old.entries + 1 < 2 ^ 64 }
@@ -100,6 +108,8 @@ impl<K: Eq + Hash, V: Copy, S: BuildHasher, A: Allocator + Copy> KeyTable<K, V, 
         ensures refused { OnErr result (self.new ≡ self.old) }
         ensures given_back { IfErr result (λ back. back ≡ key) }
     {
+        // (the capacity bounds how far the places of the map grow, fourfold else; each takes two buckets and a link, which are all
+        // written at once)
         double_if_full(&mut self.map);
         let Ok(()) = self.map.make_ready() else {
             return Err(key);

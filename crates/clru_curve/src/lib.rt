@@ -10,6 +10,8 @@
 //!
 //! If keys weigh something, a sized pass does the same with a size instead of each bit, and sums instead of numbers of bits; it
 //! keeps a size for each request.
+//!
+//! `split` divides a budget among several caches, by their curves.
 #![tactic(auto)]
 
 mod aged;
@@ -22,8 +24,10 @@ mod latest;
 mod list;
 mod numbered;
 mod pass;
+mod position;
 mod seen;
 mod sized;
+mod splits;
 mod tree;
 
 pub use aged::AgedPass;
@@ -34,9 +38,12 @@ pub use clru_model::{
 };
 pub use curve::MissCurve;
 pub use idle::IdlePass;
+pub use key_table::KeyTable;
 pub use list::miss_curve;
 pub use pass::DistancePass;
+pub use position::PositionPass;
 pub use sized::{
     SizedAgedPass, SizedCurve, SizedIdlePass, SizedPass, SizedRequestError, Step, sized_curve,
 };
+pub use splits::{Class, Curve, law_split, split};
 pub use std::num::NonZeroUsize;

@@ -26,6 +26,14 @@ is_fetch (Fetched answer) = true
 is_fetch NoText = false
 is_fetch NoMemory = false
 
+-- the file was read
+abbrev pub is_read : Served → Bool
+is_read (Hit summary) = false
+is_read (Fetched (Ok summary)) = true
+is_read (Fetched (Err fault)) = false
+is_read NoText = false
+is_read NoMemory = false
+
 -- no memory was found for the path
 abbrev pub is_no_memory : Served → Bool
 is_no_memory (Hit summary) = false

@@ -1,7 +1,8 @@
 //! A folder as a source of pages: the files below it, by their paths.
-ghost use Rattle.std.specs.Prelude.{◌≡◌, ◌≤◌, ◌↔◌, ℕ, IfOk, IsTrue, length};
+ghost use Rattle.std.specs.Prelude.{◌≡◌, ◌≤◌, ◌↔◌, ℕ, IfOk, IsTrue, Some, length};
 ghost use Rattle.std.specs.Cmp.Rules.{comparing};
 ghost use Rattle.std.proofs.Common.{rules};
+ghost use Rattle.clru_files.specs.Reading.{IsRecent};
 
 use crate::fault::Fault;
 use clru::NonZeroUsize;
@@ -9,7 +10,7 @@ use clru_through::{ByPromise, Fetch};
 use std::alloc::Global;
 use std::fs::{self, File, Files};
 use std::io::Read;
-use std::time::UNIX_EPOCH;
+use std::time::{Duration, Instant, UNIX_EPOCH};
 
 /// What a file says of itself: how many bytes it has, and the nanosecond of its last change, 0 where that is not known.
 #[derive(Clone, Copy)]
@@ -18,11 +19,12 @@ pub struct Stat {
     pub changed: u128,
 }
 
-/// The bytes of a file, and what it said of itself before they were read.
+/// The bytes of a file, what it said of itself before they were read, and from when they are, where a time was given.
 #[derive(Drop)]
 pub struct Page {
     pub bytes: Vec<u8>,
     pub stat: Stat,
+    pub read_at: Option<Instant>,
 }
 
 impl Page {
@@ -31,6 +33,16 @@ impl Page {
         ensures { IsTrue result ↔ (self.now.stat ≡ now) }
     {
         self.stat.length == now.length && self.stat.changed == now.changed
+    }
+
+    /// Returns whether the page was read at most so long ago. If the clock went back, a page from later counts as one from now.
+    pub fn is_recent(&self, now: Instant, limit: Duration) -> bool
+        ensures { IsTrue result ↔ IsRecent limit now self.now }
+    {
+        match self.read_at {
+            Some(at) => now.duration_since(at).as_nanos() <= limit.as_nanos(),
+            None => false,
+        }
     }
 }
 
@@ -86,10 +98,20 @@ impl<'f, R: Files> Folder<'f, R> {
         }
     }
 
+    /// Returns the page of a path's file, which is read now.
+    pub fn page_at(&self, path: &str, now: Instant) -> Result<Page, Fault>
+        ensures length { IfOk result (λ page. length page.bytes.items ≤ self.now.longest) }
+        ensures read_at { IfOk result (λ page. page.read_at ≡ Some now) }
+    {
+        let stat = self.stat_of(path)?;
+        self.read(path, stat, Some(now))
+    }
+
     /// The bytes of a file that says it has so many, and not one more.
-    fn read(&self, path: &str, stat: Stat) -> Result<Page, Fault>
+    fn read(&self, path: &str, stat: Stat, read_at: Option<Instant>) -> Result<Page, Fault>
         ensures length { IfOk result (λ page. length page.bytes.items ≤ stat.length) }
         ensures stat { IfOk result (λ page. page.stat ≡ stat) }
+        ensures read_at { IfOk result (λ page. page.read_at ≡ read_at) }
     {
         let most = stat.length;
         let place = self.place_of(path)?;
@@ -102,7 +124,11 @@ impl<'f, R: Files> Folder<'f, R> {
         if bytes.len() > most {
             return Err(Fault::Longer);
         }
-        Ok(Page { bytes, stat })
+        Ok(Page {
+            bytes,
+            stat,
+            read_at,
+        })
     }
 }
 
@@ -129,7 +155,7 @@ impl<'f, R: Files> Fetch<String, Page, Fault, ByPromise> for Folder<'f, R> {
 
     fn fetch(&mut self, path: &String) -> Result<Page, Fault> {
         let stat = self.stat_of(path)?;
-        self.read(path, stat)
+        self.read(path, stat, None)
     }
 
     ghost same = { Prim.search (rules, comparing) };

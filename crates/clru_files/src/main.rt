@@ -5,23 +5,28 @@ mod checksum;
 mod counts;
 mod fault;
 mod folder;
+mod freshness;
 mod serve;
 mod served;
+mod timer;
 
 use crate::folder::Folder;
+use crate::freshness::Freshness;
 use crate::serve::{pages_of, run};
+use crate::timer::Monotonic;
 use clru::NonZeroUsize;
 use clru_lines::{ReadError, read_input};
 use std::env;
 use std::io::{self, BufWriter, ErrorKind, Write};
 use std::process::ExitCode;
+use std::time::Duration;
 
 fn main(rt: HostRuntime) -> ExitCode {
     match answered(&rt) {
         Ok(()) => ExitCode::SUCCESS,
         Err(error) if error.kind() == ErrorKind::InvalidInput => report_failure(
             &rt,
-            "give FOLDER CAPACITY, --stat to see changes, and paths, a line each",
+            "give FOLDER CAPACITY, --stat or --max-age SECONDS to read files again, and paths, a line each",
         ),
         Err(error) if error.kind() == ErrorKind::OutOfMemory => report_failure(
             &rt,
@@ -42,11 +47,15 @@ fn answered(rt: &HostRuntime) -> io::Result<()> {
     let (Some(root), Some(number)) = (words.next(), words.next()) else {
         return Err(io::Error::from(ErrorKind::InvalidInput));
     };
-    let by_stat = match words.next() {
-        None => false,
-        Some(word) if word.as_str() == "--stat" && words.next().is_none() => true,
+    let freshness = match words.next() {
+        None => Freshness::WhileHeld,
+        Some(word) if word.as_str() == "--stat" => Freshness::WhileUnchanged,
+        Some(word) if word.as_str() == "--max-age" => Freshness::Within(seconds_of(words.next())?),
         Some(_) => return Err(io::Error::from(ErrorKind::InvalidInput)),
     };
+    if words.next().is_some() {
+        return Err(io::Error::from(ErrorKind::InvalidInput));
+    }
     let Ok(capacity) = number.parse::<NonZeroUsize>() else {
         return Err(io::Error::from(ErrorKind::InvalidInput));
     };
@@ -58,7 +67,15 @@ fn answered(rt: &HostRuntime) -> io::Result<()> {
     let folder = Folder::new(rt, rt.alloc(), &root, capacity);
     let mut pages = pages_of(rt.alloc(), capacity, folder);
     let mut output = BufWriter::new(rt.alloc(), rt.stdout())?;
-    let counts = run(&mut pages, rt.alloc(), &input, by_stat, &mut output)?;
+    let mut timer = Monotonic { clock: rt };
+    let counts = run(
+        &mut pages,
+        rt.alloc(),
+        &input,
+        freshness,
+        &mut timer,
+        &mut output,
+    )?;
     let held = pages.len().saturating_add(pages.weight());
     writeln!(
         output,
@@ -69,4 +86,15 @@ fn answered(rt: &HostRuntime) -> io::Result<()> {
         pages.len()
     )?;
     output.flush()
+}
+
+// The whole seconds that a word gives.
+fn seconds_of(word: Option<String>) -> io::Result<Duration> {
+    match word {
+        Some(word) => match word.parse::<u64>() {
+            Ok(seconds) => Ok(Duration::from_secs(seconds)),
+            Err(_) => Err(io::Error::from(ErrorKind::InvalidInput)),
+        },
+        None => Err(io::Error::from(ErrorKind::InvalidInput)),
+    }
 }

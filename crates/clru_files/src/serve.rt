@@ -1,9 +1,13 @@
 //! Serves paths one after the other.
-ghost use Rattle.std.specs.Prelude.{◌≡◌, ◌+◌, ◌-◌, ℕ, IfNone, IfOk, IfSome, IsErr, IsSomeAnd, List, None, Ok, OnOk, count_by, false, flat_map, is_some, length, not, true};
+ghost use Rattle.std.specs.Prelude.{◌≡◌, ◌+◌, ◌-◌, [], ◌∷◌, ◌++◌, ℕ, IfNone, IfOk, IfSome, IsErr, IsFalse, IsSomeAnd, IsTrue, List, None, Ok, OnOk, count_by, false, flat_map, is_some, length, not, true};
 ghost use Rattle.clru_lines.specs.Lines.{lines_of};
 ghost use Rattle.clru_through.specs.Given.{was_fetched};
 ghost use Rattle.clru_through.specs.declared.answer.Loaded.TheVariants.{Held};
+ghost use Rattle.clru_through.specs.Store.{AllKeep};
 ghost use Rattle.clru_files.specs.Serving.{is_hit, is_fetch, is_no_text, is_failure, line_of, AreServed, AreCounted};
+ghost use Rattle.clru_files.specs.Reading.{IsRecent, WasRead, Timed, AreRecent};
+ghost use Rattle.std.specs.declared.time.Duration.{Duration};
+ghost use Rattle.clru_files.specs.declared.freshness.Freshness.TheVariants.{WhileHeld, Within};
 ghost use Rattle.std.specs.Io.KnownBytes.{Appends};
 ghost use Rattle.std.specs.Map.{lookup};
 ghost use Rattle.std.specs.Str.{bytes_eq, is_utf8};
@@ -13,13 +17,16 @@ use crate::checksum::checksum;
 use crate::counts::Counts;
 use crate::fault::Fault;
 use crate::folder::{Folder, Page, Stat};
+use crate::freshness::Freshness;
 use crate::served::{PageSummary, Served};
+use crate::timer::Timer;
 use clru::{CLruCache, DefaultState, NonZeroUsize, WeightScale};
 use clru_lines::next_line;
 use clru_through::{ByPromise, Loaded, Through};
 use std::alloc::Global;
 use std::fs::Files;
 use std::io::{self, Write};
+use std::time::{Duration, Instant};
 
 /// The scale of pages. Beside the 1 of its entry a page weighs one less than its bytes, so it takes as much of the capacity as
 /// it has bytes; an empty page takes 1.
@@ -46,33 +53,129 @@ pub type Pages<'f, R> = Through<
     ByPromise,
 >;
 
-/// Creates a store of the pages of a folder, with room for so many bytes.
+/// Creates a store of the pages of a folder, with room for so many bytes, which holds none.
 pub fn pages_of<'f, R: Files>(
     alloc: Global,
     capacity: NonZeroUsize,
     folder: Folder<'f, R>,
-) -> Pages<'f, R> {
+) -> Pages<'f, R>
+    ensures { result.cache.entries ≡ [] }
+{
     Through::new(CLruCache::with_scale(alloc, capacity, ByBytes), folder)
 }
 
-/// Returns what became of a request, by what its file says of itself now or as the page is held. A failed one leaves what is held.
+/// Serves a request, by how long a held page answers, and returns what became of it. A failed one leaves what is held.
 fn serve<'f, R: Files>(
     pages: &mut Pages<'f, R>,
     alloc: Global,
     line: &[u8],
-    by_stat: bool,
+    freshness: Freshness,
+    now: Instant,
 ) -> Served
     ensures hit { is_hit result ≡ true →
         is_some (lookup (λ path. bytes_eq line.now (string_bytes path)) pages.old.cache.entries) ≡ true }
-    ensures fetch { by_stat ≡ false → is_fetch result ≡ true →
+    ensures fetch { freshness ≡ WhileHeld → is_fetch result ≡ true →
         lookup (λ path. bytes_eq line.now (string_bytes path)) pages.old.cache.entries ≡ None }
+    ensures recent { (limit : Duration) → freshness ≡ Within limit → is_hit result ≡ true →
+        IfSome (lookup (λ path. bytes_eq line.now (string_bytes path)) pages.old.cache.entries) (IsRecent limit now) }
+    ensures stale { (limit : Duration) → freshness ≡ Within limit → is_fetch result ≡ true →
+        IfSome (lookup (λ path. bytes_eq line.now (string_bytes path)) pages.old.cache.entries)
+        (λ page. ¬ (IsRecent limit now page)) }
+    ensures read { (limit : Duration) → freshness ≡ Within limit → (done : List Timed) →
+        AllKeep (WasRead done) string_bytes pages.old.cache.entries →
+        AllKeep (WasRead (done ++ (now, (line.now, result)) ∷ [])) string_bytes pages.new.cache.entries }
     ensures no_text { is_no_text result ≡ not (is_utf8 line.now) }
     ensures failure { is_failure result ≡ true → pages.new.cache.entries ≡ pages.old.cache.entries }
 {
-    if by_stat {
-        serve_by_stat(pages, alloc, line)
-    } else {
-        serve_held(pages, alloc, line)
+    match freshness {
+        Freshness::WhileHeld => serve_held(pages, alloc, line),
+        Freshness::WhileUnchanged => serve_by_stat(pages, alloc, line),
+        Freshness::Within(limit) => serve_by_age(pages, alloc, line, now, limit),
+    }
+}
+
+/// Reads a held page again if it was read longer ago than the limit.
+fn serve_by_age<'f, R: Files>(
+    pages: &mut Pages<'f, R>,
+    alloc: Global,
+    line: &[u8],
+    now: Instant,
+    limit: Duration,
+) -> Served
+    ensures hit { is_hit result ≡ true →
+        IsSomeAnd (lookup (λ path. bytes_eq line.now (string_bytes path)) pages.old.cache.entries) (IsRecent limit now) }
+    ensures fetch { is_fetch result ≡ true →
+        IfSome (lookup (λ path. bytes_eq line.now (string_bytes path)) pages.old.cache.entries)
+        (λ page. ¬ (IsRecent limit now page)) }
+    ensures read { (done : List Timed) → AllKeep (WasRead done) string_bytes pages.old.cache.entries →
+        AllKeep (WasRead (done ++ (now, (line.now, result)) ∷ [])) string_bytes pages.new.cache.entries }
+    ensures no_text { is_no_text result ≡ not (is_utf8 line.now) }
+    ensures failure { is_failure result ≡ true → pages.new.cache.entries ≡ pages.old.cache.entries }
+{
+    let Some(path) = path_of(line) else {
+        return Served::NoText;
+    };
+    let Ok(key) = String::from_str(alloc, path) else {
+        return Served::NoMemory;
+    };
+    serve_within(pages, key, now, limit)
+}
+
+/// Serves a path, by a held page only if that was read within the limit.
+fn serve_within<'f, R: Files>(
+    pages: &mut Pages<'f, R>,
+    path: String,
+    now: Instant,
+    limit: Duration,
+) -> Served
+    ensures hit { is_hit result ≡ true →
+        IsSomeAnd (lookup (string_eq path) pages.old.cache.entries) (IsRecent limit now) }
+    ensures fetch { is_fetch result ≡ true →
+        IfSome (lookup (string_eq path) pages.old.cache.entries) (λ page. ¬ (IsRecent limit now page)) }
+    ensures read { (done : List Timed) → AllKeep (WasRead done) string_bytes pages.old.cache.entries →
+        AllKeep (WasRead (done ++ (now, (string_bytes path, result)) ∷ [])) string_bytes pages.new.cache.entries }
+    ensures asked { is_no_text result ≡ false }
+    ensures failure { is_failure result ≡ true → pages.new.cache.entries ≡ pages.old.cache.entries }
+{
+    if has_recent(pages, &path, now, limit) {
+        let loaded = pages.load(path);
+        return served_of(pages, loaded);
+    }
+    read_again(pages, path, now)
+}
+
+/// Returns whether a page is held that was read within the limit.
+fn has_recent<'f, R: Files>(
+    pages: &Pages<'f, R>,
+    path: &String,
+    now: Instant,
+    limit: Duration,
+) -> bool
+    ensures recent { IsTrue result →
+        IsSomeAnd (lookup (string_eq path.now) pages.now.cache.entries) (IsRecent limit now) }
+    ensures stale { IsFalse result →
+        IfSome (lookup (string_eq path.now) pages.now.cache.entries) (λ page. ¬ (IsRecent limit now page)) }
+{
+    match pages.peek(path) {
+        Some(page) => page.is_recent(now, limit),
+        None => false,
+    }
+}
+
+/// Reads the file of a path now, and holds its page unless there is no memory for it.
+fn read_again<'f, R: Files>(pages: &mut Pages<'f, R>, path: String, now: Instant) -> Served
+    ensures fetch { is_fetch result ≡ true }
+    ensures read { (done : List Timed) → AllKeep (WasRead done) string_bytes pages.old.cache.entries →
+        AllKeep (WasRead (done ++ (now, (string_bytes path, result)) ∷ [])) string_bytes pages.new.cache.entries }
+    ensures failure { is_failure result ≡ true → pages.new.cache.entries ≡ pages.old.cache.entries }
+{
+    match pages.source().page_at(path.as_str(), now) {
+        Ok(page) => {
+            let summary = summary_of(&page);
+            let _ = pages.put(path, page);
+            Served::Fetched(Ok(summary))
+        }
+        Err(fault) => Served::Fetched(Err(fault)),
     }
 }
 
@@ -195,23 +298,27 @@ fn write_served<W: Write>(
     writeln!(output, "{path}: {served}")
 }
 
-/// Serves the path of each line, by what its file says of itself now or as it is held, and writes a line of each.
-pub fn run<'f, R: Files, W: Write>(
+/// Serves the path of each line, and writes a line of each.
+pub fn run<'f, R: Files, T: Timer, W: Write>(
     pages: &mut Pages<'f, R>,
     alloc: Global,
     input: &[u8],
-    by_stat: bool,
+    freshness: Freshness,
+    timer: &mut T,
     output: &mut W,
 ) -> io::Result<Counts>
     ensures paths { IfOk result (λ c. c.hits + c.fetches + c.no_memory ≡ count_by is_utf8 (lines_of input.now)) }
     ensures others { IfOk result (λ c. c.no_text ≡ count_by (λ line. not (is_utf8 line)) (lines_of input.now)) }
     ensures written { IfOk result (λ c. (requests : List (List ℕ × Served)) × AreServed input.now requests
-        × AreCounted requests c × Appends (W.contents output.old) (W.contents output.new) (flat_map line_of requests)) }
+        × AreCounted requests c × Appends (W.contents output.old) (W.contents output.new) (flat_map line_of requests)
+        × ((limit : Duration) → freshness ≡ Within limit → pages.old.cache.entries ≡ [] →
+        AreRecent T.reads limit requests timer.old timer.new)) }
 {
     let mut counts = Counts::new();
     let mut left = input;
     'lines: while let Some((line, rest)) = next_line(left) {
-        let served = serve(pages, alloc, line, by_stat);
+        let now = timer.read()?;
+        let served = serve(pages, alloc, line, freshness, now);
         counts.add(served);
         write_served(output, alloc, line, served)?;
         left = rest;

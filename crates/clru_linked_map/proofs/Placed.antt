@@ -1,5 +1,5 @@
 -- The entries of a list: what stands at a place once one is written, taken out or put in.
-use Rattle.std.proofs.Common.{◌≡◌, ◌<◌, ℕ, suc, ◌==◌, ◌≤◌, true, false, cond, Option, Some, None, IsSome, List, [], ◌∷◌, length, refl, sym, ap, ◌∙◌, subst, arith, inl, inr}
+use Rattle.std.proofs.Common.{◌≡◌, ◌<◌, ℕ, suc, ◌==◌, ◌≤◌, Bool, true, false, cond, Option, Some, None, IsSome, List, [], ◌∷◌, length, refl, sym, ap, ◌∙◌, subst, arith, inl, inr}
 use Rattle.std.proofs.lemmas.Bool.{cases_eq, eq-eqb, ne_eqb}
 use Rattle.clru_list.specs.PlaceList.{PlaceList, item_at, without, with_at, IsApart, IsValid}
 use Rattle.clru_list.specs.Places.{nowhere}
@@ -55,6 +55,12 @@ module _ {T : Type 0} where
     | inl here ↦ rw (eq-eqb p e.0 here) refl
     | inr there ↦ rw (ne_eqb p e.0 there) (ap suc (length-without_held p es i (rw (ne_eqb p e.0 there) at held)))
   ]
+
+  -- a list that does not tell that it is full has room
+  pub room_left : (l : PlaceList T) (r : Bool) → (length l.entries ≡ l.capacity → r ≡ true) → r ≡ false → IsValid l
+      → length l.entries < l.capacity
+  room_left l r tells silent valid =
+      let not_full : length l.entries ≡ l.capacity → ⊥ = λ e. let yes = tells e in cc in omega (arith, not_full, valid.fits)
 
 module _ {K V : Type 0} where
   -- there are as many pairs as entries

@@ -262,12 +262,19 @@ pub(crate) fn instead_of_size(line: &[u8]) -> &'static str {
 
 /// What stands where a time should, in words that follow the line.
 pub(crate) fn instead_of_time(line: &[u8]) -> &'static str {
-    let other = line
+    let figures = line
         .iter()
-        .find(|byte| !byte.is_ascii_digit() && **byte != b'.');
-    match (line.first(), other) {
+        .take_while(|byte| byte.is_ascii_digit() || **byte == b'.')
+        .count();
+    let points = line
+        .iter()
+        .take(figures)
+        .filter(|byte| **byte == b'.')
+        .count();
+    match (line.first(), line.get(figures)) {
         (None, _) => ", which is empty",
         (Some(first), _) if !first.is_ascii_digit() => ", where no digit stands first",
+        _ if points > 1 => ", where the number has a second point",
         (_, Some(b'\t')) => ", where a tab stands in place of the blank",
         (_, Some(b' ')) => ", where the number is too great or has too many digits",
         (_, None) => ", where nothing follows the number",

@@ -1,5 +1,6 @@
 //! One budget for several caches: what follows `--split`, and its run.
 
+use crate::lines::quoted;
 use crate::wrong;
 use clru_report::{Fault, Refusal, number_of_word};
 use clru_shares::{SplitFault, SplitOptions, run_split, split_status};
@@ -13,8 +14,8 @@ pub(crate) const SPLIT_HELP: &str = "
                  blank, with --sizes then its size and a blank, and is the key
                  as a whole; the table has a row for each class, with its part,
                  and one each for this best split, equal parts, and one cache
-                 for all; with --sizes, --json and --svg only; status 6 is then
-                 also a line without a class, or too many classes
+                 for all; with --sizes, --sample, --json and --svg only; status 6
+                 is then also a line without a class, or too many classes
 ";
 
 /// The budget that the arguments name: the word after `--split`.
@@ -66,12 +67,38 @@ fn no_budget(rt: &HostRuntime) -> Refusal {
 
 /// Writes how the budget is split, and gives the exit status.
 pub(crate) fn split_budget(rt: &HostRuntime, options: SplitOptions, seed: RandomState) -> u8 {
-    let outcome = run_split(rt.alloc(), options, &mut rt.stdin(), &mut rt.stdout(), seed);
+    let mut beginning = Vec::new(rt.alloc());
+    let outcome = run_split(
+        rt.alloc(),
+        options,
+        &mut rt.stdin(),
+        &mut rt.stdout(),
+        seed,
+        &mut beginning,
+    );
     match &outcome {
         Ok(()) | Err(SplitFault::Other(Fault::Closed)) => {}
-        Err(fault) => {
-            let _ = eprintln!(rt; "clru_mrc: {fault}");
-        }
+        Err(fault) => tell_fault(rt, *fault, &beginning),
     }
     split_status(&outcome)
+}
+
+fn tell_fault(rt: &HostRuntime, fault: SplitFault, beginning: &[u8]) {
+    let line = it_begins(rt, fault, beginning);
+    let more = match &line {
+        Some(line) => line.as_str(),
+        None => "",
+    };
+    let _ = eprintln!(rt; "clru_mrc: {fault}{more}");
+}
+
+// How the line begins that a fault names.
+fn it_begins(rt: &HostRuntime, fault: SplitFault, beginning: &[u8]) -> Option<String> {
+    match fault {
+        SplitFault::NoClass(_) | SplitFault::TooManyClasses(_) | SplitFault::NoSize(_) => {
+            let shown = quoted(rt, beginning).ok()?;
+            format!(in rt.alloc(); ": it begins {shown}").ok()
+        }
+        SplitFault::TooLarge | SplitFault::Other(_) => None,
+    }
 }

@@ -131,7 +131,7 @@ impl<'h, R: Read> Watch<'h, R> {
         );
         if options.sample == Sample::Whole {
             let counted = self.requests(options);
-            self.warn_of_hits(counted.saturating_sub(row.misses), counted);
+            self.warn_of_hits(counted.saturating_sub(row.misses), counted, options);
         }
     }
 
@@ -162,7 +162,7 @@ impl<'h, R: Read> Watch<'h, R> {
             (Sample::Whole, Capacities::HitRatio(_) | Capacities::ByteHitRatio(_)) => {}
             (Sample::Whole, _) => {
                 if let Some(misses) = misses {
-                    self.warn_of_hits(lines.saturating_sub(misses), lines);
+                    self.warn_of_hits(lines.saturating_sub(misses), lines, options);
                 }
             }
             (_, Capacities::Named(_)) if misses.is_none() => self.say(
@@ -188,18 +188,25 @@ impl<'h, R: Read> Watch<'h, R> {
         }
         match (misses, &options.capacities) {
             (_, Capacities::HitRatio(_) | Capacities::ByteHitRatio(_)) | (None, _) => {}
-            (Some(misses), _) => self.warn_of_hits(counted.saturating_sub(misses), counted),
+            (Some(misses), _) => {
+                self.warn_of_hits(counted.saturating_sub(misses), counted, options);
+            }
         }
     }
 
-    // Mostly such lines have a time in them.
-    fn warn_of_hits(&self, hits: u64, counted: u64) {
+    // Mostly such lines have a time in them, or entries expire early.
+    fn warn_of_hits(&self, hits: u64, counted: u64, options: &Options) {
         let are_few = hits.saturating_mul(FEW_HITS) < counted;
         if !are_few || counted < FEW {
             return;
         }
+        let or_limit = if has_limit(options) {
+            ", or the limit too short"
+        } else {
+            ""
+        };
         let _ = eprintln!(self.rt;
-            "clru_mrc: only {hits} of {counted} requests hit, even at the greatest of these capacities: is each line the whole line of a log?"
+            "clru_mrc: only {hits} of {counted} requests hit, even at the greatest of these capacities: is each line the whole line of a log{or_limit}?"
         );
     }
 
@@ -247,6 +254,14 @@ impl<'h, R: Read> Watch<'h, R> {
         self.told = Some(now);
         let (lines, megabytes) = (self.lines.count, self.bytes / 1_000_000);
         let _ = eprintln!(self.rt; "clru_mrc: {lines} requests in {megabytes} MB so far");
+    }
+}
+
+// Whether entries expire.
+fn has_limit(options: &Options) -> bool {
+    match options.times {
+        Some(times) => times.max_idle.is_some() || times.max_age.is_some(),
+        None => false,
     }
 }
 

@@ -163,19 +163,17 @@ no_picture asked none =
 pub named_for_age : {A : Type 0} (asked : Asked) → forms_go_together asked ≡ true → ages_go_together asked ≡ true → is_some asked.max_age ≡ true
     → (n : ℕ) (capacities : Capacities A)
     → AreCapacitiesOf asked.all asked.named asked.hit_ratio asked.byte_hit_ratio n capacities
-    → is_at_named asked.sizes capacities (form_of asked) ≡ true
+    → is_at_named capacities (form_of asked) ≡ true
 named_for_age asked forms ages some n capacities are =
     let first = and_parts (not (is_some asked.max_age && not asked.times)) _ ages in
     let second = and_parts (not (is_some asked.max_age && not (is_some_of asked.named)))
-    (not (is_some asked.max_age && (asked.svg || asked.sizes))) first.1 in
+    (not (is_some asked.max_age && asked.svg)) first.1 in
     let named : not (not (is_some_of asked.named)) ≡ true = rw some at second.0 in
-    let plain : not (asked.svg || asked.sizes) ≡ true = rw some at second.1 in
+    let plain : not asked.svg ≡ true = rw some at second.1 in
     let are_named = named_alone asked forms (split (is_some_of asked.named) (λ t. t) (λ f. absurd (cc (rw f at named)))) n capacities are in
     split asked.svg
     (λ t. absurd (cc (rw t at plain)))
-    (λ s. split asked.sizes
-    (λ t. absurd (cc (rw (s, t) at plain)))
-    (λ o. rw (o, are_named, no_picture asked s) refl))
+    (λ s. rw (are_named, no_picture asked s) refl)
 
 -- of a whole log the fault is that of all lines
 pub refused_whole : {A : Type 0} (sample : Sample) (fault : Fault) (options : Options A) (lines : List (List ℕ)) → is_whole sample ≡ true

@@ -34,6 +34,7 @@ mod SizedTimedForms
 mod SizedTimedLines
 mod SortedSets
 pub mod TakenLines
+mod TimeFigures
 mod TimedForms
 mod TimedLines
 mod TimedViews

@@ -1,8 +1,9 @@
 -- From the text of a curve by size to the report under limits, and to why there is none.
-use Rattle.std.proofs.Common.{◌≡◌, ℕ, ◌+◌, ◌-◌, ◌/◌, ◌^◌, nat_le, Bool, true, false, ◌&&◌, List, None, Some, map, refl, ap, ◌∙◌}
+use Rattle.std.proofs.Common.{◌≡◌, ℕ, ◌+◌, ◌-◌, ◌/◌, ◌^◌, nat_le, Bool, true, false, ◌&&◌, List, [], ◌∷◌, ◌++◌, None, Some, map, refl, sym, ap, subst, ◌∙◌}
 use Rattle.std.specs.List.{filter}
 use Rattle.std.specs.Map.{keys_of}
-use Rattle.std.proofs.lemmas.List.Elements.{All-weaker}
+use Rattle.std.proofs.lemmas.List.{map-append}
+use Rattle.std.proofs.lemmas.List.Elements.{All-filter, All-push, All-weaker}
 use Rattle.clru_curve.specs.SizedCurves.{CurveBySize, misses_within, missed_size_within}
 use Rattle.clru_lines.specs.declared.fault.Fault.TheVariants.{TooSmall}
 use Rattle.clru_report.specs.Choices.{is_summary, is_whole}
@@ -11,7 +12,7 @@ use Rattle.clru_report.specs.Refusals.{IsRefusedBy, fault_by, fault_from, names_
 use Rattle.clru_report.specs.SampleTables.{IsSampledTable, IsSampledText}
 use Rattle.clru_report.specs.Samples.{times}
 use Rattle.clru_report.specs.SizedTables.{capacity_of_sized_row, sized_table_text}
-use Rattle.clru_report.specs.SizedTimed.{IsInFormBySizeOn, IsPlainSizedRow, IsSizedTableOn}
+use Rattle.clru_report.specs.SizedTimed.{ArePlainSizedRows, IsInFormBySizeOn, IsPlainSizedRow, IsSizedTableOn}
 use Rattle.clru_report.specs.Sizes.{HaveSizes, greatest_size}
 use Rattle.clru_report.specs.Timed.{kept_in}
 use Rattle.clru_report.specs.Times.{kept_requests, requests_of, rests_of}
@@ -21,10 +22,30 @@ use Rattle.clru_report.specs.declared.options.Options.{Options}
 use Rattle.clru_report.specs.declared.options.Sample.{Sample}
 use Rattle.clru_report.specs.declared.options.Sample.TheVariants.{Whole, OneIn, Taken}
 use Rattle.clru_report.specs.declared.sized.rows.SizedRow.{SizedRow}
+use Rattle.clru_report.proofs.CapacityLemmas.{map-filter}
 use Rattle.clru_report.proofs.CurveNumbers.{capacities_by, usual_by}
 use Rattle.clru_report.proofs.CutsAlone.{refused_whole}
 use Rattle.clru_report.proofs.FaultLemmas.{named_one, none_beside, some_beside, told_beside}
 use Rattle.clru_report.proofs.SizedTimedLines.{whole_keys}
+
+-- one row more
+pub plain_sized_more : (m s : ℕ → ℕ) (chosen more : List ℕ) (rows next : List SizedRow) (row : SizedRow)
+    → ArePlainSizedRows m s chosen rows → next ≡ rows ++ row ∷ [] → more ≡ chosen ++ capacity_of_sized_row row ∷ []
+    → IsPlainSizedRow m s row → ArePlainSizedRows m s more next
+plain_sized_more m s chosen more rows next row are pushed longer is = (
+  ap (map capacity_of_sized_row) pushed ∙ map-append capacity_of_sized_row rows (row ∷ [])
+      ∙ ap (λ ns. ns ++ capacity_of_sized_row row ∷ []) are.0 ∙ sym longer,
+  (subst (λ rs. ArePlainSizedRows m s (map capacity_of_sized_row rs) rs) (sym pushed)
+      (refl, All-push (IsPlainSizedRow m s) rows row are.1 is)).1,
+)
+
+-- those from a capacity on
+pub plain_sized_from : (m s : ℕ → ℕ) (g : ℕ) (chosen : List ℕ) (rows : List SizedRow) → ArePlainSizedRows m s chosen rows
+    → ArePlainSizedRows m s (filter (λ c. nat_le g c) chosen) (filter (λ row. nat_le g (capacity_of_sized_row row)) rows)
+plain_sized_from m s g chosen rows are = (
+  map-filter (λ c. nat_le g c) capacity_of_sized_row rows ∙ ap (filter (λ c. nat_le g c)) are.0,
+  All-filter (λ row. nat_le g (capacity_of_sized_row row)) (IsPlainSizedRow m s) rows are.1,
+)
 
 module _ {A : Type 0} (options : Options A) (curve : CurveBySize) (m s : ℕ → ℕ) (g d n all size : ℕ)
     (misses : (c : ℕ) → misses_within curve c ≡ m c) (missed : (c : ℕ) → missed_size_within curve c ≡ s c)

@@ -1,28 +1,31 @@
--- What a pass knows that has taken lines with times and sizes: one more line, and the curve.
-use Rattle.std.proofs.Common.{◌≡◌, ℕ, ◌+◌, true, false, cond, List, [], ◌∷◌, ◌++◌, IsSome, Some, append-nil, map, reverse, refl, sym, ap, ◌∙◌, subst, arith}
-use Rattle.std.specs.Prelude.{bytes_eq, unwrap_or}
+-- What a pass knows that has taken lines with times and sizes: one more line, and what it shows.
+use Rattle.std.proofs.Common.{◌≡◌, ℕ, ◌+◌, ◌-◌, ◌≤◌, ◌^◌, true, false, nat_le, nat_lt, cond, Option, None, Some, List, [], ◌∷◌, ◌++◌, IsSome, is_some, append-nil, length, map, reverse, refl, sym, ap, ◌∙◌, subst, arith}
+use Rattle.std.specs.Prelude.{bytes_eq}
 use Rattle.std.specs.Map.{keys_of}
-use Rattle.std.proofs.lemmas.Grind.{reverse_onto}
-use Rattle.std.proofs.lemmas.List.{map-append}
-use Rattle.std.proofs.lemmas.List.Elements.{All-push}
-use Rattle.clru_curve.specs.SizedCurves.{CurveBySize}
+use Rattle.std.specs.Option.{is_none, option_map_or}
+use Rattle.std.proofs.lemmas.List.{length-append, length-map, map-append}
+use Rattle.std.proofs.lemmas.List.Elements.{All-nil, All-push}
+use Rattle.std.proofs.lemmas.List.Sums.{sum_by-cons}
+use Rattle.clru_curve.specs.SizedAgedPasses.{AgedPassBySize, IsSizedAgedPass, aged_missed_size, aged_misses_by_size}
+use Rattle.clru_curve.specs.SizedCurves.{CurveBySize, greatest_of, size_of_all}
 use Rattle.clru_curve.specs.SizedIdlePasses.{IsSizedIdleCurveOf, IsSizedIdlePass, TimedPassBySize}
+use Rattle.clru_lines.specs.declared.fault.Fault.{Fault}
+use Rattle.clru_lines.specs.declared.fault.Fault.TheVariants.{NoSize}
 use Rattle.clru_lines.specs.declared.lines.OwnedKey.{OwnedKey}
-use Rattle.clru_report.specs.Passes.{line_of, same_line, weight_of_key}
-use Rattle.clru_report.specs.Samples.{is_kept}
-use Rattle.clru_report.specs.SizedTimedPasses.{HasTakenSizedRequest, HasTakenSizedRequests, HasTakenSizedTimed}
-use Rattle.clru_report.specs.Sizes.{HaveSizes, size_of_line, size_of_lines, weight_of_line}
-use Rattle.clru_report.specs.TimedPasses.{shown_of}
-use Rattle.clru_report.specs.Times.{HaveTimes, kept_requests, request_of, requests_of, rest_of_line, rests_of, time_of_line}
+use Rattle.clru_model.proofs.Cases.{split}
+use Rattle.clru_report.specs.Faults.{is_of_writing}
+use Rattle.clru_report.specs.Passes.{IsOfLines, line_of, same_line, weight_of_key}
+use Rattle.clru_report.specs.Refusals.{fault_from, is_of_input}
+use Rattle.clru_report.specs.SizedTimedPasses.{HasTakenSizedTimed}
+use Rattle.clru_report.specs.Sizes.{HaveSizes, greatest_size, size_of_line, size_of_lines, weight_of_line}
+use Rattle.clru_report.specs.TimedPasses.{HasTakenRequests, HasTakenTimed}
+use Rattle.clru_report.specs.Times.{kept_requests, request_of, requests_of, rest_behind, rest_of_line, rests_of, time_of_line}
 use Rattle.clru_report.proofs.Samples.{each_kept}
-use Rattle.clru_report.proofs.SizedIdleViews.{idle_curve-view}
+use Rattle.clru_report.proofs.SizeViews.{greatest-view}
+use Rattle.clru_report.proofs.SizedIdleViews.{idle_curve-view, missed_size-view, sized_misses-view}
 use Rattle.clru_report.proofs.SizedSamples.{size_more}
-use Rattle.clru_report.proofs.TimedLines.{kept_more}
-
-pub sized_request_taken : {A S : Type 0} (idle : ℕ) (past : List (OwnedKey A × ℕ)) (key : OwnedKey A) (line : List ℕ) (time : ℕ)
-    (next : TimedPassBySize (OwnedKey A) S) → line_of key ≡ line → IsSizedIdlePass same_line weight_of_key idle ((key, time) ∷ past) next
-    → HasTakenSizedRequest idle past line time next
-sized_request_taken idle past key line time next is taken = record { key = key; is = is; taken = taken }
+use Rattle.clru_report.proofs.TakenLines.{first_without}
+use Rattle.clru_report.proofs.TimedLines.{keys_taken, numbers_taken, timed_start}
 
 -- the rests of one line more
 pub rests_more : (lines : List (List ℕ)) (line : List ℕ) (rest : List (List ℕ))
@@ -38,61 +41,117 @@ whole_keys (line ∷ lines) =
     ap (λ b. keys_of (cond b (request_of line ∷ later) later)) (each_kept (rest_of_line line))
     ∙ ap (λ ks. rest_of_line line ∷ ks) (whole_keys lines)
 
-module _ {A S : Type 0} (n idle : ℕ) (lines : List (List ℕ)) (size : ℕ) (pass : TimedPassBySize (OwnedKey A) S)
-    (has : HasTakenSizedTimed n idle lines size pass) (line : List ℕ) (time more : ℕ) (timed : time_of_line line ≡ Some time)
-    (sized : IsSome (size_of_line (rest_of_line line))) (sum : more ≡ size + (1 + weight_of_line (rest_of_line line))) where
-  more_times : HaveTimes (lines ++ line ∷ [])
-  more_times = All-push (λ l. IsSome (time_of_line l)) lines line has.timed (rw timed refl)
+-- a pass that has taken no line
+pub sized_start : {A P : Type 0} (Is : List (OwnedKey A × ℕ) → P → Type 0) (n : ℕ) (pass : P) → Is [] pass
+    → HasTakenSizedTimed Is n [] 0 pass
+sized_start Is n pass is = record {
+  timed = timed_start Is n pass is;
+  sizes = All-nil (λ line. IsSome (size_of_line line));
+  summed = refl;
+  faults = λ rest. refl;
+}
 
-  more_sizes : HaveSizes (rests_of (lines ++ line ∷ []))
-  more_sizes = subst HaveSizes (sym (map-append rest_of_line lines (line ∷ [])))
-      (All-push (λ l. IsSome (size_of_line l)) (rests_of lines) (rest_of_line line) has.sizes sized)
-
-  more_size : more ≡ size_of_lines (rests_of (lines ++ line ∷ []))
-  more_size = omega (
-    arith,
-    sum,
-    has.summed,
-    size_more (rests_of lines) [] (rest_of_line line),
-    ap size_of_lines (map-append rest_of_line lines (line ∷ [])),
-  )
-
-  -- a line that is not kept
-  pub sized_timed_skipped : is_kept n (rest_of_line line) ≡ false → HasTakenSizedTimed n idle (lines ++ line ∷ []) more pass
-  sized_timed_skipped none = record {
-    timed = more_times;
-    sizes = more_sizes;
-    summed = more_size;
-    taken = subst (λ rs. HasTakenSizedRequests idle rs pass) (sym (kept_more n lines line
-        ∙ ap (λ b. kept_requests n (requests_of lines) ++ cond b (request_of line ∷ []) []) none
-        ∙ append-nil (kept_requests n (requests_of lines)))) has.taken;
+module _ {A P : Type 0} (Is : List (OwnedKey A × ℕ) → P → Type 0) (n : ℕ) (lines : List (List ℕ)) (size : ℕ) (pass : P)
+    (has : HasTakenSizedTimed Is n lines size pass) where
+  -- one line more, which has a size
+  pub sized_more : (line : List ℕ) (more : ℕ) (next : P) → HasTakenTimed Is n (lines ++ line ∷ []) next
+      → IsSome (size_of_line (rest_of_line line)) → more ≡ size + (1 + weight_of_line (rest_of_line line))
+      → ((rest : List (List ℕ)) → fault_from (length lines + 1) size (rest_of_line line ∷ rest) ≡ fault_from (length lines + 1 + 1) more rest)
+      → HasTakenSizedTimed Is n (lines ++ line ∷ []) more next
+  sized_more line more next timed sized sum on = record {
+    timed = timed;
+    sizes = subst HaveSizes (sym (map-append rest_of_line lines (line ∷ [])))
+        (All-push (λ l. IsSome (size_of_line l)) (rests_of lines) (rest_of_line line) has.sizes sized);
+    summed = omega (
+      arith,
+      sum,
+      has.summed,
+      size_more (rests_of lines) [] (rest_of_line line),
+      ap size_of_lines (map-append rest_of_line lines (line ∷ [])),
+    );
+    faults = λ rest. ap (fault_from 1 0) (rests_more lines line rest) ∙ has.faults (rest_of_line line ∷ rest) ∙ on rest
+        ∙ ap (λ k. fault_from (k + 1) more rest) (sym (length-append lines (line ∷ [])));
   }
 
-  -- one that is
-  pub sized_timed_taken : (next : TimedPassBySize (OwnedKey A) S) → is_kept n (rest_of_line line) ≡ true
-      → HasTakenSizedRequest idle has.taken.past (rest_of_line line) time next → HasTakenSizedTimed n idle (lines ++ line ∷ []) more next
-  sized_timed_taken next some one = record {
-    timed = more_times;
-    sizes = more_sizes;
-    summed = more_size;
-    taken = record {
-      past = (one.key, time) ∷ has.taken.past;
-      shown = ap (map shown_of) (reverse_onto has.taken.past (one.key, time) [])
-          ∙ map-append shown_of (reverse has.taken.past) ((one.key, time) ∷ [])
-          ∙ ap (λ rs. rs ++ (line_of one.key, time) ∷ []) has.taken.shown
-          ∙ ap (λ l. kept_requests n (requests_of lines) ++ (l, time) ∷ []) one.is
-          ∙ ap (λ o. kept_requests n (requests_of lines) ++ (rest_of_line line, unwrap_or o 0) ∷ []) (sym timed)
-          ∙ sym (kept_more n lines line
-          ∙ ap (λ b. kept_requests n (requests_of lines) ++ cond b (request_of line ∷ []) []) some);
-      taken = one.taken;
-    };
-  }
+  -- lines with one that has a fault have it
+  pub sized_refused : (fault : Fault) (line : List ℕ) (rest : List (List ℕ)) → IsOfLines fault (rests_of lines ++ rest_of_line line ∷ rests_of rest)
+      → (is_of_input fault ≡ true → fault_from (length lines + 1) size (rest_of_line line ∷ rests_of rest) ≡ Some fault)
+      → IsOfLines fault (rests_of (lines ++ line ∷ rest))
+      × (is_of_input fault ≡ true → fault_from 1 0 (rests_of (lines ++ line ∷ rest)) ≡ Some fault)
+  sized_refused fault line rest of next =
+      let same = map-append rest_of_line lines (line ∷ rest) in (
+        subst (IsOfLines fault) (sym same) of,
+        λ i. ap (fault_from 1 0) same ∙ has.faults (rest_of_line line ∷ rests_of rest) ∙ next i,
+      )
+
+  -- one without a time has no size
+  pub untimed_refused : (line : List ℕ) (rest : List (List ℕ)) (number : ℕ) → time_of_line line ≡ None → number ≡ length lines + 1
+      → IsOfLines (NoSize number) (rests_of (lines ++ line ∷ rest))
+      × (is_of_input (NoSize number) ≡ true → fault_from 1 0 (rests_of (lines ++ line ∷ rest)) ≡ Some (NoSize number))
+  untimed_refused line rest number none counted =
+      let bare : rest_of_line line ≡ [] = ap (rest_behind line) none in
+      sized_refused (NoSize number) line rest
+      (first_without (rests_of lines) (rests_of rest) (rest_of_line line) number has.sizes (omega (arith, counted, length-map lines rest_of_line))
+      (ap (λ l. is_some (size_of_line l)) bare))
+      (λ i. ap (λ l. fault_from (length lines + 1) size (l ∷ rests_of rest)) bare ∙ ap (λ k. Some (NoSize k)) (sym counted))
+
+  -- all of them have none
+  pub sized_free : fault_from 1 0 (rests_of lines) ≡ None
+  sized_free = ap (fault_from 1 0) (sym (append-nil (rests_of lines))) ∙ has.faults []
 
 pub sized_idle_taken : {A S : Type 0} (idle : ℕ) (requests : List (List ℕ × ℕ)) (pass : TimedPassBySize (OwnedKey A) S) (curve : CurveBySize)
-    → HasTakenSizedRequests idle requests pass
+    → HasTakenRequests (IsSizedIdlePass same_line weight_of_key idle) requests pass
     → ((past : List (OwnedKey A × ℕ)) → IsSizedIdlePass same_line weight_of_key idle past pass
     → IsSizedIdleCurveOf same_line weight_of_key idle (reverse past) curve)
     → IsSizedIdleCurveOf bytes_eq weight_of_line idle requests curve
 sized_idle_taken idle requests pass curve has made =
     subst (λ rs. IsSizedIdleCurveOf bytes_eq weight_of_line idle rs curve) has.shown
     (idle_curve-view bytes_eq weight_of_line line_of idle (reverse has.past) curve (made has.past has.taken))
+
+-- under an age limit as well
+module _ {A S : Type 0} (capacities : List ℕ) (idle : Option ℕ) (age : ℕ) (requests : List (List ℕ × ℕ)) (pass : AgedPassBySize (OwnedKey A) S)
+    (has : HasTakenRequests (IsSizedAgedPass same_line weight_of_key capacities idle age) requests pass) where
+  abbrev Is : List (OwnedKey A × ℕ) → AgedPassBySize (OwnedKey A) S → Type 0
+  Is past p = IsSizedAgedPass same_line weight_of_key capacities idle age past p
+
+  pub sized_aged_misses : (misses : List ℕ)
+      → ((past : List (OwnedKey A × ℕ)) → Is past pass
+      → misses ≡ map (λ c. aged_misses_by_size same_line weight_of_key idle age c (reverse past)) capacities)
+      → misses ≡ map (λ c. aged_misses_by_size bytes_eq weight_of_line idle age c requests) capacities
+  sized_aged_misses misses made =
+      numbers_taken Is requests pass has (λ c rs. aged_misses_by_size same_line weight_of_key idle age c rs)
+      (λ c rs. aged_misses_by_size bytes_eq weight_of_line idle age c rs)
+      (λ c rs. sized_misses-view bytes_eq weight_of_line line_of idle (Some age) rs c) capacities misses made
+
+  pub sized_aged_missed : (missed : List ℕ)
+      → ((past : List (OwnedKey A × ℕ)) → Is past pass
+      → missed ≡ map (λ c. aged_missed_size same_line weight_of_key idle age c (reverse past)) capacities)
+      → missed ≡ map (λ c. aged_missed_size bytes_eq weight_of_line idle age c requests) capacities
+  sized_aged_missed missed made =
+      numbers_taken Is requests pass has (λ c rs. aged_missed_size same_line weight_of_key idle age c rs)
+      (λ c rs. aged_missed_size bytes_eq weight_of_line idle age c rs)
+      (λ c rs. missed_size-view bytes_eq weight_of_line line_of idle (Some age) rs c) capacities missed made
+
+  -- the first capacity is their greatest size
+  pub sized_aged_first : (first : ℕ) → ((past : List (OwnedKey A × ℕ)) → Is past pass → first ≡ 1 + greatest_of weight_of_key (keys_of past))
+      → first ≡ greatest_size (keys_of requests)
+  sized_aged_first first made =
+      made has.past has.taken ∙ ap (λ k. 1 + k) (sym (greatest-view bytes_eq weight_of_line line_of (keys_of has.past))
+      ∙ ap (greatest_of weight_of_line) (keys_taken Is requests pass has))
+
+-- a weight takes no more than all sizes
+pub greatest_in_all : {K : Type 0} (weight : K → ℕ) (ks : List K) → greatest_of weight ks ≤ size_of_all weight ks - 1
+greatest_in_all weight [] = omega arith
+greatest_in_all weight (x ∷ ks) =
+    let ih = greatest_in_all weight ks in
+    let all = sum_by-cons (λ y. 1 + weight y) x ks in
+    split (nat_lt (greatest_of weight ks) (weight x))
+    (λ u. rw u (omega (arith, all)))
+    (λ v. rw v (omega (arith, all, ih)))
+
+-- the fault of a line is none of writing
+pub unwritten_line : (line : List ℕ) (n size : ℕ) (fault : Fault) → fault_from n size (line ∷ []) ≡ Some fault → is_of_writing fault ≡ false
+unwritten_line line n size fault is =
+    let writes = λ (o : Option Fault). option_map_or is_of_writing o false in
+    ap writes (sym is) ∙ split (is_none (size_of_line line)) (λ t. rw t refl)
+    (λ f. rw f (split (nat_le (2 ^ 64) (size + (1 + weight_of_line line))) (λ t. rw t refl) (λ g. rw g refl)))

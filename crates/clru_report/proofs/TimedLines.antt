@@ -1,12 +1,13 @@
 -- What a pass knows that has taken lines with times: one more line, and the curve.
-use Rattle.std.proofs.Common.{◌≡◌, ℕ, ◌+◌, true, false, cond, Option, List, [], ◌∷◌, ◌++◌, IsNone, IsSome, Some, append-nil, map, length, reverse, refl, sym, ap, ◌∙◌, subst}
+use Rattle.std.proofs.Common.{◌≡◌, ℕ, ◌+◌, Bool, true, false, cond, Option, List, [], ◌∷◌, ◌++◌, IsNone, IsSome, Some, append-nil, map, length, reverse, refl, sym, ap, ◌∙◌, subst}
 use Rattle.std.specs.Prelude.{bytes_eq, unwrap_or, IsSomeAnd}
 use Rattle.std.specs.Map.{keys_of}
 use Rattle.std.proofs.lemmas.Grind.{reverse_onto}
 use Rattle.std.proofs.lemmas.List.{map-append, reverse-reverse}
-use Rattle.std.proofs.lemmas.List.Elements.{All-push, filter-append}
+use Rattle.std.proofs.lemmas.List.Elements.{All-nil, All-push, filter-append}
 use Rattle.clru_curve.specs.AgedPasses.{IsAgedPass, aged_misses_at}
-use Rattle.clru_curve.specs.SizedAgedPasses.{AgedPassBySize}
+use Rattle.clru_curve.proofs.AgedPassing.{misses_weightless}
+use Rattle.clru_curve.specs.SizedAgedPasses.{AgedPassBySize, IsSizedAgedPass, aged_misses_by_size}
 use Rattle.clru_curve.specs.IdlePasses.{HasIdleMissesOf, IsIdlePass, TimedPass}
 use Rattle.clru_lines.specs.declared.lines.OwnedKey.{OwnedKey}
 use Rattle.clru_model.proofs.Views.{distinct-map, map-reverse}
@@ -62,6 +63,36 @@ module _ {A P : Type 0} (Is : List (OwnedKey A × ℕ) → P → Type 0) (n : �
     };
   }
 
+-- a pass that has taken no line
+pub timed_start : {A P : Type 0} (Is : List (OwnedKey A × ℕ) → P → Type 0) (n : ℕ) (pass : P) → Is [] pass → HasTakenTimed Is n [] pass
+timed_start Is n pass is = record {
+  timed = All-nil (λ line. IsSome (time_of_line line));
+  taken = record { past = []; shown = refl; taken = is };
+}
+
+map_alike : (f g : ℕ → ℕ) → ((n : ℕ) → f n ≡ g n) → (ns : List ℕ) → map f ns ≡ map g ns
+map_alike f g same [] = refl
+map_alike f g same (n ∷ ns) = cc (same n, map_alike f g same ns)
+
+module _ {A P : Type 0} (Is : List (OwnedKey A × ℕ) → P → Type 0) (requests : List (List ℕ × ℕ)) (pass : P)
+    (has : HasTakenRequests Is requests pass) where
+  -- the keys that were taken, the latest first
+  pub keys_taken : map line_of (keys_of has.past) ≡ reverse (keys_of requests)
+  keys_taken =
+      let turned : map shown_of has.past ≡ reverse requests =
+      sym (reverse-reverse (map shown_of has.past)) ∙ ap reverse (sym (map-reverse shown_of has.past) ∙ has.shown) in
+      sym (keys-view bytes_eq line_of has.past) ∙ ap keys_of turned ∙ map-reverse (λ (r : List ℕ × ℕ). r.0) requests
+
+  -- a number for each capacity of what the keys were is that of what they show
+  pub numbers_taken : (own : ℕ → List (OwnedKey A × ℕ) → ℕ) (shown : ℕ → List (List ℕ × ℕ) → ℕ)
+      → ((c : ℕ) (rs : List (OwnedKey A × ℕ)) → shown c (map shown_of rs) ≡ own c rs) → (capacities numbers : List ℕ)
+      → ((past : List (OwnedKey A × ℕ)) → Is past pass → numbers ≡ map (λ c. own c (reverse past)) capacities)
+      → numbers ≡ map (λ c. shown c requests) capacities
+  numbers_taken own shown alike capacities numbers made =
+      subst (λ rs. numbers ≡ map (λ c. shown c rs) capacities) has.shown
+      (made has.past has.taken ∙ map_alike (λ c. own c (reverse has.past)) (λ c. shown c (map shown_of (reverse has.past)))
+      (λ c. sym (alike c (reverse has.past))) capacities)
+
 module _ {A S : Type 0} (idle : ℕ) (requests : List (List ℕ × ℕ)) (pass : TimedPass (OwnedKey A) S) (has : HasTakenRequests (IsIdlePass same_line idle) requests pass)
     (curve : List ℕ) where
   pub idle_taken : ((past : List (OwnedKey A × ℕ)) → IsIdlePass same_line idle past pass → HasIdleMissesOf same_line idle (reverse past) curve)
@@ -73,27 +104,28 @@ module _ {A S : Type 0} (idle : ℕ) (requests : List (List ℕ × ℕ)) (pass :
   pub kinds_taken : ((past : List (OwnedKey A × ℕ)) → IsIdlePass same_line idle past pass → length curve ≡ distinct same_line (keys_of past))
       → length curve ≡ distinct bytes_eq (reverse (keys_of requests))
   kinds_taken made =
-      let turned : map shown_of has.past ≡ reverse requests =
-      sym (reverse-reverse (map shown_of has.past)) ∙ ap reverse (sym (map-reverse shown_of has.past) ∙ has.shown) in
       made has.past has.taken ∙ sym (distinct-map bytes_eq line_of (keys_of has.past))
-      ∙ ap (distinct bytes_eq) (sym (keys-view bytes_eq line_of has.past) ∙ ap keys_of turned
-      ∙ map-reverse (λ (r : List ℕ × ℕ). r.0) requests)
-
-map_alike : (f g : ℕ → ℕ) → ((n : ℕ) → f n ≡ g n) → (ns : List ℕ) → map f ns ≡ map g ns
-map_alike f g same [] = refl
-map_alike f g same (n ∷ ns) = cc (same n, map_alike f g same ns)
+      ∙ ap (distinct bytes_eq) (keys_taken (IsIdlePass same_line idle) requests pass has)
 
 -- so many miss at each capacity under an age limit
 pub aged_taken : {A S : Type 0} (capacities : List ℕ) (idle : Option ℕ) (age : ℕ) (requests : List (List ℕ × ℕ))
     (pass : AgedPassBySize (OwnedKey A) S) (has : HasTakenRequests (IsAgedPass same_line capacities idle age) requests pass) (misses : List ℕ)
     → ((past : List (OwnedKey A × ℕ)) → IsAgedPass same_line capacities idle age past pass
-    → misses ≡ map (λ k. aged_misses_at same_line idle age k (reverse past)) capacities)
+    → misses ≡ map (λ c. aged_misses_by_size same_line (λ _. 0) idle age c (reverse past)) capacities)
     → misses ≡ map (λ k. aged_misses_at bytes_eq idle age k requests) capacities
 aged_taken capacities idle age requests pass has misses made =
-    subst (λ rs. misses ≡ map (λ k. aged_misses_at bytes_eq idle age k rs) capacities) has.shown
-    (made has.past has.taken ∙ map_alike (λ k. aged_misses_at same_line idle age k (reverse has.past))
-    (λ k. aged_misses_at bytes_eq idle age k (map shown_of (reverse has.past)))
-    (λ k. sym (aged_misses-view bytes_eq line_of k idle age (reverse has.past))) capacities)
+    numbers_taken (IsAgedPass same_line capacities idle age) requests pass has (λ k rs. aged_misses_at same_line idle age k rs)
+    (λ k rs. aged_misses_at bytes_eq idle age k rs) (λ k rs. aged_misses-view bytes_eq line_of k idle age rs) capacities misses
+    (λ past is. made past is ∙ misses_weightless same_line idle age (reverse past) capacities)
+
+-- the capacities and limits of a pass are its own
+pub aged_own : {K S : Type 0} (eq : K → K → Bool) (w : K → ℕ) (cs : List ℕ) (idle : Option ℕ) (age : ℕ) (past : List (K × ℕ)) (pass start : AgedPassBySize K S)
+    → start.fetches.capacities ≡ cs → start.idle ≡ idle → start.fetches.age ≡ age → IsSizedAgedPass eq w cs idle age past pass
+    → IsSizedAgedPass eq w start.fetches.capacities start.idle start.fetches.age past pass
+aged_own eq w cs idle age past pass start places limit aged is =
+    subst (λ a. IsSizedAgedPass eq w start.fetches.capacities start.idle a past pass) (sym aged)
+    (subst (λ l. IsSizedAgedPass eq w start.fetches.capacities l age past pass) (sym limit)
+    (subst (λ ks. IsSizedAgedPass eq w ks idle age past pass) (sym places) is))
 
 -- after lines with times the next is the first without
 pub first_untimed : (lines rest : List (List ℕ)) (line : List ℕ) (n : ℕ) → HaveTimes lines → n ≡ length lines + 1

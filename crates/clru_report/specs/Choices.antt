@@ -69,6 +69,6 @@ abbrev pub is_aged : Option Times → Bool
 is_aged None = false
 is_aged (Some limits) = is_some limits.max_age
 
--- a table by keys is asked for, at capacities that are named
-abbrev pub is_at_named : {A : Type 0} → Bool → Capacities A → Form → Bool
-is_at_named sizes capacities form = not sizes && (is_named capacities && not (is_picture form))
+-- a table is asked for, at capacities that are named
+abbrev pub is_at_named : {A : Type 0} → Capacities A → Form → Bool
+is_at_named capacities form = is_named capacities && not (is_picture form)

@@ -17,6 +17,7 @@ pub mod Passes
 pub mod PlainRows
 pub mod RatioLaws
 pub mod Ratios
+pub mod Readings
 pub mod Refusals
 pub mod Report
 pub mod RowLaws

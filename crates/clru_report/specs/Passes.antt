@@ -43,6 +43,10 @@ line_of key = key.0.items
 abbrev pub same_line : {A : Type 0} → OwnedKey A → OwnedKey A → Bool
 same_line x y = bytes_eq (line_of x) (line_of y)
 
+-- the hash of a line, by what the builder and its hasher say
+abbrev pub hash_of_line : {S H : Type 0} → (H → ℕ) → (H → List ℕ → H) → (S → H) → S → List ℕ → ℕ
+hash_of_line finish write build builder line = finish (write (build builder) line)
+
 abbrev pub weight_of_key : {A : Type 0} → OwnedKey A → ℕ
 weight_of_key x = weight_of_line (line_of x)
 

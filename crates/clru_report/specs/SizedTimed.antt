@@ -1,11 +1,13 @@
 -- What is written for lines that begin with times and sizes, where entries may expire and capacities are sums of sizes. The numbers
 -- are those of the definitions of requests with times: no cache is in sight. Public clauses cite it.
-use Rattle.std.specs.Prelude.{◌≡◌, ℕ, ◌-◌, ◌/◌, ◌^◌, nat_le, Bool, true, false, List, length, map, None, bytes_eq}
+use Rattle.std.specs.Prelude.{◌≡◌, ℕ, ◌-◌, ◌/◌, ◌^◌, nat_le, Bool, true, false, Option, None, Some, List, [], length, map, bytes_eq}
 use Rattle.std.specs.Int.NonZero.{non_zero_usize_get}
 use Rattle.std.specs.List.{All, filter}
 use Rattle.std.specs.Map.{keys_of}
+use Rattle.clru_curve.specs.SizedAgedPasses.{aged_missed_size, aged_misses_by_size}
 use Rattle.clru_curve.specs.SizedIdlePasses.{idle_missed_size, idle_misses_by_size}
 use Rattle.clru_report.specs.Capacities.{sized_capacities_of, usual_from}
+use Rattle.clru_report.specs.Choices.{is_json, named_in}
 use Rattle.clru_report.specs.Faithful.{IsFaithful}
 use Rattle.clru_report.specs.Knees.{knees}
 use Rattle.clru_report.specs.Refusals.{fault_by}
@@ -79,9 +81,36 @@ module _ (limits : Times) (kept : List (List ℕ × ℕ)) where
       IsInFormBySizeOn options sized_misses_under missed_size_under (greatest_size (keys_of kept)) (distinct_size (keys_of kept))
       (part_in options.sample) (all_by options.sample read) (size_by options.sample size) options.form text
 
--- the report of lines that begin with times, behind which they begin with sizes and have no fault
-abbrev pub IsTimedReportBySize : {A : Type 0} → Times → Options A → List (List ℕ) → List ℕ → Type 0
-IsTimedReportBySize limits options lines text = HaveTimes lines × HaveSizes (rests_of lines)
+-- the table at those of the named capacities that are at least g, where so many miss at each, of such a size together, of one key in n
+-- and of so many requests of this size in all: it has no knees
+abbrev pub IsSizedTableAt : {A : Type 0} → Options A → (m s : ℕ → ℕ) → (g n all size : ℕ) → List ℕ → Type 0
+IsSizedTableAt options m s g n all size text = (rows : List SizedRow) × (shown : List SizedRow)
+    × ArePlainSizedRows m s (filter (λ c. nat_le g c) (named_in options.capacities)) rows
+    × (map sized_numbers_of shown ≡ map (sized_numbers_times n all size) rows)
+    × (text ≡ sized_table_text (is_json options.form) options.floor all size [] shown)
+
+module _ (age : ℕ) (limits : Times) (kept : List (List ℕ × ℕ)) where
+  -- how many of the requests miss at a capacity under an age limit as well, and their size
+  abbrev pub sized_misses_in_age : ℕ → ℕ
+  sized_misses_in_age c = aged_misses_by_size bytes_eq weight_of_line limits.max_idle age c kept
+
+  abbrev pub missed_size_in_age : ℕ → ℕ
+  missed_size_in_age c = aged_missed_size bytes_eq weight_of_line limits.max_idle age c kept
+
+-- the report of these kept requests, by size, where this is the age limit, if there is one
+abbrev pub IsReportInAgeBySize : {A : Type 0} → Option ℕ → Times → List (List ℕ × ℕ) → Options A → ℕ → ℕ → List ℕ → Type 0
+IsReportInAgeBySize None limits kept options read size text = IsReportOfKeptBySize limits kept options read size text
+IsReportInAgeBySize (Some age) limits kept options read size text =
+    IsSizedTableAt options (sized_misses_in_age age limits kept) (missed_size_in_age age limits kept) (greatest_size (keys_of kept))
+    (part_in options.sample) (all_by options.sample read) (size_by options.sample size) text
+
+-- the report of lines that begin with times, behind which they begin with sizes and have no fault, under such an age limit
+abbrev pub IsTimedReportBySizeIn : {A : Type 0} → Option ℕ → Times → Options A → List (List ℕ) → List ℕ → Type 0
+IsTimedReportBySizeIn age limits options lines text = HaveTimes lines × HaveSizes (rests_of lines)
     × (fault_by options.sample options (rests_of lines) ≡ None)
-    × IsReportOfKeptBySize limits (kept_requests (kept_in options.sample) (requests_of lines)) options (length lines)
+    × IsReportInAgeBySize age limits (kept_requests (kept_in options.sample) (requests_of lines)) options (length lines)
     (size_of_lines (rests_of lines)) text
+
+-- the report of such lines
+abbrev pub IsTimedReportBySize : {A : Type 0} → Times → Options A → List (List ℕ) → List ℕ → Type 0
+IsTimedReportBySize limits options lines text = IsTimedReportBySizeIn limits.max_age limits options lines text

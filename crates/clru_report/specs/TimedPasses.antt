@@ -1,7 +1,6 @@
 -- What a pass over lines with times has taken, and its curve. No public clause cites it.
-use Rattle.std.specs.Prelude.{◌≡◌, ℕ, Option, List, ◌∷◌, length, map, reverse, bytes_eq}
+use Rattle.std.specs.Prelude.{◌≡◌, ℕ, List, ◌∷◌, length, map, reverse, bytes_eq}
 use Rattle.std.specs.Map.{keys_of}
-use Rattle.clru_curve.specs.AgedPasses.{aged_misses_at}
 use Rattle.clru_curve.specs.IdlePasses.{HasIdleMissesOf}
 use Rattle.clru_lines.specs.Lines.{lines_of}
 use Rattle.clru_lines.specs.declared.lines.OwnedKey.{OwnedKey}
@@ -38,10 +37,3 @@ pub record IsTimedCurveOf (n idle : ℕ) (input : List ℕ) (curve : List ℕ) (
   pub distinct_keys : length curve ≡ distinct bytes_eq (reverse (keys_of (kept_requests n (requests_of (lines_of input)))))
   pub counted : requests ≡ length (lines_of input)
   pub in_bytes : bytes ≡ length input
-
--- the misses at these capacities under these limits of the lines of an input that a sample keeps, with the number of all lines
-pub record AreTimedMissesOf (n : ℕ) (capacities : List ℕ) (idle : Option ℕ) (age : ℕ) (input : List ℕ)
-    (misses : List ℕ) (requests : ℕ) : Type 0 where
-  pub timed : HaveTimes (lines_of input)
-  pub each : misses ≡ map (λ c. aged_misses_at bytes_eq idle age c (kept_requests n (requests_of (lines_of input)))) capacities
-  pub counted : requests ≡ length (lines_of input)

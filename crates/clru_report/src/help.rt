@@ -48,7 +48,7 @@ are shown. Between the usual rows you may interpolate.
                  unit of the times, or if that is the second 30s, 10m, 1.5h, 7d
     --max-age T  with --times and --at: entries expire T after their fetch, so
                  that their next request misses and fetches them anew; not with
-                 --svg or --sizes
+                 --svg
     --json       the table as JSON: an object a line, by the columns' names
     --svg        a picture instead of the table; with --sizes it has a line
                  for the bytes too

@@ -49,7 +49,8 @@ pub enum Sample {
     Taken(NonZeroUsize, usize),
 }
 
-/// Each line begins with a time, and entries may expire.
+/// Each line begins with a time, and entries may expire. A line without one is the fault `NoSize`, which prints as one without a size:
+/// `time_of` tells which it is.
 #[derive(Clone, Copy, Debug, PartialEq, Eq)]
 pub struct Times {
     /// The greatest idle time, in millionths of the unit of the times: the time since the latest request of a key, after which
@@ -57,7 +58,7 @@ pub struct Times {
     pub max_idle: Option<usize>,
 
     /// The greatest age, in the same unit: the time since the latest miss of a key at a capacity, after which its next request misses
-    /// there. It goes with a table by keys at named capacities alone, whose column `knee` is 0.
+    /// there. It goes with a table at named capacities alone, whose column `knee` is 0.
     pub max_age: Option<usize>,
 }
 
@@ -125,8 +126,8 @@ pub struct Options<A: Allocator = Global> {
     // Of requests with times all are counted, and only their misses are known.
     ghost timed: { is_some times ≡ true → is_untimed least floor one_size (is_some after) form ≡ false },
 
-    // Where entries expire by age, misses are known at capacities alone that are named before, and by keys.
-    ghost aged: { is_aged times ≡ true → is_at_named sizes capacities form ≡ true },
+    // Where entries expire by age, misses are known at capacities alone that are named before.
+    ghost aged: { is_aged times ≡ true → is_at_named capacities form ≡ true },
 
     ghost ascending: { AreAscending capacities },
 }

@@ -5,7 +5,7 @@ ghost use Rattle.clru_curve.specs.Passes.{IsPass};
 ghost use Rattle.clru_lines.specs.Lines.{lines_of};
 ghost use Rattle.clru_lines.specs.Whole.{ReadWhole};
 ghost use Rattle.clru_lines.specs.declared.lines.OwnedKey.{OwnedKey};
-ghost use Rattle.clru_report.specs.Passes.{HasFloorPass, HasForesight, HasTakenFor, HasTakenKey, IsCurveOfKept, IsFloorFor, IsForeseenFor, line_of, same_line};
+ghost use Rattle.clru_report.specs.Passes.{HasFloorPass, HasForesight, HasTakenFor, HasTakenKey, IsCurveOfKept, IsFloorFor, IsForeseenFor, hash_of_line, line_of, same_line};
 ghost use Rattle.clru_report.specs.Samples.{kept_of};
 
 use crate::sample::is_kept;
@@ -107,9 +107,10 @@ fn take_kept<S: BuildHasher, A: Allocator + Copy>(
     if !is_kept(&key.0, one_in) {
         return Ok(());
     }
-    foresee(pass, foresight, key)?;
-    note_reuse(pass, reuses, key)?;
-    take_key(alloc, pass, key)
+    let hash = pass.hash(key);
+    foresee(pass, foresight, hash, key)?;
+    note_reuse(pass, reuses, hash, key)?;
+    take_hashed(alloc, pass, hash, key)
 }
 
 /// Takes one more line. It is copied where it is new.
@@ -124,6 +125,21 @@ pub fn take_key<S: BuildHasher, A: Allocator + Copy>(
         → OnOk result (HasTakenKey past (line_of key.now) pass.new) }
 {
     let hash = pass.hash(key);
+    take_hashed(alloc, pass, hash, key)
+}
+
+// `take_key`, with the hash of the line.
+fn take_hashed<S: BuildHasher, A: Allocator + Copy>(
+    alloc: A,
+    pass: &mut DistancePass<OwnedKey<A>, S, A>,
+    hash: u64,
+    key: &OwnedKey<A>,
+) -> Result<(), AllocError>
+    requires hash { hash ≡ hash_of_line S.Hasher.Hasher.finish S.Hasher.Hasher.write S.BuildHasher.build_hasher pass.old.builder (line_of key.now) }
+    requires taken { (past : List (OwnedKey A)) × IsPass same_line past pass.old }
+    ensures { (past : List (OwnedKey A)) → IsPass same_line past pass.old
+        → OnOk result (HasTakenKey past (line_of key.now) pass.new) }
+{
     match pass.request_again_with_hash(hash, key) {
         Ok(Some(_)) => Ok(()),
         Ok(None) => {
@@ -141,15 +157,17 @@ pub fn take_key<S: BuildHasher, A: Allocator + Copy>(
 fn foresee<S: BuildHasher, A: Allocator + Copy>(
     pass: &DistancePass<OwnedKey<A>, S, A>,
     foresight: &mut Option<ForesightPass<OwnedKey<A>, A>>,
+    hash: u64,
     key: &OwnedKey<A>,
 ) -> Result<(), AllocError>
-    requires { (least : Bool) × (past : List (OwnedKey A)) × IsPass same_line past pass.now × HasForesight least past foresight.old }
+    requires hash { hash ≡ hash_of_line S.Hasher.Hasher.finish S.Hasher.Hasher.write S.BuildHasher.build_hasher pass.now.builder (line_of key.now) }
+    requires taken { (least : Bool) × (past : List (OwnedKey A)) × IsPass same_line past pass.now × HasForesight least past foresight.old }
     ensures { (least : Bool) (past : List (OwnedKey A)) → IsPass same_line past pass.now → HasForesight least past foresight.old
         → OnOk result ((same : OwnedKey A) → line_of same ≡ line_of key.now → HasForesight least (same ∷ past) foresight.new) }
 {
     match foresight {
         None => Ok(()),
-        Some(foresight) => foresight.request(pass.latest_request(key)),
+        Some(foresight) => foresight.request(pass.latest_request_with_hash(hash, key)),
     }
 }
 
@@ -157,15 +175,17 @@ fn foresee<S: BuildHasher, A: Allocator + Copy>(
 fn note_reuse<S: BuildHasher, A: Allocator + Copy>(
     pass: &DistancePass<OwnedKey<A>, S, A>,
     reuses: &mut Option<FloorPass<OwnedKey<A>, A>>,
+    hash: u64,
     key: &OwnedKey<A>,
 ) -> Result<(), AllocError>
-    requires { (floored : Bool) × (past : List (OwnedKey A)) × IsPass same_line past pass.now × HasFloorPass (λ _. 0) floored past reuses.old }
+    requires hash { hash ≡ hash_of_line S.Hasher.Hasher.finish S.Hasher.Hasher.write S.BuildHasher.build_hasher pass.now.builder (line_of key.now) }
+    requires taken { (floored : Bool) × (past : List (OwnedKey A)) × IsPass same_line past pass.now × HasFloorPass (λ _. 0) floored past reuses.old }
     ensures { (floored : Bool) (past : List (OwnedKey A)) → IsPass same_line past pass.now → HasFloorPass (λ _. 0) floored past reuses.old
         → OnOk result ((same : OwnedKey A) → line_of same ≡ line_of key.now → HasFloorPass (λ _. 0) floored (same ∷ past) reuses.new) }
 {
     match reuses {
         None => Ok(()),
-        Some(reuses) => match reuses.request(pass.latest_request(key), 0) {
+        Some(reuses) => match reuses.request(pass.latest_request_with_hash(hash, key), 0) {
             Ok(()) => Ok(()),
             Err(_) => Err(AllocError),
         },

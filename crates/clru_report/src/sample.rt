@@ -23,8 +23,9 @@ const BASIS: u64 = 14695981039346656037;
 
 const PRIME: u64 = 1099511628211;
 
-/// Whether all requests of a key are kept, where one key in so many is. One in one keeps each key and needs no hash.
-pub(crate) fn is_kept(line: &[u8], one_in: NonZeroUsize) -> bool
+/// Returns whether all requests of a key are kept, where one key in so many is. One in one keeps each key and needs no hash.
+/// Cost: a step for each byte; no request for memory.
+pub fn is_kept(line: &[u8], one_in: NonZeroUsize) -> bool
     ensures { result ≡ is_kept_by (non_zero_usize_get one_in) line.now }
 {
     one_in.get() == 1 || fnv_of(line) % one_in.get() as u64 == 0
@@ -157,8 +158,9 @@ fn times_some(one_in: NonZeroUsize, bound: usize, number: Option<usize>) -> Opti
     }
 }
 
-/// So many times a number, and at most the bound.
-pub(crate) fn times(one_in: NonZeroUsize, bound: usize, number: usize) -> usize
+/// Returns so many times a number, and at most the bound: what a number of the kept requests says of all.
+/// Cost: none.
+pub fn times(one_in: NonZeroUsize, bound: usize, number: usize) -> usize
     ensures { result ≡ times_of (non_zero_usize_get one_in) bound number }
 {
     number.saturating_mul(one_in.get()).min(bound)

@@ -40,14 +40,15 @@ pub(crate) use floors::Floors;
 pub use line::size_of;
 use one_size::curve_of_counted;
 pub(crate) use pass::count_line;
+pub(crate) use rows::SizedRow;
 use rows::sized_rows_for;
-pub(crate) use sample::{Totals, text_of_sized_sample};
+pub(crate) use sample::{Totals, sized_rows_times, text_of_sized_sample};
 use std::alloc::Allocator;
 use std::hash::BuildHasher;
 use std::io::Read;
 use std::num::NonZeroUsize;
-pub(crate) use table::distinct_of;
-use table::{sized_summary_of, sized_table_of};
+use table::sized_summary_of;
+pub(crate) use table::{distinct_of, sized_table_of};
 
 /// The report of all that a reader gives, by the sizes that its lines begin with.
 pub(crate) fn make_sized_report<R: Read, S: BuildHasher + Copy, A: Allocator + Copy>(

@@ -11,7 +11,9 @@ ghost use Rattle.clru_report.specs.Timed.{all_by, idle_limit, IsInFormOn, IsTime
 
 mod aged;
 mod by_size;
+mod lines;
 mod pass;
+mod sized_aged;
 mod sized_pass;
 mod time;
 

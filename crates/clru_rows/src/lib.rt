@@ -1,15 +1,29 @@
-//! Scripts as data: reads a script, has its blocks of calls made, and writes it again, each call with what it answered.
+//! Scripts as data: reads a script, has its blocks of calls made, and writes it again, each call with what it answered. It makes
+//! those on caches, lists and stores itself (`kinds`).
 #![tactic(auto)]
 
 pub mod answers;
+mod cache;
+mod calls;
+mod closures;
+mod costs;
 pub mod fault;
 pub mod head;
+pub mod kinds;
 pub mod lines;
+mod list;
+mod makers;
 pub mod out;
 pub mod page;
 pub mod pairs;
+mod plain;
+mod replays;
 pub mod requested;
+mod runs;
+mod scale;
+mod store;
 pub mod subject;
+mod whole;
 pub mod words;
 pub mod world;
 

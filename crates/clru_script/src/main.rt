@@ -1,28 +1,24 @@
-//! Makes the calls of a script on caches, lists and stores, and writes it again, each call with what it answered.
+//! Makes the calls of a script, and writes it again, each call with what it answered. Those on caches, lists and stores are made in
+//! `clru_rows`, which is proved before what curves and reports need.
 #![tactic(auto)]
 
-mod cache;
-mod calls;
-mod closures;
-mod costs;
-mod list;
-mod makers;
-mod plain;
-mod replays;
-mod runs;
-mod scale;
-mod store;
-mod whole;
+mod aged;
+mod floors;
+mod foresight;
+mod misses;
+mod passes;
+mod report;
+mod requests;
+mod timed;
 
-use clru_rows::answer;
 use clru_rows::answers::Answers;
 use clru_rows::lines::Line;
 use clru_rows::page::Blocks;
-use clru_rows::words::Wrong;
 use clru_rows::world::World;
+use clru_rows::{answer, kinds};
 use std::process::ExitCode;
 
-/// The kinds of blocks that this program runs.
+/// All kinds of blocks.
 struct Kinds;
 
 impl Blocks for Kinds {
@@ -31,15 +27,16 @@ impl Blocks for Kinds {
             return;
         };
         match first.name() {
-            "cache" => cache::run(world, first, lines, answers),
-            "costs" => costs::run(world, lines, answers),
-            "makers" => makers::run(world, lines, answers),
-            "list" => list::run(world, lines, answers),
-            "store" => store::run(world, lines, answers),
-            "store_costs" => store::run_costs(world, lines, answers),
-            "replay" => replays::run(world, block, answers),
-            "runs" => runs::run(world, lines, answers),
-            _ => answers.wrong = Some(Wrong::NothingMade),
+            "misses" | "sizes" | "floor" | "least" => requests::run(world, block, answers),
+            "distances" => passes::run_distances(world, lines, answers),
+            "spans" => passes::run_spans(world, lines, answers),
+            "idle_distances" => timed::run_distances(world, first, lines, answers),
+            "idle_spans" => timed::run_spans(world, first, lines, answers),
+            "aged_misses" => aged::run_misses(world, first, lines, answers),
+            "aged_sizes" => aged::run_sizes(world, first, lines, answers),
+            "foresight" => foresight::run(world, first, lines, answers),
+            "input" => report::run(world, first, lines, answers),
+            _ => kinds::run(world, block, answers),
         }
     }
 }

@@ -1,19 +1,18 @@
 -- Names in the order of bytes, and what one more line adds to the lines of a class.
-use Rattle.std.proofs.Common.{◌≡◌, ℕ, ◌+◌, ◌<◌, ◌≤◌, ◌||◌, Bool, true, false, cond, zero, suc, Less, Equal, Greater, Ordering, List, [], ◌∷◌, ◌++◌, length, take, drop, set, get_or, map, append-nil, inl, inr, refl, sym, ap, ◌∙◌, subst, arith}
-use Rattle.std.specs.Prelude.{bytes_eq}
-use Rattle.std.specs.List.{All, insert, list_any}
+use Rattle.std.proofs.Common.{◌≡◌, ℕ, ◌+◌, ◌<◌, ◌≤◌, ◌||◌, Bool, true, false, cond, zero, suc, Less, Equal, Greater, Ordering, List, [], ◌∷◌, ◌++◌, length, get_or, append-nil, inl, inr, refl, sym, ap, ◌∙◌, subst, arith}
+use Rattle.std.specs.Prelude.{bytes_eq, Result, Ok, Err, IfOk, IfErr}
+use Rattle.std.specs.List.{insert, list_any}
 use Rattle.std.specs.Ordering.{is_eq, is_lt, nat_cmp, ordering_reverse}
 use Rattle.std.specs.Cmp.Lexicographic.{slice_cmp}
 use Rattle.std.proofs.lemmas.Bool.{cases_eq, cases_lt}
 use Rattle.std.proofs.lemmas.Cmp.{nat_list_cmp_total}
 use Rattle.std.proofs.lemmas.Map.Text.{is_eq-slice_cmp}
-use Rattle.std.proofs.lemmas.List.{length-set, get_or-set_same, get_or-set_other}
 use Rattle.std.proofs.lemmas.List.Edits.{length-insert, get_or-insert_at, get_or-insert_above, get_or-insert_below}
-use Rattle.std.proofs.lemmas.List.Elements.{All-append, All-cons, All-drop, All-from_get_or, All-get_or, All-take, filter-append}
+use Rattle.std.proofs.lemmas.List.Elements.{filter-append}
 use Rattle.clru_model.proofs.Cases.{split}
 use Rattle.clru_report.proofs.SettledCurves.{bytes_laws, same_bytes}
 use Rattle.clru_shares.specs.Classes.{AreAscending, IsBefore, class_in, requests_of}
-use Rattle.clru_shares.specs.Passes.{BelongsAt, IsHeldAt}
+use Rattle.clru_shares.specs.Passes.{BelongsAt, IsHeldAt, IsPlaceOf}
 
 less_of : (o : Ordering) → is_lt o ≡ true → o ≡ Less
 less_of Less is = refl
@@ -165,3 +164,9 @@ module _ (names : List (List ℕ)) (name : List ℕ) (at : ℕ) where
     | inl same ↦ subst (λ i. IsBefore (get_or names i []) name) (sym same) here
     | inr apart ↦ behind k (omega (arith, low, apart))
   ]
+
+-- where it is, or else belongs
+pub place_of_each : (names : List (List ℕ)) (name : List ℕ) (place : Result ℕ ℕ) → IfOk place (IsHeldAt names name)
+    → IfErr place (BelongsAt names name) → IsPlaceOf names name place
+place_of_each names name (Ok at) held missing = held
+place_of_each names name (Err at) held missing = missing

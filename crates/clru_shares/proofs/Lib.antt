@@ -3,6 +3,8 @@ mod FaultLemmas
 mod PairLemmas
 mod PartLemmas
 mod PassLemmas
+mod PlaceLemmas
+mod SampleLemmas
 mod ShareLemmas
 mod SizedViews
 mod TakenClasses

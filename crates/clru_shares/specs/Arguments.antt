@@ -1,5 +1,6 @@
 -- Which options of a report a split has too. Public clauses cite them.
-use Rattle.std.specs.Prelude.{Bool, true, false, not, ◌&&◌, ◌||◌, Option, None, Some}
+use Rattle.std.specs.Prelude.{ℕ, Bool, true, false, not, ◌&&◌, ◌||◌, Option, None, Some}
+use Rattle.std.specs.Int.NonZero.{non_zero_usize_get}
 use Rattle.std.specs.Option.{is_none, is_some}
 use Rattle.clru_report.specs.declared.options.Capacities.{Capacities}
 use Rattle.clru_report.specs.declared.options.Capacities.TheVariants.{Usual, Each, Named, HitRatio, ByteHitRatio}
@@ -27,10 +28,17 @@ is_usual (Named named) = false
 is_usual (HitRatio ratio) = false
 is_usual (ByteHitRatio ratio) = false
 
-abbrev pub is_of_all_lines : Sample → Bool
-is_of_all_lines Whole = true
-is_of_all_lines (OneIn n) = false
-is_of_all_lines (Taken n all) = false
+-- the input is no sample itself
+abbrev pub holds_all_lines : Sample → Bool
+holds_all_lines Whole = true
+holds_all_lines (OneIn n) = true
+holds_all_lines (Taken n all) = false
+
+-- one key in so many of it is read
+abbrev pub sample_number : Sample → Option ℕ
+sample_number Whole = None
+sample_number (OneIn n) = Some (non_zero_usize_get n)
+sample_number (Taken n all) = None
 
 abbrev pub has_look : {A : Type 0} → Look A → Bool
 has_look look = is_some look.title || is_some look.unit || is_some look.from || is_some look.to
@@ -38,5 +46,5 @@ has_look look = is_some look.title || is_some look.unit || is_some look.from || 
 -- nothing is asked for that a split does not have
 abbrev pub goes_with_split : {A : Type 0} → Options A → Bool
 goes_with_split options = is_usual options.capacities && (not options.one_size && (not options.least && (not options.floor
-    && (is_of_all_lines options.sample && (is_none options.after && (is_some (form_of_split options.form)
+    && (holds_all_lines options.sample && (is_none options.after && (is_some (form_of_split options.form)
     && (not (has_look options.look) && is_none options.times)))))))

@@ -1,5 +1,5 @@
 -- What is printed of a fault of a split, and its exit status. Public clauses cite them.
-use Rattle.std.specs.Prelude.{ℕ, Bool, true, false, List, ◌++◌, codes, decimal}
+use Rattle.std.specs.Prelude.{◌≡◌, ℕ, Bool, true, false, List, ◌++◌, codes, decimal, ⊤}
 use Rattle.clru_lines.specs.Faults.{fault_text, status_of}
 use Rattle.clru_report.specs.Faults.{is_of_writing}
 use Rattle.clru_report.specs.Refusals.{is_of_input}
@@ -39,3 +39,11 @@ comes_of_a_line (TooManyClasses n) = true
 comes_of_a_line (NoSize n) = true
 comes_of_a_line TooLarge = true
 comes_of_a_line (Other fault) = is_of_input fault
+
+-- the fault names the line of this number, if it names one
+abbrev pub IsNumbered : ℕ → SplitFault → Type 0
+IsNumbered n (NoClass m) = m ≡ n
+IsNumbered n (TooManyClasses m) = m ≡ n
+IsNumbered n (NoSize m) = m ≡ n
+IsNumbered n TooLarge = ⊤
+IsNumbered n (Other fault) = ⊤

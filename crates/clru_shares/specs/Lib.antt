@@ -4,7 +4,9 @@ pub mod Faults
 pub mod Forms
 pub mod LinePasses
 pub mod Passes
+pub mod Places
 pub mod Refusals
+pub mod Sampled
 pub mod ShareCurves
 pub mod Shares
 pub mod Sizes

@@ -1,5 +1,5 @@
 -- Which inputs have no split, and why. Public clauses cite them.
-use Rattle.std.specs.Prelude.{◌≡◌, ℕ, ◌+◌, ◌^◌, ◌≤◌, Bool, true, false, List, [], ◌∷◌, ◌++◌, length, bytes_eq}
+use Rattle.std.specs.Prelude.{◌≡◌, ℕ, ◌+◌, ◌^◌, ◌≤◌, Bool, true, false, List, [], ◌∷◌, ◌++◌, length, take, bytes_eq, ⊤}
 use Rattle.std.specs.List.{All, list_any}
 use Rattle.clru_shares.specs.Classes.{AreClasses, class_in, has_class, most_classes}
 use Rattle.clru_shares.specs.Sizes.{is_sized, own_size, size_in}
@@ -64,3 +64,24 @@ IsSaidOfLines sizes (TooManyClasses n) lines = IsOneTooMany n lines
 IsSaidOfLines sizes (NoSize n) lines = (sizes ≡ true) × IsFirstWithoutSize n lines
 IsSaidOfLines sizes TooLarge lines = (sizes ≡ true) × HasLargeSizes lines
 IsSaidOfLines sizes (Other fault) lines = ⊥
+
+-- so many bytes of a line at fault are shown
+abbrev pub most_shown : ℕ
+most_shown = 60
+
+-- how the line of this number, counted from 1, begins
+pub record BeginsLine (n : ℕ) (lines : List (List ℕ)) (beginning : List ℕ) : Type 0 where
+  pub before : List (List ℕ)
+  pub line : List ℕ
+  pub rest : List (List ℕ)
+  pub is : lines ≡ before ++ line ∷ rest
+  pub number : n ≡ length before + 1
+  pub shown : beginning ≡ take most_shown line
+
+-- how the line begins that a fault names
+abbrev pub IsShownOf : SplitFault → List (List ℕ) → List ℕ → Type 0
+IsShownOf (NoClass n) lines beginning = BeginsLine n lines beginning
+IsShownOf (TooManyClasses n) lines beginning = BeginsLine n lines beginning
+IsShownOf (NoSize n) lines beginning = BeginsLine n lines beginning
+IsShownOf TooLarge lines beginning = ⊤
+IsShownOf (Other fault) lines beginning = ⊤

@@ -1,11 +1,14 @@
 -- The curve of a share as one of a split: by keys what misses are requests, and by size their size. No public clause cites it.
+use Rattle.std.specs.Int.NonZero.{non_zero_usize_get}
+use Rattle.std.specs.Option.{option_map}
 use Rattle.std.specs.Prelude.{ℕ, zero, suc, nat_lt, Option, Some, None, if◌then◌else◌}
 use Rattle.clru_curve.specs.Curves.{misses_at}
 use Rattle.clru_curve.specs.SizedCurves.{misses_within, missed_size_within}
+use Rattle.clru_shares.specs.Sampled.{told_missed}
 use Rattle.clru_shares.specs.declared.curve.LineCurve.{LineCurve}
 use Rattle.clru_shares.specs.declared.curve.LineCurve.TheVariants.{ByKeys, BySize}
 use Rattle.clru_shares.specs.declared.share.Share.{Share}
-use Rattle.clru_split.specs.Classes.{missed_size_above}
+use Rattle.clru_curve.specs.Classes.{missed_size_above}
 
 module _ {A : Type 0} where
   -- all requests, or their size
@@ -21,8 +24,12 @@ module _ {A : Type 0} where
   missed_by_curve (ByKeys curve) c = Some (misses_at curve c)
   missed_by_curve (BySize curve) c = missed_size_above curve c
 
+  -- one key in so many, if the curve is that of a sample
+  abbrev pub sample_of : Share A → Option ℕ
+  sample_of share = option_map non_zero_usize_get share.sample
+
   abbrev pub missed_of_share : Share A → ℕ → Option ℕ
-  missed_of_share share c = missed_by_curve share.curve c
+  missed_of_share share c = told_missed (sample_of share) (all_of_share share) (missed_by_curve share.curve c)
 
   -- the requests that miss at a capacity with room for each, and by size their size
   abbrev pub missed_pair : LineCurve A → ℕ → Option (ℕ × ℕ)

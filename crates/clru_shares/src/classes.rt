@@ -2,10 +2,12 @@
 ghost use Rattle.std.specs.Prelude.{◌≡◌, ◌≤◌, ℕ, Bool, List, [], ◌∷◌, ◌++◌, length, map, ◌<◌, true, false, IfErr, IfOk, OnOk};
 ghost use Rattle.clru_report.specs.Passes.{line_of};
 ghost use Rattle.clru_shares.specs.Classes.{AreAscending, class_in, most_classes, requests_of};
-ghost use Rattle.clru_shares.specs.Passes.{BelongsAt, HasTaken, HaveTaken, IsHeldAt, name_of};
+ghost use Rattle.clru_shares.specs.Passes.{BelongsAt, HasTaken, HaveTaken, IsHeldAt, IsPlaceOf, name_of, next_kept};
+ghost use Rattle.clru_shares.specs.Places.{IsLatestBy};
 ghost use Rattle.clru_shares.specs.Sizes.{own_size};
 
-use crate::pass::{LinePass, empty_pass, take};
+use crate::pass::{LinePass, empty_pass, take_kept};
+use crate::sampled::next_number;
 use clru_lines::OwnedKey;
 use std::alloc::{AllocError, Allocator};
 use std::cmp::Ordering;
@@ -14,12 +16,13 @@ use std::hash::BuildHasher;
 /// More classes than these are refused.
 pub(crate) const MOST_CLASSES: usize = 256;
 
-/// A class: the pass over its lines, how many these are, and by size their size together.
+/// A class: the pass over those of its lines that are kept, how many these are, how many there are in all, and by size the size of all.
 #[derive(Drop)]
 pub(crate) struct Class<S: BuildHasher + Copy, A: Allocator + Copy> {
     pub(crate) name: Vec<u8, A>,
     pub(crate) requests: usize,
     pub(crate) size: usize,
+    pub(crate) kept: usize,
     pub(crate) pass: LinePass<S, A>,
 }
 
@@ -42,35 +45,58 @@ pub(crate) fn place_of<S: BuildHasher + Copy, A: Allocator + Copy>(
     Err(classes.len())
 }
 
-/// Takes one more line of a class, which may be new, of this size. Returns whether there was room for the class.
+/// Returns how many lines of the class were kept, from where it is or belongs.
+pub(crate) fn kept_at<S: BuildHasher + Copy, A: Allocator + Copy>(
+    classes: &[Class<S, A>],
+    place: Result<usize, usize>,
+) -> usize
+    requires { IfOk place (λ at. at < length classes.now) }
+    ensures { (sizes : Bool) (lines kept : List (List ℕ)) (name : List ℕ) → HaveTaken sizes lines kept classes.now
+        → IsPlaceOf (map name_of classes.now) name place → result ≡ length (requests_of name kept) }
+{
+    match place {
+        Ok(at) => classes[at].kept,
+        Err(_) => 0,
+    }
+}
+
+/// Counts one more line of a class, which is or belongs at this place, of this size, and takes it if it is kept. Returns whether there
+/// was room for the class.
 pub(crate) fn take_classed<S: BuildHasher + Copy, A: Allocator + Copy>(
     alloc: A,
     hash_builder: S,
     sizes: bool,
     classes: &mut Vec<Class<S, A>, A>,
+    place: Result<usize, usize>,
     name: &[u8],
     key: &OwnedKey<A>,
+    is_kept: bool,
+    latest: Option<usize>,
     size: usize,
 ) -> Result<bool, AllocError>
+    requires place { IsPlaceOf (map name_of classes.old.items) name.now place }
     requires size { size ≡ own_size sizes (line_of key.now) }
-    requires taken { (lines : List (List ℕ)) × HaveTaken sizes lines classes.old.items }
-    ensures taken { (lines : List (List ℕ)) → HaveTaken sizes lines classes.old.items → name.now ≡ class_in (line_of key.now)
-        → IfOk result (λ has_room. has_room ≡ true → HaveTaken sizes (lines ++ line_of key.now ∷ []) classes.new.items) }
+    requires taken { (lines : List (List ℕ)) × (kept : List (List ℕ)) × HaveTaken sizes lines kept classes.old.items
+        × (is_kept ≡ true → IsLatestBy sizes (requests_of name.now kept) (line_of key.now) latest) }
+    ensures taken { (lines kept : List (List ℕ)) → HaveTaken sizes lines kept classes.old.items → name.now ≡ class_in (line_of key.now)
+        → (is_kept ≡ true → IsLatestBy sizes (requests_of name.now kept) (line_of key.now) latest)
+        → IfOk result (λ has_room. has_room ≡ true
+        → HaveTaken sizes (lines ++ line_of key.now ∷ []) (next_kept is_kept kept (line_of key.now)) classes.new.items) }
     ensures full { IfOk result (λ has_room. has_room ≡ false
         → (most_classes ≤ length classes.old.items) × ((at : ℕ) × BelongsAt (map name_of classes.old.items) name.now at)) }
     ensures few { IfOk result (λ has_room. has_room ≡ true → length classes.old.items ≤ most_classes
         → length classes.new.items ≤ most_classes) }
 {
-    match place_of(classes, name) {
+    match place {
         Ok(at) => {
-            take_line(alloc, &mut classes[at], key, size)?;
+            take_line(alloc, &mut classes[at], key, is_kept, latest, size)?;
             Ok(true)
         }
         Err(at) => {
             if classes.len() >= MOST_CLASSES {
                 return Ok(false);
             }
-            let class = class_with(alloc, hash_builder, sizes, name, key, size)?;
+            let class = class_with(alloc, hash_builder, sizes, name, key, is_kept, latest, size)?;
             match classes.insert(at, class) {
                 Ok(()) => Ok(true),
                 Err(_) => Err(AllocError),
@@ -79,42 +105,53 @@ pub(crate) fn take_classed<S: BuildHasher + Copy, A: Allocator + Copy>(
     }
 }
 
-// A class that took this line, its first.
+// A class with this line, its first.
 fn class_with<S: BuildHasher + Copy, A: Allocator + Copy>(
     alloc: A,
     hash_builder: S,
     sizes: bool,
     name: &[u8],
     key: &OwnedKey<A>,
+    is_kept: bool,
+    latest: Option<usize>,
     size: usize,
 ) -> Result<Class<S, A>, AllocError>
-    requires { size ≡ own_size sizes (line_of key.now) }
+    requires size { size ≡ own_size sizes (line_of key.now) }
+    requires latest { is_kept ≡ true → IsLatestBy sizes [] (line_of key.now) latest }
     ensures name { IfOk result (λ class. name_of class ≡ name.now) }
-    ensures taken { (lines : List (List ℕ)) → requests_of name.now lines ≡ [] → name.now ≡ class_in (line_of key.now)
-        → IfOk result (HasTaken sizes (lines ++ line_of key.now ∷ [])) }
+    ensures taken { (lines kept : List (List ℕ)) → requests_of name.now lines ≡ [] → requests_of name.now kept ≡ []
+        → name.now ≡ class_in (line_of key.now)
+        → IfOk result (HasTaken sizes (lines ++ line_of key.now ∷ []) (next_kept is_kept kept (line_of key.now))) }
     ensures some { IfOk result (λ class. 0 < class.requests) }
 {
     let mut class = Class {
         name: Vec::from_slice(alloc, name)?,
         requests: 0,
         size: 0,
+        kept: 0,
         pass: empty_pass(alloc, hash_builder, sizes),
     };
-    take_line(alloc, &mut class, key, size)?;
+    take_line(alloc, &mut class, key, is_kept, latest, size)?;
     Ok(class)
 }
 
-// Takes one more line of this class, of this size.
+// Counts one more line of this class, of this size, and takes it if it is kept.
 fn take_line<S: BuildHasher + Copy, A: Allocator + Copy>(
     alloc: A,
     class: &mut Class<S, A>,
     key: &OwnedKey<A>,
+    is_kept: bool,
+    latest: Option<usize>,
     size: usize,
 ) -> Result<(), AllocError>
-    requires { (sizes : Bool) × (lines : List (List ℕ)) × HasTaken sizes lines class.old × (size ≡ own_size sizes (line_of key.now)) }
+    requires { (sizes : Bool) × (lines : List (List ℕ)) × (kept : List (List ℕ)) × HasTaken sizes lines kept class.old
+        × (size ≡ own_size sizes (line_of key.now))
+        × (is_kept ≡ true → IsLatestBy sizes (requests_of (name_of class.old) kept) (line_of key.now) latest) }
     ensures name { name_of class.new ≡ name_of class.old }
-    ensures taken { (sizes : Bool) (lines : List (List ℕ)) → HasTaken sizes lines class.old → size ≡ own_size sizes (line_of key.now)
-        → name_of class.old ≡ class_in (line_of key.now) → OnOk result (HasTaken sizes (lines ++ line_of key.now ∷ []) class.new) }
+    ensures taken { (sizes : Bool) (lines kept : List (List ℕ)) → HasTaken sizes lines kept class.old → size ≡ own_size sizes (line_of key.now)
+        → (is_kept ≡ true → IsLatestBy sizes (requests_of (name_of class.old) kept) (line_of key.now) latest)
+        → name_of class.old ≡ class_in (line_of key.now)
+        → OnOk result (HasTaken sizes (lines ++ line_of key.now ∷ []) (next_kept is_kept kept (line_of key.now)) class.new) }
     ensures some { OnOk result (0 < class.new.requests) }
 {
     let Some(requests) = class.requests.checked_add(1) else {
@@ -123,7 +160,8 @@ fn take_line<S: BuildHasher + Copy, A: Allocator + Copy>(
     let Some(total) = class.size.checked_add(size) else {
         return Err(AllocError);
     };
-    take(alloc, &mut class.pass, key, size)?;
+    take_kept(alloc, is_kept, &mut class.pass, key, latest, size)?;
+    class.kept = next_number(is_kept, class.kept);
     class.requests = requests;
     class.size = total;
     Ok(())

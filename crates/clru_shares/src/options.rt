@@ -1,7 +1,8 @@
 //! How a budget is split.
 ghost use Rattle.std.specs.Prelude.{◌≡◌, true, false, Some, IfErr, IfOk};
-ghost use Rattle.std.specs.Option.{is_none};
-ghost use Rattle.clru_shares.specs.Arguments.{form_of_split, goes_with_split, has_look as has_look_by, is_of_all_lines as is_of_all_lines_by, is_usual as is_usual_by};
+ghost use Rattle.std.specs.Int.NonZero.{non_zero_usize_get};
+ghost use Rattle.std.specs.Option.{is_none, option_map};
+ghost use Rattle.clru_shares.specs.Arguments.{form_of_split, goes_with_split, has_look as has_look_by, holds_all_lines as holds_all_lines_by, is_usual as is_usual_by, sample_number};
 
 use crate::form::SplitForm;
 use clru_report::{Capacities, Form, Look, Options, Sample};
@@ -17,6 +18,9 @@ pub struct SplitOptions {
     /// Whether a size and a blank follow the class of each line, and capacities are sums of sizes.
     pub sizes: bool,
 
+    /// One key in so many is read, if not all are: those whose hash by FNV-1a is a multiple of it. What is written is told of all.
+    pub sample: Option<NonZeroUsize>,
+
     /// What is written.
     pub form: SplitForm,
 }
@@ -29,6 +33,7 @@ pub fn split_options_of<A: Allocator>(
 ) -> Result<SplitOptions, &'static str>
     ensures budget { IfOk result (λ split. split.budget ≡ budget) }
     ensures sizes { IfOk result (λ split. split.sizes ≡ options.now.sizes) }
+    ensures sample { IfOk result (λ split. option_map non_zero_usize_get split.sample ≡ sample_number options.now.sample) }
     ensures form { IfOk result (λ split. form_of_split options.now.form ≡ Some split.form) }
     ensures goes { IfOk result (λ split. goes_with_split options.now ≡ true) }
     ensures refused { IfErr result (λ line. goes_with_split options.now ≡ false) }
@@ -40,6 +45,7 @@ pub fn split_options_of<A: Allocator>(
         Some(form) => Ok(SplitOptions {
             budget,
             sizes: options.sizes,
+            sample: sample_of(options.sample),
             form,
         }),
         None => Err(NO_SUMMARY),
@@ -74,8 +80,8 @@ fn conflict_in<A: Allocator>(options: &Options<A>) -> Option<&'static str>
     if options.least || options.floor {
         return Some("--split goes with neither --least nor --floor: leave them out");
     }
-    if !is_of_all_lines(options.sample) {
-        return Some("--split does not go with a sample: take the whole log for it");
+    if !holds_all_lines(options.sample) {
+        return Some("--split does not go with --sampled: take the whole log for it, or --sample");
     }
     if options.after.is_some() {
         return Some("--split and --after do not go together: leave one out");
@@ -103,12 +109,21 @@ fn is_usual<A: Allocator>(capacities: &Capacities<A>) -> bool
     }
 }
 
-fn is_of_all_lines(sample: Sample) -> bool
-    ensures { result ≡ is_of_all_lines_by sample }
+fn holds_all_lines(sample: Sample) -> bool
+    ensures { result ≡ holds_all_lines_by sample }
 {
     match sample {
-        Sample::Whole => true,
-        Sample::OneIn(_) | Sample::Taken(_, _) => false,
+        Sample::Whole | Sample::OneIn(_) => true,
+        Sample::Taken(_, _) => false,
+    }
+}
+
+fn sample_of(sample: Sample) -> Option<NonZeroUsize>
+    ensures { option_map non_zero_usize_get result ≡ sample_number sample }
+{
+    match sample {
+        Sample::OneIn(one_in) => Some(one_in),
+        Sample::Whole | Sample::Taken(_, _) => None,
     }
 }
 

@@ -1,21 +1,22 @@
 //! A pass over lines, by keys or by size.
-ghost use Rattle.std.specs.Prelude.{◌≡◌, ℕ, Bool, List, [], ◌∷◌, ◌++◌, OnOk};
+ghost use Rattle.std.specs.Prelude.{◌≡◌, ℕ, Bool, true, List, [], ◌∷◌, ◌++◌, OnOk};
 ghost use Rattle.clru_curve.specs.SizedPasses.{IsSizedPass};
 ghost use Rattle.clru_lines.specs.declared.lines.OwnedKey.{OwnedKey};
 ghost use Rattle.clru_report.specs.Passes.{line_of, same_line};
 ghost use Rattle.clru_shares.specs.LinePasses.{HasTakenBy, HasTakenSize, weight_of_key};
+ghost use Rattle.clru_shares.specs.Passes.{next_kept};
+ghost use Rattle.clru_shares.specs.Places.{IsLatestBy};
 ghost use Rattle.clru_shares.specs.Sizes.{own_size, weight_behind};
 
-use clru_curve::{DistancePass, SizedPass};
+use clru_curve::{PositionPass, SizedPass};
 use clru_lines::OwnedKey;
-use clru_report::take_key;
 use std::alloc::{AllocError, Allocator};
 use std::hash::BuildHasher;
 
 /// A pass over lines.
 #[derive(Drop)]
 pub(crate) enum LinePass<S: BuildHasher + Copy, A: Allocator + Copy> {
-    OfKeys(DistancePass<OwnedKey<A>, S, A>),
+    OfKeys(PositionPass<OwnedKey<A>, A>),
     OfSizes(SizedPass<OwnedKey<A>, S, A>),
 }
 
@@ -30,23 +31,51 @@ pub(crate) fn empty_pass<S: BuildHasher + Copy, A: Allocator + Copy>(
     if sizes {
         LinePass::OfSizes(SizedPass::with_hasher(alloc, hash_builder))
     } else {
-        LinePass::OfKeys(DistancePass::with_hasher(alloc, hash_builder))
+        LinePass::OfKeys(PositionPass::new(alloc))
     }
 }
 
-/// Takes one more line, of this size.
-pub(crate) fn take<S: BuildHasher + Copy, A: Allocator + Copy>(
+/// Takes one more line, of this size, if it is kept. Its latest request was at this position; by size the pass knows that itself.
+pub(crate) fn take_kept<S: BuildHasher + Copy, A: Allocator + Copy>(
+    alloc: A,
+    is_kept: bool,
+    pass: &mut LinePass<S, A>,
+    key: &OwnedKey<A>,
+    latest: Option<usize>,
+    size: usize,
+) -> Result<(), AllocError>
+    requires { (sizes : Bool) × (kept : List (List ℕ)) × HasTakenBy sizes kept pass.old × (size ≡ own_size sizes (line_of key.now))
+        × (is_kept ≡ true → IsLatestBy sizes kept (line_of key.now) latest) }
+    ensures { (sizes : Bool) (kept : List (List ℕ)) → HasTakenBy sizes kept pass.old → size ≡ own_size sizes (line_of key.now)
+        → (is_kept ≡ true → IsLatestBy sizes kept (line_of key.now) latest)
+        → OnOk result (HasTakenBy sizes (next_kept is_kept kept (line_of key.now)) pass.new) }
+{
+    if is_kept {
+        take(alloc, pass, key, latest, size)
+    } else {
+        Ok(())
+    }
+}
+
+// Takes one more line.
+fn take<S: BuildHasher + Copy, A: Allocator + Copy>(
     alloc: A,
     pass: &mut LinePass<S, A>,
     key: &OwnedKey<A>,
+    latest: Option<usize>,
     size: usize,
 ) -> Result<(), AllocError>
-    requires { (sizes : Bool) × (lines : List (List ℕ)) × HasTakenBy sizes lines pass.old × (size ≡ own_size sizes (line_of key.now)) }
+    requires { (sizes : Bool) × (lines : List (List ℕ)) × HasTakenBy sizes lines pass.old × (size ≡ own_size sizes (line_of key.now))
+        × IsLatestBy sizes lines (line_of key.now) latest }
     ensures { (sizes : Bool) (lines : List (List ℕ)) → HasTakenBy sizes lines pass.old → size ≡ own_size sizes (line_of key.now)
+        → IsLatestBy sizes lines (line_of key.now) latest
         → OnOk result (HasTakenBy sizes (lines ++ line_of key.now ∷ []) pass.new) }
 {
     match pass {
-        LinePass::OfKeys(pass) => take_key(alloc, pass, key),
+        LinePass::OfKeys(pass) => match pass.request(latest) {
+            Ok(_) => Ok(()),
+            Err(_) => Err(AllocError),
+        },
         LinePass::OfSizes(pass) => take_sized(alloc, pass, key, size - 1),
     }
 }

@@ -1,12 +1,14 @@
 //! From the reader to the writer.
 ghost use Rattle.std.specs.Prelude.{◌≡◌, ℕ, List, true, false, take, IfErr, IfOk, OnOk};
 ghost use Rattle.std.specs.Int.NonZero.{non_zero_usize_get};
+ghost use Rattle.std.specs.Option.{option_map};
 ghost use Rattle.std.specs.Io.KnownBytes.{Appends, Keeps};
 ghost use Rattle.clru_lines.specs.Lines.{lines_of};
 ghost use Rattle.clru_lines.specs.Whole.{ReadWhole};
 ghost use Rattle.clru_shares.specs.Faults.{comes_of_a_line, comes_of_writing};
 ghost use Rattle.clru_shares.specs.Passes.{HasTakenAll};
-ghost use Rattle.clru_shares.specs.Refusals.{IsSaidOfLines};
+ghost use Rattle.clru_shares.specs.Refusals.{IsSaidOfLines, IsShownOf};
+ghost use Rattle.clru_shares.specs.Sampled.{kept_in};
 ghost use Rattle.clru_shares.specs.Shares.{IsSplitTable, step_for};
 
 use crate::curve::curve_of;
@@ -14,10 +16,11 @@ use crate::fault::SplitFault;
 use crate::form::text_of;
 use crate::options::SplitOptions;
 use crate::reading::{Passes, read_classes};
+use crate::sampled::part_in;
 use crate::share::{Share, shares_of};
 use crate::table::table_of;
+use clru_curve::split;
 use clru_report::{Fault, write_report};
-use clru_split::split;
 use std::alloc::{AllocError, Allocator};
 use std::hash::BuildHasher;
 use std::io::{Read, Write};
@@ -26,33 +29,41 @@ use std::num::NonZeroUsize;
 // At most so many steps are within the budget.
 const MOST_STEPS: usize = 1000;
 
-/// Reads the whole input, and then writes the table of a best split of the budget among its classes, in this form. Lines are hashed
-/// with `hash_builder`: a best split is one under each that is lawful.
-/// Cost: two look-ups a line, and that of `split` for at most a thousand steps.
+/// Reads the whole input, and then writes the table of a best split of the budget among its classes, in this form. That of a sample is
+/// one of its part of the budget among its lines, as told of all. Lines are hashed with `hash_builder`: a best split is one under each
+/// that is lawful. The beginning of the line that a fault names is put into `beginning`.
+/// Cost: one look-up a line, by size two, and that of `split` for at most a thousand steps. A sample takes a hash of each line, and
+/// look-ups of its own alone.
 pub fn run_split<R: Read, W: Write, S: BuildHasher + Copy, A: Allocator + Copy>(
     alloc: A,
     options: SplitOptions,
     reader: &mut R,
     writer: &mut W,
     hash_builder: S,
+    beginning: &mut Vec<u8, A>,
 ) -> Result<(), SplitFault>
     // The writer got a table of the whole input.
     ensures written { OnOk result (ReadWhole (R.remaining reader.old) (R.remaining reader.new)
-        (λ input. (text : List ℕ) × IsSplitTable options.form options.sizes (non_zero_usize_get options.budget) (lines_of input) text
+        (λ input. (text : List ℕ) × IsSplitTable options.form options.sizes (option_map non_zero_usize_get options.sample)
+        (non_zero_usize_get options.budget) (lines_of input) text
         × Appends (W.contents writer.old) (W.contents writer.new) text)) }
     // The writer got a beginning of a table of the whole input.
     ensures cut_short { IfErr result (λ fault. comes_of_writing fault ≡ true
         → ReadWhole (R.remaining reader.old) (R.remaining reader.new)
-        (λ input. (text : List ℕ) × IsSplitTable options.form options.sizes (non_zero_usize_get options.budget) (lines_of input) text
+        (λ input. (text : List ℕ) × IsSplitTable options.form options.sizes (option_map non_zero_usize_get options.sample)
+        (non_zero_usize_get options.budget) (lines_of input) text
         × (n : ℕ) × Appends (W.contents writer.old) (W.contents writer.new) (take n text))) }
     // A line of the input is not what a split wants, for the reason that the fault says.
     ensures refused { IfErr result (λ fault. comes_of_a_line fault ≡ true
         → ReadWhole (R.remaining reader.old) (R.remaining reader.new) (λ input. IsSaidOfLines options.sizes fault (lines_of input))) }
+    // The line that it names begins so.
+    ensures shown { IfErr result (λ fault. comes_of_a_line fault ≡ true
+        → ReadWhole (R.remaining reader.old) (R.remaining reader.new) (λ input. IsShownOf fault (lines_of input) beginning.new.items)) }
     // Any fault but those of writing comes before the first write.
     ensures silent { IfErr result (λ fault. comes_of_writing fault ≡ false
         → Keeps (W.contents writer.old) (W.contents writer.new)) }
 {
-    let text = match make_split(alloc, options, reader, hash_builder) {
+    let text = match split_text(alloc, options, reader, hash_builder, beginning) {
         Ok(text) => text,
         Err(fault) => return Err(fault),
     };
@@ -63,7 +74,8 @@ pub fn run_split<R: Read, W: Write, S: BuildHasher + Copy, A: Allocator + Copy>(
 }
 
 /// Returns the table of a best split of the budget among the classes of all that a reader gives, in this form.
-/// Cost: two look-ups a line, and that of `split` for at most a thousand steps.
+/// Cost: one look-up a line, by size two, and that of `split` for at most a thousand steps. A sample takes a hash of each line, and
+/// look-ups of its own alone.
 pub fn make_split<R: Read, S: BuildHasher + Copy, A: Allocator + Copy>(
     alloc: A,
     options: SplitOptions,
@@ -71,12 +83,41 @@ pub fn make_split<R: Read, S: BuildHasher + Copy, A: Allocator + Copy>(
     hash_builder: S,
 ) -> Result<Vec<u8, A>, SplitFault>
     ensures table { IfOk result (λ text. ReadWhole (R.remaining reader.old) (R.remaining reader.new)
-        (λ input. IsSplitTable options.form options.sizes (non_zero_usize_get options.budget) (lines_of input) text.items)) }
+        (λ input. IsSplitTable options.form options.sizes (option_map non_zero_usize_get options.sample)
+        (non_zero_usize_get options.budget) (lines_of input) text.items)) }
     ensures refused { IfErr result (λ fault. comes_of_a_line fault ≡ true
         → ReadWhole (R.remaining reader.old) (R.remaining reader.new) (λ input. IsSaidOfLines options.sizes fault (lines_of input))) }
     ensures fault { IfErr result (λ fault. comes_of_writing fault ≡ false) }
 {
-    let passes = match read_classes(alloc, options.sizes, reader, hash_builder) {
+    let mut beginning = Vec::new(alloc);
+    split_text(alloc, options, reader, hash_builder, &mut beginning)
+}
+
+// The same, with the beginning of the line that a fault names.
+fn split_text<R: Read, S: BuildHasher + Copy, A: Allocator + Copy>(
+    alloc: A,
+    options: SplitOptions,
+    reader: &mut R,
+    hash_builder: S,
+    beginning: &mut Vec<u8, A>,
+) -> Result<Vec<u8, A>, SplitFault>
+    ensures table { IfOk result (λ text. ReadWhole (R.remaining reader.old) (R.remaining reader.new)
+        (λ input. IsSplitTable options.form options.sizes (option_map non_zero_usize_get options.sample)
+        (non_zero_usize_get options.budget) (lines_of input) text.items)) }
+    ensures refused { IfErr result (λ fault. comes_of_a_line fault ≡ true
+        → ReadWhole (R.remaining reader.old) (R.remaining reader.new) (λ input. IsSaidOfLines options.sizes fault (lines_of input))) }
+    ensures shown { IfErr result (λ fault. comes_of_a_line fault ≡ true
+        → ReadWhole (R.remaining reader.old) (R.remaining reader.new) (λ input. IsShownOf fault (lines_of input) beginning.new.items)) }
+    ensures fault { IfErr result (λ fault. comes_of_writing fault ≡ false) }
+{
+    let passes = match read_classes(
+        alloc,
+        options.sizes,
+        options.sample,
+        reader,
+        hash_builder,
+        beginning,
+    ) {
         Ok(passes) => passes,
         Err(fault) => return Err(fault),
     };
@@ -91,30 +132,43 @@ fn text_for<S: BuildHasher + Copy, A: Allocator + Copy>(
     options: SplitOptions,
     passes: &Passes<S, A>,
 ) -> Result<Vec<u8, A>, AllocError>
-    ensures { (lines : List (List ℕ)) → HasTakenAll options.sizes lines passes.now
-        → IfOk result (λ text. IsSplitTable options.form options.sizes (non_zero_usize_get options.budget) lines text.items) }
+    ensures { (lines : List (List ℕ)) → HasTakenAll options.sizes lines (kept_in (option_map non_zero_usize_get options.sample) lines) passes.now
+        → IfOk result (λ text. IsSplitTable options.form options.sizes (option_map non_zero_usize_get options.sample)
+        (non_zero_usize_get options.budget) lines text.items) }
 {
-    let shares = shares_of(alloc, &passes.classes)?;
+    let shares = shares_of(alloc, options.sample, &passes.classes)?;
     let all = Share {
         name: Vec::from_slice(alloc, b"one for all")?,
         requests: passes.requests,
         size: passes.size,
+        sample: options.sample,
         curve: curve_of(alloc, &passes.all)?,
     };
     let SplitOptions {
-        budget,
+        budget: whole,
         sizes,
+        sample,
         form,
     } = options;
+    let budget = part_in(sample, whole.get());
     let step = step_of(budget);
-    let capacities = split(alloc, step, budget.get(), &shares)?;
-    let table = table_of(alloc, sizes, budget, step, &shares, &capacities, &all)?;
+    let capacities = split(alloc, step, budget, &shares)?;
+    let table = table_of(
+        alloc,
+        sizes,
+        whole,
+        budget,
+        step,
+        &shares,
+        &capacities,
+        &all,
+    )?;
     text_of(alloc, form, &table)
 }
 
 // The least step of which at most a thousand are within the budget.
-fn step_of(budget: NonZeroUsize) -> NonZeroUsize
-    ensures { non_zero_usize_get result ≡ step_for (non_zero_usize_get budget) }
+fn step_of(budget: usize) -> NonZeroUsize
+    ensures { non_zero_usize_get result ≡ step_for budget }
 {
-    NonZeroUsize::MIN.saturating_add(budget.get() / (MOST_STEPS + 1))
+    NonZeroUsize::MIN.saturating_add(budget / (MOST_STEPS + 1))
 }

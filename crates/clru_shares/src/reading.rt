@@ -1,52 +1,76 @@
 //! The one reading of a log whose lines begin with classes.
-ghost use Rattle.std.specs.Prelude.{◌≡◌, ◌∷◌, ◌++◌, ◌+◌, ℕ, Bool, List, [], length, true, false, IfErr, IfOk, OnOk};
+ghost use Rattle.std.specs.Prelude.{◌≡◌, ◌∷◌, ◌++◌, ◌+◌, ◌^◌, ◌<◌, ◌≤◌, ℕ, Bool, List, [], length, map, take, true, false, IfErr, IfOk, OnOk};
+ghost use Rattle.std.specs.Int.NonZero.{non_zero_usize_get};
+ghost use Rattle.std.specs.Option.{option_map};
 ghost use Rattle.clru_lines.specs.Lines.{lines_of};
 ghost use Rattle.clru_lines.specs.Whole.{ReadWhole};
 ghost use Rattle.clru_report.specs.Passes.{line_of};
-ghost use Rattle.clru_shares.specs.Faults.{comes_of_a_line, comes_of_writing};
-ghost use Rattle.clru_shares.specs.Passes.{HasTakenAll};
-ghost use Rattle.clru_shares.specs.Refusals.{IsSaidOfLines};
+ghost use Rattle.clru_shares.specs.Faults.{IsNumbered, comes_of_a_line, comes_of_writing};
+ghost use Rattle.clru_shares.specs.Classes.{class_in, most_classes};
+ghost use Rattle.clru_shares.specs.LinePasses.{HasTakenBy};
+ghost use Rattle.clru_shares.specs.Passes.{BelongsAt, HasTakenAll, HaveTaken, name_of, next_kept};
+ghost use Rattle.clru_shares.specs.Places.{IsNotedBy};
+ghost use Rattle.clru_shares.specs.Refusals.{IsSaidOfLines, IsShownOf, most_shown};
+ghost use Rattle.clru_shares.specs.Sampled.{is_in as is_in_by, kept_in};
+ghost use Rattle.clru_shares.specs.Sizes.{own_size};
 
 use crate::class::class_of;
-use crate::classes::{Class, take_classed};
+use crate::classes::{Class, kept_at, place_of, take_classed};
 use crate::fault::SplitFault;
-use crate::pass::{LinePass, empty_pass, take};
+use crate::latest::{Places, all_of, note_kept, own_of};
+use crate::pass::{LinePass, empty_pass, take_kept};
+use crate::sampled::{is_in, next_number};
 use crate::size::size_of_request;
+use clru_curve::KeyTable;
 use clru_lines::{LineBuffer, OwnedKey};
 use clru_report::{Fault, read_fault};
-use std::alloc::Allocator;
+use std::alloc::{AllocError, Allocator};
 use std::hash::BuildHasher;
 use std::io::Read;
+use std::num::NonZeroUsize;
 
-/// The passes over a log: one for each class, and one for all lines; how many these are, and by size their size together.
+/// So many bytes of a line at fault are shown.
+const MOST_SHOWN: usize = 60;
+
+/// The passes over a log: one for each class, and one for all lines; where the latest request of each line was, for all of these
+/// passes; how many lines there are, by size their size together, and how many of them were kept.
 #[derive(Drop)]
 pub(crate) struct Passes<S: BuildHasher + Copy, A: Allocator + Copy> {
     pub(crate) classes: Vec<Class<S, A>, A>,
     pub(crate) all: LinePass<S, A>,
+    pub(crate) latest: KeyTable<OwnedKey<A>, Places, S, A>,
     pub(crate) requests: usize,
     pub(crate) size: usize,
+    pub(crate) kept: usize,
 }
 
-/// Returns the passes over all lines. Each line must begin with a class; by size, a size must follow.
+/// Returns the passes over all lines, or over those of a sample. Each line must begin with a class; by size, a size must follow. The
+/// beginning of the line that a fault names is put into `beginning`.
 ///
 /// The fault of a line is returned once all is read, because it is one of the whole input; refused memory at once.
 pub(crate) fn read_classes<R: Read, S: BuildHasher + Copy, A: Allocator + Copy>(
     alloc: A,
     sizes: bool,
+    sample: Option<NonZeroUsize>,
     reader: &mut R,
     hash_builder: S,
+    beginning: &mut Vec<u8, A>,
 ) -> Result<Passes<S, A>, SplitFault>
     ensures taken { IfOk result (λ passes. ReadWhole (R.remaining reader.old) (R.remaining reader.new)
-        (λ input. HasTakenAll sizes (lines_of input) passes)) }
+        (λ input. HasTakenAll sizes (lines_of input) (kept_in (option_map non_zero_usize_get sample) (lines_of input)) passes)) }
     ensures refused { IfErr result (λ fault. comes_of_a_line fault ≡ true → ReadWhole (R.remaining reader.old) (R.remaining reader.new)
         (λ input. IsSaidOfLines sizes fault (lines_of input))) }
+    ensures shown { IfErr result (λ fault. comes_of_a_line fault ≡ true → ReadWhole (R.remaining reader.old) (R.remaining reader.new)
+        (λ input. IsShownOf fault (lines_of input) beginning.new.items)) }
     ensures fault { IfErr result (λ fault. comes_of_writing fault ≡ false) }
 {
     let mut passes = Passes {
         classes: Vec::new(alloc),
         all: empty_pass(alloc, hash_builder, sizes),
+        latest: KeyTable::empty(alloc, hash_builder),
         requests: 0,
         size: 0,
+        kept: 0,
     };
     let mut buffer = LineBuffer::new(alloc);
     let mut key = OwnedKey(Vec::new(alloc));
@@ -60,10 +84,23 @@ pub(crate) fn read_classes<R: Read, S: BuildHasher + Copy, A: Allocator + Copy>(
         }
         number += 1;
         if refused.is_none() {
-            match take_both(alloc, hash_builder, sizes, &mut passes, &key, number) {
+            match take_both(
+                alloc,
+                hash_builder,
+                sizes,
+                sample,
+                &mut passes,
+                &key,
+                number,
+            ) {
                 Ok(()) => {}
                 Err(SplitFault::Other(fault)) => return Err(SplitFault::Other(fault)),
-                Err(fault) => refused = Some(fault),
+                Err(fault) => {
+                    let Ok(()) = keep_beginning(beginning, &key.0) else {
+                        return Err(SplitFault::Other(Fault::Memory));
+                    };
+                    refused = Some(fault);
+                }
             }
         }
     }
@@ -73,20 +110,41 @@ pub(crate) fn read_classes<R: Read, S: BuildHasher + Copy, A: Allocator + Copy>(
     }
 }
 
-// Takes one more line, of this number, into the pass of its class and into that for all.
+// Of a line at fault so much is kept.
+fn keep_beginning<A: Allocator>(beginning: &mut Vec<u8, A>, line: &[u8]) -> Result<(), AllocError>
+    ensures { OnOk result (beginning.new.items ≡ take most_shown line.now) }
+{
+    beginning.clear();
+    beginning.extend_from_slice(beginning_of(line))
+}
+
+fn beginning_of(line: &[u8]) -> &[u8]
+    ensures { result.now ≡ take most_shown line.now }
+{
+    if line.len() > MOST_SHOWN {
+        &line[..MOST_SHOWN]
+    } else {
+        line
+    }
+}
+
+// Counts one more line, of this number. If it is one of the sample, it goes into the pass of its class and into that for all.
 fn take_both<S: BuildHasher + Copy, A: Allocator + Copy>(
     alloc: A,
     hash_builder: S,
     sizes: bool,
+    sample: Option<NonZeroUsize>,
     passes: &mut Passes<S, A>,
     key: &OwnedKey<A>,
     number: usize,
 ) -> Result<(), SplitFault>
-    requires { (lines : List (List ℕ)) × HasTakenAll sizes lines passes.old × (number ≡ length lines + 1) }
-    ensures taken { (lines : List (List ℕ)) → HasTakenAll sizes lines passes.old → number ≡ length lines + 1
-        → OnOk result (HasTakenAll sizes (lines ++ line_of key.now ∷ []) passes.new) }
-    ensures refused { (lines rest : List (List ℕ)) → HasTakenAll sizes lines passes.old → number ≡ length lines + 1
+    requires { (lines : List (List ℕ)) × (kept : List (List ℕ)) × HasTakenAll sizes lines kept passes.old × (number ≡ length lines + 1) }
+    ensures taken { (lines kept : List (List ℕ)) → HasTakenAll sizes lines kept passes.old → number ≡ length lines + 1
+        → OnOk result (HasTakenAll sizes (lines ++ line_of key.now ∷ [])
+        (next_kept (is_in_by (option_map non_zero_usize_get sample) (line_of key.now)) kept (line_of key.now)) passes.new) }
+    ensures refused { (lines kept rest : List (List ℕ)) → HasTakenAll sizes lines kept passes.old → number ≡ length lines + 1
         → IfErr result (λ fault. comes_of_a_line fault ≡ true → IsSaidOfLines sizes fault (lines ++ line_of key.now ∷ rest)) }
+    ensures number { IfErr result (IsNumbered number) }
     ensures fault { IfErr result (λ fault. comes_of_writing fault ≡ false) }
 {
     let Some(name) = class_of(&key.0) else {
@@ -98,23 +156,74 @@ fn take_both<S: BuildHasher + Copy, A: Allocator + Copy>(
     let Some(total) = passes.size.checked_add(size) else {
         return Err(SplitFault::TooLarge);
     };
-    match take_classed(
-        alloc,
-        hash_builder,
-        sizes,
-        &mut passes.classes,
-        name,
-        key,
-        size,
-    ) {
+    let is_kept = is_in(sample, &key.0);
+    match take_known(alloc, hash_builder, sizes, passes, name, key, is_kept, size) {
         Ok(true) => {}
         Ok(false) => return Err(SplitFault::TooManyClasses(number)),
         Err(_) => return Err(SplitFault::Other(Fault::Memory)),
     }
-    let Ok(()) = take(alloc, &mut passes.all, key, size) else {
-        return Err(SplitFault::Other(Fault::Memory));
-    };
     passes.requests = number;
     passes.size = total;
+    passes.kept = next_number(is_kept, passes.kept);
     Ok(())
+}
+
+// Counts one more line, of this class and size, and takes it if it is kept. Returns whether there was room for the class.
+fn take_known<S: BuildHasher + Copy, A: Allocator + Copy>(
+    alloc: A,
+    hash_builder: S,
+    sizes: bool,
+    passes: &mut Passes<S, A>,
+    name: &[u8],
+    key: &OwnedKey<A>,
+    is_kept: bool,
+    size: usize,
+) -> Result<bool, AllocError>
+    requires countable { passes.old.kept + 1 < 2 ^ 64 }
+    requires size { size ≡ own_size sizes (line_of key.now) }
+    requires name { name.now ≡ class_in (line_of key.now) }
+    requires taken { (lines : List (List ℕ)) × (kept : List (List ℕ)) × HasTakenAll sizes lines kept passes.old }
+    ensures classes { (lines kept : List (List ℕ)) → HasTakenAll sizes lines kept passes.old
+        → IfOk result (λ has_room. has_room ≡ true
+        → HaveTaken sizes (lines ++ line_of key.now ∷ []) (next_kept is_kept kept (line_of key.now)) passes.new.classes.items) }
+    ensures all { (lines kept : List (List ℕ)) → HasTakenAll sizes lines kept passes.old
+        → IfOk result (λ has_room. has_room ≡ true → HasTakenBy sizes (next_kept is_kept kept (line_of key.now)) passes.new.all) }
+    ensures latest { (lines kept : List (List ℕ)) → HasTakenAll sizes lines kept passes.old
+        → IfOk result (λ has_room. has_room ≡ true → IsNotedBy sizes (next_kept is_kept kept (line_of key.now)) passes.new.latest) }
+    ensures full { IfOk result (λ has_room. has_room ≡ false
+        → (most_classes ≤ length passes.old.classes.items)
+        × ((at : ℕ) × BelongsAt (map name_of passes.old.classes.items) name.now at)) }
+    ensures few { IfOk result (λ has_room. has_room ≡ true → length passes.old.classes.items ≤ most_classes
+        → length passes.new.classes.items ≤ most_classes) }
+    ensures requests { passes.new.requests ≡ passes.old.requests }
+    ensures size { passes.new.size ≡ passes.old.size }
+    ensures kept { passes.new.kept ≡ passes.old.kept }
+{
+    let place = place_of(&passes.classes, name);
+    let own = kept_at(&passes.classes, place);
+    let all = passes.kept;
+    let places = note_kept(
+        alloc,
+        sizes,
+        is_kept,
+        &mut passes.latest,
+        key,
+        Places { own, all },
+    )?;
+    let has_room = take_classed(
+        alloc,
+        hash_builder,
+        sizes,
+        &mut passes.classes,
+        place,
+        name,
+        key,
+        is_kept,
+        own_of(places),
+        size,
+    )?;
+    if has_room {
+        take_kept(alloc, is_kept, &mut passes.all, key, all_of(places), size)?;
+    }
+    Ok(has_room)
 }

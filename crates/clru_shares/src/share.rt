@@ -1,20 +1,26 @@
 //! The curve of a class.
 ghost use Rattle.std.specs.Prelude.{◌≡◌, ℕ, Bool, List, map, IfOk};
+ghost use Rattle.std.specs.Int.NonZero.{non_zero_usize_get};
+ghost use Rattle.std.specs.Option.{option_map};
 ghost use Rattle.clru_shares.specs.Passes.{HasTaken, HaveShares, HaveTaken, IsShareOf, name_of};
+ghost use Rattle.clru_shares.specs.Sampled.{kept_in};
+ghost use Rattle.clru_shares.specs.ShareCurves.{missed_by_curve};
 
 use crate::classes::Class;
 use crate::curve::{LineCurve, curve_of};
-use clru_split::Curve;
+use crate::sampled::told_in;
+use clru_curve::Curve;
 use std::alloc::{AllocError, Allocator};
 use std::hash::BuildHasher;
 use std::num::NonZeroUsize;
 
-/// A class with the number and the size of its requests, and what misses at every capacity.
+/// A class with the number and the size of its requests, and what misses at every capacity, of all or of a sample.
 #[derive(Drop)]
 pub(crate) struct Share<A: Allocator> {
     pub(crate) name: Vec<u8, A>,
     pub(crate) requests: usize,
     pub(crate) size: usize,
+    pub(crate) sample: Option<NonZeroUsize>,
     pub(crate) curve: LineCurve<A>,
 }
 
@@ -33,39 +39,53 @@ impl<A: Allocator> Curve for Share<A> {
     }
 
     fn missed(&self, capacity: NonZeroUsize) -> Option<usize> {
-        match &self.curve {
-            LineCurve::ByKeys(curve) => Some(curve.misses(capacity)),
-            LineCurve::BySize(curve) => curve.missed_size(capacity),
+        match missed_by(&self.curve, capacity) {
+            Some(missed) => told_in(self.sample, self.all(), missed),
+            None => None,
         }
     }
 }
 
-/// Returns the curves of the classes.
+// What the lines of the curve miss.
+fn missed_by<A: Allocator>(curve: &LineCurve<A>, capacity: NonZeroUsize) -> Option<usize>
+    ensures { result ≡ missed_by_curve curve.now (non_zero_usize_get capacity) }
+{
+    match curve {
+        LineCurve::ByKeys(curve) => Some(curve.misses(capacity)),
+        LineCurve::BySize(curve) => curve.missed_size(capacity),
+    }
+}
+
+/// Returns the curves of the classes, whose passes took the lines of a sample.
 pub(crate) fn shares_of<S: BuildHasher + Copy, A: Allocator + Copy>(
     alloc: A,
+    sample: Option<NonZeroUsize>,
     classes: &[Class<S, A>],
 ) -> Result<Vec<Share<A>, A>, AllocError>
-    ensures { (sizes : Bool) (lines : List (List ℕ)) → HaveTaken sizes lines classes.now → IfOk result (λ shares.
-        HaveShares sizes lines (map name_of classes.now) shares.items) }
+    ensures { (sizes : Bool) (lines : List (List ℕ))
+        → HaveTaken sizes lines (kept_in (option_map non_zero_usize_get sample) lines) classes.now
+        → IfOk result (λ shares. HaveShares sizes (option_map non_zero_usize_get sample) lines (map name_of classes.now) shares.items) }
 {
     let mut shares = Vec::new(alloc);
     for class in classes {
-        shares.push(share_of(alloc, class)?)?;
+        shares.push(share_of(alloc, sample, class)?)?;
     }
     Ok(shares)
 }
 
 fn share_of<S: BuildHasher + Copy, A: Allocator + Copy>(
     alloc: A,
+    sample: Option<NonZeroUsize>,
     class: &Class<S, A>,
 ) -> Result<Share<A>, AllocError>
-    ensures { (sizes : Bool) (lines : List (List ℕ)) → HasTaken sizes lines class.now
-        → IfOk result (IsShareOf sizes lines (name_of class.now)) }
+    ensures { (sizes : Bool) (lines : List (List ℕ)) → HasTaken sizes lines (kept_in (option_map non_zero_usize_get sample) lines) class.now
+        → IfOk result (IsShareOf sizes (option_map non_zero_usize_get sample) lines (name_of class.now)) }
 {
     Ok(Share {
         name: Vec::from_slice(alloc, &class.name)?,
         requests: class.requests,
         size: class.size,
+        sample,
         curve: curve_of(alloc, &class.pass)?,
     })
 }

@@ -3,10 +3,12 @@ ghost use Rattle.std.specs.Prelude.{◌≡◌, ◌*◌, ◌/◌, length, map, ma
 ghost use Rattle.std.specs.Int.NonZero.{non_zero_usize_get};
 ghost use Rattle.std.specs.List.{sum_by};
 ghost use Rattle.clru_shares.specs.Passes.{part_of_row, part_of_share, parts_of_shares, parts_of_table};
-ghost use Rattle.clru_shares.specs.ShareCurves.{missed_pair};
+ghost use Rattle.clru_shares.specs.Sampled.{told_pair};
+ghost use Rattle.clru_shares.specs.ShareCurves.{missed_pair, sample_of};
 ghost use Rattle.clru_shares.specs.Shares.{rows, together};
 
 use crate::curve::LineCurve;
+use crate::sampled::{told_both, told_of};
 use crate::share::Share;
 use std::alloc::{AllocError, Allocator};
 use std::num::NonZeroUsize;
@@ -46,11 +48,13 @@ pub(crate) struct Table<A: Allocator> {
     pub(crate) one: Row<A>,
 }
 
-/// Returns the table of these shares with these capacities, and of one cache for all, by size or by keys.
+/// Returns the table of these shares with these capacities, and of one cache for all, by size or by keys. The budget is that of their
+/// lines, and `whole` that of all lines.
 pub(crate) fn table_of<A: Allocator + Copy>(
     alloc: A,
     by_size: bool,
-    budget: NonZeroUsize,
+    whole: NonZeroUsize,
+    budget: usize,
     step: NonZeroUsize,
     shares: &[Share<A>],
     capacities: &[usize],
@@ -58,18 +62,18 @@ pub(crate) fn table_of<A: Allocator + Copy>(
 ) -> Result<Table<A>, AllocError>
     ensures by_size { IfOk result (λ table. table.by_size ≡ by_size) }
     ensures rows { IfOk result (λ table. parts_of_table table ≡ rows all.now.requests all.now.size (parts_of_shares shares.now capacities.now)
-        (parts_of_shares shares.now (replicate (length shares.now) (non_zero_usize_get budget / max 1 (length shares.now)
-        / non_zero_usize_get step * non_zero_usize_get step))) (part_of_share all.now (non_zero_usize_get budget))) }
+        (parts_of_shares shares.now (replicate (length shares.now) (budget / max 1 (length shares.now)
+        / non_zero_usize_get step * non_zero_usize_get step))) (part_of_share all.now budget)) }
 {
     let capacity_of_each = equal_capacities(alloc, budget, step, shares.len())?;
     let parts = rows_of(alloc, shares, capacities)?;
     let equal_parts = rows_of(alloc, shares, &capacity_of_each)?;
     let best = together_of(alloc, b"best split", &parts, all.requests, all.size)?;
     let equal = together_of(alloc, b"equal parts", &equal_parts, all.requests, all.size)?;
-    let one = row_of(alloc, all, budget.get())?;
+    let one = row_of(alloc, all, budget)?;
     Ok(Table {
         by_size,
-        budget: budget.get(),
+        budget: whole.get(),
         parts,
         equal_parts,
         best,
@@ -81,14 +85,14 @@ pub(crate) fn table_of<A: Allocator + Copy>(
 // As much for each, in whole steps.
 fn equal_capacities<A: Allocator>(
     alloc: A,
-    budget: NonZeroUsize,
+    budget: usize,
     step: NonZeroUsize,
     count: usize,
 ) -> Result<Vec<usize, A>, AllocError>
     ensures { IfOk result (λ cs. cs.items ≡ replicate count
-        (non_zero_usize_get budget / max 1 count / non_zero_usize_get step * non_zero_usize_get step)) }
+        (budget / max 1 count / non_zero_usize_get step * non_zero_usize_get step)) }
 {
-    let part = budget.get() / count.max(1) / step.get() * step.get();
+    let part = budget / count.max(1) / step.get() * step.get();
     let mut capacities = Vec::new(alloc);
     capacities.resize(count, part)?;
     Ok(capacities)
@@ -118,10 +122,10 @@ fn row_of<A: Allocator + Copy>(
     ensures { IfOk result (λ row. part_of_row row ≡ part_of_share share.now capacity) }
 {
     let name = Vec::from_slice(alloc, &share.name)?;
-    match missed(&share.curve, capacity) {
+    match missed(share, capacity) {
         Some((misses, missed_size)) => Ok(Row {
             name,
-            capacity,
+            capacity: told_of(share.sample, usize::MAX, capacity),
             misses,
             requests: share.requests,
             missed_size,
@@ -138,8 +142,24 @@ fn row_of<A: Allocator + Copy>(
     }
 }
 
-// The requests that miss with this capacity alone, and by size their size, if each has room.
-fn missed<A: Allocator>(curve: &LineCurve<A>, capacity: usize) -> Option<(usize, usize)>
+// The requests that miss with this capacity alone, and by size their size, as told of all, if each has room.
+fn missed<A: Allocator>(share: &Share<A>, capacity: usize) -> Option<(usize, usize)>
+    ensures { result ≡ told_pair (sample_of share.now) share.now.requests share.now.size (missed_pair share.now.curve capacity) }
+{
+    match missed_of_curve(&share.curve, capacity) {
+        Some((misses, missed_size)) => told_both(
+            share.sample,
+            share.requests,
+            share.size,
+            misses,
+            missed_size,
+        ),
+        None => None,
+    }
+}
+
+// The same of the lines of the curve.
+fn missed_of_curve<A: Allocator>(curve: &LineCurve<A>, capacity: usize) -> Option<(usize, usize)>
     ensures { result ≡ missed_pair curve.now capacity }
 {
     let capacity = NonZeroUsize::new(capacity)?;

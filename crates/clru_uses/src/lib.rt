@@ -1,5 +1,5 @@
 //! Uses of the library, each proved from public contracts alone. Callers with clauses of their own show whether a contract tells
-//! enough; the docs quote the others, and `tools/check/quotes` compares them. `clru_uses_tests` runs all of them.
+//! enough; the docs quote the others, and `tools/check/quotes` compares them. `clru_tests` runs some of them.
 #![tactic(auto)]
 
 ghost use Rattle.std.specs.Prelude.{◌≡◌, ◌+◌, Some, nat_eq, IfSome};

@@ -5,8 +5,7 @@ ghost use Rattle.std.specs.List.{slice_get};
 ghost use Rattle.clru_curve.specs.SizedCurves.{CurveBySize};
 ghost use Rattle.clru_model.specs.Requests.{misses};
 
-use clru_curve::{DefaultState, NoMemory, SizedCurve, miss_curve};
-use clru_split::{Class, NonZeroUsize, split};
+use clru_curve::{Class, DefaultState, NoMemory, NonZeroUsize, SizedCurve, miss_curve, split};
 use std::alloc::{AllocError, Global};
 
 /// Returns the capacities of a cache for pages and of one for images, in multiples of the step and together within the budget,

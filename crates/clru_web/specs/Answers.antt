@@ -38,22 +38,28 @@ IsSaid what room text = text ≡ take room (codes "clru_mrc: " ++ (what ++ 10 �
 abbrev pub IsTold : Fault → ℕ → List ℕ → Type 0
 IsTold fault room text = (what : List ℕ) × IsTextOrCut 160 (fault_text fault) what × IsSaid what room text
 
-abbrev pub no_time_text : ℕ → List ℕ
-no_time_text n = codes "line " ++ (decimal n ++ codes " has no time: with --times each begins with one and a blank, as in 1700000000.123 /index.html")
+-- what a line is to begin with, where each has a time, and a size too if there are sizes
+abbrev pub wanted_text : Bool → List ℕ
+wanted_text sized = if sized
+    then codes " has no time and size: with --times --sizes each begins with both, as in 1700000000.123 512 /index.html"
+    else codes " has no time: with --times each begins with one and a blank, as in 1700000000.123 /index.html"
 
--- what is printed of a fault of a log: where each line is to have a time, the one that is missing is no size
-abbrev pub log_fault_text : Bool → Fault → List ℕ
-log_fault_text timed (NoSize n) = if timed then no_time_text n else fault_text (NoSize n)
-log_fault_text timed fault = fault_text fault
+abbrev pub no_time_text : Bool → ℕ → List ℕ
+no_time_text sized n = codes "line " ++ (decimal n ++ wanted_text sized)
+
+-- what is printed of a fault of a log: where lines begin with times, the text names the time too
+abbrev pub log_fault_text : Bool → Bool → Fault → List ℕ
+log_fault_text timed sized (NoSize n) = if timed then no_time_text sized n else fault_text (NoSize n)
+log_fault_text timed sized fault = fault_text fault
 
 -- the text is the line of a fault of a log
-abbrev pub IsToldOfLog : Bool → Fault → ℕ → List ℕ → Type 0
-IsToldOfLog timed fault room text = (what : List ℕ) × IsTextOrCut 160 (log_fault_text timed fault) what × IsSaid what room text
+abbrev pub IsToldOfLog : Bool → Bool → Fault → ℕ → List ℕ → Type 0
+IsToldOfLog timed sized fault room text = (what : List ℕ) × IsTextOrCut 160 (log_fault_text timed sized fault) what × IsSaid what room text
 
 -- these options have no report of the log, for a reason that has this exit status, and the text tells it
 abbrev pub IsRefusedWith : {A : Type 0} → ℕ → Options A → List ℕ → ℕ → List ℕ → Type 0
 IsRefusedWith status options log room text = (fault : Fault) × IsRefused fault options log × (status_of fault ≡ status)
-    × IsToldOfLog (is_some options.times) fault room text
+    × IsToldOfLog (is_some options.times) options.sizes fault room text
 
 -- a report is asked for, and the log has none
 abbrev pub HasNoReport : Type 0 → ℕ → Reading → List ℕ → ℕ → List ℕ → Type 0

@@ -66,7 +66,7 @@ fn run_report<S: BuildHasher + Copy, A: Allocator + Copy>(
     match make_report(alloc, options, &mut left, hash_builder) {
         Ok(report) => put_whole(report.as_bytes(), text, written),
         Err(Fault::NoSize(number)) if options.times.is_some() => {
-            tell_no_time(number, text, written)
+            tell_no_time(number, options.sizes, text, written)
         }
         Err(fault) => tell(fault, text, written),
     }

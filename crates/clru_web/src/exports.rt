@@ -1,5 +1,5 @@
 //! What a page calls.
-ghost use Rattle.std.specs.Prelude.{◌≡◌, ◌⊎◌, ◌<◌, ◌≤◌, ℕ, List, length, take};
+ghost use Rattle.std.specs.Prelude.{◌≡◌, ◌⊎◌, ◌<◌, ◌≤◌, ℕ, List, None, length, take};
 ghost use Rattle.std.specs.Borrow.{Bor};
 ghost use Rattle.clru_lines.specs.Lines.{lines_of};
 ghost use Rattle.clru_shares.specs.Shares.{IsSplitTable};
@@ -13,7 +13,7 @@ use crate::text::{say, tell};
 use clru_lines::Seed;
 use clru_report::Fault;
 use clru_shares::SplitOptions;
-use lent_block::{LentBlock, Loan};
+use ration::{LentBlock, Loan};
 use std::num::NonZeroUsize;
 
 /// Does what `clru_mrc` does. `arguments` are its arguments, each a line of UTF-8, and `log` is its standard input.
@@ -95,13 +95,13 @@ pub extern "C" fn split(
     text: &mut [u8],
     written: &mut usize,
 ) -> u32
-    ensures answer { result ≡ 0 → IsSplitTable (form_by form) (has_sizes_by sizes) budget (lines_of log.now) (take written.new text.new) }
+    ensures answer { result ≡ 0 → IsSplitTable (form_by form) (has_sizes_by sizes) None budget (lines_of log.now) (take written.new text.new) }
     ensures wrong { result ≡ 2 → budget ≡ 0 }
     // The text tells each fault.
     ensures memory { result ≡ 3 → IsTold Fault.Memory (length text.old) (take written.new text.new) }
     ensures short_told { result ≡ 5 → IsTold Fault.Writing (length text.old) (take written.new text.new) }
     // The text of a best split is longer than the room.
-    ensures short { result ≡ 5 → (whole : List ℕ) × IsSplitTable (form_by form) (has_sizes_by sizes) budget (lines_of log.now) whole
+    ensures short { result ≡ 5 → (whole : List ℕ) × IsSplitTable (form_by form) (has_sizes_by sizes) None budget (lines_of log.now) whole
         × (length text.new < length whole) }
     // The log has no split, for the reason that the text tells.
     ensures refused { result ≡ 6 → HasNoSplit (has_sizes_by sizes) log.now (length text.old) (take written.new text.new) }
@@ -116,6 +116,7 @@ pub extern "C" fn split(
     let options = SplitOptions {
         budget,
         sizes: has_sizes(sizes),
+        sample: None,
         form: form_of(form),
     };
     let heap = LentBlock::new(loan);

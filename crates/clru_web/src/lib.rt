@@ -2,6 +2,8 @@
 #![tactic(auto)]
 
 mod answer;
+#[cfg(test)]
+mod asserts;
 mod exports;
 mod split;
 #[cfg(test)]

@@ -1,6 +1,7 @@
 //! The split of a budget among the classes of the log.
 ghost use Rattle.std.specs.Prelude.{◌≡◌, ◌≢◌, ◌<◌, ◌≤◌, ℕ, List, length, take};
 ghost use Rattle.std.specs.Int.NonZero.{non_zero_usize_get};
+ghost use Rattle.std.specs.Option.{option_map};
 ghost use Rattle.clru_lines.specs.Lines.{lines_of};
 ghost use Rattle.clru_shares.specs.Shares.{IsSplitTable};
 ghost use Rattle.clru_web.specs.Answers.{IsTold};
@@ -43,10 +44,10 @@ pub(crate) fn split_log<S: BuildHasher + Copy, A: Allocator + Copy>(
     written: &mut usize,
 ) -> u32
     ensures answer { result ≡ 0
-        → IsSplitTable options.form options.sizes (non_zero_usize_get options.budget) (lines_of log.now) (take written.new text.new) }
+        → IsSplitTable options.form options.sizes (option_map non_zero_usize_get options.sample) (non_zero_usize_get options.budget) (lines_of log.now) (take written.new text.new) }
     ensures other { result ≢ 2 }
     ensures memory { result ≡ 3 → IsTold Fault.Memory (length text.old) (take written.new text.new) }
-    ensures short { result ≡ 5 → (whole : List ℕ) × IsSplitTable options.form options.sizes (non_zero_usize_get options.budget) (lines_of log.now) whole
+    ensures short { result ≡ 5 → (whole : List ℕ) × IsSplitTable options.form options.sizes (option_map non_zero_usize_get options.sample) (non_zero_usize_get options.budget) (lines_of log.now) whole
         × (length text.new < length whole) }
     ensures short_told { result ≡ 5 → IsTold Fault.Writing (length text.old) (take written.new text.new) }
     ensures refused { result ≡ 6 → HasNoSplit options.sizes log.now (length text.old) (take written.new text.new) }

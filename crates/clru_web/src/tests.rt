@@ -1,18 +1,20 @@
-// What a call answers, beside what `clru_mrc` writes for the same words and log; and where block or text are too small.
+// What a call answers, beside what `clru_mrc` writes for the same words and log; and where block or text are too small. The files of
+// this folder test what no script can show of reports, and of reading and writing lines: readers that fail, writers that are full or
+// closed, the memory of a report, and what commands print. They stand here since this crate has tests, and is proved twice anyway.
+mod costs;
+mod fakes;
+mod faults;
+mod lines;
+mod shown;
+mod words;
+
+use crate::asserts::equal;
 use crate::exports::{report, split};
 use crate::text::tell;
 use clru_lines::Seed;
 use clru_report::Fault;
-use lent_block::Loan;
-use std::fmt::Debug;
+use ration::Loan;
 use std::hash::BuildHasher;
-use std::process::Abort;
-
-// Ends the process where the two are not equal, and shows both. std's macro is proved wherever it stands, and a call in a fifth of
-// the time.
-fn equal<T: PartialEq + Debug + Drop>(rt: &impl Abort, left: T, right: T) {
-    assert_eq!(rt; left, right);
-}
 
 const ENOUGH: usize = 1 << 20;
 
@@ -102,6 +104,14 @@ static CALLS: &[(usize, &str, &str, usize, u32, &str)] = &[
         256,
         6,
         "clru_mrc: line 2 has no time: with --times each begins with one and a blank, as in 1700000000.123 /index.html\n",
+    ),
+    (
+        ENOUGH,
+        "--times\n--sizes",
+        "1 5 a\n2 b\n",
+        256,
+        6,
+        "clru_mrc: line 2 has no time and size: with --times --sizes each begins with both, as in 1700000000.123 512 /index.html\n",
     ),
 ];
 

@@ -3,7 +3,7 @@ ghost use Rattle.std.specs.Prelude.{◌≡◌, true, Some, ◌⊎◌, ◌+◌, �
 ghost use Rattle.clru_lines.specs.Faults.{status_of};
 ghost use Rattle.clru_lines.specs.declared.fault.Fault.TheVariants.{NoSize};
 ghost use Rattle.clru_shares.specs.Faults.{split_status_of};
-ghost use Rattle.clru_web.specs.Answers.{IsSaid, IsTold, IsToldOfLog, no_time_text};
+ghost use Rattle.clru_web.specs.Answers.{IsSaid, IsTold, IsToldOfLog, no_time_text, wanted_text};
 ghost use Rattle.clru_web.specs.Splits.{IsToldOfSplit};
 
 use clru_report::{Fault, exit_status};
@@ -13,19 +13,31 @@ use std::fmt::{self, InlineText};
 // The line of a fault. The longest has some 120 bytes.
 type FaultLine = InlineText<160>;
 
-// What is printed of a line without a time.
+// What is printed of a line without a time, or without a time and a size.
 #[derive(Clone, Copy)]
-struct NoTime(usize);
+struct NoTime {
+    number: usize,
+    sized: bool,
+}
 
 impl fmt::Display for NoTime {
-    ghost output = { λ t. Some (no_time_text t.0) };
+    ghost output = { λ t. Some (no_time_text t.sized t.number) };
 
     fn fmt<W: fmt::Write>(&self, f: &mut fmt::Formatter<W>) -> fmt::Result {
-        let number = self.0;
-        write!(
-            f,
-            "line {number} has no time: with --times each begins with one and a blank, as in 1700000000.123 /index.html"
-        )
+        let number = self.number;
+        let wanted = wanted(self.sized);
+        write!(f, "line {number}{wanted}")
+    }
+}
+
+// What such a line is to begin with.
+fn wanted(sized: bool) -> &'static str
+    ensures { result.now ≡ wanted_text sized }
+{
+    if sized {
+        " has no time and size: with --times --sizes each begins with both, as in 1700000000.123 512 /index.html"
+    } else {
+        " has no time: with --times each begins with one and a blank, as in 1700000000.123 /index.html"
     }
 }
 
@@ -59,14 +71,15 @@ pub(crate) fn tell(fault: Fault, text: &mut [u8], written: &mut usize) -> u32
     exit_status(&Err(fault)) as u32
 }
 
-/// Writes the program's line for a line of the log without a time, and returns its exit status.
-pub(crate) fn tell_no_time(number: usize, text: &mut [u8], written: &mut usize) -> u32
+/// Writes the program's line for a line of the log without a time, or a size where each is to have both, and returns its exit
+/// status.
+pub(crate) fn tell_no_time(number: usize, sized: bool, text: &mut [u8], written: &mut usize) -> u32
     ensures status { result ≡ 6 }
-    ensures told { IsToldOfLog true (NoSize number) (length text.old) (take written.new text.new) }
+    ensures told { IsToldOfLog true sized (NoSize number) (length text.old) (take written.new text.new) }
     ensures within { written.new ≤ length text.new }
     ensures length { length text.new ≡ length text.old }
 {
-    let line = FaultLine::of(NoTime(number));
+    let line = FaultLine::of(NoTime { number, sized });
     say(line.as_str().as_bytes(), text, written);
     6
 }

@@ -1,1 +1,9 @@
+mod Above
+mod Arrays
+mod BookCalls
+mod Bytes
+mod Cell
+mod Own
+mod Taken
+mod Values
 mod Walks

@@ -1,17 +1,24 @@
-//! An allocator that counts the requests that reach it and their bytes, and refuses those that it is told to refuse, or that
-//! pass a limit of bytes.
+//! Allocators of limited memory. `Rationed` counts the requests that reach it and their bytes, and refuses those that it is told to
+//! refuse, or that pass a limit of bytes; `LentBlock` has one block of memory, which somebody lends it.
 //!
-//! An owner lends it, as in `Vec::new(&heap)`. A growth, a `reserve_exact` and a shrink of a `Vec` make one request each: the
+//! An owner lends a `Rationed`, as in `Vec::new(&heap)`. A growth, a `reserve_exact` and a shrink of a `Vec` make one request each: the
 //! trait's own `grow` and `shrink` ask for the new block by `allocate`, and give the old one back by `deallocate`.
-//! It is proved to return blocks of the inner allocator, of the size that was asked for. The counters are
-//! only tested (`clru_effects_tests`), since no contract can say what a cell holds.
+//! `Rationed` is proved to return blocks of the inner allocator, of the size that was asked for. The counters are
+//! only tested (`clru_tests`), since no contract can say what a cell holds.
 //!
-//! Beside it stands what crates of tests assert with: `equal!`, `shows`, `capacity_of`.
+//! Beside them stands what crates of tests assert with: `equal!`, `shows`, `capacity_of`.
 #![tactic(auto)]
 
 mod assertions;
+mod free;
+mod lent_block;
+mod loan;
+mod piece;
+mod slot;
 
 pub use assertions::{capacity_of, shows};
+pub use lent_block::LentBlock;
+pub use loan::Loan;
 use std::alloc::{AllocError, Allocator};
 use std::cell::Cell;
 use std::fmt;

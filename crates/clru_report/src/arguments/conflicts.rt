@@ -148,9 +148,9 @@ fn conflict_of_age<A: Allocator>(draft: &Draft<A>) -> Option<&'static str>
             "--max-age counts at the capacities of --at alone: write --at 1000,10000, and neither --all nor a hit ratio",
         );
     }
-    if draft.max_age.is_some() && (draft.svg || draft.sizes) {
+    if draft.max_age.is_some() && draft.svg {
         return Some(
-            "--max-age counts keys at the capacities of --at alone, so it goes with neither --svg nor --sizes: leave one out",
+            "--max-age counts at the capacities of --at alone, so it does not go with --svg: leave one out",
         );
     }
     None

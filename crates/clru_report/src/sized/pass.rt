@@ -6,7 +6,7 @@ ghost use Rattle.clru_lines.specs.Whole.{ReadWhole};
 ghost use Rattle.clru_report.specs.Faults.{is_of_writing};
 ghost use Rattle.clru_curve.specs.SizedPasses.{IsSizedPass};
 ghost use Rattle.clru_lines.specs.declared.lines.OwnedKey.{OwnedKey};
-ghost use Rattle.clru_report.specs.Passes.{AreFloorsFor, HasFloorPass, HasTaken, HasTakenOf, HasTakenSized, IsOfLines, IsSettled, IsSizedCurveOfKept, line_of, same_line, weight_of_key};
+ghost use Rattle.clru_report.specs.Passes.{AreFloorsFor, HasFloorPass, HasTaken, HasTakenOf, HasTakenSized, IsOfLines, IsSettled, IsSizedCurveOfKept, hash_of_line, line_of, same_line, weight_of_key};
 ghost use Rattle.clru_report.specs.Refusals.{fault_from, is_of_input};
 ghost use Rattle.clru_report.specs.Samples.{kept_of};
 ghost use Rattle.clru_report.specs.Sizes.{HaveSizes, size_of_line, size_of_lines, weight_of_line};
@@ -151,18 +151,21 @@ fn take_kept<S: BuildHasher, A: Allocator + Copy>(
     if !is_kept(&key.0, one_in) {
         return Ok(());
     }
-    note_reuse(pass, reuses, key, weight)?;
-    take_line(alloc, pass, key, weight)
+    let hash = pass.hash(key);
+    note_reuse(pass, reuses, hash, key, weight)?;
+    take_line(alloc, pass, hash, key, weight)
 }
 
 // The pass for a floor learns where the key was requested last.
 fn note_reuse<S: BuildHasher, A: Allocator + Copy>(
     pass: &SizedPass<OwnedKey<A>, S, A>,
     reuses: &mut Option<FloorPass<OwnedKey<A>, A>>,
+    hash: u64,
     key: &OwnedKey<A>,
     weight: usize,
 ) -> Result<(), AllocError>
-    requires { (floored : Bool) × (past : List (OwnedKey A)) × IsSizedPass same_line weight_of_key past pass.now
+    requires hash { hash ≡ hash_of_line S.Hasher.Hasher.finish S.Hasher.Hasher.write S.BuildHasher.build_hasher pass.now.builder (line_of key.now) }
+    requires taken { (floored : Bool) × (past : List (OwnedKey A)) × IsSizedPass same_line weight_of_key past pass.now
         × HasFloorPass weight_of_line floored past reuses.old }
     ensures { (floored : Bool) (past : List (OwnedKey A)) → IsSizedPass same_line weight_of_key past pass.now
         → HasFloorPass weight_of_line floored past reuses.old → weight ≡ weight_of_line (line_of key.now)
@@ -170,7 +173,7 @@ fn note_reuse<S: BuildHasher, A: Allocator + Copy>(
 {
     match reuses {
         None => Ok(()),
-        Some(reuses) => match reuses.request(pass.latest_request(key), weight) {
+        Some(reuses) => match reuses.request(pass.latest_request_with_hash(hash, key), weight) {
             Ok(()) => Ok(()),
             Err(_) => Err(AllocError),
         },
@@ -182,15 +185,16 @@ fn note_reuse<S: BuildHasher, A: Allocator + Copy>(
 fn take_line<S: BuildHasher, A: Allocator + Copy>(
     alloc: A,
     pass: &mut SizedPass<OwnedKey<A>, S, A>,
+    hash: u64,
     key: &OwnedKey<A>,
     weight: usize,
 ) -> Result<(), AllocError>
+    requires hash { hash ≡ hash_of_line S.Hasher.Hasher.finish S.Hasher.Hasher.write S.BuildHasher.build_hasher pass.old.builder (line_of key.now) }
     requires weight { weight ≡ weight_of_line (line_of key.now) }
     requires taken { (past : List (OwnedKey A)) × IsSizedPass same_line weight_of_key past pass.old }
     ensures { (past : List (OwnedKey A)) → IsSizedPass same_line weight_of_key past pass.old
         → OnOk result (HasTakenSized past (line_of key.now) pass.new) }
 {
-    let hash = pass.hash(key);
     match pass.request_again_with_hash(hash, key, weight) {
         Ok(Some(_)) => Ok(()),
         Ok(None) => {

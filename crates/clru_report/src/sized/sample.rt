@@ -125,7 +125,8 @@ fn capacities_from_first<A: Allocator + Copy>(
     Ok(chosen)
 }
 
-fn sized_rows_times<A: Allocator>(
+/// Returns the rows of a sample, each as one of all requests.
+pub(crate) fn sized_rows_times<A: Allocator>(
     alloc: A,
     rows: &[SizedRow],
     totals: Totals,

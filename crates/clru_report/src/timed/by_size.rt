@@ -1,5 +1,5 @@
 //! The report by size of an input whose lines begin with times and sizes.
-ghost use Rattle.std.specs.Prelude.{◌≡◌, true, false, ◌&&◌, nat_lt, IfErr, IfOk, string_bytes};
+ghost use Rattle.std.specs.Prelude.{◌≡◌, None, true, false, ◌&&◌, nat_lt, IfErr, IfOk, string_bytes};
 ghost use Rattle.std.specs.Int.NonZero.{non_zero_usize_get};
 ghost use Rattle.std.specs.List.{list_any};
 ghost use Rattle.clru_lines.specs.Lines.{lines_of};
@@ -7,9 +7,10 @@ ghost use Rattle.clru_lines.specs.Whole.{ReadWhole};
 ghost use Rattle.clru_report.specs.Choices.{is_summary, is_whole};
 ghost use Rattle.clru_report.specs.Faults.{is_of_writing};
 ghost use Rattle.clru_report.specs.Refusals.{IsRefusedBy, is_of_input, names_below as names_below_by};
-ghost use Rattle.clru_report.specs.SizedTimed.{IsTimedReportBySize, size_by};
+ghost use Rattle.clru_report.specs.SizedTimed.{IsTimedReportBySize, IsTimedReportBySizeIn, size_by};
 ghost use Rattle.clru_report.specs.Times.{rests_of};
 
+use super::sized_aged::sized_aged_report;
 use super::sized_pass::curve_of_sized_times;
 use super::{all_of, idle_of, kept_in, part_in};
 use crate::options::{Capacities, Options, Sample, Times};
@@ -32,6 +33,27 @@ pub(crate) fn make_sized_timed_report<R: Read, S: BuildHasher + Drop, A: Allocat
     requires { is_summary options.now.form ≡ false }
     ensures report { IfOk result (λ text. ReadWhole (R.remaining reader.old) (R.remaining reader.new)
         (λ input. IsTimedReportBySize limits options.now (lines_of input) (string_bytes text))) }
+    ensures refused { IfErr result (λ fault. is_of_input fault ≡ true → ReadWhole (R.remaining reader.old) (R.remaining reader.new)
+        (λ input. IsRefusedBy options.now.sample fault options.now (rests_of (lines_of input)))) }
+    ensures fault { IfErr result (λ fault. is_of_writing fault ≡ false) }
+{
+    match limits.max_age {
+        None => sized_idle_report(alloc, options, limits, reader, hash_builder),
+        Some(age) => sized_aged_report(alloc, options, limits, age, reader, hash_builder),
+    }
+}
+
+// Where there is no age limit.
+fn sized_idle_report<R: Read, S: BuildHasher + Drop, A: Allocator + Copy>(
+    alloc: A,
+    options: &Options<A>,
+    limits: Times,
+    reader: &mut R,
+    hash_builder: S,
+) -> Result<String<A>, Fault>
+    requires { is_summary options.now.form ≡ false }
+    ensures report { IfOk result (λ text. ReadWhole (R.remaining reader.old) (R.remaining reader.new)
+        (λ input. IsTimedReportBySizeIn None limits options.now (lines_of input) (string_bytes text))) }
     ensures refused { IfErr result (λ fault. is_of_input fault ≡ true → ReadWhole (R.remaining reader.old) (R.remaining reader.new)
         (λ input. IsRefusedBy options.now.sample fault options.now (rests_of (lines_of input)))) }
     ensures fault { IfErr result (λ fault. is_of_writing fault ≡ false) }
@@ -60,7 +82,8 @@ pub(crate) fn make_sized_timed_report<R: Read, S: BuildHasher + Drop, A: Allocat
     }
 }
 
-fn size_of_all(sample: Sample, read: usize) -> usize
+/// Returns the size of all requests, where that of those that are read is this.
+pub(super) fn size_of_all(sample: Sample, read: usize) -> usize
     ensures { result ≡ size_by sample read }
 {
     match sample {
@@ -69,8 +92,8 @@ fn size_of_all(sample: Sample, read: usize) -> usize
     }
 }
 
-// Whether a capacity is named that is below the greatest size of a whole log. Of a sample such ones have no row.
-fn names_too_small<A: Allocator>(options: &Options<A>, first: usize) -> bool
+/// Returns whether a capacity is named that is below the greatest size of a whole log. Of a sample such ones have no row.
+pub(super) fn names_too_small<A: Allocator>(options: &Options<A>, first: usize) -> bool
     ensures { result ≡ (is_whole options.now.sample && names_below_by options.now.capacities first) }
 {
     match options.sample {

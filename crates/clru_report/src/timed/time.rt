@@ -1,11 +1,17 @@
 //! The time that a line begins with, and how long a time a word names.
-ghost use Rattle.std.specs.Prelude.{◌≡◌, ◌<◌, ◌≤◌, ◌^◌, ◌==◌, length, position, None, Some, IfNone, IfSome};
+ghost use Rattle.std.specs.Prelude.{◌≡◌, ◌<◌, ◌≤◌, ◌^◌, ◌==◌, true, length, take, position, None, Some, IfNone, IfSome};
+ghost use Rattle.std.specs.Char.{is_ascii_digit};
+ghost use Rattle.std.specs.List.{list_all};
+ghost use Rattle.clru_lines.specs.Lines.{digits_named};
 ghost use Rattle.clru_report.specs.Times.{decimal_span, decimal_time, duration_in, in_time as in_time_by, millionths_of as millionths_by, rest_of_line, span_named as span_by, time_in as time_by, time_of_line, times_span as times_span_by};
 
 use crate::numbers::{point_at, unit_at};
 use clru_lines::digits_of;
 
 const MILLION: u128 = 1_000_000;
+
+// Any number of one digit more fits 64 bits.
+const FEW_DIGITS: usize = 18;
 
 /// Returns the time before the first blank of a line, in millionths, or `None` if there is none: 1 to 20 digits, and if need be a
 /// point and 1 to 20 more, of which six count. A time that is more than the greatest `usize` is none.
@@ -21,6 +27,61 @@ pub fn time_of(line: &[u8]) -> Option<usize>
 
 /// Returns the time before the first blank of a line, in millionths, and what follows the blank, or `None` if there is no time.
 pub(super) fn split_time(line: &[u8]) -> Option<(usize, &[u8])>
+    ensures time { IfSome result (λ found. time_of_line line.now ≡ Some found.0) }
+    ensures rest { IfSome result (λ found. found.1.now ≡ rest_of_line line.now) }
+    ensures none { IfNone result (time_of_line line.now ≡ None) }
+{
+    match split_short(line) {
+        Some(found) => Some(found),
+        None => split_any(line),
+    }
+}
+
+// In one reading, if the time has few digits; else `None`.
+fn split_short(line: &[u8]) -> Option<(usize, &[u8])>
+    ensures time { IfSome result (λ found. time_of_line line.now ≡ Some found.0) }
+    ensures rest { IfSome result (λ found. found.1.now ≡ rest_of_line line.now) }
+{
+    let (whole, at) = leading_number(line);
+    if at == 0 || at >= line.len() {
+        return None;
+    }
+    let behind = &line[at + 1..];
+    if line[at] == b' ' {
+        return match in_time(whole as u128 * MILLION) {
+            Some(time) => Some((time, behind)),
+            None => None,
+        };
+    }
+    let (part, places) = leading_number(behind);
+    if line[at] != b'.' || places == 0 || places >= behind.len() || behind[places] != b' ' {
+        return None;
+    }
+    match in_time(whole as u128 * MILLION + millionths_of(part as u128, places)) {
+        Some(time) => Some((time, &behind[places + 1..])),
+        None => None,
+    }
+}
+
+// The number of the digits that bytes begin with, and how many these are. It reads a few at most.
+fn leading_number(bytes: &[u8]) -> (u64, usize)
+    ensures within { result.1 ≤ length bytes.now }
+    ensures few { result.1 ≤ 18 }
+    ensures digits { list_all is_ascii_digit (take result.1 bytes.now) ≡ true }
+    ensures named { 0 < result.1 → digits_named (take result.1 bytes.now) ≡ Some result.0 }
+    ensures below { result.0 < 10 ^ 18 }
+{
+    let mut value = 0u64;
+    for (at, byte) in bytes.iter().enumerate() {
+        if at == FEW_DIGITS || !byte.is_ascii_digit() {
+            return (value, at);
+        }
+        value = value * 10 + (*byte - b'0') as u64;
+    }
+    (value, bytes.len())
+}
+
+fn split_any(line: &[u8]) -> Option<(usize, &[u8])>
     ensures time { IfSome result (λ found. time_of_line line.now ≡ Some found.0) }
     ensures rest { IfSome result (λ found. found.1.now ≡ rest_of_line line.now) }
     ensures none { IfNone result (time_of_line line.now ≡ None) }
@@ -74,9 +135,24 @@ fn millionths_of(part: u128, places: usize) -> u128
     ensures below { result < 10 ^ 26 }
 {
     if places <= 6 {
-        part * 10u128.pow((6 - places) as u32)
+        part * power_of_ten(6 - places)
     } else {
         part / 10u128.pow((places - 6) as u32)
+    }
+}
+
+fn power_of_ten(exponent: usize) -> u128
+    requires { exponent ≤ 6 }
+    ensures { result ≡ 10 ^ exponent }
+{
+    match exponent {
+        0 => 1,
+        1 => 10,
+        2 => 10 * 10,
+        3 => 10 * 10 * 10,
+        4 => 10 * 10 * 10 * 10,
+        5 => 10 * 10 * 10 * 10 * 10,
+        _ => MILLION,
     }
 }
 

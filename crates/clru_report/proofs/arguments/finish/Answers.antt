@@ -40,7 +40,7 @@ invariant_of-result-clause-aged g c some =
     let draft = c.args.draft in let asked = asked_by draft in
     let parts = parts_of asked (sym c.conflict_in.ensures ∙ ap is_none c.in_default.is) in
     let age = asked_for_age draft.times draft.max_idle draft.max_age c.times_of.result c.times_of.ensures some in
-    subst (λ f. is_at_named draft.sizes c.capacities_of.result f ≡ true) (sym c.form_of-form.ensures)
+    subst (λ f. is_at_named c.capacities_of.result f ≡ true) (sym c.form_of-form.ensures)
     (named_for_age asked parts.forms parts.ages age (one_in c.sample_of-sample.result) c.capacities_of.result c.capacities_of.ensures.asked)
 
 pub invariant_of-result-clause-ascending : goal.invariant_of-result-clause-ascending

@@ -7,15 +7,15 @@ use Rattle.clru_report.proofs.pass.foresee.Goals as goal
 
 pub request-requires : goal.request-requires
 request-requires g c =
-    let past = c.requires.1 in let key = c.args.key.now in
-    let given : HasForesight c.requires.0 past (Some c.in-Some.foresight) =
-    subst (HasForesight c.requires.0 past) c.in-Some.is c.requires.3 in (
+    let past = c.requires.taken.1 in let key = c.args.key.now in
+    let given : HasForesight c.requires.taken.0 past (Some c.in-Some.foresight) =
+    subst (HasForesight c.requires.taken.0 past) c.in-Some.is c.requires.taken.3 in (
       past,
       key,
       given.1,
       record {
-        known = c.latest_request.ensures.known past c.requires.2;
-        position = c.latest_request.ensures.position past key c.requires.2 (bytes_laws.refl (line_of key));
+        known = c.latest_request_with_hash.ensures.known past c.requires.taken.2;
+        position = c.latest_request_with_hash.ensures.position past key c.requires.taken.2 (bytes_laws.refl (line_of key));
       },
     )
 
@@ -30,7 +30,7 @@ returns-in-Some g c least past is has =
     let given : HasForesight least past (Some c.in-Some.foresight) = subst (HasForesight least past) c.in-Some.is has in
     on_ok_all (λ same. line_of same ≡ line_of key) (λ same. HasForesight least (same ∷ past) (Some c.request.new.self)) c.request.result
     (λ same alike. on_ok_map c.request.result (λ one. (given.0, one))
-    (c.request.ensures.taken past same given.1 (latest_alike past key same c.latest_request.result (sym alike) (record {
-      known = c.latest_request.ensures.known past is;
-      position = c.latest_request.ensures.position past key is (bytes_laws.refl (line_of key));
+    (c.request.ensures.taken past same given.1 (latest_alike past key same c.latest_request_with_hash.result (sym alike) (record {
+      known = c.latest_request_with_hash.ensures.known past is;
+      position = c.latest_request_with_hash.ensures.position past key is (bytes_laws.refl (line_of key));
     }))))

@@ -7,11 +7,11 @@ use Rattle.clru_report.proofs.pass.note_reuse.Goals as goal
 
 pub request-requires : goal.request-requires
 request-requires g c =
-    let past = c.requires.1 in let key = c.args.key.now in
-    let given : HasFloorPass (λ _. 0) c.requires.0 past (Some c.in-Some.reuses) =
-    subst (HasFloorPass (λ _. 0) c.requires.0 past) c.in-Some.is c.requires.3 in
-    some_map c.latest_request.result (λ p at. omega (arith, at, given.1.requests))
-    (c.latest_request.ensures.position past key c.requires.2 (bytes_laws.refl (line_of key)))
+    let past = c.requires.taken.1 in let key = c.args.key.now in
+    let given : HasFloorPass (λ _. 0) c.requires.taken.0 past (Some c.in-Some.reuses) =
+    subst (HasFloorPass (λ _. 0) c.requires.taken.0 past) c.in-Some.is c.requires.taken.3 in
+    some_map c.latest_request_with_hash.result (λ p at. omega (arith, at, given.1.requests))
+    (c.latest_request_with_hash.ensures.position past key c.requires.taken.2 (bytes_laws.refl (line_of key)))
 
 pub returns-in-None : goal.returns-in-None
 returns-in-None g c floored past is has =
@@ -23,8 +23,8 @@ returns-in-Ok g c floored past is has = λ same alike.
     let key = c.args.key.now in
     let given : HasFloorPass (λ _. 0) floored past (Some c.in-Some.reuses) = subst (HasFloorPass (λ _. 0) floored past) c.in-Some.is has in (
       given.0,
-      c.in-Ok.ensures.taken (λ _. 0) past same given.1 (latest_alike past key same c.latest_request.result (sym alike) (record {
-        known = c.latest_request.ensures.known past is;
-        position = c.latest_request.ensures.position past key is (bytes_laws.refl (line_of key));
+      c.in-Ok.ensures.taken (λ _. 0) past same given.1 (latest_alike past key same c.latest_request_with_hash.result (sym alike) (record {
+        known = c.latest_request_with_hash.ensures.known past is;
+        position = c.latest_request_with_hash.ensures.position past key is (bytes_laws.refl (line_of key));
       })) refl,
     )

@@ -1,15 +1,14 @@
-use Rattle.std.proofs.Common.{◌≡◌, sym, subst}
-use Rattle.clru_report.proofs.TakenLines.{misses_taken}
+use Rattle.std.proofs.Common.{sym, subst}
 use Rattle.clru_shares.specs.LinePasses.{IsCurveBy, weight_of_key}
 use Rattle.clru_shares.specs.declared.curve.LineCurve.TheVariants.{ByKeys, BySize}
-use Rattle.clru_shares.proofs.PassLemmas.{by_keys, by_size, sizes_curve}
+use Rattle.clru_shares.proofs.PassLemmas.{by_keys, by_size, places_curve, sizes_curve}
 use Rattle.clru_shares.proofs.curve.curve_of.Goals as goal
 
 pub returns-in-Ok : goal.returns-in-Ok
 returns-in-Ok g c sizes lines taken =
     let of = by_keys lines sizes c.args.pass.now c.in-OfKeys.pass c.in-OfKeys.is taken in
     subst (λ s. IsCurveBy {A = g.row.A.Denot} s lines (ByKeys c.in-Ok.curve)) (sym of.0)
-    (misses_taken lines c.in-OfKeys.pass of.1 c.in-Ok.curve (λ past is. c.in-Ok.ensures.misses past is))
+    (places_curve lines c.in-OfKeys.pass of.1 c.in-Ok.curve (λ past is. c.in-Ok.ensures.misses past is))
 
 pub returns-in-Ok-curve : goal.returns-in-Ok-curve
 returns-in-Ok-curve g c sizes lines taken =

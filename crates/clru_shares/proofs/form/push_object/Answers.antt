@@ -1,4 +1,4 @@
-use Rattle.std.proofs.Common.{◌≡◌, ◌++◌, codes, ap, ◌∙◌}
+use Rattle.std.proofs.Common.{◌++◌, codes, ap, ◌∙◌}
 use Rattle.clru_shares.specs.Forms.{key_members, size_members}
 use Rattle.clru_shares.specs.Passes.{part_of_row}
 use Rattle.clru_shares.proofs.PartLemmas.{six_laid}

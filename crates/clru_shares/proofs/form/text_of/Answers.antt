@@ -1,4 +1,4 @@
-use Rattle.std.proofs.Common.{◌≡◌, sym, ◌∙◌, subst}
+use Rattle.std.proofs.Common.{sym, ◌∙◌, subst}
 use Rattle.clru_report.proofs.ReportLemmas.{ok_map}
 use Rattle.clru_shares.specs.Forms.{HasTable, IsTextOf}
 use Rattle.clru_shares.specs.Passes.{parts_of_table}

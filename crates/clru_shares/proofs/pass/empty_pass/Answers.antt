@@ -1,9 +1,9 @@
-use Rattle.std.proofs.Common.{◌≡◌, false, true, [], refl, sym, subst}
-use Rattle.clru_shares.specs.LinePasses.{HasTakenBy, weight_of_key}
+use Rattle.std.proofs.Common.{[], refl}
+use Rattle.clru_shares.specs.LinePasses.{weight_of_key}
 use Rattle.clru_shares.proofs.pass.empty_pass.Goals as goal
 
 pub returns-then-sizes : goal.returns-then-sizes
 returns-then-sizes g c = rw c.if-sizes.true (record { past = []; shown = refl; taken = c.with_hasher.ensures weight_of_key })
 
 pub returns-else-sizes : goal.returns-else-sizes
-returns-else-sizes g c = rw c.if-sizes.false (record { past = []; shown = refl; taken = c.with_hasher-else-sizes.ensures })
+returns-else-sizes g c = rw c.if-sizes.false (record { past = []; shown = refl; taken = c.new.ensures })

@@ -1,6 +1,6 @@
-use Rattle.std.proofs.Common.{◌≡◌, ◌++◌, [], ◌∷◌, ◌<◌, ◌≤◌, length, map, min, take, sym, ap, ◌∙◌, arith}
+use Rattle.std.proofs.Common.{◌++◌, [], ◌∷◌, ◌<◌, length, map, min, take, sym, ap, ◌∙◌, arith}
 use Rattle.std.proofs.lemmas.List.{map-append}
-use Rattle.clru_shares.specs.Passes.{part_of_row, part_of_share, parts_of_shares}
+use Rattle.clru_shares.specs.Passes.{part_of_row, parts_of_shares}
 use Rattle.clru_shares.proofs.PartLemmas.{next_parts, parts_all}
 use Rattle.clru_shares.proofs.table.rows_of.Goals as goal
 

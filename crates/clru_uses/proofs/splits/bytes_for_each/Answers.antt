@@ -7,8 +7,8 @@ use Rattle.std.specs.List.{slice_get}
 use Rattle.std.specs.Prelude.{IsSome, nat_lt, sum}
 use Rattle.clru_curve.specs.SizedCurves.{CurveBySize}
 use Rattle.clru_model.proofs.Cases.{split}
-use Rattle.clru_split.specs.Classes.{missed_size_above}
-use Rattle.clru_split.specs.Splits.{AreParts, IsBestSplit, IsPart}
+use Rattle.clru_curve.specs.Classes.{missed_size_above}
+use Rattle.clru_curve.specs.Splits.{AreParts, IsBestSplit, IsPart}
 use Rattle.clru_uses.proofs.splits.bytes_for_each.Goals as goal
 
 abbrev all : CurveBySize → ℕ

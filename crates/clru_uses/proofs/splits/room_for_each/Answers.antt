@@ -7,8 +7,8 @@ use Rattle.clru_curve.specs.Curves.{misses_at, HasMissesOf}
 use Rattle.clru_model.specs.Requests.{marks_after, misses}
 use Rattle.clru_model.proofs.Hits.{hit-zero}
 use Rattle.clru_model.proofs.Marks.{count_by-not-cons}
-use Rattle.clru_split.specs.Classes.{ClassOf, class}
-use Rattle.clru_split.specs.Splits.{missed_at, IsBestSplit}
+use Rattle.clru_curve.specs.Classes.{ClassOf, class}
+use Rattle.clru_curve.specs.Splits.{missed_at, IsBestSplit}
 use Rattle.clru_uses.proofs.splits.room_for_each.Goals as goal
 
 -- without room each request misses

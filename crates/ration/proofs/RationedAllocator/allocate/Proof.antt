@@ -36,7 +36,7 @@ use Rattle.std.proofs.raw_atomic.Walks.{proved}
 use Rattle.std.proofs.alloc.Shapes.{after, front, arm_body}
 use Rattle.std.proofs.alloc.Resizes.{result_of, result_own}
 use Rattle.std.proofs.alloc.Calls.{Al, token, seen, Answer, answer_val, Answer-typed, takes_key, Takes, at_takes, Answered, Takes-goes, Takes-gives, answers}
-use Rattle.ration.proofs.Walks.{self, args, inner_at, book_at, lent_book, parts, Notes, lends_book}
+use Rattle.ration.proofs.BookCalls.{self, args, inner_at, book_at, lent_book, parts, Notes, lends_book}
 use Rattle.ration.proofs.Book.TheLaws as book_laws
 use Rattle.ration.proofs.refuses.Symbol as refuses
 use Rattle.ration.proofs.refuses.Met as refuses_met

@@ -31,7 +31,7 @@ use types.Run.{stop, fld, addr, unit_lit, no_more, and_then, of_opd, returns, en
 use types.ByLocal.{alloc_all, pass_all, free_all, look_at, get, through, sets, lands_as}
 use Rattle.std.proofs.raw_atomic.Walks.{proved}
 use Rattle.std.proofs.alloc.Calls.{Al, token, seen, gives_key, Gives, at_gives, Gives-goes, Gives-Gives}
-use Rattle.ration.proofs.Walks.{self, args, inner_at, book_at, lent_book, parts, Notes, lends_book}
+use Rattle.ration.proofs.BookCalls.{self, args, inner_at, book_at, lent_book, parts, Notes, lends_book}
 use Rattle.ration.proofs.takes_back.Symbol as takes_back
 use Rattle.ration.proofs.takes_back.Met as takes_back_met
 use Rattle.ration.specs.declared.Book.{Book}

@@ -227,3 +227,14 @@ returns-clause-places g c =
     (GrowsIf-along (sym (ap (λ r. length r.entries) same)) (sym (ap (λ r. r.capacity) same)) (sym (ap (λ r. r.places) same)) (ap (λ r. r.places) p) o.grows)
     (ap (λ r. r.capacity) p ∙ ap (λ r. r.capacity) o.same ∙ ap (λ r. r.capacity) same) refl
     (omega (arith, ap (λ r. length r.entries) p, o.ready, ap (λ r. r.places) p)))
+
+pub push_front-requires-clause-hash : goal.push_front-requires-clause-hash
+push_front-requires-clause-hash g c =
+    rw (ap (λ m. m.builder) c.shrink.ensures.entries, ap (λ m. m.builder) c.in-Some.ensures.entries) c.hash-hash.ensures
+
+pub push_front-requires-2-clause-hash : goal.push_front-requires-2-clause-hash
+push_front-requires-2-clause-hash g c =
+    rw (ap (λ m. m.builder) c.in-Ok.ensures.same, ap (λ m. m.builder) c.in_default.ensures.entries) c.hash-hash.ensures
+
+pub push_front-requires-2-clause-ready : goal.push_front-requires-2-clause-ready
+push_front-requires-2-clause-ready g c = c.in-Ok.ensures.ready

@@ -1,4 +1,4 @@
-use Rattle.std.proofs.Common.{◌≡◌, false, is_some, refl, sym, ap, ◌∙◌, subst}
+use Rattle.std.proofs.Common.{◌≡◌, true, false, is_some, refl, sym, ap, ◌∙◌, subst}
 use Rattle.std.specs.Map.{keys_of}
 use Rattle.clru_model.specs.Distances.{distance}
 use Rattle.clru_model.specs.Requests.{holds}
@@ -37,3 +37,16 @@ request_new_with_hash-requires-clause-new g c =
       c.in-Ok-None.ensures.not_taken idle past before (ap is_some c.in-Ok-None.field-0-is),
       sym (c.in-Ok-None.ensures.known idle past before) ∙ ap is_some c.in-Ok-None.field-0-is,
     )
+
+pub returns-in-Err-request_new_with_hash-clause-memory : goal.returns-in-Err-request_new_with_hash-clause-memory
+returns-in-Err-request_new_with_hash-clause-memory g c idle past before held many few =
+    let absent = sym (c.in-Ok-None.ensures.known idle past before) ∙ ap is_some c.in-Ok-None.field-0-is in
+    let no : false ≡ true = sym absent ∙ held in cc
+
+pub returns-in-Err-clause-refused : goal.returns-in-Err-clause-refused
+returns-in-Err-clause-refused g c idle past before =
+    c.in-Err.ensures.refused idle past before
+
+pub returns-in-Err-clause-memory : goal.returns-in-Err-clause-memory
+returns-in-Err-clause-memory g c idle past before held many few =
+    c.in-Err.ensures.memory idle past before many few

@@ -7,8 +7,8 @@ use Rattle.clru_report.proofs.Samples.{kept_one}
 use Rattle.clru_report.proofs.TakenLines.{taken_more}
 use Rattle.clru_report.proofs.sized.pass.take_kept.Goals as goal
 
-pub note_reuse-requires : goal.note_reuse-requires
-note_reuse-requires g c =
+pub note_reuse-requires-clause-taken : goal.note_reuse-requires-clause-taken
+note_reuse-requires-clause-taken g c =
     let has = c.requires.taken.2 in (c.requires.taken.0, has.past, has.taken, has.floored)
 
 pub take_line-requires-clause-taken : goal.take_line-requires-clause-taken

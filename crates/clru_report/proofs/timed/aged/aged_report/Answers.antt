@@ -1,29 +1,47 @@
-use Rattle.std.proofs.Common.{◌≡◌, string_bytes, ap, subst, ◌∙◌}
+use Rattle.std.proofs.Common.{◌≡◌, [], map, string_bytes, refl, ap, subst, ◌∙◌}
+use Rattle.std.specs.Int.NonZero.{non_zero_usize_get}
+use Rattle.std.specs.Prelude.{bytes_eq}
+use Rattle.clru_curve.specs.AgedPasses.{IsAgedPass, aged_misses_at}
 use Rattle.clru_lines.specs.Lines.{lines_of}
 use Rattle.clru_report.specs.Choices.{named_in}
+use Rattle.clru_report.specs.Passes.{same_line}
 use Rattle.clru_report.specs.Timed.{IsTableAt, all_by, kept_in, misses_in_age, part_in}
-use Rattle.clru_report.specs.TimedPasses.{AreTimedMissesOf}
+use Rattle.clru_report.specs.TimedPasses.{HasTakenTimed}
 use Rattle.clru_report.specs.Times.{kept_requests, requests_of}
+use Rattle.clru_report.proofs.TimedLines.{aged_own, aged_taken, timed_start}
 use Rattle.clru_report.proofs.timed.aged.aged_report.Goals as goal
+
+pub read_lines-requires : goal.read_lines-requires
+read_lines-requires g c =
+    let pass = c.in-Ok.pass in let is = c.in-Ok.ensures (λ _. 0) in (
+      refl,
+      timed_start (λ past p. IsAgedPass same_line pass.fetches.capacities pass.idle pass.fetches.age past p)
+          (non_zero_usize_get c.kept_in.result) pass
+          (aged_own same_line (λ _. 0) (named_in c.args.options.now.capacities) c.args.limits.max_idle c.args.age [] pass pass
+          is.places is.idle_limit is.age_limit is),
+    )
 
 pub returns-in-Ok-table_of_misses-clause-report : goal.returns-in-Ok-table_of_misses-clause-report
 returns-in-Ok-table_of_misses-clause-report g c =
     let options = c.args.options.now in let sample = options.sample in let limits = c.args.limits in let age = c.args.age in
-    let found = c.in_ok-misses in let read = found.ensures.misses in let misses = found.misses.items in
-    let cs = named_in options.capacities in
-    let named : c.deref.result.now ≡ cs = c.deref.ensures.value ∙ c.in-Ok.ensures ∙ c.named_in.ensures in
-    let of_kept = subst (λ n. AreTimedMissesOf n c.deref.result.now limits.max_idle age read.0 misses found.read)
-    c.kept_in-kept.ensures read.3 in
-    let of = subst (λ ks. AreTimedMissesOf (kept_in sample) ks limits.max_idle age read.0 misses found.read) named of_kept in
-    let m = misses_in_age age limits (kept_requests (kept_in sample) (requests_of (lines_of read.0))) in
-    let text = string_bytes c.in-Ok-table_of_misses.text in
-    let made = c.in-Ok-table_of_misses.ensures m (c.deref-2.ensures.value ∙ of.each) in
-    let of_part = subst (λ n. IsTableAt options m n c.all_of-all.result text) c.part_in-part.ensures made in (
+    let pass = c.in-Ok.pass in let is = c.in-Ok.ensures (λ _. 0) in let cs = named_in options.capacities in
+    let now = c.read_lines.new.taker in let read = c.in_ok-read.ensures.taken in let got = read.3.taken in
+    let kept = kept_requests (kept_in sample) (requests_of (lines_of read.0)) in
+    let has = subst (λ n. HasTakenTimed (λ past p. IsAgedPass same_line pass.fetches.capacities pass.idle pass.fetches.age past p) n
+    (lines_of read.0) now.pass) (ap non_zero_usize_get got.0 ∙ c.kept_in.ensures) got.1 in
+    let each : c.misses.result.now ≡ map (misses_in_age age limits kept) cs =
+    aged_taken pass.fetches.capacities pass.idle pass.fetches.age kept now.pass has.taken c.misses.result.now
+    (λ past of. c.misses.ensures (λ _. 0) pass.fetches.capacities pass.idle pass.fetches.age past of)
+    ∙ ap (map (λ k. aged_misses_at bytes_eq pass.idle pass.fetches.age k kept)) is.places
+    ∙ ap (λ i. map (λ k. aged_misses_at bytes_eq i pass.fetches.age k kept) cs) is.idle_limit
+    ∙ ap (λ a. map (λ k. aged_misses_at bytes_eq limits.max_idle a k kept) cs) is.age_limit in
+    let m = misses_in_age age limits kept in let text = string_bytes c.in-Ok-table_of_misses.text in
+    let of_part = subst (λ n. IsTableAt options m n c.all_of-all.result text) c.part_in-part.ensures (c.in-Ok-table_of_misses.ensures m each) in (
       read.0,
       read.1,
       read.2,
       (
-        of.timed,
-        subst (λ all. IsTableAt options m (part_in sample) all text) (c.all_of-all.ensures ∙ ap (all_by sample) of.counted) of_part,
+        has.timed,
+        subst (λ all. IsTableAt options m (part_in sample) all text) (c.all_of-all.ensures ∙ ap (all_by sample) read.3.counted) of_part,
       ),
     )

@@ -1,105 +1,38 @@
-use Rattle.std.specs.Option.{is_none, is_some}
-use Rattle.std.proofs.Common.{◌≡◌, ◌+◌, not, ◌++◌, ◌∷◌, [], ℕ, List, IfSome, append_assoc, append-nil, IsSome, refl, sym, length, ap, ◌∙◌, subst, arith}
+use Rattle.std.proofs.Common.{[], refl, sym, ap, subst}
 use Rattle.std.specs.Int.NonZero.{non_zero_usize_get}
-use Rattle.std.specs.Map.{keys_of}
-use Rattle.std.specs.Prelude.{bytes_eq, reverse}
-use Rattle.std.proofs.lemmas.List.{length-append}
-use Rattle.std.proofs.lemmas.List.Elements.{All-nil}
+use Rattle.std.specs.Prelude.{bytes_eq}
 use Rattle.clru_curve.specs.IdlePasses.{HasIdleMissesOf, IsIdlePass}
-use Rattle.clru_model.specs.Requests.{distinct}
+use Rattle.clru_lines.specs.Lines.{lines_of}
 use Rattle.clru_report.specs.Passes.{same_line}
-use Rattle.clru_report.specs.Timed.{IsFirstUntimed}
 use Rattle.clru_report.specs.TimedPasses.{HasTakenTimed}
-use Rattle.clru_report.specs.Times.{HaveTimes, kept_requests, requests_of, time_of_line}
-use Rattle.clru_report.proofs.ReportLemmas.{no_none, no_some, none_map, of_none, some_map}
-use Rattle.clru_report.proofs.TimedLines.{first_untimed, idle_taken, kinds_taken}
+use Rattle.clru_report.specs.Times.{kept_requests, requests_of}
+use Rattle.clru_report.proofs.TimedLines.{idle_taken, kinds_taken, timed_start}
 use Rattle.clru_report.proofs.timed.pass.curve_of_times.Goals as goal
 
-pub lines-init : goal.lines-init
-lines-init g c = (
-  [],
-  c.new-buffer.ensures (g.R.Read.remaining c.args.reader.now),
-  refl,
-  omega arith,
-  record {
-    timed = All-nil (λ line. IsSome (time_of_line line));
-    taken = record { past = []; shown = refl; taken = c.with_hasher-pass.ensures };
-  },
-  tt,
-)
-
-pub lines-preserved-in-Ok-true-take_timed : goal.lines-preserved-in-Ok-true-take_timed
-lines-preserved-in-Ok-true-take_timed g c =
-    let before = c.lines.invariant in let start = g.R.Read.remaining c.args.reader.now in
-    let line = c.read_line.new.line.items in
-    let fits = c.in-Ok-true.ensures.fits start before.0 before.1 c.in-Ok-true.field-0-test in (
-      before.0 ++ line ∷ [],
-      c.in-Ok-true.ensures.line start before.0 before.1 c.in-Ok-true.field-0-test,
-      omega (arith, before.2, length-append before.0 (line ∷ [])),
-      omega (arith, before.2, fits),
-      none_map c.lines.refused (λ so. subst (λ l. HasTakenTimed (IsIdlePass same_line c.args.idle) (non_zero_usize_get c.args.one_in) (before.0 ++ l ∷ []) c.take_timed.new.pass)
-          c.deref.ensures.value (c.in-Ok-true-take_timed.ensures.taken c.args.idle before.0 so c.in-Ok-true-take_timed.field-0-test)) before.4,
-      no_some _ c.lines.refused (ap not c.if-is_none.ensures),
+pub read_lines-requires : goal.read_lines-requires
+read_lines-requires g c =
+    let pass = c.with_hasher.result in let is = c.with_hasher.ensures in (
+      refl,
+      timed_start (λ past p. IsIdlePass same_line pass.limit past p) (non_zero_usize_get c.args.one_in) pass
+          (subst (λ l. IsIdlePass same_line l [] pass) (sym is.limit) is),
     )
 
-pub lines-preserved-in-Ok-false-take_timed : goal.lines-preserved-in-Ok-false-take_timed
-lines-preserved-in-Ok-false-take_timed g c =
-    let before = c.lines.invariant in let start = g.R.Read.remaining c.args.reader.now in
-    let line = c.read_line.new.line.items in
-    let fits = c.in-Ok-true.ensures.fits start before.0 before.1 c.in-Ok-true.field-0-test in
-    let so = of_none c.lines.refused (ap not c.if-is_none.ensures) before.4 in
-    let none = ap time_of_line (sym c.deref.ensures.value) ∙ c.in-Ok-false-take_timed.ensures.untimed c.in-Ok-false-take_timed.field-0-test in (
-      before.0 ++ line ∷ [],
-      c.in-Ok-true.ensures.line start before.0 before.1 c.in-Ok-true.field-0-test,
-      omega (arith, before.2, length-append before.0 (line ∷ [])),
-      omega (arith, before.2, fits),
-      tt,
-      λ rest. subst (IsFirstUntimed (c.lines.requests + 1)) (sym (append_assoc before.0 (line ∷ []) rest))
-          (first_untimed before.0 rest line (c.lines.requests + 1) so.timed (omega (arith, before.2)) (ap is_some none)),
-    )
-
-pub lines-preserved : goal.lines-preserved
-lines-preserved g c =
-    let before = c.lines.invariant in let start = g.R.Read.remaining c.args.reader.now in
-    let line = c.read_line.new.line.items in
-    let fits = c.in-Ok-true.ensures.fits start before.0 before.1 c.in-Ok-true.field-0-test in (
-      before.0 ++ line ∷ [],
-      c.in-Ok-true.ensures.line start before.0 before.1 c.in-Ok-true.field-0-test,
-      omega (arith, before.2, length-append before.0 (line ∷ [])),
-      omega (arith, before.2, fits),
-      no_none _ c.lines.refused (ap not c.if-is_none.ensures),
-      some_map c.lines.refused (λ number so rest. subst (IsFirstUntimed number) (sym (append_assoc before.0 (line ∷ []) rest)) (so (line ∷ rest)))
-          before.5,
-    )
-
-pub returns-in-None-clause-curve : goal.returns-in-None-clause-curve
-returns-in-None-clause-curve g c =
-    let before = c.lines.invariant in let start = g.R.Read.remaining c.args.reader.now in
-    let read = c.in-Ok-false.ensures.end start before.0 before.1 c.in-Ok-false.field-0-test in
-    let lines = sym read.3.0 in let so = of_none c.lines.refused (ap is_none c.in-None.is) before.4 in
-    let kept = λ (ls : List (List ℕ)). kept_requests (non_zero_usize_get c.args.one_in) (requests_of ls) in
-    let curve = c.into_curve.result in (
+pub returns-clause-curve : goal.returns-clause-curve
+returns-clause-curve g c =
+    let pass = c.with_hasher.result in let is = c.with_hasher.ensures in
+    let now = c.read_lines.new.taker in let read = c.in_ok-requests.ensures.taken in let got = read.3.taken in
+    let lines = lines_of read.0 in let n = non_zero_usize_get c.args.one_in in
+    let kept = kept_requests n (requests_of lines) in let curve = c.into_curve.result in
+    let has = subst (λ k. HasTakenTimed (λ past p. IsIdlePass same_line pass.limit past p) k lines now.pass) (ap non_zero_usize_get got.0) got.1 in (
       read.0,
       read.1,
       read.2,
       record {
-        timed = subst HaveTimes lines so.timed;
-        misses = subst (λ ls. HasIdleMissesOf bytes_eq c.args.idle (kept ls) curve) lines
-            (idle_taken c.args.idle (kept before.0) c.lines.pass so.taken curve (c.into_curve.ensures.misses c.args.idle));
-        distinct_keys = subst (λ ls. length curve ≡ distinct bytes_eq (reverse (keys_of (kept ls)))) lines
-            (kinds_taken c.args.idle (kept before.0) c.lines.pass so.taken curve (c.into_curve.ensures.distinct c.args.idle));
-        counted = before.2 ∙ ap length lines;
-        in_bytes = c.bytes_read.ensures ∙ read.3.1;
+        timed = has.timed;
+        misses = subst (λ l. HasIdleMissesOf bytes_eq l kept curve) is.limit
+            (idle_taken pass.limit kept now.pass has.taken curve (c.into_curve.ensures.misses pass.limit));
+        distinct_keys = kinds_taken pass.limit kept now.pass has.taken curve (c.into_curve.ensures.distinct pass.limit);
+        counted = read.3.counted;
+        in_bytes = read.3.in_bytes;
       },
-    )
-
-pub returns-in-Some-clause-refused : goal.returns-in-Some-clause-refused
-returns-in-Some-clause-refused g c of =
-    let before = c.lines.invariant in let start = g.R.Read.remaining c.args.reader.now in let number = c.in-Some.number in
-    let read = c.in-Ok-false.ensures.end start before.0 before.1 c.in-Ok-false.field-0-test in
-    let so = subst (λ o. IfSome o (λ n. (rest : List (List ℕ)) → IsFirstUntimed n (before.0 ++ rest))) c.in-Some.is before.5 in (
-      read.0,
-      read.1,
-      read.2,
-      subst (IsFirstUntimed number) (append-nil before.0 ∙ sym read.3.0) (so []),
     )

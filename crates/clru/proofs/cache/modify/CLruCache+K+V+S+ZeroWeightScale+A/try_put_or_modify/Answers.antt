@@ -1,6 +1,6 @@
 use Rattle.std.proofs.Common.{◌≡◌, true, false, ◌<◌, length, refl, sym, ap, ◌∙◌, arith}
 use Rattle.std.specs.Map.{lookup_entry}
-use Rattle.clru_model.proofs.Finding.{held, missed, touch-missed, plain_put-held}
+use Rattle.clru_model.proofs.Finding.{held, missed, touch-held, touch-missed, plain_put-held}
 use Rattle.clru_linked_map.specs.LinkedMap.{with_entries}
 use Rattle.clru.proofs.LentPuts.{called_at, front_of, front_value, lent_held, lent_new, ready_new}
 use Rattle.clru.proofs.cache.modify.CLruCache+K+V+S+ZeroWeightScale+A.try_put_or_modify.Goals as goal
@@ -151,3 +151,28 @@ returns g c =
         memory = tt;
       },
     )
+
+pub front_mut-value-requires : goal.front_mut-value-requires
+front_mut-value-requires g c =
+    let eq = g.K.PartialEq.eq in let key = c.args.key in let h = held (eq key) c.if-touch.ensures.found in
+    omega (arith, ap (λ m. length m.entries) (c.touch.ensures.entries ∙ ap (λ l. with_entries c.self.inside.map l) (touch-held eq key h)))
+
+pub put_front-requires-clause-hash : goal.put_front-requires-clause-hash
+put_front-requires-clause-hash g c =
+    let eq = g.K.PartialEq.eq in let key = c.args.key in let e = c.touch.ensures in let o = c.in-Ok.ensures in
+    let m = missed (eq key) c.if-touch.ensures.found in
+    let ready = ready_new key c.self.inside.scale c.self.invariant m e.entries e.held o.grows o.same in
+    rw (ap (λ r. r.builder) ready.same) c.hash-hash.ensures
+
+pub put_front-requires-clause-ready : goal.put_front-requires-clause-ready
+put_front-requires-clause-ready g c = c.in-Ok.ensures.ready
+
+pub put_front-requires-clause-some : goal.put_front-requires-clause-some
+put_front-requires-clause-some g c =
+    let eq = g.K.PartialEq.eq in let key = c.args.key in let e = c.touch.ensures in let o = c.in-Ok.ensures in
+    let m = missed (eq key) c.if-touch.ensures.found in
+    let ready = ready_new key c.self.inside.scale c.self.invariant m e.entries e.held o.grows o.same in
+    omega (arith, ap (λ r. r.capacity) ready.same, c.self.invariant.some)
+
+pub front_mut-requires : goal.front_mut-requires
+front_mut-requires g c = omega (arith, ap (λ r. length r.entries) c.put_front.ensures.entries)

@@ -71,3 +71,20 @@ returns-clause-places g c =
     let ready = ready_new c.args.key c.self.inside.scale c.self.invariant (missed (g.K.PartialEq.eq c.args.key) c.if-touch.ensures.found) e.entries e.held o.grows o.same in
     rw (← c.self.view_is) (ready.grows c.put_front-dropped.new.self (ap (λ r. r.capacity) p.entries ∙ ap (λ r. r.capacity) ready.same)
     (ap (λ r. r.places) p.entries) p.held)
+
+pub put_front-dropped-requires-clause-hash : goal.put_front-dropped-requires-clause-hash
+put_front-dropped-requires-clause-hash g c =
+    let e = c.touch.ensures in let o = c.in-Ok.ensures in
+    let m = missed (g.K.PartialEq.eq c.args.key) c.if-touch.ensures.found in
+    let ready = ready_new c.args.key c.self.inside.scale c.self.invariant m e.entries e.held o.grows o.same in
+    rw (ap (λ r. r.builder) ready.same) c.hash-hash.ensures
+
+pub put_front-dropped-requires-clause-ready : goal.put_front-dropped-requires-clause-ready
+put_front-dropped-requires-clause-ready g c = c.in-Ok.ensures.ready
+
+pub put_front-dropped-requires-clause-some : goal.put_front-dropped-requires-clause-some
+put_front-dropped-requires-clause-some g c =
+    let e = c.touch.ensures in let o = c.in-Ok.ensures in
+    let m = missed (g.K.PartialEq.eq c.args.key) c.if-touch.ensures.found in
+    let ready = ready_new c.args.key c.self.inside.scale c.self.invariant m e.entries e.held o.grows o.same in
+    omega (arith, ap (λ r. r.capacity) ready.same, c.self.invariant.some)

@@ -1,10 +1,11 @@
-use Rattle.std.proofs.Common.{◌≡◌, ◌+◌, suc, [], ◌∷◌, ◌++◌, Some, refl, sym, ap, ◌∙◌, subst, arith}
+use Rattle.std.proofs.Common.{◌≡◌, ◌+◌, suc, [], ◌∷◌, ◌++◌, Some, is_some, refl, sym, ap, ◌∙◌, subst, arith}
 use Rattle.std.specs.Map.{set_value}
 use Rattle.clru_model.proofs.Forms.{form_is}
 use Rattle.clru_curve.proofs.Forms.{key_at, found_as}
 use Rattle.clru_curve.proofs.IdlePassing.{position_found}
 use Rattle.clru_curve.proofs.LatestSizes.{total_zero, removed_less, moved_lives, moved_totals, moved_less}
-use Rattle.clru_curve.proofs.SizedAgedPassing.{seen_found, IsSizedAgedPass-again, IsSoundAgedBySize-again, size_there}
+use Rattle.clru_curve.proofs.SizedAgedPassing.{seen_found, IsSizedAgedPass-again, IsSoundAgedBySize-again, IsSoundAgedBySize-nodes, size_there}
+use Rattle.clru_curve.proofs.SizedPassing.{not_too_large}
 use Rattle.clru_curve.specs.Fetches.{fetched_at, seens_of, is_row_hit}
 use Rattle.clru_curve.specs.KeyTables.{keyed}
 use Rattle.clru_curve.specs.LatestSizes.{sizes_from, total_from, live_from, IsRemoved, IsSummed}
@@ -64,30 +65,42 @@ take-requires-clause-few g c = λ i. omega (arith, c.self.invariant.few i, c.sel
 pub take-requires-clause-small : goal.take-requires-clause-small
 take-requires-clause-small g c = λ i. omega (arith, c.self.invariant.small i, c.if-weight-self.false)
 
-pub invariant_of-self-in_default-see_again : goal.invariant_of-self-in_default-see_again
-invariant_of-self-in_default-see_again g c =
-    let inv = c.self.invariant in let e = c.make_ready.ensures in let ready = c.make_ready.new.self in
+pub returns-then-weight-self-clause-too_large : goal.returns-then-weight-self-clause-too_large
+returns-then-weight-self-clause-too_large g c =
+    (λ _. omega (arith, c.if-weight-self.true, ap (λ v. v.size) c.self.view_is), λ _. tt)
+
+pub invariant_of-self : goal.invariant_of-self
+invariant_of-self g c =
+    let e = c.make_ready.ensures in let ready = c.make_ready.new.self in
     let summed = subst (λ k. IsSummed c.self.inside.latest.sizes.items ready.nodes.items k) e.requests
     (subst (λ l. IsSummed l ready.nodes.items ready.requests) e.sizes e.kept) in
-    rw (c.in_default-see_again.ensures.same refl, e.sizes, e.requests)
-    (record {
-      sound = record {
-        summed = summed;
-        past = inv.sound.past;
-        ranked = inv.sound.ranked;
-        few_hits = inv.sound.few_hits;
-        many = inv.sound.many;
-        held = inv.sound.held;
-        hit_sizes = inv.sound.hit_sizes;
-        fits = inv.sound.fits;
-      };
-      misses_length = inv.misses_length;
-      missed_length = inv.missed_length;
-      few = inv.few;
-      small = inv.small;
-      inside = inv.inside;
-      apart = inv.apart;
-    })
+    rw (e.sizes, e.requests) (IsSoundAgedBySize-nodes g.K.PartialEq.eq summed c.self.invariant)
+
+pub returns-in_default-clause-refused : goal.returns-in_default-clause-refused
+returns-in_default-clause-refused g c =
+    rw (c.make_ready.ensures.sizes, c.make_ready.ensures.requests) c.self.view_is
+
+pub returns-in_default-clause-too_large : goal.returns-in_default-clause-too_large
+returns-in_default-clause-too_large g c = not_too_large (ap (λ v. v.size) c.self.view_is) c.if-weight-self.false
+
+pub invariant_of-self-in_default-see_again : goal.invariant_of-self-in_default-see_again
+invariant_of-self-in_default-see_again g c =
+    let e = c.make_ready.ensures in let ready = c.make_ready.new.self in
+    let summed = subst (λ k. IsSummed c.self.inside.latest.sizes.items ready.nodes.items k) e.requests
+    (subst (λ l. IsSummed l ready.nodes.items ready.requests) e.sizes e.kept) in
+    rw (c.in_default-see_again.ensures.same refl, e.sizes, e.requests) (IsSoundAgedBySize-nodes g.K.PartialEq.eq summed c.self.invariant)
+
+pub returns-in_default-see_again-clause-known : goal.returns-in_default-see_again-clause-known
+returns-in_default-see_again-clause-known g c =
+    rw (← c.self.view_is) (ap is_some c.in_default-see_again.ensures.found)
+
+pub returns-in_default-see_again-clause-not_taken : goal.returns-in_default-see_again-clause-not_taken
+returns-in_default-see_again-clause-not_taken g c none =
+    rw (c.in_default-see_again.ensures.same refl, c.make_ready.ensures.sizes, c.make_ready.ensures.requests) c.self.view_is
+
+pub returns-in_default-see_again-clause-too_large : goal.returns-in_default-see_again-clause-too_large
+returns-in_default-see_again-clause-too_large g c =
+    not_too_large (ap (λ v. v.size) c.self.view_is) c.if-weight-self.false
 
 pub invariant_of-self-2 : goal.invariant_of-self-2
 invariant_of-self-2 g c =
@@ -143,3 +156,12 @@ returns-clause-taken g c w cs idle age past x same before weighs passes some =
     c.is_in_limit-soon.result c.remove-span.result c.is_in_limit-soon.ensures span
     (moved_totals ss left ts pushed p n v c.drop_empty.ensures.totals c.drop_empty.ensures.live removed grown n inv.sound.summed.rising there)
     c.take.ensures.misses c.take.ensures.missed_sizes c.take.ensures.times)
+
+pub returns-clause-known : goal.returns-clause-known
+returns-clause-known g c = rw (← c.self.view_is) (ap is_some c.in-Some.ensures.found)
+
+pub returns-clause-size : goal.returns-clause-size
+returns-clause-size g c taken = omega (arith, ap (λ v. v.size) c.self.view_is)
+
+pub returns-clause-too_large : goal.returns-clause-too_large
+returns-clause-too_large g c = not_too_large (ap (λ v. v.size) c.self.view_is) c.if-weight-self.false

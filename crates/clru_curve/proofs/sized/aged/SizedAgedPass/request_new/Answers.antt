@@ -1,7 +1,7 @@
 use Rattle.std.proofs.Common.{◌≡◌, ◌+◌, false, replicate, [], ◌∷◌, ◌++◌, None, length, get_or, refl, sym, ap, ◌∙◌, subst, arith}
 use Rattle.std.specs.Map.{lookup}
 use Rattle.clru_curve.proofs.LatestSizes.{total_zero, grown_totals, grown_lives, grown_less}
-use Rattle.clru_curve.proofs.SizedAgedPassing.{many_seen, IsSizedAgedPass-new, IsSoundAgedBySize-new}
+use Rattle.clru_curve.proofs.SizedAgedPassing.{many_seen, IsSizedAgedPass-new, IsSoundAgedBySize-new, IsSoundAgedBySize-nodes}
 use Rattle.clru_curve.specs.Fetches.{AreCounted, AreFetched}
 use Rattle.clru_curve.specs.LatestSizes.{IsSummed, sizes_from}
 use Rattle.clru_curve.specs.Rising.{numbered}
@@ -66,6 +66,43 @@ take_new-requires-clause-missed_length g c =
       ap (λ v. length v.items) c.make_ready-2.ensures.missed_sizes,
     )
 
+pub invariant_of-self : goal.invariant_of-self
+invariant_of-self g c =
+    let e = c.make_ready.ensures in let ready = c.make_ready.new.self in
+    let summed = subst (λ k. IsSummed c.self.inside.latest.sizes.items ready.nodes.items k) e.requests
+    (subst (λ l. IsSummed l ready.nodes.items ready.requests) e.sizes e.kept) in
+    rw (e.sizes, e.requests) (IsSoundAgedBySize-nodes g.K.PartialEq.eq summed c.self.invariant)
+
+pub returns-in_default-clause-refused : goal.returns-in_default-clause-refused
+returns-in_default-clause-refused g c =
+    rw (c.make_ready.ensures.sizes, c.make_ready.ensures.requests) c.self.view_is
+
+pub invariant_of-self-in_default-make_ready : goal.invariant_of-self-in_default-make_ready
+invariant_of-self-in_default-make_ready g c =
+    let has = c.make_ready-2.ensures in
+    let e = c.make_ready.ensures in let ready = c.make_ready.new.self in
+    let summed = subst (λ k. IsSummed c.self.inside.latest.sizes.items ready.nodes.items k) e.requests
+    (subst (λ l. IsSummed l ready.nodes.items ready.requests) e.sizes e.kept) in
+    rw (e.sizes, e.requests, has.capacities, has.misses, has.missed_sizes, has.times, has.age) (IsSoundAgedBySize-nodes g.K.PartialEq.eq summed c.self.invariant)
+
+pub returns-in_default-make_ready-clause-refused : goal.returns-in_default-make_ready-clause-refused
+returns-in_default-make_ready-clause-refused g c =
+    let has = c.make_ready-2.ensures in let e = c.make_ready.ensures in
+    rw (e.sizes, e.requests, has.capacities, has.misses, has.missed_sizes, has.times, has.age) c.self.view_is
+
+pub invariant_of-self-in-Err : goal.invariant_of-self-in-Err
+invariant_of-self-in-Err g c =
+    let has = c.make_ready-2.ensures in
+    let e = c.make_ready.ensures in let ready = c.make_ready.new.self in
+    let summed = subst (λ k. IsSummed c.self.inside.latest.sizes.items ready.nodes.items k) e.requests
+    (subst (λ l. IsSummed l ready.nodes.items ready.requests) e.sizes e.kept) in
+    rw (c.in-Err.ensures.refused, e.sizes, e.requests, has.capacities, has.misses, has.missed_sizes, has.times, has.age) (IsSoundAgedBySize-nodes g.K.PartialEq.eq summed c.self.invariant)
+
+pub returns-in-Err-clause-refused : goal.returns-in-Err-clause-refused
+returns-in-Err-clause-refused g c =
+    let has = c.make_ready-2.ensures in let e = c.make_ready.ensures in
+    rw (c.in-Err.ensures.refused, e.sizes, e.requests, has.capacities, has.misses, has.missed_sizes, has.times, has.age) c.self.view_is
+
 pub invariant_of-self-2 : goal.invariant_of-self-2
 invariant_of-self-2 g c =
     let eq = g.K.PartialEq.eq in let laws = g.met.K.Eq.laws in let s = c.self.inside in let inv = c.self.invariant in
@@ -119,3 +156,6 @@ returns-clause-taken g c weight cs idle age past same_weights before weighs =
     c.args.key c.args.time s.latest.nodes.items inv weight cs idle age past is same_weights w weighs
     c.greater-greatest.result c.greater-greatest.ensures ts took.misses.items took.missed_sizes.items took.times.items absent
     (grown_totals ss ts ts n w (λ t. refl) (λ t. refl) grown) misses sizes times)
+
+pub returns-clause-size : goal.returns-clause-size
+returns-clause-size g c = omega (arith, ap (λ v. v.size) c.self.view_is)

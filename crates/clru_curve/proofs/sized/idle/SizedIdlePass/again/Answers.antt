@@ -1,10 +1,11 @@
-use Rattle.std.proofs.Common.{◌≡◌, ◌+◌, cond, nat_le, ◌-◌, suc, [], ◌∷◌, ◌++◌, Some, None, refl, sym, ap, ◌∙◌, subst, arith}
+use Rattle.std.proofs.Common.{◌≡◌, ◌+◌, cond, nat_le, ◌-◌, suc, [], ◌∷◌, ◌++◌, Some, None, is_some, refl, sym, ap, ◌∙◌, subst, arith}
 use Rattle.std.specs.Map.{set_value}
 use Rattle.clru_curve.specs.KeyTables.{keyed}
 use Rattle.clru_model.proofs.Forms.{form_is}
 use Rattle.clru_curve.proofs.Forms.{key_at, found_as}
 use Rattle.clru_curve.proofs.IdlePassing.{position_found}
 use Rattle.clru_curve.proofs.LatestSizes.{total_zero, removed_less, moved_lives, moved_totals, moved_less}
+use Rattle.clru_curve.proofs.SizedPassing.{IsSoundBySize-nodes, not_too_large}
 use Rattle.clru_curve.proofs.SizedIdlePassing.{IsSizedIdlePass-again, IsSoundIdleBySize-again, span_some, size_there}
 use Rattle.clru_curve.specs.LatestSizes.{sizes_from, total_from, live_from, IsRemoved, IsSummed}
 use Rattle.clru_curve.specs.Rising.{numbered}
@@ -48,6 +49,57 @@ drop_empty-requires-clause-fits g c =
     let removed = subst (λ l. IsRemoved l p left) c.make_ready.ensures.sizes c.remove-span.ensures.removed in
     let less = moved_less ss left pushed pushed p c.remove-span.new.self.requests c.args.weight (λ t. refl) (λ t. refl) removed c.push.ensures.sizes in
     omega (arith, less, total_zero pushed, inv.held, c.if-weight-self.false)
+
+pub returns-then-weight-self-clause-too_large : goal.returns-then-weight-self-clause-too_large
+returns-then-weight-self-clause-too_large g c =
+    (λ _. omega (arith, c.if-weight-self.true, ap (λ v. v.size) c.self.view_is), λ _. tt)
+
+pub invariant_of-self : goal.invariant_of-self
+invariant_of-self g c =
+    let e = c.make_ready.ensures in let ready = c.make_ready.new.self in
+    let summed = subst (λ k. IsSummed c.self.inside.latest.sizes.items ready.nodes.items k) e.requests
+    (subst (λ l. IsSummed l ready.nodes.items ready.requests) e.sizes e.kept) in
+    rw (e.sizes, e.requests) (IsSoundBySize-nodes g.K.PartialEq.eq summed c.self.invariant)
+
+pub returns-in_default-clause-refused : goal.returns-in_default-clause-refused
+returns-in_default-clause-refused g c =
+    rw (c.make_ready.ensures.sizes, c.make_ready.ensures.requests) c.self.view_is
+
+pub returns-in_default-clause-too_large : goal.returns-in_default-clause-too_large
+returns-in_default-clause-too_large g c = not_too_large (ap (λ v. v.size) c.self.view_is) c.if-weight-self.false
+
+pub invariant_of-self-in_default-reserve : goal.invariant_of-self-in_default-reserve
+invariant_of-self-in_default-reserve g c =
+    let e = c.make_ready.ensures in let ready = c.make_ready.new.self in
+    let summed = subst (λ k. IsSummed c.self.inside.latest.sizes.items ready.nodes.items k) e.requests
+    (subst (λ l. IsSummed l ready.nodes.items ready.requests) e.sizes e.kept) in
+    rw (e.sizes, e.requests, c.reserve.ensures.items) (IsSoundBySize-nodes g.K.PartialEq.eq summed c.self.invariant)
+
+pub returns-in_default-reserve-clause-refused : goal.returns-in_default-reserve-clause-refused
+returns-in_default-reserve-clause-refused g c =
+    rw (c.make_ready.ensures.sizes, c.make_ready.ensures.requests, c.reserve.ensures.items) c.self.view_is
+
+pub returns-in_default-reserve-clause-too_large : goal.returns-in_default-reserve-clause-too_large
+returns-in_default-reserve-clause-too_large g c =
+    not_too_large (ap (λ v. v.size) c.self.view_is) c.if-weight-self.false
+
+pub invariant_of-self-in_default-replace : goal.invariant_of-self-in_default-replace
+invariant_of-self-in_default-replace g c =
+    let e = c.make_ready.ensures in let ready = c.make_ready.new.self in
+    let summed = subst (λ k. IsSummed c.self.inside.latest.sizes.items ready.nodes.items k) e.requests
+    (subst (λ l. IsSummed l ready.nodes.items ready.requests) e.sizes e.kept) in
+    rw (c.in_default-replace.ensures.same refl, e.sizes, e.requests, c.reserve.ensures.items) (IsSoundBySize-nodes g.K.PartialEq.eq summed c.self.invariant)
+
+pub returns-in_default-replace-clause-known : goal.returns-in_default-replace-clause-known
+returns-in_default-replace-clause-known g c = rw (← c.self.view_is) (ap is_some c.in_default-replace.ensures.found)
+
+pub returns-in_default-replace-clause-not_taken : goal.returns-in_default-replace-clause-not_taken
+returns-in_default-replace-clause-not_taken g c none =
+    rw (c.in_default-replace.ensures.same refl, c.make_ready.ensures.sizes, c.make_ready.ensures.requests, c.reserve.ensures.items) c.self.view_is
+
+pub returns-in_default-replace-clause-too_large : goal.returns-in_default-replace-clause-too_large
+returns-in_default-replace-clause-too_large g c =
+    not_too_large (ap (λ v. v.size) c.self.view_is) c.if-weight-self.false
 
 pub invariant_of-self-2 : goal.invariant_of-self-2
 invariant_of-self-2 g c =
@@ -106,3 +158,12 @@ returns-clause-taken g c w idle past x same before weighs passes some =
     (IsSizedIdlePass-again eq laws s.seen.entries ss n s.hits.items s.size s.greatest s.limit x c.args.time w idle past is same v weighs
     c.greater-greatest.result c.greater-greatest.ensures ts b found
     (moved_totals ss left ts pushed p n v c.drop_empty.ensures.totals c.drop_empty.ensures.live removed grown n inv.summed.rising there))
+
+pub returns-clause-known : goal.returns-clause-known
+returns-clause-known g c = rw (← c.self.view_is) (ap is_some c.in-Some.ensures.found)
+
+pub returns-clause-size : goal.returns-clause-size
+returns-clause-size g c taken = omega (arith, ap (λ v. v.size) c.self.view_is)
+
+pub returns-clause-too_large : goal.returns-clause-too_large
+returns-clause-too_large g c = not_too_large (ap (λ v. v.size) c.self.view_is) c.if-weight-self.false

@@ -1,4 +1,4 @@
-use Rattle.std.proofs.Common.{◌≡◌, false, is_some, refl, sym, ap, ◌∙◌, subst}
+use Rattle.std.proofs.Common.{◌≡◌, false, is_some, refl, sym, ap, ◌∙◌, subst, arith}
 use Rattle.std.specs.Map.{keys_of}
 use Rattle.clru_model.specs.Requests.{holds}
 use Rattle.clru_model.specs.Sizes.{span}
@@ -26,3 +26,27 @@ pub returns-in-Ok-clause-taken : goal.returns-in-Ok-clause-taken
 returns-in-Ok-clause-taken g c w idle past same before weighs =
     c.in-Ok.ensures.taken w idle past same
     (subst (λ v. IsSizedIdlePass g.K.PartialEq.eq w idle past v) (sym (c.in-Ok-None.ensures.not_taken (ap is_some c.in-Ok-None.field-0-is))) before) weighs
+
+pub request_new-requires-clause-fits : goal.request_new-requires-clause-fits
+request_new-requires-clause-fits g c =
+    omega (arith, c.in-Ok-None.ensures.too_large.1, ap (λ v. v.size) (c.in-Ok-None.ensures.not_taken (ap is_some c.in-Ok-None.field-0-is)))
+
+pub returns-in-Ok-Some-clause-size : goal.returns-in-Ok-Some-clause-size
+returns-in-Ok-Some-clause-size g c = c.in-Ok-Some.ensures.size (ap is_some c.in-Ok-Some.field-0-is)
+
+pub returns-in-Ok-Some-clause-too_large : goal.returns-in-Ok-Some-clause-too_large
+returns-in-Ok-Some-clause-too_large g c = c.in-Ok-Some.ensures.too_large
+
+pub returns-in-Ok-clause-size : goal.returns-in-Ok-clause-size
+returns-in-Ok-clause-size g c =
+    omega (arith, c.in-Ok.ensures.size, ap (λ v. v.size) (c.in-Ok-None.ensures.not_taken (ap is_some c.in-Ok-None.field-0-is)))
+
+pub returns-in-Ok-clause-too_large : goal.returns-in-Ok-clause-too_large
+returns-in-Ok-clause-too_large g c = c.in-Ok-None.ensures.too_large
+
+pub returns-in-Err-clause-refused : goal.returns-in-Err-clause-refused
+returns-in-Err-clause-refused g c =
+    c.in-Err.ensures.refused ∙ (c.in-Ok-None.ensures.not_taken (ap is_some c.in-Ok-None.field-0-is))
+
+pub returns-in-Err-clause-too_large : goal.returns-in-Err-clause-too_large
+returns-in-Err-clause-too_large g c = c.in-Ok-None.ensures.too_large

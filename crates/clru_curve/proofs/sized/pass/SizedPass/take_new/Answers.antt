@@ -1,7 +1,7 @@
 use Rattle.std.proofs.Common.{◌≡◌, ◌+◌, [], ◌∷◌, ◌++◌, None, refl, sym, ap, ◌∙◌, subst, arith}
 use Rattle.std.specs.Map.{lookup}
 use Rattle.clru_curve.proofs.LatestSizes.{total_zero, grown_totals, grown_lives, grown_less}
-use Rattle.clru_curve.proofs.SizedPassing.{IsSizedPass-new, IsSoundBySize-new}
+use Rattle.clru_curve.proofs.SizedPassing.{IsSizedPass-new, IsSoundBySize-new, IsSoundBySize-nodes}
 use Rattle.clru_curve.specs.LatestSizes.{IsSummed, sizes_from}
 use Rattle.clru_curve.specs.Rising.{numbered}
 use Rattle.clru_curve.specs.SizedPasses.{IsSizedPass}
@@ -15,6 +15,28 @@ push-requires-clause-fits g c =
 pub push-requires-clause-countable : goal.push-requires-clause-countable
 push-requires-clause-countable g c =
     omega (arith, c.make_ready.ensures.requests, c.self.invariant.many, c.requires.fits, ap (λ v. v.size) c.self.view_is)
+
+pub invariant_of-self : goal.invariant_of-self
+invariant_of-self g c =
+    let e = c.make_ready.ensures in let ready = c.make_ready.new.self in
+    let summed = subst (λ k. IsSummed c.self.inside.latest.sizes.items ready.nodes.items k) e.requests
+    (subst (λ l. IsSummed l ready.nodes.items ready.requests) e.sizes e.kept) in
+    rw (e.sizes, e.requests) (IsSoundBySize-nodes g.K.PartialEq.eq summed c.self.invariant)
+
+pub returns-in_default-clause-refused : goal.returns-in_default-clause-refused
+returns-in_default-clause-refused g c =
+    rw (c.make_ready.ensures.sizes, c.make_ready.ensures.requests) c.self.view_is
+
+pub invariant_of-self-in-Err : goal.invariant_of-self-in-Err
+invariant_of-self-in-Err g c =
+    let e = c.make_ready.ensures in let ready = c.make_ready.new.self in
+    let summed = subst (λ k. IsSummed c.self.inside.latest.sizes.items ready.nodes.items k) e.requests
+    (subst (λ l. IsSummed l ready.nodes.items ready.requests) e.sizes e.kept) in
+    rw (c.in-Err.ensures.refused, e.sizes, e.requests) (IsSoundBySize-nodes g.K.PartialEq.eq summed c.self.invariant)
+
+pub returns-in-Err-clause-refused : goal.returns-in-Err-clause-refused
+returns-in-Err-clause-refused g c =
+    rw (c.in-Err.ensures.refused, c.make_ready.ensures.sizes, c.make_ready.ensures.requests) c.self.view_is
 
 pub invariant_of-self-2 : goal.invariant_of-self-2
 invariant_of-self-2 g c =
@@ -47,3 +69,6 @@ returns-clause-taken g c weight past same_weights before weighs =
     (IsSizedPass-new eq laws s.positions.entries ss n s.hits.items s.size s.greatest c.args.key weight past is same_weights w weighs
     c.greater-greatest.result c.greater-greatest.ensures ts absent
     (grown_totals ss ts ts n w (λ t. refl) (λ t. refl) grown))
+
+pub returns-clause-size : goal.returns-clause-size
+returns-clause-size g c = omega (arith, ap (λ v. v.size) c.self.view_is)

@@ -1,0 +1,13 @@
+use Rattle.std.proofs.Common.{[]}
+use Rattle.clru_curve.proofs.PositionPassing.{none_taken}
+use Rattle.clru_curve.proofs.position.PositionPass.new.Goals as goal
+
+pub invariant_of-result : goal.invariant_of-result
+invariant_of-result g c = record {
+  latest = c.new.ensures.kept;
+  past = [];
+  taken = rw (c.new.ensures.blocks, c.new.ensures.requests, c.new-2.ensures.items) (none_taken g.K.PartialEq.eq);
+}
+
+pub returns : goal.returns
+returns g c = rw (c.new.ensures.blocks, c.new.ensures.requests, c.new-2.ensures.items) (none_taken g.K.PartialEq.eq)

@@ -1,0 +1,39 @@
+-- What a pass that holds no key has taken, request by request. Public clauses cite it.
+use Rattle.std.specs.Prelude.{◌≡◌, ℕ, ◌+◌, Bool, List, length, Option, is_some, IfSome, refl, ⊤}
+use Rattle.std.specs.Coded.{Coded, code_by, coded×, coded_list, coded_ℕ}
+use Rattle.clru_model.specs.Requests.{holds, since}
+use Rattle.clru_curve.specs.declared.numbered.Numbered.{Numbered}
+use Rattle.clru_curve.specs.Latest.{IsLatest}
+use Rattle.clru_curve.specs.Passes.{IsPass, pass}
+use Rattle.clru_curve.specs.Rising.{numbered_code}
+
+-- blocks of bits for the latest requests of keys, how many requests there were, and how many at each distance
+pub record Counted : Type 0 where
+  pub blocks : List Numbered
+  pub requests : ℕ
+  pub histogram : List ℕ
+
+abbrev pub counted : List Numbered → ℕ → List ℕ → Counted
+counted bs n h = record { blocks = bs; requests = n; histogram = h }
+
+abbrev pub counted_code : Coded Counted
+counted_code =
+    code_by (List Numbered × (ℕ × List ℕ)) (coded× (coded_list numbered_code) (coded× coded_ℕ (coded_list coded_ℕ)))
+    (λ c. (c.blocks, (c.requests, c.histogram))) (λ t. counted t.0 t.1.0 t.1.1) (λ _. refl)
+
+module _ {K : Type 0} (eq : K → K → Bool) where
+  -- the position of the latest request of the key among those of the past, the latest first, or none
+  pub record IsLatestOf (past : List K) (key : K) (latest : Option ℕ) : Type 0 where
+    pub known : is_some latest ≡ holds eq key past
+    pub position : IfSome latest (λ p. p + 1 + length (since eq key past) ≡ length past)
+
+  -- a pass that has taken these requests, the latest first: with the positions of their keys it is one that holds keys
+  pub record IsPositionPass (past : List K) (c : Counted) : Type 0 where
+    pub positions : List (K × ℕ)
+    pub taken : IsPass eq {S = ⊤} past (pass positions c.blocks c.requests c.histogram tt)
+
+  -- what holds of every pass: it has taken some requests
+  pub record IsSoundCounted (nodes : List ℕ) (c : Counted) : Type 0 where
+    pub latest : IsLatest c.blocks nodes c.requests
+    pub past : List K
+    pub taken : IsPositionPass past c

@@ -1,0 +1,33 @@
+use Rattle.std.proofs.Common.{◌≡◌, nat_le, [], map, ap, sym, subst, ◌∙◌, rules}
+use Rattle.std.specs.Int.NonZero.{non_zero_usize_get}
+use Rattle.std.specs.List.{filter}
+use Rattle.std.proofs.lemmas.Fn.{filter_same}
+use Rattle.clru_report.specs.Choices.{named_in}
+use Rattle.clru_report.specs.Samples.{sized_numbers_of, sized_numbers_times}
+use Rattle.clru_report.specs.SizedTables.{capacity_of_sized_row, sized_table_text}
+use Rattle.clru_report.specs.SizedTimed.{ArePlainSizedRows}
+use Rattle.clru_report.proofs.ReportLemmas.{ok_map}
+use Rattle.clru_report.proofs.SizedTimedForms.{plain_sized_from}
+use Rattle.clru_report.proofs.timed.sized_aged.table_of_sizes.Goals as goal
+
+pub returns : goal.returns
+returns g c m s are missed =
+    let options = c.args.options.now in let t = c.args.totals in let n = non_zero_usize_get t.one_in in let first = c.args.first in
+    let rows = c.in_ok-rows.rows.items in let items = c.retain.new.self.items in let named = c.named_in.ensures in
+    let kept : items ≡ filter (λ row. nat_le first (capacity_of_sized_row row)) rows =
+    filter_same _ (λ row. nat_le first (capacity_of_sized_row row)) _ (λ x b f' k. search rules) _ _ c.retain.ensures.filtered in
+    let all = subst (λ cs. ArePlainSizedRows m s cs rows) named
+    (c.in_ok-rows.ensures m s (are ∙ ap (map m) (sym named)) (missed ∙ ap (map s) (sym named))) in
+    let plain = subst (ArePlainSizedRows m s (filter (λ k. nat_le first k) (named_in options.capacities))) (sym kept)
+    (plain_sized_from m s first (named_in options.capacities) rows all) in
+    let told = c.in_ok-shown.ensures ∙ ap (map (sized_numbers_times n t.requests t.size)) c.deref.ensures.value in
+    let shown = subst (λ rs. map sized_numbers_of rs ≡ map (sized_numbers_times n t.requests t.size) items) (sym c.deref-2.ensures.value) told in
+    ok_map c.sized_table_of.result
+    (λ text e. (
+      items,
+      c.deref-2.result.now,
+      plain,
+      shown,
+      e ∙ ap (λ json. sized_table_text json options.floor t.requests t.size [] c.deref-2.result.now) c.is_json-json.ensures,
+    ))
+    c.sized_table_of.ensures

@@ -1,0 +1,145 @@
+//! The table by size under an age limit: it has a row for each capacity that is named.
+ghost use Rattle.std.specs.Prelude.{◌≡◌, ◌+◌, ℕ, List, Option, Some, IfErr, IfOk, true, false, map, string_bytes};
+ghost use Rattle.std.specs.Int.NonZero.{non_zero_usize_get};
+ghost use Rattle.std.specs.Map.{keys_of};
+ghost use Rattle.clru_curve.specs.SizedAgedPasses.{IsSizedAgedPass};
+ghost use Rattle.clru_curve.specs.SizedCurves.{greatest_of};
+ghost use Rattle.clru_lines.specs.Lines.{lines_of};
+ghost use Rattle.clru_lines.specs.Whole.{ReadWhole};
+ghost use Rattle.clru_lines.specs.declared.lines.OwnedKey.{OwnedKey};
+ghost use Rattle.clru_report.specs.Choices.{is_summary, named_in as named_by};
+ghost use Rattle.clru_report.specs.Faults.{is_of_writing};
+ghost use Rattle.clru_report.specs.Passes.{same_line, weight_of_key};
+ghost use Rattle.clru_report.specs.Refusals.{IsRefusedBy, is_of_input};
+ghost use Rattle.clru_report.specs.SizedTimed.{ArePlainSizedRows, IsSizedTableAt, IsTimedReportBySizeIn};
+ghost use Rattle.clru_report.specs.Times.{rests_of};
+
+use super::aged::{aged_pass_of, is_json, named_in, number_at};
+use super::by_size::{names_too_small, size_of_all};
+use super::lines::{SizedTimedLines, TimedLines};
+use super::{all_of, kept_in, part_in};
+use crate::options::{Options, Times};
+use crate::reading::read_lines;
+use crate::sized::{SizedRow, Totals, sized_rows_times, sized_table_of};
+use clru_curve::SizedAgedPass;
+use clru_lines::{Fault, OwnedKey};
+use std::alloc::{AllocError, Allocator};
+use std::hash::BuildHasher;
+use std::io::Read;
+use std::num::NonZeroUsize;
+
+/// Returns the report of all that a reader gives, by size, under this age limit.
+pub(super) fn sized_aged_report<R: Read, S: BuildHasher + Drop, A: Allocator + Copy>(
+    alloc: A,
+    options: &Options<A>,
+    limits: Times,
+    age: usize,
+    reader: &mut R,
+    hash_builder: S,
+) -> Result<String<A>, Fault>
+    requires { is_summary options.now.form ≡ false }
+    ensures report { IfOk result (λ text. ReadWhole (R.remaining reader.old) (R.remaining reader.new)
+        (λ input. IsTimedReportBySizeIn (Some age) limits options.now (lines_of input) (string_bytes text))) }
+    ensures refused { IfErr result (λ fault. is_of_input fault ≡ true → ReadWhole (R.remaining reader.old) (R.remaining reader.new)
+        (λ input. IsRefusedBy options.now.sample fault options.now (rests_of (lines_of input)))) }
+    ensures fault { IfErr result (λ fault. is_of_writing fault ≡ false) }
+{
+    let Ok(pass) = aged_pass_of(alloc, options, limits, age, hash_builder) else {
+        return Err(Fault::Memory);
+    };
+    let mut sized = SizedTimedLines {
+        lines: TimedLines {
+            alloc,
+            one_in: kept_in(options.sample),
+            pass,
+            key: OwnedKey(Vec::new(alloc)),
+        },
+        size: 0,
+        distinct: 0,
+    };
+    let (read, _) = read_lines(alloc, reader, &mut sized)?;
+    let pass = &sized.lines.pass;
+    let first = first_of(pass);
+    if names_too_small(options, first) {
+        return Err(Fault::TooSmall(first));
+    }
+    let totals = Totals {
+        one_in: part_in(options.sample),
+        requests: all_of(options.sample, read),
+        size: size_of_all(options.sample, sized.size),
+    };
+    match table_of_sizes(
+        alloc,
+        options,
+        pass.misses(),
+        pass.missed_sizes(),
+        first,
+        totals,
+    ) {
+        Ok(text) => Ok(text),
+        Err(_) => Err(Fault::Memory),
+    }
+}
+
+// The greatest size of a request, or 1 without requests.
+fn first_of<S: BuildHasher, A: Allocator + Copy>(pass: &SizedAgedPass<OwnedKey<A>, S, A>) -> usize
+    ensures { (capacities : List ℕ) (idle : Option ℕ) (age : ℕ) (past : List (OwnedKey A × ℕ))
+        → IsSizedAgedPass same_line weight_of_key capacities idle age past pass.now
+        → result ≡ 1 + greatest_of weight_of_key (keys_of past) }
+{
+    // The contract of `size` bounds each weight.
+    let _size = pass.size();
+    pass.greatest_weight().saturating_add(1)
+}
+
+// The table of what kept requests miss at those of the named capacities that are at least the first.
+fn table_of_sizes<A: Allocator + Copy>(
+    alloc: A,
+    options: &Options<A>,
+    misses: &[usize],
+    missed: &[usize],
+    first: usize,
+    totals: Totals,
+) -> Result<String<A>, AllocError>
+    ensures { (m s : ℕ → ℕ) → misses.now ≡ map m (named_by options.now.capacities)
+        → missed.now ≡ map s (named_by options.now.capacities)
+        → IfOk result (λ text. IsSizedTableAt options.now m s first (non_zero_usize_get totals.one_in) totals.requests totals.size
+        (string_bytes text)) }
+{
+    let mut rows = sized_rows_of(alloc, named_in(&options.capacities), misses, missed)?;
+    rows.retain(|row| row.capacity.get() >= first);
+    let shown = sized_rows_times(alloc, &rows, totals)?;
+    let json = is_json(options.form);
+    sized_table_of(
+        alloc,
+        &shown,
+        &[],
+        totals.requests,
+        totals.size,
+        options.floor,
+        json,
+    )
+}
+
+// A row for each capacity, with the numbers of the same place.
+fn sized_rows_of<A: Allocator>(
+    alloc: A,
+    capacities: &[NonZeroUsize],
+    misses: &[usize],
+    missed: &[usize],
+) -> Result<Vec<SizedRow, A>, AllocError>
+    ensures { (m s : ℕ → ℕ) → misses.now ≡ map m (map non_zero_usize_get capacities.now)
+        → missed.now ≡ map s (map non_zero_usize_get capacities.now)
+        → IfOk result (λ rows. ArePlainSizedRows m s (map non_zero_usize_get capacities.now) rows.items) }
+{
+    let mut rows = Vec::new(alloc);
+    for (index, capacity) in capacities.iter().enumerate() {
+        rows.push(SizedRow {
+            capacity: *capacity,
+            misses: number_at(misses, index),
+            missed_size: number_at(missed, index),
+            floor: None,
+        })?;
+    }
+    Ok(rows)
+}

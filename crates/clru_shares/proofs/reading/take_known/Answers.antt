@@ -1,0 +1,69 @@
+use Rattle.std.proofs.Common.{length, map, sym, ap, ◌∙◌, subst, arith}
+use Rattle.std.proofs.lemmas.List.{length-map}
+use Rattle.clru_report.specs.Passes.{line_of}
+use Rattle.clru_report.proofs.ReportLemmas.{ok_map}
+use Rattle.clru_shares.specs.Classes.{AreAscending, class_in, requests_of}
+use Rattle.clru_shares.specs.Passes.{HaveTaken, IsPlaceOf, name_of}
+use Rattle.clru_shares.specs.Places.{IsLatestBy}
+use Rattle.clru_shares.proofs.ClassLemmas.{place_of_each}
+use Rattle.clru_shares.proofs.reading.take_known.Goals as goal
+
+pub place_of-place-requires : goal.place_of-place-requires
+place_of-place-requires g c = subst (λ cs. AreAscending (map name_of cs)) (sym c.deref.ensures.value) c.requires.taken.2.classes.ascending
+
+pub kept_at-own-requires : goal.kept_at-own-requires
+kept_at-own-requires g c =
+    ok_map c.place_of-place.result (λ at held. omega (arith, held.within, length-map c.deref.result.now name_of, c.deref.ensures.len, c.deref-2.ensures.len))
+    c.place_of-place.ensures.held
+
+pub take_classed-requires-clause-place : goal.take_classed-requires-clause-place
+take_classed-requires-clause-place g c =
+    subst (λ cs. IsPlaceOf (map name_of cs) c.args.name.now c.place_of-place.result) c.deref.ensures.value
+    (place_of_each (map name_of c.deref.result.now) c.args.name.now c.place_of-place.result c.place_of-place.ensures.held c.place_of-place.ensures.missing)
+
+pub take_classed-requires-clause-taken : goal.take_classed-requires-clause-taken
+take_classed-requires-clause-taken g c =
+    let kept = c.requires.taken.1 in let taken = c.requires.taken.2 in let line = line_of c.args.key.now in (
+      c.requires.taken.0,
+      kept,
+      taken.classes,
+      λ is. subst (λ n. IsLatestBy c.args.sizes (requests_of n kept) line c.own_of.result) (sym c.requires.name)
+          (subst (IsLatestBy c.args.sizes (requests_of (class_in line) kept) line) (sym c.own_of.ensures)
+          (c.in_ok-places.ensures.latest kept taken.latest is).own),
+    )
+
+pub take_kept-requires : goal.take_kept-requires
+take_kept-requires g c =
+    let kept = c.requires.taken.1 in let taken = c.requires.taken.2 in (
+      c.args.sizes,
+      kept,
+      taken.all,
+      c.requires.size,
+      λ is. subst (IsLatestBy c.args.sizes kept (line_of c.args.key.now)) (sym c.all_of.ensures)
+          (c.in_ok-places.ensures.latest kept taken.latest is).all,
+    )
+
+pub returns-in_ok-take_kept-clause-classes : goal.returns-in_ok-take_kept-clause-classes
+returns-in_ok-take_kept-clause-classes g c lines kept taken room =
+    let line = line_of c.args.key.now in
+    c.in_ok-has_room.ensures.taken lines kept taken.classes c.requires.name
+    (λ is. subst (λ n. IsLatestBy c.args.sizes (requests_of n kept) line c.own_of.result) (sym c.requires.name)
+    (subst (IsLatestBy c.args.sizes (requests_of (class_in line) kept) line) (sym c.own_of.ensures)
+    (c.in_ok-places.ensures.latest kept taken.latest is).own))
+    room
+
+pub returns-in_ok-take_kept-clause-all : goal.returns-in_ok-take_kept-clause-all
+returns-in_ok-take_kept-clause-all g c lines kept taken room =
+    c.in_ok-take_kept.ensures c.args.sizes kept taken.all c.requires.size
+    (λ is. subst (IsLatestBy c.args.sizes kept (line_of c.args.key.now)) (sym c.all_of.ensures)
+    (c.in_ok-places.ensures.latest kept taken.latest is).all)
+
+pub returns-in_ok-take_kept-clause-latest : goal.returns-in_ok-take_kept-clause-latest
+returns-in_ok-take_kept-clause-latest g c lines kept taken room =
+    let classes = c.args.passes.now.classes.items in
+    let place = place_of_each (map name_of c.deref.result.now) c.args.name.now c.place_of-place.result c.place_of-place.ensures.held
+    c.place_of-place.ensures.missing in
+    let own = c.kept_at-own.ensures c.args.sizes lines kept c.args.name.now
+    (subst (HaveTaken c.args.sizes lines kept) (sym c.deref-2.ensures.value) taken.classes)
+    (subst (λ cs. IsPlaceOf (map name_of cs) c.args.name.now c.place_of-place.result) (c.deref.ensures.value ∙ sym c.deref-2.ensures.value) place) in
+    c.in_ok-places.ensures.noted kept taken.latest taken.numbered (own ∙ ap (λ n. length (requests_of n kept)) c.requires.name)

@@ -1,0 +1,112 @@
+//! Where the latest request of each line was.
+ghost use Rattle.std.specs.Prelude.{◌≡◌, ◌+◌, ◌^◌, ◌<◌, ℕ, Bool, List, [], ◌∷◌, ◌++◌, length, true, false, OnOk, IfOk};
+ghost use Rattle.clru_report.specs.Passes.{line_of};
+ghost use Rattle.clru_shares.specs.Classes.{class_in, requests_of};
+ghost use Rattle.clru_shares.specs.Passes.{next_kept};
+ghost use Rattle.clru_shares.specs.Places.{AreLatestBy, IsNoted, IsNotedBy, all_of as all_of_by, own_of as own_of_by};
+
+use clru_curve::KeyTable;
+use clru_lines::OwnedKey;
+use std::alloc::{AllocError, Allocator};
+use std::hash::BuildHasher;
+
+/// The position of a request among those of its class, and among all.
+#[derive(Clone, Copy)]
+pub(crate) struct Places {
+    pub(crate) own: usize,
+    pub(crate) all: usize,
+}
+
+/// If the line is kept, returns where its latest request was, and notes that it is requested here. By size nothing is noted, since each
+/// pass knows that itself.
+pub(crate) fn note_kept<S: BuildHasher + Copy, A: Allocator + Copy>(
+    alloc: A,
+    sizes: bool,
+    is_kept: bool,
+    latest: &mut KeyTable<OwnedKey<A>, Places, S, A>,
+    key: &OwnedKey<A>,
+    here: Places,
+) -> Result<Option<Places>, AllocError>
+    requires countable { here.all + 1 < 2 ^ 64 }
+    requires noted { (kept : List (List ℕ)) × IsNotedBy sizes kept latest.old × (here.all ≡ length kept) }
+    ensures latest { (kept : List (List ℕ)) → IsNotedBy sizes kept latest.old
+        → IfOk result (λ places. is_kept ≡ true → AreLatestBy sizes kept (line_of key.now) places) }
+    ensures noted { (kept : List (List ℕ)) → IsNotedBy sizes kept latest.old → here.all ≡ length kept
+        → here.own ≡ length (requests_of (class_in (line_of key.now)) kept)
+        → OnOk result (IsNotedBy sizes (next_kept is_kept kept (line_of key.now)) latest.new) }
+{
+    if is_kept {
+        note(alloc, sizes, latest, key, here)
+    } else {
+        Ok(None)
+    }
+}
+
+// Notes a line.
+fn note<S: BuildHasher + Copy, A: Allocator + Copy>(
+    alloc: A,
+    sizes: bool,
+    latest: &mut KeyTable<OwnedKey<A>, Places, S, A>,
+    key: &OwnedKey<A>,
+    here: Places,
+) -> Result<Option<Places>, AllocError>
+    requires countable { here.all + 1 < 2 ^ 64 }
+    requires noted { (lines : List (List ℕ)) × IsNotedBy sizes lines latest.old × (here.all ≡ length lines) }
+    ensures latest { (lines : List (List ℕ)) → IsNotedBy sizes lines latest.old
+        → IfOk result (AreLatestBy sizes lines (line_of key.now)) }
+    ensures noted { (lines : List (List ℕ)) → IsNotedBy sizes lines latest.old → here.all ≡ length lines
+        → here.own ≡ length (requests_of (class_in (line_of key.now)) lines)
+        → OnOk result (IsNotedBy sizes (lines ++ line_of key.now ∷ []) latest.new) }
+{
+    if sizes {
+        return Ok(None);
+    }
+    note_line(alloc, latest, key, here)
+}
+
+// By keys. The line is copied where it is new.
+fn note_line<S: BuildHasher + Copy, A: Allocator + Copy>(
+    alloc: A,
+    latest: &mut KeyTable<OwnedKey<A>, Places, S, A>,
+    key: &OwnedKey<A>,
+    here: Places,
+) -> Result<Option<Places>, AllocError>
+    requires countable { here.all + 1 < 2 ^ 64 }
+    requires noted { (lines : List (List ℕ)) × IsNoted lines latest.old × (here.all ≡ length lines) }
+    ensures latest { (lines : List (List ℕ)) → IsNoted lines latest.old → IfOk result (AreLatestBy false lines (line_of key.now)) }
+    ensures noted { (lines : List (List ℕ)) → IsNoted lines latest.old → here.all ≡ length lines
+        → here.own ≡ length (requests_of (class_in (line_of key.now)) lines)
+        → OnOk result (IsNoted (lines ++ line_of key.now ∷ []) latest.new) }
+{
+    let hash = latest.hash(key);
+    match latest.replace(hash, key, here) {
+        Some(before) => Ok(Some(before)),
+        None => {
+            let bytes = Vec::from_slice(alloc, &key.0)?;
+            match latest.insert(hash, OwnedKey(bytes), here) {
+                Ok(()) => Ok(None),
+                Err(_) => Err(AllocError),
+            }
+        }
+    }
+}
+
+/// Returns the position among the requests of the class.
+pub(crate) fn own_of(places: Option<Places>) -> Option<usize>
+    ensures { result ≡ own_of_by places }
+{
+    match places {
+        Some(places) => Some(places.own),
+        None => None,
+    }
+}
+
+/// Returns the position among all requests.
+pub(crate) fn all_of(places: Option<Places>) -> Option<usize>
+    ensures { result ≡ all_of_by places }
+{
+    match places {
+        Some(places) => Some(places.all),
+        None => None,
+    }
+}

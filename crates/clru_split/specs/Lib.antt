@@ -1,4 +1,0 @@
-pub mod Apart
-pub mod Classes
-pub mod Rows
-pub mod Splits

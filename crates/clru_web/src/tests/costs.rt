@@ -1,0 +1,114 @@
+//! How often a report hashes a line and asks for memory, in each form.
+use crate::tests::fakes::{Counting, plain};
+use clru_report::{Capacities, Form, NonZeroUsize, Options, Sample, run};
+use ration::{Rationed, equal};
+use std::alloc::{AllocError, Global};
+use std::cell::Cell;
+use std::test::Fail;
+
+/// How many lines of a thousand are new.
+const KEYS: usize = 10;
+
+// Of a form, whether by size, and whether with the least, or by size the floors: its requests for memory, and their bytes.
+static REQUESTS: &[(Form, bool, bool, u64, u64)] = &[
+    (Form::Table, false, false, 36, 69278),
+    (Form::Table, true, false, 48, 106174),
+    (Form::Table, true, true, 60, 186414),
+    (Form::Table, false, true, 52, 78710),
+    (Form::Json, false, false, 37, 69790),
+    (Form::Json, true, true, 61, 187438),
+    (Form::Picture, false, false, 47, 88166),
+    (Form::Picture, true, false, 68, 174697),
+    (Form::Picture, true, true, 85, 259372),
+    (Form::Picture, false, true, 65, 98930),
+    (Form::Summary, false, false, 31, 68871),
+    (Form::Summary, true, false, 39, 104630),
+    (Form::Summary, true, true, 39, 104630),
+    (Form::Summary, false, true, 31, 68871),
+];
+
+// The same of a sample, which keeps half of the keys: whether by size, its hashes too.
+static OF_SAMPLES: &[(Form, bool, u64, u64, u64)] = &[
+    (Form::Table, false, 504, 29, 68871),
+    (Form::Table, true, 504, 40, 88999),
+    (Form::Picture, false, 504, 40, 87477),
+    (Form::Picture, true, 504, 59, 132897),
+    (Form::Summary, false, 504, 19, 67984),
+    (Form::Summary, true, 504, 33, 88231),
+];
+
+/// A thousand lines of ten keys, each with the size 7.
+fn thousand(alloc: Global) -> Result<Vec<u8>, AllocError> {
+    let mut input = Vec::new(alloc);
+    for line in 0..1_000 {
+        input.extend_from_slice(b"7 ")?;
+        input.push(b'a' + (line % KEYS) as u8)?;
+        input.push(b'\n')?;
+    }
+    Ok(input)
+}
+
+/// The hashes, the requests for memory and their bytes of a report.
+fn costs_of(
+    alloc: Global,
+    input: &[u8],
+    form: Form,
+    flags: (bool, bool),
+    sample: Sample,
+) -> Result<(u64, u64, u64), Fail> {
+    let count = Cell::new(0);
+    let heap = Rationed::new(alloc);
+    // Only a whole log by keys can have the least.
+    let least = match sample {
+        Sample::Whole => flags.1 && !flags.0,
+        _ => false,
+    };
+    let floor = flags.0 && flags.1;
+    let options = Options {
+        capacities: Capacities::Usual,
+        sizes: flags.0,
+        one_size: false,
+        least,
+        floor,
+        sample,
+        after: None,
+        form,
+        look: plain(),
+        times: None,
+    };
+    let mut reader = input;
+    let mut written = Vec::new(alloc);
+    run(&heap, &options, &mut reader, &mut written, Counting(&count))?;
+    Ok((count.get(), heap.requests(), heap.requested_bytes()))
+}
+
+#[test]
+fn each_form_hashes_a_line_as_often(rt: HostRuntime) -> Result<(), Fail> {
+    let input = thousand(rt.alloc())?;
+    // Each line is hashed once, and four of ten keys again where the places grow from 4 to 16 (buckets are made for 64 then, the
+    // capacity of a pass at first).
+    let once = 1_000 + 4;
+    for (form, sizes, least, requests, bytes) in REQUESTS {
+        // (the least and the floors look each line up once more, by the same hash)
+        let costs = costs_of(rt.alloc(), &input, *form, (*sizes, *least), Sample::Whole)?;
+        equal!(rt; costs, (once, *requests, *bytes), (*form, *sizes, *least));
+    }
+    Ok(())
+}
+
+#[test]
+fn each_form_of_a_sample_hashes_kept_lines_alone(rt: HostRuntime) -> Result<(), Fail> {
+    let input = thousand(rt.alloc())?;
+    let two = NonZeroUsize::new(2).ok_or("two")?;
+    for (form, sizes, hashes, requests, bytes) in OF_SAMPLES {
+        let costs = costs_of(
+            rt.alloc(),
+            &input,
+            *form,
+            (*sizes, false),
+            Sample::OneIn(two),
+        )?;
+        equal!(rt; costs, (*hashes, *requests, *bytes), (*form, *sizes));
+    }
+    Ok(())
+}

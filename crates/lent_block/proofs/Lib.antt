@@ -1,8 +1,0 @@
-mod Above
-mod Arrays
-mod Bytes
-mod Cell
-mod Own
-mod Taken
-mod Values
-mod Walks
