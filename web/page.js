@@ -455,8 +455,7 @@ function adviceFor(text, memory = 0) {
     const least = /name numbers from (\d+) on/.exec(text);
     if (least && text.includes("greatest size")) return `Name capacities from ${least[1]} on, or leave the field empty.`;
     if (/is no capacity|empty number|wants capacities/.test(text)) return "Change the field of capacities, or leave it empty.";
-    if (text.includes("--max-age counts")) return "For an age name capacities in their field, and nothing beside it.";
-    if (text.includes("go together")) return "Leave one of them out.";
+    if (/go together|goes with neither/.test(text)) return "Leave one of them out.";
     const column = "Look at the column of the size";
     if (text.includes("has no size")) return `Lines are counted as the program reads them. ${column}, or count no bytes.`;
     if (text.includes("add up to more")) return `${column}.`;

@@ -4,6 +4,8 @@ pub mod AgedRows
 pub mod Bits
 pub mod Blocks
 pub mod Counted
+pub mod FetchBlocks
+pub mod FetchRows
 pub mod FetchTables
 pub mod Forms
 pub mod Histograms

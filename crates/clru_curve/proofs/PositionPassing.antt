@@ -1,72 +1,116 @@
 -- What a pass that holds no key has taken, after one more request.
-use Rattle.std.proofs.Common.{◌≡◌, ℕ, suc, ◌+◌, ◌<◌, ◌≤◌, Bool, true, false, List, [], ◌∷◌, ◌++◌, length, get_or, set, Option, Some, None, is_some, refl, sym, ap, ◌∙◌, arith}
+use Rattle.std.proofs.Common.{◌≡◌, ℕ, suc, ◌+◌, ◌-◌, ◌<◌, ◌≤◌, Bool, true, false, cond, nat_le, List, [], ◌∷◌, ◌++◌, length, get_or, set, Option, Some, None, is_some, refl, sym, ap, ◌∙◌, subst, arith}
+use Rattle.std.proofs.lemmas.Map.Entries.{length-keys_of}
 use Rattle.std.specs.Cmp.{IsEquivalence}
-use Rattle.std.specs.Map.{lookup, set_value}
+use Rattle.std.specs.Map.{keys_of, lookup, set_value}
+use Rattle.clru_model.specs.Ages.{is_recent}
 use Rattle.clru_model.specs.Distances.{distance}
 use Rattle.clru_model.specs.Requests.{since}
+use Rattle.clru_model.proofs.Cases.{split}
+use Rattle.clru_model.proofs.Distinct.{since-cons}
 use Rattle.clru_curve.specs.declared.numbered.Numbered.{Numbered}
+use Rattle.clru_curve.specs.declared.seen.Seen.{Seen}
 use Rattle.clru_curve.specs.Latest.{ones_from}
 use Rattle.clru_curve.specs.PositionPasses.{IsLatestOf, IsPositionPass, counted}
+use Rattle.clru_curve.specs.Seen.{reuse_by, seen_at}
 use Rattle.clru_curve.specs.Tree.{up_to}
-use Rattle.clru_curve.proofs.Passing.{IsPass-again, IsPass-new, IsPass-none, IsPass-same, absent_key, distance_below, distance_none, distance_some, number_few}
+use Rattle.clru_curve.proofs.IdlePassing.{IsIdlePass-again, IsIdlePass-new, IsIdlePass-none, IsIdlePass-same, absent_key, bit_there, distance_below, distance_some, moved_again, moved_new, number_few, recent_there, seen_known}
+use Rattle.clru_curve.proofs.IdleReuses.{reuse-new}
+use Rattle.clru_curve.proofs.Ranks.{same_some}
 
-none_known : (o : Option ℕ) → is_some o ≡ false → o ≡ None
-none_known None is = refl
-none_known (Some p) is = absurd (cc)
+-- what is seen at the one place where it can be
+some_seen : (o : Option Seen) (p n m : ℕ) → is_some o ≡ true → ((s : Seen) → o ≡ Some s → s.position + 1 + m ≡ n) → p + 1 + m ≡ n
+    → (s : Seen) × (o ≡ Some s) × (s.position ≡ p)
+some_seen None p n m is at here = absurd (cc)
+some_seen (Some s) p n m is at here = (s, refl, omega (arith, at s refl, here))
 
-some_known : (o : Option ℕ) (p n m : ℕ) → is_some o ≡ true → ((q : ℕ) → o ≡ Some q → q + 1 + m ≡ n) → p + 1 + m ≡ n → o ≡ Some p
-some_known None p n m is at here = absurd (cc)
-some_known (Some q) p n m is at here = let same : q ≡ p = omega (arith, at q refl, here) in ap Some same
+same_position : (s t : Seen) → Some s ≡ Some t → s.position ≡ t.position
+same_position s t is = ap (λ (q : Seen). q.position) (same_some is)
 
 module _ {K : Type 0} (eq : K → K → Bool) where
-  pub none_taken : IsPositionPass eq [] (counted [] 0 [])
-  none_taken = record { positions = []; taken = IsPass-none eq }
+  pub none_taken : IsEquivalence eq → (idle : ℕ) → IsPositionPass eq idle [] (counted [] 0 [])
+  none_taken laws idle = record { seen = []; taken = IsIdlePass-none eq laws idle; latest = λ x s at. absurd (cc) }
 
   -- the same bits in other blocks
-  pub taken_same : (past : List K) (bs cs : List Numbered) (n : ℕ) (h : List ℕ) → ((p : ℕ) → ones_from cs p ≡ ones_from bs p)
-      → IsPositionPass eq past (counted bs n h) → IsPositionPass eq past (counted cs n h)
-  taken_same past bs cs n h same is = record {
-    positions = is.positions;
-    taken = IsPass-same eq past is.positions bs cs n h same is.taken;
+  pub taken_same : (idle : ℕ) (past : List (K × ℕ)) (bs cs : List Numbered) (n : ℕ) (h : List ℕ)
+      → ((p : ℕ) → ones_from cs p ≡ ones_from bs p)
+      → IsPositionPass eq idle past (counted bs n h) → IsPositionPass eq idle past (counted cs n h)
+  taken_same idle past bs cs n h same is = record {
+    seen = is.seen;
+    taken = IsIdlePass-same eq idle past is.seen bs cs n h idle same is.taken;
+    latest = is.latest;
   }
 
-module _ {K : Type 0} (eq : K → K → Bool) (laws : IsEquivalence eq) (past : List K) (bs : List Numbered) (n : ℕ) (h : List ℕ)
-    (x : K) (is : IsPositionPass eq past (counted bs n h)) where
+module _ {K : Type 0} (eq : K → K → Bool) (laws : IsEquivalence eq) (idle : ℕ) (past : List (K × ℕ)) (bs : List Numbered) (n : ℕ)
+    (h : List ℕ) (x : K) (t : ℕ) (is : IsPositionPass eq idle past (counted bs n h)) where
+  -- after one more request of x, each key has a position that is that of its latest one
+  latest_more : (moved : List (K × Seen)) → ((y : K) → lookup (eq y) moved ≡ cond (eq x y) (Some (seen_at n t)) (lookup (eq y) is.seen))
+      → (y : K) (s : Seen) → lookup (eq y) moved ≡ Some s
+      → s.position + 1 + length (since eq y (x ∷ keys_of past)) ≡ length ((x, t) ∷ past)
+  latest_more moved are y s at = split (eq x y)
+      (λ u. let back : eq y x ≡ true = laws.symm y x ∙ u in
+      let here : Some (seen_at n t) ≡ Some s = rw (are y, u) at at in
+      let none : length (since eq y (x ∷ keys_of past)) ≡ 0 = rw (since-cons eq y x (keys_of past), back) refl in
+      omega (arith, same_position (seen_at n t) s here, none, is.taken.requests))
+      (λ f. let back : eq y x ≡ false = laws.symm y x ∙ f in
+      let there : lookup (eq y) is.seen ≡ Some s = rw (are y, f) at at in
+      let more : length (since eq y (x ∷ keys_of past)) ≡ suc (length (since eq y (keys_of past))) =
+      rw (since-cons eq y x (keys_of past), back) refl in
+      omega (arith, more, is.latest y s there))
+
   -- one more request of a key that was not requested
-  module _ (latest : IsLatestOf eq past x None) where
-    pub none_distance : None ≡ distance eq x past
-    none_distance = distance_none eq laws past is.positions bs n h x is.taken
-        (absent_key eq laws past is.positions bs n h x is.taken (sym latest.known))
+  module _ (latest : IsLatestOf eq (keys_of past) x None) where
+    pub none_reuse : None ≡ reuse_by eq (distance eq) idle (x, t) past
+    none_reuse = sym (reuse-new eq (distance eq) idle (x, t) past (rw (sym latest.known) refl))
 
     pub taken_new : (cs : List Numbered) → ((p : ℕ) → ones_from cs p ≡ ones_from bs p + up_to p n)
-        → IsPositionPass eq (x ∷ past) (counted cs (n + 1) (h ++ 0 ∷ []))
+        → IsPositionPass eq idle ((x, t) ∷ past) (counted cs (n + 1) (h ++ 0 ∷ []))
     taken_new cs counts = record {
-      positions = (x, n) ∷ is.positions;
-      taken = IsPass-new eq laws past is.positions bs n h x is.taken cs
-          (absent_key eq laws past is.positions bs n h x is.taken (sym latest.known)) counts;
+      seen = (x, seen_at n t) ∷ is.seen;
+      taken = IsIdlePass-new eq laws idle past is.seen bs n h idle x t is.taken cs
+          (absent_key eq laws idle past is.seen bs n h idle x t is.taken (sym latest.known)) counts;
+      latest = latest_more ((x, seen_at n t) ∷ is.seen) (moved_new eq laws is.seen x (seen_at n t));
     }
 
   -- and of one that was, at this position
-  module _ (p : ℕ) (latest : IsLatestOf eq past x (Some p)) where
-    found : lookup (eq x) is.positions ≡ Some p
-    found = some_known (lookup (eq x) is.positions) p (length past) (length (since eq x past))
-        (is.taken.ranked.known x ∙ sym latest.known) (is.taken.latest x) latest.position
+  module _ (p : ℕ) (latest : IsLatestOf eq (keys_of past) x (Some p)) where
+    there : (s : Seen) × (lookup (eq x) is.seen ≡ Some s) × (s.position ≡ p)
+    there = some_seen (lookup (eq x) is.seen) p (length past) (length (since eq x (keys_of past)))
+        (seen_known eq (keys_of past) is.seen is.taken.ranked.known x ∙ sym latest.known) (is.latest x) latest_at
+      where
+        latest_at : p + 1 + length (since eq x (keys_of past)) ≡ length past
+        latest_at = omega (arith, latest.position, length-keys_of past)
 
     pub was_latest : ones_from bs p ≡ suc (ones_from bs (suc p))
-    was_latest = omega (arith, is.taken.ranked.latest x p found)
-
-    pub some_distance : Some (ones_from bs (suc p)) ≡ distance eq x past
-    some_distance = distance_some eq laws past is.positions bs n h x is.taken p found
+    was_latest = subst (λ q. ones_from bs q ≡ suc (ones_from bs (suc q))) there.2
+        (bit_there eq laws idle past is.seen bs n h idle x t is.taken there.0 there.1)
 
     pub below : ones_from bs (suc p) < length h
-    below = distance_below eq laws past is.positions bs n h x is.taken p found
+    below = subst (λ q. ones_from bs (suc q) < length h) there.2
+        (distance_below eq laws idle past is.seen bs n h idle x t is.taken there.0 there.1)
 
     pub few : get_or h (ones_from bs (suc p)) 0 ≤ n
-    few = number_few eq laws past is.positions bs n h x is.taken p found
+    few = subst (λ q. get_or h (ones_from bs (suc q)) 0 ≤ n) there.2
+        (number_few eq laws idle past is.seen bs n h idle x t is.taken there.0 there.1)
 
-    pub taken_again : (cs : List Numbered) → ((q : ℕ) → ones_from cs q + up_to q p ≡ ones_from bs q + up_to q n)
-        → IsPositionPass eq (x ∷ past) (counted cs (n + 1) (set h (ones_from bs (suc p)) (get_or h (ones_from bs (suc p)) 0 + 1)))
-    taken_again cs counts = record {
-      positions = set_value (eq x) is.positions n;
-      taken = IsPass-again eq laws past is.positions bs n h x is.taken p found cs counts;
-    }
+    -- it counts where it came soon enough
+    module _ (soon : Bool) (so : soon ≡ is_recent eq (Some idle) (x, t) past) (d : ℕ) (at : d ≡ ones_from bs (suc p)) where
+      near : soon ≡ nat_le (t - there.0.time) idle
+      near = so ∙ recent_there eq laws idle past is.seen bs n h idle x t is.taken there.0 there.1
+
+      distance_at : d ≡ ones_from bs (suc there.0.position)
+      distance_at = at ∙ ap (λ q. ones_from bs (suc q)) (sym there.2)
+
+      pub some_reuse : cond soon (Some d) None ≡ reuse_by eq (distance eq) idle (x, t) past
+      some_reuse = ap (λ b. cond b (Some d) None) near
+          ∙ distance_some eq laws idle past is.seen bs n h idle x t is.taken there.0 there.1 d distance_at
+
+      pub taken_again : (cs : List Numbered) → ((q : ℕ) → ones_from cs q + up_to q p ≡ ones_from bs q + up_to q n)
+          → IsPositionPass eq idle ((x, t) ∷ past) (counted cs (n + 1) (cond soon (set h d (get_or h d 0 + 1)) h))
+      taken_again cs counts = subst (λ b. IsPositionPass eq idle ((x, t) ∷ past) (counted cs (n + 1) (cond b (set h d (get_or h d 0 + 1)) h))) (sym near)
+          (record {
+            seen = set_value (eq x) is.seen (seen_at n t);
+            taken = IsIdlePass-again eq laws idle past is.seen bs n h idle x t is.taken there.0 there.1 d distance_at cs
+                (λ q. subst (λ r. ones_from cs q + up_to q r ≡ ones_from bs q + up_to q n) (sym there.2) (counts q));
+            latest = latest_more (set_value (eq x) is.seen (seen_at n t)) (moved_again eq laws is.seen x (seen_at n t) there.0 there.1);
+          })

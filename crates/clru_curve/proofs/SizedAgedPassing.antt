@@ -1,5 +1,5 @@
 -- What a pass over requests with times for keys with sizes has taken under an age limit, after one more request.
-use Rattle.std.proofs.Common.{◌≡◌, ℕ, zero, suc, ◌+◌, ◌-◌, ◌^◌, ◌<◌, ◌≤◌, Bool, true, false, cond, ◌&&◌, nat_le, nat_lt, List, [], ◌∷◌, ◌++◌, length, map, replicate, get_or, Option, Some, None, is_some, inl, inr, refl, sym, ap, ◌∙◌, arith}
+use Rattle.std.proofs.Common.{◌≡◌, ℕ, zero, suc, ◌+◌, ◌-◌, ◌^◌, ◌<◌, ◌≤◌, Bool, true, false, cond, ◌&&◌, nat_le, nat_lt, List, [], ◌∷◌, ◌++◌, length, map, replicate, get_or, ◌*◌, ◌/◌, Option, Some, None, is_some, inl, inr, refl, sym, ap, ◌∙◌, subst, arith}
 use Rattle.std.proofs.lemmas.List.{length-map, length-append, length-replicate, get_or_append_left}
 use Rattle.std.proofs.lemmas.List.Sums.{sum_by-cons}
 use Rattle.std.proofs.lemmas.Map.{length-set_value, lookup-set_value}
@@ -19,7 +19,7 @@ use Rattle.clru_curve.specs.declared.seen.Seen.{Seen}
 use Rattle.clru_curve.specs.Fetches.{fetched_at, seens_of, is_row_hit, AreCounted, AreFetched}
 use Rattle.clru_curve.specs.LatestSizes.{total_from, live_from, IsSummed}
 use Rattle.clru_curve.specs.Seen.{seen_at, positions_of}
-use Rattle.clru_curve.specs.SizedAgedPasses.{AgedPassBySize, fetch_table, aged_pass_by_size, IsSizedAgedPass, IsSoundAgedBySize, IsApart}
+use Rattle.clru_curve.specs.SizedAgedPasses.{AgedPassBySize, fetch_table, aged_pass_by_size, AreAligned, IsSizedAgedPass, IsSoundAgedBySize, IsApart}
 use Rattle.clru_curve.specs.Tree.{up_by, up_to}
 use Rattle.clru_curve.proofs.AgedRows.{new_misses, known_hits, IsAgedRow-step}
 use Rattle.clru_curve.proofs.FetchTables.{AreCounted-below}
@@ -63,6 +63,20 @@ module _ {K : Type 0} (eq : K → K → Bool) where
   pub moved_new : IsEquivalence eq → (seen : List (K × Fetched)) (x : K) (here : Fetched)
       → (y : K) → lookup (eq y) ((x, here) ∷ seen) ≡ cond (eq x y) (Some here) (lookup (eq y) seen)
   moved_new laws seen x here y = ap (λ b. cond b (Some here) (lookup (eq y) seen)) (laws.symm y x)
+
+  pub AreAligned-new : IsEquivalence eq → (n : ℕ) (seen : List (K × Fetched)) (x : K) (here : Seen) (f : ℕ) → AreAligned eq n seen
+      → f / n * n ≡ f → AreAligned eq n ((x, fetched_at here f) ∷ seen)
+  AreAligned-new laws n seen x here f are fits y s at = split (eq x y)
+      (λ u. let same : Some (fetched_at here f) ≡ Some s = rw (moved_new laws seen x (fetched_at here f) y, u) at at in
+      subst (λ k. k / n * n ≡ k) (ap (λ (r : Fetched). r.first) (same_Some (fetched_at here f) s same)) fits)
+      (λ v. are y s (rw (moved_new laws seen x (fetched_at here f) y, v) at at))
+
+  pub AreAligned-again : IsEquivalence eq → (n : ℕ) (seen : List (K × Fetched)) (x : K) (here : Seen) (s : Fetched) → AreAligned eq n seen
+      → lookup (eq x) seen ≡ Some s → AreAligned eq n (set_value (eq x) seen (fetched_at here s.first))
+  AreAligned-again laws n seen x here s are found y t at = split (eq x y)
+      (λ u. let same : Some (fetched_at here s.first) ≡ Some t = rw (moved_again laws seen x (fetched_at here s.first) s found y, u) at at in
+      subst (λ k. k / n * n ≡ k) (ap (λ (r : Fetched). r.first) (same_Some (fetched_at here s.first) t same)) (are x s found))
+      (λ v. are y t (rw (moved_again laws seen x (fetched_at here s.first) s found y, v) at at))
 
   seens_move : (seen seen' : List (K × Fetched)) (x : K) (here : Seen) (f : ℕ)
       → ((y : K) → lookup (eq y) seen' ≡ cond (eq x y) (Some (fetched_at here f)) (lookup (eq y) seen))

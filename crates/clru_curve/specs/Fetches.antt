@@ -1,7 +1,9 @@
 -- The times of fetches at some capacities, and what is missed there. Public clauses cite it.
-use Rattle.std.specs.Prelude.{◌≡◌, ℕ, ◌+◌, ◌-◌, ◌<◌, ◌≤◌, nat_le, ◌&&◌, Bool, if◌then◌else◌, List, length, map, slice_index, refl}
+use Rattle.std.specs.Prelude.{◌≡◌, ℕ, zero, suc, ◌+◌, ◌-◌, ◌<◌, ◌≤◌, ◌⊎◌, min, nat_le, ◌&&◌, Bool, if◌then◌else◌, List, [], ◌++◌, length, map, slice_index, refl}
+use Rattle.std.specs.List.{range_with_len}
 use Rattle.std.specs.Coded.{Coded, code_by, coded×, coded_ℕ}
 use Rattle.clru_curve.specs.declared.fetches.Fetched.{Fetched}
+use Rattle.clru_curve.specs.declared.fetches.Fetches.{Fetches}
 use Rattle.clru_curve.specs.declared.seen.Seen.{Seen}
 use Rattle.clru_curve.specs.Seen.{seen_code}
 
@@ -14,6 +16,40 @@ fetched_code = code_by (Seen × ℕ) (coded× seen_code coded_ℕ) (λ f. (f.see
 -- each key with its latest request
 abbrev pub seens_of : {K : Type 0} → List (K × Fetched) → List (K × Seen)
 seens_of entries = map (λ e. (e.0, e.1.seen)) entries
+
+-- for each of so many keys as many numbers as capacities: that of the k-th key at the i-th capacity is `f k i`
+abbrev pub rows_by : (f : ℕ → ℕ → ℕ) (n keys : ℕ) → List ℕ
+rows_by f n zero = []
+rows_by f n (suc k) = rows_by f n k ++ map (f k) (range_with_len 0 n)
+
+-- the time of the k-th key at the i-th capacity, where its times begin at the k-th of `firsts`, and the last of them is that of all
+-- later capacities too
+abbrev pub time_at : (firsts widths times : List ℕ) → ℕ → ℕ → ℕ
+time_at firsts widths times k i = slice_index times (slice_index firsts k + min i (slice_index widths k - 1))
+
+-- the time of each key at each capacity
+abbrev pub times_by : (n : ℕ) (firsts widths times : List ℕ) → List ℕ
+times_by n firsts widths times = rows_by (time_at firsts widths times) n (length firsts)
+
+-- each key has at least so many times as are narrow, no more than capacities, and all of its own; from so many on capacities ascend
+pub record AreBlocks (narrow : ℕ) (capacities firsts widths times : List ℕ) : Type 0 where
+  pub some : 0 < length capacities → 0 < narrow
+  pub few : narrow ≤ length capacities
+  pub ascend : (i j : ℕ) → narrow ≤ i + 1 → i ≤ j → j < length capacities → slice_index capacities i ≤ slice_index capacities j
+  pub as_many : length widths ≡ length firsts
+  pub wide : (k : ℕ) → k < length firsts → narrow ≤ slice_index widths k
+  pub within : (k : ℕ) → k < length firsts → slice_index widths k ≤ length capacities
+  pub inside : (k : ℕ) → k < length firsts → slice_index firsts k + slice_index widths k ≤ length times
+  pub apart : (j k : ℕ) → j < k → k < length firsts → (slice_index firsts j + slice_index widths j ≤ slice_index firsts k)
+      ⊎ (slice_index firsts k + slice_index widths k ≤ slice_index firsts j)
+
+module _ {A : Type 0} where
+  -- of fetches
+  abbrev pub fetch_times : Fetches A → List ℕ
+  fetch_times f = times_by (length f.capacities.items) f.firsts.items f.widths.items f.times.items
+
+  abbrev pub AreBlocked : Fetches A → Type 0
+  AreBlocked f = AreBlocks f.narrow f.capacities.items f.firsts.items f.widths.items f.times.items
 
 -- whether a request of this span hits at the i-th capacity, where its key's times begin at `first`, if it comes soon enough
 abbrev pub is_row_hit : (soon : Bool) (span time age first : ℕ) (capacities times : List ℕ) → ℕ → Bool

@@ -1,13 +1,15 @@
--- What a pass that holds no key has taken, request by request. Public clauses cite it.
-use Rattle.std.specs.Prelude.{◌≡◌, ℕ, ◌+◌, Bool, List, length, Option, is_some, IfSome, refl, ⊤}
+-- What a pass that holds no key has taken of requests with times, one by one. Public clauses cite it.
+use Rattle.std.specs.Prelude.{◌≡◌, ℕ, ◌+◌, Bool, List, length, Option, Some, is_some, IfSome, refl, ⊤}
 use Rattle.std.specs.Coded.{Coded, code_by, coded×, coded_list, coded_ℕ}
+use Rattle.std.specs.Map.{keys_of, lookup}
 use Rattle.clru_model.specs.Requests.{holds, since}
 use Rattle.clru_curve.specs.declared.numbered.Numbered.{Numbered}
+use Rattle.clru_curve.specs.declared.seen.Seen.{Seen}
+use Rattle.clru_curve.specs.IdlePasses.{IsIdlePass, timed_pass}
 use Rattle.clru_curve.specs.Latest.{IsLatest}
-use Rattle.clru_curve.specs.Passes.{IsPass, pass}
 use Rattle.clru_curve.specs.Rising.{numbered_code}
 
--- blocks of bits for the latest requests of keys, how many requests there were, and how many at each distance
+-- blocks of bits for the latest requests of keys, how many requests there were, and how many at each distance that came soon enough
 pub record Counted : Type 0 where
   pub blocks : List Numbered
   pub requests : ℕ
@@ -27,13 +29,17 @@ module _ {K : Type 0} (eq : K → K → Bool) where
     pub known : is_some latest ≡ holds eq key past
     pub position : IfSome latest (λ p. p + 1 + length (since eq key past) ≡ length past)
 
-  -- a pass that has taken these requests, the latest first: with the positions of their keys it is one that holds keys
-  pub record IsPositionPass (past : List K) (c : Counted) : Type 0 where
-    pub positions : List (K × ℕ)
-    pub taken : IsPass eq {S = ⊤} past (pass positions c.blocks c.requests c.histogram tt)
+  -- a pass that has taken these requests under the idle limit, the latest first: with the latest requests of their keys, by position
+  -- and time, it is one that holds keys
+  pub record IsPositionPass (idle : ℕ) (past : List (K × ℕ)) (c : Counted) : Type 0 where
+    pub seen : List (K × Seen)
+    pub taken : IsIdlePass eq idle {S = ⊤} past (timed_pass seen c.blocks c.requests c.histogram idle tt)
+    pub latest : (x : K) (s : Seen) → lookup (eq x) seen ≡ Some s
+        → s.position + 1 + length (since eq x (keys_of past)) ≡ length past
 
-  -- what holds of every pass: it has taken some requests
+  -- what holds of every pass: it has taken some requests under some limit
   pub record IsSoundCounted (nodes : List ℕ) (c : Counted) : Type 0 where
     pub latest : IsLatest c.blocks nodes c.requests
-    pub past : List K
-    pub taken : IsPositionPass past c
+    pub idle : ℕ
+    pub past : List (K × ℕ)
+    pub taken : IsPositionPass idle past c

@@ -1,5 +1,5 @@
 -- What a pass over requests with times for keys with sizes, under an age limit, has taken note of. Public clauses cite it.
-use Rattle.std.specs.Prelude.{◌≡◌, ℕ, ◌+◌, ◌<◌, ◌≤◌, ◌⊎◌, Bool, false, if◌then◌else◌, Option, Some, List, [], ◌∷◌, length, reverse, slice_index, refl}
+use Rattle.std.specs.Prelude.{◌≡◌, ℕ, ◌+◌, ◌*◌, ◌/◌, ◌<◌, ◌≤◌, ◌⊎◌, Bool, false, if◌then◌else◌, Option, Some, List, [], ◌∷◌, length, reverse, slice_index, refl}
 use Rattle.std.specs.Coded.{Coded, code_by, coded×, coded_list, coded_option, coded_ℕ}
 use Rattle.std.specs.Map.{keys_of, lookup}
 use Rattle.clru_model.specs.Ages.{aged_hit, aged_marks, aged_misses}
@@ -97,6 +97,10 @@ module _ {K : Type 0} (eq : K → K → Bool) where
     pub held : total_from p.sizes 0 ≡ total eq weight (keys_of past)
     pub size : p.size ≡ size_of_all weight (keys_of past)
     pub greatest : p.greatest ≡ greatest_of weight (keys_of past)
+
+  -- each key's times begin at a multiple of n
+  abbrev pub AreAligned : ℕ → List (K × Fetched) → Type 0
+  AreAligned n seen = (x : K) (s : Fetched) → lookup (eq x) seen ≡ Some s → s.first / n * n ≡ s.first
 
   -- n numbers from one place on, and n from another one
   abbrev pub IsApart : ℕ → ℕ → ℕ → Type 0

@@ -265,7 +265,7 @@ impl<K: Eq + Hash, S: BuildHasher, A: Allocator + Copy> IdlePass<K, S, A> {
 }
 
 /// Counts a request at its distance, and returns that, if the request came soon enough.
-fn count_if<A: Allocator>(
+pub(crate) fn count_if<A: Allocator>(
     histogram: &mut Vec<usize, A>,
     soon: bool,
     distance: usize,

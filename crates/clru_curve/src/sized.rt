@@ -3,6 +3,7 @@
 mod aged;
 mod curve;
 mod error;
+mod guide;
 mod idle;
 mod list;
 mod pass;

@@ -1,5 +1,5 @@
 -- What is known of a reader whose lines are returned one by one.
-use Rattle.std.proofs.Common.{◌≡◌, ℕ, ◌+◌, ◌<◌, List, [], ◌∷◌, ◌++◌, Option, append_assoc, length, length-append, sym, ap, ◌∙◌, subst, arith}
+use Rattle.std.proofs.Common.{◌≡◌, ℕ, ◌+◌, ◌<◌, List, [], ◌∷◌, ◌++◌, Option, append-nil, append_assoc, length, length-append, sym, ap, ◌∙◌, subst, arith}
 use Rattle.std.proofs.KnownBytes.{Consumes-trans}
 use Rattle.std.specs.Io.KnownBytes.{Consumes, IsAtEnd}
 use Rattle.clru_lines.specs.Lines.{lines_of}
@@ -19,6 +19,12 @@ module _ (start now : Option (List ℕ)) (read : ℕ) (lines : List (List ℕ)) 
         cut = b.cut;
         few = b.few;
       }
+
+  -- where no more was read, the rest stays
+  pub begun_same : (next : Option (List ℕ)) (n : ℕ) (rest full : List ℕ) → HasBegun start now read rest lines
+      → Consumes now next [] → n ≡ read → full ≡ rest → HasBegun start next n full lines
+  begun_same next n rest full b given counted same =
+      subst (λ l. HasBegun start next n l lines) (append-nil rest ∙ sym same) (begun_more next n rest [] b given (omega (arith, counted)))
 
   -- what has no newline is a line where one follows
   pub begun_line : (line rest : List ℕ) → IsFree line → HasBegun start now read (line ++ 10 ∷ rest) lines
@@ -46,3 +52,7 @@ module _ (start now : Option (List ℕ)) (read : ℕ) (lines : List (List ℕ)) 
       → HasRead start now read (lines ++ line ∷ [])
   read_last line free some b end =
       (b.line_bytes ++ line, b.bytes, end, (b.cut line ∙ ap (λ l. lines ++ l) (lines_of-free line free some), b.count))
+
+  -- and no bytes make no line
+  pub read_none : HasBegun start now read [] lines → IsAtEnd now → HasRead start now read lines
+  read_none b end = (b.line_bytes ++ [], b.bytes, end, (b.cut [] ∙ append-nil lines, b.count))

@@ -12,10 +12,11 @@ pub(crate) const SPLIT_HELP: &str = "
     --split N    divides a budget of N keys, or with --sizes of N bytes, among
                  the classes of the log: each line begins with its class and a
                  blank, with --sizes then its size and a blank, and is the key
-                 as a whole; the table has a row for each class, with its part,
-                 and one each for this best split, equal parts, and one cache
-                 for all; with --sizes, --sample, --json and --svg only; status 6
-                 is then also a line without a class, or too many classes
+                 as a whole, but for the time that --times has before the class;
+                 the table has a row for each class, with its part, and one each
+                 for this best split, equal parts, and one cache for all; with
+                 --sizes, --times, --max-idle, --sample, --json and --svg only;
+                 status 6 is then also a line without a class, or too many classes
 ";
 
 /// The budget that the arguments name: the word after `--split`.
@@ -95,7 +96,10 @@ fn tell_fault(rt: &HostRuntime, fault: SplitFault, beginning: &[u8]) {
 // How the line begins that a fault names.
 fn it_begins(rt: &HostRuntime, fault: SplitFault, beginning: &[u8]) -> Option<String> {
     match fault {
-        SplitFault::NoClass(_) | SplitFault::TooManyClasses(_) | SplitFault::NoSize(_) => {
+        SplitFault::NoTime(_)
+        | SplitFault::NoClass(_)
+        | SplitFault::TooManyClasses(_)
+        | SplitFault::NoSize(_) => {
             let shown = quoted(rt, beginning).ok()?;
             format!(in rt.alloc(); ": it begins {shown}").ok()
         }

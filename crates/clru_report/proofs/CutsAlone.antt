@@ -4,8 +4,8 @@ use Rattle.std.specs.Prelude.{◌&&◌, ◌||◌}
 use Rattle.std.specs.Option.{is_some, option_map}
 use Rattle.std.proofs.lemmas.Bool.{and_parts, or_left, or_right}
 use Rattle.clru_model.proofs.Cases.{split}
-use Rattle.clru_report.specs.Arguments.{AreCapacitiesOf, AreTimesOf, IsSampleOf, after_goes_together, ages_go_together, form_of, forms_go_together, go_together, is_some_of, ratios_go_together, samples_go_together, times_go_together, wants_all, wants_part, wants_ratio}
-use Rattle.clru_report.specs.Choices.{is_aged, is_at_named, is_named, is_of_all, is_picture, is_summary, is_untimed, is_whole}
+use Rattle.clru_report.specs.Arguments.{AreCapacitiesOf, AreTimesOf, IsSampleOf, after_goes_together, ages_go_together, form_of, forms_go_together, go_together, samples_go_together, times_go_together, wants_all, wants_part, wants_ratio}
+use Rattle.clru_report.specs.Choices.{is_aged, is_aged_table, is_of_all, is_picture, is_summary, is_untimed, is_usual_or_named, is_whole}
 use Rattle.clru_report.specs.CommandLine.{Asked}
 use Rattle.clru_report.specs.Refusals.{IsRefusedBy, IsRefusedFor}
 use Rattle.clru_lines.specs.declared.fault.Fault.{Fault}
@@ -133,47 +133,35 @@ timed_rows least floor one_size behind form none =
     (λ t. absurd (cc (or_right least _ (or_right floor _ (or_right one_size _ (or_right behind (is_summary form) t))), none)))
     (λ f. f)
 
--- beside named capacities no hit ratio is asked for
-no_ratio : (asked : Asked) → forms_go_together asked ≡ true → is_some_of asked.named ≡ true → wants_ratio asked ≡ true → ⊥
-no_ratio asked together some wants =
-    let ratios = and_parts (ratios_go_together asked) _ together in
-    let first = and_parts (not (is_some asked.hit_ratio && is_some asked.byte_hit_ratio)) _ ratios.0 in
-    let second = and_parts (not (wants_ratio asked && (asked.all || is_some_of asked.named))) _ first.1 in
-    let none : not (asked.all || is_some_of asked.named) ≡ true = rw wants at second.0 in
-    cc (rw (or_right asked.all (is_some_of asked.named) some) at none)
-
--- capacities that are named are no others
-named_alone : {A : Type 0} (asked : Asked) → forms_go_together asked ≡ true → is_some_of asked.named ≡ true
-    → (n : ℕ) (capacities : Capacities A)
-    → AreCapacitiesOf asked.all asked.named asked.hit_ratio asked.byte_hit_ratio n capacities → is_named capacities ≡ true
-named_alone asked together some n Usual are = absurd (cc (rw are.1 at some))
-named_alone asked together some n Each are =
-    let ratios = and_parts (ratios_go_together asked) _ together in
-    absurd (cc (rw (are, some) at (and_parts (not (asked.all && is_some_of asked.named)) _ ratios.1).0))
-named_alone asked together some n (Named named) are = refl
-named_alone asked together some n (HitRatio r) are = absurd (no_ratio asked together some (rw are refl))
-named_alone asked together some n (ByteHitRatio r) are =
-    absurd (no_ratio asked together some (or_right (is_some asked.hit_ratio) (is_some asked.byte_hit_ratio) (rw are refl)))
+-- the capacities are the usual ones, or named, if neither all are asked for nor a hit ratio
+usual_or_named : {A : Type 0} (asked : Asked) → not (asked.all || wants_ratio asked) ≡ true → (n : ℕ) (capacities : Capacities A)
+    → AreCapacitiesOf asked.all asked.named asked.hit_ratio asked.byte_hit_ratio n capacities → is_usual_or_named capacities ≡ true
+usual_or_named asked few n Usual are = refl
+usual_or_named asked few n Each are = absurd (cc (rw are at few))
+usual_or_named asked few n (Named named) are = refl
+usual_or_named asked few n (HitRatio r) are = absurd (cc (rw (or_right asked.all (wants_ratio asked) (rw are refl)) at few))
+usual_or_named asked few n (ByteHitRatio r) are =
+    let ratio = or_right (is_some asked.hit_ratio) (is_some asked.byte_hit_ratio) (rw are refl) in
+    absurd (cc (rw (or_right asked.all (wants_ratio asked) ratio) at few))
 
 no_picture : (asked : Asked) → asked.svg ≡ false → is_picture (form_of asked) ≡ false
 no_picture asked none =
     split asked.summary (λ t. rw t refl) (λ f. rw (f, none) (split asked.json (λ t. rw t refl) (λ g. rw g refl)))
 
--- beside an age limit a table by keys at named capacities is asked for
-pub named_for_age : {A : Type 0} (asked : Asked) → forms_go_together asked ≡ true → ages_go_together asked ≡ true → is_some asked.max_age ≡ true
+-- beside an age limit a table at such capacities is asked for
+pub table_for_age : {A : Type 0} (asked : Asked) → ages_go_together asked ≡ true → is_some asked.max_age ≡ true
     → (n : ℕ) (capacities : Capacities A)
     → AreCapacitiesOf asked.all asked.named asked.hit_ratio asked.byte_hit_ratio n capacities
-    → is_at_named capacities (form_of asked) ≡ true
-named_for_age asked forms ages some n capacities are =
+    → is_aged_table capacities (form_of asked) ≡ true
+table_for_age asked ages some n capacities are =
     let first = and_parts (not (is_some asked.max_age && not asked.times)) _ ages in
-    let second = and_parts (not (is_some asked.max_age && not (is_some_of asked.named)))
+    let second = and_parts (not (is_some asked.max_age && (asked.all || wants_ratio asked)))
     (not (is_some asked.max_age && asked.svg)) first.1 in
-    let named : not (not (is_some_of asked.named)) ≡ true = rw some at second.0 in
+    let few : not (asked.all || wants_ratio asked) ≡ true = rw some at second.0 in
     let plain : not asked.svg ≡ true = rw some at second.1 in
-    let are_named = named_alone asked forms (split (is_some_of asked.named) (λ t. t) (λ f. absurd (cc (rw f at named)))) n capacities are in
     split asked.svg
     (λ t. absurd (cc (rw t at plain)))
-    (λ s. rw (are_named, no_picture asked s) refl)
+    (λ s. rw (usual_or_named asked few n capacities are, no_picture asked s) refl)
 
 -- of a whole log the fault is that of all lines
 pub refused_whole : {A : Type 0} (sample : Sample) (fault : Fault) (options : Options A) (lines : List (List ℕ)) → is_whole sample ≡ true

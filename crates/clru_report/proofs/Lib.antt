@@ -1,4 +1,5 @@
 mod AfterLemmas
+mod AgedCapacities
 mod CapacityLemmas
 mod Choices
 mod CommandLines
@@ -26,7 +27,7 @@ pub mod SettledCurves
 mod SettledIdle
 mod SizeViews
 mod SizedAfterLemmas
-mod SizedIdleViews
+pub mod SizedIdleViews
 mod SizedPieces
 mod SizedReports
 mod SizedSamples
@@ -36,5 +37,5 @@ mod SortedSets
 pub mod TakenLines
 mod TimeFigures
 mod TimedForms
-mod TimedLines
-mod TimedViews
+pub mod TimedLines
+pub mod TimedViews

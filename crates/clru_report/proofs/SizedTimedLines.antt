@@ -13,15 +13,17 @@ use Rattle.clru_lines.specs.declared.fault.Fault.{Fault}
 use Rattle.clru_lines.specs.declared.fault.Fault.TheVariants.{NoSize}
 use Rattle.clru_lines.specs.declared.lines.OwnedKey.{OwnedKey}
 use Rattle.clru_model.proofs.Cases.{split}
+use Rattle.clru_model.specs.Sizes.{total}
 use Rattle.clru_report.specs.Faults.{is_of_writing}
 use Rattle.clru_report.specs.Passes.{IsOfLines, line_of, same_line, weight_of_key}
 use Rattle.clru_report.specs.Refusals.{fault_from, is_of_input}
 use Rattle.clru_report.specs.SizedTimedPasses.{HasTakenSizedTimed}
+use Rattle.clru_report.specs.SizedReport.{distinct_size}
 use Rattle.clru_report.specs.Sizes.{HaveSizes, greatest_size, size_of_line, size_of_lines, weight_of_line}
 use Rattle.clru_report.specs.TimedPasses.{HasTakenRequests, HasTakenTimed}
 use Rattle.clru_report.specs.Times.{kept_requests, request_of, requests_of, rest_behind, rest_of_line, rests_of, time_of_line}
 use Rattle.clru_report.proofs.Samples.{each_kept}
-use Rattle.clru_report.proofs.SizeViews.{greatest-view}
+use Rattle.clru_report.proofs.SizeViews.{greatest-view, total-view}
 use Rattle.clru_report.proofs.SizedIdleViews.{idle_curve-view, missed_size-view, sized_misses-view}
 use Rattle.clru_report.proofs.SizedSamples.{size_more}
 use Rattle.clru_report.proofs.TakenLines.{first_without}
@@ -138,6 +140,13 @@ module _ {A S : Type 0} (capacities : List ℕ) (idle : Option ℕ) (age : ℕ) 
   sized_aged_first first made =
       made has.past has.taken ∙ ap (λ k. 1 + k) (sym (greatest-view bytes_eq weight_of_line line_of (keys_of has.past))
       ∙ ap (greatest_of weight_of_line) (keys_taken Is requests pass has))
+
+  -- the distinct keys have the same size together
+  pub sized_aged_size : (size : ℕ) → ((past : List (OwnedKey A × ℕ)) → Is past pass → size ≡ total same_line weight_of_key (keys_of past))
+      → size ≡ distinct_size (keys_of requests)
+  sized_aged_size size made =
+      made has.past has.taken ∙ sym (total-view bytes_eq weight_of_line line_of (keys_of has.past))
+      ∙ ap (total bytes_eq weight_of_line) (keys_taken Is requests pass has)
 
 -- a weight takes no more than all sizes
 pub greatest_in_all : {K : Type 0} (weight : K → ℕ) (ks : List K) → greatest_of weight ks ≤ size_of_all weight ks - 1

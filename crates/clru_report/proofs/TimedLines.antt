@@ -1,5 +1,5 @@
 -- What a pass knows that has taken lines with times: one more line, and the curve.
-use Rattle.std.proofs.Common.{◌≡◌, ℕ, ◌+◌, Bool, true, false, cond, Option, List, [], ◌∷◌, ◌++◌, IsNone, IsSome, Some, append-nil, map, length, reverse, refl, sym, ap, ◌∙◌, subst}
+use Rattle.std.proofs.Common.{◌≡◌, ℕ, ◌+◌, Bool, true, false, cond, Option, List, [], ◌∷◌, ◌++◌, IsNone, IsSome, Some, append-nil, map, length, reverse, refl, sym, ap, ◌∙◌, subst, arith}
 use Rattle.std.specs.Prelude.{bytes_eq, unwrap_or, IsSomeAnd}
 use Rattle.std.specs.Map.{keys_of}
 use Rattle.std.proofs.lemmas.Grind.{reverse_onto}
@@ -11,7 +11,9 @@ use Rattle.clru_curve.specs.SizedAgedPasses.{AgedPassBySize, IsSizedAgedPass, ag
 use Rattle.clru_curve.specs.IdlePasses.{HasIdleMissesOf, IsIdlePass, TimedPass}
 use Rattle.clru_lines.specs.declared.lines.OwnedKey.{OwnedKey}
 use Rattle.clru_model.proofs.Views.{distinct-map, map-reverse}
+use Rattle.clru_model.proofs.Spans.{total_weightless}
 use Rattle.clru_model.specs.Requests.{distinct}
+use Rattle.clru_model.specs.Sizes.{total}
 use Rattle.clru_report.specs.Passes.{line_of, same_line}
 use Rattle.clru_report.specs.Samples.{is_kept}
 use Rattle.clru_report.specs.Timed.{IsFirstUntimed}
@@ -117,6 +119,19 @@ aged_taken capacities idle age requests pass has misses made =
     numbers_taken (IsAgedPass same_line capacities idle age) requests pass has (λ k rs. aged_misses_at same_line idle age k rs)
     (λ k rs. aged_misses_at bytes_eq idle age k rs) (λ k rs. aged_misses-view bytes_eq line_of k idle age rs) capacities misses
     (λ past is. made past is ∙ misses_weightless same_line idle age (reverse past) capacities)
+
+-- of so many distinct keys
+pub aged_keys : {A S : Type 0} (capacities : List ℕ) (idle : Option ℕ) (age : ℕ) (requests : List (List ℕ × ℕ))
+    (pass : AgedPassBySize (OwnedKey A) S) (has : HasTakenRequests (IsAgedPass same_line capacities idle age) requests pass) (keys : ℕ)
+    → ((past : List (OwnedKey A × ℕ)) → IsAgedPass same_line capacities idle age past pass → keys ≡ total same_line (λ _. 0) (keys_of past))
+    → keys ≡ distinct bytes_eq (reverse (keys_of requests))
+aged_keys capacities idle age requests pass has keys made = omega (
+  arith,
+  made has.past has.taken,
+  total_weightless same_line (λ _. 0) (λ _. refl) (keys_of has.past),
+  distinct-map bytes_eq line_of (keys_of has.past),
+  ap (distinct bytes_eq) (keys_taken (IsAgedPass same_line capacities idle age) requests pass has),
+)
 
 -- the capacities and limits of a pass are its own
 pub aged_own : {K S : Type 0} (eq : K → K → Bool) (w : K → ℕ) (cs : List ℕ) (idle : Option ℕ) (age : ℕ) (past : List (K × ℕ)) (pass start : AgedPassBySize K S)

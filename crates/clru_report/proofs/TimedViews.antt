@@ -24,7 +24,7 @@ module _ {X Y : Type 0} (eq : Y → Y → Bool) (view : X → Y) where
   lookup-view x [] = refl
   lookup-view x (r ∷ rs) = ap (λ o. cond (eq (view x) (view r.0)) (Some r.1) o) (lookup-view x rs)
 
-  recent-view : (limit : Option ℕ) (r : X × ℕ) (rs : List (X × ℕ))
+  pub recent-view : (limit : Option ℕ) (r : X × ℕ) (rs : List (X × ℕ))
       → is_recent eq limit (viewed r) (map viewed rs) ≡ is_recent (same eq view) limit r rs
   recent-view limit r rs = ap (λ o. option_map_or (λ time. is_in_limit limit (r.1 - time)) o false) (lookup-view r.0 rs)
 

@@ -109,10 +109,10 @@ abbrev pub times_go_together : Asked → Bool
 times_go_together asked = not (is_some asked.max_idle && not asked.times)
     && (not (asked.times && wants_all asked) && (not (asked.times && asked.one_size) && not (asked.times && is_some asked.after)))
 
--- an age limit needs times and capacities that are named, and beside it no picture is asked for
+-- an age limit needs times, and beside it neither all capacities are asked for, nor a hit ratio, nor a picture
 abbrev pub ages_go_together : Asked → Bool
 ages_go_together asked = not (is_some asked.max_age && not asked.times)
-    && (not (is_some asked.max_age && not (is_some_of asked.named)) && not (is_some asked.max_age && asked.svg))
+    && (not (is_some asked.max_age && (asked.all || wants_ratio asked)) && not (is_some asked.max_age && asked.svg))
 
 abbrev pub go_together : Asked → Bool
 go_together asked = forms_go_together asked

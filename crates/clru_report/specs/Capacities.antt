@@ -44,6 +44,14 @@ falls_from misses g n = filter (λ c. (c == g) || nat_lt (misses c) (misses (c -
 abbrev pub usual_from : ℕ → ℕ → List ℕ
 usual_from g n = filter (λ c. nat_le g c) (usual n)
 
+-- the capacities under an age limit for n distinct keys, or for keys of the size n together: the usual ones, or those that are named
+abbrev pub aged_capacities : {A : Type 0} → Capacities A → ℕ → List ℕ
+aged_capacities Usual n = usual n
+aged_capacities Each n = []
+aged_capacities (Named named) n = map non_zero_usize_get named.items
+aged_capacities (HitRatio r) n = []
+aged_capacities (ByteHitRatio r) n = []
+
 -- the capacities for so many requests of this size together, of the greatest size g, whose distinct keys have the size n together, with
 -- so many misses at each, and of such a size, where the usual ones are those of the table
 abbrev pub sized_capacities_of : {A : Type 0} → Capacities A → (ℕ → ℕ) → (ℕ → ℕ) → ℕ → ℕ → ℕ → ℕ → List ℕ → List ℕ

@@ -44,13 +44,13 @@ is_of_all least floor sample form = least || (floor || (not (is_whole sample) ||
 abbrev pub is_untimed : Bool → Bool → Bool → Bool → Form → Bool
 is_untimed least floor one_size behind form = least || (floor || (one_size || (behind || is_summary form)))
 
--- capacities are named
-abbrev pub is_named : {A : Type 0} → Capacities A → Bool
-is_named Usual = false
-is_named Each = false
-is_named (Named named) = true
-is_named (HitRatio r) = false
-is_named (ByteHitRatio r) = false
+-- the capacities are the usual ones, or named
+abbrev pub is_usual_or_named : {A : Type 0} → Capacities A → Bool
+is_usual_or_named Usual = true
+is_usual_or_named Each = false
+is_usual_or_named (Named named) = true
+is_usual_or_named (HitRatio r) = false
+is_usual_or_named (ByteHitRatio r) = false
 
 abbrev pub is_json : Form → Bool
 is_json Table = false
@@ -69,6 +69,6 @@ abbrev pub is_aged : Option Times → Bool
 is_aged None = false
 is_aged (Some limits) = is_some limits.max_age
 
--- a table is asked for, at capacities that are named
-abbrev pub is_at_named : {A : Type 0} → Capacities A → Form → Bool
-is_at_named capacities form = is_named capacities && not (is_picture form)
+-- a table is asked for, at the usual capacities or at those that are named
+abbrev pub is_aged_table : {A : Type 0} → Capacities A → Form → Bool
+is_aged_table capacities form = is_usual_or_named capacities && not (is_picture form)

@@ -6,8 +6,8 @@ use Rattle.std.specs.List.{All, filter}
 use Rattle.std.specs.Map.{keys_of}
 use Rattle.clru_curve.specs.SizedAgedPasses.{aged_missed_size, aged_misses_by_size}
 use Rattle.clru_curve.specs.SizedIdlePasses.{idle_missed_size, idle_misses_by_size}
-use Rattle.clru_report.specs.Capacities.{sized_capacities_of, usual_from}
-use Rattle.clru_report.specs.Choices.{is_json, named_in}
+use Rattle.clru_report.specs.Capacities.{aged_capacities, sized_capacities_of, usual_from}
+use Rattle.clru_report.specs.Choices.{is_json}
 use Rattle.clru_report.specs.Faithful.{IsFaithful}
 use Rattle.clru_report.specs.Knees.{knees}
 use Rattle.clru_report.specs.Refusals.{fault_by}
@@ -81,11 +81,11 @@ module _ (limits : Times) (kept : List (List ℕ × ℕ)) where
       IsInFormBySizeOn options sized_misses_under missed_size_under (greatest_size (keys_of kept)) (distinct_size (keys_of kept))
       (part_in options.sample) (all_by options.sample read) (size_by options.sample size) options.form text
 
--- the table at those of the named capacities that are at least g, where so many miss at each, of such a size together, of one key in n
--- and of so many requests of this size in all: it has no knees
-abbrev pub IsSizedTableAt : {A : Type 0} → Options A → (m s : ℕ → ℕ) → (g n all size : ℕ) → List ℕ → Type 0
-IsSizedTableAt options m s g n all size text = (rows : List SizedRow) × (shown : List SizedRow)
-    × ArePlainSizedRows m s (filter (λ c. nat_le g c) (named_in options.capacities)) rows
+-- the table from the capacity g on, where so many miss at each, of such a size together, if the distinct keys have the size d, and these
+-- requests are of one key in n of so many of this size in all: it has no knees
+abbrev pub IsSizedTableAt : {A : Type 0} → Options A → (m s : ℕ → ℕ) → (g d n all size : ℕ) → List ℕ → Type 0
+IsSizedTableAt options m s g d n all size text = (rows : List SizedRow) × (shown : List SizedRow)
+    × ArePlainSizedRows m s (filter (λ c. nat_le g c) (aged_capacities options.capacities d)) rows
     × (map sized_numbers_of shown ≡ map (sized_numbers_times n all size) rows)
     × (text ≡ sized_table_text (is_json options.form) options.floor all size [] shown)
 
@@ -102,7 +102,7 @@ abbrev pub IsReportInAgeBySize : {A : Type 0} → Option ℕ → Times → List 
 IsReportInAgeBySize None limits kept options read size text = IsReportOfKeptBySize limits kept options read size text
 IsReportInAgeBySize (Some age) limits kept options read size text =
     IsSizedTableAt options (sized_misses_in_age age limits kept) (missed_size_in_age age limits kept) (greatest_size (keys_of kept))
-    (part_in options.sample) (all_by options.sample read) (size_by options.sample size) text
+    (distinct_size (keys_of kept)) (part_in options.sample) (all_by options.sample read) (size_by options.sample size) text
 
 -- the report of lines that begin with times, behind which they begin with sizes and have no fault, under such an age limit
 abbrev pub IsTimedReportBySizeIn : {A : Type 0} → Option ℕ → Times → Options A → List (List ℕ) → List ℕ → Type 0

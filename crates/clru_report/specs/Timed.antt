@@ -9,8 +9,8 @@ use Rattle.clru_curve.specs.IdlePasses.{idle_misses}
 use Rattle.clru_lines.specs.declared.fault.Fault.{Fault}
 use Rattle.clru_lines.specs.declared.fault.Fault.TheVariants.{BadCapacity, Memory, Reading, Writing, Closed, NoSize, TooLarge, TooSmall}
 use Rattle.clru_model.specs.Requests.{distinct}
-use Rattle.clru_report.specs.Capacities.{capacities_of, usual}
-use Rattle.clru_report.specs.Choices.{is_json, named_in}
+use Rattle.clru_report.specs.Capacities.{aged_capacities, capacities_of, usual}
+use Rattle.clru_report.specs.Choices.{is_json}
 use Rattle.clru_report.specs.Faithful.{IsFaithful}
 use Rattle.clru_report.specs.Knees.{knees}
 use Rattle.clru_report.specs.PlainRows.{ArePlainRows}
@@ -89,9 +89,10 @@ IsReportOfKept limits options kept read bytes text =
 abbrev pub misses_in_age : ℕ → Times → List (List ℕ × ℕ) → ℕ → ℕ
 misses_in_age age limits requests c = aged_misses_at bytes_eq limits.max_idle age c requests
 
--- the table at the capacities that are named where so many miss at each, of one key in n and so many requests in all: it has no knees
-abbrev pub IsTableAt : {A : Type 0} → Options A → (ℕ → ℕ) → ℕ → ℕ → List ℕ → Type 0
-IsTableAt options m n all text = (rows : List Row) × (shown : List Row) × ArePlainRows m (named_in options.capacities) rows
+-- the table where so many miss at each capacity, of so many keys, which are one in n of all, and of so many requests in all: it has no
+-- knees
+abbrev pub IsTableAt : {A : Type 0} → Options A → (ℕ → ℕ) → (keys n all : ℕ) → List ℕ → Type 0
+IsTableAt options m keys n all text = (rows : List Row) × (shown : List Row) × ArePlainRows m (aged_capacities options.capacities keys) rows
     × (map numbers_of shown ≡ map (numbers_times n all) rows)
     × (text ≡ table_text (is_json options.form) false options.floor all [] shown)
 
@@ -99,7 +100,8 @@ IsTableAt options m n all text = (rows : List Row) × (shown : List Row) × AreP
 abbrev pub IsReportInAge : {A : Type 0} → Option ℕ → Times → Options A → List (List ℕ × ℕ) → ℕ → ℕ → List ℕ → Type 0
 IsReportInAge None limits options kept read bytes text = IsReportOfKept limits options kept read bytes text
 IsReportInAge (Some age) limits options kept read bytes text =
-    IsTableAt options (misses_in_age age limits kept) (part_in options.sample) (all_by options.sample read) text
+    IsTableAt options (misses_in_age age limits kept) (distinct bytes_eq (reverse (keys_of kept))) (part_in options.sample)
+    (all_by options.sample read) text
 
 -- the report of an input whose lines begin with times, by keys, under such an age limit
 abbrev pub IsTimedReportIn : {A : Type 0} → Option ℕ → Times → Options A → List ℕ → List (List ℕ) → List ℕ → Type 0

@@ -8,7 +8,7 @@ Give it requests on standard input, one a line: the key is the line's bytes.
 It writes a table as CSV: capacity, misses, misses as a part of all requests,
 misses saved for each key since the row before (with --sizes missed bytes for
 each byte), and 1 if misses fall steeply just before this row, whichever rows
-are shown. Between the usual rows you may interpolate.
+are shown. Between the usual rows you may interpolate, except with --max-age.
 
     awk '$6 == \"\\\"GET\" && ($9 == 200 || $9 == 304) { print $7 }' access.log > keys
     clru_mrc < keys
@@ -46,9 +46,9 @@ are shown. Between the usual rows you may interpolate.
     --max-idle T with --times: entries expire when they were not requested for
                  longer than T, so that their next request misses; T is in the
                  unit of the times, or if that is the second 30s, 10m, 1.5h, 7d
-    --max-age T  with --times and --at: entries expire T after their fetch, so
-                 that their next request misses and fetches them anew; not with
-                 --svg
+    --max-age T  with --times: entries expire T after their fetch, so that their
+                 next request misses and fetches them anew; the usual rows are
+                 at round numbers; not with --all, a hit ratio or --svg
     --json       the table as JSON: an object a line, by the columns' names
     --svg        a picture instead of the table; with --sizes it has a line
                  for the bytes too

@@ -53,4 +53,4 @@ pub use report::make_report;
 pub use sample::{is_kept, times};
 pub use sized::size_of;
 pub use std::num::NonZeroUsize;
-pub use timed::time_of;
+pub use timed::{split_time, time_of};

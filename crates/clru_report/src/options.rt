@@ -1,7 +1,7 @@
 //! What a report is asked to have.
 ghost use Rattle.std.specs.Prelude.{◌≡◌, true, false};
 ghost use Rattle.std.specs.Option.{is_some};
-ghost use Rattle.clru_report.specs.Choices.{AreAscending, is_aged, is_at_named, is_of_all, is_untimed, is_whole};
+ghost use Rattle.clru_report.specs.Choices.{AreAscending, is_aged, is_aged_table, is_of_all, is_untimed, is_whole};
 
 use crate::ratio::Billionths;
 use std::alloc::{Allocator, Global};
@@ -58,7 +58,7 @@ pub struct Times {
     pub max_idle: Option<usize>,
 
     /// The greatest age, in the same unit: the time since the latest miss of a key at a capacity, after which its next request misses
-    /// there. It goes with a table at named capacities alone, whose column `knee` is 0.
+    /// there. It goes with a table alone, whose column `knee` is 0, at named capacities, or at round numbers and the last capacity.
     pub max_age: Option<usize>,
 }
 
@@ -126,8 +126,8 @@ pub struct Options<A: Allocator = Global> {
     // Of requests with times all are counted, and only their misses are known.
     ghost timed: { is_some times ≡ true → is_untimed least floor one_size (is_some after) form ≡ false },
 
-    // Where entries expire by age, misses are known at capacities alone that are named before.
-    ghost aged: { is_aged times ≡ true → is_at_named capacities form ≡ true },
+    // Where entries expire by age, misses are known at capacities alone that are known before the input.
+    ghost aged: { is_aged times ≡ true → is_aged_table capacities form ≡ true },
 
     ghost ascending: { AreAscending capacities },
 }

@@ -39,12 +39,8 @@ pub(crate) fn picture_of<A: Allocator + Copy>(
     ensures { IfOk result (λ text. HasTable table.now (string_bytes text)) }
 {
     let drawn = drawn_of(alloc, plot, look)?;
-    let mut text = head(alloc)?;
-    text.push_str(table)?;
-    text.push_str("</desc>\n")?;
-    text.push_str(&drawn)?;
-    text.push_str("</svg>\n")?;
-    Ok(text)
+    let begin = head(alloc)?;
+    format!(in alloc; "{begin}{table}</desc>\n{drawn}</svg>\n")
 }
 
 fn head<A: Allocator>(alloc: A) -> Result<String<A>, AllocError>

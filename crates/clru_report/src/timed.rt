@@ -31,7 +31,7 @@ use std::hash::BuildHasher;
 use std::io::Read;
 use std::num::NonZeroUsize;
 pub(crate) use time::duration_of_word;
-pub use time::time_of;
+pub use time::{split_time, time_of};
 
 /// Returns the report of all that a reader gives, by keys, under these limits.
 pub(crate) fn make_timed_report<R: Read, S: BuildHasher + Drop, A: Allocator + Copy>(

@@ -36,9 +36,8 @@ impl Answers {
     /// The answer of the next line.
     pub fn add(&mut self, out: Out) {
         let Out { text, is_short } = out;
-        if is_short || self.list.push(text).is_err() {
-            self.is_short = true;
-        }
+        let is_added = self.list.push(text).is_ok();
+        self.is_short = self.is_short || is_short || !is_added;
     }
 
     /// The answer of the next line in a word.
@@ -94,8 +93,10 @@ impl Answers {
     /// Says where answers under another hash differ.
     pub fn compare(&mut self, others: &Answers) {
         let mut is_short = others.is_short;
-        for (answer, other) in self.list.iter_mut().zip(&others.list) {
-            is_short = !add_other(answer, other) || is_short;
+        for (at, other) in others.list.iter().enumerate() {
+            if let Some(answer) = self.list.get_mut(at) {
+                is_short = !add_other(answer, other) || is_short;
+            }
         }
         self.is_short = self.is_short || is_short;
     }
@@ -105,8 +106,8 @@ impl Answers {
         if again.list.len() != lines.len() {
             return;
         }
-        for ((line, answer), other) in lines.iter().zip(&self.list).zip(&again.list) {
-            say_if_other(line, answer, other, out);
+        for (at, line) in lines.iter().enumerate() {
+            say_if_other(line, self.list.get(at), again.list.get(at), out);
         }
     }
 
@@ -127,7 +128,10 @@ fn add_other(answer: &mut String, other: &str) -> bool {
 }
 
 /// Says the answer of a line that was called again, where it differs and the line does not look at the last call.
-fn say_if_other(line: &Line, answer: &str, other: &str, out: &mut Out) {
+fn say_if_other(line: &Line, answer: Option<&String>, other: Option<&String>, out: &mut Out) {
+    let (Some(answer), Some(other)) = (answer, other) else {
+        return;
+    };
     if answer != other && !["cost", "notes", "blocks", "bytes"].contains(&line.name()) {
         out.say("; ? ");
         out.say(line.call);

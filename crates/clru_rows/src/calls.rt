@@ -62,7 +62,10 @@ pub(crate) fn called<S: BuildHasher, W: WeightScale<Key, Value>, A: Allocator + 
     words: &mut Words,
     out: &mut Out,
 ) -> bool {
-    read(cache, world, name, words, out) || change(cache, world, name, words, out)
+    if read(cache, world, name, words, out) {
+        return true;
+    }
+    change(cache, world, name, words, out)
 }
 
 /// Makes a call that changes nothing. Answers `false` where the name is none of these.
@@ -111,11 +114,20 @@ fn step_of<A: Allocator + Copy>(
     words: &mut Words,
     out: &mut Out,
 ) -> bool {
+    let found = match name {
+        "next" => walk.next(),
+        "next_back" => walk.next_back(),
+        "nth" => walk.nth(words.number()),
+        "nth_back" => walk.nth_back(words.number()),
+        _ => return count_of(walk, name, out),
+    };
+    say_found(found, out);
+    true
+}
+
+/// What is left of such an iterator. Answers `false` where the name is none of these.
+fn count_of<A: Allocator + Copy>(walk: &mut Walk<'_, A>, name: &str, out: &mut Out) -> bool {
     match name {
-        "next" => say_found(walk.next(), out),
-        "next_back" => say_found(walk.next_back(), out),
-        "nth" => say_found(walk.nth(words.number()), out),
-        "nth_back" => say_found(walk.nth_back(words.number()), out),
         "len" => out.number(walk.len()),
         "size_hint" => say_hint(walk.size_hint(), out),
         _ => return copy_of(walk, name, out),
@@ -186,11 +198,22 @@ where
     match name {
         "len" => out.number(walk.len()),
         "size_hint" => say_hint(walk.size_hint(), out),
-        "next" => say_taken(walk.next(), out),
-        "next_back" => say_taken(walk.next_back(), out),
+        "next" | "next_back" => say_taken(taken(walk, name == "next"), out),
         _ => return false,
     }
     true
+}
+
+/// The pair at the front, or at the back, taken out.
+fn taken<S: BuildHasher + Drop, W: WeightScale<Key, Value> + Drop, A: Allocator + Copy>(
+    walk: &mut Owned<S, W, A>,
+    is_front: bool,
+) -> Option<(Key, Value)> {
+    if is_front {
+        walk.next()
+    } else {
+        walk.next_back()
+    }
 }
 
 /// Makes a call that may change the cache. Answers `false` where the name is none of these.

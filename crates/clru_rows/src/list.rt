@@ -9,7 +9,7 @@ use crate::list::whole::list_fault;
 use crate::out::Out;
 use crate::subject::{Subject, run_lines};
 use crate::words::{Words, Wrong};
-use crate::world::World;
+use crate::world::{Cost, World};
 use clru_list::FixedSizeList;
 use ration::Rationed;
 use std::alloc::Global;
@@ -36,12 +36,7 @@ struct List {
 /// refusal is called once more.
 pub(crate) fn run(world: &'static World, lines: &[Line], answers: &mut Answers) {
     let mut before = world.cost();
-    let mut list = made(world);
-    if list.is_none() && answers.refused.is_some() {
-        before = world.cost();
-        list = made(world);
-        answers.meet("the list -> no memory; again -> made");
-    }
+    let list = made_at_last(world, &mut before, answers);
     let cost = world.cost().since(before);
     let mut out = Out::new(world.alloc);
     out.say(if list.is_some() { "made" } else { "no memory" });
@@ -57,6 +52,23 @@ pub(crate) fn run(world: &'static World, lines: &[Line], answers: &mut Answers) 
             answers.refuse(lines, Wrong::NothingMade);
         }
     }
+}
+
+/// Makes a list, once more where a refusal is met.
+fn made_at_last(
+    world: &'static World,
+    before: &mut Cost,
+    answers: &mut Answers,
+) -> Option<Counted> {
+    if let Some(list) = made(world) {
+        return Some(list);
+    }
+    if answers.refused.is_none() {
+        return None;
+    }
+    *before = world.cost();
+    answers.meet("the list -> no memory; again -> made");
+    made(world)
 }
 
 /// Makes a list, or answers `None` for want of memory.

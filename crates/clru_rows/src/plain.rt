@@ -65,7 +65,7 @@ fn lend<S: BuildHasher, A: Allocator + Copy>(
     } else {
         cache.peek_mut(&key)
     };
-    swap(lent, Value::next(world, words), out);
+    swap(lent, world, words, out);
 }
 
 fn put<S: BuildHasher, A: Allocator + Copy>(
@@ -190,8 +190,8 @@ fn lend_end<S: BuildHasher, A: Allocator + Copy>(
     match what {
         "key" => out.say(&entry.key().text),
         "deref" => out.say(&entry.text),
-        "deref_mut" => swap(Some(&mut *entry), Value::next(world, words), out),
-        "into_mut" => swap(Some(entry.into_mut()), Value::next(world, words), out),
+        "deref_mut" => swap(Some(&mut *entry), world, words, out),
+        "into_mut" => swap(Some(entry.into_mut()), world, words, out),
         _ => words.note(Wrong::NoSuchWord),
     }
 }
@@ -212,7 +212,7 @@ fn steps<S: BuildHasher, A: Allocator + Copy>(
         out.part("; ");
         if name == "len" {
             out.number(cursor.len());
-        } else if !step(&mut cursor, name, Value::next(world, words), out) {
+        } else if !step(&mut cursor, world, name, words, out) {
             words.note(Wrong::NoSuchWord);
         }
     }
@@ -221,31 +221,33 @@ fn steps<S: BuildHasher, A: Allocator + Copy>(
 /// One step of a cursor. Answers `false` where the name is none.
 fn step<S: BuildHasher, A: Allocator + Copy>(
     cursor: &mut Cursor<'_, S, A>,
+    world: &'static World,
     name: &str,
-    value: Value,
+    words: &mut Words,
     out: &mut Out,
 ) -> bool {
     let left = cursor.len();
     match name {
-        "next" => swap(cursor.next(), value, out),
-        "next_back" => swap(cursor.next_back(), value, out),
-        "next_entry" | "next_entry_back" if left == 0 => out.say("none"),
-        "next_entry" => swap_entry(cursor.next_entry(), value, out),
-        "next_entry_back" => swap_entry(cursor.next_entry_back(), value, out),
+        "next" => swap(cursor.next(), world, words, out),
+        "next_back" => swap(cursor.next_back(), world, words, out),
+        "next_entry" | "next_entry_back" if left == 0 => swap(None, world, words, out),
+        "next_entry" => swap_entry(cursor.next_entry(), world, words, out),
+        "next_entry_back" => swap_entry(cursor.next_entry_back(), world, words, out),
         _ => return false,
     }
     true
 }
 
-/// Writes a value to an entry that is lent, and its key and its old one as the answer.
-fn swap_entry(lent: (&Key, &mut Value), value: Value, out: &mut Out) {
+/// Writes the next word to an entry that is lent, and its key and its old value as the answer.
+fn swap_entry(lent: (&Key, &mut Value), world: &'static World, words: &mut Words, out: &mut Out) {
     out.say(&lent.0.text);
     out.say(" ");
-    swap(Some(lent.1), value, out);
+    swap(Some(lent.1), world, words, out);
 }
 
-/// Writes a value to what is lent, where something is, and the old one as the answer.
-fn swap(lent: Option<&mut Value>, value: Value, out: &mut Out) {
+/// Writes the next word to what is lent, where something is, and the old value as the answer.
+fn swap(lent: Option<&mut Value>, world: &'static World, words: &mut Words, out: &mut Out) {
+    let value = Value::next(world, words);
     match lent {
         Some(held) => {
             let old = mem::replace(held, value);

@@ -16,8 +16,7 @@ use crate::words::{Words, Wrong};
 use crate::world::{Cost, World};
 use clru::{WeightScale, ZeroWeightScale};
 use clru_runs::{Answer, Call, PlainCall, perform_all};
-use ration::Rationed;
-use std::alloc::{Allocator, Global};
+use std::alloc::Allocator;
 use std::hash::BuildHasher;
 
 /// The calls of a line.
@@ -50,23 +49,27 @@ fn line_made(world: &'static World, words: &mut Words, out: &mut Out) {
     if world.head.weighs {
         if let Some(mut cache) = filled(world, ByNumber, words) {
             refuse(world, words);
-            weighed_run_of(
-                world,
-                &world.owned,
-                &mut cache,
-                any_calls_of(world, words),
-                out,
-            );
+            let calls = any_calls_of(world, &world.owned, words);
+            weighed_run_of(world, &world.owned, &mut cache, calls, out);
         }
     } else if let Some(mut cache) = filled(world, ZeroWeightScale, words) {
-        if words.passes("puts") {
-            puts(world, &mut cache, words, out);
-        } else if words.passes("unanswered") {
-            unanswered(world, &world.owned, &mut cache, calls_of(world, words), out);
-        } else {
-            refuse(world, words);
-            run_of(world, &world.owned, &mut cache, calls_of(world, words), out);
-        }
+        plain_line(world, &world.owned, &mut cache, words, out);
+    }
+}
+
+/// Makes the calls of a line where numbers weigh nothing.
+fn plain_line<S: BuildHasher, A: Allocator + Copy>(
+    world: &'static World,
+    owned: A,
+    cache: &mut Plain<S, A>,
+    words: &mut Words,
+    out: &mut Out,
+) {
+    if words.passes("unanswered") {
+        unanswered(world, owned, cache, calls_of(world, owned, words), out);
+    } else {
+        refuse(world, words);
+        run_of(world, owned, cache, calls_of(world, owned, words), out);
     }
 }
 
@@ -127,6 +130,9 @@ fn weighed_run_of<S: BuildHasher, A: Allocator + Copy>(
     }
 }
 
+/// The answers up to which each is written.
+const MOST: usize = 1000;
+
 /// Says what the calls of a run answered and cost, since these were counted.
 fn say_run(
     world: &World,
@@ -136,9 +142,10 @@ fn say_run(
     out: &mut Out,
 ) {
     let cost = world.cost().since(before);
-    for (at, answer) in answers.iter().enumerate() {
-        out.say(if at > 0 { "; " } else { "" });
-        say_answer(answer, out);
+    if answers.len() > MOST {
+        out.count("answers ", answers.len());
+    } else {
+        say_answers(answers, out);
     }
     if cost.hashed > 0 {
         out.count("; hashes ", cost.hashed as usize);
@@ -148,6 +155,13 @@ fn say_run(
     }
     if world.owned.requests().wrapping_sub(requests) != 1 {
         out.say("; ? more than one request is made for the answers");
+    }
+}
+
+fn say_answers(answers: &[Answer<usize, usize>], out: &mut Out) {
+    for (at, answer) in answers.iter().enumerate() {
+        out.say(if at > 0 { "; " } else { "" });
+        say_answer(answer, out);
     }
 }
 
@@ -169,35 +183,4 @@ fn unanswered<S: BuildHasher, A: Allocator + Copy>(
             run_of(world, owned, cache, calls, out);
         }
     }
-}
-
-/// `puts N`: a run of puts of the keys below N.
-fn puts(
-    world: &'static World,
-    cache: &mut Counted<ZeroWeightScale>,
-    words: &mut Words,
-    out: &mut Out,
-) {
-    let calls = puts_below(world, words.number());
-    let requests = world.owned.requests();
-    let Ok(answers) = perform_all(&world.owned, cache, calls) else {
-        out.is_short = true;
-        return;
-    };
-    let requests = world.owned.requests().wrapping_sub(requests);
-    out.number(answers.len());
-    out.count(" answers by ", requests as usize);
-    out.count(" request, ", cache.len());
-    out.say(" held");
-}
-
-/// Puts of the keys below a number.
-fn puts_below(world: &'static World, end: usize) -> Calls<&'static Rationed<Global>> {
-    let mut calls = Vec::new(&world.owned);
-    for number in 0..end {
-        if calls.push(PlainCall::Put(number, number)).is_err() {
-            world.is_short.set(true);
-        }
-    }
-    calls
 }

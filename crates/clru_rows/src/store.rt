@@ -217,10 +217,13 @@ fn called<S: BuildHasher, A: Allocator + Copy>(
     words: &mut Words,
     out: &mut Out,
 ) {
-    if !looked_up(store, world, name, words, out)
-        && !changed(store, world, name, words, out)
-        && !read(store.cache(), world, name, words, out)
-    {
+    if looked_up(store, world, name, words, out) {
+        return;
+    }
+    if changed(store, world, name, words, out) {
+        return;
+    }
+    if !read(store.cache(), world, name, words, out) {
         words.note(Wrong::NoSuchCall);
     }
 }
@@ -234,30 +237,44 @@ fn looked_up<S: BuildHasher, A: Allocator + Copy>(
     out: &mut Out,
 ) -> bool {
     match name {
-        "load" => say_loaded(store.load(Key::next(world, words)), out),
-        "refresh" => say_loaded(store.refresh(Key::next(world, words)), out),
-        "load_unless" => say_loaded(load_unless(store, world, words), out),
+        "load" | "refresh" | "load_unless" => say_loaded(loaded(store, world, name, words), out),
         "put" | "is_too_heavy" => fit(store, name, Key::next(world, words), out),
-        "hit" => say_value(store.hit(&Key::next(world, words)), out),
-        "peek" => say_value(store.peek(&Key::next(world, words)), out),
-        "pop" => {
-            let value = store.pop(&Key::next(world, words));
-            say_popped(value, out);
-        }
+        "hit" | "peek" | "pop" => by_key(store, name, &Key::next(world, words), out),
         _ => return false,
     }
     true
 }
 
-/// A load that fetches again where the held value is of a form.
-fn load_unless<S: BuildHasher, A: Allocator + Copy>(
+/// A load; `load_unless` fetches again where the held value is of a form.
+fn loaded<S: BuildHasher, A: Allocator + Copy>(
     store: &mut Any<S, A>,
     world: &'static World,
+    name: &str,
     words: &mut Words,
 ) -> Result<Loaded<Value>, Failed> {
     let key = Key::next(world, words);
-    let stale = Keep::read(words);
-    store.load_unless(key, |key, value| stale.keeps_entry(world, key, value))
+    match name {
+        "load" => store.load(key),
+        "refresh" => store.refresh(key),
+        _ => {
+            let stale = Keep::read(words);
+            store.load_unless(key, |key, value| stale.keeps_entry(world, key, value))
+        }
+    }
+}
+
+/// A look-up or a removal.
+fn by_key<S: BuildHasher, A: Allocator + Copy>(
+    store: &mut Any<S, A>,
+    name: &str,
+    key: &Key,
+    out: &mut Out,
+) {
+    match name {
+        "hit" => say_value(store.hit(key), out),
+        "peek" => say_value(store.peek(key), out),
+        _ => say_popped(store.pop(key), out),
+    }
 }
 
 /// A call by a key and its value, `put` or `is_too_heavy`.

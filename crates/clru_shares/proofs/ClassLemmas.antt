@@ -11,7 +11,7 @@ use Rattle.std.proofs.lemmas.List.Edits.{length-insert, get_or-insert_at, get_or
 use Rattle.std.proofs.lemmas.List.Elements.{filter-append}
 use Rattle.clru_model.proofs.Cases.{split}
 use Rattle.clru_report.proofs.SettledCurves.{bytes_laws, same_bytes}
-use Rattle.clru_shares.specs.Classes.{AreAscending, IsBefore, class_in, requests_of}
+use Rattle.clru_shares.specs.Classes.{AreAscending, IsBefore, class_in, of_class, requests_of}
 use Rattle.clru_shares.specs.Passes.{BelongsAt, IsHeldAt, IsPlaceOf}
 
 less_of : (o : Ordering) → is_lt o ≡ true → o ≡ Less
@@ -39,6 +39,16 @@ module _ (name : List ℕ) (lines : List (List ℕ)) (line : List ℕ) where
   pub none_more : bytes_eq name (class_in line) ≡ false → requests_of name (lines ++ line ∷ []) ≡ requests_of name lines
   none_more is = filter-append (λ l. bytes_eq name (class_in l)) lines (line ∷ [])
       ∙ ap (λ b. requests_of name lines ++ cond b (line ∷ []) []) is ∙ append-nil (requests_of name lines)
+
+-- and so is one more request
+module _ (name : List ℕ) (requests : List (List ℕ × ℕ)) (r : List ℕ × ℕ) where
+  pub one_asked : bytes_eq name (class_in r.0) ≡ true → of_class name (requests ++ r ∷ []) ≡ of_class name requests ++ r ∷ []
+  one_asked is = filter-append (λ (q : List ℕ × ℕ). bytes_eq name (class_in q.0)) requests (r ∷ [])
+      ∙ ap (λ b. of_class name requests ++ cond b (r ∷ []) []) is
+
+  pub none_asked : bytes_eq name (class_in r.0) ≡ false → of_class name (requests ++ r ∷ []) ≡ of_class name requests
+  none_asked is = filter-append (λ (q : List ℕ × ℕ). bytes_eq name (class_in q.0)) requests (r ∷ [])
+      ∙ ap (λ b. of_class name requests ++ cond b (r ∷ []) []) is ∙ append-nil (of_class name requests)
 
 -- a name at its place
 module _ (names : List (List ℕ)) (name : List ℕ) (at : ℕ) where

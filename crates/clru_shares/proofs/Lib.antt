@@ -6,5 +6,6 @@ mod PassLemmas
 mod PlaceLemmas
 mod SampleLemmas
 mod ShareLemmas
-mod SizedViews
 mod TakenClasses
+mod TimedLines
+mod Timeless

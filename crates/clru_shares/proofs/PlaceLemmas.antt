@@ -1,10 +1,13 @@
--- Where the latest request of each line is after one more.
-use Rattle.std.proofs.Common.{◌≡◌, ℕ, suc, ◌+◌, ◌≤◌, ◌||◌, Bool, true, false, cond, List, [], ◌∷◌, ◌++◌, length, map, reverse, Option, Some, None, refl, sym, ap, ◌∙◌, subst, arith}
+-- Where and when the latest request of each line is after one more.
+use Rattle.std.proofs.Common.{◌≡◌, ℕ, suc, ◌+◌, ◌-◌, ◌≤◌, ◌||◌, Bool, true, false, cond, nat_le, List, [], ◌∷◌, ◌++◌, length, map, reverse, Option, Some, None, refl, sym, ap, ◌∙◌, subst, arith}
 use Rattle.std.specs.Prelude.{bytes_eq, IsSome}
 use Rattle.std.specs.Cmp.{IsEquivalence}
-use Rattle.std.specs.Map.{lookup, set_value}
+use Rattle.std.specs.Map.{keys_of, lookup, set_value}
+use Rattle.std.specs.Option.{option_map_or}
 use Rattle.std.proofs.lemmas.Map.{lookup-set_value, length-set_value}
+use Rattle.std.proofs.lemmas.Map.Entries.{length-keys_of}
 use Rattle.std.proofs.lemmas.List.{length-append, length-map, length-reverse, reverse-append, reverse-reverse}
+use Rattle.clru_model.specs.Ages.{is_recent}
 use Rattle.clru_model.specs.Requests.{holds, since}
 use Rattle.clru_model.proofs.Cases.{split}
 use Rattle.clru_model.proofs.Distinct.{since-cons}
@@ -13,11 +16,14 @@ use Rattle.clru_curve.specs.KeyTables.{Keyed, keyed}
 use Rattle.clru_curve.specs.PositionPasses.{IsLatestOf}
 use Rattle.clru_lines.specs.declared.lines.OwnedKey.{OwnedKey}
 use Rattle.clru_report.specs.Passes.{line_of, same_line}
+use Rattle.clru_report.specs.TimedPasses.{shown_of}
 use Rattle.clru_report.proofs.SettledCurves.{bytes_laws, same_bytes}
-use Rattle.clru_shares.proofs.ClassLemmas.{none_more, one_more}
-use Rattle.clru_shares.specs.Classes.{class_in, requests_of}
-use Rattle.clru_shares.specs.Places.{AreLatestBy, IsLatestBy, IsNoted, IsNotedBy, all_of, own_of}
+use Rattle.clru_report.proofs.TimedViews.{keys-view, recent-view}
+use Rattle.clru_shares.proofs.ClassLemmas.{none_asked, one_asked}
+use Rattle.clru_shares.specs.Classes.{class_in, of_class}
+use Rattle.clru_shares.specs.Places.{AreLatest, AreLatestBy, IsAskedOf, IsLatestAt, IsNoted, IsNotedBy, all_of, own_of, soon_of, time_of}
 use Rattle.clru_shares.specs.declared.latest.Places.{Places}
+use Rattle.clru_shares.specs.declared.pass.Asked.{Asked}
 
 module _ {K : Type 0} (eq : K → K → Bool) (laws : IsEquivalence eq) (past : List K) (x : K) where
   -- a key is requested where the requests so far end
@@ -64,91 +70,125 @@ latest_view past key (Some p) is = record {
   );
 }
 
-pub latest_shown : {A : Type 0} (lines : List (List ℕ)) (past : List (OwnedKey A)) (key : OwnedKey A) (latest : Option ℕ)
-    → map line_of (reverse past) ≡ lines → IsLatestBy false lines (line_of key) latest → IsLatestOf same_line past key latest
-latest_shown lines past key latest shown is =
-    let behind : reverse lines ≡ map line_of past =
-    ap reverse (sym shown ∙ map-reverse line_of past) ∙ reverse-reverse (map line_of past) in
-    latest_view past key latest (subst (λ ls. IsLatestOf bytes_eq ls (line_of key) latest) behind is)
+-- what is asked of requests of lines is asked of those of their keys
+pub asked_shown : {A : Type 0} (limit : ℕ) (requests : List (List ℕ × ℕ)) (past : List (OwnedKey A × ℕ)) (key : OwnedKey A) (asked : Asked)
+    → map shown_of (reverse past) ≡ requests → IsAskedOf false limit requests (line_of key) asked
+    → IsLatestOf same_line (keys_of past) key asked.latest × (asked.soon ≡ is_recent same_line (Some limit) (key, asked.time) past)
+asked_shown limit requests past key asked shown is =
+    let behind : reverse requests ≡ map shown_of past = ap reverse (sym shown ∙ map-reverse shown_of past) ∙ reverse-reverse (map shown_of past) in (
+      latest_view (keys_of past) key asked.latest
+          (subst (λ ls. IsLatestOf bytes_eq ls (line_of key) asked.latest) (ap keys_of behind ∙ keys-view bytes_eq line_of past) is.0),
+      is.1 ∙ ap (is_recent bytes_eq (Some limit) (line_of key, asked.time)) behind
+          ∙ recent-view bytes_eq line_of (Some limit) (key, asked.time) past,
+    )
 
--- with one more line behind
-module _ (lines : List (List ℕ)) (line : List ℕ) where
-  back : reverse (lines ++ line ∷ []) ≡ line ∷ reverse lines
-  back = reverse-append lines (line ∷ [])
+-- with one more request behind
+module _ (requests : List (List ℕ × ℕ)) (r : List ℕ × ℕ) where
+  back : reverse (requests ++ r ∷ []) ≡ r ∷ reverse requests
+  back = reverse-append requests (r ∷ [])
 
-  pub line_here : (p : ℕ) → p ≡ length lines → IsLatestBy false (lines ++ line ∷ []) line (Some p)
-  line_here p here = subst (λ past. IsLatestOf bytes_eq past line (Some p)) (sym back)
-      (latest_here bytes_eq bytes_laws (reverse lines) line p (here ∙ sym (length-reverse lines)))
-
-  pub line_there : (other : List ℕ) (latest : Option ℕ) → bytes_eq other line ≡ false → IsLatestBy false lines other latest
-      → IsLatestBy false (lines ++ line ∷ []) other latest
-  line_there other latest apart is = subst (λ past. IsLatestOf bytes_eq past other latest) (sym back)
-      (latest_there bytes_eq bytes_laws (reverse lines) line other latest apart is)
-
-  -- it is noted where it was requested
-  places_here : (here : Places) → here.all ≡ length lines → here.own ≡ length (requests_of (class_in line) lines)
-      → AreLatestBy false (lines ++ line ∷ []) line (Some here)
-  places_here here all own = record {
-    all = line_here here.all all;
-    own = subst (λ ls. IsLatestBy false ls line (Some here.own)) (sym (one_more (class_in line) lines line (bytes_laws.refl (class_in line))))
-        (own_here here.own own);
+  at_here : (p : ℕ) → p ≡ length requests → IsLatestAt (requests ++ r ∷ []) r.0 (Some p) (Some r.1)
+  at_here p here = record {
+    position = subst (λ past. IsLatestOf bytes_eq (keys_of past) r.0 (Some p)) (sym back)
+        (latest_here bytes_eq bytes_laws (keys_of (reverse requests)) r.0 p
+        (here ∙ sym (length-keys_of (reverse requests) ∙ length-reverse requests)));
+    timed = sym (ap (lookup (bytes_eq r.0)) back ∙ ap (λ b. cond b (Some r.1) (lookup (bytes_eq r.0) (reverse requests))) (bytes_laws.refl r.0));
   }
-    where
-      own_here : (p : ℕ) → p ≡ length (requests_of (class_in line) lines)
-          → IsLatestBy false (requests_of (class_in line) lines ++ line ∷ []) line (Some p)
-      own_here p is = subst (λ past. IsLatestOf bytes_eq past line (Some p)) (sym (reverse-append (requests_of (class_in line) lines) (line ∷ [])))
-          (latest_here bytes_eq bytes_laws (reverse (requests_of (class_in line) lines)) line p (is ∙ sym (length-reverse (requests_of (class_in line) lines))))
 
-  places_there : (other : List ℕ) (places : Option Places) → bytes_eq other line ≡ false → AreLatestBy false lines other places
-      → AreLatestBy false (lines ++ line ∷ []) other places
-  places_there other places apart is = record {
-    all = line_there other (all_of places) apart is.all;
+  at_there : (other : List ℕ) (latest time : Option ℕ) → bytes_eq other r.0 ≡ false → IsLatestAt requests other latest time
+      → IsLatestAt (requests ++ r ∷ []) other latest time
+  at_there other latest time apart is = record {
+    position = subst (λ past. IsLatestOf bytes_eq (keys_of past) other latest) (sym back)
+        (latest_there bytes_eq bytes_laws (keys_of (reverse requests)) r.0 other latest apart is.position);
+    timed = is.timed ∙ sym (ap (lookup (bytes_eq other)) back ∙ ap (λ b. cond b (Some r.1) (lookup (bytes_eq other) (reverse requests))) apart);
+  }
+
+module _ (requests : List (List ℕ × ℕ)) (line : List ℕ) where
+  -- it is noted where and when it was requested
+  places_here : (here : Places) → here.all ≡ length requests → here.own ≡ length (of_class (class_in line) requests)
+      → AreLatest (requests ++ (line, here.time) ∷ []) line (Some here)
+  places_here here all own = let r : List ℕ × ℕ = (line, here.time) in record {
+    all = at_here requests r here.all all;
+    own = subst (λ rs. IsLatestAt rs line (Some here.own) (Some here.time))
+        (sym (one_asked (class_in line) requests r (bytes_laws.refl (class_in line))))
+        (at_here (of_class (class_in line) requests) r here.own own);
+  }
+
+  places_there : (t : ℕ) (other : List ℕ) (places : Option Places) → bytes_eq other line ≡ false → AreLatest requests other places
+      → AreLatest (requests ++ (line, t) ∷ []) other places
+  places_there t other places apart is = let r : List ℕ × ℕ = (line, t) in record {
+    all = at_there requests r other (all_of places) (time_of places) apart is.all;
     own = split (bytes_eq (class_in other) (class_in line))
-        (λ t. subst (λ ls. IsLatestBy false ls other (own_of places)) (sym (one_more (class_in other) lines line t))
-        (subst (λ past. IsLatestOf bytes_eq past other (own_of places)) (sym (reverse-append (requests_of (class_in other) lines) (line ∷ [])))
-        (latest_there bytes_eq bytes_laws (reverse (requests_of (class_in other) lines)) line other (own_of places) apart is.own)))
-        (λ f. subst (λ ls. IsLatestBy false ls other (own_of places)) (sym (none_more (class_in other) lines line f)) is.own);
+        (λ u. subst (λ rs. IsLatestAt rs other (own_of places) (time_of places)) (sym (one_asked (class_in other) requests r u))
+        (at_there (of_class (class_in other) requests) r other (own_of places) (time_of places) apart is.own))
+        (λ f. subst (λ rs. IsLatestAt rs other (own_of places) (time_of places)) (sym (none_asked (class_in other) requests r f)) is.own);
   }
 
   -- once its place is noted, the places of all lines are
   pub noted_more : {A S : Type 0} (table next : Keyed (OwnedKey A) Places S) (key : OwnedKey A) (here : Places) → line_of key ≡ line
-      → IsNoted lines table → here.all ≡ length lines → here.own ≡ length (requests_of (class_in line) lines)
+      → IsNoted requests table → here.all ≡ length requests → here.own ≡ length (of_class (class_in line) requests)
       → length next.entries ≤ length table.entries + 1
       → ((y : OwnedKey A) → lookup (same_line y) next.entries ≡ cond (same_line key y) (Some here) (lookup (same_line y) table.entries))
-      → IsNoted (lines ++ line ∷ []) next
-  noted_more table next key here is noted all own long moved = record {
-    few = omega (arith, long, noted.few, length-append lines (line ∷ []));
+      → IsNoted (requests ++ (line, here.time) ∷ []) next
+  noted_more table next key here is noted all own long moved = let more = requests ++ (line, here.time) ∷ [] in record {
+    few = omega (arith, long, noted.few, length-append requests ((line, here.time) ∷ []));
     each = λ y. let found = λ (b : Bool). cond b (Some here) (lookup (same_line y) table.entries) in split (same_line key y)
         (λ t. let same : line_of y ≡ line = sym (same_bytes (line_of key) (line_of y) t) ∙ is in
-        subst (λ l. AreLatestBy false (lines ++ line ∷ []) l (lookup (same_line y) next.entries)) (sym same)
-        (subst (AreLatestBy false (lines ++ line ∷ []) line) (sym (moved y ∙ ap found t)) (places_here here all own)))
+        subst (λ l. AreLatest more l (lookup (same_line y) next.entries)) (sym same)
+        (subst (AreLatest more line) (sym (moved y ∙ ap found t)) (places_here here all own)))
         (λ f. let apart : bytes_eq (line_of y) line ≡ false =
         subst (λ l. bytes_eq (line_of y) l ≡ false) is (bytes_laws.symm (line_of y) (line_of key) ∙ f) in
-        subst (AreLatestBy false (lines ++ line ∷ []) (line_of y)) (sym (moved y ∙ ap found f))
-        (places_there (line_of y) (lookup (same_line y) table.entries) apart (noted.each y)));
+        subst (AreLatest more (line_of y)) (sym (moved y ∙ ap found f))
+        (places_there here.time (line_of y) (lookup (same_line y) table.entries) apart (noted.each y)));
   }
 
-  module _ {A S : Type 0} (table next : Keyed (OwnedKey A) Places S) (key : OwnedKey A) (here : Places) (b : S) (noted : IsNoted lines table)
-      (all : here.all ≡ length lines) (own : here.own ≡ length (requests_of (class_in line) lines)) (is : line_of key ≡ line) where
+  module _ {A S : Type 0} (table next : Keyed (OwnedKey A) Places S) (key : OwnedKey A) (here : Places) (b : S) (noted : IsNoted requests table)
+      (all : here.all ≡ length requests) (own : here.own ≡ length (of_class (class_in line) requests)) (is : line_of key ≡ line) where
     pub noted_again : next ≡ keyed (set_value (same_line key) table.entries here) b → IsSome (lookup (same_line key) table.entries)
-        → IsNoted (lines ++ line ∷ []) next
-    noted_again to held = subst (IsNoted (lines ++ line ∷ [])) (sym to)
+        → IsNoted (requests ++ (line, here.time) ∷ []) next
+    noted_again to held = subst (IsNoted (requests ++ (line, here.time) ∷ [])) (sym to)
         (noted_more table (keyed (set_value (same_line key) table.entries here) b) key here is noted all own
         (omega (arith, length-set_value (same_line key) table.entries here))
         (λ y. lookup-set_value key_laws (same_line key) (λ z w t. key_laws.congr key z w t) y here table.entries held))
 
-    pub noted_new : next ≡ keyed ((key, here) ∷ table.entries) b → IsNoted (lines ++ line ∷ []) next
-    noted_new to = subst (IsNoted (lines ++ line ∷ [])) (sym to)
+    pub noted_new : next ≡ keyed ((key, here) ∷ table.entries) b → IsNoted (requests ++ (line, here.time) ∷ []) next
+    noted_new to = subst (IsNoted (requests ++ (line, here.time) ∷ [])) (sym to)
         (noted_more table (keyed ((key, here) ∷ table.entries) b) key here is noted all own (omega arith)
         (λ y. ap (λ t. cond t (Some here) (lookup (same_line y) table.entries)) (key_laws.symm y key)))
 
 -- before the first line none is noted
 pub none_noted : {A S : Type 0} (sizes : Bool) (table : Keyed (OwnedKey A) Places S) → table.entries ≡ [] → IsNotedBy sizes [] table
 none_noted true table empty = tt
-none_noted false table empty = record {
-  few = omega (arith, ap length empty);
-  each = λ key. subst (λ es. AreLatestBy false [] (line_of key) (lookup (same_line key) es)) (sym empty) (record {
-    all = record { known = refl; position = tt };
-    own = record { known = refl; position = tt };
-  });
-}
+none_noted false table empty =
+    record {
+      few = omega (arith, ap length empty);
+      each = λ key. subst (λ es. AreLatest [] (line_of key) (lookup (same_line key) es)) (sym empty) (record {
+        all = record { position = record { known = refl; position = tt }; timed = refl };
+        own = record { position = record { known = refl; position = tt }; timed = refl };
+      });
+    }
+
+-- what the noted places say of one more request
+module _ (sizes : Bool) (limit : ℕ) (requests : List (List ℕ × ℕ)) (line : List ℕ) (places : Option Places) (asked : Asked)
+    (soon : asked.soon ≡ soon_of limit asked.time places) where
+  late_at : (rs : List (List ℕ × ℕ)) → time_of places ≡ lookup (bytes_eq line) (reverse rs)
+      → asked.soon ≡ is_recent bytes_eq (Some limit) (line, asked.time) (reverse rs)
+  late_at rs at = soon ∙ ap (λ o. option_map_or (λ before. nat_le (asked.time - before) limit) o false) at
+
+  pub asked_all : AreLatestBy sizes requests line places → asked.latest ≡ all_of places → IsAskedOf sizes limit requests line asked
+  asked_all are at = by sizes are
+    where
+      by : (s : Bool) → AreLatestBy s requests line places → IsAskedOf s limit requests line asked
+      by true is = tt
+      by false is = (subst (IsLatestOf bytes_eq (keys_of (reverse requests)) line) (sym at) is.all.position, late_at requests is.all.timed)
+
+  pub asked_own : AreLatestBy sizes requests line places → asked.latest ≡ own_of places
+      → IsAskedOf sizes limit (of_class (class_in line) requests) line asked
+  asked_own are at = by sizes are
+    where
+      own : List (List ℕ × ℕ)
+      own = of_class (class_in line) requests
+
+      by : (s : Bool) → AreLatestBy s requests line places → IsAskedOf s limit own line asked
+      by true is = tt
+      by false is = (subst (IsLatestOf bytes_eq (keys_of (reverse own)) line) (sym at) is.own.position, late_at own is.own.timed)

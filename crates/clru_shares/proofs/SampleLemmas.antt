@@ -1,47 +1,49 @@
--- Which lines are kept after one more, and those of a class.
+-- Which requests are kept after one more, and those of a class.
 use Rattle.std.proofs.Common.{◌≡◌, ℕ, ◌+◌, ◌≤◌, Bool, true, false, cond, List, [], ◌∷◌, ◌++◌, length, append-nil, Option, None, Some, refl, sym, ap, ◌∙◌, arith}
 use Rattle.std.specs.Prelude.{bytes_eq, filter}
+use Rattle.std.specs.Map.{keys_of}
 use Rattle.std.proofs.lemmas.List.{length-append}
 use Rattle.std.proofs.lemmas.List.Elements.{filter-append}
 use Rattle.clru_model.proofs.Cases.{split}
-use Rattle.clru_report.specs.Samples.{is_kept, kept_of}
-use Rattle.clru_shares.proofs.ClassLemmas.{none_more, one_more}
-use Rattle.clru_shares.specs.Classes.{class_in, requests_of}
+use Rattle.clru_report.specs.Samples.{is_kept}
+use Rattle.clru_report.specs.Times.{kept_requests}
+use Rattle.clru_shares.proofs.ClassLemmas.{none_asked, one_asked}
+use Rattle.clru_shares.specs.Classes.{class_in, of_class, requests_of}
 use Rattle.clru_shares.specs.Passes.{next_kept, next_number}
 use Rattle.clru_shares.specs.Sampled.{is_in, kept_in}
 
--- one more line is in the sample, or is not
-pub sample_next : (sample : Option ℕ) (lines : List (List ℕ)) (line : List ℕ)
-    → kept_in sample (lines ++ line ∷ []) ≡ next_kept (is_in sample line) (kept_in sample lines) line
-sample_next None lines line = refl
-sample_next (Some n) lines line = filter-append (is_kept n) lines (line ∷ []) ∙ ends (is_kept n line)
+-- one more request is in the sample, or is not
+pub sample_next : (sample : Option ℕ) (requests : List (List ℕ × ℕ)) (r : List ℕ × ℕ)
+    → kept_in sample (requests ++ r ∷ []) ≡ next_kept (is_in sample r.0) (kept_in sample requests) r
+sample_next None requests r = refl
+sample_next (Some n) requests r = filter-append (λ (q : List ℕ × ℕ). is_kept n q.0) requests (r ∷ []) ∙ ends (is_kept n r.0)
   where
-    ends : (b : Bool) → kept_of n lines ++ cond b (line ∷ []) [] ≡ next_kept b (kept_of n lines) line
+    ends : (b : Bool) → kept_requests n requests ++ cond b (r ∷ []) [] ≡ next_kept b (kept_requests n requests) r
     ends true = refl
-    ends false = append-nil (kept_of n lines)
+    ends false = append-nil (kept_requests n requests)
 
 pub nothing_kept : (sample : Option ℕ) → kept_in sample [] ≡ []
 nothing_kept None = refl
 nothing_kept (Some n) = refl
 
-pub next_counted : (b : Bool) (kept : List (List ℕ)) (line : List ℕ) → next_number b (length kept) ≡ length (next_kept b kept line)
-next_counted false kept line = refl
-next_counted true kept line = sym (length-append kept (line ∷ []))
+pub next_counted : (b : Bool) (kept : List (List ℕ × ℕ)) (r : List ℕ × ℕ) → next_number b (length kept) ≡ length (next_kept b kept r)
+next_counted false kept r = refl
+next_counted true kept r = sym (length-append kept (r ∷ []))
 
 pub next_few : (b : Bool) (n m : ℕ) → n ≤ m → next_number b n ≤ m + 1
 next_few false n m few = omega (arith, few)
 next_few true n m few = omega (arith, few)
 
--- a line of the class, or of another one
-pub one_next : (b : Bool) (name : List ℕ) (kept : List (List ℕ)) (line : List ℕ) → bytes_eq name (class_in line) ≡ true
-    → requests_of name (next_kept b kept line) ≡ next_kept b (requests_of name kept) line
-one_next false name kept line is = refl
-one_next true name kept line is = one_more name kept line is
+-- a request of the class, or of another one
+pub one_next : (b : Bool) (name : List ℕ) (kept : List (List ℕ × ℕ)) (r : List ℕ × ℕ) → bytes_eq name (class_in r.0) ≡ true
+    → of_class name (next_kept b kept r) ≡ next_kept b (of_class name kept) r
+one_next false name kept r is = refl
+one_next true name kept r is = one_asked name kept r is
 
-pub none_next : (b : Bool) (name : List ℕ) (kept : List (List ℕ)) (line : List ℕ) → bytes_eq name (class_in line) ≡ false
-    → requests_of name (next_kept b kept line) ≡ requests_of name kept
-none_next false name kept line is = refl
-none_next true name kept line is = none_more name kept line is
+pub none_next : (b : Bool) (name : List ℕ) (kept : List (List ℕ × ℕ)) (r : List ℕ × ℕ) → bytes_eq name (class_in r.0) ≡ false
+    → of_class name (next_kept b kept r) ≡ of_class name kept
+none_next false name kept r is = refl
+none_next true name kept r is = none_asked name kept r is
 
 module _ {X : Type 0} (p : X → Bool) (x : X) (xs : List X) where
   with_one : p x ≡ true → filter p (x ∷ xs) ≡ x ∷ filter p xs
@@ -64,7 +66,15 @@ filters_swap p q (x ∷ xs) =
     (λ g. ap (filter p) (without_one q x xs g) ∙ rest ∙ sym (ap (filter q) (without_one p x xs f))))
 
 -- those of a class in the sample are those of the sample in the class
-pub class_kept : (sample : Option ℕ) (name : List ℕ) (lines : List (List ℕ))
-    → requests_of name (kept_in sample lines) ≡ kept_in sample (requests_of name lines)
-class_kept None name lines = refl
-class_kept (Some n) name lines = filters_swap (λ l. bytes_eq name (class_in l)) (is_kept n) lines
+pub class_kept : (sample : Option ℕ) (name : List ℕ) (requests : List (List ℕ × ℕ))
+    → of_class name (kept_in sample requests) ≡ kept_in sample (of_class name requests)
+class_kept None name requests = refl
+class_kept (Some n) name requests =
+    filters_swap (λ (r : List ℕ × ℕ). bytes_eq name (class_in r.0)) (λ (r : List ℕ × ℕ). is_kept n r.0) requests
+
+-- the lines of a class are those of its requests
+pub class_keys : (name : List ℕ) (requests : List (List ℕ × ℕ)) → requests_of name (keys_of requests) ≡ keys_of (of_class name requests)
+class_keys name [] = refl
+class_keys name (r ∷ rs) = split (bytes_eq name (class_in r.0))
+    (λ t. rw t (ap (λ ls. r.0 ∷ ls) (class_keys name rs)))
+    (λ f. rw f (class_keys name rs))

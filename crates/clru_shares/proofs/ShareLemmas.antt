@@ -1,18 +1,20 @@
 -- Curves with the same numbers have the same best splits; the rows of shares are those of their classes.
 use Rattle.std.proofs.Common.{◌≡◌, ℕ, zero, suc, ◌+◌, ◌-◌, ◌^◌, Bool, true, false, cond, List, [], ◌∷◌, ◌++◌, length, map, nat_lt, Option, Some, None, refl, sym, ap, ◌∙◌, subst, arith}
-use Rattle.std.specs.Prelude.{◌*◌, ◌/◌, bytes_eq, codes, max, replicate, unwrap_or, IsSome}
+use Rattle.std.specs.Prelude.{◌*◌, ◌/◌, codes, max, replicate, unwrap_or, IsSome}
 use Rattle.std.specs.List.{AllZip}
+use Rattle.std.specs.Map.{keys_of}
 use Rattle.clru_curve.specs.SizedCurves.{misses_within, missed_size_within}
-use Rattle.clru_model.specs.Sizes.{misses_by_size}
 use Rattle.clru_curve.specs.Splits.{missed_at, AreParts, total_missed, IsBestSplit}
-use Rattle.clru_shares.specs.Classes.{requests_of}
+use Rattle.clru_shares.specs.Classes.{of_class}
 use Rattle.clru_shares.specs.Forms.{Part}
 use Rattle.clru_shares.specs.LinePasses.{IsCurveBy}
-use Rattle.clru_shares.specs.Passes.{HaveShares, IsShare, part_of_share, parts_of_shares}
+use Rattle.clru_shares.specs.Passes.{AreTimeless, HaveShares, IsShare, part_of_share, parts_of_shares}
 use Rattle.clru_shares.specs.Sampled.{kept_in, told_missed, told_of, told_pair}
 use Rattle.clru_shares.specs.ShareCurves.{all_by, all_of_share, missed_by_curve, missed_of_share, missed_pair, sample_of}
-use Rattle.clru_shares.specs.Shares.{all_of, greatest_weight, missed_by, missed_in, missed_told, part_of, part_with, parts_of, rows, split_rows, step_for}
-use Rattle.clru_shares.specs.Sizes.{size_in, weight_behind}
+use Rattle.clru_shares.specs.Shares.{all_of, greatest_weight, missed_by, missed_in, missed_told, part_of, part_with, parts_of, rows, sized_misses_under, split_rows, step_for}
+use Rattle.clru_shares.specs.Sizes.{size_in}
+use Rattle.clru_shares.specs.Times.{limit_of}
+use Rattle.clru_shares.proofs.Timeless.{missed_under_limit, sized_under_limit, under_limit}
 use Rattle.clru_shares.specs.declared.curve.LineCurve.{LineCurve}
 use Rattle.clru_shares.specs.declared.curve.LineCurve.TheVariants.{ByKeys, BySize}
 use Rattle.clru_shares.specs.declared.share.Share.{Share}
@@ -62,112 +64,116 @@ module _ {C D : Type 0} (all : C → ℕ) (missed : C → ℕ → Option ℕ) (o
 
 module _ {A : Type 0} where
   -- what a curve says is what its requests miss
-  price_same : (sizes : Bool) (requests : List (List ℕ)) (curve : LineCurve A) → IsCurveBy sizes requests curve → (c : ℕ)
-      → missed_by_curve curve (suc c) ≡ missed_by sizes requests (suc c)
-  price_same false requests (ByKeys curve) is c = ap Some (is (suc c) (omega arith))
-  price_same false requests (BySize curve) is c = absurd is
-  price_same true requests (ByKeys curve) is c = absurd is
-  price_same true requests (BySize curve) is c =
-      ap (λ g. cond (nat_lt g (suc c)) (Some (missed_size_within curve (suc c))) None) is.greatest_weight
-      ∙ ap (λ m. cond (nat_lt (greatest_weight requests) (suc c)) (Some m) None) (is.missed_size (suc c))
+  module _ (idle : Option ℕ) (requests : List (List ℕ × ℕ)) (timeless : AreTimeless idle requests) where
+    price_same : (sizes : Bool) (curve : LineCurve A) → IsCurveBy sizes (limit_of idle) requests curve → (c : ℕ)
+        → missed_by_curve curve (suc c) ≡ missed_by sizes idle requests (suc c)
+    price_same false (ByKeys curve) is c = ap Some (is (suc c) (omega arith) ∙ under_limit idle requests timeless (suc c))
+    price_same false (BySize curve) is c = absurd is
+    price_same true (ByKeys curve) is c = absurd is
+    price_same true (BySize curve) is c =
+        ap (λ g. cond (nat_lt g (suc c)) (Some (missed_size_within curve (suc c))) None) is.greatest_weight
+        ∙ ap (λ m. cond (nat_lt (greatest_weight requests) (suc c)) (Some m) None)
+        (is.missed_size (suc c) ∙ missed_under_limit idle requests timeless (suc c))
 
-  all_same : (sizes : Bool) (requests kept : List (List ℕ)) (n s : ℕ) (curve : LineCurve A) → IsCurveBy sizes kept curve
-      → n ≡ length requests → s ≡ size_in sizes requests → all_by curve n s ≡ all_of sizes requests
-  all_same false requests kept n s (ByKeys curve) is counted summed = counted
-  all_same false requests kept n s (BySize curve) is counted summed = absurd is
-  all_same true requests kept n s (ByKeys curve) is counted summed = absurd is
-  all_same true requests kept n s (BySize curve) is counted summed = summed
+    pair_same : (sizes : Bool) (curve : LineCurve A) → IsCurveBy sizes (limit_of idle) requests curve → (c : ℕ)
+        → missed_pair curve c ≡ missed_in sizes idle requests c
+    pair_same false (ByKeys curve) is zero = refl
+    pair_same false (ByKeys curve) is (suc c) = ap (λ m. Some (m, 0)) (is (suc c) (omega arith) ∙ under_limit idle requests timeless (suc c))
+    pair_same false (BySize curve) is c = absurd is
+    pair_same true (ByKeys curve) is c = absurd is
+    pair_same true (BySize curve) is zero = refl
+    pair_same true (BySize curve) is (suc c) =
+        ap (λ g. cond (nat_lt g (suc c)) (Some (misses_within curve (suc c), missed_size_within curve (suc c))) None) is.greatest_weight
+        ∙ ap (λ m. cond (nat_lt (greatest_weight requests) (suc c)) (Some (m, missed_size_within curve (suc c))) None)
+        (is.misses (suc c) ∙ sized_under_limit idle requests timeless (suc c))
+        ∙ ap (λ m. cond (nat_lt (greatest_weight requests) (suc c)) (Some (sized_misses_under idle (suc c) requests, m)) None)
+        (is.missed_size (suc c) ∙ missed_under_limit idle requests timeless (suc c))
 
-  pair_same : (sizes : Bool) (requests : List (List ℕ)) (curve : LineCurve A) → IsCurveBy sizes requests curve → (c : ℕ)
-      → missed_pair curve c ≡ missed_in sizes requests c
-  pair_same false requests (ByKeys curve) is zero = refl
-  pair_same false requests (ByKeys curve) is (suc c) = ap (λ m. Some (m, 0)) (is (suc c) (omega arith))
-  pair_same false requests (BySize curve) is c = absurd is
-  pair_same true requests (ByKeys curve) is c = absurd is
-  pair_same true requests (BySize curve) is zero = refl
-  pair_same true requests (BySize curve) is (suc c) =
-      ap (λ g. cond (nat_lt g (suc c)) (Some (misses_within curve (suc c), missed_size_within curve (suc c))) None) is.greatest_weight
-      ∙ ap (λ m. cond (nat_lt (greatest_weight requests) (suc c)) (Some (m, missed_size_within curve (suc c))) None) (is.misses (suc c))
-      ∙ ap (λ m. cond (nat_lt (greatest_weight requests) (suc c)) (Some (misses_by_size bytes_eq weight_behind (suc c) requests, m)) None)
-      (is.missed_size (suc c))
+  all_same : (sizes : Bool) (limit : ℕ) (requests kept : List (List ℕ × ℕ)) (n s : ℕ) (curve : LineCurve A) → IsCurveBy sizes limit kept curve
+      → n ≡ length requests → s ≡ size_in sizes (keys_of requests) → all_by curve n s ≡ all_of sizes requests
+  all_same false limit requests kept n s (ByKeys curve) is counted summed = counted
+  all_same false limit requests kept n s (BySize curve) is counted summed = absurd is
+  all_same true limit requests kept n s (ByKeys curve) is counted summed = absurd is
+  all_same true limit requests kept n s (BySize curve) is counted summed = summed
 
-  module _ (sizes : Bool) (sample : Option ℕ) (requests : List (List ℕ)) (name : List ℕ) (share : Share A) (is : IsShare sizes sample requests name share) where
-    abbrev kept : List (List ℕ)
+  module _ (sizes : Bool) (idle sample : Option ℕ) (requests : List (List ℕ × ℕ)) (name : List ℕ) (share : Share A)
+      (is : IsShare sizes idle sample requests name share) where
+    abbrev kept : List (List ℕ × ℕ)
     kept = kept_in sample requests
 
     abbrev all : ℕ
     all = all_of sizes requests
 
     -- a share misses what is told of its requests
-    share_same : (c : ℕ) → missed_at all_of_share missed_of_share share c ≡ missed_at (all_of sizes) (missed_told sizes sample) requests c
-    share_same zero = ap Some (all_same sizes requests kept share.requests share.size share.curve is.curve is.counted is.summed)
+    share_same : (c : ℕ) → missed_at all_of_share missed_of_share share c ≡ missed_at (all_of sizes) (missed_told sizes idle sample) requests c
+    share_same zero = ap Some (all_same sizes (limit_of idle) requests kept share.requests share.size share.curve is.curve is.counted is.summed)
     share_same (suc c) =
         ap (λ a. told_missed (sample_of share) a (missed_by_curve share.curve (suc c)))
-        (all_same sizes requests kept share.requests share.size share.curve is.curve is.counted is.summed)
+        (all_same sizes (limit_of idle) requests kept share.requests share.size share.curve is.curve is.counted is.summed)
         ∙ ap (λ n. told_missed n all (missed_by_curve share.curve (suc c))) is.sampled
-        ∙ ap (told_missed sample all) (price_same sizes kept share.curve is.curve c)
+        ∙ ap (told_missed sample all) (price_same idle kept is.timeless sizes share.curve is.curve c)
 
     -- and so does its row
-    pub row_same : (c : ℕ) → part_of_share share c ≡ part_of sizes sample requests name c
+    pub row_same : (c : ℕ) → part_of_share share c ≡ part_of sizes idle sample requests name c
     row_same c =
         let top = 2 ^ 64 - 1 in let pair = missed_pair share.curve c in
         ap (λ s. part_with share.name.items (told_of s top c) share.requests share.size (told_pair s share.requests share.size pair)) is.sampled
         ∙ ap (λ n. part_with n (told_of sample top c) share.requests share.size (told_pair sample share.requests share.size pair)) is.is
         ∙ ap (λ n. part_with name (told_of sample top c) n share.size (told_pair sample n share.size pair)) is.counted
         ∙ ap (λ s. part_with name (told_of sample top c) (length requests) s (told_pair sample (length requests) s pair)) is.summed
-        ∙ ap (λ p. part_with name (told_of sample top c) (length requests) (size_in sizes requests)
-        (told_pair sample (length requests) (size_in sizes requests) p)) (pair_same sizes kept share.curve is.curve c)
+        ∙ ap (λ p. part_with name (told_of sample top c) (length requests) (size_in sizes (keys_of requests))
+        (told_pair sample (length requests) (size_in sizes (keys_of requests)) p)) (pair_same idle kept is.timeless sizes share.curve is.curve c)
 
-module _ {A : Type 0} (sizes : Bool) (sample : Option ℕ) (lines : List (List ℕ)) where
-  pub shares_same : (names : List (List ℕ)) (shares : List (Share A)) → HaveShares sizes sample lines names shares
-      → Same (missed_at all_of_share missed_of_share) (missed_at (all_of sizes) (missed_told sizes sample)) shares
-      (map (λ name. requests_of name lines) names)
+module _ {A : Type 0} (sizes : Bool) (idle sample : Option ℕ) (requests : List (List ℕ × ℕ)) where
+  pub shares_same : (names : List (List ℕ)) (shares : List (Share A)) → HaveShares sizes idle sample requests names shares
+      → Same (missed_at all_of_share missed_of_share) (missed_at (all_of sizes) (missed_told sizes idle sample)) shares
+      (map (λ name. of_class name requests) names)
   shares_same [] [] have = tt
   shares_same [] (share ∷ shares) have = elim have [ ]
   shares_same (name ∷ names) [] have = elim have [ ]
   shares_same (name ∷ names) (share ∷ shares) have =
-      (share_same sizes sample (requests_of name lines) name share have.0, shares_same names shares have.1)
+      (share_same sizes idle sample (of_class name requests) name share have.0, shares_same names shares have.1)
 
-  pub rows_same : (names : List (List ℕ)) (shares : List (Share A)) (cs : List ℕ) → HaveShares sizes sample lines names shares
-      → parts_of_shares shares cs ≡ parts_of sizes sample lines names cs
+  pub rows_same : (names : List (List ℕ)) (shares : List (Share A)) (cs : List ℕ) → HaveShares sizes idle sample requests names shares
+      → parts_of_shares shares cs ≡ parts_of sizes idle sample requests names cs
   rows_same [] [] cs have = refl
   rows_same [] (share ∷ shares) cs have = elim have [ ]
   rows_same (name ∷ names) [] cs have = elim have [ ]
   rows_same (name ∷ names) (share ∷ shares) [] have = refl
   rows_same (name ∷ names) (share ∷ shares) (c ∷ cs) have =
-      ap (λ p. p ∷ parts_of_shares shares cs) (row_same sizes sample (requests_of name lines) name share have.0 c)
-      ∙ ap (λ ps. part_of sizes sample (requests_of name lines) name c ∷ ps) (rows_same names shares cs have.1)
+      ap (λ p. p ∷ parts_of_shares shares cs) (row_same sizes idle sample (of_class name requests) name share have.0 c)
+      ∙ ap (λ ps. part_of sizes idle sample (of_class name requests) name c ∷ ps) (rows_same names shares cs have.1)
 
-  pub shares_long : (names : List (List ℕ)) (shares : List (Share A)) → HaveShares sizes sample lines names shares → length shares ≡ length names
+  pub shares_long : (names : List (List ℕ)) (shares : List (Share A)) → HaveShares sizes idle sample requests names shares → length shares ≡ length names
   shares_long [] [] have = refl
   shares_long [] (share ∷ shares) have = elim have [ ]
   shares_long (name ∷ names) [] have = elim have [ ]
   shares_long (name ∷ names) (share ∷ shares) have = ap suc (shares_long names shares have.1)
 
   -- one more share
-  pub shares_more : (names : List (List ℕ)) (shares : List (Share A)) (name : List ℕ) (share : Share A) → HaveShares sizes sample lines names shares
-      → IsShare sizes sample (requests_of name lines) name share → HaveShares sizes sample lines (names ++ name ∷ []) (shares ++ share ∷ [])
+  pub shares_more : (names : List (List ℕ)) (shares : List (Share A)) (name : List ℕ) (share : Share A) → HaveShares sizes idle sample requests names shares
+      → IsShare sizes idle sample (of_class name requests) name share → HaveShares sizes idle sample requests (names ++ name ∷ []) (shares ++ share ∷ [])
   shares_more [] [] name share have is = (is, tt)
   shares_more [] (s ∷ shares) name share have is = elim have [ ]
   shares_more (n ∷ names) [] name share have is = elim have [ ]
   shares_more (n ∷ names) (s ∷ shares) name share have is = (have.0, shares_more names shares name share have.1 is)
 
   -- the rows of the shares are those of their classes
-  pub table_same : (names : List (List ℕ)) (shares : List (Share A)) (cs : List ℕ) → HaveShares sizes sample lines names shares
-      → (budget step requests size : ℕ) (one : Part) → step ≡ step_for budget → requests ≡ length lines → size ≡ size_in sizes lines
-      → one ≡ part_of sizes sample lines (codes "one for all") budget
-      → rows requests size (parts_of_shares shares cs)
+  pub table_same : (names : List (List ℕ)) (shares : List (Share A)) (cs : List ℕ) → HaveShares sizes idle sample requests names shares
+      → (budget step n size : ℕ) (one : Part) → step ≡ step_for budget → n ≡ length requests → size ≡ size_in sizes (keys_of requests)
+      → one ≡ part_of sizes idle sample requests (codes "one for all") budget
+      → rows n size (parts_of_shares shares cs)
       (parts_of_shares shares (replicate (length shares) (budget / max 1 (length shares) / step * step))) one
-      ≡ split_rows sizes sample budget lines names cs
-  table_same names shares cs have budget step requests size one stepped counted summed is =
+      ≡ split_rows sizes idle sample budget requests names cs
+  table_same names shares cs have budget step n size one stepped counted summed is =
       let equal = λ (k s : ℕ). replicate k (budget / max 1 k / s * s) in
       let best = parts_of_shares shares cs in
-      ap (λ s. rows requests size best (parts_of_shares shares (equal (length shares) s)) one) stepped
-      ∙ ap (λ k. rows requests size best (parts_of_shares shares (equal k (step_for budget))) one) (shares_long names shares have)
-      ∙ ap (λ ps. rows requests size ps (parts_of_shares shares (equal (length names) (step_for budget))) one) (rows_same names shares cs have)
-      ∙ ap (λ ps. rows requests size (parts_of sizes sample lines names cs) ps one) (rows_same names shares (equal (length names) (step_for budget)) have)
-      ∙ ap (λ p. rows requests size (parts_of sizes sample lines names cs) (parts_of sizes sample lines names (equal (length names) (step_for budget))) p) is
-      ∙ ap (λ n. rows n size (parts_of sizes sample lines names cs) (parts_of sizes sample lines names (equal (length names) (step_for budget)))
-      (part_of sizes sample lines (codes "one for all") budget)) counted
-      ∙ ap (λ s. rows (length lines) s (parts_of sizes sample lines names cs) (parts_of sizes sample lines names (equal (length names) (step_for budget)))
-      (part_of sizes sample lines (codes "one for all") budget)) summed
+      ap (λ s. rows n size best (parts_of_shares shares (equal (length shares) s)) one) stepped
+      ∙ ap (λ k. rows n size best (parts_of_shares shares (equal k (step_for budget))) one) (shares_long names shares have)
+      ∙ ap (λ ps. rows n size ps (parts_of_shares shares (equal (length names) (step_for budget))) one) (rows_same names shares cs have)
+      ∙ ap (λ ps. rows n size (parts_of sizes idle sample requests names cs) ps one) (rows_same names shares (equal (length names) (step_for budget)) have)
+      ∙ ap (λ p. rows n size (parts_of sizes idle sample requests names cs) (parts_of sizes idle sample requests names (equal (length names) (step_for budget))) p) is
+      ∙ ap (λ k. rows k size (parts_of sizes idle sample requests names cs) (parts_of sizes idle sample requests names (equal (length names) (step_for budget)))
+      (part_of sizes idle sample requests (codes "one for all") budget)) counted
+      ∙ ap (λ s. rows (length requests) s (parts_of sizes idle sample requests names cs) (parts_of sizes idle sample requests names (equal (length names) (step_for budget)))
+      (part_of sizes idle sample requests (codes "one for all") budget)) summed

@@ -9,7 +9,7 @@ use Rattle.clru_model.proofs.Cases.{split}
 use Rattle.clru_report.proofs.SettledCurves.{same_bytes}
 use Rattle.clru_shares.proofs.ClassLemmas.{held_alone, inserted_ascends, is_any, missing_each, none_inserted, none_more, not_any}
 use Rattle.clru_shares.proofs.SampleLemmas.{none_next}
-use Rattle.clru_shares.specs.Classes.{AreAscending, AreClasses, class_in, requests_of}
+use Rattle.clru_shares.specs.Classes.{AreAscending, AreClasses, class_in, of_class, requests_of}
 use Rattle.clru_shares.specs.LinePasses.{HasTakenBy}
 use Rattle.clru_shares.specs.Passes.{BelongsAt, HasTaken, HaveTaken, IsHeldAt, name_of, next_kept}
 use Rattle.clru_shares.specs.Sizes.{size_in}
@@ -26,43 +26,43 @@ map_insert [] (suc at) class = refl
 map_insert (c ∷ cs) zero class = refl
 map_insert (c ∷ cs) (suc at) class = ap (λ ns. name_of c ∷ ns) (map_insert cs at class)
 
-module _ {S A H : Type 0} (sizes : Bool) (lines kept : List (List ℕ)) (b : Bool) (line : List ℕ) where
+module _ {S A H : Type 0} (sizes : Bool) (limit : ℕ) (lines : List (List ℕ)) (kept : List (List ℕ × ℕ)) (b : Bool) (line : List ℕ) (time : ℕ) where
   -- a line of another class changes nothing
-  pub taken_other : (class : Class S A H) → bytes_eq (name_of class) (class_in line) ≡ false → HasTaken sizes lines kept class
-      → HasTaken sizes (lines ++ line ∷ []) (next_kept b kept line) class
+  pub taken_other : (class : Class S A H) → bytes_eq (name_of class) (class_in line) ≡ false → HasTaken sizes limit lines kept class
+      → HasTaken sizes limit (lines ++ line ∷ []) (next_kept b kept (line, time)) class
   taken_other class other is =
-      let same = sym (none_more (name_of class) lines line other) in let behind = sym (none_next b (name_of class) kept line other) in
+      let same = sym (none_more (name_of class) lines line other) in let behind = sym (none_next b (name_of class) kept (line, time) other) in
       record {
-        taken = subst (λ ls. HasTakenBy sizes ls class.pass) behind is.taken;
+        taken = subst (λ ls. HasTakenBy sizes limit ls class.pass) behind is.taken;
         numbered = is.numbered ∙ ap length behind;
         fewer = is.fewer;
         counted = is.counted ∙ ap length same;
         summed = is.summed ∙ ap (size_in sizes) same;
       }
 
-  module _ (classes : List (Class S A H)) (is : HaveTaken sizes lines kept classes) (at : ℕ) (class : Class S A H)
-      (own : name_of class ≡ class_in line) (taken : HasTaken sizes (lines ++ line ∷ []) (next_kept b kept line) class) (some : 0 < class.requests) where
+  module _ (classes : List (Class S A H)) (is : HaveTaken sizes limit lines kept classes) (at : ℕ) (class : Class S A H)
+      (own : name_of class ≡ class_in line) (taken : HasTaken sizes limit (lines ++ line ∷ []) (next_kept b kept (line, time)) class) (some : 0 < class.requests) where
     other_at : (k : ℕ) → k < length classes → bytes_eq (get_or (map name_of classes) k []) (class_in line) ≡ false
-        → HasTaken sizes (lines ++ line ∷ []) (next_kept b kept line) (get_or classes k class)
+        → HasTaken sizes limit (lines ++ line ∷ []) (next_kept b kept (line, time)) (get_or classes k class)
     other_at k low other =
         taken_other (get_or classes k class)
         (subst (λ n. bytes_eq n (class_in line) ≡ false) (get_or-map name_of classes k class [] low) other)
         (is.each k class low)
 
     -- the class was held
-    pub taken_at : IsHeldAt (map name_of classes) (class_in line) at → HaveTaken sizes (lines ++ line ∷ []) (next_kept b kept line) (set classes at class)
+    pub taken_at : IsHeldAt (map name_of classes) (class_in line) at → HaveTaken sizes limit (lines ++ line ∷ []) (next_kept b kept (line, time)) (set classes at class)
     taken_at held =
         let within : at < length classes = subst (λ n. at < n) (length-map classes name_of) held.within in
         let names : map name_of (set classes at class) ≡ map name_of classes =
         map-set name_of classes at class ∙ ap (set (map name_of classes) at) (own ∙ sym held.is) ∙ set-get_or (map name_of classes) at [] in
         record {
           ascending = subst AreAscending (sym names) is.ascending;
-          each = All-from_get_or (HasTaken sizes (lines ++ line ∷ []) (next_kept b kept line)) (set classes at class) class (λ k low. elim (cases_eq k at) [
-            | inl here ↦ subst (HasTaken sizes (lines ++ line ∷ []) (next_kept b kept line)) (sym (ap (λ i. get_or (set classes at class) i class) here
+          each = All-from_get_or (HasTaken sizes limit (lines ++ line ∷ []) (next_kept b kept (line, time))) (set classes at class) class (λ k low. elim (cases_eq k at) [
+            | inl here ↦ subst (HasTaken sizes limit (lines ++ line ∷ []) (next_kept b kept (line, time))) (sym (ap (λ i. get_or (set classes at class) i class) here
                 ∙ get_or-set_same classes at class class within)) taken
             | inr apart ↦
                 let there : k < length classes = subst (λ n. k < n) (length-set classes at class) low in
-                subst (HasTaken sizes (lines ++ line ∷ []) (next_kept b kept line)) (sym (get_or-set_other classes at k class class apart))
+                subst (HasTaken sizes limit (lines ++ line ∷ []) (next_kept b kept (line, time))) (sym (get_or-set_other classes at k class class apart))
                 (other_at k there (held_alone (map name_of classes) (class_in line) at is.ascending held k
                 (subst (λ n. k < n) (sym (length-map classes name_of)) there) apart))
           ]);
@@ -71,69 +71,69 @@ module _ {S A H : Type 0} (sizes : Bool) (lines kept : List (List ℕ)) (b : Boo
               let before = subst (λ ns. list_any (bytes_eq name) ns ≡ false) names none in
               let other = split (bytes_eq name (class_in line))
               (λ t. absurd_any (map name_of classes) name at held.within (held.is ∙ sym (same_bytes name (class_in line) t)) before) (λ f. f) in
-              (none_more name lines line other ∙ (is.no_other name before).0, none_next b name kept line other ∙ (is.no_other name before).1);
+              (none_more name lines line other ∙ (is.no_other name before).0, none_next b name kept (line, time) other ∙ (is.no_other name before).1);
         }
 
     -- it was not, and is put where it belongs
-    pub taken_new : BelongsAt (map name_of classes) (class_in line) at → HaveTaken sizes (lines ++ line ∷ []) (next_kept b kept line) (insert classes at class)
+    pub taken_new : BelongsAt (map name_of classes) (class_in line) at → HaveTaken sizes limit (lines ++ line ∷ []) (next_kept b kept (line, time)) (insert classes at class)
     taken_new belongs =
         let names : map name_of (insert classes at class) ≡ insert (map name_of classes) at (class_in line) =
         map_insert classes at class ∙ ap (insert (map name_of classes) at) own in
-        let each : All (HasTaken sizes (lines ++ line ∷ []) (next_kept b kept line)) classes = All-from_get_or (HasTaken sizes (lines ++ line ∷ []) (next_kept b kept line)) classes class
+        let each : All (HasTaken sizes limit (lines ++ line ∷ []) (next_kept b kept (line, time))) classes = All-from_get_or (HasTaken sizes limit (lines ++ line ∷ []) (next_kept b kept (line, time))) classes class
         (λ k low. other_at k low (missing_each (map name_of classes) (class_in line) at belongs k
         (subst (λ n. k < n) (sym (length-map classes name_of)) low))) in
         record {
           ascending = subst AreAscending (sym names) (inserted_ascends (map name_of classes) (class_in line) at is.ascending belongs);
-          each = All-append (HasTaken sizes (lines ++ line ∷ []) (next_kept b kept line)) (take at classes) (class ∷ drop at classes)
-              (All-take (HasTaken sizes (lines ++ line ∷ []) (next_kept b kept line)) at classes each)
-              (All-cons (HasTaken sizes (lines ++ line ∷ []) (next_kept b kept line)) class (drop at classes) taken (All-drop (HasTaken sizes (lines ++ line ∷ []) (next_kept b kept line)) at classes each));
+          each = All-append (HasTaken sizes limit (lines ++ line ∷ []) (next_kept b kept (line, time))) (take at classes) (class ∷ drop at classes)
+              (All-take (HasTaken sizes limit (lines ++ line ∷ []) (next_kept b kept (line, time))) at classes each)
+              (All-cons (HasTaken sizes limit (lines ++ line ∷ []) (next_kept b kept (line, time))) class (drop at classes) taken (All-drop (HasTaken sizes limit (lines ++ line ∷ []) (next_kept b kept (line, time))) at classes each));
           some = All-append (λ c. 0 < c.requests) (take at classes) (class ∷ drop at classes)
               (All-take (λ c. 0 < c.requests) at classes is.some)
               (All-cons (λ c. 0 < c.requests) class (drop at classes) some (All-drop (λ c. 0 < c.requests) at classes is.some));
           no_other = λ name none.
               let parts = none_inserted (map name_of classes) (class_in line) name at (subst (λ ns. list_any (bytes_eq name) ns ≡ false) names none) in
-              (none_more name lines line parts.1 ∙ (is.no_other name parts.0).0, none_next b name kept line parts.1 ∙ (is.no_other name parts.0).1);
+              (none_more name lines line parts.1 ∙ (is.no_other name parts.0).0, none_next b name kept (line, time) parts.1 ∙ (is.no_other name parts.0).1);
         }
 
 -- a class that belongs at a place has no line so far
-pub new_class : {S A H : Type 0} (sizes : Bool) (lines kept : List (List ℕ)) (classes : List (Class S A H)) (name : List ℕ) (at : ℕ)
-    → HaveTaken sizes lines kept classes
-    → BelongsAt (map name_of classes) name at → (requests_of name lines ≡ []) × (requests_of name kept ≡ [])
-new_class sizes lines kept classes name at is belongs =
+pub new_class : {S A H : Type 0} (sizes : Bool) (limit : ℕ) (lines : List (List ℕ)) (kept : List (List ℕ × ℕ)) (classes : List (Class S A H)) (name : List ℕ) (at : ℕ)
+    → HaveTaken sizes limit lines kept classes
+    → BelongsAt (map name_of classes) name at → (requests_of name lines ≡ []) × (of_class name kept ≡ [])
+new_class sizes limit lines kept classes name at is belongs =
     is.no_other name (not_any (map name_of classes) name (missing_each (map name_of classes) name at belongs))
 
 -- the lines of a class that is held are numbered
-pub lines_held : {S A H : Type 0} (sizes : Bool) (lines kept : List (List ℕ)) (classes : List (Class S A H)) (name : List ℕ) (at : ℕ) (class : Class S A H)
-    → HaveTaken sizes lines kept classes → IsHeldAt (map name_of classes) name at → get_or classes at class ≡ class
-    → class.kept ≡ length (requests_of name kept)
-lines_held sizes lines kept classes name at class is held same =
+pub lines_held : {S A H : Type 0} (sizes : Bool) (limit : ℕ) (lines : List (List ℕ)) (kept : List (List ℕ × ℕ)) (classes : List (Class S A H)) (name : List ℕ) (at : ℕ) (class : Class S A H)
+    → HaveTaken sizes limit lines kept classes → IsHeldAt (map name_of classes) name at → get_or classes at class ≡ class
+    → class.kept ≡ length (of_class name kept)
+lines_held sizes limit lines kept classes name at class is held same =
     let low : at < length classes = subst (λ n. at < n) (length-map classes name_of) held.within in
     let named = ap name_of (sym same) ∙ sym (get_or-map name_of classes at class [] low) ∙ held.is in
-    (subst (HasTaken sizes lines kept) same (is.each at class low)).numbered ∙ ap (λ n. length (requests_of n kept)) named
+    (subst (HasTaken sizes limit lines kept) same (is.each at class low)).numbered ∙ ap (λ n. length (of_class n kept)) named
 
 -- without a line there is no class
-pub none_taken : {S A H : Type 0} (sizes : Bool) (classes : List (Class S A H)) → classes ≡ [] → HaveTaken sizes [] [] classes
-none_taken sizes classes empty = subst (HaveTaken sizes [] []) (sym empty) (record {
+pub none_taken : {S A H : Type 0} (sizes : Bool) (limit : ℕ) (classes : List (Class S A H)) → classes ≡ [] → HaveTaken sizes limit [] [] classes
+none_taken sizes limit classes empty = subst (HaveTaken sizes limit [] []) (sym empty) (record {
   ascending = λ i j lt low. absurd (omega (arith, low));
-  each = All-nil (HasTaken sizes [] []);
+  each = All-nil (HasTaken sizes limit [] []);
   some = All-nil (λ c. 0 < c.requests);
   no_other = λ name none. (refl, refl);
 })
 
-requested : {S A H : Type 0} (sizes : Bool) (lines kept : List (List ℕ)) (classes : List (Class S A H)) → All (HasTaken sizes lines kept) classes
+requested : {S A H : Type 0} (sizes : Bool) (limit : ℕ) (lines : List (List ℕ)) (kept : List (List ℕ × ℕ)) (classes : List (Class S A H)) → All (HasTaken sizes limit lines kept) classes
     → All (λ c. 0 < c.requests) classes → (k : ℕ) → k < length (map name_of classes) → 0 < length (requests_of (get_or (map name_of classes) k []) lines)
-requested sizes lines kept [] each some k low = absurd (omega (arith, low))
-requested sizes lines kept (c ∷ cs) each some k low =
+requested sizes limit lines kept [] each some k low = absurd (omega (arith, low))
+requested sizes limit lines kept (c ∷ cs) each some k low =
     let there : k < length (c ∷ cs) = subst (λ n. k < n) (length-map (c ∷ cs) name_of) low in
     subst (λ n. 0 < length (requests_of n lines)) (sym (get_or-map name_of (c ∷ cs) k c [] there))
     (omega (arith, (each k c there).counted, some k c there))
 
 -- their names are the classes of the lines
-pub names_are : {S A H : Type 0} (sizes : Bool) (lines kept : List (List ℕ)) (classes : List (Class S A H)) → HaveTaken sizes lines kept classes
+pub names_are : {S A H : Type 0} (sizes : Bool) (limit : ℕ) (lines : List (List ℕ)) (kept : List (List ℕ × ℕ)) (classes : List (Class S A H)) → HaveTaken sizes limit lines kept classes
     → AreClasses lines (map name_of classes)
-names_are sizes lines kept classes is = record {
+names_are sizes limit lines kept classes is = record {
   ascending = is.ascending;
-  requested = All-from_get_or (λ name. 0 < length (requests_of name lines)) (map name_of classes) [] (requested sizes lines kept classes is.each is.some);
+  requested = All-from_get_or (λ name. 0 < length (requests_of name lines)) (map name_of classes) [] (requested sizes limit lines kept classes is.each is.some);
   no_other = λ name none. (is.no_other name none).0;
 }
 

@@ -45,6 +45,10 @@ most_classes = 256
 abbrev pub requests_of : List ℕ → List (List ℕ) → List (List ℕ)
 requests_of name lines = filter (λ line. bytes_eq name (class_in line)) lines
 
+-- those of a class among requests with times
+abbrev pub of_class : List ℕ → List (List ℕ × ℕ) → List (List ℕ × ℕ)
+of_class name requests = filter (λ r. bytes_eq name (class_in r.0)) requests
+
 -- one class comes before another in the order of bytes
 abbrev pub IsBefore : List ℕ → List ℕ → Type 0
 IsBefore a b = is_lt (slice_cmp nat_cmp a b) ≡ true

@@ -4,9 +4,11 @@ use Rattle.clru_lines.specs.Faults.{fault_text, status_of}
 use Rattle.clru_report.specs.Faults.{is_of_writing}
 use Rattle.clru_report.specs.Refusals.{is_of_input}
 use Rattle.clru_shares.specs.declared.fault.SplitFault.{SplitFault}
-use Rattle.clru_shares.specs.declared.fault.SplitFault.TheVariants.{NoClass, TooManyClasses, NoSize, TooLarge, Other}
+use Rattle.clru_shares.specs.declared.fault.SplitFault.TheVariants.{NoTime, NoClass, TooManyClasses, NoSize, TooLarge, Other}
 
 abbrev pub split_fault_text : SplitFault → List ℕ
+split_fault_text (NoTime n) = codes "line " ++ (decimal n
+    ++ codes " has no time: with --split and --times each begins with one, as in 1700000000 images /logo.png")
 split_fault_text (NoClass n) = codes "line " ++ (decimal n
     ++ codes " has no class: with --split each begins with one and a blank, as in images /logo.png")
 split_fault_text (TooManyClasses n) = codes "line " ++ (decimal n
@@ -18,6 +20,7 @@ split_fault_text (Other fault) = fault_text fault
 
 -- the exit status of each
 abbrev pub split_status_of : SplitFault → ℕ
+split_status_of (NoTime n) = 6
 split_status_of (NoClass n) = 6
 split_status_of (TooManyClasses n) = 6
 split_status_of (NoSize n) = 6
@@ -26,6 +29,7 @@ split_status_of (Other fault) = status_of fault
 
 -- the writer took a part of the text at most
 abbrev pub comes_of_writing : SplitFault → Bool
+comes_of_writing (NoTime n) = false
 comes_of_writing (NoClass n) = false
 comes_of_writing (TooManyClasses n) = false
 comes_of_writing (NoSize n) = false
@@ -34,6 +38,7 @@ comes_of_writing (Other fault) = is_of_writing fault
 
 -- the fault is one of the input
 abbrev pub comes_of_a_line : SplitFault → Bool
+comes_of_a_line (NoTime n) = true
 comes_of_a_line (NoClass n) = true
 comes_of_a_line (TooManyClasses n) = true
 comes_of_a_line (NoSize n) = true
@@ -42,6 +47,7 @@ comes_of_a_line (Other fault) = is_of_input fault
 
 -- the fault names the line of this number, if it names one
 abbrev pub IsNumbered : ℕ → SplitFault → Type 0
+IsNumbered n (NoTime m) = m ≡ n
 IsNumbered n (NoClass m) = m ≡ n
 IsNumbered n (TooManyClasses m) = m ≡ n
 IsNumbered n (NoSize m) = m ≡ n

@@ -10,3 +10,4 @@ pub mod Sampled
 pub mod ShareCurves
 pub mod Shares
 pub mod Sizes
+pub mod Times

@@ -1,7 +1,8 @@
 -- What the passes of classes have taken. No public clause cites it.
-use Rattle.std.specs.Prelude.{Option, ◌≡◌, ℕ, ◌+◌, ◌-◌, ◌^◌, ◌<◌, ◌≤◌, Bool, List, [], ◌∷◌, ◌++◌, length, map, true, false, bytes_eq, slice_index_or, Result, Ok, Err}
+use Rattle.std.specs.Prelude.{Option, ◌≡◌, ℕ, ◌+◌, ◌-◌, ◌^◌, ◌<◌, ◌≤◌, Bool, List, [], ◌∷◌, ◌++◌, length, map, true, false, bytes_eq, slice_index_or, Result, Ok, Err, None, Some, ⊤}
 use Rattle.std.specs.List.{All, AllZip, list_any}
-use Rattle.clru_shares.specs.Classes.{AreAscending, IsBefore, has_class, most_classes, requests_of}
+use Rattle.std.specs.Map.{keys_of}
+use Rattle.clru_shares.specs.Classes.{AreAscending, IsBefore, has_class, most_classes, of_class, requests_of}
 use Rattle.clru_shares.specs.Forms.{Part}
 use Rattle.clru_shares.specs.LinePasses.{HasTakenBy, IsCurveBy}
 use Rattle.clru_shares.specs.Places.{IsNotedBy}
@@ -9,16 +10,17 @@ use Rattle.clru_shares.specs.Sampled.{kept_in, told_of, told_pair}
 use Rattle.clru_shares.specs.ShareCurves.{missed_pair, sample_of}
 use Rattle.clru_shares.specs.Shares.{part_with}
 use Rattle.clru_shares.specs.Sizes.{is_sized, size_in}
+use Rattle.clru_shares.specs.Times.{AreTimed, limit_of, requests_in, rests_in}
 use Rattle.clru_shares.specs.declared.classes.Class.{Class}
 use Rattle.clru_shares.specs.declared.reading.Passes.{Passes}
 use Rattle.clru_shares.specs.declared.share.Share.{Share}
 use Rattle.clru_shares.specs.declared.table.Row.{Row}
 use Rattle.clru_shares.specs.declared.table.Table.{Table}
 
--- one more line, if it is kept
-abbrev pub next_kept : Bool → List (List ℕ) → List ℕ → List (List ℕ)
-next_kept false kept line = kept
-next_kept true kept line = kept ++ line ∷ []
+-- one more request, if it is kept
+abbrev pub next_kept : Bool → List (List ℕ × ℕ) → List ℕ × ℕ → List (List ℕ × ℕ)
+next_kept false kept request = kept
+next_kept true kept request = kept ++ request ∷ []
 
 abbrev pub next_number : Bool → ℕ → ℕ
 next_number false n = n
@@ -44,50 +46,62 @@ module _ {S A H : Type 0} where
   abbrev pub name_of : Class S A H → List ℕ
   name_of class = class.name.items
 
-  -- the pass of the class took those of its lines that are kept, by size or by keys, and all are counted
-  pub record HasTaken (sizes : Bool) (lines kept : List (List ℕ)) (class : Class S A H) : Type 0 where
-    pub taken : HasTakenBy sizes (requests_of (name_of class) kept) class.pass
-    pub numbered : class.kept ≡ length (requests_of (name_of class) kept)
+  -- the pass of the class took those of its requests that are kept under the limit, by size or by keys, and all lines are counted
+  pub record HasTaken (sizes : Bool) (limit : ℕ) (lines : List (List ℕ)) (kept : List (List ℕ × ℕ)) (class : Class S A H) : Type 0 where
+    pub taken : HasTakenBy sizes limit (of_class (name_of class) kept) class.pass
+    pub numbered : class.kept ≡ length (of_class (name_of class) kept)
     pub fewer : class.kept ≤ class.requests
     pub counted : class.requests ≡ length (requests_of (name_of class) lines)
     pub summed : class.size ≡ size_in sizes (requests_of (name_of class) lines)
 
   -- each class took its lines, and no other class has any
-  pub record HaveTaken (sizes : Bool) (lines kept : List (List ℕ)) (classes : List (Class S A H)) : Type 0 where
+  pub record HaveTaken (sizes : Bool) (limit : ℕ) (lines : List (List ℕ)) (kept : List (List ℕ × ℕ)) (classes : List (Class S A H)) : Type 0 where
     pub ascending : AreAscending (map name_of classes)
-    pub each : All (HasTaken sizes lines kept) classes
+    pub each : All (HasTaken sizes limit lines kept) classes
     pub some : All (λ class. 0 < class.requests) classes
     pub no_other : (name : List ℕ) → list_any (bytes_eq name) (map name_of classes) ≡ false
-        → (requests_of name lines ≡ []) × (requests_of name kept ≡ [])
+        → (requests_of name lines ≡ []) × (of_class name kept ≡ [])
 
-  -- the passes took those of these lines that are kept. Each line begins with a class, and by size then with a size
-  pub record HasTakenAll (sizes : Bool) (lines kept : List (List ℕ)) (passes : Passes S A H) : Type 0 where
+  -- the passes took those of these lines that are kept, each with its time. Each line begins with a class, and by size then with a size
+  pub record HasTakenAll (sizes : Bool) (limit : ℕ) (lines : List (List ℕ)) (kept : List (List ℕ × ℕ)) (passes : Passes S A H) : Type 0 where
     pub classed : All (λ line. has_class line ≡ true) lines
     pub sized : All (λ line. is_sized sizes line ≡ true) lines
-    pub classes : HaveTaken sizes lines kept passes.classes.items
+    pub classes : HaveTaken sizes limit lines kept passes.classes.items
     pub few : length passes.classes.items ≤ most_classes
-    pub all : HasTakenBy sizes kept passes.all
+    pub all : HasTakenBy sizes limit kept passes.all
     pub latest : IsNotedBy sizes kept passes.latest
     pub numbered : passes.kept ≡ length kept
     pub fewer : passes.kept ≤ passes.requests
     pub counted : passes.requests ≡ length lines
     pub summed : passes.size ≡ size_in sizes lines
 
+module _ {S A H : Type 0} where
+  -- the passes took these lines, under the idle limit if there is one, or those of a sample
+  pub record HasTakenLines (sizes : Bool) (idle sample : Option ℕ) (lines : List (List ℕ)) (passes : Passes S A H) : Type 0 where
+    pub timed : AreTimed idle lines
+    pub taken : HasTakenAll sizes (limit_of idle) (rests_in idle lines) (kept_in sample (requests_in idle lines)) passes
+
+-- without a limit requests have no times
+abbrev pub AreTimeless : Option ℕ → List (List ℕ × ℕ) → Type 0
+AreTimeless None requests = All (λ r. r.1 ≡ 0) requests
+AreTimeless (Some limit) requests = ⊤
+
 -- the curve of those of these requests that a sample has, with the number and the size of all
-pub record IsShare {A : Type 0} (sizes : Bool) (sample : Option ℕ) (requests : List (List ℕ)) (name : List ℕ) (share : Share A) : Type 0 where
+pub record IsShare {A : Type 0} (sizes : Bool) (idle sample : Option ℕ) (requests : List (List ℕ × ℕ)) (name : List ℕ) (share : Share A) : Type 0 where
   pub is : share.name.items ≡ name
   pub counted : share.requests ≡ length requests
-  pub summed : share.size ≡ size_in sizes requests
-  pub curve : IsCurveBy sizes (kept_in sample requests) share.curve
+  pub summed : share.size ≡ size_in sizes (keys_of requests)
+  pub curve : IsCurveBy sizes (limit_of idle) (kept_in sample requests) share.curve
+  pub timeless : AreTimeless idle (kept_in sample requests)
   pub sampled : sample_of share ≡ sample
 
--- that of a class's lines
-abbrev pub IsShareOf : {A : Type 0} → Bool → Option ℕ → List (List ℕ) → List ℕ → Share A → Type 0
-IsShareOf sizes sample lines name share = IsShare sizes sample (requests_of name lines) name share
+-- that of a class's requests
+abbrev pub IsShareOf : {A : Type 0} → Bool → Option ℕ → Option ℕ → List (List ℕ × ℕ) → List ℕ → Share A → Type 0
+IsShareOf sizes idle sample requests name share = IsShare sizes idle sample (of_class name requests) name share
 
 -- those of the classes of these names
-abbrev pub HaveShares : {A : Type 0} → Bool → Option ℕ → List (List ℕ) → List (List ℕ) → List (Share A) → Type 0
-HaveShares sizes sample lines names shares = AllZip (IsShareOf sizes sample lines) names shares
+abbrev pub HaveShares : {A : Type 0} → Bool → Option ℕ → Option ℕ → List (List ℕ × ℕ) → List (List ℕ) → List (Share A) → Type 0
+HaveShares sizes idle sample requests names shares = AllZip (IsShareOf sizes idle sample requests) names shares
 
 -- the row of it
 abbrev pub part_of_share : {A : Type 0} → Share A → ℕ → Part

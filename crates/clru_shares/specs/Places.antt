@@ -1,37 +1,56 @@
--- Where the latest request of each line was. No public clause cites it.
-use Rattle.std.specs.Prelude.{◌≤◌, ℕ, Bool, true, false, List, Option, Some, None, length, reverse, bytes_eq, ⊤}
-use Rattle.std.specs.Map.{lookup}
+-- Where and when the latest request of each line was. No public clause cites it.
+use Rattle.std.specs.Prelude.{◌≡◌, ◌≤◌, ◌-◌, ℕ, nat_le, Bool, true, false, List, Option, Some, length, reverse, bytes_eq, ⊤}
+use Rattle.std.specs.Map.{keys_of, lookup}
+use Rattle.std.specs.Option.{option_map, option_map_or}
 use Rattle.clru_curve.specs.KeyTables.{Keyed}
 use Rattle.clru_curve.specs.PositionPasses.{IsLatestOf}
 use Rattle.clru_lines.specs.declared.lines.OwnedKey.{OwnedKey}
+use Rattle.clru_model.specs.Ages.{is_recent}
 use Rattle.clru_report.specs.Passes.{line_of, same_line}
-use Rattle.clru_shares.specs.Classes.{class_in, requests_of}
+use Rattle.clru_shares.specs.Classes.{class_in, of_class}
 use Rattle.clru_shares.specs.declared.latest.Places.{Places}
+use Rattle.clru_shares.specs.declared.pass.Asked.{Asked}
 
 abbrev pub own_of : Option Places → Option ℕ
-own_of None = None
-own_of (Some p) = Some p.own
+own_of places = option_map (λ p. p.own) places
 
 abbrev pub all_of : Option Places → Option ℕ
-all_of None = None
-all_of (Some p) = Some p.all
+all_of places = option_map (λ p. p.all) places
 
--- the latest request of the line among these lines, by keys. By size passes know that themselves
-abbrev pub IsLatestBy : Bool → List (List ℕ) → List ℕ → Option ℕ → Type 0
-IsLatestBy false lines line latest = IsLatestOf bytes_eq (reverse lines) line latest
-IsLatestBy true lines line latest = ⊤
+abbrev pub time_of : Option Places → Option ℕ
+time_of places = option_map (λ p. p.time) places
 
--- among all lines, and among those of its class
-pub record AreLatestBy (sizes : Bool) (lines : List (List ℕ)) (line : List ℕ) (places : Option Places) : Type 0 where
-  pub all : IsLatestBy sizes lines line (all_of places)
-  pub own : IsLatestBy sizes (requests_of (class_in line) lines) line (own_of places)
+-- the latest request was at most this long ago
+abbrev pub soon_of : ℕ → ℕ → Option Places → Bool
+soon_of limit time places = option_map_or (λ before. nat_le (time - before) limit) (time_of places) false
+
+-- position and time of the latest request of the line among these
+pub record IsLatestAt (requests : List (List ℕ × ℕ)) (line : List ℕ) (latest time : Option ℕ) : Type 0 where
+  pub position : IsLatestOf bytes_eq (keys_of (reverse requests)) line latest
+  pub timed : time ≡ lookup (bytes_eq line) (reverse requests)
+
+-- among all, and among those of its class
+pub record AreLatest (requests : List (List ℕ × ℕ)) (line : List ℕ) (places : Option Places) : Type 0 where
+  pub all : IsLatestAt requests line (all_of places) (time_of places)
+  pub own : IsLatestAt (of_class (class_in line) requests) line (own_of places) (time_of places)
+
+-- by keys. By size passes know that themselves
+abbrev pub AreLatestBy : Bool → List (List ℕ × ℕ) → List ℕ → Option Places → Type 0
+AreLatestBy false requests line places = AreLatest requests line places
+AreLatestBy true requests line places = ⊤
+
+-- what a request of the line asks of a pass by keys that took these: where the latest one was, and whether it came soon enough
+abbrev pub IsAskedOf : Bool → ℕ → List (List ℕ × ℕ) → List ℕ → Asked → Type 0
+IsAskedOf false limit requests line asked = IsLatestOf bytes_eq (keys_of (reverse requests)) line asked.latest
+    × (asked.soon ≡ is_recent bytes_eq (Some limit) (line, asked.time) (reverse requests))
+IsAskedOf true limit requests line asked = ⊤
 
 -- they are noted of each line
-pub record IsNoted {A S : Type 0} (lines : List (List ℕ)) (table : Keyed (OwnedKey A) Places S) : Type 0 where
-  pub each : (key : OwnedKey A) → AreLatestBy false lines (line_of key) (lookup (same_line key) table.entries)
-  pub few : length table.entries ≤ length lines
+pub record IsNoted {A S : Type 0} (requests : List (List ℕ × ℕ)) (table : Keyed (OwnedKey A) Places S) : Type 0 where
+  pub each : (key : OwnedKey A) → AreLatest requests (line_of key) (lookup (same_line key) table.entries)
+  pub few : length table.entries ≤ length requests
 
 -- by keys
-abbrev pub IsNotedBy : {A S : Type 0} → Bool → List (List ℕ) → Keyed (OwnedKey A) Places S → Type 0
-IsNotedBy false lines table = IsNoted lines table
-IsNotedBy true lines table = ⊤
+abbrev pub IsNotedBy : {A S : Type 0} → Bool → List (List ℕ × ℕ) → Keyed (OwnedKey A) Places S → Type 0
+IsNotedBy false requests table = IsNoted requests table
+IsNotedBy true requests table = ⊤

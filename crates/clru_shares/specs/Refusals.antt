@@ -1,10 +1,12 @@
 -- Which inputs have no split, and why. Public clauses cite them.
-use Rattle.std.specs.Prelude.{◌≡◌, ℕ, ◌+◌, ◌^◌, ◌≤◌, Bool, true, false, List, [], ◌∷◌, ◌++◌, length, take, bytes_eq, ⊤}
+use Rattle.std.specs.Prelude.{◌≡◌, ℕ, ◌+◌, ◌^◌, ◌≤◌, Bool, true, false, List, [], ◌∷◌, ◌++◌, length, take, bytes_eq, Option, IsNone, IsSome, ⊤}
 use Rattle.std.specs.List.{All, list_any}
+use Rattle.clru_report.specs.Times.{HaveTimes, rests_of, time_of_line}
 use Rattle.clru_shares.specs.Classes.{AreClasses, class_in, has_class, most_classes}
 use Rattle.clru_shares.specs.Sizes.{is_sized, own_size, size_in}
+use Rattle.clru_shares.specs.Times.{AreTimed, rests_in}
 use Rattle.clru_shares.specs.declared.fault.SplitFault.{SplitFault}
-use Rattle.clru_shares.specs.declared.fault.SplitFault.TheVariants.{NoClass, TooManyClasses, NoSize, TooLarge, Other}
+use Rattle.clru_shares.specs.declared.fault.SplitFault.TheVariants.{NoTime, NoClass, TooManyClasses, NoSize, TooLarge, Other}
 
 -- there are no more classes than can be
 abbrev pub HaveFewClasses : List (List ℕ) → Type 0
@@ -57,13 +59,42 @@ pub record HasLargeSizes (lines : List (List ℕ)) : Type 0 where
   pub sized : All (λ l. is_sized true l ≡ true) (before ++ line ∷ [])
   pub large : 2 ^ 64 ≤ size_in true before + own_size true line
 
--- what a fault says of the lines: by size, or by keys
-abbrev pub IsSaidOfLines : Bool → SplitFault → List (List ℕ) → Type 0
-IsSaidOfLines sizes (NoClass n) lines = IsFirstWithoutClass n lines
-IsSaidOfLines sizes (TooManyClasses n) lines = IsOneTooMany n lines
-IsSaidOfLines sizes (NoSize n) lines = (sizes ≡ true) × IsFirstWithoutSize n lines
-IsSaidOfLines sizes TooLarge lines = (sizes ≡ true) × HasLargeSizes lines
-IsSaidOfLines sizes (Other fault) lines = ⊥
+-- what a fault says of the lines without their times: by size, or by keys
+abbrev pub IsSaidOfRests : Bool → SplitFault → List (List ℕ) → Type 0
+IsSaidOfRests sizes (NoTime n) lines = ⊥
+IsSaidOfRests sizes (NoClass n) lines = IsFirstWithoutClass n lines
+IsSaidOfRests sizes (TooManyClasses n) lines = IsOneTooMany n lines
+IsSaidOfRests sizes (NoSize n) lines = (sizes ≡ true) × IsFirstWithoutSize n lines
+IsSaidOfRests sizes TooLarge lines = (sizes ≡ true) × HasLargeSizes lines
+IsSaidOfRests sizes (Other fault) lines = ⊥
+
+-- the line of this number, counted from 1, is the first that begins with no time, and those before it, without their times, have classes,
+-- no more than can be, and by size sizes
+pub record IsFirstWithoutTime (sizes : Bool) (n : ℕ) (lines : List (List ℕ)) : Type 0 where
+  pub before : List (List ℕ)
+  pub line : List ℕ
+  pub rest : List (List ℕ)
+  pub is : lines ≡ before ++ line ∷ rest
+  pub number : n ≡ length before + 1
+  pub timed : HaveTimes before
+  pub classed : All (λ l. has_class l ≡ true) (rests_of before)
+  pub few : HaveFewClasses (rests_of before)
+  pub sized : All (λ l. is_sized sizes l ≡ true) (rests_of before)
+  pub none : IsNone (time_of_line line)
+
+-- under a limit each line up to that of this number begins with a time
+abbrev pub AreTimedUpTo : Option ℕ → ℕ → List (List ℕ) → Type 0
+AreTimedUpTo idle n lines = AreTimed idle (take n lines)
+
+-- what a fault says of the lines: that one has no time, under an idle limit, or what it says of those without their times, where the
+-- lines up to the one that it names have them
+abbrev pub IsSaidOfLines : Option ℕ → Bool → SplitFault → List (List ℕ) → Type 0
+IsSaidOfLines idle sizes (NoTime n) lines = IsSome idle × IsFirstWithoutTime sizes n lines
+IsSaidOfLines idle sizes (NoClass n) lines = AreTimedUpTo idle n lines × IsSaidOfRests sizes (NoClass n) (rests_in idle lines)
+IsSaidOfLines idle sizes (TooManyClasses n) lines = AreTimedUpTo idle n lines × IsSaidOfRests sizes (TooManyClasses n) (rests_in idle lines)
+IsSaidOfLines idle sizes (NoSize n) lines = AreTimedUpTo idle n lines × IsSaidOfRests sizes (NoSize n) (rests_in idle lines)
+IsSaidOfLines idle sizes TooLarge lines = IsSaidOfRests sizes TooLarge (rests_in idle lines)
+IsSaidOfLines idle sizes (Other fault) lines = ⊥
 
 -- so many bytes of a line at fault are shown
 abbrev pub most_shown : ℕ
@@ -80,6 +111,7 @@ pub record BeginsLine (n : ℕ) (lines : List (List ℕ)) (beginning : List ℕ)
 
 -- how the line begins that a fault names
 abbrev pub IsShownOf : SplitFault → List (List ℕ) → List ℕ → Type 0
+IsShownOf (NoTime n) lines beginning = BeginsLine n lines beginning
 IsShownOf (NoClass n) lines beginning = BeginsLine n lines beginning
 IsShownOf (TooManyClasses n) lines beginning = BeginsLine n lines beginning
 IsShownOf (NoSize n) lines beginning = BeginsLine n lines beginning

@@ -1,16 +1,17 @@
 -- Which lines a sample has, if there is one, and what its numbers say of all. Public clauses cite it.
 use Rattle.std.specs.Prelude.{ℕ, ◌/◌, ◌==◌, Bool, true, List, Option, None, Some, if◌then◌else◌}
-use Rattle.clru_report.specs.Samples.{is_kept, kept_of, times}
+use Rattle.clru_report.specs.Samples.{is_kept, times}
+use Rattle.clru_report.specs.Times.{kept_requests}
 
 -- a line is one of the sample
 abbrev pub is_in : Option ℕ → List ℕ → Bool
 is_in None line = true
 is_in (Some n) line = is_kept n line
 
--- the lines of the sample: all requests of one key in n
-abbrev pub kept_in : Option ℕ → List (List ℕ) → List (List ℕ)
-kept_in None lines = lines
-kept_in (Some n) lines = kept_of n lines
+-- those of the sample among requests with times: all of one key in n
+abbrev pub kept_in : Option ℕ → List (List ℕ × ℕ) → List (List ℕ × ℕ)
+kept_in None requests = requests
+kept_in (Some n) requests = kept_requests n requests
 
 -- the part of a budget, or of a capacity, that is the sample's
 abbrev pub part_in : Option ℕ → ℕ → ℕ

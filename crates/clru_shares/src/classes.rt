@@ -1,12 +1,12 @@
 //! A pass for each class.
 ghost use Rattle.std.specs.Prelude.{◌≡◌, ◌≤◌, ℕ, Bool, List, [], ◌∷◌, ◌++◌, length, map, ◌<◌, true, false, IfErr, IfOk, OnOk};
 ghost use Rattle.clru_report.specs.Passes.{line_of};
-ghost use Rattle.clru_shares.specs.Classes.{AreAscending, class_in, most_classes, requests_of};
+ghost use Rattle.clru_shares.specs.Classes.{AreAscending, class_in, most_classes, of_class, requests_of};
 ghost use Rattle.clru_shares.specs.Passes.{BelongsAt, HasTaken, HaveTaken, IsHeldAt, IsPlaceOf, name_of, next_kept};
-ghost use Rattle.clru_shares.specs.Places.{IsLatestBy};
+ghost use Rattle.clru_shares.specs.Places.{IsAskedOf};
 ghost use Rattle.clru_shares.specs.Sizes.{own_size};
 
-use crate::pass::{LinePass, empty_pass, take_kept};
+use crate::pass::{Asked, LinePass, empty_pass, take_kept};
 use crate::sampled::next_number;
 use clru_lines::OwnedKey;
 use std::alloc::{AllocError, Allocator};
@@ -51,8 +51,9 @@ pub(crate) fn kept_at<S: BuildHasher + Copy, A: Allocator + Copy>(
     place: Result<usize, usize>,
 ) -> usize
     requires { IfOk place (λ at. at < length classes.now) }
-    ensures { (sizes : Bool) (lines kept : List (List ℕ)) (name : List ℕ) → HaveTaken sizes lines kept classes.now
-        → IsPlaceOf (map name_of classes.now) name place → result ≡ length (requests_of name kept) }
+    ensures { (sizes : Bool) (limit : ℕ) (lines : List (List ℕ)) (kept : List (List ℕ × ℕ)) (name : List ℕ)
+        → HaveTaken sizes limit lines kept classes.now
+        → IsPlaceOf (map name_of classes.now) name place → result ≡ length (of_class name kept) }
 {
     match place {
         Ok(at) => classes[at].kept,
@@ -60,28 +61,29 @@ pub(crate) fn kept_at<S: BuildHasher + Copy, A: Allocator + Copy>(
     }
 }
 
-/// Counts one more line of a class, which is or belongs at this place, of this size, and takes it if it is kept. Returns whether there
+/// Counts one more line of a class, which is or belongs at this place, and takes it if it is kept. Returns whether there
 /// was room for the class.
 pub(crate) fn take_classed<S: BuildHasher + Copy, A: Allocator + Copy>(
     alloc: A,
     hash_builder: S,
     sizes: bool,
+    limit: usize,
     classes: &mut Vec<Class<S, A>, A>,
     place: Result<usize, usize>,
     name: &[u8],
     key: &OwnedKey<A>,
     is_kept: bool,
-    latest: Option<usize>,
-    size: usize,
+    asked: Asked,
 ) -> Result<bool, AllocError>
     requires place { IsPlaceOf (map name_of classes.old.items) name.now place }
-    requires size { size ≡ own_size sizes (line_of key.now) }
-    requires taken { (lines : List (List ℕ)) × (kept : List (List ℕ)) × HaveTaken sizes lines kept classes.old.items
-        × (is_kept ≡ true → IsLatestBy sizes (requests_of name.now kept) (line_of key.now) latest) }
-    ensures taken { (lines kept : List (List ℕ)) → HaveTaken sizes lines kept classes.old.items → name.now ≡ class_in (line_of key.now)
-        → (is_kept ≡ true → IsLatestBy sizes (requests_of name.now kept) (line_of key.now) latest)
-        → IfOk result (λ has_room. has_room ≡ true
-        → HaveTaken sizes (lines ++ line_of key.now ∷ []) (next_kept is_kept kept (line_of key.now)) classes.new.items) }
+    requires size { asked.size ≡ own_size sizes (line_of key.now) }
+    requires taken { (lines : List (List ℕ)) × (kept : List (List ℕ × ℕ)) × HaveTaken sizes limit lines kept classes.old.items
+        × (is_kept ≡ true → IsAskedOf sizes limit (of_class name.now kept) (line_of key.now) asked) }
+    ensures taken { (lines : List (List ℕ)) (kept : List (List ℕ × ℕ)) → HaveTaken sizes limit lines kept classes.old.items
+        → name.now ≡ class_in (line_of key.now)
+        → (is_kept ≡ true → IsAskedOf sizes limit (of_class name.now kept) (line_of key.now) asked)
+        → IfOk result (λ has_room. has_room ≡ true → HaveTaken sizes limit (lines ++ line_of key.now ∷ [])
+        (next_kept is_kept kept (line_of key.now, asked.time)) classes.new.items) }
     ensures full { IfOk result (λ has_room. has_room ≡ false
         → (most_classes ≤ length classes.old.items) × ((at : ℕ) × BelongsAt (map name_of classes.old.items) name.now at)) }
     ensures few { IfOk result (λ has_room. has_room ≡ true → length classes.old.items ≤ most_classes
@@ -89,14 +91,14 @@ pub(crate) fn take_classed<S: BuildHasher + Copy, A: Allocator + Copy>(
 {
     match place {
         Ok(at) => {
-            take_line(alloc, &mut classes[at], key, is_kept, latest, size)?;
+            take_line(alloc, &mut classes[at], key, is_kept, asked)?;
             Ok(true)
         }
         Err(at) => {
             if classes.len() >= MOST_CLASSES {
                 return Ok(false);
             }
-            let class = class_with(alloc, hash_builder, sizes, name, key, is_kept, latest, size)?;
+            let class = class_with(alloc, hash_builder, sizes, limit, name, key, is_kept, asked)?;
             match classes.insert(at, class) {
                 Ok(()) => Ok(true),
                 Err(_) => Err(AllocError),
@@ -110,18 +112,18 @@ fn class_with<S: BuildHasher + Copy, A: Allocator + Copy>(
     alloc: A,
     hash_builder: S,
     sizes: bool,
+    limit: usize,
     name: &[u8],
     key: &OwnedKey<A>,
     is_kept: bool,
-    latest: Option<usize>,
-    size: usize,
+    asked: Asked,
 ) -> Result<Class<S, A>, AllocError>
-    requires size { size ≡ own_size sizes (line_of key.now) }
-    requires latest { is_kept ≡ true → IsLatestBy sizes [] (line_of key.now) latest }
+    requires size { asked.size ≡ own_size sizes (line_of key.now) }
+    requires latest { is_kept ≡ true → IsAskedOf sizes limit [] (line_of key.now) asked }
     ensures name { IfOk result (λ class. name_of class ≡ name.now) }
-    ensures taken { (lines kept : List (List ℕ)) → requests_of name.now lines ≡ [] → requests_of name.now kept ≡ []
+    ensures taken { (lines : List (List ℕ)) (kept : List (List ℕ × ℕ)) → requests_of name.now lines ≡ [] → of_class name.now kept ≡ []
         → name.now ≡ class_in (line_of key.now)
-        → IfOk result (HasTaken sizes (lines ++ line_of key.now ∷ []) (next_kept is_kept kept (line_of key.now))) }
+        → IfOk result (HasTaken sizes limit (lines ++ line_of key.now ∷ []) (next_kept is_kept kept (line_of key.now, asked.time))) }
     ensures some { IfOk result (λ class. 0 < class.requests) }
 {
     let mut class = Class {
@@ -129,38 +131,39 @@ fn class_with<S: BuildHasher + Copy, A: Allocator + Copy>(
         requests: 0,
         size: 0,
         kept: 0,
-        pass: empty_pass(alloc, hash_builder, sizes),
+        pass: empty_pass(alloc, hash_builder, sizes, limit),
     };
-    take_line(alloc, &mut class, key, is_kept, latest, size)?;
+    take_line(alloc, &mut class, key, is_kept, asked)?;
     Ok(class)
 }
 
-// Counts one more line of this class, of this size, and takes it if it is kept.
+// Counts one more line of this class, and takes it if it is kept.
 fn take_line<S: BuildHasher + Copy, A: Allocator + Copy>(
     alloc: A,
     class: &mut Class<S, A>,
     key: &OwnedKey<A>,
     is_kept: bool,
-    latest: Option<usize>,
-    size: usize,
+    asked: Asked,
 ) -> Result<(), AllocError>
-    requires { (sizes : Bool) × (lines : List (List ℕ)) × (kept : List (List ℕ)) × HasTaken sizes lines kept class.old
-        × (size ≡ own_size sizes (line_of key.now))
-        × (is_kept ≡ true → IsLatestBy sizes (requests_of (name_of class.old) kept) (line_of key.now) latest) }
+    requires { (sizes : Bool) × (limit : ℕ) × (lines : List (List ℕ)) × (kept : List (List ℕ × ℕ)) × HasTaken sizes limit lines kept class.old
+        × (asked.size ≡ own_size sizes (line_of key.now))
+        × (is_kept ≡ true → IsAskedOf sizes limit (of_class (name_of class.old) kept) (line_of key.now) asked) }
     ensures name { name_of class.new ≡ name_of class.old }
-    ensures taken { (sizes : Bool) (lines kept : List (List ℕ)) → HasTaken sizes lines kept class.old → size ≡ own_size sizes (line_of key.now)
-        → (is_kept ≡ true → IsLatestBy sizes (requests_of (name_of class.old) kept) (line_of key.now) latest)
+    ensures taken { (sizes : Bool) (limit : ℕ) (lines : List (List ℕ)) (kept : List (List ℕ × ℕ)) → HasTaken sizes limit lines kept class.old
+        → asked.size ≡ own_size sizes (line_of key.now)
+        → (is_kept ≡ true → IsAskedOf sizes limit (of_class (name_of class.old) kept) (line_of key.now) asked)
         → name_of class.old ≡ class_in (line_of key.now)
-        → OnOk result (HasTaken sizes (lines ++ line_of key.now ∷ []) (next_kept is_kept kept (line_of key.now)) class.new) }
+        → OnOk result (HasTaken sizes limit (lines ++ line_of key.now ∷ [])
+        (next_kept is_kept kept (line_of key.now, asked.time)) class.new) }
     ensures some { OnOk result (0 < class.new.requests) }
 {
     let Some(requests) = class.requests.checked_add(1) else {
         return Err(AllocError);
     };
-    let Some(total) = class.size.checked_add(size) else {
+    let Some(total) = class.size.checked_add(asked.size) else {
         return Err(AllocError);
     };
-    take_kept(alloc, is_kept, &mut class.pass, key, latest, size)?;
+    take_kept(alloc, is_kept, &mut class.pass, key, asked)?;
     class.kept = next_number(is_kept, class.kept);
     class.requests = requests;
     class.size = total;

@@ -19,7 +19,8 @@ pub(crate) fn curve_of<S: BuildHasher + Copy, A: Allocator + Copy>(
     alloc: A,
     pass: &LinePass<S, A>,
 ) -> Result<LineCurve<A>, AllocError>
-    ensures { (sizes : Bool) (lines : List (List ℕ)) → HasTakenBy sizes lines pass.now → IfOk result (IsCurveBy sizes lines) }
+    ensures { (sizes : Bool) (limit : ℕ) (requests : List (List ℕ × ℕ)) → HasTakenBy sizes limit requests pass.now
+        → IfOk result (IsCurveBy sizes limit requests) }
 {
     match pass {
         LinePass::OfKeys(pass) => match pass.curve(alloc) {

@@ -9,7 +9,9 @@ use std::fmt;
 /// Why a split ends without its whole output.
 #[derive(Clone, Copy, Debug, PartialEq, Eq)]
 pub enum SplitFault {
-    /// The line of this number, counted from 1, begins with no class.
+    /// With times: the line of this number, counted from 1, begins with none.
+    NoTime(usize),
+    /// The line of this number, counted from 1, begins with no class, behind its time if it has one.
     NoClass(usize),
     /// The line of this number has a class, and the lines before it have as many others as can be.
     TooManyClasses(usize),
@@ -26,6 +28,10 @@ impl fmt::Display for SplitFault {
 
     fn fmt<W: fmt::Write>(&self, f: &mut fmt::Formatter<W>) -> fmt::Result {
         match self {
+            SplitFault::NoTime(number) => write!(
+                f,
+                "line {number} has no time: with --split and --times each begins with one, as in 1700000000 images /logo.png"
+            ),
             SplitFault::NoClass(number) => write!(
                 f,
                 "line {number} has no class: with --split each begins with one and a blank, as in images /logo.png"
@@ -57,7 +63,8 @@ pub fn split_status(outcome: &Result<(), SplitFault>) -> u8
     match outcome {
         Ok(()) => 0,
         Err(
-            SplitFault::NoClass(_)
+            SplitFault::NoTime(_)
+            | SplitFault::NoClass(_)
             | SplitFault::TooManyClasses(_)
             | SplitFault::NoSize(_)
             | SplitFault::TooLarge,

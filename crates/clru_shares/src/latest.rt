@@ -1,20 +1,21 @@
-//! Where the latest request of each line was.
+//! Where and when the latest request of each line was.
 ghost use Rattle.std.specs.Prelude.{◌≡◌, ◌+◌, ◌^◌, ◌<◌, ℕ, Bool, List, [], ◌∷◌, ◌++◌, length, true, false, OnOk, IfOk};
 ghost use Rattle.clru_report.specs.Passes.{line_of};
-ghost use Rattle.clru_shares.specs.Classes.{class_in, requests_of};
+ghost use Rattle.clru_shares.specs.Classes.{class_in, of_class};
 ghost use Rattle.clru_shares.specs.Passes.{next_kept};
-ghost use Rattle.clru_shares.specs.Places.{AreLatestBy, IsNoted, IsNotedBy, all_of as all_of_by, own_of as own_of_by};
+ghost use Rattle.clru_shares.specs.Places.{AreLatest, AreLatestBy, IsNoted, IsNotedBy, all_of as all_of_by, own_of as own_of_by, soon_of as soon_of_by};
 
 use clru_curve::KeyTable;
 use clru_lines::OwnedKey;
 use std::alloc::{AllocError, Allocator};
 use std::hash::BuildHasher;
 
-/// The position of a request among those of its class, and among all.
+/// The position of a request among those of its class, and among all, and its time.
 #[derive(Clone, Copy)]
 pub(crate) struct Places {
     pub(crate) own: usize,
     pub(crate) all: usize,
+    pub(crate) time: usize,
 }
 
 /// If the line is kept, returns where its latest request was, and notes that it is requested here. By size nothing is noted, since each
@@ -28,12 +29,12 @@ pub(crate) fn note_kept<S: BuildHasher + Copy, A: Allocator + Copy>(
     here: Places,
 ) -> Result<Option<Places>, AllocError>
     requires countable { here.all + 1 < 2 ^ 64 }
-    requires noted { (kept : List (List ℕ)) × IsNotedBy sizes kept latest.old × (here.all ≡ length kept) }
-    ensures latest { (kept : List (List ℕ)) → IsNotedBy sizes kept latest.old
+    requires noted { (kept : List (List ℕ × ℕ)) × IsNotedBy sizes kept latest.old × (here.all ≡ length kept) }
+    ensures latest { (kept : List (List ℕ × ℕ)) → IsNotedBy sizes kept latest.old
         → IfOk result (λ places. is_kept ≡ true → AreLatestBy sizes kept (line_of key.now) places) }
-    ensures noted { (kept : List (List ℕ)) → IsNotedBy sizes kept latest.old → here.all ≡ length kept
-        → here.own ≡ length (requests_of (class_in (line_of key.now)) kept)
-        → OnOk result (IsNotedBy sizes (next_kept is_kept kept (line_of key.now)) latest.new) }
+    ensures noted { (kept : List (List ℕ × ℕ)) → IsNotedBy sizes kept latest.old → here.all ≡ length kept
+        → here.own ≡ length (of_class (class_in (line_of key.now)) kept)
+        → OnOk result (IsNotedBy sizes (next_kept is_kept kept (line_of key.now, here.time)) latest.new) }
 {
     if is_kept {
         note(alloc, sizes, latest, key, here)
@@ -51,12 +52,12 @@ fn note<S: BuildHasher + Copy, A: Allocator + Copy>(
     here: Places,
 ) -> Result<Option<Places>, AllocError>
     requires countable { here.all + 1 < 2 ^ 64 }
-    requires noted { (lines : List (List ℕ)) × IsNotedBy sizes lines latest.old × (here.all ≡ length lines) }
-    ensures latest { (lines : List (List ℕ)) → IsNotedBy sizes lines latest.old
-        → IfOk result (AreLatestBy sizes lines (line_of key.now)) }
-    ensures noted { (lines : List (List ℕ)) → IsNotedBy sizes lines latest.old → here.all ≡ length lines
-        → here.own ≡ length (requests_of (class_in (line_of key.now)) lines)
-        → OnOk result (IsNotedBy sizes (lines ++ line_of key.now ∷ []) latest.new) }
+    requires noted { (kept : List (List ℕ × ℕ)) × IsNotedBy sizes kept latest.old × (here.all ≡ length kept) }
+    ensures latest { (kept : List (List ℕ × ℕ)) → IsNotedBy sizes kept latest.old
+        → IfOk result (AreLatestBy sizes kept (line_of key.now)) }
+    ensures noted { (kept : List (List ℕ × ℕ)) → IsNotedBy sizes kept latest.old → here.all ≡ length kept
+        → here.own ≡ length (of_class (class_in (line_of key.now)) kept)
+        → OnOk result (IsNotedBy sizes (kept ++ (line_of key.now, here.time) ∷ []) latest.new) }
 {
     if sizes {
         return Ok(None);
@@ -72,11 +73,11 @@ fn note_line<S: BuildHasher + Copy, A: Allocator + Copy>(
     here: Places,
 ) -> Result<Option<Places>, AllocError>
     requires countable { here.all + 1 < 2 ^ 64 }
-    requires noted { (lines : List (List ℕ)) × IsNoted lines latest.old × (here.all ≡ length lines) }
-    ensures latest { (lines : List (List ℕ)) → IsNoted lines latest.old → IfOk result (AreLatestBy false lines (line_of key.now)) }
-    ensures noted { (lines : List (List ℕ)) → IsNoted lines latest.old → here.all ≡ length lines
-        → here.own ≡ length (requests_of (class_in (line_of key.now)) lines)
-        → OnOk result (IsNoted (lines ++ line_of key.now ∷ []) latest.new) }
+    requires noted { (kept : List (List ℕ × ℕ)) × IsNoted kept latest.old × (here.all ≡ length kept) }
+    ensures latest { (kept : List (List ℕ × ℕ)) → IsNoted kept latest.old → IfOk result (AreLatest kept (line_of key.now)) }
+    ensures noted { (kept : List (List ℕ × ℕ)) → IsNoted kept latest.old → here.all ≡ length kept
+        → here.own ≡ length (of_class (class_in (line_of key.now)) kept)
+        → OnOk result (IsNoted (kept ++ (line_of key.now, here.time) ∷ []) latest.new) }
 {
     let hash = latest.hash(key);
     match latest.replace(hash, key, here) {
@@ -108,5 +109,15 @@ pub(crate) fn all_of(places: Option<Places>) -> Option<usize>
     match places {
         Some(places) => Some(places.all),
         None => None,
+    }
+}
+
+/// Returns whether the latest request came at most this long ago.
+pub(crate) fn soon_of(limit: usize, time: usize, places: Option<Places>) -> bool
+    ensures { result ≡ soon_of_by limit time places }
+{
+    match places {
+        Some(before) => time.saturating_sub(before.time) <= limit,
+        None => false,
     }
 }

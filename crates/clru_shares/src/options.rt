@@ -2,10 +2,10 @@
 ghost use Rattle.std.specs.Prelude.{◌≡◌, true, false, Some, IfErr, IfOk};
 ghost use Rattle.std.specs.Int.NonZero.{non_zero_usize_get};
 ghost use Rattle.std.specs.Option.{is_none, option_map};
-ghost use Rattle.clru_shares.specs.Arguments.{form_of_split, goes_with_split, has_look as has_look_by, holds_all_lines as holds_all_lines_by, is_usual as is_usual_by, sample_number};
+ghost use Rattle.clru_shares.specs.Arguments.{form_of_split, goes_with_split, has_look as has_look_by, has_no_age as has_no_age_by, holds_all_lines as holds_all_lines_by, idle_of as idle_of_by, is_usual as is_usual_by, sample_number};
 
 use crate::form::SplitForm;
-use clru_report::{Capacities, Form, Look, Options, Sample};
+use clru_report::{Capacities, Form, Look, Options, Sample, Times};
 use std::alloc::Allocator;
 use std::num::NonZeroUsize;
 
@@ -17,6 +17,10 @@ pub struct SplitOptions {
 
     /// Whether a size and a blank follow the class of each line, and capacities are sums of sizes.
     pub sizes: bool,
+
+    /// If each line begins with a time, which its class follows: a reuse after more than this, in millionths of the log's unit, counts as
+    /// a first request.
+    pub idle: Option<usize>,
 
     /// One key in so many is read, if not all are: those whose hash by FNV-1a is a multiple of it. What is written is told of all.
     pub sample: Option<NonZeroUsize>,
@@ -33,6 +37,7 @@ pub fn split_options_of<A: Allocator>(
 ) -> Result<SplitOptions, &'static str>
     ensures budget { IfOk result (λ split. split.budget ≡ budget) }
     ensures sizes { IfOk result (λ split. split.sizes ≡ options.now.sizes) }
+    ensures idle { IfOk result (λ split. split.idle ≡ idle_of_by options.now.times) }
     ensures sample { IfOk result (λ split. option_map non_zero_usize_get split.sample ≡ sample_number options.now.sample) }
     ensures form { IfOk result (λ split. form_of_split options.now.form ≡ Some split.form) }
     ensures goes { IfOk result (λ split. goes_with_split options.now ≡ true) }
@@ -45,6 +50,7 @@ pub fn split_options_of<A: Allocator>(
         Some(form) => Ok(SplitOptions {
             budget,
             sizes: options.sizes,
+            idle: idle_of(options.times),
             sample: sample_of(options.sample),
             form,
         }),
@@ -94,10 +100,29 @@ fn conflict_in<A: Allocator>(options: &Options<A>) -> Option<&'static str>
             "--title, --unit, --from and --to are not of the picture of a split: leave them out",
         );
     }
-    if options.times.is_some() {
-        return Some("--split and --times do not go together: leave one out");
+    if !has_no_age(options.times) {
+        return Some("--split and --max-age do not go together: leave one out, or take --max-idle");
     }
     None
+}
+
+fn has_no_age(times: Option<Times>) -> bool
+    ensures { result ≡ has_no_age_by times }
+{
+    match times {
+        Some(limits) => limits.max_age.is_none(),
+        None => true,
+    }
+}
+
+// The limit, if lines have times: one that is not named is the greatest.
+fn idle_of(times: Option<Times>) -> Option<usize>
+    ensures { result ≡ idle_of_by times }
+{
+    match times {
+        Some(limits) => Some(limits.max_idle.unwrap_or(usize::MAX)),
+        None => None,
+    }
 }
 
 fn is_usual<A: Allocator>(capacities: &Capacities<A>) -> bool

@@ -1,23 +1,34 @@
-//! A pass over lines, by keys or by size.
+//! A pass over lines with times, by keys or by size.
 ghost use Rattle.std.specs.Prelude.{◌≡◌, ℕ, Bool, true, List, [], ◌∷◌, ◌++◌, OnOk};
-ghost use Rattle.clru_curve.specs.SizedPasses.{IsSizedPass};
+ghost use Rattle.clru_curve.specs.SizedIdlePasses.{IsSizedIdlePass};
 ghost use Rattle.clru_lines.specs.declared.lines.OwnedKey.{OwnedKey};
 ghost use Rattle.clru_report.specs.Passes.{line_of, same_line};
-ghost use Rattle.clru_shares.specs.LinePasses.{HasTakenBy, HasTakenSize, weight_of_key};
+ghost use Rattle.clru_report.specs.TimedPasses.{HasTakenRequest};
+ghost use Rattle.clru_shares.specs.LinePasses.{HasTakenBy, weight_of_key};
 ghost use Rattle.clru_shares.specs.Passes.{next_kept};
-ghost use Rattle.clru_shares.specs.Places.{IsLatestBy};
+ghost use Rattle.clru_shares.specs.Places.{IsAskedOf};
 ghost use Rattle.clru_shares.specs.Sizes.{own_size, weight_behind};
 
-use clru_curve::{PositionPass, SizedPass};
+use clru_curve::{PositionPass, SizedIdlePass};
 use clru_lines::OwnedKey;
 use std::alloc::{AllocError, Allocator};
 use std::hash::BuildHasher;
 
-/// A pass over lines.
+/// A pass over lines under an idle limit. Lines without times have the time 0 and the greatest limit.
 #[derive(Drop)]
 pub(crate) enum LinePass<S: BuildHasher + Copy, A: Allocator + Copy> {
     OfKeys(PositionPass<OwnedKey<A>, A>),
-    OfSizes(SizedPass<OwnedKey<A>, S, A>),
+    OfSizes(SizedIdlePass<OwnedKey<A>, S, A>),
+}
+
+/// A request of a line: where the latest one was among those of the pass and whether it came soon enough, the time and the size. By size
+/// the pass knows the first two itself.
+#[derive(Clone, Copy)]
+pub(crate) struct Asked {
+    pub(crate) latest: Option<usize>,
+    pub(crate) soon: bool,
+    pub(crate) time: usize,
+    pub(crate) size: usize,
 }
 
 /// Returns a pass that has taken no line.
@@ -25,33 +36,35 @@ pub(crate) fn empty_pass<S: BuildHasher + Copy, A: Allocator + Copy>(
     alloc: A,
     hash_builder: S,
     sizes: bool,
+    limit: usize,
 ) -> LinePass<S, A>
-    ensures { HasTakenBy sizes [] result }
+    ensures { HasTakenBy sizes limit [] result }
 {
     if sizes {
-        LinePass::OfSizes(SizedPass::with_hasher(alloc, hash_builder))
+        LinePass::OfSizes(SizedIdlePass::with_hasher(alloc, limit, hash_builder))
     } else {
         LinePass::OfKeys(PositionPass::new(alloc))
     }
 }
 
-/// Takes one more line, of this size, if it is kept. Its latest request was at this position; by size the pass knows that itself.
+/// Takes one more line, if it is kept.
 pub(crate) fn take_kept<S: BuildHasher + Copy, A: Allocator + Copy>(
     alloc: A,
     is_kept: bool,
     pass: &mut LinePass<S, A>,
     key: &OwnedKey<A>,
-    latest: Option<usize>,
-    size: usize,
+    asked: Asked,
 ) -> Result<(), AllocError>
-    requires { (sizes : Bool) × (kept : List (List ℕ)) × HasTakenBy sizes kept pass.old × (size ≡ own_size sizes (line_of key.now))
-        × (is_kept ≡ true → IsLatestBy sizes kept (line_of key.now) latest) }
-    ensures { (sizes : Bool) (kept : List (List ℕ)) → HasTakenBy sizes kept pass.old → size ≡ own_size sizes (line_of key.now)
-        → (is_kept ≡ true → IsLatestBy sizes kept (line_of key.now) latest)
-        → OnOk result (HasTakenBy sizes (next_kept is_kept kept (line_of key.now)) pass.new) }
+    requires { (sizes : Bool) × (limit : ℕ) × (kept : List (List ℕ × ℕ)) × HasTakenBy sizes limit kept pass.old
+        × (asked.size ≡ own_size sizes (line_of key.now))
+        × (is_kept ≡ true → IsAskedOf sizes limit kept (line_of key.now) asked) }
+    ensures { (sizes : Bool) (limit : ℕ) (kept : List (List ℕ × ℕ)) → HasTakenBy sizes limit kept pass.old
+        → asked.size ≡ own_size sizes (line_of key.now)
+        → (is_kept ≡ true → IsAskedOf sizes limit kept (line_of key.now) asked)
+        → OnOk result (HasTakenBy sizes limit (next_kept is_kept kept (line_of key.now, asked.time)) pass.new) }
 {
     if is_kept {
-        take(alloc, pass, key, latest, size)
+        take(alloc, pass, key, asked)
     } else {
         Ok(())
     }
@@ -62,21 +75,20 @@ fn take<S: BuildHasher + Copy, A: Allocator + Copy>(
     alloc: A,
     pass: &mut LinePass<S, A>,
     key: &OwnedKey<A>,
-    latest: Option<usize>,
-    size: usize,
+    asked: Asked,
 ) -> Result<(), AllocError>
-    requires { (sizes : Bool) × (lines : List (List ℕ)) × HasTakenBy sizes lines pass.old × (size ≡ own_size sizes (line_of key.now))
-        × IsLatestBy sizes lines (line_of key.now) latest }
-    ensures { (sizes : Bool) (lines : List (List ℕ)) → HasTakenBy sizes lines pass.old → size ≡ own_size sizes (line_of key.now)
-        → IsLatestBy sizes lines (line_of key.now) latest
-        → OnOk result (HasTakenBy sizes (lines ++ line_of key.now ∷ []) pass.new) }
+    requires { (sizes : Bool) × (limit : ℕ) × (kept : List (List ℕ × ℕ)) × HasTakenBy sizes limit kept pass.old
+        × (asked.size ≡ own_size sizes (line_of key.now)) × IsAskedOf sizes limit kept (line_of key.now) asked }
+    ensures { (sizes : Bool) (limit : ℕ) (kept : List (List ℕ × ℕ)) → HasTakenBy sizes limit kept pass.old
+        → asked.size ≡ own_size sizes (line_of key.now) → IsAskedOf sizes limit kept (line_of key.now) asked
+        → OnOk result (HasTakenBy sizes limit (kept ++ (line_of key.now, asked.time) ∷ []) pass.new) }
 {
     match pass {
-        LinePass::OfKeys(pass) => match pass.request(latest) {
+        LinePass::OfKeys(pass) => match pass.request(asked.latest, asked.soon) {
             Ok(_) => Ok(()),
             Err(_) => Err(AllocError),
         },
-        LinePass::OfSizes(pass) => take_sized(alloc, pass, key, size - 1),
+        LinePass::OfSizes(pass) => take_sized(alloc, pass, key, asked.time, asked.size - 1),
     }
 }
 
@@ -84,21 +96,22 @@ fn take<S: BuildHasher + Copy, A: Allocator + Copy>(
 // of all are, and then the line was refused before.
 fn take_sized<S: BuildHasher, A: Allocator + Copy>(
     alloc: A,
-    pass: &mut SizedPass<OwnedKey<A>, S, A>,
+    pass: &mut SizedIdlePass<OwnedKey<A>, S, A>,
     key: &OwnedKey<A>,
+    time: usize,
     weight: usize,
 ) -> Result<(), AllocError>
     requires weight { weight ≡ weight_behind (line_of key.now) }
-    requires taken { (past : List (OwnedKey A)) × IsSizedPass same_line weight_of_key past pass.old }
-    ensures { (past : List (OwnedKey A)) → IsSizedPass same_line weight_of_key past pass.old
-        → OnOk result (HasTakenSize past (line_of key.now) pass.new) }
+    requires taken { (limit : ℕ) × (past : List (OwnedKey A × ℕ)) × IsSizedIdlePass same_line weight_of_key limit past pass.old }
+    ensures { (limit : ℕ) (past : List (OwnedKey A × ℕ)) → IsSizedIdlePass same_line weight_of_key limit past pass.old
+        → OnOk result (HasTakenRequest (IsSizedIdlePass same_line weight_of_key limit) past (line_of key.now) time pass.new) }
 {
     let hash = pass.hash(key);
-    match pass.request_again_with_hash(hash, key, weight) {
+    match pass.request_again_with_hash(hash, key, time, weight) {
         Ok(Some(_)) => Ok(()),
         Ok(None) => {
             let bytes = Vec::from_slice(alloc, &key.0)?;
-            match pass.request_new_with_hash(hash, OwnedKey(bytes), weight) {
+            match pass.request_new_with_hash(hash, OwnedKey(bytes), time, weight) {
                 Ok(()) => Ok(()),
                 Err(_) => Err(AllocError),
             }

@@ -6,9 +6,8 @@ ghost use Rattle.std.specs.Io.KnownBytes.{Appends, Keeps};
 ghost use Rattle.clru_lines.specs.Lines.{lines_of};
 ghost use Rattle.clru_lines.specs.Whole.{ReadWhole};
 ghost use Rattle.clru_shares.specs.Faults.{comes_of_a_line, comes_of_writing};
-ghost use Rattle.clru_shares.specs.Passes.{HasTakenAll};
+ghost use Rattle.clru_shares.specs.Passes.{HasTakenLines};
 ghost use Rattle.clru_shares.specs.Refusals.{IsSaidOfLines, IsShownOf};
-ghost use Rattle.clru_shares.specs.Sampled.{kept_in};
 ghost use Rattle.clru_shares.specs.Shares.{IsSplitTable, step_for};
 
 use crate::curve::curve_of;
@@ -30,8 +29,9 @@ use std::num::NonZeroUsize;
 const MOST_STEPS: usize = 1000;
 
 /// Reads the whole input, and then writes the table of a best split of the budget among its classes, in this form. That of a sample is
-/// one of its part of the budget among its lines, as told of all. Lines are hashed with `hash_builder`: a best split is one under each
-/// that is lawful. The beginning of the line that a fault names is put into `beginning`.
+/// one of its part of the budget among its lines, as told of all. A request that comes later than the idle limit allows is a first one.
+/// Lines are hashed with `hash_builder`: a best split is one under each that is lawful. The beginning of the line that a fault names is
+/// put into `beginning`.
 /// Cost: one look-up a line, by size two, and that of `split` for at most a thousand steps. A sample takes a hash of each line, and
 /// look-ups of its own alone.
 pub fn run_split<R: Read, W: Write, S: BuildHasher + Copy, A: Allocator + Copy>(
@@ -44,18 +44,18 @@ pub fn run_split<R: Read, W: Write, S: BuildHasher + Copy, A: Allocator + Copy>(
 ) -> Result<(), SplitFault>
     // The writer got a table of the whole input.
     ensures written { OnOk result (ReadWhole (R.remaining reader.old) (R.remaining reader.new)
-        (λ input. (text : List ℕ) × IsSplitTable options.form options.sizes (option_map non_zero_usize_get options.sample)
+        (λ input. (text : List ℕ) × IsSplitTable options.form options.sizes options.idle (option_map non_zero_usize_get options.sample)
         (non_zero_usize_get options.budget) (lines_of input) text
         × Appends (W.contents writer.old) (W.contents writer.new) text)) }
     // The writer got a beginning of a table of the whole input.
     ensures cut_short { IfErr result (λ fault. comes_of_writing fault ≡ true
         → ReadWhole (R.remaining reader.old) (R.remaining reader.new)
-        (λ input. (text : List ℕ) × IsSplitTable options.form options.sizes (option_map non_zero_usize_get options.sample)
+        (λ input. (text : List ℕ) × IsSplitTable options.form options.sizes options.idle (option_map non_zero_usize_get options.sample)
         (non_zero_usize_get options.budget) (lines_of input) text
         × (n : ℕ) × Appends (W.contents writer.old) (W.contents writer.new) (take n text))) }
     // A line of the input is not what a split wants, for the reason that the fault says.
     ensures refused { IfErr result (λ fault. comes_of_a_line fault ≡ true
-        → ReadWhole (R.remaining reader.old) (R.remaining reader.new) (λ input. IsSaidOfLines options.sizes fault (lines_of input))) }
+        → ReadWhole (R.remaining reader.old) (R.remaining reader.new) (λ input. IsSaidOfLines options.idle options.sizes fault (lines_of input))) }
     // The line that it names begins so.
     ensures shown { IfErr result (λ fault. comes_of_a_line fault ≡ true
         → ReadWhole (R.remaining reader.old) (R.remaining reader.new) (λ input. IsShownOf fault (lines_of input) beginning.new.items)) }
@@ -83,10 +83,10 @@ pub fn make_split<R: Read, S: BuildHasher + Copy, A: Allocator + Copy>(
     hash_builder: S,
 ) -> Result<Vec<u8, A>, SplitFault>
     ensures table { IfOk result (λ text. ReadWhole (R.remaining reader.old) (R.remaining reader.new)
-        (λ input. IsSplitTable options.form options.sizes (option_map non_zero_usize_get options.sample)
+        (λ input. IsSplitTable options.form options.sizes options.idle (option_map non_zero_usize_get options.sample)
         (non_zero_usize_get options.budget) (lines_of input) text.items)) }
     ensures refused { IfErr result (λ fault. comes_of_a_line fault ≡ true
-        → ReadWhole (R.remaining reader.old) (R.remaining reader.new) (λ input. IsSaidOfLines options.sizes fault (lines_of input))) }
+        → ReadWhole (R.remaining reader.old) (R.remaining reader.new) (λ input. IsSaidOfLines options.idle options.sizes fault (lines_of input))) }
     ensures fault { IfErr result (λ fault. comes_of_writing fault ≡ false) }
 {
     let mut beginning = Vec::new(alloc);
@@ -102,10 +102,10 @@ fn split_text<R: Read, S: BuildHasher + Copy, A: Allocator + Copy>(
     beginning: &mut Vec<u8, A>,
 ) -> Result<Vec<u8, A>, SplitFault>
     ensures table { IfOk result (λ text. ReadWhole (R.remaining reader.old) (R.remaining reader.new)
-        (λ input. IsSplitTable options.form options.sizes (option_map non_zero_usize_get options.sample)
+        (λ input. IsSplitTable options.form options.sizes options.idle (option_map non_zero_usize_get options.sample)
         (non_zero_usize_get options.budget) (lines_of input) text.items)) }
     ensures refused { IfErr result (λ fault. comes_of_a_line fault ≡ true
-        → ReadWhole (R.remaining reader.old) (R.remaining reader.new) (λ input. IsSaidOfLines options.sizes fault (lines_of input))) }
+        → ReadWhole (R.remaining reader.old) (R.remaining reader.new) (λ input. IsSaidOfLines options.idle options.sizes fault (lines_of input))) }
     ensures shown { IfErr result (λ fault. comes_of_a_line fault ≡ true
         → ReadWhole (R.remaining reader.old) (R.remaining reader.new) (λ input. IsShownOf fault (lines_of input) beginning.new.items)) }
     ensures fault { IfErr result (λ fault. comes_of_writing fault ≡ false) }
@@ -113,6 +113,7 @@ fn split_text<R: Read, S: BuildHasher + Copy, A: Allocator + Copy>(
     let passes = match read_classes(
         alloc,
         options.sizes,
+        options.idle,
         options.sample,
         reader,
         hash_builder,
@@ -132,8 +133,8 @@ fn text_for<S: BuildHasher + Copy, A: Allocator + Copy>(
     options: SplitOptions,
     passes: &Passes<S, A>,
 ) -> Result<Vec<u8, A>, AllocError>
-    ensures { (lines : List (List ℕ)) → HasTakenAll options.sizes lines (kept_in (option_map non_zero_usize_get options.sample) lines) passes.now
-        → IfOk result (λ text. IsSplitTable options.form options.sizes (option_map non_zero_usize_get options.sample)
+    ensures { (lines : List (List ℕ)) → HasTakenLines options.sizes options.idle (option_map non_zero_usize_get options.sample) lines passes.now
+        → IfOk result (λ text. IsSplitTable options.form options.sizes options.idle (option_map non_zero_usize_get options.sample)
         (non_zero_usize_get options.budget) lines text.items) }
 {
     let shares = shares_of(alloc, options.sample, &passes.classes)?;
@@ -147,6 +148,7 @@ fn text_for<S: BuildHasher + Copy, A: Allocator + Copy>(
     let SplitOptions {
         budget: whole,
         sizes,
+        idle: _,
         sample,
         form,
     } = options;

@@ -1,5 +1,5 @@
 //! The one reading of a log whose lines begin with classes.
-ghost use Rattle.std.specs.Prelude.{◌≡◌, ◌∷◌, ◌++◌, ◌+◌, ◌^◌, ◌<◌, ◌≤◌, ℕ, Bool, List, [], length, map, take, true, false, IfErr, IfOk, OnOk};
+ghost use Rattle.std.specs.Prelude.{◌≡◌, ◌∷◌, ◌++◌, ◌+◌, ◌^◌, ◌<◌, ◌≤◌, ℕ, Bool, List, [], length, map, take, true, false, Some, IfErr, IfOk, OnOk};
 ghost use Rattle.std.specs.Int.NonZero.{non_zero_usize_get};
 ghost use Rattle.std.specs.Option.{option_map};
 ghost use Rattle.clru_lines.specs.Lines.{lines_of};
@@ -8,22 +8,23 @@ ghost use Rattle.clru_report.specs.Passes.{line_of};
 ghost use Rattle.clru_shares.specs.Faults.{IsNumbered, comes_of_a_line, comes_of_writing};
 ghost use Rattle.clru_shares.specs.Classes.{class_in, most_classes};
 ghost use Rattle.clru_shares.specs.LinePasses.{HasTakenBy};
-ghost use Rattle.clru_shares.specs.Passes.{BelongsAt, HasTakenAll, HaveTaken, name_of, next_kept};
+ghost use Rattle.clru_shares.specs.Passes.{BelongsAt, HasTakenAll, HasTakenLines, HaveTaken, name_of, next_kept};
 ghost use Rattle.clru_shares.specs.Places.{IsNotedBy};
-ghost use Rattle.clru_shares.specs.Refusals.{IsSaidOfLines, IsShownOf, most_shown};
-ghost use Rattle.clru_shares.specs.Sampled.{is_in as is_in_by, kept_in};
+ghost use Rattle.clru_shares.specs.Refusals.{IsSaidOfLines, IsSaidOfRests, IsShownOf, most_shown};
+ghost use Rattle.clru_shares.specs.Sampled.{is_in as is_in_by};
 ghost use Rattle.clru_shares.specs.Sizes.{own_size};
+ghost use Rattle.clru_shares.specs.Times.{limit_of as limit_of_by};
 
 use crate::class::class_of;
 use crate::classes::{Class, kept_at, place_of, take_classed};
 use crate::fault::SplitFault;
-use crate::latest::{Places, all_of, note_kept, own_of};
-use crate::pass::{LinePass, empty_pass, take_kept};
+use crate::latest::{Places, all_of, note_kept, own_of, soon_of};
+use crate::pass::{Asked, LinePass, empty_pass, take_kept};
 use crate::sampled::{is_in, next_number};
 use crate::size::size_of_request;
 use clru_curve::KeyTable;
 use clru_lines::{LineBuffer, OwnedKey};
-use clru_report::{Fault, read_fault};
+use clru_report::{Fault, read_fault, split_time};
 use std::alloc::{AllocError, Allocator};
 use std::hash::BuildHasher;
 use std::io::Read;
@@ -44,59 +45,63 @@ pub(crate) struct Passes<S: BuildHasher + Copy, A: Allocator + Copy> {
     pub(crate) kept: usize,
 }
 
-/// Returns the passes over all lines, or over those of a sample. Each line must begin with a class; by size, a size must follow. The
-/// beginning of the line that a fault names is put into `beginning`.
+/// Returns the passes over all lines, or over those of a sample. Each line must begin with a class, under an idle limit behind a time;
+/// by size, a size must follow. The beginning of the line that a fault names is put into `beginning`.
 ///
 /// The fault of a line is returned once all is read, because it is one of the whole input; refused memory at once.
 pub(crate) fn read_classes<R: Read, S: BuildHasher + Copy, A: Allocator + Copy>(
     alloc: A,
     sizes: bool,
+    idle: Option<usize>,
     sample: Option<NonZeroUsize>,
     reader: &mut R,
     hash_builder: S,
     beginning: &mut Vec<u8, A>,
 ) -> Result<Passes<S, A>, SplitFault>
     ensures taken { IfOk result (λ passes. ReadWhole (R.remaining reader.old) (R.remaining reader.new)
-        (λ input. HasTakenAll sizes (lines_of input) (kept_in (option_map non_zero_usize_get sample) (lines_of input)) passes)) }
+        (λ input. HasTakenLines sizes idle (option_map non_zero_usize_get sample) (lines_of input) passes)) }
     ensures refused { IfErr result (λ fault. comes_of_a_line fault ≡ true → ReadWhole (R.remaining reader.old) (R.remaining reader.new)
-        (λ input. IsSaidOfLines sizes fault (lines_of input))) }
+        (λ input. IsSaidOfLines idle sizes fault (lines_of input))) }
     ensures shown { IfErr result (λ fault. comes_of_a_line fault ≡ true → ReadWhole (R.remaining reader.old) (R.remaining reader.new)
         (λ input. IsShownOf fault (lines_of input) beginning.new.items)) }
     ensures fault { IfErr result (λ fault. comes_of_writing fault ≡ false) }
 {
     let mut passes = Passes {
         classes: Vec::new(alloc),
-        all: empty_pass(alloc, hash_builder, sizes),
+        all: empty_pass(alloc, hash_builder, sizes, limit_of(idle)),
         latest: KeyTable::empty(alloc, hash_builder),
         requests: 0,
         size: 0,
         kept: 0,
     };
     let mut buffer = LineBuffer::new(alloc);
-    let mut key = OwnedKey(Vec::new(alloc));
+    let mut line = OwnedKey(Vec::new(alloc));
+    let mut rest = OwnedKey(Vec::new(alloc));
     let mut number = 0;
     let mut refused = None;
     'lines: loop {
-        match buffer.read_line(reader, &mut key.0) {
+        match buffer.read_line(reader, &mut line.0) {
             Ok(true) => {}
             Ok(false) => break,
             Err(error) => return Err(SplitFault::Other(read_fault(error))),
         }
         number += 1;
         if refused.is_none() {
-            match take_both(
+            match take_any(
                 alloc,
                 hash_builder,
                 sizes,
+                idle,
                 sample,
                 &mut passes,
-                &key,
+                &line,
+                &mut rest,
                 number,
             ) {
                 Ok(()) => {}
                 Err(SplitFault::Other(fault)) => return Err(SplitFault::Other(fault)),
                 Err(fault) => {
-                    let Ok(()) = keep_beginning(beginning, &key.0) else {
+                    let Ok(()) = keep_beginning(beginning, &line.0) else {
                         return Err(SplitFault::Other(Fault::Memory));
                     };
                     refused = Some(fault);
@@ -128,22 +133,129 @@ fn beginning_of(line: &[u8]) -> &[u8]
     }
 }
 
-// Counts one more line, of this number. If it is one of the sample, it goes into the pass of its class and into that for all.
+// The idle limit of passes.
+fn limit_of(idle: Option<usize>) -> usize
+    ensures { result ≡ limit_of_by idle }
+{
+    match idle {
+        Some(limit) => limit,
+        None => usize::MAX,
+    }
+}
+
+// Counts one more line, of this number. Under an idle limit it begins with a time, and what follows that is put into `rest`.
+fn take_any<S: BuildHasher + Copy, A: Allocator + Copy>(
+    alloc: A,
+    hash_builder: S,
+    sizes: bool,
+    idle: Option<usize>,
+    sample: Option<NonZeroUsize>,
+    passes: &mut Passes<S, A>,
+    line: &OwnedKey<A>,
+    rest: &mut OwnedKey<A>,
+    number: usize,
+) -> Result<(), SplitFault>
+    requires { (lines : List (List ℕ)) × HasTakenLines sizes idle (option_map non_zero_usize_get sample) lines passes.old
+        × (number ≡ length lines + 1) }
+    ensures taken { (lines : List (List ℕ)) → HasTakenLines sizes idle (option_map non_zero_usize_get sample) lines passes.old
+        → number ≡ length lines + 1
+        → OnOk result (HasTakenLines sizes idle (option_map non_zero_usize_get sample) (lines ++ line_of line.now ∷ []) passes.new) }
+    ensures refused { (lines more : List (List ℕ)) → HasTakenLines sizes idle (option_map non_zero_usize_get sample) lines passes.old
+        → number ≡ length lines + 1
+        → IfErr result (λ fault. comes_of_a_line fault ≡ true → IsSaidOfLines idle sizes fault (lines ++ line_of line.now ∷ more)) }
+    ensures number { IfErr result (IsNumbered number) }
+    ensures fault { IfErr result (λ fault. comes_of_writing fault ≡ false) }
+{
+    match idle {
+        None => take_both(
+            alloc,
+            hash_builder,
+            sizes,
+            usize::MAX,
+            sample,
+            passes,
+            line,
+            0,
+            number,
+        ),
+        Some(limit) => take_timed(
+            alloc,
+            hash_builder,
+            sizes,
+            limit,
+            sample,
+            passes,
+            line,
+            rest,
+            number,
+        ),
+    }
+}
+
+// The same under this limit.
+fn take_timed<S: BuildHasher + Copy, A: Allocator + Copy>(
+    alloc: A,
+    hash_builder: S,
+    sizes: bool,
+    limit: usize,
+    sample: Option<NonZeroUsize>,
+    passes: &mut Passes<S, A>,
+    line: &OwnedKey<A>,
+    rest: &mut OwnedKey<A>,
+    number: usize,
+) -> Result<(), SplitFault>
+    requires { (lines : List (List ℕ)) × HasTakenLines sizes (Some limit) (option_map non_zero_usize_get sample) lines passes.old
+        × (number ≡ length lines + 1) }
+    ensures taken { (lines : List (List ℕ)) → HasTakenLines sizes (Some limit) (option_map non_zero_usize_get sample) lines passes.old
+        → number ≡ length lines + 1
+        → OnOk result (HasTakenLines sizes (Some limit) (option_map non_zero_usize_get sample) (lines ++ line_of line.now ∷ []) passes.new) }
+    ensures refused { (lines more : List (List ℕ)) → HasTakenLines sizes (Some limit) (option_map non_zero_usize_get sample) lines passes.old
+        → number ≡ length lines + 1
+        → IfErr result (λ fault. comes_of_a_line fault ≡ true → IsSaidOfLines (Some limit) sizes fault (lines ++ line_of line.now ∷ more)) }
+    ensures number { IfErr result (IsNumbered number) }
+    ensures fault { IfErr result (λ fault. comes_of_writing fault ≡ false) }
+{
+    let Some((time, behind)) = split_time(&line.0) else {
+        return Err(SplitFault::NoTime(number));
+    };
+    rest.0.clear();
+    let Ok(()) = rest.0.extend_from_slice(behind) else {
+        return Err(SplitFault::Other(Fault::Memory));
+    };
+    take_both(
+        alloc,
+        hash_builder,
+        sizes,
+        limit,
+        sample,
+        passes,
+        rest,
+        time,
+        number,
+    )
+}
+
+// Counts one more line without its time, of this number. If it is one of the sample, it goes into the pass of its class and into that
+// for all.
 fn take_both<S: BuildHasher + Copy, A: Allocator + Copy>(
     alloc: A,
     hash_builder: S,
     sizes: bool,
+    limit: usize,
     sample: Option<NonZeroUsize>,
     passes: &mut Passes<S, A>,
     key: &OwnedKey<A>,
+    time: usize,
     number: usize,
 ) -> Result<(), SplitFault>
-    requires { (lines : List (List ℕ)) × (kept : List (List ℕ)) × HasTakenAll sizes lines kept passes.old × (number ≡ length lines + 1) }
-    ensures taken { (lines kept : List (List ℕ)) → HasTakenAll sizes lines kept passes.old → number ≡ length lines + 1
-        → OnOk result (HasTakenAll sizes (lines ++ line_of key.now ∷ [])
-        (next_kept (is_in_by (option_map non_zero_usize_get sample) (line_of key.now)) kept (line_of key.now)) passes.new) }
-    ensures refused { (lines kept rest : List (List ℕ)) → HasTakenAll sizes lines kept passes.old → number ≡ length lines + 1
-        → IfErr result (λ fault. comes_of_a_line fault ≡ true → IsSaidOfLines sizes fault (lines ++ line_of key.now ∷ rest)) }
+    requires { (lines : List (List ℕ)) × (kept : List (List ℕ × ℕ)) × HasTakenAll sizes limit lines kept passes.old
+        × (number ≡ length lines + 1) }
+    ensures taken { (lines : List (List ℕ)) (kept : List (List ℕ × ℕ)) → HasTakenAll sizes limit lines kept passes.old
+        → number ≡ length lines + 1 → OnOk result (HasTakenAll sizes limit (lines ++ line_of key.now ∷ [])
+        (next_kept (is_in_by (option_map non_zero_usize_get sample) (line_of key.now)) kept (line_of key.now, time)) passes.new) }
+    ensures refused { (lines rest : List (List ℕ)) (kept : List (List ℕ × ℕ)) → HasTakenAll sizes limit lines kept passes.old
+        → number ≡ length lines + 1
+        → IfErr result (λ fault. comes_of_a_line fault ≡ true → IsSaidOfRests sizes fault (lines ++ line_of key.now ∷ rest)) }
     ensures number { IfErr result (IsNumbered number) }
     ensures fault { IfErr result (λ fault. comes_of_writing fault ≡ false) }
 {
@@ -157,7 +269,18 @@ fn take_both<S: BuildHasher + Copy, A: Allocator + Copy>(
         return Err(SplitFault::TooLarge);
     };
     let is_kept = is_in(sample, &key.0);
-    match take_known(alloc, hash_builder, sizes, passes, name, key, is_kept, size) {
+    match take_known(
+        alloc,
+        hash_builder,
+        sizes,
+        limit,
+        passes,
+        name,
+        key,
+        is_kept,
+        time,
+        size,
+    ) {
         Ok(true) => {}
         Ok(false) => return Err(SplitFault::TooManyClasses(number)),
         Err(_) => return Err(SplitFault::Other(Fault::Memory)),
@@ -173,23 +296,26 @@ fn take_known<S: BuildHasher + Copy, A: Allocator + Copy>(
     alloc: A,
     hash_builder: S,
     sizes: bool,
+    limit: usize,
     passes: &mut Passes<S, A>,
     name: &[u8],
     key: &OwnedKey<A>,
     is_kept: bool,
+    time: usize,
     size: usize,
 ) -> Result<bool, AllocError>
     requires countable { passes.old.kept + 1 < 2 ^ 64 }
     requires size { size ≡ own_size sizes (line_of key.now) }
     requires name { name.now ≡ class_in (line_of key.now) }
-    requires taken { (lines : List (List ℕ)) × (kept : List (List ℕ)) × HasTakenAll sizes lines kept passes.old }
-    ensures classes { (lines kept : List (List ℕ)) → HasTakenAll sizes lines kept passes.old
+    requires taken { (lines : List (List ℕ)) × (kept : List (List ℕ × ℕ)) × HasTakenAll sizes limit lines kept passes.old }
+    ensures classes { (lines : List (List ℕ)) (kept : List (List ℕ × ℕ)) → HasTakenAll sizes limit lines kept passes.old
+        → IfOk result (λ has_room. has_room ≡ true → HaveTaken sizes limit (lines ++ line_of key.now ∷ [])
+        (next_kept is_kept kept (line_of key.now, time)) passes.new.classes.items) }
+    ensures all { (lines : List (List ℕ)) (kept : List (List ℕ × ℕ)) → HasTakenAll sizes limit lines kept passes.old
         → IfOk result (λ has_room. has_room ≡ true
-        → HaveTaken sizes (lines ++ line_of key.now ∷ []) (next_kept is_kept kept (line_of key.now)) passes.new.classes.items) }
-    ensures all { (lines kept : List (List ℕ)) → HasTakenAll sizes lines kept passes.old
-        → IfOk result (λ has_room. has_room ≡ true → HasTakenBy sizes (next_kept is_kept kept (line_of key.now)) passes.new.all) }
-    ensures latest { (lines kept : List (List ℕ)) → HasTakenAll sizes lines kept passes.old
-        → IfOk result (λ has_room. has_room ≡ true → IsNotedBy sizes (next_kept is_kept kept (line_of key.now)) passes.new.latest) }
+        → HasTakenBy sizes limit (next_kept is_kept kept (line_of key.now, time)) passes.new.all) }
+    ensures latest { (lines : List (List ℕ)) (kept : List (List ℕ × ℕ)) → HasTakenAll sizes limit lines kept passes.old
+        → IfOk result (λ has_room. has_room ≡ true → IsNotedBy sizes (next_kept is_kept kept (line_of key.now, time)) passes.new.latest) }
     ensures full { IfOk result (λ has_room. has_room ≡ false
         → (most_classes ≤ length passes.old.classes.items)
         × ((at : ℕ) × BelongsAt (map name_of passes.old.classes.items) name.now at)) }
@@ -208,22 +334,34 @@ fn take_known<S: BuildHasher + Copy, A: Allocator + Copy>(
         is_kept,
         &mut passes.latest,
         key,
-        Places { own, all },
+        Places { own, all, time },
     )?;
+    let soon = soon_of(limit, time, places);
     let has_room = take_classed(
         alloc,
         hash_builder,
         sizes,
+        limit,
         &mut passes.classes,
         place,
         name,
         key,
         is_kept,
-        own_of(places),
-        size,
+        Asked {
+            latest: own_of(places),
+            soon,
+            time,
+            size,
+        },
     )?;
     if has_room {
-        take_kept(alloc, is_kept, &mut passes.all, key, all_of(places), size)?;
+        let asked = Asked {
+            latest: all_of(places),
+            soon,
+            time,
+            size,
+        };
+        take_kept(alloc, is_kept, &mut passes.all, key, asked)?;
     }
     Ok(has_room)
 }

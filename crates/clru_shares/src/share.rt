@@ -1,10 +1,12 @@
 //! The curve of a class.
-ghost use Rattle.std.specs.Prelude.{◌≡◌, ℕ, Bool, List, map, IfOk};
+ghost use Rattle.std.specs.Prelude.{◌≡◌, ℕ, Bool, List, Option, map, IfOk};
 ghost use Rattle.std.specs.Int.NonZero.{non_zero_usize_get};
+ghost use Rattle.std.specs.Map.{keys_of};
 ghost use Rattle.std.specs.Option.{option_map};
-ghost use Rattle.clru_shares.specs.Passes.{HasTaken, HaveShares, HaveTaken, IsShareOf, name_of};
+ghost use Rattle.clru_shares.specs.Passes.{AreTimeless, HasTaken, HaveShares, HaveTaken, IsShareOf, name_of};
 ghost use Rattle.clru_shares.specs.Sampled.{kept_in};
 ghost use Rattle.clru_shares.specs.ShareCurves.{missed_by_curve};
+ghost use Rattle.clru_shares.specs.Times.{limit_of};
 
 use crate::classes::Class;
 use crate::curve::{LineCurve, curve_of};
@@ -62,9 +64,9 @@ pub(crate) fn shares_of<S: BuildHasher + Copy, A: Allocator + Copy>(
     sample: Option<NonZeroUsize>,
     classes: &[Class<S, A>],
 ) -> Result<Vec<Share<A>, A>, AllocError>
-    ensures { (sizes : Bool) (lines : List (List ℕ))
-        → HaveTaken sizes lines (kept_in (option_map non_zero_usize_get sample) lines) classes.now
-        → IfOk result (λ shares. HaveShares sizes (option_map non_zero_usize_get sample) lines (map name_of classes.now) shares.items) }
+    ensures { (sizes : Bool) (idle : Option ℕ) (requests : List (List ℕ × ℕ)) → AreTimeless idle requests
+        → HaveTaken sizes (limit_of idle) (keys_of requests) (kept_in (option_map non_zero_usize_get sample) requests) classes.now
+        → IfOk result (λ shares. HaveShares sizes idle (option_map non_zero_usize_get sample) requests (map name_of classes.now) shares.items) }
 {
     let mut shares = Vec::new(alloc);
     for class in classes {
@@ -78,8 +80,9 @@ fn share_of<S: BuildHasher + Copy, A: Allocator + Copy>(
     sample: Option<NonZeroUsize>,
     class: &Class<S, A>,
 ) -> Result<Share<A>, AllocError>
-    ensures { (sizes : Bool) (lines : List (List ℕ)) → HasTaken sizes lines (kept_in (option_map non_zero_usize_get sample) lines) class.now
-        → IfOk result (IsShareOf sizes (option_map non_zero_usize_get sample) lines (name_of class.now)) }
+    ensures { (sizes : Bool) (idle : Option ℕ) (requests : List (List ℕ × ℕ)) → AreTimeless idle requests
+        → HasTaken sizes (limit_of idle) (keys_of requests) (kept_in (option_map non_zero_usize_get sample) requests) class.now
+        → IfOk result (IsShareOf sizes idle (option_map non_zero_usize_get sample) requests (name_of class.now)) }
 {
     Ok(Share {
         name: Vec::from_slice(alloc, &class.name)?,

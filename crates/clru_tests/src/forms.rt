@@ -65,8 +65,14 @@ fn a_pass_is_asked_again_by_a_lent_text_and_asks_for_no_memory(rt: HostRuntime) 
 
 /// The distance of a key that comes again, asked for by its text, and the requests for memory of that.
 fn distances(heap: &Rationed<Global>) -> Option<(usize, u64)> {
-    let mut pass = DistancePass::new(heap);
-    if !(is_first(heap, &mut pass, "apple") && is_first(heap, &mut pass, "banana")) {
+    distances_of(heap, &mut DistancePass::new(heap))
+}
+
+fn distances_of<'a>(
+    heap: Heap<'a>,
+    pass: &mut DistancePass<String<Heap<'a>>, DefaultState, Heap<'a>>,
+) -> Option<(usize, u64)> {
+    if !(is_first(heap, pass, "apple") && is_first(heap, pass, "banana")) {
         return None;
     }
     let before = heap.requests();
@@ -91,10 +97,14 @@ fn is_first<A: Allocator + Copy>(
 
 /// The same of spans, where the weights are 1 and 2.
 fn spans(heap: &Rationed<Global>) -> Option<(usize, u64)> {
-    let mut pass = SizedPass::new(heap);
-    if !(is_first_sized(heap, &mut pass, "apple", 1)
-        && is_first_sized(heap, &mut pass, "banana", 2))
-    {
+    spans_of(heap, &mut SizedPass::new(heap))
+}
+
+fn spans_of<'a>(
+    heap: Heap<'a>,
+    pass: &mut SizedPass<String<Heap<'a>>, DefaultState, Heap<'a>>,
+) -> Option<(usize, u64)> {
+    if !(is_first_sized(heap, pass, "apple", 1) && is_first_sized(heap, pass, "banana", 2)) {
         return None;
     }
     let before = heap.requests();

@@ -1,9 +1,8 @@
-//! What programs do with other caches, and a watched cache.
+//! What programs do with other caches, as far as no clause tells it, and a watched cache.
 
-use crate::plain::{Sizes, peek, room};
+use crate::plain::room;
 use clru::CLruCache;
-use clru_through::Through;
-use clru_uses::idioms::{self, Owners, Used};
+use clru_uses::idioms::{self, Used};
 use clru_uses::watched::Watched;
 use ration::equal;
 use std::alloc::Global;
@@ -12,13 +11,8 @@ use std::alloc::Global;
 fn idioms_do_what_they_say(rt: HostRuntime) {
     // A page in use is found.
     equal!(rt; texts_of(rt.alloc()), (None, Some(7), Some(7), None));
-    // A size changes, and listeners hear of what leaves.
-    equal!(rt; changes_of(rt.alloc()), ((true, true, false, true, 5), (None, Some((1, 2)), Some((3, 1)), None)));
-    // Pages are admitted and copied.
-    let ends = (Some((5, 5)), Some((4, 4)));
-    equal!(rt; admitted(rt.alloc()), ((2, Some(4)), (None, None, Some((3, 3))), Some(ends)));
-    // That there is no owner is held.
-    equal!(rt; owners_of(rt.alloc()), (Ok(None), Ok(None), Ok(Some(2)), 2));
+    // A size changes.
+    equal!(rt; changes_of(rt.alloc()), (true, true, false, true, 5));
     // A watched cache knows what others miss.
     equal!(rt; counts_of(rt.alloc()), Some(((1, 6), true)));
 }
@@ -44,12 +38,8 @@ fn texts_in_use(pages: &mut CLruCache<u64, Used>) -> Texts {
 
 type Changes = (bool, bool, bool, bool, usize);
 
-/// A pair that leaves.
-type Leaving = Option<(u64, usize)>;
-
-fn changes_of(alloc: Global) -> (Changes, (Leaving, Leaving, Leaving, Leaving)) {
-    let mut sizes = CLruCache::with_scale(alloc, room(10), idioms::BySize);
-    (changes(&mut sizes), leave(&mut sizes))
+fn changes_of(alloc: Global) -> Changes {
+    changes(&mut CLruCache::with_scale(alloc, room(10), idioms::BySize))
 }
 
 /// Whether a page was stored, it and the other changed, and not one that is not held, nor to a size that is too large; and the size.
@@ -61,82 +51,7 @@ fn changes(sizes: &mut idioms::Sizes) -> Changes {
     let changed = matches!(idioms::change_size(sizes, &1, 2), Ok(true));
     let absent = matches!(idioms::change_size(sizes, &9, 2), Ok(true));
     let heavy = idioms::change_size(sizes, &2, 10).is_err() && !sizes.contains(&2);
-    sizes.get(&1);
-    sizes.demote(&1);
     (stored, changed, absent, heavy, sizes.size())
-}
-
-/// The pairs that leave at the capacities 5, 4, 0 and 0.
-fn leave(sizes: &mut idioms::Sizes) -> (Leaving, Leaving, Leaving, Leaving) {
-    (
-        idioms::pop_above(sizes, 5),
-        idioms::pop_above(sizes, 4),
-        idioms::pop_above(sizes, 0),
-        idioms::pop_above(sizes, 0),
-    )
-}
-
-type Popped = (Option<(u64, u64)>, Option<(u64, u64)>, Option<(u64, u64)>);
-
-/// The pairs at both ends of a cache.
-type Ends = (Option<(u64, u64)>, Option<(u64, u64)>);
-
-fn admitted(alloc: Global) -> ((usize, Option<u64>), Popped, Option<Ends>) {
-    let mut pages = CLruCache::new(alloc, room(2));
-    let admitted = admits(&mut CLruCache::new(alloc, room(9)), &mut pages);
-    (admitted, pops(&mut pages), copied(alloc, &pages))
-}
-
-/// The ends of a copy, if it was made.
-fn copied(alloc: Global, pages: &Sizes) -> Option<Ends> {
-    let mut copy = CLruCache::new(alloc, room(9));
-    if pages.capacity() > copy.capacity() || idioms::copy_into(pages, &mut copy).is_err() {
-        return None;
-    }
-    Some(ends(&copy))
-}
-
-/// How many of the pages were put, and the last one's text.
-fn admits(seen: &mut CLruCache<u64, ()>, pages: &mut Sizes) -> (usize, Option<u64>) {
-    for page in [3, 4, 3, 4, 5] {
-        let _ = idioms::put_seen(seen, pages, page, page);
-    }
-    (pages.len(), peek(pages, 4))
-}
-
-/// What has to go for a held page, for a new one in a cache with room, and in a full one.
-fn pops(pages: &mut Sizes) -> Popped {
-    let held = idioms::pop_for(pages, 3);
-    let full = idioms::pop_for(pages, 5);
-    let room = idioms::pop_for(pages, 5);
-    let _ = pages.put(5, 5);
-    (held, room, full)
-}
-
-/// The pairs at both ends.
-fn ends(pages: &Sizes) -> Ends {
-    let front = pages.front().map(|(page, text)| (*page, *text));
-    (front, pages.back().map(|(page, text)| (*page, *text)))
-}
-
-fn owners_of(alloc: Global) -> (Owner, Owner, Owner, u64) {
-    let source = Owners {
-        pages: 3,
-        fetches: 0,
-    };
-    owned(&mut Through::new(CLruCache::new(alloc, room(2)), source))
-}
-
-/// A page's owner.
-type Owner = Result<Option<u64>, ()>;
-
-fn owned(owners: &mut Through<u64, Option<u64>, (), Owners>) -> (Owner, Owner, Owner, u64) {
-    (
-        idioms::owner_of(owners, 3),
-        idioms::owner_of(owners, 3),
-        idioms::owner_of(owners, 2),
-        owners.source().fetches,
-    )
 }
 
 /// The hits and misses of a loop, and whether other capacities miss as often as they should.

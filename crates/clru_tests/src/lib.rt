@@ -26,13 +26,13 @@ mod laws;
 #[cfg(test)]
 mod lent;
 #[cfg(test)]
+mod list_errors;
+#[cfg(test)]
 mod lists;
 #[cfg(test)]
 mod makers;
 #[cfg(test)]
 mod numbers;
-#[cfg(test)]
-mod of_lists;
 #[cfg(test)]
 mod parts;
 #[cfg(test)]

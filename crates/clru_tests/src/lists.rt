@@ -97,11 +97,13 @@ fn replaces(heap: &Rationed<Global>) -> Result<(u64, u64, bool, u64), AllocError
 
 /// Gives the items at both ends no memory.
 fn writes<'a>(heap: &'a Rationed<Global>, list: &mut Items<'a>) {
-    let mut cursor = list.iter_mut();
-    if let Some(old) = cursor.next() {
-        *old = Vec::new(heap);
-    }
-    if let Some(old) = list.back_mut() {
+    empty(heap, list.front_mut());
+    empty(heap, list.iter_mut().next_back());
+}
+
+/// Gives an item that is lent no memory.
+fn empty<'a>(heap: &'a Rationed<Global>, lent: Option<&mut Owned<'a>>) {
+    if let Some(old) = lent {
         *old = Vec::new(heap);
     }
 }

@@ -83,9 +83,8 @@ fn the_allocator_prints_its_counts(rt: HostRuntime) {
 }
 
 fn counts_are_shown(alloc: Global, heap: &Rationed<Global>) -> Result<(u64, bool), AllocError> {
-    drop(Box::new(heap, 7u64)?);
+    drop(Box::new(heap, 7u64));
     let held = Box::new(heap, 7u64)?;
     let text = "Rationed { requests: 2, refused: 0, blocks: 1, held_bytes: 8 }";
-    let is_shown = shows(alloc, heap, text)?;
-    Ok((*held, is_shown))
+    Ok((*held, shows(alloc, heap, text) == Ok(true)))
 }

@@ -1,6 +1,9 @@
 //! Splits of a budget, beside those that a search over all of them finds.
 
-use clru_curve::{DefaultState, NonZeroUsize, SizedCurve, law_split, sized_curve};
+use crate::plain::room;
+use clru_curve::{
+    DefaultState, NonZeroUsize, SizedCurve, SizedRequestError, law_split, sized_curve,
+};
 use clru_uses::sized_curves::FileSizes;
 use clru_uses::splits::{bytes_for_each, room_for_each};
 use ration::{capacity_of, equal};
@@ -61,22 +64,33 @@ static PARTS: [(usize, usize, [usize; 3]); 14] = [
 ];
 
 #[test]
-fn no_other_parts_miss_less(rt: HostRuntime) -> Result<(), Fail> {
-    let sizes = FileSizes { bytes: &SIZES };
-    let curves = [
-        sized_curve(
-            rt.alloc(),
-            &[0, 1, 2, 0, 1, 2, 0, 1, 2, 0, 1, 2],
-            sizes,
-            DefaultState,
-        )?,
-        sized_curve(rt.alloc(), &[], sizes, DefaultState)?,
-        sized_curve(rt.alloc(), &[3, 4, 3, 5, 3, 4, 5, 3], sizes, DefaultState)?,
-    ];
-    for row in &PARTS {
-        equal!(rt; has_parts(rt.alloc(), capacity_of(row.0)?, row.1, &curves, &row.2), true);
+fn no_other_parts_miss_less(rt: HostRuntime) {
+    equal!(rt; first_wrong_row(rt.alloc()), Some(PARTS.len()));
+}
+
+/// The row whose split has other parts, or the number of rows. `None` is for want of memory.
+fn first_wrong_row(alloc: Global) -> Option<usize> {
+    let (Ok(films), Ok(none), Ok(icons)) = (
+        curve_of(alloc, &[0, 1, 2, 0, 1, 2, 0, 1, 2, 0, 1, 2]),
+        curve_of(alloc, &[]),
+        curve_of(alloc, &[3, 4, 3, 5, 3, 4, 5, 3]),
+    ) else {
+        return None;
+    };
+    Some(wrong_row_of(alloc, &[films, none, icons]))
+}
+
+fn curve_of(alloc: Global, files: &[usize]) -> Result<SizedCurve, SizedRequestError<usize>> {
+    sized_curve(alloc, files, FileSizes { bytes: &SIZES }, DefaultState)
+}
+
+fn wrong_row_of(alloc: Global, curves: &[SizedCurve]) -> usize {
+    for (at, row) in PARTS.iter().enumerate() {
+        if !has_parts(alloc, room(row.0), row.1, curves, &row.2) {
+            return at;
+        }
     }
-    Ok(())
+    PARTS.len()
 }
 
 /// Whether the split has these parts.
@@ -87,5 +101,8 @@ fn has_parts(
     curves: &[SizedCurve],
     parts: &[usize],
 ) -> bool {
-    bytes_for_each(alloc, step, budget, curves).is_ok_and(|room| room.as_slice() == parts)
+    match bytes_for_each(alloc, step, budget, curves) {
+        Ok(room) => room.as_slice() == parts,
+        Err(_) => false,
+    }
 }

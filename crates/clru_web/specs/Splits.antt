@@ -1,6 +1,6 @@
 -- What the result of a split says of the log. Public clauses cite it.
 use Rattle.std.specs.Fmt.Cut.{IsTextOrCut}
-use Rattle.std.specs.Prelude.{ℕ, zero, suc, Bool, true, false, List}
+use Rattle.std.specs.Prelude.{ℕ, zero, suc, Bool, true, false, List, Option}
 use Rattle.clru_lines.specs.Lines.{lines_of}
 use Rattle.clru_shares.specs.Faults.{split_fault_text}
 use Rattle.clru_shares.specs.Refusals.{IsSaidOfLines}
@@ -25,5 +25,5 @@ abbrev pub IsToldOfSplit : SplitFault → ℕ → List ℕ → Type 0
 IsToldOfSplit fault room text = (what : List ℕ) × IsTextOrCut 160 (split_fault_text fault) what × IsSaid what room text
 
 -- the log has no split, for a reason that the text tells
-abbrev pub HasNoSplit : Bool → List ℕ → ℕ → List ℕ → Type 0
-HasNoSplit sizes log room text = (fault : SplitFault) × IsSaidOfLines sizes fault (lines_of log) × IsToldOfSplit fault room text
+abbrev pub HasNoSplit : Option ℕ → Bool → List ℕ → ℕ → List ℕ → Type 0
+HasNoSplit idle sizes log room text = (fault : SplitFault) × IsSaidOfLines idle sizes fault (lines_of log) × IsToldOfSplit fault room text

@@ -95,16 +95,16 @@ pub extern "C" fn split(
     text: &mut [u8],
     written: &mut usize,
 ) -> u32
-    ensures answer { result ≡ 0 → IsSplitTable (form_by form) (has_sizes_by sizes) None budget (lines_of log.now) (take written.new text.new) }
+    ensures answer { result ≡ 0 → IsSplitTable (form_by form) (has_sizes_by sizes) None None budget (lines_of log.now) (take written.new text.new) }
     ensures wrong { result ≡ 2 → budget ≡ 0 }
     // The text tells each fault.
     ensures memory { result ≡ 3 → IsTold Fault.Memory (length text.old) (take written.new text.new) }
     ensures short_told { result ≡ 5 → IsTold Fault.Writing (length text.old) (take written.new text.new) }
     // The text of a best split is longer than the room.
-    ensures short { result ≡ 5 → (whole : List ℕ) × IsSplitTable (form_by form) (has_sizes_by sizes) None budget (lines_of log.now) whole
+    ensures short { result ≡ 5 → (whole : List ℕ) × IsSplitTable (form_by form) (has_sizes_by sizes) None None budget (lines_of log.now) whole
         × (length text.new < length whole) }
     // The log has no split, for the reason that the text tells.
-    ensures refused { result ≡ 6 → HasNoSplit (has_sizes_by sizes) log.now (length text.old) (take written.new text.new) }
+    ensures refused { result ≡ 6 → HasNoSplit None (has_sizes_by sizes) log.now (length text.old) (take written.new text.new) }
     ensures codes { result ≤ 6 }
     ensures within { written.new ≤ length text.new }
     ensures length { length text.new ≡ length text.old }
@@ -116,6 +116,7 @@ pub extern "C" fn split(
     let options = SplitOptions {
         budget,
         sizes: has_sizes(sizes),
+        idle: None,
         sample: None,
         form: form_of(form),
     };

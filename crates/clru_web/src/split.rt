@@ -44,13 +44,13 @@ pub(crate) fn split_log<S: BuildHasher + Copy, A: Allocator + Copy>(
     written: &mut usize,
 ) -> u32
     ensures answer { result ≡ 0
-        → IsSplitTable options.form options.sizes (option_map non_zero_usize_get options.sample) (non_zero_usize_get options.budget) (lines_of log.now) (take written.new text.new) }
+        → IsSplitTable options.form options.sizes options.idle (option_map non_zero_usize_get options.sample) (non_zero_usize_get options.budget) (lines_of log.now) (take written.new text.new) }
     ensures other { result ≢ 2 }
     ensures memory { result ≡ 3 → IsTold Fault.Memory (length text.old) (take written.new text.new) }
-    ensures short { result ≡ 5 → (whole : List ℕ) × IsSplitTable options.form options.sizes (option_map non_zero_usize_get options.sample) (non_zero_usize_get options.budget) (lines_of log.now) whole
+    ensures short { result ≡ 5 → (whole : List ℕ) × IsSplitTable options.form options.sizes options.idle (option_map non_zero_usize_get options.sample) (non_zero_usize_get options.budget) (lines_of log.now) whole
         × (length text.new < length whole) }
     ensures short_told { result ≡ 5 → IsTold Fault.Writing (length text.old) (take written.new text.new) }
-    ensures refused { result ≡ 6 → HasNoSplit options.sizes log.now (length text.old) (take written.new text.new) }
+    ensures refused { result ≡ 6 → HasNoSplit options.idle options.sizes log.now (length text.old) (take written.new text.new) }
     ensures codes { result ≤ 6 }
     ensures within { written.new ≤ length text.new }
     ensures length { length text.new ≡ length text.old }

@@ -29,8 +29,8 @@ use std::marker::Model;
 /// [`SizedPass`](crate::SizedPass), times as in an [`IdlePass`](crate::IdlePass). Clauses describe the requests that it has
 /// taken, the latest first, each with its time, by `IsSizedAgedPass`.
 ///
-/// Takes memory for a position, two times and a size for each distinct key, for half as many sizes more, and for each key
-/// 8 bytes for each capacity.
+/// Takes memory for a position, two times, two numbers and a size for each distinct key, for half as many sizes more, and for each key that
+/// is requested again, if capacities ascend, 8 bytes for each capacity up to the greatest of its spans so far; else for each.
 pub struct SizedAgedPass<
     K: Eq + Hash,
     S: BuildHasher = DefaultState,
@@ -62,18 +62,21 @@ impl<K: Eq + Hash + Drop, S: BuildHasher + Drop, A: Allocator + Copy> Drop
 }
 
 impl<K: Eq + Hash, S: BuildHasher, A: Allocator + Copy> Model for SizedAgedPass<K, S, A> {
-    ghost use Rattle.clru_curve.specs.SizedAgedPasses.{AgedPassBySize, aged_pass_by_size, aged_pass_by_size_code, fetch_table, IsSoundAgedBySize};
+    ghost use Rattle.std.specs.Prelude.{length};
+    ghost use Rattle.clru_curve.specs.Fetches.{fetch_times, AreBlocked};
+    ghost use Rattle.clru_curve.specs.SizedAgedPasses.{AgedPassBySize, aged_pass_by_size, aged_pass_by_size_code, fetch_table, AreAligned, IsSoundAgedBySize};
 
     ghost Value = { AgedPassBySize K S };
 
     ghost coded = { aged_pass_by_size_code K.code S.code };
 
     ghost view = { λ p. aged_pass_by_size p.seen.entries p.latest.sizes.items p.latest.requests
-        (fetch_table p.fetches.capacities.items p.fetches.misses.items p.fetches.missed_sizes.items p.fetches.times.items p.fetches.age)
+        (fetch_table p.fetches.capacities.items p.fetches.misses.items p.fetches.missed_sizes.items (fetch_times p.fetches) p.fetches.age)
         p.size p.greatest p.idle p.seen.builder };
 
-    ghost invariant = { λ p. IsSoundAgedBySize K.eq p.latest.nodes.items (aged_pass_by_size p.seen.entries p.latest.sizes.items p.latest.requests
-        (fetch_table p.fetches.capacities.items p.fetches.misses.items p.fetches.missed_sizes.items p.fetches.times.items p.fetches.age)
+    ghost invariant = { λ p. AreBlocked p.fetches × AreAligned K.eq (length p.fetches.capacities.items) p.seen.entries
+        × IsSoundAgedBySize K.eq p.latest.nodes.items (aged_pass_by_size p.seen.entries p.latest.sizes.items p.latest.requests
+        (fetch_table p.fetches.capacities.items p.fetches.misses.items p.fetches.missed_sizes.items (fetch_times p.fetches) p.fetches.age)
         p.size p.greatest p.idle p.seen.builder) };
 }
 
@@ -208,6 +211,9 @@ impl<K: Eq + Hash, S: BuildHasher, A: Allocator + Copy> SizedAgedPass<K, S, A> {
         let Ok(()) = self.latest.make_ready() else {
             return Err(SizedRequestError::NoMemory(key));
         };
+        let Ok(()) = self.fetches.make_room() else {
+            return Err(SizedRequestError::NoMemory(key));
+        };
         let position = self.latest.requests;
         let here = Seen { position, time };
         let Some(before) = self.seen.see_again(hash, key, here) else {
@@ -242,11 +248,10 @@ impl<K: Eq + Hash, S: BuildHasher, A: Allocator + Copy> SizedAgedPass<K, S, A> {
         let Ok(()) = self.latest.make_ready() else {
             return Err(key);
         };
-        let Ok(()) = self.fetches.make_ready() else {
+        let Ok(first) = self.fetches.make_ready() else {
             return Err(key);
         };
         let position = self.latest.requests;
-        let first = self.fetches.times.len();
         let here = Fetched {
             seen: Seen { position, time },
             first,

@@ -1,8 +1,9 @@
 //! `SizedIdlePass`, which takes requests with times of keys with sizes, and counts a reuse after too long as a first request.
-ghost use Rattle.std.specs.Prelude.{◌≡◌, ℕ, ◌+◌, ◌^◌, ◌<◌, ◌≤◌, ◌↔◌, List, [], ◌∷◌, ◌++◌, reverse, vec_len, vec_capacity, IfOk, IfErr, IfSome, IsErrAnd, OnOk, OnErr, IsOk, IsNone, IsSome, IsTrue, None, Some, is_some, if◌then◌else◌};
+ghost use Rattle.std.specs.Prelude.{◌≡◌, ℕ, ◌+◌, ◌^◌, ◌<◌, ◌≤◌, ◌↔◌, List, [], ◌∷◌, ◌++◌, reverse, vec_len, vec_capacity, IfOk, IfErr, IfSome, IsErrAnd, OnOk, OnErr, IsOk, IsNone, IsSome, IsTrue, None, Some, is_some, false, if◌then◌else◌};
 ghost use Rattle.std.specs.List.{list_any};
 ghost use Rattle.std.specs.Map.{keys_of, lookup};
 ghost use Rattle.clru_linked_map.specs.LinkedMap.{hash_of};
+ghost use Rattle.clru_model.specs.Requests.{holds};
 ghost use Rattle.clru_model.specs.Sizes.{SameWeights, span};
 ghost use Rattle.clru_curve.specs.Seen.{reuse_by};
 ghost use Rattle.clru_curve.specs.SizedCurves.{step};
@@ -165,7 +166,77 @@ impl<K: Eq + Hash, S: BuildHasher, A: Allocator + Copy> SizedIdlePass<K, S, A> {
         ensures too_large { IsErrAnd result IsTooLarge ↔ (2 ^ 64 ≤ self.old.size + (1 + weight)) }
     {
         let hash = self.seen.hash(key);
+        self.request_again_with_hash(hash, key, time, weight)
+    }
+
+    /// Returns the hash of a key, by a form of it, for the calls that take one. Every form of the key has it, and the pass keeps its
+    /// hash builder.
+    /// Cost: one hash.
+    pub fn hash<Q: Equivalent<K>>(&self, key: Q) -> u64
+        ensures { result ≡ hash_of Q.Hash S.BuildHasher S.Hasher.Hasher self.now.builder key }
+    {
+        self.seen.hash(key)
+    }
+
+    /// Does what `request_again` does, with the hash of the key. `request_new_with_hash` may follow with the same hash.
+    /// Cost: that of `request_again` without a hash.
+    pub fn request_again_with_hash<Q: Equivalent<K>>(
+        &mut self,
+        hash: u64,
+        key: Q,
+        time: usize,
+        weight: usize,
+    ) -> Result<Option<Option<usize>>, SizedRequestError<Q>>
+        requires hash { hash ≡ hash_of Q.Hash S.BuildHasher S.Hasher.Hasher self.old.builder key }
+        ensures span { (w : K → ℕ) (idle : ℕ) (past : List (K × ℕ)) (x : K) → SameWeights K.eq w → IsSizedIdlePass K.eq w idle past self.old
+            → w x ≡ weight → IsTrue (Q.equivalent key x)
+            → IfOk result (λ s. IfSome s (λ t. t ≡ reuse_by K.eq (span K.eq w) idle (x, time) past)) }
+        ensures taken { (w : K → ℕ) (idle : ℕ) (past : List (K × ℕ)) (x : K) → SameWeights K.eq w → IsSizedIdlePass K.eq w idle past self.old
+            → w x ≡ weight → IsTrue (Q.equivalent key x)
+            → IfOk result (λ s. IsSome s → IsSizedIdlePass K.eq w idle ((x, time) ∷ past) self.new) }
+        ensures known { (w : K → ℕ) (idle : ℕ) (past : List (K × ℕ)) → IsSizedIdlePass K.eq w idle past self.old
+            → IfOk result (λ s. is_some s ≡ list_any (Q.equivalent key) (keys_of past)) }
+        ensures size { IfOk result (λ s. IsSome s → self.new.size ≡ self.old.size + (1 + weight)) }
+        ensures not_taken { IfOk result (λ s. IsNone s → self.new ≡ self.old) }
+        ensures refused { OnErr result (self.new ≡ self.old) }
+        ensures given_back { IfErr result (λ e. key_of e ≡ key) }
+        ensures too_large { IsErrAnd result IsTooLarge ↔ (2 ^ 64 ≤ self.old.size + (1 + weight)) }
+    {
         self.again(hash, key, time, weight)
+    }
+
+    /// Takes one more request, at this time, of a key of this weight that was not requested before, as `request_again` tells, with its
+    /// hash. Unlike `request` it does not look the key up first.
+    ///
+    /// If memory is refused, or the sizes of all requests with this one exceed `usize::MAX`, it returns the key, and the pass
+    /// is unchanged.
+    /// Cost: that of the same call of a `SizedPass`.
+    pub fn request_new_with_hash(
+        &mut self,
+        hash: u64,
+        key: K,
+        time: usize,
+        weight: usize,
+    ) -> Result<(), SizedRequestError<K>>
+    where
+        K: Drop,
+        requires hash { hash ≡ hash_of K.Hash S.BuildHasher S.Hasher.Hasher self.old.builder key }
+        requires new { (w : K → ℕ) × (idle : ℕ) × (past : List (K × ℕ)) × IsSizedIdlePass K.eq w idle past self.old
+            × (holds K.eq key (keys_of past) ≡ false) }
+        ensures taken { (w : K → ℕ) (idle : ℕ) (past : List (K × ℕ)) → SameWeights K.eq w → IsSizedIdlePass K.eq w idle past self.old
+            → w key ≡ weight → OnOk result (IsSizedIdlePass K.eq w idle ((key, time) ∷ past) self.new) }
+        ensures size { OnOk result (self.new.size ≡ self.old.size + (1 + weight)) }
+        ensures refused { OnErr result (self.new ≡ self.old) }
+        ensures given_back { IfErr result (λ e. key_of e ≡ key) }
+        ensures too_large { IsErrAnd result IsTooLarge ↔ (2 ^ 64 ≤ self.old.size + (1 + weight)) }
+    {
+        if weight >= usize::MAX - self.size {
+            return Err(SizedRequestError::TooLarge(key));
+        }
+        match self.request_new(hash, key, time, weight) {
+            Ok(()) => Ok(()),
+            Err(key) => Err(SizedRequestError::NoMemory(key)),
+        }
     }
 
     /// `request_again`, with the hash of the key. It also says by what was seen alone whether the key is known, whatever keys weighed.

@@ -1,10 +1,11 @@
 //! For each key the number of its latest request and its size. Sizes of earlier requests are 0, and are dropped now and then.
-ghost use Rattle.std.specs.Prelude.{◌≡◌, ℕ, suc, ◌+◌, ◌*◌, ◌^◌, ◌<◌, ◌≤◌, [], ◌∷◌, ◌++◌, length, vec_len, vec_capacity, OnOk};
+ghost use Rattle.std.specs.Prelude.{◌≡◌, ℕ, suc, ◌+◌, ◌*◌, ◌/◌, ◌^◌, ◌<◌, ◌≤◌, [], ◌∷◌, ◌++◌, length, vec_len, vec_capacity, OnOk};
 ghost use Rattle.clru_curve.specs.LatestSizes.{IsRemoved, IsSummed, live_from, sizes_from, total_from};
 ghost use Rattle.clru_curve.specs.Rising.{has_value, numbered, value_at};
 ghost use Rattle.clru_curve.specs.Tree.{IsCounted};
 
-use crate::numbered::{Numbered, place_of};
+use crate::numbered::{Numbered, place_within};
+use crate::sized::guide::Guide;
 use crate::tree::{add_at, count_from, subtract_at};
 use std::alloc::{AllocError, Allocator};
 
@@ -24,6 +25,7 @@ pub(crate) struct Sizes<A: Allocator> {
     pub(crate) requests: usize,
     // From so many sizes on, those that are 0 are dropped.
     limit: usize,
+    guide: Guide<A>,
 }
 
 impl<A: Allocator + Copy> Sizes<A> {
@@ -37,6 +39,7 @@ impl<A: Allocator + Copy> Sizes<A> {
             nodes: Vec::new(alloc),
             requests: 0,
             limit: FEW,
+            guide: Guide::new(alloc),
         }
     }
 
@@ -55,6 +58,9 @@ impl<A: Allocator + Copy> Sizes<A> {
         if self.sizes.len() / BLOCK < self.nodes.len() {
             return Ok(());
         }
+        let Ok(()) = self.guide.make_ready(self.nodes.len()) else {
+            return Err(AllocError);
+        };
         let Ok(()) = self.nodes.push(0) else {
             return Err(AllocError);
         };
@@ -95,7 +101,8 @@ impl<A: Allocator + Copy> Sizes<A> {
         ensures capacity { vec_capacity self.new.sizes ≡ vec_capacity self.old.sizes }
         ensures nodes { length self.new.nodes.items ≡ length self.old.nodes.items }
     {
-        let at = place_of(&self.sizes, request);
+        let (first, end) = self.guide.likely(request);
+        let at = place_within(&self.sizes, request, first, end);
         let total = self.sum_from(at);
         let size = self.sizes[at].value;
         self.sizes[at].value = 0;
@@ -112,7 +119,7 @@ impl<A: Allocator + Copy> Sizes<A> {
     {
         let block = at / BLOCK + 1;
         if block < self.nodes.len() {
-            sum_between(&self.sizes, at, block * BLOCK) + count_from(&self.nodes, block)
+            sum_of_rest(&self.sizes, at) + count_from(&self.nodes, block)
         } else {
             sum_between(&self.sizes, at, self.sizes.len())
         }
@@ -138,6 +145,7 @@ impl<A: Allocator + Copy> Sizes<A> {
         let sizes = self.sizes.len();
         self.nodes.truncate(sizes / BLOCK + 1);
         sum_anew(&mut self.nodes, &self.sizes);
+        self.guide.learn(&self.sizes, self.requests);
         self.limit = (sizes / 2).saturating_add(sizes).saturating_add(FEW);
     }
 
@@ -179,6 +187,24 @@ fn sum_between(sizes: &[Numbered], first: usize, end: usize) -> usize
     while at < end {
         sum += sizes[at].value;
         at += 1;
+    }
+    sum
+}
+
+/// The sum of the sizes from a place up to the end of its block.
+fn sum_of_rest(sizes: &[Numbered], at: usize) -> usize
+    requires inside { 16 * (at / 16 + 1) ≤ length sizes.now }
+    requires fits { sizes_from sizes.now at < 2 ^ 64 }
+    ensures { result + sizes_from sizes.now (16 * (at / 16 + 1)) ≡ sizes_from sizes.now at }
+{
+    // (all sixteen are read, as many each time, so that no guess of the processor is wrong)
+    let first = at / BLOCK * BLOCK;
+    let mut sum = 0;
+    for place in first..first + BLOCK {
+        let size = sizes[place].value;
+        if place >= at {
+            sum += size;
+        }
     }
     sum
 }

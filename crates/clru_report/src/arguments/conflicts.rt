@@ -143,15 +143,13 @@ fn conflict_of_age<A: Allocator>(draft: &Draft<A>) -> Option<&'static str>
     if draft.max_age.is_some() && !draft.times {
         return Some("--max-age is of times: write --times as well, and a time before each key");
     }
-    if draft.max_age.is_some() && draft.named.is_empty() {
+    if draft.max_age.is_some() && (draft.all || asks_for_ratio(draft)) {
         return Some(
-            "--max-age counts at the capacities of --at alone: write --at 1000,10000, and neither --all nor a hit ratio",
+            "--max-age counts at few capacities, so it goes with neither --all nor a hit ratio: leave one out",
         );
     }
     if draft.max_age.is_some() && draft.svg {
-        return Some(
-            "--max-age counts at the capacities of --at alone, so it does not go with --svg: leave one out",
-        );
+        return Some("--max-age and --svg do not go together: leave one out");
     }
     None
 }

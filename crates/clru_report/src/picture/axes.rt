@@ -20,16 +20,14 @@ pub(super) fn draw_axes<W: Write, A: Allocator>(
     draw_capacities(text, scale)?;
     write!(
         text,
-        "<path class=\"axis\" d=\"M{LEFT} {TOP}V{BOTTOM}H{RIGHT}\"/>\n"
+        "<path class=\"axis\" d=\"M{LEFT} {TOP}V{BOTTOM}H{RIGHT}\"/>\n<text x=\"4210\" y=\"4550\" text-anchor=\"middle\">capacity in "
     )?;
-    text.write_str("<text x=\"4210\" y=\"4550\" text-anchor=\"middle\">capacity in ")?;
     match &look.unit {
         Some(unit) => write_words(text, unit)?,
         None => text.write_str(unit)?,
     }
-    text.write_str("</text>\n")?;
     text.write_str(
-        "<text transform=\"translate(200 2310) rotate(-90)\" text-anchor=\"middle\">miss ratio</text>\n",
+        "</text>\n<text transform=\"translate(200 2310) rotate(-90)\" text-anchor=\"middle\">miss ratio</text>\n",
     )
 }
 
@@ -38,11 +36,7 @@ fn draw_ratios<W: Write>(text: &mut W) -> fmt::Result {
     for label in ["0", "0.2", "0.4", "0.6", "0.8", "1"] {
         write!(
             text,
-            "<path class=\"grid\" d=\"M{LEFT} {down}H{RIGHT}\"/>\n"
-        )?;
-        write!(
-            text,
-            "<text x=\"680\" y=\"{down}\" dy=\".36em\" text-anchor=\"end\">{label}</text>\n"
+            "<path class=\"grid\" d=\"M{LEFT} {down}H{RIGHT}\"/>\n<text x=\"680\" y=\"{down}\" dy=\".36em\" text-anchor=\"end\">{label}</text>\n"
         )?;
         down = down.saturating_sub(HEIGHT / 5);
     }

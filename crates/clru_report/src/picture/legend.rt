@@ -38,8 +38,9 @@ pub(super) fn draw_legend<W: Write, A: Allocator>(
         left = left.saturating_add(stride);
     }
     if plot.least.is_some() {
-        text.write_str("<circle class=\"least\" cx=\"2050\" cy=\"375\" r=\"45\"/>\n")?;
-        text.write_str("<text x=\"2170\" y=\"430\">least possible</text>\n")?;
+        text.write_str(
+            "<circle class=\"least\" cx=\"2050\" cy=\"375\" r=\"45\"/>\n<text x=\"2170\" y=\"430\">least possible</text>\n",
+        )?;
     }
     draw_floor(text, floor_of(plot))?;
     match &plot.below {
@@ -53,8 +54,10 @@ fn draw_name<W: Write, A: Allocator>(text: &mut W, line: &Line<A>, left: u128) -
     let class = line.class;
     let name = line.name;
     let beside = left.saturating_add(500);
-    write!(text, "<path class=\"{class}\" d=\"M{left} 375h400\"/>\n")?;
-    write!(text, "<text x=\"{beside}\" y=\"430\">{name}</text>\n")
+    write!(
+        text,
+        "<path class=\"{class}\" d=\"M{left} 375h400\"/>\n<text x=\"{beside}\" y=\"430\">{name}</text>\n"
+    )
 }
 
 // What a sample tells is no count.
@@ -101,9 +104,8 @@ fn floor_of<A: Allocator>(plot: &Plot<A>) -> u128 {
 
 fn draw_floor<W: Write>(text: &mut W, left: u128) -> fmt::Result {
     let beside = left.saturating_add(500);
-    write!(text, "<path class=\"floor\" d=\"M{left} 375h400\"/>\n")?;
     write!(
         text,
-        "<text x=\"{beside}\" y=\"430\">first requests</text>\n"
+        "<path class=\"floor\" d=\"M{left} 375h400\"/>\n<text x=\"{beside}\" y=\"430\">first requests</text>\n"
     )
 }

@@ -112,15 +112,9 @@ pub(super) fn sized_summary<A: Allocator + Copy>(
 {
     let keys = three_numbers(alloc, requests, distinct, bytes)?;
     let sizes = three_numbers(alloc, size, distinct_size, greatest)?;
-    let mut text = String::new(alloc);
-    text.push_str(
-        "requests,distinct_keys,input_bytes,requested_bytes,distinct_bytes,greatest_size\n",
-    )?;
-    text.push_str(&keys)?;
-    text.push_str(",")?;
-    text.push_str(&sizes)?;
-    text.push_str("\n")?;
-    Ok(text)
+    format!(in alloc;
+        "requests,distinct_keys,input_bytes,requested_bytes,distinct_bytes,greatest_size\n{keys},{sizes}\n"
+    )
 }
 
 fn three_numbers<A: Allocator + Copy>(

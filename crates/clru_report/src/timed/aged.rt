@@ -1,21 +1,23 @@
-//! The table under an age limit: it has a row for each capacity that is named.
-ghost use Rattle.std.specs.Prelude.{◌≡◌, ℕ, List, Option, [], Some, IfErr, IfOk, OnOk, true, false, map, string_bytes};
+//! The table under an age limit. Its rows are at the usual capacities, or at those that are named.
+ghost use Rattle.std.specs.Prelude.{◌≡◌, ℕ, ◌-◌, ◌^◌, List, Option, [], Some, IfErr, IfOk, OnOk, true, false, map, string_bytes};
 ghost use Rattle.std.specs.List.{slice_index_or};
 ghost use Rattle.std.specs.Int.NonZero.{non_zero_usize_get};
 ghost use Rattle.clru_curve.specs.SizedAgedPasses.{IsSizedAgedPass};
 ghost use Rattle.clru_lines.specs.Lines.{lines_of};
 ghost use Rattle.clru_lines.specs.Whole.{ReadWhole};
 ghost use Rattle.clru_lines.specs.declared.lines.OwnedKey.{OwnedKey};
-ghost use Rattle.clru_report.specs.Choices.{is_json as is_json_by, named_in as named_by};
+ghost use Rattle.clru_report.specs.Capacities.{aged_capacities};
+ghost use Rattle.clru_report.specs.Choices.{is_json as is_json_by};
 ghost use Rattle.clru_report.specs.Faults.{is_of_writing};
 ghost use Rattle.clru_report.specs.Passes.{line_of, same_line};
-ghost use Rattle.clru_report.specs.PlainRows.{ArePlainRows};
+ghost use Rattle.clru_report.specs.PlainRows.{AreNumbersAt, ArePlainRows};
 ghost use Rattle.clru_report.specs.Refusals.{is_of_input};
 ghost use Rattle.clru_report.specs.Timed.{IsTableAt, IsTimedReportIn, IsUntimed};
 ghost use Rattle.clru_report.specs.TimedPasses.{HasTakenRequest};
 
 use super::lines::{TakesRequests, TimedLines};
 use super::{all_of, kept_in, part_in};
+use crate::capacities::usual_capacities;
 use crate::options::{Capacities, Form, Options, Times};
 use crate::reading::read_lines;
 use crate::rows::Row;
@@ -55,13 +57,15 @@ pub(super) fn aged_report<R: Read, S: BuildHasher + Drop, A: Allocator + Copy>(
     let (read, _) = read_lines(alloc, reader, &mut lines)?;
     let part = part_in(options.sample);
     let all = all_of(options.sample, read);
-    match table_of_misses(alloc, options, lines.pass.misses(), part, all) {
+    let keys = lines.pass.distinct_size();
+    match table_of_misses(alloc, options, lines.pass.misses(), keys, part, all) {
         Ok(text) => Ok(text),
         Err(_) => Err(Fault::Memory),
     }
 }
 
-/// Returns a pass at the capacities that are named, under these limits.
+/// Returns a pass under these limits, at all capacities that the table may have: its last one has what misses at each that is greater
+/// than all keys.
 pub(super) fn aged_pass_of<S: BuildHasher + Drop, A: Allocator + Copy>(
     alloc: A,
     options: &Options<A>,
@@ -70,10 +74,11 @@ pub(super) fn aged_pass_of<S: BuildHasher + Drop, A: Allocator + Copy>(
     hash_builder: S,
 ) -> Result<SizedAgedPass<OwnedKey<A>, S, A>, AllocError>
     ensures { (w : OwnedKey A → ℕ) → IfOk result
-        (IsSizedAgedPass same_line w (named_by options.now.capacities) limits.max_idle age []) }
+        (IsSizedAgedPass same_line w (aged_capacities options.now.capacities (2 ^ 64 - 1)) limits.max_idle age []) }
 {
-    let capacities = numbers_of(alloc, named_in(&options.capacities))?;
-    match SizedAgedPass::with_hasher(alloc, &capacities, limits.max_idle, age, hash_builder) {
+    let capacities = capacities_in(alloc, &options.capacities, usize::MAX)?;
+    let numbers = numbers_of(alloc, &capacities)?;
+    match SizedAgedPass::with_hasher(alloc, &numbers, limits.max_idle, age, hash_builder) {
         Ok(pass) => Ok(pass),
         Err(_) => Err(AllocError),
     }
@@ -121,13 +126,18 @@ fn take_request<S: BuildHasher, A: Allocator + Copy>(
     }
 }
 
-/// Returns the capacities that are named.
-pub(super) fn named_in<A: Allocator>(capacities: &Capacities<A>) -> &[NonZeroUsize]
-    ensures { map non_zero_usize_get result.now ≡ named_by capacities.now }
+/// Returns the capacities of a table of so many keys, or of keys of this size together.
+pub(super) fn capacities_in<A: Allocator + Copy>(
+    alloc: A,
+    capacities: &Capacities<A>,
+    keys: usize,
+) -> Result<Vec<NonZeroUsize, A>, AllocError>
+    ensures { IfOk result (λ chosen. map non_zero_usize_get chosen.items ≡ aged_capacities capacities.now keys) }
 {
     match capacities {
-        Capacities::Named(named) => named,
-        _ => &[],
+        Capacities::Usual => usual_capacities(alloc, keys),
+        Capacities::Named(named) => Vec::from_slice(alloc, named),
+        _ => Ok(Vec::new(alloc)),
     }
 }
 
@@ -144,18 +154,20 @@ fn numbers_of<A: Allocator>(
     Ok(numbers)
 }
 
-// The table of the misses of kept requests at the named capacities.
+// The table of the misses of kept requests, of so many keys.
 fn table_of_misses<A: Allocator + Copy>(
     alloc: A,
     options: &Options<A>,
     misses: &[usize],
+    keys: usize,
     one_in: NonZeroUsize,
     requests: usize,
 ) -> Result<String<A>, AllocError>
-    ensures { (m : ℕ → ℕ) → misses.now ≡ map m (named_by options.now.capacities)
-        → IfOk result (λ text. IsTableAt options.now m (non_zero_usize_get one_in) requests (string_bytes text)) }
+    ensures { (m : ℕ → ℕ) → AreNumbersAt m (aged_capacities options.now.capacities keys) misses.now
+        → IfOk result (λ text. IsTableAt options.now m keys (non_zero_usize_get one_in) requests (string_bytes text)) }
 {
-    let rows = rows_of(alloc, named_in(&options.capacities), misses)?;
+    let capacities = capacities_in(alloc, &options.capacities, keys)?;
+    let rows = rows_of(alloc, &capacities, misses)?;
     let shown = rows_times(alloc, &rows, one_in, requests)?;
     let json = is_json(options.form);
     table_of(alloc, &shown, &[], requests, false, options.floor, json)
@@ -176,7 +188,7 @@ fn rows_of<A: Allocator>(
     capacities: &[NonZeroUsize],
     misses: &[usize],
 ) -> Result<Vec<Row, A>, AllocError>
-    ensures { (m : ℕ → ℕ) → misses.now ≡ map m (map non_zero_usize_get capacities.now)
+    ensures { (m : ℕ → ℕ) → AreNumbersAt m (map non_zero_usize_get capacities.now) misses.now
         → IfOk result (λ rows. ArePlainRows m (map non_zero_usize_get capacities.now) rows.items) }
 {
     let mut rows = Vec::new(alloc);

@@ -1,4 +1,4 @@
-//! The table by size under an age limit: it has a row for each capacity that is named.
+//! The table by size under an age limit. Its rows are at the usual capacities, or at those that are named.
 ghost use Rattle.std.specs.Prelude.{◌≡◌, ◌+◌, ℕ, List, Option, Some, IfErr, IfOk, true, false, map, string_bytes};
 ghost use Rattle.std.specs.Int.NonZero.{non_zero_usize_get};
 ghost use Rattle.std.specs.Map.{keys_of};
@@ -7,14 +7,16 @@ ghost use Rattle.clru_curve.specs.SizedCurves.{greatest_of};
 ghost use Rattle.clru_lines.specs.Lines.{lines_of};
 ghost use Rattle.clru_lines.specs.Whole.{ReadWhole};
 ghost use Rattle.clru_lines.specs.declared.lines.OwnedKey.{OwnedKey};
-ghost use Rattle.clru_report.specs.Choices.{is_summary, named_in as named_by};
+ghost use Rattle.clru_report.specs.Capacities.{aged_capacities};
+ghost use Rattle.clru_report.specs.Choices.{is_summary};
 ghost use Rattle.clru_report.specs.Faults.{is_of_writing};
 ghost use Rattle.clru_report.specs.Passes.{same_line, weight_of_key};
+ghost use Rattle.clru_report.specs.PlainRows.{AreNumbersAt};
 ghost use Rattle.clru_report.specs.Refusals.{IsRefusedBy, is_of_input};
 ghost use Rattle.clru_report.specs.SizedTimed.{ArePlainSizedRows, IsSizedTableAt, IsTimedReportBySizeIn};
 ghost use Rattle.clru_report.specs.Times.{rests_of};
 
-use super::aged::{aged_pass_of, is_json, named_in, number_at};
+use super::aged::{aged_pass_of, capacities_in, is_json, number_at};
 use super::by_size::{names_too_small, size_of_all};
 use super::lines::{SizedTimedLines, TimedLines};
 use super::{all_of, kept_in, part_in};
@@ -63,6 +65,7 @@ pub(super) fn sized_aged_report<R: Read, S: BuildHasher + Drop, A: Allocator + C
     if names_too_small(options, first) {
         return Err(Fault::TooSmall(first));
     }
+    let together = pass.distinct_size();
     let totals = Totals {
         one_in: part_in(options.sample),
         requests: all_of(options.sample, read),
@@ -74,6 +77,7 @@ pub(super) fn sized_aged_report<R: Read, S: BuildHasher + Drop, A: Allocator + C
         pass.misses(),
         pass.missed_sizes(),
         first,
+        together,
         totals,
     ) {
         Ok(text) => Ok(text),
@@ -92,21 +96,23 @@ fn first_of<S: BuildHasher, A: Allocator + Copy>(pass: &SizedAgedPass<OwnedKey<A
     pass.greatest_weight().saturating_add(1)
 }
 
-// The table of what kept requests miss at those of the named capacities that are at least the first.
+// The table of what kept requests miss from the first capacity on, where the distinct keys have this size together.
 fn table_of_sizes<A: Allocator + Copy>(
     alloc: A,
     options: &Options<A>,
     misses: &[usize],
     missed: &[usize],
     first: usize,
+    together: usize,
     totals: Totals,
 ) -> Result<String<A>, AllocError>
-    ensures { (m s : ℕ → ℕ) → misses.now ≡ map m (named_by options.now.capacities)
-        → missed.now ≡ map s (named_by options.now.capacities)
-        → IfOk result (λ text. IsSizedTableAt options.now m s first (non_zero_usize_get totals.one_in) totals.requests totals.size
+    ensures { (m s : ℕ → ℕ) → AreNumbersAt m (aged_capacities options.now.capacities together) misses.now
+        → AreNumbersAt s (aged_capacities options.now.capacities together) missed.now
+        → IfOk result (λ text. IsSizedTableAt options.now m s first together (non_zero_usize_get totals.one_in) totals.requests totals.size
         (string_bytes text)) }
 {
-    let mut rows = sized_rows_of(alloc, named_in(&options.capacities), misses, missed)?;
+    let capacities = capacities_in(alloc, &options.capacities, together)?;
+    let mut rows = sized_rows_of(alloc, &capacities, misses, missed)?;
     rows.retain(|row| row.capacity.get() >= first);
     let shown = sized_rows_times(alloc, &rows, totals)?;
     let json = is_json(options.form);
@@ -128,8 +134,8 @@ fn sized_rows_of<A: Allocator>(
     misses: &[usize],
     missed: &[usize],
 ) -> Result<Vec<SizedRow, A>, AllocError>
-    ensures { (m s : ℕ → ℕ) → misses.now ≡ map m (map non_zero_usize_get capacities.now)
-        → missed.now ≡ map s (map non_zero_usize_get capacities.now)
+    ensures { (m s : ℕ → ℕ) → AreNumbersAt m (map non_zero_usize_get capacities.now) misses.now
+        → AreNumbersAt s (map non_zero_usize_get capacities.now) missed.now
         → IfOk result (λ rows. ArePlainSizedRows m s (map non_zero_usize_get capacities.now) rows.items) }
 {
     let mut rows = Vec::new(alloc);

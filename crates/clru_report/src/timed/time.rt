@@ -26,7 +26,8 @@ pub fn time_of(line: &[u8]) -> Option<usize>
 }
 
 /// Returns the time before the first blank of a line, in millionths, and what follows the blank, or `None` if there is no time.
-pub(super) fn split_time(line: &[u8]) -> Option<(usize, &[u8])>
+/// Cost: a step for each byte up to the blank; no request for memory.
+pub fn split_time(line: &[u8]) -> Option<(usize, &[u8])>
     ensures time { IfSome result (λ found. time_of_line line.now ≡ Some found.0) }
     ensures rest { IfSome result (λ found. found.1.now ≡ rest_of_line line.now) }
     ensures none { IfNone result (time_of_line line.now ≡ None) }

@@ -4,32 +4,44 @@ use crate::runs::arms::{arity, call_of};
 use crate::words::{Words, Wrong};
 use crate::world::World;
 use clru_runs::{Attempt, Call, PlainCall};
-use ration::Rationed;
-use std::alloc::Global;
+use std::alloc::Allocator;
 
 /// The calls of a line. Each ends with its last word, so that nothing stands between two.
-pub(crate) fn calls_of(
+pub(crate) fn calls_of<A: Allocator>(
     world: &'static World,
+    owned: A,
     words: &mut Words,
-) -> Vec<PlainCall<usize, usize>, &'static Rationed<Global>> {
-    let mut calls = Vec::new(&world.owned);
+) -> Vec<PlainCall<usize, usize>, A> {
+    let mut calls = Vec::new(owned);
     for _ in 0..usize::MAX {
         let Some(name) = words.next() else {
             break;
         };
-        if calls.push(next_call(name, words)).is_err() {
+        if name == "puts" {
+            puts(world, words.number(), &mut calls);
+        } else if calls.push(next_call(name, words)).is_err() {
             world.is_short.set(true);
         }
     }
     calls
 }
 
+/// `puts N`: puts of the keys below N.
+fn puts<A: Allocator>(world: &World, end: usize, calls: &mut Vec<PlainCall<usize, usize>, A>) {
+    for number in 0..end {
+        if calls.push(PlainCall::Put(number, number)).is_err() {
+            world.is_short.set(true);
+        }
+    }
+}
+
 /// The same of calls that each cache has.
-pub(crate) fn any_calls_of(
+pub(crate) fn any_calls_of<A: Allocator>(
     world: &'static World,
+    owned: A,
     words: &mut Words,
-) -> Vec<Call<usize, usize>, &'static Rationed<Global>> {
-    let mut calls = Vec::new(&world.owned);
+) -> Vec<Call<usize, usize>, A> {
+    let mut calls = Vec::new(owned);
     for _ in 0..usize::MAX {
         let Some(name) = words.next() else {
             break;

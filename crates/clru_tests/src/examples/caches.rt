@@ -7,7 +7,6 @@ use clru_uses::hasher::FnvState;
 use clru_uses::lends::double_last;
 use clru_uses::limits::{TooLarge, grow};
 use clru_uses::pages::{forget, halve, remember};
-use clru_uses::removals::{keep_larger, keep_last};
 use clru_uses::seed::for_keys_of_others;
 use clru_uses::words::count_words;
 use ration::{Rationed, equal};
@@ -87,8 +86,8 @@ fn change<R: Abort + AllocGlobal>(rt: &R, sizes: &mut Sizes) {
     // A sum that is too large is refused.
     let too_large = Err(TryPutError::Failed(TooLarge));
     equal!(rt; grows(sizes), (Ok(10), Ok(30), too_large, Some(30)));
-    // Large pages are kept, and then the last one.
-    equal!(rt; keeps(rt, sizes), Ok((2, false, 1, true)));
+    // Of three pages the last two stay.
+    equal!(rt; extends(rt, sizes), Ok(2));
 }
 
 fn doubles(sizes: &mut Sizes) -> (Option<u64>, Option<u64>, Option<u64>, Option<u64>) {
@@ -133,19 +132,10 @@ fn grows(sizes: &mut Sizes) -> (Grown, Grown, Grown, Option<u64>) {
     )
 }
 
-/// How many of three pages are larger than 10, whether the first one is among them, how many are the last one, and whether it is
-/// held.
-type Kept = (usize, bool, usize, bool);
-
-fn keeps<R: Abort + AllocGlobal>(rt: &R, sizes: &mut Sizes) -> Result<Kept, AllocError> {
-    sizes.clear();
-    sizes.resize(room(3));
+fn extends<R: Abort + AllocGlobal>(rt: &R, sizes: &mut Sizes) -> Result<usize, AllocError> {
     let pages = Vec::from_array(rt.alloc(), [(1, 10), (2, 20), (3, 30)])?;
     assert_eq!(rt; sizes.extend(pages), Ok(()));
-    keep_larger(sizes, 10);
-    let (larger, first) = (sizes.len(), sizes.contains(&1));
-    keep_last(sizes);
-    Ok((larger, first, sizes.len(), sizes.contains(&3)))
+    Ok(sizes.len())
 }
 
 #[test]

@@ -12,29 +12,29 @@ const KEYS: usize = 10;
 // Of a form, whether by size, and whether with the least, or by size the floors: its requests for memory, and their bytes.
 static REQUESTS: &[(Form, bool, bool, u64, u64)] = &[
     (Form::Table, false, false, 36, 69278),
-    (Form::Table, true, false, 48, 106174),
-    (Form::Table, true, true, 60, 186414),
+    (Form::Table, true, false, 49, 106206),
+    (Form::Table, true, true, 61, 186446),
     (Form::Table, false, true, 52, 78710),
     (Form::Json, false, false, 37, 69790),
-    (Form::Json, true, true, 61, 187438),
-    (Form::Picture, false, false, 47, 88166),
-    (Form::Picture, true, false, 68, 174697),
-    (Form::Picture, true, true, 85, 259372),
-    (Form::Picture, false, true, 65, 98930),
+    (Form::Json, true, true, 62, 187470),
+    (Form::Picture, false, false, 49, 88828),
+    (Form::Picture, true, false, 71, 175700),
+    (Form::Picture, true, true, 88, 260591),
+    (Form::Picture, false, true, 67, 99691),
     (Form::Summary, false, false, 31, 68871),
-    (Form::Summary, true, false, 39, 104630),
-    (Form::Summary, true, true, 39, 104630),
+    (Form::Summary, true, false, 40, 104662),
+    (Form::Summary, true, true, 40, 104662),
     (Form::Summary, false, true, 31, 68871),
 ];
 
 // The same of a sample, which keeps half of the keys: whether by size, its hashes too.
 static OF_SAMPLES: &[(Form, bool, u64, u64, u64)] = &[
     (Form::Table, false, 504, 29, 68871),
-    (Form::Table, true, 504, 40, 88999),
-    (Form::Picture, false, 504, 40, 87477),
-    (Form::Picture, true, 504, 59, 132897),
+    (Form::Table, true, 504, 41, 89031),
+    (Form::Picture, false, 504, 41, 87430),
+    (Form::Picture, true, 504, 62, 133774),
     (Form::Summary, false, 504, 19, 67984),
-    (Form::Summary, true, 504, 33, 88231),
+    (Form::Summary, true, 504, 34, 88263),
 ];
 
 /// A thousand lines of ten keys, each with the size 7.

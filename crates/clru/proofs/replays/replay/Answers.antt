@@ -1,9 +1,9 @@
 use Rattle.std.proofs.Common.{rules, sym, ◌∙◌, ◌≡◌, ◌+◌, cond, [], length, arith, refl, ap, subst}
 use Rattle.std.proofs.lemmas.List.{length_push, map-id}
 use Rattle.std.proofs.lemmas.Iterator.Adapters.{YieldsList-from_vec}
-use Rattle.std.proofs.lemmas.Iterator.Consumers.{YieldsList-end}
+use Rattle.std.proofs.lemmas.Iterator.Consumers.{YieldsList-end, YieldsList-turn}
 use Rattle.std.specs.Int.NonZero.{non_zero_usize_get}
-use Rattle.clru_model.specs.Requests.{misses}
+use Rattle.clru_model.specs.Requests.{marks, misses}
 use Rattle.clru_model.proofs.Bound.{competitive, competitive_from_any_start}
 use Rattle.clru_model.proofs.Hits.{HoldsHits_none}
 use Rattle.clru.proofs.Replaying.{Replays, Replays-push}
@@ -21,9 +21,45 @@ loop-key-preserved g c =
       next = tt;
       ends = tt;
       replays = Replays-push g.K.PartialEq.eq c.in-Some.key c.request-hit.result g.met.K.Eq.laws before e.hit e.put e.held pushed counted;
+      few = elim c.if-not-hit.branch [
+        | then-not-hit w ↦ omega (arith, w.misses-is, c.loop-key.invariant.few, length_push c.loop-key.yielded c.in-Some.key)
+        | else-not-hit w ↦ omega (arith, w.misses-is, c.loop-key.invariant.few, length_push c.loop-key.yielded c.in-Some.key)
+      ];
       marked = omega (arith, c.push_reserved.ensures.len, c.loop-key.invariant.marked, length_push c.loop-key.yielded c.in-Some.key);
       same_capacity = omega (arith, c.push_reserved.ensures.capacity, c.loop-key.invariant.same_capacity);
     }
+
+-- each key has a place that was reserved for it
+pub request-hit-requires : goal.request-hit-requires
+request-hit-requires g c =
+    let gives = YieldsList-from_vec {s = c.into_iter-key-iterator.result} c.args.keys.items (search rules) (search rules) in
+    let turn = YieldsList-turn gives c.loop-key.yielded c.loop-key.key-iterator c.loop-key.yielded_by c.next.result c.next.new.self
+    c.in-Some.key c.in-Some.is c.next.ensures.steps in
+    let r = c.loop-key.invariant.replays in
+    record { ready = λ needs. omega (arith, needs.room, needs.taken, r.places, r.capacity, r.fewer, turn.0) }
+
+pub overflow_add-misses : goal.overflow_add-misses
+overflow_add-misses g c =
+    let gives = YieldsList-from_vec {s = c.into_iter-key-iterator.result} c.args.keys.items (search rules) (search rules) in
+    let turn = YieldsList-turn gives c.loop-key.yielded c.loop-key.key-iterator c.loop-key.yielded_by c.next.result c.next.new.self
+    c.in-Some.key c.in-Some.is c.next.ensures.steps in
+    omega (arith, turn.0, c.loop-key.invariant.few, c.loop-key.invariant.same_capacity, c.loop-key.marks.small)
+
+pub push_reserved-requires : goal.push_reserved-requires
+push_reserved-requires g c =
+    let gives = YieldsList-from_vec {s = c.into_iter-key-iterator.result} c.args.keys.items (search rules) (search rules) in
+    let turn = YieldsList-turn gives c.loop-key.yielded c.loop-key.key-iterator c.loop-key.yielded_by c.next.result c.next.new.self
+    c.in-Some.key c.in-Some.is c.next.ensures.steps in
+    omega (arith, turn.0, c.loop-key.invariant.marked, c.loop-key.invariant.same_capacity)
+
+pub returns-clause-marks : goal.returns-clause-marks
+returns-clause-marks g c =
+    let eq = g.K.PartialEq.eq in let keys = c.args.keys.items in
+    let gives = YieldsList-from_vec {s = c.into_iter-key-iterator.result} keys (search rules) (search rules) in
+    let whole = YieldsList-end gives c.loop-key.yielded c.loop-key.key-iterator c.loop-key.yielded_by c.next.result c.next.new.self
+    c.in-None.is c.next.ensures.steps in
+    let taken : c.loop-key.yielded ≡ keys = sym (map-id c.loop-key.yielded) ∙ whole.0 in
+    c.loop-key.invariant.replays.marks ∙ ap (marks eq (non_zero_usize_get c.args.capacity)) taken
 
 pub returns-clause-misses : goal.returns-clause-misses
 returns-clause-misses g c =
@@ -63,6 +99,7 @@ loop-key-init g c =
             covered = omega arith;
             fewer = omega arith;
           });
+      few = omega arith;
       marked = search rules;
       same_capacity = search rules;
     }

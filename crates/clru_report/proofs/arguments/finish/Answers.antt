@@ -2,9 +2,9 @@ use Rattle.std.proofs.Common.{◌≡◌, true, false, sym, ap, subst, ◌∙◌}
 use Rattle.std.specs.Int.NonZero.{non_zero_usize_get}
 use Rattle.std.specs.Option.{is_none, is_some}
 use Rattle.clru_report.specs.Arguments.{asked_by, form_of as form_by, one_in}
-use Rattle.clru_report.specs.Choices.{is_at_named, is_of_all, is_untimed}
+use Rattle.clru_report.specs.Choices.{is_aged_table, is_of_all, is_untimed}
 use Rattle.clru_report.proofs.Choices.{least_alone}
-use Rattle.clru_report.proofs.CutsAlone.{alone, asked_for_age, asked_for_times, named_for_age, none_viewed, parts_of, sizes_alone, some_viewed, timed_alone}
+use Rattle.clru_report.proofs.CutsAlone.{alone, asked_for_age, asked_for_times, none_viewed, parts_of, sizes_alone, some_viewed, table_for_age, timed_alone}
 use Rattle.clru_report.proofs.arguments.finish.Goals as goal
 
 pub invariant_of-result-clause-least_of_all : goal.invariant_of-result-clause-least_of_all
@@ -40,8 +40,8 @@ invariant_of-result-clause-aged g c some =
     let draft = c.args.draft in let asked = asked_by draft in
     let parts = parts_of asked (sym c.conflict_in.ensures ∙ ap is_none c.in_default.is) in
     let age = asked_for_age draft.times draft.max_idle draft.max_age c.times_of.result c.times_of.ensures some in
-    subst (λ f. is_at_named c.capacities_of.result f ≡ true) (sym c.form_of-form.ensures)
-    (named_for_age asked parts.forms parts.ages age (one_in c.sample_of-sample.result) c.capacities_of.result c.capacities_of.ensures.asked)
+    subst (λ f. is_aged_table c.capacities_of.result f ≡ true) (sym c.form_of-form.ensures)
+    (table_for_age asked parts.ages age (one_in c.sample_of-sample.result) c.capacities_of.result c.capacities_of.ensures.asked)
 
 pub invariant_of-result-clause-ascending : goal.invariant_of-result-clause-ascending
 invariant_of-result-clause-ascending g c = c.capacities_of.ensures.ascending

@@ -5,13 +5,13 @@ use Rattle.clru_shares.proofs.PassLemmas.{by_keys, by_size, places_curve, sizes_
 use Rattle.clru_shares.proofs.curve.curve_of.Goals as goal
 
 pub returns-in-Ok : goal.returns-in-Ok
-returns-in-Ok g c sizes lines taken =
-    let of = by_keys lines sizes c.args.pass.now c.in-OfKeys.pass c.in-OfKeys.is taken in
-    subst (λ s. IsCurveBy {A = g.row.A.Denot} s lines (ByKeys c.in-Ok.curve)) (sym of.0)
-    (places_curve lines c.in-OfKeys.pass of.1 c.in-Ok.curve (λ past is. c.in-Ok.ensures.misses past is))
+returns-in-Ok g c sizes limit requests taken =
+    let of = by_keys limit requests sizes c.args.pass.now c.in-OfKeys.pass c.in-OfKeys.is taken in
+    subst (λ s. IsCurveBy {A = g.row.A.Denot} s limit requests (ByKeys c.in-Ok.curve)) (sym of.0)
+    (places_curve limit requests c.in-OfKeys.pass of.1 c.in-Ok.curve (c.in-Ok.ensures.misses limit))
 
 pub returns-in-Ok-curve : goal.returns-in-Ok-curve
-returns-in-Ok-curve g c sizes lines taken =
-    let of = by_size lines sizes c.args.pass.now c.in-OfSizes.pass c.in-OfSizes.is taken in
-    subst (λ s. IsCurveBy {A = g.row.A.Denot} s lines (BySize c.in-Ok-curve.curve)) (sym of.0)
-    (sizes_curve lines c.in-OfSizes.pass of.1 c.in-Ok-curve.curve (c.in-Ok-curve.ensures.curve weight_of_key))
+returns-in-Ok-curve g c sizes limit requests taken =
+    let of = by_size limit requests sizes c.args.pass.now c.in-OfSizes.pass c.in-OfSizes.is taken in
+    subst (λ s. IsCurveBy {A = g.row.A.Denot} s limit requests (BySize c.in-Ok-curve.curve)) (sym of.0)
+    (sizes_curve limit requests c.in-OfSizes.pass of.1 c.in-Ok-curve.curve (c.in-Ok-curve.ensures.curve weight_of_key limit))

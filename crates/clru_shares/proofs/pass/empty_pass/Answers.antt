@@ -6,4 +6,4 @@ pub returns-then-sizes : goal.returns-then-sizes
 returns-then-sizes g c = rw c.if-sizes.true (record { past = []; shown = refl; taken = c.with_hasher.ensures weight_of_key })
 
 pub returns-else-sizes : goal.returns-else-sizes
-returns-else-sizes g c = rw c.if-sizes.false (record { past = []; shown = refl; taken = c.new.ensures })
+returns-else-sizes g c = rw c.if-sizes.false (record { past = []; shown = refl; taken = c.new.ensures c.args.limit })

@@ -1,4 +1,4 @@
-use Rattle.std.proofs.Common.{◌≡◌, true, false, [], ◌∷◌, ◌++◌, length, map, refl, sym, ap, ◌∙◌, subst, arith}
+use Rattle.std.proofs.Common.{◌≡◌, ℕ, List, true, false, [], ◌∷◌, ◌++◌, length, map, refl, sym, ap, ◌∙◌, subst, arith}
 use Rattle.std.specs.Prelude.{bytes_eq}
 use Rattle.std.specs.Int.NonZero.{non_zero_usize_get}
 use Rattle.std.specs.List.{list_any}
@@ -19,7 +19,7 @@ use Rattle.clru_shares.proofs.TakenClasses.{is_other, names_are}
 use Rattle.clru_shares.proofs.reading.take_both.Goals as goal
 
 pub returns-in_default-clause-refused : goal.returns-in_default-clause-refused
-returns-in_default-clause-refused g c lines kept rest is counted of =
+returns-in_default-clause-refused g c lines rest kept is counted of =
     let classes = c.args.passes.now.classes.items in
     record {
       before = lines;
@@ -28,19 +28,19 @@ returns-in_default-clause-refused g c lines kept rest is counted of =
       is = refl;
       number = counted;
       classed = is.classed;
-      few = (map name_of classes, names_are c.args.sizes lines kept classes is.classes, omega (arith, is.few, length-map classes name_of));
+      few = (map name_of classes, names_are c.args.sizes c.args.limit lines kept classes is.classes, omega (arith, is.few, length-map classes name_of));
       none = ap has_class (sym c.deref.ensures.value) ∙ sym c.in_default.ensures.has_class;
     }
 
 pub returns-in_default-size_of_request-clause-refused : goal.returns-in_default-size_of_request-clause-refused
-returns-in_default-size_of_request-clause-refused g c lines kept rest is counted of =
+returns-in_default-size_of_request-clause-refused g c lines rest kept is counted of =
     let line = line_of c.args.key.now in
     without_size c.args.sizes lines rest line c.args.number counted is.classed is.sized
     (ap has_class (sym c.deref.ensures.value) ∙ sym c.in-Some.ensures.has_class)
     (ap (is_sized c.args.sizes) (sym c.deref-2.ensures.value) ∙ sym c.in_default-size_of_request.ensures.is_sized)
 
 pub returns-in_default-checked_add-clause-refused : goal.returns-in_default-checked_add-clause-refused
-returns-in_default-checked_add-clause-refused g c lines kept rest is counted of =
+returns-in_default-checked_add-clause-refused g c lines rest kept is counted of =
     let line = line_of c.args.key.now in
     sizes_large c.args.sizes lines rest line is.classed is.sized
     (ap has_class (sym c.deref.ensures.value) ∙ sym c.in-Some.ensures.has_class)
@@ -63,7 +63,7 @@ pub next_number-passes-requires : goal.next_number-passes-requires
 next_number-passes-requires g c = omega (arith, c.in-Ok-true.ensures.kept, c.requires.2.fewer, c.requires.2.counted, c.requires.3)
 
 pub returns-in-Ok-false-clause-refused : goal.returns-in-Ok-false-clause-refused
-returns-in-Ok-false-clause-refused g c lines kept rest is counted of =
+returns-in-Ok-false-clause-refused g c lines rest kept is counted of =
     let classes = c.args.passes.now.classes.items in let line = line_of c.args.key.now in
     let own = c.in-Some.ensures.class ∙ ap class_in c.deref.ensures.value in
     let full = c.in-Ok-false.ensures.full c.in-Ok-false.field-0-test in
@@ -76,7 +76,7 @@ returns-in-Ok-false-clause-refused g c lines kept rest is counted of =
       classed = is.classed;
       own = ap has_class (sym c.deref.ensures.value) ∙ sym c.in-Some.ensures.has_class;
       names = map name_of classes;
-      classes = names_are c.args.sizes lines kept classes is.classes;
+      classes = names_are c.args.sizes c.args.limit lines kept classes is.classes;
       full = omega (arith, full.0, is.few, length-map classes name_of);
       other = subst (λ n. list_any (bytes_eq n) (map name_of classes) ≡ false) own (is_other classes c.in-Some.name.now full.1.0 full.1.1);
     }
@@ -85,22 +85,22 @@ pub returns-clause-taken : goal.returns-clause-taken
 returns-clause-taken g c lines kept is counted =
     let line = line_of c.args.key.now in let same = c.deref.ensures.value in let sizes = c.args.sizes in
     let size = c.in-Some-size_of_request.ensures.size ∙ ap (own_size sizes) c.deref-2.ensures.value in
-    let here = c.is_in-is_kept.result in
+    let here = c.is_in-is_kept.result in let r : List ℕ × ℕ = (line, c.args.time) in
     let in_sample : here ≡ is_in (option_map non_zero_usize_get c.args.sample) line =
     c.is_in-is_kept.ensures ∙ ap (is_in (option_map non_zero_usize_get c.args.sample)) c.deref-3.ensures.value in
     record {
       classed = All-push (λ l. has_class l ≡ true) lines line is.classed (ap has_class (sym same) ∙ sym c.in-Some.ensures.has_class);
       sized = All-push (λ l. is_sized sizes l ≡ true) lines line is.sized
           (ap (is_sized sizes) (sym c.deref-2.ensures.value) ∙ sym c.in-Some-size_of_request.ensures.is_sized);
-      classes = subst (λ b. HaveTaken sizes (lines ++ line ∷ []) (next_kept b kept line) c.take_known.new.passes.classes.items) in_sample
+      classes = subst (λ b. HaveTaken sizes c.args.limit (lines ++ line ∷ []) (next_kept b kept r) c.take_known.new.passes.classes.items) in_sample
           (c.in-Ok-true.ensures.classes lines kept is c.in-Ok-true.field-0-test);
       few = c.in-Ok-true.ensures.few c.in-Ok-true.field-0-test is.few;
-      all = subst (λ b. HasTakenBy sizes (next_kept b kept line) c.take_known.new.passes.all) in_sample
+      all = subst (λ b. HasTakenBy sizes c.args.limit (next_kept b kept r) c.take_known.new.passes.all) in_sample
           (c.in-Ok-true.ensures.all lines kept is c.in-Ok-true.field-0-test);
-      latest = subst (λ b. IsNotedBy sizes (next_kept b kept line) c.take_known.new.passes.latest) in_sample
+      latest = subst (λ b. IsNotedBy sizes (next_kept b kept r) c.take_known.new.passes.latest) in_sample
           (c.in-Ok-true.ensures.latest lines kept is c.in-Ok-true.field-0-test);
-      numbered = subst (λ b. c.next_number-passes.result ≡ length (next_kept b kept line)) in_sample
-          (c.next_number-passes.ensures ∙ ap (next_number here) (c.in-Ok-true.ensures.kept ∙ is.numbered) ∙ next_counted here kept line);
+      numbered = subst (λ b. c.next_number-passes.result ≡ length (next_kept b kept r)) in_sample
+          (c.next_number-passes.ensures ∙ ap (next_number here) (c.in-Ok-true.ensures.kept ∙ is.numbered) ∙ next_counted here kept r);
       fewer = omega (
         arith,
         c.next_number-passes.ensures,

@@ -2,10 +2,12 @@ use Rattle.std.proofs.Common.{length, map, sym, ap, ◌∙◌, subst, arith}
 use Rattle.std.proofs.lemmas.List.{length-map}
 use Rattle.clru_report.specs.Passes.{line_of}
 use Rattle.clru_report.proofs.ReportLemmas.{ok_map}
-use Rattle.clru_shares.specs.Classes.{AreAscending, class_in, requests_of}
+use Rattle.clru_shares.specs.Classes.{AreAscending, of_class}
 use Rattle.clru_shares.specs.Passes.{HaveTaken, IsPlaceOf, name_of}
-use Rattle.clru_shares.specs.Places.{IsLatestBy}
+use Rattle.clru_shares.specs.Places.{IsAskedOf}
+use Rattle.clru_shares.specs.declared.pass.Asked.{Asked}
 use Rattle.clru_shares.proofs.ClassLemmas.{place_of_each}
+use Rattle.clru_shares.proofs.PlaceLemmas.{asked_all, asked_own}
 use Rattle.clru_shares.proofs.reading.take_known.Goals as goal
 
 pub place_of-place-requires : goal.place_of-place-requires
@@ -23,47 +25,52 @@ take_classed-requires-clause-place g c =
 
 pub take_classed-requires-clause-taken : goal.take_classed-requires-clause-taken
 take_classed-requires-clause-taken g c =
-    let kept = c.requires.taken.1 in let taken = c.requires.taken.2 in let line = line_of c.args.key.now in (
+    let kept = c.requires.taken.1 in let taken = c.requires.taken.2 in let line = line_of c.args.key.now in
+    let asked : Asked = record { latest = c.own_of.result; soon = c.soon_of-soon.result; time = c.args.time; size = c.args.size } in (
       c.requires.taken.0,
       kept,
       taken.classes,
-      λ is. subst (λ n. IsLatestBy c.args.sizes (requests_of n kept) line c.own_of.result) (sym c.requires.name)
-          (subst (IsLatestBy c.args.sizes (requests_of (class_in line) kept) line) (sym c.own_of.ensures)
-          (c.in_ok-places.ensures.latest kept taken.latest is).own),
+      λ is. subst (λ n. IsAskedOf c.args.sizes c.args.limit (of_class n kept) line asked) (sym c.requires.name)
+          (asked_own c.args.sizes c.args.limit kept line c.in_ok-places.places asked c.soon_of-soon.ensures
+          (c.in_ok-places.ensures.latest kept taken.latest is) c.own_of.ensures),
     )
 
 pub take_kept-requires : goal.take_kept-requires
 take_kept-requires g c =
-    let kept = c.requires.taken.1 in let taken = c.requires.taken.2 in (
+    let kept = c.requires.taken.1 in let taken = c.requires.taken.2 in
+    let asked : Asked = record { latest = c.all_of.result; soon = c.soon_of-soon.result; time = c.args.time; size = c.args.size } in (
       c.args.sizes,
+      c.args.limit,
       kept,
       taken.all,
       c.requires.size,
-      λ is. subst (IsLatestBy c.args.sizes kept (line_of c.args.key.now)) (sym c.all_of.ensures)
-          (c.in_ok-places.ensures.latest kept taken.latest is).all,
+      λ is. asked_all c.args.sizes c.args.limit kept (line_of c.args.key.now) c.in_ok-places.places asked c.soon_of-soon.ensures
+          (c.in_ok-places.ensures.latest kept taken.latest is) c.all_of.ensures,
     )
 
 pub returns-in_ok-take_kept-clause-classes : goal.returns-in_ok-take_kept-clause-classes
 returns-in_ok-take_kept-clause-classes g c lines kept taken room =
     let line = line_of c.args.key.now in
+    let asked : Asked = record { latest = c.own_of.result; soon = c.soon_of-soon.result; time = c.args.time; size = c.args.size } in
     c.in_ok-has_room.ensures.taken lines kept taken.classes c.requires.name
-    (λ is. subst (λ n. IsLatestBy c.args.sizes (requests_of n kept) line c.own_of.result) (sym c.requires.name)
-    (subst (IsLatestBy c.args.sizes (requests_of (class_in line) kept) line) (sym c.own_of.ensures)
-    (c.in_ok-places.ensures.latest kept taken.latest is).own))
+    (λ is. subst (λ n. IsAskedOf c.args.sizes c.args.limit (of_class n kept) line asked) (sym c.requires.name)
+    (asked_own c.args.sizes c.args.limit kept line c.in_ok-places.places asked c.soon_of-soon.ensures
+    (c.in_ok-places.ensures.latest kept taken.latest is) c.own_of.ensures))
     room
 
 pub returns-in_ok-take_kept-clause-all : goal.returns-in_ok-take_kept-clause-all
 returns-in_ok-take_kept-clause-all g c lines kept taken room =
-    c.in_ok-take_kept.ensures c.args.sizes kept taken.all c.requires.size
-    (λ is. subst (IsLatestBy c.args.sizes kept (line_of c.args.key.now)) (sym c.all_of.ensures)
-    (c.in_ok-places.ensures.latest kept taken.latest is).all)
+    let asked : Asked = record { latest = c.all_of.result; soon = c.soon_of-soon.result; time = c.args.time; size = c.args.size } in
+    c.in_ok-take_kept.ensures c.args.sizes c.args.limit kept taken.all c.requires.size
+    (λ is. asked_all c.args.sizes c.args.limit kept (line_of c.args.key.now) c.in_ok-places.places asked c.soon_of-soon.ensures
+    (c.in_ok-places.ensures.latest kept taken.latest is) c.all_of.ensures)
 
 pub returns-in_ok-take_kept-clause-latest : goal.returns-in_ok-take_kept-clause-latest
 returns-in_ok-take_kept-clause-latest g c lines kept taken room =
     let classes = c.args.passes.now.classes.items in
     let place = place_of_each (map name_of c.deref.result.now) c.args.name.now c.place_of-place.result c.place_of-place.ensures.held
     c.place_of-place.ensures.missing in
-    let own = c.kept_at-own.ensures c.args.sizes lines kept c.args.name.now
-    (subst (HaveTaken c.args.sizes lines kept) (sym c.deref-2.ensures.value) taken.classes)
+    let own = c.kept_at-own.ensures c.args.sizes c.args.limit lines kept c.args.name.now
+    (subst (HaveTaken c.args.sizes c.args.limit lines kept) (sym c.deref-2.ensures.value) taken.classes)
     (subst (λ cs. IsPlaceOf (map name_of cs) c.args.name.now c.place_of-place.result) (c.deref.ensures.value ∙ sym c.deref-2.ensures.value) place) in
-    c.in_ok-places.ensures.noted kept taken.latest taken.numbered (own ∙ ap (λ n. length (requests_of n kept)) c.requires.name)
+    c.in_ok-places.ensures.noted kept taken.latest taken.numbered (own ∙ ap (λ n. length (of_class n kept)) c.requires.name)

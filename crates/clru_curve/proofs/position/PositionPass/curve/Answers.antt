@@ -1,29 +1,29 @@
 use Rattle.std.proofs.Common.{[], sym, ◌∙◌, subst}
 use Rattle.clru_curve.specs.PositionPasses.{IsPositionPass}
 use Rattle.clru_curve.proofs.Latests.{written_back}
-use Rattle.clru_curve.proofs.Passing.{sums_within, curve_distinct, curve_misses}
+use Rattle.clru_curve.proofs.IdlePassing.{sums_within, curve_distinct, curve_misses}
 use Rattle.clru_curve.proofs.position.PositionPass.curve.Goals as goal
 
 pub misses_of-requires : goal.misses_of-requires
 misses_of-requires g c =
     let eq = g.K.PartialEq.eq in let inv = c.self.invariant in
     let from = c.deref_mut.ensures.value ∙ c.in-Ok.ensures.items ∙ c.deref.ensures.value in
-    record { within = sums_within eq inv.past _ c.deref_mut.result.now [] [] inv.taken.taken from }
+    record { within = sums_within eq inv.idle inv.past _ c.deref_mut.result.now [] [] inv.taken.taken from }
 
 pub returns-clause-misses : goal.returns-clause-misses
-returns-clause-misses g c past is =
+returns-clause-misses g c idle past is =
     let eq = g.K.PartialEq.eq in let vec = c.in-Ok.misses in
     let from = c.deref_mut.ensures.value ∙ c.in-Ok.ensures.items ∙ c.deref.ensures.value in
     let to = c.from_misses.ensures ∙ written_back c.misses_of.new.histogram vec.items vec.len (c.misses_of.ensures.len ∙ c.deref_mut.ensures.len) in
-    let taken = subst (IsPositionPass eq past) (sym c.self.view_is) is in
-    curve_misses eq past _ c.deref_mut.result.now c.misses_of.new.histogram c.from_misses.result taken.taken from to
+    let taken = subst (IsPositionPass eq idle past) (sym c.self.view_is) is in
+    curve_misses eq idle past _ c.deref_mut.result.now c.misses_of.new.histogram c.from_misses.result taken.taken from to
     c.misses_of.ensures.len c.misses_of.ensures.misses
 
 pub returns-clause-distinct : goal.returns-clause-distinct
-returns-clause-distinct g c past is =
+returns-clause-distinct g c idle past is =
     let eq = g.K.PartialEq.eq in let vec = c.in-Ok.misses in
     let from = c.deref_mut.ensures.value ∙ c.in-Ok.ensures.items ∙ c.deref.ensures.value in
     let to = c.from_misses.ensures ∙ written_back c.misses_of.new.histogram vec.items vec.len (c.misses_of.ensures.len ∙ c.deref_mut.ensures.len) in
-    let taken = subst (IsPositionPass eq past) (sym c.self.view_is) is in
-    curve_distinct eq past _ c.deref_mut.result.now c.misses_of.new.histogram c.from_misses.result taken.taken from to
+    let taken = subst (IsPositionPass eq idle past) (sym c.self.view_is) is in
+    curve_distinct eq idle past _ c.deref_mut.result.now c.misses_of.new.histogram c.from_misses.result taken.taken from to
     c.misses_of.ensures.len

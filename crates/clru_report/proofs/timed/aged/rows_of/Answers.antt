@@ -13,8 +13,7 @@ loop-index-preserved g c m are =
     let within : i < length ns = omega (arith, lt, length-map cs non_zero_usize_get) in
     plain_more m (map non_zero_usize_get (take i cs)) (map non_zero_usize_get (take (i + 1) cs)) c.loop-index.rows.items
     c.push.new.self.items _ (c.loop-index.invariant m are) c.in_ok-push.ensures.items more (
-      c.number_at.ensures ∙ ap (λ ms. get_or ms i 0) are ∙ get_or-map m ns i 0 0 within
-          ∙ ap m (get_or-map non_zero_usize_get cs i k 0 lt ∙ sym at),
+      c.number_at.ensures ∙ are i within ∙ ap m (get_or-map non_zero_usize_get cs i k 0 lt ∙ sym at),
       refl,
       refl,
     )

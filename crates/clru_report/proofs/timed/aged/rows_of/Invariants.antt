@@ -1,8 +1,8 @@
-use Rattle.std.proofs.Common.{◌≡◌, ℕ, map, take}
+use Rattle.std.proofs.Common.{ℕ, map, take}
 use Rattle.std.specs.Int.NonZero.{non_zero_usize_get}
-use Rattle.clru_report.specs.PlainRows.{ArePlainRows}
+use Rattle.clru_report.specs.PlainRows.{AreNumbersAt, ArePlainRows}
 use Rattle.clru_report.proofs.timed.aged.rows_of.Given as goal
 
 abbrev pub invariant-loop-index : goal.invariant-loop-index
-invariant-loop-index g l = (m : ℕ → ℕ) → l.misses ≡ map m (map non_zero_usize_get l.capacities)
+invariant-loop-index g l = (m : ℕ → ℕ) → AreNumbersAt m (map non_zero_usize_get l.capacities) l.misses
     → ArePlainRows m (map non_zero_usize_get (take l.index l.capacities)) l.rows.items

@@ -1,6 +1,7 @@
-use Rattle.std.proofs.Common.{◌+◌, ◌++◌, ◌∷◌, ◌<◌, [], get_or, length, map, take, refl, sym, ap, ◌∙◌, arith}
+use Rattle.std.proofs.Common.{◌+◌, ◌++◌, ◌∷◌, ◌<◌, [], get_or, length, map, take, refl, sym, ap, subst, ◌∙◌, arith}
 use Rattle.std.specs.Int.NonZero.{non_zero_usize_get}
-use Rattle.std.proofs.lemmas.List.{get_or-map, length-map, map_more}
+use Rattle.std.proofs.lemmas.List.{get_or-map, length-map, map_more, take_all}
+use Rattle.clru_report.specs.SizedTimed.{ArePlainSizedRows}
 use Rattle.clru_report.proofs.SizedTimedForms.{plain_sized_more}
 use Rattle.clru_report.proofs.timed.sized_aged.sized_rows_of.Goals as goal
 
@@ -14,7 +15,13 @@ loop-index-preserved g c m s are missed =
     let here = get_or-map non_zero_usize_get cs i k 0 lt ∙ sym at in
     plain_sized_more m s (map non_zero_usize_get (take i cs)) (map non_zero_usize_get (take (i + 1) cs)) c.loop-index.rows.items
     c.push.new.self.items _ (c.loop-index.invariant m s are missed) c.in_ok-push.ensures.items more (
-      c.number_at.ensures ∙ ap (λ ms. get_or ms i 0) are ∙ get_or-map m ns i 0 0 within ∙ ap m here,
-      c.number_at-in-loop-index.ensures ∙ ap (λ ms. get_or ms i 0) missed ∙ get_or-map s ns i 0 0 within ∙ ap s here,
+      c.number_at.ensures ∙ are i within ∙ ap m here,
+      c.number_at-in-loop-index.ensures ∙ missed i within ∙ ap s here,
       refl,
     )
+
+pub returns : goal.returns
+returns g c m s are missed =
+    let cs = c.args.capacities.now in
+    subst (λ ks. ArePlainSizedRows m s (map non_zero_usize_get ks) c.loop-index.rows.items)
+    (take_all c.loop-index.index cs (omega (arith, c.loop-index-test.false))) (c.loop-index.invariant m s are missed)

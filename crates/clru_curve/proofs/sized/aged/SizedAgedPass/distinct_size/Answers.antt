@@ -4,7 +4,7 @@ use Rattle.clru_curve.specs.SizedAgedPasses.{IsSizedAgedPass}
 use Rattle.clru_curve.proofs.sized.aged.SizedAgedPass.distinct_size.Goals as goal
 
 pub total-requires : goal.total-requires
-total-requires g c = omega (arith, total_zero c.self.inside.latest.sizes.items, c.self.invariant.sound.held, c.self.invariant.sound.fits)
+total-requires g c = omega (arith, total_zero c.self.inside.latest.sizes.items, c.self.invariant.2.sound.held, c.self.invariant.2.sound.fits)
 
 pub returns : goal.returns
 returns g c w cs idle age past before =

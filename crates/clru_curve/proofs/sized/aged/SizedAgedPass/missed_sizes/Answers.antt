@@ -10,5 +10,5 @@ returns g c w cs idle age past before =
     cc (
       c.deref.ensures.value,
       rows_map (λ k. aged_missed_size eq w idle age k (reverse past)) cs s.fetches.missed_sizes.items
-          (c.self.invariant.missed_length ∙ ap (λ l. length l) is.places) (λ i inside. (is.rows i inside).missed_size),
+          (c.self.invariant.2.missed_length ∙ ap (λ l. length l) is.places) (λ i inside. (is.rows i inside).missed_size),
     )

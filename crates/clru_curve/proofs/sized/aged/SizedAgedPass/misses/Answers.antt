@@ -10,5 +10,5 @@ returns g c w cs idle age past before =
     cc (
       c.deref.ensures.value,
       rows_map (λ k. aged_misses_by_size eq w idle age k (reverse past)) cs s.fetches.misses.items
-          (c.self.invariant.misses_length ∙ ap (λ l. length l) is.places) (λ i inside. (is.rows i inside).misses),
+          (c.self.invariant.2.misses_length ∙ ap (λ l. length l) is.places) (λ i inside. (is.rows i inside).misses),
     )

@@ -5,11 +5,14 @@ use Rattle.clru_curve.proofs.sized.aged.SizedAgedPass.with_hasher.Goals as goal
 
 pub invariant_of-result : goal.invariant_of-result
 invariant_of-result g c =
-    let e = c.in-Ok.ensures in let ns = c.new-2.result.nodes.items in
-    rw (c.empty.ensures, c.new-2.ensures.sizes, c.new-2.ensures.requests, e.misses, e.missed_sizes, e.times, e.capacities)
-    (IsSoundAgedBySize-none g.K.PartialEq.eq c.args.capacities.now ns c.in-Ok.fetches.age c.args.idle
-    (subst (λ l. IsSummed l ns 0) c.new-2.ensures.sizes
-    (subst (λ n. IsSummed c.new-2.result.sizes.items ns n) c.new-2.ensures.requests c.new-2.ensures.kept)))
+    let e = c.in-Ok.ensures in let ns = c.new-2.result.nodes.items in (
+      e.blocks,
+      rw c.empty.ensures (λ x s at. cc at),
+      rw (c.empty.ensures, c.new-2.ensures.sizes, c.new-2.ensures.requests, e.misses, e.missed_sizes, e.times, e.capacities)
+          (IsSoundAgedBySize-none g.K.PartialEq.eq c.args.capacities.now ns c.in-Ok.fetches.age c.args.idle
+          (subst (λ l. IsSummed l ns 0) c.new-2.ensures.sizes
+          (subst (λ n. IsSummed c.new-2.result.sizes.items ns n) c.new-2.ensures.requests c.new-2.ensures.kept))),
+    )
 
 pub returns : goal.returns
 returns g c = λ w.

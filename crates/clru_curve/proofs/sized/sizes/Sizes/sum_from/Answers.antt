@@ -3,8 +3,8 @@ use Rattle.clru_curve.specs.LatestSizes.{sizes_from}
 use Rattle.clru_curve.proofs.LatestSizes.{sizes_none, sizes_few}
 use Rattle.clru_curve.proofs.sized.sizes.Sizes.sum_from.Goals as goal
 
-pub sum_between-requires-clause-fits : goal.sum_between-requires-clause-fits
-sum_between-requires-clause-fits g c =
+pub sum_of_rest-requires-clause-fits : goal.sum_of_rest-requires-clause-fits
+sum_of_rest-requires-clause-fits g c =
     let self = c.args.self.now in
     rw c.deref.ensures.value (omega (arith, sizes_few self.sizes.items c.args.at, c.requires.fits))
 
@@ -21,7 +21,7 @@ count_from-requires-clause-counted g c =
 pub returns-then-block-len : goal.returns-then-block-len
 returns-then-block-len g c =
     let self = c.args.self.now in let block = c.args.at / 16 + 1 in
-    let sum = rw c.deref.ensures.value at c.sum_between.ensures in
+    let sum = rw c.deref.ensures.value at c.sum_of_rest.ensures in
     let rest = c.count_from.ensures (λ j. sizes_from self.sizes.items (16 * j)) (rw c.deref-then-block-len.ensures.value c.requires.kept.counted) in
     let turn : block * 16 ≡ 16 * block = omega arith in
     omega (arith, sum, rest, ap (sizes_from self.sizes.items) turn)
@@ -31,13 +31,13 @@ overflow_add-result g c =
     let self = c.args.self.now in
     omega (arith, returns-then-block-len g c, sizes_few self.sizes.items c.args.at, c.requires.fits)
 
-pub sum_between-requires-else-block-len-clause-fits : goal.sum_between-requires-else-block-len-clause-fits
-sum_between-requires-else-block-len-clause-fits g c =
+pub sum_between-requires-clause-fits : goal.sum_between-requires-clause-fits
+sum_between-requires-clause-fits g c =
     let self = c.args.self.now in
     rw c.deref-else-block-len.ensures.value (omega (arith, sizes_few self.sizes.items c.args.at, c.requires.fits))
 
 pub returns-else-block-len : goal.returns-else-block-len
 returns-else-block-len g c =
     let self = c.args.self.now in
-    let sum = rw c.deref-else-block-len.ensures.value at c.sum_between-else-block-len.ensures in
+    let sum = rw c.deref-else-block-len.ensures.value at c.sum_between.ensures in
     omega (arith, sum, sizes_none self.sizes.items c.len-else-block-len.result (omega (arith, c.len-else-block-len.ensures, self.sizes.ok.0)))
