@@ -80,8 +80,8 @@ function native(words, input) {
     const run = spawnSync(program, words, { input, maxBuffer: 1 << 28 });
     // (the program does not read all where words are refused)
     if (run.error && run.error.code !== "EPIPE") throw run.error;
-    // (the program also shows the beginning of a line without a size)
-    return [run.status, run.status === 0 ? run.stdout.toString("latin1") : run.stderr.toString("latin1").replace(/: it begins ".*/, "")];
+    // (the program also shows the beginning of a line without a size, and the class without room)
+    return [run.status, run.status === 0 ? run.stdout.toString("latin1") : run.stderr.toString("latin1").replace(/: (it begins|the class is) ".*/, "")];
 }
 
 let failed = 0, passed = 0;
@@ -117,7 +117,7 @@ const cases = [
     ["no size behind a time", ["--times", "--sizes"], Buffer.from("1 5 a\n2 b\n")],
     ["a split", ["--split", "500"], classed], ["a split in JSON", ["--split", "500", "--json"], classed],
     ["a picture of a split", ["--split", "1200", "--svg"], classed], ["a split of nothing", ["--split", "9"], Buffer.alloc(0)],
-    ["a split by size", ["--split", "900", "--sizes"], classedSizes], ["no size behind a class", ["--split", "9", "--sizes"], classed],
+    ["a split by size", ["--split", "900", "--sizes"], classedSizes], ["no room in a split", ["--split", "90", "--sizes"], classedSizes], ["no size behind a class", ["--split", "9", "--sizes"], classed],
     ["no class", ["--split", "9"], Buffer.from("a b\nc\n")],
     ["too many classes", ["--split", "9", "--svg"], Buffer.from(Array.from({ length: 257 }, (_, it) => `${it} a\n`).join(""))],
 ];

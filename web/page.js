@@ -462,6 +462,7 @@ function adviceFor(text, memory = 0) {
     if (text.includes("no time and size")) return `Lines are counted as the program reads them. ${column} and at that of the time: both are numbers.`;
     if (text.includes("has no time")) return "Lines are counted as the program reads them. Look at the column of the time: it is a number.";
     if (/has no class|class too many/.test(text)) return "Lines are split as the program reads them: name the column of the class first, as 1,8.";
+    if (text.includes("more than the budget")) return "Name a greater budget, or none.";
     if (text.includes("is no time")) return "Change the field of the time after which entries expire.";
     if (!text.includes("memory ran out")) return "";
     const got = memory ? `The page got ${bytesOf(memory)} of memory and no more. ` : "";

@@ -2,10 +2,9 @@
 ghost use Rattle.std.specs.Prelude.{◌≡◌, ◌↔◌, IfSome, IsNone};
 
 use clru_lines::Seed;
-use std::hash::RandomState;
 
-/// Both words of a seed, or none for `0, 0`, which stands for `DefaultState`.
-fn seed_of(low: u64, high: u64) -> Option<Seed>
+/// The hash builder under both words, or none for `0, 0`, which stands for `DefaultState`.
+pub(crate) fn seeded(low: u64, high: u64) -> Option<Seed>
     ensures fixed { IsNone result ↔ ((low ≡ 0) × (high ≡ 0)) }
     ensures words { IfSome result (λ seed. (seed.low ≡ low) × (seed.high ≡ high)) }
 {
@@ -14,9 +13,4 @@ fn seed_of(low: u64, high: u64) -> Option<Seed>
     } else {
         Some(Seed { low, high })
     }
-}
-
-/// The hash builder under both words, or none where both are 0.
-pub(crate) fn seeded(low: u64, high: u64) -> Option<RandomState> {
-    seed_of(low, high)?.hash_builder().ok()
 }

@@ -1,3 +1,4 @@
 mod KnownLemmas
 mod LineLemmas
 mod LinesReadLemmas
+mod SipLemmas

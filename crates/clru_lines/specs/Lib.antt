@@ -3,4 +3,5 @@ pub mod Faults
 pub mod Lines
 pub mod LinesRead
 pub mod Newlines
+pub mod SipHasher
 pub mod Whole

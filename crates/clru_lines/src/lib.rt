@@ -6,12 +6,13 @@
 //! reader and the writer. A [`Fault`] says why a program failed, and [`exit_status`] how it ends.
 //!
 //! `specs/Lines` defines lines and capacities, `specs/Whole` what it means that a reader was read to its end, `specs/LinesRead` that its
-//! lines are returned one by one, `specs/Faults` what is printed of a fault.
+//! lines are returned one by one, `specs/Faults` what is printed of a fault, `specs/SipHasher` that a seed hashes as std does.
 #![tactic(auto)]
 
 mod buffer;
 mod capacity;
 mod fault;
+mod hasher;
 mod input;
 mod lines;
 mod newline;
@@ -21,6 +22,7 @@ mod seed;
 pub use buffer::LineBuffer;
 pub use capacity::{capacity_of, digits_of};
 pub use fault::{Fault, exit_status};
+pub use hasher::SipHasher13;
 pub use input::{ReadError, read_input};
 pub use lines::{Key, OwnedKey, keys_of, next_line};
 pub use output::write_text;

@@ -1,30 +1,36 @@
 //! The hash builder for keys that others pick.
+ghost use Rattle.std.specs.Hash.DefaultHasher as sip;
+ghost use Rattle.clru_lines.specs.SipHasher.{from_std};
 
-use std::hash::RandomState;
+use crate::hasher::SipHasher13;
+use std::hash::BuildHasher;
 use std::io;
 use std::random::RandomSource;
 
-/// The two words of a seed, where std asks for random bytes.
-#[derive(Drop)]
+/// The two words under which SipHash-1-3 hashes keys, as under std's `RandomState`.
+#[derive(Clone, Copy)]
 pub struct Seed {
     pub low: u64,
     pub high: u64,
 }
 
 impl Seed {
-    /// Returns the builder of SipHash-1-3 under both words. No clause of std says which bytes its builder keeps: `seeds.c` of
-    /// `clru_c` tests that each word counts.
-    pub fn hash_builder(&self) -> io::Result<RandomState> {
-        RandomState::new(self)
+    /// Returns a seed of random bytes. Fails if the system gives none.
+    pub fn new(rt: &impl RandomSource) -> io::Result<Seed> {
+        let mut words = [[0; 8]; 2];
+        rt.fill_bytes(&mut words[0])?;
+        rt.fill_bytes(&mut words[1])?;
+        let (low, high) = (u64::from_le_bytes(words[0]), u64::from_le_bytes(words[1]));
+        Ok(Seed { low, high })
     }
 }
 
-impl RandomSource for Seed {
-    fn fill_bytes(&self, buffer: &mut [u8]) -> io::Result<()> {
-        let words = [self.low.to_le_bytes(), self.high.to_le_bytes()];
-        for index in 0..buffer.len() {
-            buffer[index] = words[index / 8 % 2][index % 8];
-        }
-        Ok(())
+impl BuildHasher for Seed {
+    type Hasher = SipHasher13;
+
+    ghost build_hasher = { λ seed. from_std (sip.with_keys seed.low seed.high) };
+
+    fn build_hasher(&self) -> SipHasher13 {
+        SipHasher13::new_with_keys(self.low, self.high)
     }
 }

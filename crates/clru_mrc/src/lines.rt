@@ -1,9 +1,9 @@
 //! What is noted of the lines of an input: how many there are, which one leads, and which is the first without a size or a time.
 
 use crate::several::SizesOfKeys;
+use clru_lines::Seed;
 use clru_report::{Options, Sample, size_of, time_of};
 use std::alloc::AllocError;
-use std::hash::RandomState;
 
 /// So many bytes of a line are kept. One that is longer counts as one that is like no other.
 const MOST: usize = 4096;
@@ -42,7 +42,7 @@ pub(crate) struct Lines {
 }
 
 impl Lines {
-    pub(crate) fn new(rt: &HostRuntime, options: &Options, seed: RandomState) -> Lines {
+    pub(crate) fn new(rt: &HostRuntime, options: &Options, seed: Seed) -> Lines {
         let after = match options.after {
             Some(after) => after.get() as u64,
             None => 0,

@@ -8,13 +8,13 @@ mod split;
 mod watch;
 mod written;
 
+use clru_lines::Seed;
 use clru_report::{
     Command, Fault, HELP, Options, Refusal, VERSION, command_of, exit_status, run, write_report,
 };
 use clru_shares::{SplitOptions, split_options_of};
 use split::{Budget, SPLIT_HELP, split_budget};
 use std::env;
-use std::hash::RandomState;
 use std::io::{ErrorKind, IsTerminal};
 use std::num::NonZeroUsize;
 use std::process::ExitCode;
@@ -120,8 +120,8 @@ fn write_help(rt: &HostRuntime) -> Result<(), Fault> {
 }
 
 // The seed for hashes, or else a line that says that there is none.
-fn seed_of(rt: &HostRuntime) -> Option<RandomState> {
-    match RandomState::new(rt) {
+fn seed_of(rt: &HostRuntime) -> Option<Seed> {
+    match Seed::new(rt) {
         Ok(seed) => Some(seed),
         Err(_) => {
             say(rt, "the system gives no random bytes, so there is no seed");
@@ -131,7 +131,7 @@ fn seed_of(rt: &HostRuntime) -> Option<RandomState> {
 }
 
 // Writes the report, tells what of its input looks wrong, and gives the exit status.
-fn run_report(rt: &HostRuntime, options: &Options, progress: bool, seed: RandomState) -> u8 {
+fn run_report(rt: &HostRuntime, options: &Options, progress: bool, seed: Seed) -> u8 {
     let mut input = Watch::new(rt, rt.stdin(), progress, options, seed);
     let mut output = Written::new(rt, rt.stdout());
     let outcome = run(rt.alloc(), options, &mut input, &mut output, seed);

@@ -1,13 +1,13 @@
 //! Which keys came with several sizes.
 
+use clru_lines::Seed;
 use clru_report::size_of;
 use std::collections::HashMap;
-use std::hash::RandomState;
 
 /// The size of each key, by a hash of its bytes: 0 once it came with another size.
 #[derive(Drop)]
 pub(crate) struct SizesOfKeys {
-    seen: HashMap<u64, usize, RandomState>,
+    seen: HashMap<u64, usize, Seed>,
     // How many keys came with several sizes.
     several: usize,
     // Memory was refused, so nothing is told.
@@ -18,7 +18,7 @@ pub(crate) struct SizesOfKeys {
 const FEW_KEYS: usize = 100;
 
 impl SizesOfKeys {
-    pub(crate) fn new(rt: &HostRuntime, seed: RandomState) -> SizesOfKeys {
+    pub(crate) fn new(rt: &HostRuntime, seed: Seed) -> SizesOfKeys {
         SizesOfKeys {
             seen: HashMap::with_hasher(rt.alloc(), seed),
             several: 0,

@@ -2,9 +2,9 @@
 
 use crate::lines::quoted;
 use crate::wrong;
+use clru_lines::Seed;
 use clru_report::{Fault, Refusal, number_of_word};
 use clru_shares::{SplitFault, SplitOptions, run_split, split_status};
-use std::hash::RandomState;
 use std::num::NonZeroUsize;
 
 /// What `--help` prints of splits.
@@ -16,7 +16,8 @@ pub(crate) const SPLIT_HELP: &str = "
                  the table has a row for each class, with its part, and one each
                  for this best split, equal parts, and one cache for all; with
                  --sizes, --times, --max-idle, --sample, --json and --svg only;
-                 status 6 is then also a line without a class, or too many classes
+                 status 6 is then also a line without a class, too many classes,
+                 or with --sizes a budget below the largest object
 ";
 
 /// The budget that the arguments name: the word after `--split`.
@@ -67,7 +68,7 @@ fn no_budget(rt: &HostRuntime) -> Refusal {
 }
 
 /// Writes how the budget is split, and gives the exit status.
-pub(crate) fn split_budget(rt: &HostRuntime, options: SplitOptions, seed: RandomState) -> u8 {
+pub(crate) fn split_budget(rt: &HostRuntime, options: SplitOptions, seed: Seed) -> u8 {
     let mut beginning = Vec::new(rt.alloc());
     let outcome = run_split(
         rt.alloc(),
@@ -93,16 +94,16 @@ fn tell_fault(rt: &HostRuntime, fault: SplitFault, beginning: &[u8]) {
     let _ = eprintln!(rt; "clru_mrc: {fault}{more}");
 }
 
-// How the line begins that a fault names.
+// How the line begins that a fault names, or which class it is.
 fn it_begins(rt: &HostRuntime, fault: SplitFault, beginning: &[u8]) -> Option<String> {
-    match fault {
+    let what = match fault {
         SplitFault::NoTime(_)
         | SplitFault::NoClass(_)
         | SplitFault::TooManyClasses(_)
-        | SplitFault::NoSize(_) => {
-            let shown = quoted(rt, beginning).ok()?;
-            format!(in rt.alloc(); ": it begins {shown}").ok()
-        }
-        SplitFault::TooLarge | SplitFault::Other(_) => None,
-    }
+        | SplitFault::NoSize(_) => "it begins",
+        SplitFault::NoRoom(_) => "the class is",
+        SplitFault::TooLarge | SplitFault::Other(_) => return None,
+    };
+    let shown = quoted(rt, beginning).ok()?;
+    format!(in rt.alloc(); ": {what} {shown}").ok()
 }

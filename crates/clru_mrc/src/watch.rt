@@ -3,8 +3,8 @@
 use crate::lines::{FEW, Lines, instead_of_size, instead_of_time, quoted, sized_part};
 use crate::ratio::has_ratio;
 use crate::written::{LastRow, MILLION};
+use clru_lines::Seed;
 use clru_report::{Capacities, Options, Sample, time_of};
-use std::hash::RandomState;
 use std::io::{self, Read};
 use std::time::{Duration, Instant};
 
@@ -32,7 +32,7 @@ impl<'h, R: Read> Watch<'h, R> {
         inner: R,
         progress: bool,
         options: &Options,
-        seed: RandomState,
+        seed: Seed,
     ) -> Self {
         let told = if progress {
             Instant::now(rt).ok()

@@ -10,7 +10,7 @@ use Rattle.clru_shares.specs.Refusals.{AreTimedUpTo, IsSaidOfLines, IsSaidOfRest
 use Rattle.clru_shares.specs.Sizes.{is_sized, own_size, size_in}
 use Rattle.clru_shares.specs.Times.{rests_in}
 use Rattle.clru_shares.specs.declared.fault.SplitFault.{SplitFault}
-use Rattle.clru_shares.specs.declared.fault.SplitFault.TheVariants.{NoTime, NoClass, TooManyClasses, NoSize, TooLarge, Other}
+use Rattle.clru_shares.specs.declared.fault.SplitFault.TheVariants.{NoTime, NoClass, TooManyClasses, NoSize, TooLarge, NoRoom, Other}
 
 pub without_size : (sizes : Bool) (lines rest : List (List ℕ)) (line : List ℕ) (n : ℕ) → n ≡ length lines + 1
     → All (λ l. has_class l ≡ true) lines → All (λ l. is_sized sizes l ≡ true) lines → has_class line ≡ true → is_sized sizes line ≡ false
@@ -51,6 +51,7 @@ shown_of (TooManyClasses m) n lines rest line beginning is counted shown =
 shown_of (NoSize m) n lines rest line beginning is counted shown =
     record { before = lines; line = line; rest = rest; is = refl; number = is ∙ counted; shown = shown }
 shown_of TooLarge n lines rest line beginning is counted shown = tt
+shown_of (NoRoom size) n lines rest line beginning is counted shown = absurd is
 shown_of (Other fault) n lines rest line beginning is counted shown = tt
 
 -- the lines up to one that begins with a time, where those before do
@@ -68,6 +69,7 @@ said_of_rests idle sizes (NoClass m) n lines timed is said = (subst (λ k. AreTi
 said_of_rests idle sizes (TooManyClasses m) n lines timed is said = (subst (λ k. AreTimedUpTo idle k lines) (sym is) timed, said)
 said_of_rests idle sizes (NoSize m) n lines timed is said = (subst (λ k. AreTimedUpTo idle k lines) (sym is) timed, said)
 said_of_rests idle sizes TooLarge n lines timed is said = said
+said_of_rests idle sizes (NoRoom size) n lines timed is said = absurd said
 said_of_rests idle sizes (Other fault) n lines timed is said = said
 
 pub said_of_result : {T : Type 0} (idle : Option ℕ) (sizes : Bool) (n : ℕ) (lines : List (List ℕ)) (result : Result T SplitFault)

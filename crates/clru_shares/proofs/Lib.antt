@@ -4,6 +4,7 @@ mod PairLemmas
 mod PartLemmas
 mod PassLemmas
 mod PlaceLemmas
+mod RoomLemmas
 mod SampleLemmas
 mod ShareLemmas
 mod TakenClasses

@@ -4,7 +4,7 @@ use Rattle.clru_lines.specs.Faults.{fault_text, status_of}
 use Rattle.clru_report.specs.Faults.{is_of_writing}
 use Rattle.clru_report.specs.Refusals.{is_of_input}
 use Rattle.clru_shares.specs.declared.fault.SplitFault.{SplitFault}
-use Rattle.clru_shares.specs.declared.fault.SplitFault.TheVariants.{NoTime, NoClass, TooManyClasses, NoSize, TooLarge, Other}
+use Rattle.clru_shares.specs.declared.fault.SplitFault.TheVariants.{NoTime, NoClass, TooManyClasses, NoSize, TooLarge, NoRoom, Other}
 
 abbrev pub split_fault_text : SplitFault → List ℕ
 split_fault_text (NoTime n) = codes "line " ++ (decimal n
@@ -16,6 +16,7 @@ split_fault_text (TooManyClasses n) = codes "line " ++ (decimal n
 split_fault_text (NoSize n) = codes "line " ++ (decimal n
     ++ codes " has no size: with --split and --sizes one follows the class, as in images 512 /logo.png")
 split_fault_text TooLarge = codes "the sizes of all lines add up to more than 18446744073709551615"
+split_fault_text (NoRoom size) = codes "a class has an object of " ++ (decimal size ++ codes " bytes, more than the budget")
 split_fault_text (Other fault) = fault_text fault
 
 -- the exit status of each
@@ -25,6 +26,7 @@ split_status_of (NoClass n) = 6
 split_status_of (TooManyClasses n) = 6
 split_status_of (NoSize n) = 6
 split_status_of TooLarge = 6
+split_status_of (NoRoom size) = 6
 split_status_of (Other fault) = status_of fault
 
 -- the writer took a part of the text at most
@@ -34,22 +36,25 @@ comes_of_writing (NoClass n) = false
 comes_of_writing (TooManyClasses n) = false
 comes_of_writing (NoSize n) = false
 comes_of_writing TooLarge = false
+comes_of_writing (NoRoom size) = false
 comes_of_writing (Other fault) = is_of_writing fault
 
--- the fault is one of the input
+-- the fault is one of the input, whatever the budget
 abbrev pub comes_of_a_line : SplitFault → Bool
 comes_of_a_line (NoTime n) = true
 comes_of_a_line (NoClass n) = true
 comes_of_a_line (TooManyClasses n) = true
 comes_of_a_line (NoSize n) = true
 comes_of_a_line TooLarge = true
+comes_of_a_line (NoRoom size) = false
 comes_of_a_line (Other fault) = is_of_input fault
 
--- the fault names the line of this number, if it names one
+-- the fault is none of the budget, and names the line of this number, if it names one
 abbrev pub IsNumbered : ℕ → SplitFault → Type 0
 IsNumbered n (NoTime m) = m ≡ n
 IsNumbered n (NoClass m) = m ≡ n
 IsNumbered n (TooManyClasses m) = m ≡ n
 IsNumbered n (NoSize m) = m ≡ n
 IsNumbered n TooLarge = ⊤
+IsNumbered n (NoRoom size) = ⊥
 IsNumbered n (Other fault) = ⊤

@@ -1,12 +1,14 @@
 -- Which inputs have no split, and why. Public clauses cite them.
-use Rattle.std.specs.Prelude.{◌≡◌, ℕ, ◌+◌, ◌^◌, ◌≤◌, Bool, true, false, List, [], ◌∷◌, ◌++◌, length, take, bytes_eq, Option, IsNone, IsSome, ⊤}
+use Rattle.std.specs.Prelude.{◌≡◌, ℕ, ◌+◌, ◌^◌, ◌<◌, ◌≤◌, Bool, true, false, List, [], ◌∷◌, ◌++◌, length, take, bytes_eq, Option, IsNone, IsSome, ⊤}
 use Rattle.std.specs.List.{All, list_any}
 use Rattle.clru_report.specs.Times.{HaveTimes, rests_of, time_of_line}
-use Rattle.clru_shares.specs.Classes.{AreClasses, class_in, has_class, most_classes}
+use Rattle.clru_shares.specs.Classes.{AreClasses, class_in, has_class, most_classes, of_class}
+use Rattle.clru_shares.specs.Sampled.{kept_in}
+use Rattle.clru_shares.specs.Shares.{HasRoom, greatest_size}
 use Rattle.clru_shares.specs.Sizes.{is_sized, own_size, size_in}
-use Rattle.clru_shares.specs.Times.{AreTimed, rests_in}
+use Rattle.clru_shares.specs.Times.{AreTimed, requests_in, rests_in}
 use Rattle.clru_shares.specs.declared.fault.SplitFault.{SplitFault}
-use Rattle.clru_shares.specs.declared.fault.SplitFault.TheVariants.{NoTime, NoClass, TooManyClasses, NoSize, TooLarge, Other}
+use Rattle.clru_shares.specs.declared.fault.SplitFault.TheVariants.{NoTime, NoClass, TooManyClasses, NoSize, TooLarge, NoRoom, Other}
 
 -- there are no more classes than can be
 abbrev pub HaveFewClasses : List (List ℕ) → Type 0
@@ -66,6 +68,7 @@ IsSaidOfRests sizes (NoClass n) lines = IsFirstWithoutClass n lines
 IsSaidOfRests sizes (TooManyClasses n) lines = IsOneTooMany n lines
 IsSaidOfRests sizes (NoSize n) lines = (sizes ≡ true) × IsFirstWithoutSize n lines
 IsSaidOfRests sizes TooLarge lines = (sizes ≡ true) × HasLargeSizes lines
+IsSaidOfRests sizes (NoRoom size) lines = ⊥
 IsSaidOfRests sizes (Other fault) lines = ⊥
 
 -- the line of this number, counted from 1, is the first that begins with no time, and those before it, without their times, have classes,
@@ -94,6 +97,7 @@ IsSaidOfLines idle sizes (NoClass n) lines = AreTimedUpTo idle n lines × IsSaid
 IsSaidOfLines idle sizes (TooManyClasses n) lines = AreTimedUpTo idle n lines × IsSaidOfRests sizes (TooManyClasses n) (rests_in idle lines)
 IsSaidOfLines idle sizes (NoSize n) lines = AreTimedUpTo idle n lines × IsSaidOfRests sizes (NoSize n) (rests_in idle lines)
 IsSaidOfLines idle sizes TooLarge lines = IsSaidOfRests sizes TooLarge (rests_in idle lines)
+IsSaidOfLines idle sizes (NoRoom size) lines = ⊥
 IsSaidOfLines idle sizes (Other fault) lines = ⊥
 
 -- so many bytes of a line at fault are shown
@@ -116,4 +120,23 @@ IsShownOf (NoClass n) lines beginning = BeginsLine n lines beginning
 IsShownOf (TooManyClasses n) lines beginning = BeginsLine n lines beginning
 IsShownOf (NoSize n) lines beginning = BeginsLine n lines beginning
 IsShownOf TooLarge lines beginning = ⊤
+IsShownOf (NoRoom size) lines beginning = ⊥
 IsShownOf (Other fault) lines beginning = ⊤
+
+-- of the classes of these names this one is the first with a kept request that is larger than the budget, and its greatest has this size
+pub record IsFirstWithoutRoom (sizes : Bool) (sample : Option ℕ) (budget size : ℕ) (requests : List (List ℕ × ℕ)) (names : List (List ℕ))
+    (name : List ℕ) : Type 0 where
+  pub before : List (List ℕ)
+  pub rest : List (List ℕ)
+  pub is : names ≡ before ++ name ∷ rest
+  pub room : All (HasRoom sizes sample budget requests) before
+  pub requested : 0 < length (of_class name (kept_in sample requests))
+  pub greatest : size ≡ greatest_size sizes (of_class name (kept_in sample requests))
+  pub below : budget < size
+
+-- the same among the classes of these lines, in the order of bytes. By keys there is none
+pub record HasNoRoom (sizes : Bool) (idle sample : Option ℕ) (budget size : ℕ) (lines : List (List ℕ)) (name : List ℕ) : Type 0 where
+  pub sized : sizes ≡ true
+  pub names : List (List ℕ)
+  pub classes : AreClasses (rests_in idle lines) names
+  pub first : IsFirstWithoutRoom sizes sample budget size (requests_in idle lines) names name

@@ -23,6 +23,15 @@ step_for budget = budget / 1001 + 1
 abbrev pub greatest_weight : List (List ℕ × ℕ) → ℕ
 greatest_weight requests = greatest_of weight_behind (reverse (keys_of requests))
 
+-- the greatest size that is requested, or 1 if nothing is; by keys no size is counted
+abbrev pub greatest_size : Bool → List (List ℕ × ℕ) → ℕ
+greatest_size false requests = 0
+greatest_size true requests = 1 + greatest_weight requests
+
+-- the budget has room for each request of the class that is kept
+abbrev pub HasRoom : Bool → Option ℕ → ℕ → List (List ℕ × ℕ) → List ℕ → Type 0
+HasRoom sizes sample budget requests name = greatest_size sizes (of_class name (kept_in sample requests)) ≤ budget
+
 -- what misses without a cache: requests, or by size their size
 abbrev pub all_of : Bool → List (List ℕ × ℕ) → ℕ
 all_of false requests = length requests
@@ -105,9 +114,9 @@ split_rows sizes idle sample budget requests names capacities = rows (length req
     (parts_of sizes idle sample requests names (replicate (length names) (equal_part budget (length names))))
     (part_of sizes idle sample requests (codes "one for all") budget)
 
--- the table of a best split of the budget among the classes of these lines, in a form: by keys, or by size, where each line has one.
--- Under an idle limit each begins with a time, and a reuse after more than the limit is a first request. Of a sample it is a best split
--- of its part of the budget, by what its lines tell of all
+-- the table of a best split of the budget among the classes of these lines, in a form: by keys, or by size, where each line has one and
+-- the budget has room for each that is kept. Under an idle limit each begins with a time, and a reuse after more than the limit is a first
+-- request. Of a sample it is a best split of its part of the budget, by what its lines tell of all
 pub record IsSplitTable (form : SplitForm) (sizes : Bool) (idle sample : Option ℕ) (budget : ℕ) (lines : List (List ℕ)) (text : List ℕ) : Type 0 where
   pub names : List (List ℕ)
   pub capacities : List ℕ
@@ -116,6 +125,7 @@ pub record IsSplitTable (form : SplitForm) (sizes : Bool) (idle sample : Option 
   pub sized : All (λ line. is_sized sizes line ≡ true) (rests_in idle lines)
   pub classes : AreClasses (rests_in idle lines) names
   pub few : length names ≤ most_classes
+  pub room : All (HasRoom sizes sample budget (requests_in idle lines)) names
   pub best : IsBestSplit (all_of sizes) (missed_told sizes idle sample) (step_for (part_in sample budget)) (part_in sample budget)
       (map (λ name. of_class name (requests_in idle lines)) names) capacities
   pub is : IsTextOf form sizes (split_rows sizes idle sample (part_in sample budget) (requests_in idle lines) names capacities) text

@@ -19,6 +19,8 @@ pub enum SplitFault {
     NoSize(usize),
     /// The sizes of all lines together pass the greatest `usize`.
     TooLarge,
+    /// By size: a class has an object of this size, and the whole budget is less.
+    NoRoom(usize),
     /// What any report may meet.
     Other(Fault),
 }
@@ -47,6 +49,10 @@ impl fmt::Display for SplitFault {
             SplitFault::TooLarge => {
                 f.write_str("the sizes of all lines add up to more than 18446744073709551615")
             }
+            SplitFault::NoRoom(size) => write!(
+                f,
+                "a class has an object of {size} bytes, more than the budget"
+            ),
             SplitFault::Other(fault) => write!(f, "{fault}"),
         }
     }
@@ -67,7 +73,8 @@ pub fn split_status(outcome: &Result<(), SplitFault>) -> u8
             | SplitFault::NoClass(_)
             | SplitFault::TooManyClasses(_)
             | SplitFault::NoSize(_)
-            | SplitFault::TooLarge,
+            | SplitFault::TooLarge
+            | SplitFault::NoRoom(_),
         ) => 6,
         Err(SplitFault::Other(fault)) => exit_status(&Err(*fault)),
     }

@@ -15,6 +15,7 @@ mod pass;
 mod picture;
 mod program;
 mod reading;
+mod room;
 mod sampled;
 mod share;
 mod size;

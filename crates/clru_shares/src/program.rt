@@ -1,20 +1,23 @@
 //! From the reader to the writer.
-ghost use Rattle.std.specs.Prelude.{◌≡◌, ℕ, List, true, false, take, IfErr, IfOk, OnOk};
+ghost use Rattle.std.specs.Prelude.{◌≡◌, ℕ, List, map, true, false, take, IfErr, IfOk, OnOk};
 ghost use Rattle.std.specs.Int.NonZero.{non_zero_usize_get};
+ghost use Rattle.std.specs.List.{All};
 ghost use Rattle.std.specs.Option.{option_map};
 ghost use Rattle.std.specs.Io.KnownBytes.{Appends, Keeps};
 ghost use Rattle.clru_lines.specs.Lines.{lines_of};
 ghost use Rattle.clru_lines.specs.Whole.{ReadWhole};
 ghost use Rattle.clru_shares.specs.Faults.{comes_of_a_line, comes_of_writing};
-ghost use Rattle.clru_shares.specs.Passes.{HasTakenLines};
-ghost use Rattle.clru_shares.specs.Refusals.{IsSaidOfLines, IsShownOf};
-ghost use Rattle.clru_shares.specs.Shares.{IsSplitTable, step_for};
+ghost use Rattle.clru_shares.specs.Passes.{HasTakenLines, HaveShares, name_of};
+ghost use Rattle.clru_shares.specs.Refusals.{HasNoRoom, IsSaidOfLines, IsShownOf};
+ghost use Rattle.clru_shares.specs.Shares.{HasRoom, IsSplitTable, step_for};
+ghost use Rattle.clru_shares.specs.Times.{requests_in};
 
 use crate::curve::curve_of;
 use crate::fault::SplitFault;
 use crate::form::text_of;
 use crate::options::SplitOptions;
 use crate::reading::{Passes, read_classes};
+use crate::room::check_room;
 use crate::sampled::part_in;
 use crate::share::{Share, shares_of};
 use crate::table::table_of;
@@ -31,7 +34,7 @@ const MOST_STEPS: usize = 1000;
 /// Reads the whole input, and then writes the table of a best split of the budget among its classes, in this form. That of a sample is
 /// one of its part of the budget among its lines, as told of all. A request that comes later than the idle limit allows is a first one.
 /// Lines are hashed with `hash_builder`: a best split is one under each that is lawful. The beginning of the line that a fault names is
-/// put into `beginning`.
+/// put into `beginning`, or the name of the class for which the budget has no room.
 /// Cost: one look-up a line, by size two, and that of `split` for at most a thousand steps. A sample takes a hash of each line, and
 /// look-ups of its own alone.
 pub fn run_split<R: Read, W: Write, S: BuildHasher + Copy, A: Allocator + Copy>(
@@ -59,6 +62,11 @@ pub fn run_split<R: Read, W: Write, S: BuildHasher + Copy, A: Allocator + Copy>(
     // The line that it names begins so.
     ensures shown { IfErr result (λ fault. comes_of_a_line fault ≡ true
         → ReadWhole (R.remaining reader.old) (R.remaining reader.new) (λ input. IsShownOf fault (lines_of input) beginning.new.items)) }
+    // The class of this name is the first with a request that is larger than the budget.
+    ensures no_room { IfErr result (λ fault. (size : ℕ) → fault ≡ SplitFault.NoRoom size
+        → ReadWhole (R.remaining reader.old) (R.remaining reader.new)
+        (λ input. HasNoRoom options.sizes options.idle (option_map non_zero_usize_get options.sample)
+        (non_zero_usize_get options.budget) size (lines_of input) beginning.new.items)) }
     // Any fault but those of writing comes before the first write.
     ensures silent { IfErr result (λ fault. comes_of_writing fault ≡ false
         → Keeps (W.contents writer.old) (W.contents writer.new)) }
@@ -87,13 +95,17 @@ pub fn make_split<R: Read, S: BuildHasher + Copy, A: Allocator + Copy>(
         (non_zero_usize_get options.budget) (lines_of input) text.items)) }
     ensures refused { IfErr result (λ fault. comes_of_a_line fault ≡ true
         → ReadWhole (R.remaining reader.old) (R.remaining reader.new) (λ input. IsSaidOfLines options.idle options.sizes fault (lines_of input))) }
+    ensures no_room { IfErr result (λ fault. (size : ℕ) → fault ≡ SplitFault.NoRoom size
+        → ReadWhole (R.remaining reader.old) (R.remaining reader.new)
+        (λ input. (name : List ℕ) × HasNoRoom options.sizes options.idle (option_map non_zero_usize_get options.sample)
+        (non_zero_usize_get options.budget) size (lines_of input) name)) }
     ensures fault { IfErr result (λ fault. comes_of_writing fault ≡ false) }
 {
     let mut beginning = Vec::new(alloc);
     split_text(alloc, options, reader, hash_builder, &mut beginning)
 }
 
-// The same, with the beginning of the line that a fault names.
+// The same, with the beginning of the line that a fault names, or the name of the class.
 fn split_text<R: Read, S: BuildHasher + Copy, A: Allocator + Copy>(
     alloc: A,
     options: SplitOptions,
@@ -108,6 +120,10 @@ fn split_text<R: Read, S: BuildHasher + Copy, A: Allocator + Copy>(
         → ReadWhole (R.remaining reader.old) (R.remaining reader.new) (λ input. IsSaidOfLines options.idle options.sizes fault (lines_of input))) }
     ensures shown { IfErr result (λ fault. comes_of_a_line fault ≡ true
         → ReadWhole (R.remaining reader.old) (R.remaining reader.new) (λ input. IsShownOf fault (lines_of input) beginning.new.items)) }
+    ensures no_room { IfErr result (λ fault. (size : ℕ) → fault ≡ SplitFault.NoRoom size
+        → ReadWhole (R.remaining reader.old) (R.remaining reader.new)
+        (λ input. HasNoRoom options.sizes options.idle (option_map non_zero_usize_get options.sample)
+        (non_zero_usize_get options.budget) size (lines_of input) beginning.new.items)) }
     ensures fault { IfErr result (λ fault. comes_of_writing fault ≡ false) }
 {
     let passes = match read_classes(
@@ -122,22 +138,53 @@ fn split_text<R: Read, S: BuildHasher + Copy, A: Allocator + Copy>(
         Ok(passes) => passes,
         Err(fault) => return Err(fault),
     };
-    match text_for(alloc, options, &passes) {
+    checked_text(alloc, options, &passes, beginning)
+}
+
+// The text, if the budget has room for each request. The name of the first class where it has none is put into `name`.
+fn checked_text<S: BuildHasher + Copy, A: Allocator + Copy>(
+    alloc: A,
+    options: SplitOptions,
+    passes: &Passes<S, A>,
+    name: &mut Vec<u8, A>,
+) -> Result<Vec<u8, A>, SplitFault>
+    ensures table { (lines : List (List ℕ)) → HasTakenLines options.sizes options.idle (option_map non_zero_usize_get options.sample) lines passes.now
+        → IfOk result (λ text. IsSplitTable options.form options.sizes options.idle (option_map non_zero_usize_get options.sample)
+        (non_zero_usize_get options.budget) lines text.items) }
+    ensures no_room { (lines : List (List ℕ)) → HasTakenLines options.sizes options.idle (option_map non_zero_usize_get options.sample) lines passes.now
+        → IfErr result (λ fault. (size : ℕ) → fault ≡ SplitFault.NoRoom size
+        → HasNoRoom options.sizes options.idle (option_map non_zero_usize_get options.sample) (non_zero_usize_get options.budget) size lines name.new.items) }
+    ensures line { IfErr result (λ fault. comes_of_a_line fault ≡ false) }
+    ensures fault { IfErr result (λ fault. comes_of_writing fault ≡ false) }
+{
+    let Ok(shares) = shares_of(alloc, options.sample, &passes.classes) else {
+        return Err(SplitFault::Other(Fault::Memory));
+    };
+    match check_room(options.budget, &shares, name) {
+        Ok(()) => {}
+        Err(fault) => return Err(fault),
+    }
+    match text_for(alloc, options, passes, &shares) {
         Ok(text) => Ok(text),
         Err(_) => Err(SplitFault::Other(Fault::Memory)),
     }
 }
 
+// The text of these shares of the passes.
 fn text_for<S: BuildHasher + Copy, A: Allocator + Copy>(
     alloc: A,
     options: SplitOptions,
     passes: &Passes<S, A>,
+    shares: &[Share<A>],
 ) -> Result<Vec<u8, A>, AllocError>
     ensures { (lines : List (List ℕ)) → HasTakenLines options.sizes options.idle (option_map non_zero_usize_get options.sample) lines passes.now
+        → HaveShares options.sizes options.idle (option_map non_zero_usize_get options.sample) (requests_in options.idle lines)
+        (map name_of passes.now.classes.items) shares.now
+        → All (HasRoom options.sizes (option_map non_zero_usize_get options.sample) (non_zero_usize_get options.budget) (requests_in options.idle lines))
+        (map name_of passes.now.classes.items)
         → IfOk result (λ text. IsSplitTable options.form options.sizes options.idle (option_map non_zero_usize_get options.sample)
         (non_zero_usize_get options.budget) lines text.items) }
 {
-    let shares = shares_of(alloc, options.sample, &passes.classes)?;
     let all = Share {
         name: Vec::from_slice(alloc, b"one for all")?,
         requests: passes.requests,
@@ -154,17 +201,8 @@ fn text_for<S: BuildHasher + Copy, A: Allocator + Copy>(
     } = options;
     let budget = part_in(sample, whole.get());
     let step = step_of(budget);
-    let capacities = split(alloc, step, budget, &shares)?;
-    let table = table_of(
-        alloc,
-        sizes,
-        whole,
-        budget,
-        step,
-        &shares,
-        &capacities,
-        &all,
-    )?;
+    let capacities = split(alloc, step, budget, shares)?;
+    let table = table_of(alloc, sizes, whole, budget, step, shares, &capacities, &all)?;
     text_of(alloc, form, &table)
 }
 

@@ -1,5 +1,5 @@
 //! The one reading of a log whose lines begin with classes.
-ghost use Rattle.std.specs.Prelude.{◌≡◌, ◌∷◌, ◌++◌, ◌+◌, ◌^◌, ◌<◌, ◌≤◌, ℕ, Bool, List, [], length, map, take, true, false, Some, IfErr, IfOk, OnOk};
+ghost use Rattle.std.specs.Prelude.{◌≡◌, ◌≢◌, ◌∷◌, ◌++◌, ◌+◌, ◌^◌, ◌<◌, ◌≤◌, ℕ, Bool, List, [], length, map, take, true, false, Some, IfErr, IfOk, OnOk};
 ghost use Rattle.std.specs.Int.NonZero.{non_zero_usize_get};
 ghost use Rattle.std.specs.Option.{option_map};
 ghost use Rattle.clru_lines.specs.Lines.{lines_of};
@@ -64,6 +64,7 @@ pub(crate) fn read_classes<R: Read, S: BuildHasher + Copy, A: Allocator + Copy>(
         (λ input. IsSaidOfLines idle sizes fault (lines_of input))) }
     ensures shown { IfErr result (λ fault. comes_of_a_line fault ≡ true → ReadWhole (R.remaining reader.old) (R.remaining reader.new)
         (λ input. IsShownOf fault (lines_of input) beginning.new.items)) }
+    ensures no_room { IfErr result (λ fault. (size : ℕ) → fault ≢ SplitFault.NoRoom size) }
     ensures fault { IfErr result (λ fault. comes_of_writing fault ≡ false) }
 {
     let mut passes = Passes {

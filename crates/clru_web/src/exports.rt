@@ -9,7 +9,7 @@ ghost use Rattle.clru_report.specs.Arguments.{IsRefusedLine};
 
 use crate::answer::answer;
 use crate::split::{form_of, has_sizes, split_log};
-use crate::text::{say, tell};
+use crate::text::say;
 use clru_lines::Seed;
 use clru_report::Fault;
 use clru_shares::SplitOptions;
@@ -62,11 +62,7 @@ pub extern "C" fn report(
     ensures length { length text.new ≡ length text.old }
 {
     let heap = LentBlock::new(loan);
-    let seed = Seed { low, high };
-    match seed.hash_builder() {
-        Ok(state) => answer(&heap, arguments, log, state, text, written),
-        Err(_) => tell(Fault::Reading, text, written),
-    }
+    answer(&heap, arguments, log, Seed { low, high }, text, written)
 }
 
 /// Does what `clru_mrc --split` does: splits a budget among the classes that the lines of `log` begin with. It is one of keys if `sizes`
@@ -79,7 +75,7 @@ pub extern "C" fn report(
 /// - 2: the budget is 0.
 /// - 3: the block was too small. It says nothing of the log: with a larger block the same call may have another result.
 /// - 5: `text` is too short. With a longer one the same call may have another result.
-/// - 6: a line has no class or no size, there are too many classes, or the sizes are too large together.
+/// - 6: a line has no class or no size, there are too many classes, the sizes are too large together, or one is larger than the budget.
 ///
 /// Cost: that of `make_split` of `clru_shares`.
 #[unsafe(no_mangle)]
@@ -104,7 +100,7 @@ pub extern "C" fn split(
     ensures short { result ≡ 5 → (whole : List ℕ) × IsSplitTable (form_by form) (has_sizes_by sizes) None None budget (lines_of log.now) whole
         × (length text.new < length whole) }
     // The log has no split, for the reason that the text tells.
-    ensures refused { result ≡ 6 → HasNoSplit None (has_sizes_by sizes) log.now (length text.old) (take written.new text.new) }
+    ensures refused { result ≡ 6 → HasNoSplit None (has_sizes_by sizes) None budget log.now (length text.old) (take written.new text.new) }
     ensures codes { result ≤ 6 }
     ensures within { written.new ≤ length text.new }
     ensures length { length text.new ≡ length text.old }
@@ -121,9 +117,5 @@ pub extern "C" fn split(
         form: form_of(form),
     };
     let heap = LentBlock::new(loan);
-    let seed = Seed { low, high };
-    match seed.hash_builder() {
-        Ok(state) => split_log(&heap, options, log, state, text, written),
-        Err(_) => tell(Fault::Reading, text, written),
-    }
+    split_log(&heap, options, log, Seed { low, high }, text, written)
 }

@@ -50,7 +50,8 @@ pub(crate) fn split_log<S: BuildHasher + Copy, A: Allocator + Copy>(
     ensures short { result ≡ 5 → (whole : List ℕ) × IsSplitTable options.form options.sizes options.idle (option_map non_zero_usize_get options.sample) (non_zero_usize_get options.budget) (lines_of log.now) whole
         × (length text.new < length whole) }
     ensures short_told { result ≡ 5 → IsTold Fault.Writing (length text.old) (take written.new text.new) }
-    ensures refused { result ≡ 6 → HasNoSplit options.idle options.sizes log.now (length text.old) (take written.new text.new) }
+    ensures refused { result ≡ 6 → HasNoSplit options.idle options.sizes (option_map non_zero_usize_get options.sample) (non_zero_usize_get options.budget)
+        log.now (length text.old) (take written.new text.new) }
     ensures codes { result ≤ 6 }
     ensures within { written.new ≤ length text.new }
     ensures length { length text.new ≡ length text.old }

@@ -5,16 +5,15 @@ mod costs;
 mod fakes;
 mod faults;
 mod lines;
+mod seeds;
 mod shown;
 mod words;
 
 use crate::asserts::equal;
 use crate::exports::{report, split};
 use crate::text::tell;
-use clru_lines::Seed;
 use clru_report::Fault;
 use ration::Loan;
-use std::hash::BuildHasher;
 
 const ENOUGH: usize = 1 << 20;
 
@@ -170,6 +169,16 @@ static SPLITS: &[(usize, usize, u64, u64, &str, usize, u32, &str)] = &[
     ),
     (
         ENOUGH,
+        4,
+        1,
+        0,
+        "b 5 x\na 3 y\nb 9 z\nc 8 y\n",
+        256,
+        6,
+        "clru_mrc: a class has an object of 9 bytes, more than the budget\n",
+    ),
+    (
+        ENOUGH,
         7,
         1,
         0,
@@ -231,16 +240,6 @@ fn a_split_answers_as_the_program(rt: HostRuntime) {
             (code, text.get(..written)),
             (*status, Some(wanted.as_bytes())),
         );
-    }
-}
-
-#[test]
-fn both_words_are_the_key(rt: HostRuntime) {
-    // as `clru_c` has it
-    let seed = Seed { low: 1, high: 2 };
-    match seed.hash_builder() {
-        Ok(state) => equal(&rt, state.hash_one(&7u64), 0x27af_68d8_34d1_f21d),
-        Err(_) => equal(&rt, true, false),
     }
 }
 

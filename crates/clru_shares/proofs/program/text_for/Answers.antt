@@ -8,7 +8,7 @@ use Rattle.clru_curve.specs.Splits.{IsBestSplit}
 use Rattle.clru_report.proofs.ReportLemmas.{ok_map}
 use Rattle.clru_shares.specs.Classes.{of_class}
 use Rattle.clru_shares.specs.Forms.{IsTextOf}
-use Rattle.clru_shares.specs.Passes.{HaveShares, HaveTaken, IsShare, name_of, part_of_share, parts_of_table}
+use Rattle.clru_shares.specs.Passes.{IsShare, name_of, part_of_share, parts_of_table}
 use Rattle.clru_shares.specs.Sampled.{kept_in, part_in}
 use Rattle.clru_shares.specs.ShareCurves.{all_of_share, missed_of_share}
 use Rattle.clru_shares.specs.Shares.{all_of, missed_told, split_rows, step_for}
@@ -22,7 +22,7 @@ use Rattle.clru_shares.proofs.Timeless.{timeless_kept, timeless_lines}
 use Rattle.clru_shares.proofs.program.text_for.Goals as goal
 
 pub returns : goal.returns
-returns g c lines has =
+returns g c lines has have room =
     let passes = c.args.passes.now in let classes = passes.classes.items in let names = map name_of classes in
     let sizes = c.args.options.sizes in let sample = option_map non_zero_usize_get c.args.options.sample in let idle = c.args.options.idle in
     let requests = requests_in idle lines in let kept = kept_in sample requests in let taken = has.taken in
@@ -30,7 +30,7 @@ returns g c lines has =
     let timeless = timeless_lines idle lines in
     let counted : passes.requests ≡ length requests = omega (arith, taken.counted, as_many_rests idle lines, as_many_requests idle lines) in
     let summed : passes.size ≡ size_in sizes (keys_of requests) = taken.summed ∙ ap (size_in sizes) keys in
-    let shares = c.in_ok-shares.shares.items in let cs = c.in_ok-capacities.capacities.items in
+    let shares = c.args.shares.now in let cs = c.in_ok-capacities.capacities.items in
     let budget = c.part_in-budget.result in let step = step_for budget in
     let all = all_of_share {A = g.row.A.Denot} in let missed = missed_of_share {A = g.row.A.Denot} in
     let whole : Share g.row.A.Denot = record { name = c.in_ok-from_slice.field-0; requests = passes.requests; size = passes.size; sample = c.args.options.sample; curve = c.in_ok-curve_of.field-0 } in
@@ -42,14 +42,11 @@ returns g c lines has =
       timeless = timeless_kept idle sample requests timeless;
       sampled = refl;
     } in
-    let have : HaveShares sizes idle sample requests names shares = subst (λ ks. HaveShares sizes idle sample requests (map name_of ks) shares) c.deref.ensures.value
-    (c.in_ok-shares.ensures sizes idle requests timeless (subst (HaveTaken sizes (limit_of idle) (keys_of requests) kept) (sym c.deref.ensures.value)
-    (subst (λ ls. HaveTaken sizes (limit_of idle) ls kept classes) keys taken.classes))) in
     let whole_budget = non_zero_usize_get c.args.options.budget in
     let parted : budget ≡ part_in sample whole_budget = c.part_in-budget.ensures ∙ ap (part_in sample) c.get.ensures.value in
-    let best : IsBestSplit all missed step budget shares cs = subst (λ ss. IsBestSplit all missed step budget ss cs) c.deref-2.ensures.value
-    (subst (λ s. IsBestSplit all missed s budget c.deref-2.result.now cs) c.step_of-step.ensures c.in_ok-capacities.ensures.best) in
-    let rows : parts_of_table c.in_ok-table.table ≡ split_rows sizes idle sample (part_in sample whole_budget) requests names cs = c.in_ok-table.ensures.rows ∙ rw (c.deref-3.ensures.value, c.deref-4.ensures.value)
+    let best : IsBestSplit all missed step budget shares cs = subst (λ s. IsBestSplit all missed s budget shares cs) c.step_of-step.ensures
+    c.in_ok-capacities.ensures.best in
+    let rows : parts_of_table c.in_ok-table.table ≡ split_rows sizes idle sample (part_in sample whole_budget) requests names cs = c.in_ok-table.ensures.rows ∙ rw c.deref.ensures.value
     (table_same sizes idle sample requests names shares cs have budget (non_zero_usize_get c.step_of-step.result) passes.requests passes.size (part_of_share whole budget)
     c.step_of-step.ensures counted summed (row_same sizes idle sample requests (codes "one for all") whole whole_is budget))
     ∙ ap (λ b. split_rows sizes idle sample b requests names cs) parted in
@@ -61,6 +58,7 @@ returns g c lines has =
       sized = taken.sized;
       classes = names_are sizes (limit_of idle) (rests_in idle lines) kept classes taken.classes;
       few = omega (arith, taken.few, length-map classes name_of);
+      room = room;
       best = subst (λ b. IsBestSplit (all_of sizes) (missed_told sizes idle sample) (step_for b) b (map (λ name. of_class name requests) names) cs) parted
           (best_same all missed (all_of sizes) (missed_told sizes idle sample) step budget shares (map (λ name. of_class name requests) names) cs
           (shares_same sizes idle sample requests names shares have) best);

@@ -155,3 +155,11 @@ returns-in-Some-clause-fault g c =
     × (comes_of_a_line f ≡ true → (rest : List (List ℕ)) → IsSaidOfLines c.args.idle c.args.sizes f (before.0 ++ rest))
     × ((rest : List (List ℕ)) → IsShownOf f (before.0 ++ rest) c.lines.beginning.items))) c.in-Some.is before.5 in
     so.0
+
+pub returns-in-Some-clause-no_room : goal.returns-in-Some-clause-no_room
+returns-in-Some-clause-no_room g c size is =
+    let before = c.lines.invariant in
+    let so = subst (λ o. IfSome o (λ f. (comes_of_writing f ≡ false)
+    × (comes_of_a_line f ≡ true → (rest : List (List ℕ)) → IsSaidOfLines c.args.idle c.args.sizes f (before.0 ++ rest))
+    × ((rest : List (List ℕ)) → IsShownOf f (before.0 ++ rest) c.lines.beginning.items))) c.in-Some.is before.5 in
+    subst (λ f. IsShownOf f (before.0 ++ []) c.lines.beginning.items) is (so.2 [])
