@@ -1,7 +1,7 @@
 //! The seed of a call.
 ghost use Rattle.std.specs.Prelude.{◌≡◌, ◌↔◌, IfSome, IsNone};
 
-use clru_lines::Seed;
+use clru_text::Seed;
 
 /// The hash builder under both words, or none for `0, 0`, which stands for `DefaultState`.
 pub(crate) fn seeded(low: u64, high: u64) -> Option<Seed>

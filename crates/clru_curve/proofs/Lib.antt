@@ -14,6 +14,7 @@ pub mod IdlePassing
 pub mod IdleReuses
 pub mod LatestSizes
 pub mod KeyTables
+pub mod LatestRequests
 pub mod Latests
 pub mod Nodes
 pub mod Passing
@@ -27,6 +28,7 @@ pub mod SizedHits
 pub mod SizedIdleHits
 pub mod SizedIdlePassing
 pub mod SizedPassing
+pub mod Timeless
 pub mod Totals
 pub mod UpTo
 pub mod Apart
@@ -34,3 +36,7 @@ pub mod Following
 pub mod Merged
 pub mod Rows
 pub mod SizedCaches
+pub mod GreatestWeights
+pub mod SizeViews
+pub mod SizedIdleViews
+pub mod TimedViews

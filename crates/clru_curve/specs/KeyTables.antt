@@ -1,4 +1,4 @@
--- What a table notes of each key: its value, and the builder that hashes keys. Public clauses cite it.
+-- What a table notes of each key: its value, and the builder that hashes keys. No public clause cites it.
 use Rattle.std.specs.Prelude.{Bool, List, refl}
 use Rattle.std.specs.Coded.{Coded, code_by, coded×, coded_list}
 use Rattle.std.specs.List.{IsDistinct}

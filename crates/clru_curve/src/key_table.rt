@@ -23,7 +23,7 @@ const FIRST_CAPACITY: usize = 64;
 /// entries, the latest inserted first.
 ///
 /// Takes memory for each key and its value, and two buckets and a link of 4 bytes each.
-pub struct KeyTable<K: Eq + Hash, V, S: BuildHasher, A: Allocator + Copy> {
+pub(crate) struct KeyTable<K: Eq + Hash, V, S: BuildHasher, A: Allocator + Copy> {
     map: LinkedHashMap<K, V, S, A>,
 }
 
@@ -49,8 +49,7 @@ impl<K: Eq + Hash, V, S: BuildHasher, A: Allocator + Copy> Model for KeyTable<K,
 
 impl<K: Eq + Hash, V: Copy, S: BuildHasher, A: Allocator + Copy> KeyTable<K, V, S, A> {
     /// Creates a table that holds nothing.
-    /// Cost: no request for memory.
-    pub fn empty(alloc: A, hash_builder: S) -> Self
+    pub(crate) fn empty(alloc: A, hash_builder: S) -> Self
         ensures { result ≡ keyed [] hash_builder }
     {
         KeyTable {
@@ -59,24 +58,21 @@ impl<K: Eq + Hash, V: Copy, S: BuildHasher, A: Allocator + Copy> KeyTable<K, V, 
     }
 
     /// Returns the number of keys.
-    /// Cost: a read.
-    pub fn len(&self) -> usize
+    pub(crate) fn len(&self) -> usize
         ensures { result ≡ length self.now.entries }
     {
         self.map.len()
     }
 
     /// Returns the hash of a key. Every form of the key has it.
-    /// Cost: one hash.
-    pub fn hash<Q: Equivalent<K>>(&self, key: Q) -> u64
+    pub(crate) fn hash<Q: Equivalent<K>>(&self, key: Q) -> u64
         ensures { result ≡ hash_of Q.Hash S.BuildHasher S.Hasher.Hasher self.now.builder key }
     {
         self.map.hash(key)
     }
 
     /// Returns the value of the key, whose hash is given.
-    /// Cost: a walk along one chain.
-    pub fn get<Q: Equivalent<K>>(&self, hash: u64, key: Q) -> Option<V>
+    pub(crate) fn get<Q: Equivalent<K>>(&self, hash: u64, key: Q) -> Option<V>
         requires hash { hash ≡ hash_of Q.Hash S.BuildHasher S.Hasher.Hasher self.now.builder key }
         ensures { result ≡ lookup (Q.equivalent key) self.now.entries }
     {
@@ -84,8 +80,7 @@ impl<K: Eq + Hash, V: Copy, S: BuildHasher, A: Allocator + Copy> KeyTable<K, V, 
     }
 
     /// Gives the key, whose hash is given, another value if it is held, and returns the one that it had.
-    /// Cost: a walk along one chain.
-    pub fn replace<Q: Equivalent<K>>(&mut self, hash: u64, key: Q, value: V) -> Option<V>
+    pub(crate) fn replace<Q: Equivalent<K>>(&mut self, hash: u64, key: Q, value: V) -> Option<V>
         requires hash { hash ≡ hash_of Q.Hash S.BuildHasher S.Hasher.Hasher self.old.builder key }
         ensures found { result ≡ lookup (Q.equivalent key) self.old.entries }
         ensures same { IsNone result → self.new ≡ self.old }
@@ -99,8 +94,7 @@ impl<K: Eq + Hash, V: Copy, S: BuildHasher, A: Allocator + Copy> KeyTable<K, V, 
     }
 
     /// Takes a new key, whose hash is given, with its value. If memory is refused, it returns the key, and the table is unchanged.
-    /// Cost: two writes; memory for twice as many keys when the table is full.
-    pub fn insert(&mut self, hash: u64, key: K, value: V) -> Result<(), K>
+    pub(crate) fn insert(&mut self, hash: u64, key: K, value: V) -> Result<(), K>
         requires hash { hash ≡ hash_of K.Hash S.BuildHasher S.Hasher.Hasher self.old.builder key }
         requires new { lookup (K.eq key) self.old.entries ≡ None }
         requires countable { length self.old.entries + 1 < 2 ^ 64 }

@@ -38,7 +38,6 @@ pub use clru_model::{
 };
 pub use curve::MissCurve;
 pub use idle::IdlePass;
-pub use key_table::KeyTable;
 pub use list::miss_curve;
 pub use pass::DistancePass;
 pub use position::PositionPass;

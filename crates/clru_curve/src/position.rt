@@ -18,7 +18,7 @@ use std::marker::{Model, PhantomData};
 
 /// A pass over requests that holds no key. It takes for each request the position of the latest request of its key, and whether that
 /// came within an idle limit, and returns its distance, as an `IdlePass` does. So several passes, as one for each class of keys and one
-/// for all, can share one `KeyTable`.
+/// for all, can share one table of keys.
 ///
 /// Clauses describe the requests that it has taken under a limit, the latest first, each with its time, by `IsPositionPass`. Without
 /// times each has the same, and each reuse comes soon enough.

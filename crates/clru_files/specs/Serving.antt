@@ -4,7 +4,7 @@ use Rattle.std.specs.List.{AllByRecursion}
 use Rattle.std.specs.Fmt.{digits, format_spec, padded_integral}
 use Rattle.std.specs.Str.{is_utf8}
 use Rattle.std.specs.Str.Lossy.{utf8_lossy}
-use Rattle.clru_lines.specs.Lines.{lines_of}
+use Rattle.clru_text.specs.Lines.{lines_of}
 use Rattle.clru_files.specs.declared.fault.Fault.{Fault}
 use Rattle.clru_files.specs.declared.fault.Fault.TheVariants.{Outside, Missing, Unreadable, Folder, Special, TooLong, Longer, Memory}
 use Rattle.clru_files.specs.declared.counts.Counts.{Counts}

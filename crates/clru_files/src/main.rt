@@ -15,7 +15,7 @@ use crate::freshness::Freshness;
 use crate::serve::{pages_of, run};
 use crate::timer::Monotonic;
 use clru::NonZeroUsize;
-use clru_lines::{ReadError, read_input};
+use clru_text::{ReadError, read_input};
 use std::env;
 use std::io::{self, BufWriter, ErrorKind, Write};
 use std::process::ExitCode;

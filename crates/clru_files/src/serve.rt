@@ -1,6 +1,6 @@
 //! Serves paths one after the other.
 ghost use Rattle.std.specs.Prelude.{◌≡◌, ◌+◌, ◌-◌, [], ◌∷◌, ◌++◌, ℕ, IfNone, IfOk, IfSome, IsErr, IsFalse, IsSomeAnd, IsTrue, List, None, Ok, OnOk, count_by, false, flat_map, is_some, length, not, true};
-ghost use Rattle.clru_lines.specs.Lines.{lines_of};
+ghost use Rattle.clru_text.specs.Lines.{lines_of};
 ghost use Rattle.clru_through.specs.Given.{was_fetched};
 ghost use Rattle.clru_through.specs.declared.answer.Loaded.TheVariants.{Held};
 ghost use Rattle.clru_through.specs.Store.{AllKeep};
@@ -21,7 +21,7 @@ use crate::freshness::Freshness;
 use crate::served::{PageSummary, Served};
 use crate::timer::Timer;
 use clru::{CLruCache, DefaultState, NonZeroUsize, WeightScale};
-use clru_lines::next_line;
+use clru_text::next_line;
 use clru_through::{ByPromise, Loaded, Through};
 use std::alloc::Global;
 use std::fs::Files;

@@ -3,6 +3,7 @@ pub mod Chaining
 pub mod Chains
 pub mod Cuts
 pub mod BucketLists
+pub mod BytesMaps
 pub mod Hints
 pub mod Indexed
 pub mod IndexedMoves
@@ -16,7 +17,11 @@ pub mod PlacedPairs
 pub mod Relinking
 pub mod Same
 pub mod Sifting
+pub mod Sought
+pub mod Stacked
 pub mod Steps
+pub mod Strings
+pub mod Tables
 pub mod Valid
 pub mod Values
 pub mod WrittenItems

@@ -1,8 +1,11 @@
 pub mod BucketList
 pub mod Buckets
+pub mod BytesMaps
+pub mod BytesTable
 pub mod Chained
 pub mod Growth
 pub mod IndexedList
 pub mod LinkedMap
 pub mod MapLends
 pub mod Retains
+pub mod Stacked

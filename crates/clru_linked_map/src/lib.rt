@@ -5,10 +5,15 @@
 //!
 //! A caller hashes a key once, and hands the hash to the calls that look for it. The caller must also keep the keys distinct,
 //! because a key that is put in is not looked for.
+//!
+//! `BytesMap` is another map over such an index: strings of bytes in one buffer, of which none is dropped.
 #![tactic(auto)]
 
+mod bytes_map;
+mod bytes_table;
 mod hash_index;
 mod indexed_list;
 mod map;
 
+pub use bytes_map::BytesMap;
 pub use map::LinkedHashMap;

@@ -1,8 +1,7 @@
 //! What is noted of the lines of an input: how many there are, which one leads, and which is the first without a size or a time.
 
 use crate::several::SizesOfKeys;
-use clru_lines::Seed;
-use clru_report::{Options, Sample, size_of, time_of};
+use clru_text::{Options, Sample, Seed, size_of, time_of};
 use std::alloc::AllocError;
 
 /// So many bytes of a line are kept. One that is longer counts as one that is like no other.

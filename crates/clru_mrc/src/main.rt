@@ -8,11 +8,11 @@ mod split;
 mod watch;
 mod written;
 
-use clru_lines::Seed;
-use clru_report::{
-    Command, Fault, HELP, Options, Refusal, VERSION, command_of, exit_status, run, write_report,
-};
+use clru_report::run;
 use clru_shares::{SplitOptions, split_options_of};
+use clru_text::{
+    Command, Fault, HELP, Options, Refusal, Seed, VERSION, command_of, exit_status, write_report,
+};
 use split::{Budget, SPLIT_HELP, split_budget};
 use std::env;
 use std::io::{ErrorKind, IsTerminal};

@@ -1,6 +1,6 @@
 //! Hit ratios of the report.
 
-use clru_report::Billionths;
+use clru_text::Billionths;
 
 const BILLION: u128 = 1_000_000_000;
 

@@ -1,7 +1,6 @@
 //! Which keys came with several sizes.
 
-use clru_lines::Seed;
-use clru_report::size_of;
+use clru_text::{Seed, size_of};
 use std::collections::HashMap;
 
 /// The size of each key, by a hash of its bytes: 0 once it came with another size.

@@ -2,9 +2,8 @@
 
 use crate::lines::quoted;
 use crate::wrong;
-use clru_lines::Seed;
-use clru_report::{Fault, Refusal, number_of_word};
 use clru_shares::{SplitFault, SplitOptions, run_split, split_status};
+use clru_text::{Fault, Refusal, Seed, number_of_word};
 use std::num::NonZeroUsize;
 
 /// What `--help` prints of splits.

@@ -3,8 +3,7 @@
 use crate::lines::{FEW, Lines, instead_of_size, instead_of_time, quoted, sized_part};
 use crate::ratio::has_ratio;
 use crate::written::{LastRow, MILLION};
-use clru_lines::Seed;
-use clru_report::{Capacities, Options, Sample, time_of};
+use clru_text::{Capacities, Options, Sample, Seed, time_of};
 use std::io::{self, Read};
 use std::time::{Duration, Instant};
 

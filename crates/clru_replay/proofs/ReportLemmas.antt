@@ -5,7 +5,7 @@ use Rattle.std.specs.Str.Parse.{digits_value}
 use Rattle.std.proofs.lemmas.Bool.{cond-true}
 use Rattle.clru_model.specs.Requests.{marks, misses}
 use Rattle.clru_model.proofs.Views.{same, marks-map, misses-map}
-use Rattle.clru_lines.specs.Lines.{is_capacity, lines_of}
+use Rattle.clru_text.specs.Lines.{is_capacity, lines_of}
 use Rattle.clru_replay.specs.Report.{report, report_at, report_of_lines, text_of}
 
 module _ {K : Type 0} (view : K → List ℕ) (keys : List K) (requests : List ℕ) (shown : map view keys ≡ lines_of requests) where

@@ -2,7 +2,7 @@
 use Rattle.std.specs.Prelude.{ℕ, Bool, List, [], ◌∷◌, ◌++◌, Option, None, Some, flat_map, codes, decimal, bytes_eq, if◌then◌else◌}
 use Rattle.std.specs.Str.Parse.{digits_value}
 use Rattle.clru_model.specs.Requests.{marks, misses}
-use Rattle.clru_lines.specs.Lines.{is_capacity, lines_of}
+use Rattle.clru_text.specs.Lines.{is_capacity, lines_of}
 
 -- the line of one request
 abbrev pub mark_line : Bool → List ℕ

@@ -4,7 +4,7 @@
 mod program;
 mod report;
 
-use clru_lines::exit_status;
+use clru_text::exit_status;
 use program::run;
 use std::process::ExitCode;
 

@@ -1,11 +1,11 @@
 //! From the reader to the writer.
 ghost use Rattle.std.specs.Prelude.{◌≡◌, ◌≢◌, ◌⊎◌, ℕ, Err, None, take, IfErr, IsSomeAnd, OnOk};
 ghost use Rattle.std.specs.Io.KnownBytes.{Appends, Keeps};
-ghost use Rattle.clru_lines.specs.Whole.{ReadWhole};
+ghost use Rattle.clru_text.specs.Whole.{ReadWhole};
 ghost use Rattle.clru_replay.specs.Report.{report};
 
 use crate::report::make_report;
-use clru_lines::{Fault, ReadError, read_input, write_text};
+use clru_text::{Fault, ReadError, read_input, write_text};
 use std::alloc::Allocator;
 use std::io::{Read, Write};
 

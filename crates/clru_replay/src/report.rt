@@ -3,7 +3,7 @@ ghost use Rattle.std.specs.Prelude.{◌≡◌, ◌⊎◌, ◌+◌, Err, Some, No
 ghost use Rattle.clru_replay.specs.Report.{misses_line, report, text_of};
 
 use clru::{DefaultState, replay};
-use clru_lines::{Fault, capacity_of, keys_of, next_line};
+use clru_text::{Fault, capacity_of, keys_of, next_line};
 use std::alloc::{AllocError, Allocator};
 
 /// The report of an input. The first line is tested before any memory is asked for.

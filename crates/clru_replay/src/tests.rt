@@ -6,7 +6,7 @@ mod large;
 mod memory;
 
 use crate::program::run;
-use clru_lines::{Fault, exit_status};
+use clru_text::{Fault, exit_status};
 use std::alloc::{AllocError, Global};
 use std::fmt::Debug;
 use std::process::Abort;

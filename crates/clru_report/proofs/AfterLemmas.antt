@@ -8,21 +8,21 @@ use Rattle.std.proofs.lemmas.List.FromFn.{get_or-map-range_with_len, length-map-
 use Rattle.std.proofs.lemmas.List.Elements.{All-push}
 use Rattle.std.proofs.Math.Seq.{take-append_seam}
 use Rattle.clru_curve.specs.Curves.{HasMissesOf, misses_at}
-use Rattle.clru_lines.specs.Lines.{lines_of}
 use Rattle.clru_model.proofs.Distances.{misses-room}
 use Rattle.clru_model.proofs.Distinct.{distinct_mono, holds-append}
 use Rattle.clru_model.specs.Requests.{distinct, holds, misses}
+use Rattle.clru_text.specs.Choices.{is_summary}
+use Rattle.clru_text.specs.Lines.{lines_of}
+use Rattle.clru_text.specs.declared.options.Form.{Form}
+use Rattle.clru_text.specs.declared.options.Form.TheVariants.{Table, Json, Picture, Summary}
+use Rattle.clru_text.specs.declared.options.Options.{Options}
+use Rattle.clru_text.proofs.ByteLemmas.{bytes_laws}
 use Rattle.clru_report.specs.After.{AreCounted, AreRowsBehind, IsInFormAfter, IsRowBehind, counted, misses_behind}
 use Rattle.clru_report.specs.AfterPasses.{IsCurveOfLines, IsHead}
-use Rattle.clru_report.specs.Choices.{is_summary}
 use Rattle.clru_report.specs.Passes.{IsTextByKeys}
 use Rattle.clru_report.specs.Tables.{capacity_of_row, table_text}
-use Rattle.clru_report.specs.declared.options.Form.{Form}
-use Rattle.clru_report.specs.declared.options.Form.TheVariants.{Table, Json, Picture, Summary}
-use Rattle.clru_report.specs.declared.options.Options.{Options}
 use Rattle.clru_report.specs.declared.text.Counts.{Counts}
 use Rattle.clru_report.specs.declared.rows.Row.{Row}
-use Rattle.clru_report.proofs.SettledCurves.{bytes_laws}
 
 -- the first lines stay the same where one more line follows
 pub head_more : (n : ℕ) (lines : List (List ℕ)) (line : List ℕ) (head : Option (List ℕ)) → length lines ≢ n → IsHead n lines head

@@ -20,10 +20,11 @@ use Rattle.clru_model.specs.Ages.{aged_hit, aged_marks_after}
 use Rattle.clru_model.specs.Requests.{distinct, holds, since}
 use Rattle.clru_model.specs.Sizes.{SameWeights, hit_by_size, total}
 use Rattle.clru_model.specs.Spans.{size_of_misses}
-use Rattle.clru_report.specs.Capacities.{aged_capacities, round_number, usual}
+use Rattle.clru_text.specs.RoundNumbers.{round_number}
+use Rattle.clru_text.specs.declared.options.Capacities.{Capacities}
+use Rattle.clru_text.specs.declared.options.Capacities.TheVariants.{Usual, Each, Named, HitRatio, ByteHitRatio}
+use Rattle.clru_report.specs.Capacities.{aged_capacities, usual}
 use Rattle.clru_report.specs.PlainRows.{AreNumbersAt}
-use Rattle.clru_report.specs.declared.options.Capacities.{Capacities}
-use Rattle.clru_report.specs.declared.options.Capacities.TheVariants.{Usual, Each, Named, HitRatio, ByteHitRatio}
 
 -- two capacities are the same, or both are at least n
 abbrev pub AreAlikeFrom : (n c d : ℕ) → Type 0

@@ -1,6 +1,6 @@
 -- How the lists of capacities grow by one.
-use Rattle.std.proofs.Common.{◌≡◌, ℕ, get_or, length, zero, suc, ◌+◌, ◌-◌, ◌/◌, ◌%◌, ◌^◌, ◌<◌, ◌≤◌, Bool, true, false, cond, ◌||◌, nat_le, nat_lt, leb-true, List, [], ◌∷◌, ◌++◌, map, refl, sym, ap, subst, ◌∙◌, zero-add, arith}
-use Rattle.std.proofs.Math.Nat.{mul-pos, pow-suc}
+use Rattle.std.proofs.Common.{◌≡◌, ℕ, get_or, length, zero, suc, ◌+◌, ◌-◌, ◌/◌, ◌%◌, ◌<◌, ◌≤◌, Bool, true, false, cond, ◌||◌, nat_le, nat_lt, leb-true, List, [], ◌∷◌, ◌++◌, map, refl, sym, ap, subst, ◌∙◌, zero-add, arith}
+use Rattle.std.proofs.Math.Nat.{mul-pos}
 use Rattle.std.proofs.lemmas.List.{length-map}
 use Rattle.std.proofs.lemmas.List.FromFn.{filter_of_map_range_with_len_more}
 use Rattle.std.proofs.lemmas.List.Elements.{Contains-get_or, All-append, All-contains, All-filter, All-from_get_or, All-from_recursion, All-map, All-weaker, filter_agree, filter_passes, recursion_from_All}
@@ -8,17 +8,14 @@ use Rattle.std.proofs.lemmas.Bool.{eqb-false}
 use Rattle.std.specs.List.{All, AllByRecursion, Contains, filter, range_with_len}
 use Rattle.std.specs.Prelude.{◌==◌}
 use Rattle.clru_model.proofs.Cases.{split}
-use Rattle.clru_report.specs.Capacities.{capacities_of, first_digit, is_fall, round_number, sized_capacities_of, usual, usual_from}
+use Rattle.clru_text.specs.RoundNumbers.{first_digit, round_number}
+use Rattle.clru_text.specs.declared.options.Capacities.{Capacities}
+use Rattle.clru_text.specs.declared.options.Capacities.TheVariants.{Usual, Each, Named, HitRatio, ByteHitRatio}
+use Rattle.clru_text.proofs.RoundNumbers.{power_positive}
+use Rattle.clru_report.specs.Capacities.{capacities_of, is_fall, sized_capacities_of, usual, usual_from}
 use Rattle.clru_report.specs.Ratios.{least_with}
 use Rattle.clru_report.specs.Refusals.{NamesBelow}
-use Rattle.clru_report.specs.declared.options.Capacities.{Capacities}
-use Rattle.clru_report.specs.declared.options.Capacities.TheVariants.{Usual, Each, Named, HitRatio, ByteHitRatio}
 use Rattle.clru_report.proofs.RatioLemmas.{least_alike, least_from}
-
--- a power of ten is no 0
-pub power_positive : (k : ℕ) → 0 < 10 ^ k
-power_positive zero = omega arith
-power_positive (suc k) = subst (λ n. 0 < n) (sym (pow-suc 10 k)) (mul-pos (power_positive k) (omega arith))
 
 module _ (p : ℕ → Bool) (f : ℕ → ℕ) where
   -- the numbers of the indices before i that pass

@@ -1,11 +1,11 @@
 -- A curve by size that has the numbers of two functions has their tables, knees and capacities.
 use Rattle.std.proofs.Common.{◌≡◌, ℕ, ◌+◌, List, ap, ◌∙◌, subst}
 use Rattle.clru_curve.specs.SizedCurves.{CurveBySize, misses_within, missed_size_within}
+use Rattle.clru_text.specs.declared.options.Capacities.{Capacities}
 use Rattle.clru_report.specs.Capacities.{sized_capacities_of, usual_from}
 use Rattle.clru_report.specs.Faithful.{IsFaithful}
 use Rattle.clru_report.specs.Knees.{knees}
 use Rattle.clru_report.specs.Passes.{IsUsualOn, capacities_on}
-use Rattle.clru_report.specs.declared.options.Capacities.{Capacities}
 use Rattle.clru_report.proofs.CapacityLemmas.{sized-alike, usual_from_some}
 use Rattle.clru_report.proofs.FaithfulTables.{faithful_alike, knees_alike}
 

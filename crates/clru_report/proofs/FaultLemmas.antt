@@ -7,19 +7,22 @@ use Rattle.std.specs.Option.{is_none, option_or}
 use Rattle.std.proofs.lemmas.Bool.{cases_lt, le-leb, lt-leb, le-ltb, lt-ltb}
 use Rattle.std.proofs.lemmas.List.Elements.{All-weaker}
 use Rattle.std.proofs.lemmas.List.Folds.{Any-from_list_any, list_any_at, list_any_none}
-use Rattle.clru_report.specs.Choices.{is_summary}
+use Rattle.clru_text.specs.Choices.{is_summary, is_whole}
+use Rattle.clru_text.specs.Faults.{is_of_writing}
+use Rattle.clru_text.specs.Sizes.{size_of_line, weight_of_line}
+use Rattle.clru_text.specs.declared.fault.Fault.{Fault}
+use Rattle.clru_text.specs.declared.fault.Fault.TheVariants.{BadCapacity, Memory, Reading, Writing, Closed, NoSize, TooLarge, TooSmall}
+use Rattle.clru_text.specs.declared.options.Capacities.{Capacities}
+use Rattle.clru_text.specs.declared.options.Capacities.TheVariants.{Usual, Each, Named, HitRatio, ByteHitRatio}
+use Rattle.clru_text.specs.declared.options.Form.{Form}
+use Rattle.clru_text.specs.declared.options.Form.TheVariants.{Table, Json, Picture, Summary}
+use Rattle.clru_text.specs.declared.options.Options.{Options}
+use Rattle.clru_text.specs.declared.options.Sample.{Sample}
+use Rattle.clru_text.specs.declared.options.Sample.TheVariants.{Whole, OneIn, Taken}
 use Rattle.clru_report.specs.Capacities.{sized_capacities_of}
-use Rattle.clru_report.specs.Faults.{is_of_writing}
 use Rattle.clru_report.specs.Passes.{IsOfLines}
-use Rattle.clru_report.specs.Refusals.{NamesBelow, fault_beside, fault_from, fault_of, names_below}
-use Rattle.clru_report.specs.Sizes.{greatest_size, size_of_line, weight_of_line}
-use Rattle.clru_lines.specs.declared.fault.Fault.{Fault}
-use Rattle.clru_lines.specs.declared.fault.Fault.TheVariants.{BadCapacity, Memory, Reading, Writing, Closed, NoSize, TooLarge, TooSmall}
-use Rattle.clru_report.specs.declared.options.Capacities.{Capacities}
-use Rattle.clru_report.specs.declared.options.Capacities.TheVariants.{Usual, Each, Named, HitRatio, ByteHitRatio}
-use Rattle.clru_report.specs.declared.options.Form.{Form}
-use Rattle.clru_report.specs.declared.options.Form.TheVariants.{Table, Json, Picture, Summary}
-use Rattle.clru_report.specs.declared.options.Options.{Options}
+use Rattle.clru_report.specs.Refusals.{NamesBelow, fault_beside, fault_from, fault_of, names_below, IsRefusedBy, IsRefusedFor}
+use Rattle.clru_report.specs.Sizes.{greatest_size}
 
 module _ (number size : ℕ) (line : List ℕ) (rest : List (List ℕ)) where
   abbrev with_it : ℕ
@@ -122,3 +125,10 @@ lines_unwritten lines Closed why = absurd why
 lines_unwritten lines (NoSize n) why = refl
 lines_unwritten lines TooLarge why = refl
 lines_unwritten lines (TooSmall n) why = refl
+
+-- of a whole log the fault is that of all lines
+pub refused_whole : {A : Type 0} (sample : Sample) (fault : Fault) (options : Options A) (lines : List (List ℕ)) → is_whole sample ≡ true
+    → IsRefusedFor fault options lines → IsRefusedBy sample fault options lines
+refused_whole Whole fault options lines whole is = is
+refused_whole (OneIn n) fault options lines whole is = cc whole
+refused_whole (Taken n all) fault options lines whole is = cc whole

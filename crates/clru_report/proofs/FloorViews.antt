@@ -1,11 +1,11 @@
 -- The floor of requests that are compared by a view of them is that of their views.
 use Rattle.std.proofs.Common.{◌≡◌, ℕ, suc, ◌+◌, ◌-◌, ◌*◌, ◌/◌, max, Bool, cond, List, [], ◌∷◌, length, map, reverse, refl, sym, ap, ◌∙◌}
 use Rattle.std.proofs.lemmas.List.{length-map}
+use Rattle.clru_curve.proofs.SizeViews.{size-view, total-view}
 use Rattle.clru_model.proofs.Views.{same, distinct-map, holds-map, map-reverse, since-map}
 use Rattle.clru_model.specs.Floor.{floor_misses, floor_missed_size, gap, gaps_after, greatest_of, most_hits, spared_after, volume, volumes_after}
 use Rattle.clru_model.specs.Requests.{distinct, holds}
 use Rattle.clru_model.specs.Sizes.{total}
-use Rattle.clru_report.proofs.SizeViews.{size-view, total-view}
 use Rattle.std.specs.List.{sum_by}
 
 greatest_alike : (f g : ℕ → ℕ) → ((v : ℕ) → f v ≡ g v) → (n : ℕ) (ms : List ℕ) → greatest_of f n ms ≡ greatest_of g n ms

@@ -1,16 +1,16 @@
 -- From a text with these rows and numbers to the report of the lines that they are of.
 use Rattle.std.proofs.Common.{◌≡◌, ℕ, ◌-◌, ◌/◌, ◌^◌, Bool, false, true, List, length, reverse, refl, ap, subst, ◌∙◌}
 use Rattle.std.specs.Prelude.{◌&&◌, bytes_eq}
-use Rattle.clru_lines.specs.Lines.{lines_of}
 use Rattle.clru_model.specs.Requests.{distinct}
+use Rattle.clru_text.specs.Lines.{lines_of}
+use Rattle.clru_text.specs.Samples.{times}
+use Rattle.clru_text.specs.declared.options.Form.{Form}
+use Rattle.clru_text.specs.declared.options.Form.TheVariants.{Table, Json, Picture, Summary}
+use Rattle.clru_text.specs.declared.options.Options.{Options}
 use Rattle.clru_report.specs.Knees.{knees}
 use Rattle.clru_report.specs.Passes.{IsTextByKeys, has_rows}
 use Rattle.clru_report.specs.Report.{AreRows, AreRowsOfSample, IsInForm, IsInFormOfSample, IsUsualTable, capacities_asked, knees_of_sample, misses_of}
-use Rattle.clru_report.specs.Samples.{times}
 use Rattle.clru_report.specs.Tables.{summary_text, table_text}
-use Rattle.clru_report.specs.declared.options.Form.{Form}
-use Rattle.clru_report.specs.declared.options.Form.TheVariants.{Table, Json, Picture, Summary}
-use Rattle.clru_report.specs.declared.options.Options.{Options}
 use Rattle.clru_report.specs.declared.rows.Row.{Row}
 use Rattle.clru_report.specs.declared.text.Counts.{Counts}
 

@@ -2,9 +2,9 @@
 use Rattle.std.proofs.Common.{◌≡◌, ℕ, suc, ◌+◌, ◌<◌, List, [], ◌∷◌, ◌++◌, drop, get_or, length, take, add-one, drop-cons, take-append-drop, take-suc, sym, ap, ◌∙◌, subst, arith}
 use Rattle.std.specs.Prelude.{decimal, slice_index}
 use Rattle.std.proofs.lemmas.List.{get_or-map, get_or_default, length-map}
-use Rattle.clru_lines.specs.declared.lines.OwnedKey.{OwnedKey}
+use Rattle.clru_text.specs.Keys.{line_of}
+use Rattle.clru_text.specs.declared.lines.OwnedKey.{OwnedKey}
 use Rattle.clru_report.specs.KeyLogs.{HasKeys, line_at, lines_in}
-use Rattle.clru_report.specs.Passes.{line_of}
 use Rattle.clru_report.specs.declared.sized.key_log.KeyLog.{KeyLog}
 
 module _ {A : Type 0} (log : KeyLog A) where

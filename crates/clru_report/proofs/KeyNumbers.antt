@@ -10,9 +10,10 @@ use Rattle.std.proofs.lemmas.List.{length-map, reverse-append}
 use Rattle.std.proofs.lemmas.Slice.Eq.{bytes_eq-Decides}
 use Rattle.clru_curve.specs.SizedCurves.{greatest_of}
 use Rattle.clru_model.proofs.Cases.{split}
+use Rattle.clru_text.specs.Sizes.{tail_of_line, weight_of_line}
 use Rattle.clru_report.specs.KeyLogs.{HasNoted}
-use Rattle.clru_report.specs.OneSize.{greatest_of_key, tail_of_line, with_greatest}
-use Rattle.clru_report.specs.Sizes.{greatest_size, weight_of_line}
+use Rattle.clru_report.specs.OneSize.{greatest_of_key, with_greatest}
+use Rattle.clru_report.specs.Sizes.{greatest_size}
 
 -- one more line of lines has the greatest size, or another of them has it
 greatest_push : (lines : List (List ℕ)) (line : List ℕ) → greatest_size (lines ++ line ∷ []) ≡ max (greatest_size lines) (1 + weight_of_line line)

@@ -3,13 +3,12 @@ use Rattle.std.proofs.Common.{◌≡◌, ℕ, zero, suc, drop-cons, reverse, ltb
 use Rattle.std.specs.Prelude.{bytes_eq, decimal, nat_lt, position, ◌==◌}
 use Rattle.std.specs.Option.{option_map_or}
 use Rattle.std.specs.Char.{is_ascii_digit}
-use Rattle.std.specs.List.{list_all, filter, Contains}
+use Rattle.std.specs.List.{list_all, filter, Contains, position_or_len}
 use Rattle.std.specs.Str.Parse.{digits_value}
 use Rattle.std.proofs.Math.ListN.{get_or-append}
 use Rattle.std.proofs.Math.Seq.{drop-append_seam, get_or-append_seam, take-append_seam}
 use Rattle.std.proofs.lemmas.Bool.{and_parts, eqb-true, le-leb, lt-ltb}
 use Rattle.std.proofs.lemmas.List.Sums.{AllPass-from_list_all, position_or_len_is}
-use Rattle.std.specs.List.{position_or_len}
 use Rattle.clru_model.proofs.Cases.{split}
 use Rattle.std.proofs.lemmas.List.{reverse-append}
 use Rattle.std.proofs.lemmas.Slice.Eq.{bytes_eq-Decides}
@@ -17,10 +16,10 @@ use Rattle.std.proofs.lemmas.List.Quantifiers.{position-Some}
 use Rattle.std.proofs.lemmas.Fmt.{decimal_by_steps, decimal_is_IsNumeral, length-decimal-le}
 use Rattle.std.proofs.lemmas.List.Folds.{list_all-append}
 use Rattle.clru_curve.specs.SizedCurves.{greatest_of}
-use Rattle.clru_lines.specs.Lines.{are_digits, is_capacity}
-use Rattle.clru_report.specs.OneSize.{greatest_of_key, tail_of_line, tail_from, with_greatest}
+use Rattle.clru_text.specs.Lines.{are_digits, is_capacity}
+use Rattle.clru_text.specs.Sizes.{HaveSizes, is_zero, size_before, size_in, size_of_line, tail_from, tail_of_line, weight_of_line}
+use Rattle.clru_report.specs.OneSize.{greatest_of_key, with_greatest}
 use Rattle.clru_report.specs.OneSizeLaws.{IsSizeOfOne}
-use Rattle.clru_report.specs.Sizes.{HaveSizes, is_zero, size_before, size_in, size_of_line, weight_of_line}
 
 -- each digit that is written is one
 one_digit : (n : ℕ) → n < 10 → is_ascii_digit (48 + n) ≡ true

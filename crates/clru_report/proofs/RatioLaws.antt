@@ -2,17 +2,20 @@
 use Rattle.std.proofs.Common.{◌≡◌, ℕ, ◌<◌, ◌≤◌, List, [], ◌∷◌, length, reverse, sym, ap, ◌∙◌, arith}
 use Rattle.std.specs.Prelude.{bytes_eq}
 use Rattle.std.proofs.lemmas.List.{length-reverse, reverse-reverse}
+use Rattle.clru_curve.proofs.GreatestWeights.{greatest_below}
 use Rattle.clru_model.proofs.Cases.{split}
 use Rattle.clru_model.proofs.Distances.{misses-room}
 use Rattle.clru_model.proofs.Growing.{misses_fall}
 use Rattle.clru_model.proofs.Spans.{misses_by_size_fall, missed_size_falls, room_misses_first}
 use Rattle.clru_model.specs.Requests.{distinct, holds, misses}
+use Rattle.clru_text.specs.Sizes.{weight_of_line}
+use Rattle.clru_text.proofs.ByteLemmas.{bytes_laws}
 use Rattle.clru_report.specs.RatioLaws.{ByteHitRatioIsLeast, HitRatioIsLeast, SizedHitRatioIsLeast}
 use Rattle.clru_report.specs.Report.{misses_of}
 use Rattle.clru_report.specs.SizedReport.{distinct_size}
-use Rattle.clru_report.specs.Sizes.{greatest_size, weight_of_line}
+use Rattle.clru_report.specs.Sizes.{greatest_size}
 use Rattle.clru_report.proofs.RatioLemmas.{least_is}
-use Rattle.clru_report.proofs.SettledCurves.{bytes_laws, greatest_below, same_weights}
+use Rattle.clru_report.proofs.SettledCurves.{same_weights}
 use Rattle.clru_report.proofs.SizedReports.{few_distinct}
 
 -- where there is a key, some key is distinct

@@ -5,10 +5,11 @@ use Rattle.clru_model.proofs.Floor.{floor_is_below_least}
 use Rattle.clru_model.proofs.Least.{least_below_replay}
 use Rattle.clru_model.proofs.LeastIsThere.{least_is_there}
 use Rattle.clru_model.proofs.SizedReplaySchedules.{floor_below_replay, size_floor_below_replay}
-use Rattle.clru_report.proofs.SettledCurves.{bytes_laws, same_weights}
+use Rattle.clru_text.specs.Sizes.{weight_of_line}
+use Rattle.clru_text.proofs.ByteLemmas.{bytes_laws}
+use Rattle.clru_report.proofs.SettledCurves.{same_weights}
 use Rattle.clru_report.specs.RowLaws.{FloorIsBelowMisses, LeastIsBetween, SizedFloorsAreBelow}
 use Rattle.clru_report.specs.SizedTables.{capacity_of_sized_row}
-use Rattle.clru_report.specs.Sizes.{weight_of_line}
 use Rattle.clru_report.specs.Tables.{capacity_of_row}
 
 some_and_map : {X : Type 0} {P Q : X → Type 0} (o : Option X) → ((x : X) → P x → Q x) → IsSomeAnd o P → IsSomeAnd o Q

@@ -7,15 +7,17 @@ use Rattle.std.specs.Prelude.{bytes_eq}
 use Rattle.std.proofs.lemmas.Bool.{le-leb, or_right}
 use Rattle.clru_curve.specs.SizedCurves.{CurveBySize}
 use Rattle.clru_curve.specs.SizedIdlePasses.{IsSizedIdleCurveOf}
+use Rattle.clru_curve.proofs.GreatestWeights.{greatest_below}
 use Rattle.clru_model.proofs.Cases.{split}
 use Rattle.clru_model.proofs.Distinct.{holds-append, span_within, total_mono}
 use Rattle.clru_model.proofs.Marks.{reverse-cons-append}
 use Rattle.clru_model.specs.Ages.{aged_hit, aged_marks_after, aged_misses, is_recent}
 use Rattle.clru_model.specs.Requests.{holds, since}
 use Rattle.clru_model.specs.Sizes.{SameWeights, hit_by_size, total}
+use Rattle.clru_text.specs.Sizes.{weight_of_line}
+use Rattle.clru_text.proofs.ByteLemmas.{bytes_laws}
 use Rattle.clru_report.specs.Passes.{IsSettled}
-use Rattle.clru_report.specs.Sizes.{weight_of_line}
-use Rattle.clru_report.proofs.SettledCurves.{bytes_laws, greatest_below, same_weights}
+use Rattle.clru_report.proofs.SettledCurves.{same_weights}
 
 module _ {K : Type 0} (eq : K → K → Bool) (laws : IsEquivalence eq) (weight : K → ℕ) (same : SameWeights eq weight) (c : ℕ) where
   -- with room for all requests of the past a request hits if its key was requested

@@ -11,24 +11,26 @@ use Rattle.clru_model.proofs.Cases.{split}
 use Rattle.clru_model.proofs.Marks.{count_by-not-cons}
 use Rattle.clru_model.proofs.Spans.{hit_by_size_grows, misses_by_size_fall}
 use Rattle.clru_model.specs.Sizes.{hit_by_size, marks_by_size_after, missed_size_after}
+use Rattle.clru_text.specs.Choices.{is_summary}
+use Rattle.clru_text.specs.Faults.{is_of_input}
+use Rattle.clru_text.specs.Sizes.{HaveSizes, weight_of_line}
+use Rattle.clru_text.specs.declared.fault.Fault.{Fault}
+use Rattle.clru_text.specs.declared.fault.Fault.TheVariants.{BadCapacity, Memory, Reading, Writing, Closed, NoSize, TooLarge, TooSmall}
+use Rattle.clru_text.specs.declared.options.Capacities.{Capacities}
+use Rattle.clru_text.specs.declared.options.Form.{Form}
+use Rattle.clru_text.specs.declared.options.Form.TheVariants.{Table, Json, Picture, Summary}
+use Rattle.clru_text.specs.declared.options.Options.{Options}
 use Rattle.clru_report.specs.Capacities.{sized_capacities_of, usual_from}
 use Rattle.clru_report.specs.Faithful.{IsFaithful}
 use Rattle.clru_report.specs.Knees.{knees}
 use Rattle.clru_report.specs.Passes.{AreRowsOf, IsOfCapacities, IsRowOf}
-use Rattle.clru_report.specs.Refusals.{IsRefusedFor, IsSaidOf, NamesBelow, fault_beside, fault_from, fault_of, is_of_input, names_below}
+use Rattle.clru_report.specs.Refusals.{IsRefusedFor, IsSaidOf, NamesBelow, fault_beside, fault_from, fault_of, names_below}
 use Rattle.clru_report.specs.After.{counted}
 use Rattle.clru_report.specs.SizedAfter.{AreSizedCounted, IsSizedRowBehind, counted_size, missed_behind, sized_misses_behind}
 use Rattle.clru_report.specs.SizedAfterPasses.{AreRowsLeft, IsCountedOf, IsRowLeft, IsSizedHead, IsTooSmall, StaysBetween, is_fall_left, missed_left, misses_left}
 use Rattle.clru_report.specs.SizedReport.{distinct_size}
 use Rattle.clru_report.specs.SizedTables.{capacity_of_sized_row}
-use Rattle.clru_report.specs.Sizes.{HaveSizes, greatest_size, weight_of_line}
-use Rattle.clru_lines.specs.declared.fault.Fault.{Fault}
-use Rattle.clru_lines.specs.declared.fault.Fault.TheVariants.{BadCapacity, Memory, Reading, Writing, Closed, NoSize, TooLarge, TooSmall}
-use Rattle.clru_report.specs.declared.options.Capacities.{Capacities}
-use Rattle.clru_report.specs.Choices.{is_summary}
-use Rattle.clru_report.specs.declared.options.Form.{Form}
-use Rattle.clru_report.specs.declared.options.Form.TheVariants.{Table, Json, Picture, Summary}
-use Rattle.clru_report.specs.declared.options.Options.{Options}
+use Rattle.clru_report.specs.Sizes.{greatest_size}
 use Rattle.clru_report.specs.declared.sized.floors.Floors.{Floors}
 use Rattle.clru_report.specs.declared.sized.rows.SizedRow.{SizedRow}
 use Rattle.clru_report.proofs.CapacityLemmas.{none_below, sized-alike, usual_from_some}

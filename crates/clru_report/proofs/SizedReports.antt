@@ -11,25 +11,27 @@ use Rattle.clru_least.specs.FloorNumbers.{size_floor_at}
 use Rattle.clru_model.specs.Floor.{floor_misses}
 use Rattle.clru_model.specs.Requests.{distinct, holds}
 use Rattle.clru_model.specs.Sizes.{total, misses_by_size}
+use Rattle.clru_text.specs.Faults.{is_of_input, is_of_writing}
+use Rattle.clru_text.specs.Sizes.{HaveSizes, weight_of_line}
+use Rattle.clru_text.specs.declared.fault.Fault.{Fault}
+use Rattle.clru_text.specs.declared.fault.Fault.TheVariants.{BadCapacity, Memory, Reading, Writing, Closed, NoSize, TooLarge, TooSmall}
+use Rattle.clru_text.specs.declared.options.Capacities.{Capacities}
+use Rattle.clru_text.specs.declared.options.Options.{Options}
+use Rattle.clru_text.proofs.ByteLemmas.{bytes_laws}
 use Rattle.clru_report.specs.Capacities.{sized_capacities_of}
 use Rattle.clru_report.specs.Knees.{knees}
-use Rattle.clru_report.specs.Faults.{is_of_writing}
 use Rattle.clru_report.specs.Passes.{AreFloorsFor, IsOfAsked, IsOfCapacities, IsRowOf, IsTableOf, IsUsualOn, capacities_on, distinct_in, floors_at}
-use Rattle.clru_report.specs.Refusals.{IsRefusedFor, IsSaidOf, fault_beside, fault_from, fault_of, is_of_input, names_below}
+use Rattle.clru_report.specs.Refusals.{IsRefusedFor, IsSaidOf, fault_beside, fault_from, fault_of, names_below}
 use Rattle.clru_report.specs.SizedReport.{HasFloors, IsSizedRow, IsSizedTable, IsSizedUsualTable, distinct_size, missed_of, sized_capacities_asked, summary_by_size}
 use Rattle.clru_report.specs.SizedTables.{capacity_of_sized_row, row_floor, sized_summary_text, sized_table_text}
-use Rattle.clru_report.specs.Sizes.{HaveSizes, greatest_size, size_of_lines, weight_of_line}
-use Rattle.clru_lines.specs.declared.fault.Fault.{Fault}
-use Rattle.clru_lines.specs.declared.fault.Fault.TheVariants.{BadCapacity, Memory, Reading, Writing, Closed, NoSize, TooLarge, TooSmall}
-use Rattle.clru_report.specs.declared.options.Capacities.{Capacities}
-use Rattle.clru_report.specs.declared.options.Options.{Options}
+use Rattle.clru_report.specs.Sizes.{greatest_size, size_of_lines}
 use Rattle.clru_report.specs.declared.sized.floors.Floors.{Floors}
 use Rattle.clru_report.specs.declared.sized.rows.SizedRow.{SizedRow}
 use Rattle.clru_report.proofs.CapacityLemmas.{none_below, usual_high}
 use Rattle.clru_report.proofs.CurveNumbers.{capacities_by, usual_by}
 use Rattle.clru_report.proofs.FaithfulTables.{table_from}
 use Rattle.clru_report.proofs.FaultLemmas.{none_beside, none_named, one_named, told_beside}
-use Rattle.clru_report.proofs.SettledCurves.{bytes_laws, same_weights}
+use Rattle.clru_report.proofs.SettledCurves.{same_weights}
 
 -- keys are no more than their sizes together
 pub few_distinct : {K : Type 0} (eq : K → K → Bool) (weight : K → ℕ) (ks : List K) → distinct eq ks ≤ total eq weight ks

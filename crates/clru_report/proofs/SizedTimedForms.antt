@@ -5,27 +5,27 @@ use Rattle.std.specs.Map.{keys_of}
 use Rattle.std.proofs.lemmas.List.{map-append}
 use Rattle.std.proofs.lemmas.List.Elements.{All-filter, All-push, All-weaker}
 use Rattle.clru_curve.specs.SizedCurves.{CurveBySize, misses_within, missed_size_within}
-use Rattle.clru_lines.specs.declared.fault.Fault.TheVariants.{TooSmall}
-use Rattle.clru_report.specs.Choices.{is_summary, is_whole}
+use Rattle.clru_text.specs.Choices.{is_summary, is_whole}
+use Rattle.clru_text.specs.Samples.{times}
+use Rattle.clru_text.specs.Sizes.{HaveSizes}
+use Rattle.clru_text.specs.Times.{kept_requests, requests_of, rests_of}
+use Rattle.clru_text.specs.declared.fault.Fault.TheVariants.{TooSmall}
+use Rattle.clru_text.specs.declared.options.Form.{Form}
+use Rattle.clru_text.specs.declared.options.Form.TheVariants.{Table, Json, Picture, Summary}
+use Rattle.clru_text.specs.declared.options.Options.{Options}
+use Rattle.clru_text.specs.declared.options.Sample.{Sample}
+use Rattle.clru_text.specs.declared.options.Sample.TheVariants.{Whole, OneIn, Taken}
 use Rattle.clru_report.specs.Passes.{IsRowOf, capacities_on}
 use Rattle.clru_report.specs.Refusals.{IsRefusedBy, fault_by, fault_from, names_below}
 use Rattle.clru_report.specs.SampleTables.{IsSampledTable, IsSampledText}
-use Rattle.clru_report.specs.Samples.{times}
 use Rattle.clru_report.specs.SizedTables.{capacity_of_sized_row, sized_table_text}
 use Rattle.clru_report.specs.SizedTimed.{ArePlainSizedRows, IsInFormBySizeOn, IsPlainSizedRow, IsSizedTableOn}
-use Rattle.clru_report.specs.Sizes.{HaveSizes, greatest_size}
+use Rattle.clru_report.specs.Sizes.{greatest_size}
 use Rattle.clru_report.specs.Timed.{kept_in}
-use Rattle.clru_report.specs.Times.{kept_requests, requests_of, rests_of}
-use Rattle.clru_report.specs.declared.options.Form.{Form}
-use Rattle.clru_report.specs.declared.options.Form.TheVariants.{Table, Json, Picture, Summary}
-use Rattle.clru_report.specs.declared.options.Options.{Options}
-use Rattle.clru_report.specs.declared.options.Sample.{Sample}
-use Rattle.clru_report.specs.declared.options.Sample.TheVariants.{Whole, OneIn, Taken}
 use Rattle.clru_report.specs.declared.sized.rows.SizedRow.{SizedRow}
 use Rattle.clru_report.proofs.CapacityLemmas.{map-filter}
 use Rattle.clru_report.proofs.CurveNumbers.{capacities_by, usual_by}
-use Rattle.clru_report.proofs.CutsAlone.{refused_whole}
-use Rattle.clru_report.proofs.FaultLemmas.{named_one, none_beside, some_beside, told_beside}
+use Rattle.clru_report.proofs.FaultLemmas.{named_one, none_beside, refused_whole, some_beside, told_beside}
 use Rattle.clru_report.proofs.SizedTimedLines.{whole_keys}
 
 -- one row more

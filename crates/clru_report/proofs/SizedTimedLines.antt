@@ -9,22 +9,25 @@ use Rattle.std.proofs.lemmas.List.Sums.{sum_by-cons}
 use Rattle.clru_curve.specs.SizedAgedPasses.{AgedPassBySize, IsSizedAgedPass, aged_missed_size, aged_misses_by_size}
 use Rattle.clru_curve.specs.SizedCurves.{CurveBySize, greatest_of, size_of_all}
 use Rattle.clru_curve.specs.SizedIdlePasses.{IsSizedIdleCurveOf, IsSizedIdlePass, TimedPassBySize}
-use Rattle.clru_lines.specs.declared.fault.Fault.{Fault}
-use Rattle.clru_lines.specs.declared.fault.Fault.TheVariants.{NoSize}
-use Rattle.clru_lines.specs.declared.lines.OwnedKey.{OwnedKey}
+use Rattle.clru_curve.proofs.SizeViews.{greatest-view, total-view}
+use Rattle.clru_curve.proofs.SizedIdleViews.{idle_curve-view, missed_size-view, sized_misses-view}
 use Rattle.clru_model.proofs.Cases.{split}
 use Rattle.clru_model.specs.Sizes.{total}
-use Rattle.clru_report.specs.Faults.{is_of_writing}
-use Rattle.clru_report.specs.Passes.{IsOfLines, line_of, same_line, weight_of_key}
-use Rattle.clru_report.specs.Refusals.{fault_from, is_of_input}
+use Rattle.clru_text.specs.Faults.{is_of_input, is_of_writing}
+use Rattle.clru_text.specs.Keys.{line_of, same_line}
+use Rattle.clru_text.specs.Sizes.{HaveSizes, size_of_line, weight_of_line}
+use Rattle.clru_text.specs.TakenRequests.{HasTakenRequests}
+use Rattle.clru_text.specs.Times.{kept_requests, request_of, requests_of, rest_behind, rest_of_line, rests_of, time_of_line}
+use Rattle.clru_text.specs.declared.fault.Fault.{Fault}
+use Rattle.clru_text.specs.declared.fault.Fault.TheVariants.{NoSize}
+use Rattle.clru_text.specs.declared.lines.OwnedKey.{OwnedKey}
+use Rattle.clru_text.proofs.Samples.{each_kept}
+use Rattle.clru_report.specs.Passes.{IsOfLines, weight_of_key}
+use Rattle.clru_report.specs.Refusals.{fault_from}
 use Rattle.clru_report.specs.SizedTimedPasses.{HasTakenSizedTimed}
 use Rattle.clru_report.specs.SizedReport.{distinct_size}
-use Rattle.clru_report.specs.Sizes.{HaveSizes, greatest_size, size_of_line, size_of_lines, weight_of_line}
-use Rattle.clru_report.specs.TimedPasses.{HasTakenRequests, HasTakenTimed}
-use Rattle.clru_report.specs.Times.{kept_requests, request_of, requests_of, rest_behind, rest_of_line, rests_of, time_of_line}
-use Rattle.clru_report.proofs.Samples.{each_kept}
-use Rattle.clru_report.proofs.SizeViews.{greatest-view, total-view}
-use Rattle.clru_report.proofs.SizedIdleViews.{idle_curve-view, missed_size-view, sized_misses-view}
+use Rattle.clru_report.specs.Sizes.{greatest_size, size_of_lines}
+use Rattle.clru_report.specs.TimedPasses.{HasTakenTimed}
 use Rattle.clru_report.proofs.SizedSamples.{size_more}
 use Rattle.clru_report.proofs.TakenLines.{first_without}
 use Rattle.clru_report.proofs.TimedLines.{keys_taken, numbers_taken, timed_start}

@@ -3,22 +3,23 @@ use Rattle.std.proofs.Common.{◌≡◌, Bool, ℕ, ◌+◌, List, None, [], ◌
 use Rattle.std.specs.Prelude.{bytes_eq, IsSomeAnd}
 use Rattle.std.specs.List.{list_any, slice_get, take_while}
 use Rattle.std.proofs.lemmas.Grind.{reverse_onto}
-use Rattle.std.proofs.lemmas.List.{map-append}
+use Rattle.std.proofs.lemmas.List.{map-append, reverse-reverse}
 use Rattle.std.proofs.lemmas.List.Elements.{All-push}
 use Rattle.clru_curve.specs.SizedCurves.{CurveBySize, IsSizedCurveOf}
 use Rattle.clru_curve.specs.SizedPasses.{PassBySize, IsSizedPass}
-use Rattle.clru_lines.specs.declared.lines.OwnedKey.{OwnedKey}
-use Rattle.clru_report.proofs.SizeViews.{curve-view}
 use Rattle.clru_curve.specs.Curves.{HasMissesOf}
-use Rattle.clru_curve.specs.Passes.{IsPass, Pass}
+use Rattle.clru_curve.proofs.SizeViews.{curve-view}
 use Rattle.clru_least.specs.Passes.{IsLatestOf}
 use Rattle.clru_least.specs.Reuses.{Reused}
 use Rattle.clru_model.proofs.Views.{distinct-map, map-reverse, misses-map}
 use Rattle.clru_model.specs.Requests.{distinct}
-use Rattle.std.proofs.lemmas.List.{reverse-reverse}
-use Rattle.clru_report.specs.Passes.{HasFloorPass, HasForesight, HasTaken, HasTakenFor, HasTakenKey, HasTakenLines, HasTakenSized, IsForeseenFor, line_of, same_line, weight_of_key}
+use Rattle.clru_text.specs.Keys.{line_of, same_line}
+use Rattle.clru_text.specs.Sizes.{HaveSizes, size_of_line, weight_of_line}
+use Rattle.clru_text.specs.declared.lines.OwnedKey.{OwnedKey}
+use Rattle.clru_report.specs.LinePasses.{HasTakenFor, HasTakenLines, IsLinePass}
+use Rattle.clru_report.specs.Passes.{HasFloorPass, HasForesight, HasTaken, HasTakenSized, IsForeseenFor, weight_of_key}
 use Rattle.clru_report.specs.Refusals.{IsFirstWithout}
-use Rattle.clru_report.specs.Sizes.{HaveSizes, size_of_line, weight_of_line}
+use Rattle.clru_report.specs.declared.line_pass.LinePass.{LinePass}
 
 -- one more key shows one more line
 shown_more : {A : Type 0} (key : OwnedKey A) (past : List (OwnedKey A))
@@ -30,10 +31,6 @@ one_more : {A : Type 0} (lines : List (List ℕ)) (past : List (OwnedKey A)) (ke
     → map line_of (reverse past) ≡ lines → line_of key ≡ line → map line_of (reverse (key ∷ past)) ≡ lines ++ line ∷ []
 one_more lines past key line shown is =
     shown_more key past ∙ ap (λ ls. ls ++ line_of key ∷ []) shown ∙ ap (λ l. lines ++ l ∷ []) is
-
-pub key_taken : {A S : Type 0} (past : List (OwnedKey A)) (key : OwnedKey A) (line : List ℕ) (next : Pass (OwnedKey A) S)
-    → line_of key ≡ line → IsPass same_line (key ∷ past) next → HasTakenKey past line next
-key_taken past key line next is taken = record { key = key; is = is; taken = taken }
 
 -- the latest request of a key is that of each other key of its line
 pub latest_alike : {A : Type 0} (past : List (OwnedKey A)) (x y : OwnedKey A) (latest : Option ℕ) → line_of x ≡ line_of y
@@ -49,19 +46,18 @@ module _ {A : Type 0} (lines : List (List ℕ)) (past : List (OwnedKey A)) (show
   foreseen_by least None h = h
   foreseen_by least (Some later) h = (h.0, record { past = past; shown = shown; taken = h.1 })
 
-module _ {A S : Type 0} (least floored : Bool) (lines : List (List ℕ)) (pass : Pass (OwnedKey A) S) (later : Option (List ℕ))
+module _ {S A H : Type 0} (least floored : Bool) (lines : List (List ℕ)) (pass : LinePass S A H) (later : Option (List ℕ))
     (reused : Option Reused) (all : HasTakenFor least floored lines pass later reused) where
   -- one more line
-  pub one_taken : (line : List ℕ) (next : Pass (OwnedKey A) S) (after : Option (List ℕ)) (more : Option Reused)
-      → ((same : OwnedKey A) → line_of same ≡ line → HasForesight least (same ∷ all.past) after)
-      → ((same : OwnedKey A) → line_of same ≡ line → HasFloorPass (λ _. 0) floored (same ∷ all.past) more)
-      → HasTakenKey all.past line next → HasTakenFor least floored (lines ++ line ∷ []) next after more
-  one_taken line next after more foreseen noted one = record {
-    past = one.key ∷ all.past;
-    shown = one_more lines all.past one.key line all.shown one.is;
-    taken = one.taken;
-    foreseen = foreseen one.key one.is;
-    floored = noted one.key one.is;
+  pub one_taken : (key : OwnedKey A) (next : LinePass S A H) (after : Option (List ℕ)) (more : Option Reused)
+      → IsLinePass (key ∷ all.past) next → HasForesight least (key ∷ all.past) after → HasFloorPass (λ _. 0) floored (key ∷ all.past) more
+      → HasTakenFor least floored (lines ++ line_of key ∷ []) next after more
+  one_taken key next after more taken foreseen noted = record {
+    past = key ∷ all.past;
+    shown = one_more lines all.past key (line_of key) all.shown refl;
+    taken = taken;
+    foreseen = foreseen;
+    floored = noted;
   }
 
   pub taken_for : HasTakenLines lines pass
@@ -70,23 +66,23 @@ module _ {A S : Type 0} (least floored : Bool) (lines : List (List ℕ)) (pass :
   pub foreseen_for : IsForeseenFor A least lines later
   foreseen_for = foreseen_by lines all.past all.shown least later all.foreseen
 
-module _ {A S : Type 0} (lines : List (List ℕ)) (pass : Pass (OwnedKey A) S) (taken : HasTakenLines lines pass) where
+module _ {S A H : Type 0} (lines : List (List ℕ)) (pass : LinePass S A H) (taken : HasTakenLines lines pass) where
   -- one more line
-  pub line_taken : (line : List ℕ) (next : Pass (OwnedKey A) S) → HasTakenKey taken.past line next → HasTakenLines (lines ++ line ∷ []) next
-  line_taken line next one = record {
-    past = one.key ∷ taken.past;
-    shown = one_more lines taken.past one.key line taken.shown one.is;
-    taken = one.taken;
+  pub line_taken : (key : OwnedKey A) (next : LinePass S A H) → IsLinePass (key ∷ taken.past) next → HasTakenLines (lines ++ line_of key ∷ []) next
+  line_taken key next one = record {
+    past = key ∷ taken.past;
+    shown = one_more lines taken.past key (line_of key) taken.shown refl;
+    taken = one;
   }
 
   module _ (curve : List ℕ) where
-    pub misses_taken : ((past : List (OwnedKey A)) → IsPass same_line past pass → HasMissesOf same_line (reverse past) curve)
+    pub misses_taken : ((past : List (OwnedKey A)) → IsLinePass past pass → HasMissesOf same_line (reverse past) curve)
         → HasMissesOf bytes_eq lines curve
     misses_taken made =
         subst (λ ls. HasMissesOf bytes_eq ls curve) taken.shown
         (λ k some. made taken.past taken.taken k some ∙ sym (misses-map bytes_eq line_of k (reverse taken.past)))
 
-    pub distinct_taken : ((past : List (OwnedKey A)) → IsPass same_line past pass → length curve ≡ distinct same_line past)
+    pub distinct_taken : ((past : List (OwnedKey A)) → IsLinePass past pass → length curve ≡ distinct same_line past)
         → length curve ≡ distinct bytes_eq (reverse lines)
     distinct_taken made =
         made taken.past taken.taken ∙ sym (distinct-map bytes_eq line_of taken.past)

@@ -1,14 +1,14 @@
 -- From a text with these rows and numbers to the report under limits.
 use Rattle.std.proofs.Common.{◌≡◌, ℕ, ◌-◌, ◌/◌, ◌^◌, false, List, refl, ap, ◌∙◌}
+use Rattle.clru_text.specs.Samples.{times}
+use Rattle.clru_text.specs.declared.options.Form.{Form}
+use Rattle.clru_text.specs.declared.options.Form.TheVariants.{Table, Json, Picture, Summary}
+use Rattle.clru_text.specs.declared.options.Options.{Options}
 use Rattle.clru_report.specs.Capacities.{usual}
 use Rattle.clru_report.specs.Faithful.{IsFaithful}
 use Rattle.clru_report.specs.Passes.{IsTextByKeys}
-use Rattle.clru_report.specs.Samples.{times}
 use Rattle.clru_report.specs.Tables.{summary_text, table_text}
 use Rattle.clru_report.specs.Timed.{AreRowsOn, IsInFormOn, knees_on}
-use Rattle.clru_report.specs.declared.options.Form.{Form}
-use Rattle.clru_report.specs.declared.options.Form.TheVariants.{Table, Json, Picture, Summary}
-use Rattle.clru_report.specs.declared.options.Options.{Options}
 use Rattle.clru_report.specs.declared.rows.Row.{Row}
 use Rattle.clru_report.specs.declared.text.Counts.{Counts}
 

@@ -9,22 +9,19 @@ use Rattle.clru_curve.specs.AgedPasses.{IsAgedPass, aged_misses_at}
 use Rattle.clru_curve.proofs.AgedPassing.{misses_weightless}
 use Rattle.clru_curve.specs.SizedAgedPasses.{AgedPassBySize, IsSizedAgedPass, aged_misses_by_size}
 use Rattle.clru_curve.specs.IdlePasses.{HasIdleMissesOf, IsIdlePass, TimedPass}
-use Rattle.clru_lines.specs.declared.lines.OwnedKey.{OwnedKey}
+use Rattle.clru_curve.proofs.TimedViews.{aged_misses-view, idle_misses-view, keys-view}
 use Rattle.clru_model.proofs.Views.{distinct-map, map-reverse}
 use Rattle.clru_model.proofs.Spans.{total_weightless}
 use Rattle.clru_model.specs.Requests.{distinct}
 use Rattle.clru_model.specs.Sizes.{total}
-use Rattle.clru_report.specs.Passes.{line_of, same_line}
-use Rattle.clru_report.specs.Samples.{is_kept}
+use Rattle.clru_text.specs.Keys.{line_of, same_line}
+use Rattle.clru_text.specs.Samples.{is_kept}
+use Rattle.clru_text.specs.TakenRequests.{HasTakenRequest, HasTakenRequests, shown_of}
+use Rattle.clru_text.specs.Times.{HaveTimes, kept_requests, request_of, requests_of, rest_of_line, time_of_line}
+use Rattle.clru_text.specs.declared.lines.OwnedKey.{OwnedKey}
 use Rattle.clru_report.specs.Timed.{IsFirstUntimed}
-use Rattle.clru_report.specs.TimedPasses.{HasTakenRequest, HasTakenRequests, HasTakenTimed, shown_of}
-use Rattle.clru_report.specs.Times.{HaveTimes, kept_requests, request_of, requests_of, rest_of_line, time_of_line}
+use Rattle.clru_report.specs.TimedPasses.{HasTakenTimed}
 use Rattle.clru_report.proofs.TakenLines.{next_of, take_before}
-use Rattle.clru_report.proofs.TimedViews.{aged_misses-view, idle_misses-view, keys-view}
-
-pub request_taken : {A P : Type 0} (Is : List (OwnedKey A × ℕ) → P → Type 0) (past : List (OwnedKey A × ℕ)) (key : OwnedKey A) (line : List ℕ) (time : ℕ) (next : P)
-    → line_of key ≡ line → Is ((key, time) ∷ past) next → HasTakenRequest Is past line time next
-request_taken Is past key line time next is taken = record { key = key; is = is; taken = taken }
 
 -- the kept requests of one more line
 pub kept_more : (n : ℕ) (lines : List (List ℕ)) (line : List ℕ) → kept_requests n (requests_of (lines ++ line ∷ []))

@@ -1,15 +1,16 @@
 -- What is written of the requests behind the first ones, which fill the cache and are not counted. Public clauses cite it.
 use Rattle.std.specs.Prelude.{◌≡◌, ℕ, ◌-◌, nat_lt, Bool, true, false, List, [], length, map, reverse, take, None, bytes_eq}
 use Rattle.std.specs.List.{All}
-use Rattle.clru_lines.specs.Lines.{lines_of}
 use Rattle.clru_model.specs.Requests.{distinct, misses}
+use Rattle.clru_text.specs.Lines.{lines_of}
+use Rattle.clru_text.specs.Pictures.{HasTable}
+use Rattle.clru_text.specs.declared.options.Form.{Form}
+use Rattle.clru_text.specs.declared.options.Form.TheVariants.{Table, Json, Picture, Summary}
+use Rattle.clru_text.specs.declared.options.Options.{Options}
 use Rattle.clru_report.specs.Capacities.{capacities_of, usual}
 use Rattle.clru_report.specs.Faithful.{IsFaithful}
 use Rattle.clru_report.specs.Knees.{knees}
-use Rattle.clru_report.specs.Tables.{HasTable, capacity_of_row, table_text}
-use Rattle.clru_report.specs.declared.options.Form.{Form}
-use Rattle.clru_report.specs.declared.options.Form.TheVariants.{Table, Json, Picture, Summary}
-use Rattle.clru_report.specs.declared.options.Options.{Options}
+use Rattle.clru_report.specs.Tables.{capacity_of_row, table_text}
 use Rattle.clru_report.specs.declared.rows.Row.{Row}
 
 -- what a number of all requests leaves behind the first n

@@ -1,8 +1,8 @@
 -- The curves of all lines and of the first ones. No public clause cites them.
 use Rattle.std.specs.Prelude.{◌≡◌, ℕ, ◌<◌, ◌≤◌, Option, None, Some, List, length, reverse, take, bytes_eq}
 use Rattle.clru_curve.specs.Curves.{HasMissesOf}
-use Rattle.clru_lines.specs.Lines.{lines_of}
 use Rattle.clru_model.specs.Requests.{distinct}
+use Rattle.clru_text.specs.Lines.{lines_of}
 use Rattle.clru_report.specs.After.{counted}
 use Rattle.clru_report.specs.declared.text.Counts.{Counts}
 

@@ -1,18 +1,11 @@
 -- Which capacities a table has. Public clauses cite them.
-use Rattle.std.specs.Prelude.{ℕ, ◌+◌, ◌-◌, ◌*◌, ◌/◌, ◌%◌, ◌^◌, Bool, ◌||◌, ◌==◌, nat_lt, nat_le, List, [], ◌∷◌, ◌++◌, map, if◌then◌else◌}
+use Rattle.std.specs.Prelude.{ℕ, ◌+◌, ◌-◌, Bool, ◌||◌, ◌==◌, nat_lt, nat_le, List, [], ◌∷◌, ◌++◌, map, if◌then◌else◌}
 use Rattle.std.specs.List.{filter, range_with_len}
 use Rattle.std.specs.Int.NonZero.{non_zero_usize_get}
-use Rattle.clru_report.specs.declared.options.Capacities.{Capacities}
-use Rattle.clru_report.specs.declared.options.Capacities.TheVariants.{Usual, Each, Named, HitRatio, ByteHitRatio}
+use Rattle.clru_text.specs.RoundNumbers.{round_number}
+use Rattle.clru_text.specs.declared.options.Capacities.{Capacities}
+use Rattle.clru_text.specs.declared.options.Capacities.TheVariants.{Usual, Each, Named, HitRatio, ByteHitRatio}
 use Rattle.clru_report.specs.Ratios.{least_with}
-
--- 1, 2 and 5
-abbrev pub first_digit : ℕ → ℕ
-first_digit k = if k == 0 then 1 else (if k == 1 then 2 else 5)
-
--- 1, 2, 5, 10, 20, 50, 100 and so on
-abbrev pub round_number : ℕ → ℕ
-round_number k = first_digit (k % 3) * 10 ^ (k / 3)
 
 -- the round numbers below n, and n
 abbrev pub usual : ℕ → List ℕ

@@ -1,20 +1,12 @@
 -- The columns of a table, by keys or by size, and how a line says them: as CSV or as JSON. Public clauses cite them.
-use Rattle.std.specs.Prelude.{ℕ, ◌+◌, ◌*◌, ◌/◌, ◌%◌, Bool, true, false, ◌&&◌, not, List, [], ◌∷◌, ◌++◌, codes, decimal, map, max, if◌then◌else◌}
+use Rattle.std.specs.Prelude.{ℕ, ◌+◌, Bool, true, false, ◌&&◌, not, List, [], ◌∷◌, ◌++◌, codes, decimal, map, if◌then◌else◌}
 use Rattle.std.specs.List.{filter}
+use Rattle.clru_text.specs.Fractions.{fraction_text, millionths}
 use Rattle.clru_report.specs.declared.columns.Cells.{Cells}
 use Rattle.clru_report.specs.declared.columns.Cells.TheVariants.{Names, Numbers, Members}
 use Rattle.clru_report.specs.declared.columns.Column.{Column}
 use Rattle.clru_report.specs.declared.columns.Column.TheVariants.{Capacity, Misses, MissRatio, MissedBytes, ByteMissRatio, LeastMisses, FloorMisses, FloorMissedBytes, SavedPerKey, SavedPerByte, Knee}
 use Rattle.clru_report.specs.declared.columns.Line.{Line}
-
--- n of so many in millionths, rounded, a half up; of none, as of one
-abbrev pub millionths : ℕ → ℕ → ℕ
-millionths n all = (2000000 * n + max 1 all) / (2 * max 1 all)
-
--- millionths as a decimal fraction of six digits
-abbrev pub fraction_text : ℕ → List ℕ
-fraction_text m = decimal (m / 1000000) ++ (codes "." ++ (decimal (m / 100000 % 10) ++ (decimal (m / 10000 % 10)
-    ++ (decimal (m / 1000 % 10) ++ (decimal (m / 100 % 10) ++ (decimal (m / 10 % 10) ++ decimal (m % 10)))))))
 
 -- all columns, in order
 abbrev pub all_columns : List Column

@@ -2,8 +2,9 @@
 use Rattle.std.specs.Prelude.{◌≡◌, ℕ, ◌<◌, List, [], ◌++◌, length, map, decimal, Option, Some, slice_index, slice_index_or}
 use Rattle.std.specs.List.{All, AllZip}
 use Rattle.std.specs.Option.{option_map_or}
-use Rattle.clru_report.specs.OneSize.{greatest_of_key, tail_of_line}
-use Rattle.clru_report.specs.Passes.{line_of}
+use Rattle.clru_text.specs.Keys.{line_of}
+use Rattle.clru_text.specs.Sizes.{tail_of_line}
+use Rattle.clru_report.specs.OneSize.{greatest_of_key}
 use Rattle.clru_report.specs.declared.sized.key_log.KeyLog.{KeyLog}
 
 module _ {A : Type 0} where

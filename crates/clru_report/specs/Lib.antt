@@ -1,16 +1,12 @@
 pub mod After
 pub mod AfterPasses
-pub mod Arguments
 pub mod Capacities
-pub mod Choices
 pub mod Columns
-pub mod CommandLine
 pub mod Faithful
-pub mod Faults
 pub mod KeyLogs
 pub mod Knees
 pub mod LineFaults
-pub mod Numbers
+pub mod LinePasses
 pub mod OneSize
 pub mod OneSizeLaws
 pub mod Passes
@@ -34,4 +30,3 @@ pub mod Sizes
 pub mod Tables
 pub mod Timed
 pub mod TimedPasses
-pub mod Times

@@ -1,18 +1,10 @@
 -- One size for each key: the lines of a log as they count where each key has the greatest size it came with. Public clauses cite it.
-use Rattle.std.specs.Prelude.{ℕ, ◌==◌, Bool, true, false, List, [], ◌++◌, map, drop, position, decimal, Option, None, Some, bytes_eq, if◌then◌else◌}
+use Rattle.std.specs.Prelude.{ℕ, Bool, true, false, List, ◌++◌, map, decimal, bytes_eq, if◌then◌else◌}
 use Rattle.std.specs.List.{filter}
 use Rattle.std.specs.Option.{is_none}
+use Rattle.clru_text.specs.Sizes.{tail_of_line}
 use Rattle.clru_report.specs.LineFaults.{fault_from}
 use Rattle.clru_report.specs.Sizes.{greatest_size}
-
--- what stands in a line from its first blank on, where it has one
-abbrev pub tail_from : List ℕ → Option ℕ → List ℕ
-tail_from line None = []
-tail_from line (Some at) = drop at line
-
--- the key of a line: what stands behind its size, from the blank on
-abbrev pub tail_of_line : List ℕ → List ℕ
-tail_of_line line = tail_from line (position (λ b. b == 32) line)
 
 -- the greatest size that this key came with, or 1 where it did not come
 abbrev pub greatest_of_key : List (List ℕ) → List ℕ → ℕ

@@ -1,8 +1,8 @@
 -- What is true of one size for each key, whatever the lines are. Public clauses cite it.
 use Rattle.std.specs.Prelude.{◌≡◌, ℕ, ◌+◌, ◌≤◌, List, Some}
 use Rattle.std.specs.List.{Contains}
-use Rattle.clru_report.specs.OneSize.{greatest_of_key, tail_of_line, with_greatest}
-use Rattle.clru_report.specs.Sizes.{HaveSizes, size_of_line, weight_of_line}
+use Rattle.clru_text.specs.Sizes.{HaveSizes, size_of_line, tail_of_line, weight_of_line}
+use Rattle.clru_report.specs.OneSize.{greatest_of_key, with_greatest}
 
 -- each line has the greatest size that its key came with
 abbrev pub SizesAreGreatest : Type 0

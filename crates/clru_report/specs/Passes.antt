@@ -4,27 +4,29 @@ use Rattle.std.specs.List.{All, Contains}
 use Rattle.clru_curve.specs.SizedCurves.{CurveBySize, IsSizedCurveOf, misses_within, missed_size_within}
 use Rattle.clru_curve.specs.SizedPasses.{PassBySize, IsSizedPass}
 use Rattle.clru_curve.specs.Curves.{HasMissesOf, misses_at}
-use Rattle.clru_curve.specs.Passes.{IsPass, Pass}
 use Rattle.clru_least.specs.Passes.{IsForesight}
 use Rattle.clru_least.specs.FloorNumbers.{Floored, IsFloorOf, IsSizeFloorOf, floor_at, size_floor_at}
 use Rattle.clru_least.specs.Reuses.{IsFloorPass, Reused}
-use Rattle.clru_lines.specs.Lines.{lines_of}
-use Rattle.clru_lines.specs.declared.lines.OwnedKey.{OwnedKey}
 use Rattle.clru_model.specs.Requests.{distinct}
+use Rattle.clru_text.specs.Keys.{line_of, same_line}
+use Rattle.clru_text.specs.Lines.{lines_of}
+use Rattle.clru_text.specs.Pictures.{HasTable}
+use Rattle.clru_text.specs.Samples.{kept_of}
+use Rattle.clru_text.specs.Sizes.{HaveSizes, weight_of_line}
+use Rattle.clru_text.specs.declared.fault.Fault.{Fault}
+use Rattle.clru_text.specs.declared.fault.Fault.TheVariants.{BadCapacity, Memory, Reading, Writing, Closed, NoSize, TooLarge, TooSmall}
+use Rattle.clru_text.specs.declared.lines.OwnedKey.{OwnedKey}
+use Rattle.clru_text.specs.declared.options.Capacities.{Capacities}
+use Rattle.clru_text.specs.declared.options.Form.{Form}
+use Rattle.clru_text.specs.declared.options.Form.TheVariants.{Table, Json, Picture, Summary}
+use Rattle.clru_text.specs.declared.options.Options.{Options}
 use Rattle.clru_report.specs.Capacities.{sized_capacities_of, usual_from}
 use Rattle.clru_report.specs.Faithful.{IsFaithful}
 use Rattle.clru_report.specs.Knees.{knees}
 use Rattle.clru_report.specs.Refusals.{IsFirstWithout, fault_from}
-use Rattle.clru_report.specs.Samples.{kept_of}
-use Rattle.clru_report.specs.Sizes.{HaveSizes, size_of_lines, weight_of_line}
-use Rattle.clru_report.specs.Tables.{HasTable, summary_text, table_text}
+use Rattle.clru_report.specs.Sizes.{size_of_lines}
+use Rattle.clru_report.specs.Tables.{summary_text, table_text}
 use Rattle.clru_report.specs.SizedTables.{capacity_of_sized_row, row_floor, sized_table_text}
-use Rattle.clru_lines.specs.declared.fault.Fault.{Fault}
-use Rattle.clru_lines.specs.declared.fault.Fault.TheVariants.{BadCapacity, Memory, Reading, Writing, Closed, NoSize, TooLarge, TooSmall}
-use Rattle.clru_report.specs.declared.options.Capacities.{Capacities}
-use Rattle.clru_report.specs.declared.options.Form.{Form}
-use Rattle.clru_report.specs.declared.options.Form.TheVariants.{Table, Json, Picture, Summary}
-use Rattle.clru_report.specs.declared.options.Options.{Options}
 use Rattle.clru_report.specs.declared.rows.Row.{Row}
 use Rattle.clru_report.specs.declared.text.Counts.{Counts}
 use Rattle.clru_report.specs.declared.sized.floors.Floors.{Floors}
@@ -34,14 +36,6 @@ use Rattle.clru_report.specs.declared.sized.rows.SizedRow.{SizedRow}
 -- at each capacity the curve has so many misses
 abbrev pub HasMisses : (ℕ → ℕ) → List ℕ → Type 0
 HasMisses m curve = (k : ℕ) → 0 < k → misses_at curve k ≡ m k
-
--- the bytes of the line that a key is
-abbrev pub line_of : {A : Type 0} → OwnedKey A → List ℕ
-line_of key = key.0.items
-
--- keys are compared by their lines, and weigh what these do
-abbrev pub same_line : {A : Type 0} → OwnedKey A → OwnedKey A → Bool
-same_line x y = bytes_eq (line_of x) (line_of y)
 
 -- the hash of a line, by what the builder and its hasher say
 abbrev pub hash_of_line : {S H : Type 0} → (H → ℕ) → (H → List ℕ → H) → (S → H) → S → List ℕ → ℕ
@@ -82,18 +76,6 @@ pub record IsSizedCurveOfKept (n : ℕ) (input : List ℕ) (lines : List (List �
   pub summed : size ≡ size_of_lines lines
   pub in_bytes : bytes ≡ length input
 
--- the pass took these lines
-pub record HasTakenLines {A S : Type 0} (lines : List (List ℕ)) (pass : Pass (OwnedKey A) S) : Type 0 where
-  pub past : List (OwnedKey A)
-  pub shown : map line_of (reverse past) ≡ lines
-  pub taken : IsPass same_line past pass
-
--- after these keys the pass took one more, of this line
-pub record HasTakenKey {A S : Type 0} (past : List (OwnedKey A)) (line : List ℕ) (pass : Pass (OwnedKey A) S) : Type 0 where
-  pub key : OwnedKey A
-  pub is : line_of key ≡ line
-  pub taken : IsPass same_line (key ∷ past) pass
-
 -- the foresight took these lines
 pub record HasForeseen (A : Type 0) (lines : List (List ℕ)) (later : List ℕ) : Type 0 where
   pub past : List (OwnedKey A)
@@ -109,15 +91,6 @@ HasForesight least past (Some later) = (least ≡ true) × IsForesight same_line
 abbrev pub HasFloorPass : {A : Type 0} → (List ℕ → ℕ) → Bool → List (OwnedKey A) → Option Reused → Type 0
 HasFloorPass weight floor past None = floor ≡ false
 HasFloorPass weight floor past (Some reused) = (floor ≡ true) × IsFloorPass same_line (λ key. weight (line_of key)) past reused
-
--- the pass took these lines, and so did what is asked for beside it
-pub record HasTakenFor {A S : Type 0} (least floor : Bool) (lines : List (List ℕ)) (pass : Pass (OwnedKey A) S)
-    (later : Option (List ℕ)) (reused : Option Reused) : Type 0 where
-  pub past : List (OwnedKey A)
-  pub shown : map line_of (reverse past) ≡ lines
-  pub taken : IsPass same_line past pass
-  pub foreseen : HasForesight least past later
-  pub floored : HasFloorPass (λ _. 0) floor past reused
 
 abbrev pub IsForeseenFor : Type 0 → Bool → List (List ℕ) → Option (List ℕ) → Type 0
 IsForeseenFor A least lines None = least ≡ false

@@ -2,10 +2,11 @@
 use Rattle.std.specs.Prelude.{◌≡◌, ℕ, ◌<◌, ◌≤◌, false, List, [], ◌∷◌, length, reverse, bytes_eq}
 use Rattle.clru_model.specs.Requests.{distinct}
 use Rattle.clru_model.specs.Sizes.{misses_by_size}
+use Rattle.clru_text.specs.Sizes.{weight_of_line}
 use Rattle.clru_report.specs.Ratios.{has_ratio, least_with}
 use Rattle.clru_report.specs.Report.{misses_of}
 use Rattle.clru_report.specs.SizedReport.{distinct_size, missed_of}
-use Rattle.clru_report.specs.Sizes.{greatest_size, weight_of_line}
+use Rattle.clru_report.specs.Sizes.{greatest_size}
 
 -- of the capacities from g on, c is the least with the hit ratio, or where none has it, the least with the fewest misses
 pub record IsLeastWith (r whole : ℕ) (misses : ℕ → ℕ) (g c : ℕ) : Type 0 where

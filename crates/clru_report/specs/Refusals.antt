@@ -3,33 +3,23 @@ use Rattle.std.specs.Prelude.{◌≡◌, ℕ, ◌+◌, ◌<◌, ◌≤◌, ◌^�
 use Rattle.std.specs.Int.NonZero.{non_zero_usize_get}
 use Rattle.std.specs.List.{Contains, list_any, slice_get}
 use Rattle.std.specs.Option.{option_or}
+use Rattle.clru_text.specs.Lines.{lines_of}
+use Rattle.clru_text.specs.Sizes.{HaveSizes, size_of_line}
+use Rattle.clru_text.specs.Times.{rests_of}
+use Rattle.clru_text.specs.declared.fault.Fault.{Fault}
+use Rattle.clru_text.specs.declared.fault.Fault.TheVariants.{BadCapacity, Memory, Reading, Writing, Closed, NoSize, TooLarge, TooSmall}
+use Rattle.clru_text.specs.declared.options.Capacities.{Capacities}
+use Rattle.clru_text.specs.declared.options.Capacities.TheVariants.{Usual, Each, Named, HitRatio, ByteHitRatio}
+use Rattle.clru_text.specs.declared.options.Form.{Form}
+use Rattle.clru_text.specs.declared.options.Form.TheVariants.{Table, Json, Picture, Summary}
+use Rattle.clru_text.specs.declared.options.Options.{Options}
+use Rattle.clru_text.specs.declared.options.Sample.{Sample}
+use Rattle.clru_text.specs.declared.options.Sample.TheVariants.{Whole, OneIn, Taken}
+use Rattle.clru_text.specs.declared.options.Times.{Times}
 pub use Rattle.clru_report.specs.LineFaults.{fault_from}
-use Rattle.clru_lines.specs.Lines.{lines_of}
 use Rattle.clru_report.specs.OneSize.{counted_lines}
-use Rattle.clru_report.specs.Sizes.{HaveSizes, greatest_size, size_of_line, size_of_lines}
+use Rattle.clru_report.specs.Sizes.{greatest_size, size_of_lines}
 use Rattle.clru_report.specs.Timed.{IsUntimed}
-use Rattle.clru_report.specs.Times.{rests_of}
-use Rattle.clru_lines.specs.declared.fault.Fault.{Fault}
-use Rattle.clru_lines.specs.declared.fault.Fault.TheVariants.{BadCapacity, Memory, Reading, Writing, Closed, NoSize, TooLarge, TooSmall}
-use Rattle.clru_report.specs.declared.options.Capacities.{Capacities}
-use Rattle.clru_report.specs.declared.options.Capacities.TheVariants.{Usual, Each, Named, HitRatio, ByteHitRatio}
-use Rattle.clru_report.specs.declared.options.Form.{Form}
-use Rattle.clru_report.specs.declared.options.Form.TheVariants.{Table, Json, Picture, Summary}
-use Rattle.clru_report.specs.declared.options.Options.{Options}
-use Rattle.clru_report.specs.declared.options.Sample.{Sample}
-use Rattle.clru_report.specs.declared.options.Sample.TheVariants.{Whole, OneIn, Taken}
-use Rattle.clru_report.specs.declared.options.Times.{Times}
-
--- the fault is one of the input, or of a capacity beside it
-abbrev pub is_of_input : Fault → Bool
-is_of_input BadCapacity = true
-is_of_input Memory = false
-is_of_input Reading = false
-is_of_input Writing = false
-is_of_input Closed = false
-is_of_input (NoSize n) = true
-is_of_input TooLarge = true
-is_of_input (TooSmall n) = true
 
 -- the line of this number, counted from 1, is the first that begins with no size
 abbrev pub IsFirstWithout : ℕ → List (List ℕ) → Type 0

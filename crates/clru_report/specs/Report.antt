@@ -6,24 +6,26 @@ use Rattle.std.specs.Option.{option_map}
 use Rattle.clru_model.specs.Requests.{distinct, misses}
 use Rattle.clru_model.specs.Floor.{floor_misses}
 use Rattle.clru_model.specs.Least.{IsLeast}
-use Rattle.clru_lines.specs.Lines.{lines_of}
+use Rattle.clru_text.specs.Lines.{lines_of}
+use Rattle.clru_text.specs.Pictures.{HasTable}
+use Rattle.clru_text.specs.Samples.{kept_of, times}
+use Rattle.clru_text.specs.declared.options.Form.{Form}
+use Rattle.clru_text.specs.declared.options.Form.TheVariants.{Table, Json, Picture, Summary}
+use Rattle.clru_text.specs.declared.options.Options.{Options}
+use Rattle.clru_text.specs.declared.options.Sample.{Sample}
+use Rattle.clru_text.specs.declared.options.Sample.TheVariants.{Whole, OneIn, Taken}
+use Rattle.clru_text.specs.declared.options.Times.{Times}
 use Rattle.clru_report.specs.After.{IsInFormAfter}
 use Rattle.clru_report.specs.Capacities.{capacities_of, usual}
 use Rattle.clru_report.specs.Faithful.{IsFaithful}
 use Rattle.clru_report.specs.Knees.{knees}
 use Rattle.clru_report.specs.OneSize.{counted_lines}
-use Rattle.clru_report.specs.Samples.{kept_of, numbers_of, numbers_times, times}
+use Rattle.clru_report.specs.Samples.{numbers_of, numbers_times}
 use Rattle.clru_report.specs.SizedAfter.{IsReportBySizeAfter}
 use Rattle.clru_report.specs.SizedReport.{IsReportBySizeOf}
 use Rattle.clru_report.specs.SizedTimed.{IsTimedReportBySize}
-use Rattle.clru_report.specs.Tables.{HasTable, capacity_of_row, table_text, summary_text}
+use Rattle.clru_report.specs.Tables.{capacity_of_row, table_text, summary_text}
 use Rattle.clru_report.specs.Timed.{IsTimedReport}
-use Rattle.clru_report.specs.declared.options.Form.{Form}
-use Rattle.clru_report.specs.declared.options.Form.TheVariants.{Table, Json, Picture, Summary}
-use Rattle.clru_report.specs.declared.options.Options.{Options}
-use Rattle.clru_report.specs.declared.options.Sample.{Sample}
-use Rattle.clru_report.specs.declared.options.Sample.TheVariants.{Whole, OneIn, Taken}
-use Rattle.clru_report.specs.declared.options.Times.{Times}
 use Rattle.clru_report.specs.declared.rows.Row.{Row}
 
 module _ {K : Type 0} (eq : K → K → Bool) (requests : List K) where

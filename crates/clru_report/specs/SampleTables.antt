@@ -2,13 +2,14 @@
 use Rattle.std.specs.Prelude.{◌≡◌, ℕ, ◌+◌, ◌-◌, ◌/◌, ◌^◌, nat_le, Bool, true, false, List, map, min, Option}
 use Rattle.std.specs.List.{filter}
 use Rattle.clru_curve.specs.SizedCurves.{CurveBySize}
+use Rattle.clru_text.specs.Pictures.{HasTable}
+use Rattle.clru_text.specs.Samples.{times}
+use Rattle.clru_text.specs.declared.options.Form.{Form}
+use Rattle.clru_text.specs.declared.options.Form.TheVariants.{Table, Json, Picture, Summary}
+use Rattle.clru_text.specs.declared.options.Options.{Options}
 use Rattle.clru_report.specs.Passes.{AreRowsOf, IsUsualOn, capacities_on, distinct_in}
-use Rattle.clru_report.specs.Samples.{sized_numbers_of, sized_numbers_times, times}
+use Rattle.clru_report.specs.Samples.{sized_numbers_of, sized_numbers_times}
 use Rattle.clru_report.specs.SizedTables.{sized_summary_text, sized_table_text}
-use Rattle.clru_report.specs.Tables.{HasTable}
-use Rattle.clru_report.specs.declared.options.Form.{Form}
-use Rattle.clru_report.specs.declared.options.Form.TheVariants.{Table, Json, Picture, Summary}
-use Rattle.clru_report.specs.declared.options.Options.{Options}
 use Rattle.clru_report.specs.declared.sized.floors.Floors.{Floors}
 use Rattle.clru_report.specs.declared.sized.rows.SizedRow.{SizedRow}
 

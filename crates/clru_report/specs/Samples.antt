@@ -1,26 +1,12 @@
 -- A sample of the requests: which lines are kept, and what a number of the kept ones says of all. Public clauses cite it.
-use Rattle.std.specs.Prelude.{ℕ, ◌*◌, ◌%◌, ◌-◌, ◌^◌, ◌==◌, Bool, List, min, Option, None, bit_xor, filter, fold}
+use Rattle.std.specs.Prelude.{ℕ, ◌-◌, ◌^◌, Option, None}
 use Rattle.std.specs.Option.{option_map}
+use Rattle.clru_text.specs.Samples.{times}
 use Rattle.clru_report.specs.SizedTables.{capacity_of_sized_row, row_floor}
 use Rattle.clru_report.specs.Tables.{capacity_of_row}
 use Rattle.clru_report.specs.declared.rows.Row.{Row}
 use Rattle.clru_report.specs.declared.sized.floors.RowFloor.{RowFloor}
 use Rattle.clru_report.specs.declared.sized.rows.SizedRow.{SizedRow}
-
--- the hash FNV-1a of 64 bits
-abbrev pub fnv : List ℕ → ℕ
-fnv bytes = fold (λ s b. (bit_xor s b * 1099511628211) % 2 ^ 64) 14695981039346656037 bytes
-
--- a key is kept where its hash is a multiple of n: all of its requests are, or none
-abbrev pub is_kept : ℕ → List ℕ → Bool
-is_kept n line = fnv line % n == 0
-
-abbrev pub kept_of : ℕ → List (List ℕ) → List (List ℕ)
-kept_of n lines = filter (is_kept n) lines
-
--- n times a number, or the bound where that is less
-abbrev pub times : ℕ → ℕ → ℕ → ℕ
-times n bound number = min (number * n) bound
 
 -- what stands in a row: capacity, misses, least possible misses and floor
 abbrev pub numbers_of : Row → ℕ × (ℕ × (Option ℕ × Option ℕ))

@@ -2,6 +2,11 @@
 use Rattle.std.specs.Prelude.{◌≡◌, ℕ, ◌≤◌, nat_lt, Bool, true, false, List, [], length, map, None, bytes_eq}
 use Rattle.std.specs.List.{All}
 use Rattle.clru_model.specs.Sizes.{misses_by_size, missed_size as missed_size_of}
+use Rattle.clru_text.specs.Pictures.{HasTable}
+use Rattle.clru_text.specs.Sizes.{HaveSizes, weight_of_line}
+use Rattle.clru_text.specs.declared.options.Form.{Form}
+use Rattle.clru_text.specs.declared.options.Form.TheVariants.{Table, Json, Picture, Summary}
+use Rattle.clru_text.specs.declared.options.Options.{Options}
 use Rattle.clru_report.specs.After.{behind, counted}
 use Rattle.clru_report.specs.Capacities.{sized_capacities_of, usual_from}
 use Rattle.clru_report.specs.Faithful.{IsFaithful}
@@ -9,11 +14,7 @@ use Rattle.clru_report.specs.Knees.{knees}
 use Rattle.clru_report.specs.Refusals.{fault_of}
 use Rattle.clru_report.specs.SizedReport.{distinct_size}
 use Rattle.clru_report.specs.SizedTables.{capacity_of_sized_row, sized_table_text}
-use Rattle.clru_report.specs.Sizes.{HaveSizes, greatest_size, size_of_lines, weight_of_line}
-use Rattle.clru_report.specs.Tables.{HasTable}
-use Rattle.clru_report.specs.declared.options.Form.{Form}
-use Rattle.clru_report.specs.declared.options.Form.TheVariants.{Table, Json, Picture, Summary}
-use Rattle.clru_report.specs.declared.options.Options.{Options}
+use Rattle.clru_report.specs.Sizes.{greatest_size, size_of_lines}
 use Rattle.clru_report.specs.declared.sized.rows.SizedRow.{SizedRow}
 
 module _ (n : ℕ) (lines : List (List ℕ)) where

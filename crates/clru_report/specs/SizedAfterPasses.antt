@@ -2,16 +2,16 @@
 use Rattle.std.specs.Prelude.{◌≡◌, ℕ, ◌+◌, ◌-◌, ◌<◌, ◌≤◌, ◌==◌, ◌||◌, nat_lt, Bool, true, false, Option, None, Some, List, length, map, take, bytes_eq}
 use Rattle.std.specs.List.{All}
 use Rattle.clru_curve.specs.SizedCurves.{CurveBySize, IsSizedCurveOf, hits_within, misses_within, missed_size_within}
-use Rattle.clru_lines.specs.Lines.{lines_of}
+use Rattle.clru_text.specs.Lines.{lines_of}
+use Rattle.clru_text.specs.Sizes.{HaveSizes, weight_of_line}
+use Rattle.clru_text.specs.declared.fault.Fault.{Fault}
+use Rattle.clru_text.specs.declared.fault.Fault.TheVariants.{TooSmall}
+use Rattle.clru_text.specs.declared.options.Capacities.{Capacities}
 use Rattle.clru_report.specs.Capacities.{sized_capacities_of, usual_from}
 use Rattle.clru_report.specs.Faithful.{IsFaithful}
 use Rattle.clru_report.specs.Knees.{knees}
 use Rattle.clru_report.specs.Refusals.{NamesBelow, fault_from}
 use Rattle.clru_report.specs.SizedTables.{capacity_of_sized_row}
-use Rattle.clru_report.specs.Sizes.{HaveSizes, weight_of_line}
-use Rattle.clru_lines.specs.declared.fault.Fault.{Fault}
-use Rattle.clru_lines.specs.declared.fault.Fault.TheVariants.{TooSmall}
-use Rattle.clru_report.specs.declared.options.Capacities.{Capacities}
 use Rattle.clru_report.specs.declared.sized.rows.SizedRow.{SizedRow}
 
 -- the curve of the first n lines is there if others follow

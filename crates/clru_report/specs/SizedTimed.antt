@@ -6,24 +6,26 @@ use Rattle.std.specs.List.{All, filter}
 use Rattle.std.specs.Map.{keys_of}
 use Rattle.clru_curve.specs.SizedAgedPasses.{aged_missed_size, aged_misses_by_size}
 use Rattle.clru_curve.specs.SizedIdlePasses.{idle_missed_size, idle_misses_by_size}
+use Rattle.clru_text.specs.Choices.{is_json}
+use Rattle.clru_text.specs.Pictures.{HasTable}
+use Rattle.clru_text.specs.Samples.{times}
+use Rattle.clru_text.specs.Sizes.{HaveSizes, weight_of_line}
+use Rattle.clru_text.specs.Times.{HaveTimes, idle_limit, kept_requests, requests_of, rests_of}
+use Rattle.clru_text.specs.declared.options.Form.{Form}
+use Rattle.clru_text.specs.declared.options.Form.TheVariants.{Table, Json, Picture, Summary}
+use Rattle.clru_text.specs.declared.options.Options.{Options}
+use Rattle.clru_text.specs.declared.options.Sample.{Sample}
+use Rattle.clru_text.specs.declared.options.Sample.TheVariants.{Whole, OneIn, Taken}
+use Rattle.clru_text.specs.declared.options.Times.{Times}
 use Rattle.clru_report.specs.Capacities.{aged_capacities, sized_capacities_of, usual_from}
-use Rattle.clru_report.specs.Choices.{is_json}
 use Rattle.clru_report.specs.Faithful.{IsFaithful}
 use Rattle.clru_report.specs.Knees.{knees}
 use Rattle.clru_report.specs.Refusals.{fault_by}
-use Rattle.clru_report.specs.Samples.{sized_numbers_of, sized_numbers_times, times}
+use Rattle.clru_report.specs.Samples.{sized_numbers_of, sized_numbers_times}
 use Rattle.clru_report.specs.SizedReport.{distinct_size}
 use Rattle.clru_report.specs.SizedTables.{capacity_of_sized_row, sized_table_text}
-use Rattle.clru_report.specs.Sizes.{HaveSizes, greatest_size, size_of_lines, weight_of_line}
-use Rattle.clru_report.specs.Tables.{HasTable}
-use Rattle.clru_report.specs.Timed.{all_by, idle_limit, kept_in, part_in}
-use Rattle.clru_report.specs.Times.{HaveTimes, kept_requests, requests_of, rests_of}
-use Rattle.clru_report.specs.declared.options.Form.{Form}
-use Rattle.clru_report.specs.declared.options.Form.TheVariants.{Table, Json, Picture, Summary}
-use Rattle.clru_report.specs.declared.options.Options.{Options}
-use Rattle.clru_report.specs.declared.options.Sample.{Sample}
-use Rattle.clru_report.specs.declared.options.Sample.TheVariants.{Whole, OneIn, Taken}
-use Rattle.clru_report.specs.declared.options.Times.{Times}
+use Rattle.clru_report.specs.Sizes.{greatest_size, size_of_lines}
+use Rattle.clru_report.specs.Timed.{all_by, kept_in, part_in}
 use Rattle.clru_report.specs.declared.sized.rows.SizedRow.{SizedRow}
 
 -- the size of all requests together, where that of those that are read is this

@@ -2,11 +2,12 @@
 use Rattle.std.specs.Prelude.{◌≡◌, ℕ, ◌+◌, ◌++◌, None, List, length, bytes_eq}
 use Rattle.clru_curve.specs.SizedCurves.{CurveBySize}
 use Rattle.clru_curve.specs.SizedIdlePasses.{IsSizedIdleCurveOf}
-use Rattle.clru_lines.specs.declared.lines.OwnedKey.{OwnedKey}
+use Rattle.clru_text.specs.Sizes.{HaveSizes, weight_of_line}
+use Rattle.clru_text.specs.Times.{HaveTimes, kept_requests, requests_of, rests_of}
+use Rattle.clru_text.specs.declared.lines.OwnedKey.{OwnedKey}
 use Rattle.clru_report.specs.LineFaults.{fault_from}
-use Rattle.clru_report.specs.Sizes.{HaveSizes, size_of_lines, weight_of_line}
+use Rattle.clru_report.specs.Sizes.{size_of_lines}
 use Rattle.clru_report.specs.TimedPasses.{HasTakenTimed}
-use Rattle.clru_report.specs.Times.{HaveTimes, kept_requests, requests_of, rests_of}
 
 -- of lines that begin with times, and then with sizes of so much together, it took those that a sample keeps; they have no fault
 pub record HasTakenSizedTimed {A P : Type 0} (Is : List (OwnedKey A × ℕ) → P → Type 0) (n : ℕ) (lines : List (List ℕ)) (size : ℕ)

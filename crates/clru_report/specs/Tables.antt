@@ -1,5 +1,5 @@
 -- The text of a table. Public clauses cite it.
-use Rattle.std.specs.Prelude.{ℕ, ◌≡◌, ◌-◌, Bool, false, List, [], ◌∷◌, ◌++◌, codes, decimal, unwrap_or}
+use Rattle.std.specs.Prelude.{ℕ, ◌-◌, Bool, false, List, [], ◌∷◌, ◌++◌, codes, decimal, unwrap_or}
 use Rattle.std.specs.Int.NonZero.{non_zero_usize_get}
 use Rattle.clru_report.specs.Columns.{columns, header_text, row_text}
 use Rattle.clru_report.specs.Faithful.{point}
@@ -48,14 +48,3 @@ table_text json least floor requests knees rows = header_text json (columns fals
 abbrev pub summary_text : ℕ → ℕ → ℕ → List ℕ
 summary_text requests distinct bytes = codes "requests,distinct_keys,input_bytes\n" ++ (decimal requests ++ (codes ","
     ++ (decimal distinct ++ (codes "," ++ (decimal bytes ++ codes "\n")))))
-
--- how each picture begins, up to its table
-abbrev pub picture_head : List ℕ
-picture_head = codes "<svg class=\"clru_mrc\" xmlns=\"http://www.w3.org/2000/svg\" role=\"img\""
-    ++ (codes " viewBox=\"0 0 8000 4600\" width=\"800\" height=\"460\">\n"
-    ++ codes "<title>Miss ratio by capacity</title>\n<desc>\n")
-
--- a picture from its head to its closing tag, with the table, letter by letter, as its description
-abbrev pub HasTable : List ℕ → List ℕ → Type 0
-HasTable table text = (drawn : List ℕ)
-    × (text ≡ picture_head ++ (table ++ (codes "</desc>\n" ++ (drawn ++ codes "</svg>\n"))))

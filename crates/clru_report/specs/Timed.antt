@@ -1,28 +1,30 @@
 -- What is written for lines that begin with times, where entries may expire. The numbers are those of the definitions of requests
 -- with times: no cache is in sight. Public clauses cite it.
-use Rattle.std.specs.Prelude.{◌≡◌, ℕ, ◌+◌, ◌-◌, ◌/◌, ◌^◌, Bool, true, false, Option, None, Some, List, [], length, map, reverse, take, IsNone, IsSomeAnd, bytes_eq, unwrap_or}
+use Rattle.std.specs.Prelude.{◌≡◌, ℕ, ◌+◌, ◌-◌, ◌/◌, ◌^◌, Bool, true, false, Option, None, Some, List, [], length, map, reverse, take, IsNone, IsSomeAnd, bytes_eq}
 use Rattle.std.specs.Int.NonZero.{non_zero_usize_get}
 use Rattle.std.specs.List.{slice_get}
 use Rattle.std.specs.Map.{keys_of}
 use Rattle.clru_curve.specs.AgedPasses.{aged_misses_at}
 use Rattle.clru_curve.specs.IdlePasses.{idle_misses}
-use Rattle.clru_lines.specs.declared.fault.Fault.{Fault}
-use Rattle.clru_lines.specs.declared.fault.Fault.TheVariants.{BadCapacity, Memory, Reading, Writing, Closed, NoSize, TooLarge, TooSmall}
 use Rattle.clru_model.specs.Requests.{distinct}
+use Rattle.clru_text.specs.Choices.{is_json}
+use Rattle.clru_text.specs.Pictures.{HasTable}
+use Rattle.clru_text.specs.Samples.{times}
+use Rattle.clru_text.specs.Times.{HaveTimes, idle_limit, kept_requests, requests_of, time_of_line}
+use Rattle.clru_text.specs.declared.fault.Fault.{Fault}
+use Rattle.clru_text.specs.declared.fault.Fault.TheVariants.{BadCapacity, Memory, Reading, Writing, Closed, NoSize, TooLarge, TooSmall}
+use Rattle.clru_text.specs.declared.options.Form.{Form}
+use Rattle.clru_text.specs.declared.options.Form.TheVariants.{Table, Json, Picture, Summary}
+use Rattle.clru_text.specs.declared.options.Options.{Options}
+use Rattle.clru_text.specs.declared.options.Sample.{Sample}
+use Rattle.clru_text.specs.declared.options.Sample.TheVariants.{Whole, OneIn, Taken}
+use Rattle.clru_text.specs.declared.options.Times.{Times}
 use Rattle.clru_report.specs.Capacities.{aged_capacities, capacities_of, usual}
-use Rattle.clru_report.specs.Choices.{is_json}
 use Rattle.clru_report.specs.Faithful.{IsFaithful}
 use Rattle.clru_report.specs.Knees.{knees}
 use Rattle.clru_report.specs.PlainRows.{ArePlainRows}
-use Rattle.clru_report.specs.Samples.{numbers_of, numbers_times, times}
-use Rattle.clru_report.specs.Tables.{HasTable, summary_text, table_text}
-use Rattle.clru_report.specs.Times.{HaveTimes, kept_requests, requests_of, time_of_line}
-use Rattle.clru_report.specs.declared.options.Form.{Form}
-use Rattle.clru_report.specs.declared.options.Form.TheVariants.{Table, Json, Picture, Summary}
-use Rattle.clru_report.specs.declared.options.Options.{Options}
-use Rattle.clru_report.specs.declared.options.Sample.{Sample}
-use Rattle.clru_report.specs.declared.options.Sample.TheVariants.{Whole, OneIn, Taken}
-use Rattle.clru_report.specs.declared.options.Times.{Times}
+use Rattle.clru_report.specs.Samples.{numbers_of, numbers_times}
+use Rattle.clru_report.specs.Tables.{summary_text, table_text}
 use Rattle.clru_report.specs.declared.rows.Row.{Row}
 
 -- one key in so many is kept of those that are read
@@ -70,10 +72,6 @@ module _ {A : Type 0} (options : Options A) (m : ℕ → ℕ) (keys n all : ℕ)
   IsInFormOn Json bytes text = IsTableOn true text
   IsInFormOn Picture bytes text = IsPictureOn text
   IsInFormOn Summary bytes text = text ≡ summary_text all (times n (2 ^ 64 - 1) keys) bytes
-
--- the idle limit; without one it is the greatest time there is
-abbrev pub idle_limit : Times → ℕ
-idle_limit limits = unwrap_or limits.max_idle (2 ^ 64 - 1)
 
 -- how many of the requests miss at a capacity under the limit
 abbrev pub misses_under : Times → List (List ℕ × ℕ) → ℕ → ℕ

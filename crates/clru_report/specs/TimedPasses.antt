@@ -1,29 +1,12 @@
 -- What a pass over lines with times has taken, and its curve. No public clause cites it.
-use Rattle.std.specs.Prelude.{◌≡◌, ℕ, List, ◌∷◌, length, map, reverse, bytes_eq}
+use Rattle.std.specs.Prelude.{◌≡◌, ℕ, List, length, reverse, bytes_eq}
 use Rattle.std.specs.Map.{keys_of}
 use Rattle.clru_curve.specs.IdlePasses.{HasIdleMissesOf}
-use Rattle.clru_lines.specs.Lines.{lines_of}
-use Rattle.clru_lines.specs.declared.lines.OwnedKey.{OwnedKey}
 use Rattle.clru_model.specs.Requests.{distinct}
-use Rattle.clru_report.specs.Passes.{line_of}
-use Rattle.clru_report.specs.Times.{HaveTimes, kept_requests, requests_of}
-
--- what a request shows
-abbrev pub shown_of : {A : Type 0} → OwnedKey A × ℕ → List ℕ × ℕ
-shown_of r = (line_of r.0, r.1)
-
--- the pass took these requests, where what it has taken is said in this way
-pub record HasTakenRequests {A P : Type 0} (Is : List (OwnedKey A × ℕ) → P → Type 0) (requests : List (List ℕ × ℕ)) (pass : P) : Type 0 where
-  pub past : List (OwnedKey A × ℕ)
-  pub shown : map shown_of (reverse past) ≡ requests
-  pub taken : Is past pass
-
--- after these requests the pass took one more, with this key and time
-pub record HasTakenRequest {A P : Type 0} (Is : List (OwnedKey A × ℕ) → P → Type 0) (past : List (OwnedKey A × ℕ)) (line : List ℕ) (time : ℕ)
-    (pass : P) : Type 0 where
-  pub key : OwnedKey A
-  pub is : line_of key ≡ line
-  pub taken : Is ((key, time) ∷ past) pass
+use Rattle.clru_text.specs.Lines.{lines_of}
+use Rattle.clru_text.specs.TakenRequests.{HasTakenRequests}
+use Rattle.clru_text.specs.Times.{HaveTimes, kept_requests, requests_of}
+use Rattle.clru_text.specs.declared.lines.OwnedKey.{OwnedKey}
 
 -- of lines that begin with times it took those that a sample keeps
 pub record HasTakenTimed {A P : Type 0} (Is : List (OwnedKey A × ℕ) → P → Type 0) (n : ℕ) (lines : List (List ℕ)) (pass : P) : Type 0 where

@@ -4,23 +4,22 @@ ghost use Rattle.std.specs.Int.NonZero.{non_zero_usize_get};
 ghost use Rattle.std.specs.List.{range_with_len};
 ghost use Rattle.std.specs.Str.{bytes_eq};
 ghost use Rattle.clru_curve.specs.Curves.{HasMissesOf, misses_at};
-ghost use Rattle.clru_lines.specs.Lines.{lines_of};
-ghost use Rattle.clru_lines.specs.Whole.{ReadWhole};
+ghost use Rattle.clru_text.specs.Choices.{is_summary};
+ghost use Rattle.clru_text.specs.Lines.{lines_of};
+ghost use Rattle.clru_text.specs.Whole.{ReadWhole};
 ghost use Rattle.clru_report.specs.After.{AreCounted, AreRowsBehind, counted, IsInFormAfter};
 ghost use Rattle.clru_report.specs.AfterPasses.{AreCountsBehind, AreCurvesAround, IsCurveOfLines, IsHead};
-ghost use Rattle.clru_report.specs.Choices.{is_summary};
 ghost use Rattle.clru_report.specs.Report.{AreRows};
 ghost use Rattle.clru_report.specs.Tables.{capacity_of_row};
 
 use crate::capacities::{capacities_for, usual_capacities};
 use crate::faithful::ByKeys;
 use crate::knees::table_with_knees;
-use crate::options::Options;
-use crate::pass::take_key;
+use crate::line_pass::LinePass;
 use crate::rows::{Row, rows_at};
 use crate::text::{Counts, text_by_keys};
-use clru_curve::{DistancePass, MissCurve};
-use clru_lines::{LineBuffer, OwnedKey, ReadError};
+use clru_curve::MissCurve;
+use clru_text::{LineBuffer, Options, OwnedKey, ReadError};
 use std::alloc::{AllocError, Allocator};
 use std::hash::BuildHasher;
 use std::io::Read;
@@ -61,7 +60,7 @@ fn curves_around<R: Read, S: BuildHasher + Drop, A: Allocator + Copy>(
     ensures { IfOk result (λ found. ReadWhole (R.remaining reader.old) (R.remaining reader.new)
         (λ input. AreCurvesAround (non_zero_usize_get after) input found.0 found.1 found.2 found.3)) }
 {
-    let mut pass = DistancePass::with_hasher(alloc, hash_builder);
+    let mut pass = LinePass::new(alloc, hash_builder);
     let mut head = None;
     let mut buffer = LineBuffer::new(alloc);
     let mut key = OwnedKey(Vec::new(alloc));
@@ -73,12 +72,15 @@ fn curves_around<R: Read, S: BuildHasher + Drop, A: Allocator + Copy>(
             };
             head = Some(curve);
         }
-        let Ok(()) = take_key(alloc, &mut pass, &key) else {
+        let Ok(_) = pass.take(&key) else {
             return Err(ReadError::Memory);
         };
         requests += 1;
     }
-    Ok((pass.into_curve(), head, requests, buffer.bytes_read()))
+    let Ok(curve) = pass.into_curve(alloc) else {
+        return Err(ReadError::Memory);
+    };
+    Ok((curve, head, requests, buffer.bytes_read()))
 }
 
 // The rows of the counted requests, and the knees of their usual table.

@@ -2,10 +2,10 @@
 ghost use Rattle.std.specs.Prelude.{◌≡◌, ◌<◌, ◌+◌, ◌++◌, [], ◌∷◌, length, map, IfOk, OnOk};
 ghost use Rattle.std.specs.Int.NonZero.{non_zero_usize_get};
 ghost use Rattle.clru_curve.specs.Curves.{misses_at};
-ghost use Rattle.clru_report.specs.Capacities.{capacities_of, falls, is_fall, round_number, usual};
+ghost use Rattle.clru_report.specs.Capacities.{capacities_of, falls, is_fall, usual};
 
-use crate::options::Capacities;
 use crate::ratio::least_by_keys;
+use clru_text::{Capacities, ROUND_NUMBERS, round_at};
 use std::alloc::{AllocError, Allocator};
 use std::num::NonZeroUsize;
 
@@ -29,23 +29,6 @@ pub(crate) fn capacities_for<A: Allocator + Copy>(
             least_by_keys(alloc, *ratio, curve, whole)
         }
     }
-}
-
-// How many round numbers there are up to the greatest `usize`, and two more.
-pub(crate) const ROUND_NUMBERS: usize = 60;
-
-// The round number of an index, counted from 0.
-pub(crate) fn round_at(index: usize) -> u128
-    requires { index < 60 }
-    ensures value { result ≡ round_number index }
-    ensures positive { 0 < result }
-{
-    let digit = match index % 3 {
-        0 => 1,
-        1 => 2,
-        _ => 5,
-    };
-    digit * 10u128.pow((index / 3) as u32)
 }
 
 pub(crate) fn usual_capacities<A: Allocator>(

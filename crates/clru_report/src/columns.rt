@@ -2,7 +2,7 @@
 ghost use Rattle.std.specs.Prelude.{◌≡◌, ◌++◌, map, if◌then◌else◌, IfOk, OnOk, string_bytes};
 ghost use Rattle.clru_report.specs.Columns.{begin_text, cell_text, columns, end_text, header_text, is_column, line_text, name_text, number_text, row_text, with_commas};
 
-use crate::fraction::ratio_of;
+use clru_text::ratio_of;
 use std::alloc::{AllocError, Allocator};
 
 /// What a table may tell of each of its rows.

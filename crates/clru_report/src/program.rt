@@ -1,15 +1,13 @@
 //! From the reader to the writer.
 ghost use Rattle.std.specs.Prelude.{◌≡◌, ℕ, List, true, false, take, string_bytes, IfErr, OnOk};
 ghost use Rattle.std.specs.Io.KnownBytes.{Appends, Keeps};
-ghost use Rattle.clru_lines.specs.Whole.{ReadWhole};
-ghost use Rattle.clru_report.specs.Faults.{is_of_writing};
-ghost use Rattle.clru_report.specs.Refusals.{is_of_input, IsRefused};
+ghost use Rattle.clru_text.specs.Faults.{is_of_input, is_of_writing};
+ghost use Rattle.clru_text.specs.Whole.{ReadWhole};
+ghost use Rattle.clru_report.specs.Refusals.{IsRefused};
 ghost use Rattle.clru_report.specs.Report.{IsReport};
 
-use crate::options::Options;
-use crate::output::write_report;
 use crate::report::make_report;
-use clru_lines::Fault;
+use clru_text::{Fault, Options, write_report};
 use std::alloc::Allocator;
 use std::hash::BuildHasher;
 use std::io::{Read, Write};

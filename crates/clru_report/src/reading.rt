@@ -1,14 +1,12 @@
 //! The loop over lines that begin with times, whatever is done at each.
 ghost use Rattle.std.specs.Prelude.{◌≡◌, ◌+◌, true, false, List, ℕ, [], ◌∷◌, ◌++◌, length, IfErr, IfOk, OnOk};
-ghost use Rattle.clru_lines.specs.Lines.{lines_of};
-ghost use Rattle.clru_lines.specs.Whole.{ReadWhole};
-ghost use Rattle.clru_lines.specs.declared.fault.Fault.{Fault};
-ghost use Rattle.clru_report.specs.Faults.{is_of_writing};
-ghost use Rattle.clru_report.specs.Refusals.{is_of_input};
+ghost use Rattle.clru_text.specs.Faults.{is_of_input, is_of_writing};
+ghost use Rattle.clru_text.specs.Lines.{lines_of};
+ghost use Rattle.clru_text.specs.Whole.{ReadWhole};
+ghost use Rattle.clru_text.specs.declared.fault.Fault.{Fault};
 ghost use Rattle.clru_report.specs.Readings.{IsReadBy};
 
-use crate::fault::read_fault;
-use clru_lines::{Fault, LineBuffer};
+use clru_text::{Fault, LineBuffer, read_fault};
 use std::alloc::Allocator;
 use std::io::Read;
 

@@ -2,23 +2,21 @@
 ghost use Rattle.std.specs.Prelude.{◌≡◌, true, false, IfErr, IfOk, string_bytes};
 ghost use Rattle.std.specs.Int.NonZero.{non_zero_usize_get};
 ghost use Rattle.std.specs.Option.{option_map};
-ghost use Rattle.clru_lines.specs.Whole.{ReadWhole};
-ghost use Rattle.clru_report.specs.Choices.{is_summary};
-ghost use Rattle.clru_report.specs.Faults.{is_of_writing};
+ghost use Rattle.clru_text.specs.Choices.{is_summary};
+ghost use Rattle.clru_text.specs.Faults.{is_of_input, is_of_writing};
+ghost use Rattle.clru_text.specs.Whole.{ReadWhole};
 ghost use Rattle.clru_report.specs.Passes.{wants_floor, wants_least};
-ghost use Rattle.clru_report.specs.Refusals.{is_of_input, IsRefused, IsRefusedPlain, IsRefusedTimed};
+ghost use Rattle.clru_report.specs.Refusals.{IsRefused, IsRefusedPlain, IsRefusedTimed};
 ghost use Rattle.clru_report.specs.Report.{IsInForm, IsReport, IsReportBy, IsReportByKeys, IsReportByKeysFrom, IsReportTimed};
 
 use crate::after::report_after;
-use crate::fault::read_fault;
-use crate::options::{Form, Options, Sample, Times};
 use crate::pass::curve_by_keys;
 use crate::rows::{rows_of_all, usual_table};
 use crate::sample::text_of_sample;
 use crate::sized::make_sized_report;
 use crate::text::{Counts, text_by_keys};
 use crate::timed::{make_sized_timed_report, make_timed_report};
-use clru_lines::{Fault, ReadError};
+use clru_text::{Fault, Form, Options, ReadError, Sample, Times, read_fault};
 use std::alloc::Allocator;
 use std::hash::BuildHasher;
 use std::io::Read;

@@ -16,10 +16,9 @@ ghost use Rattle.clru_report.specs.Tables.{capacity_of_row};
 use crate::capacities::{capacities_for, usual_capacities};
 use crate::faithful::ByKeys;
 use crate::knees::{UsualTable, table_with_knees};
-use crate::options::Options;
 use clru_curve::MissCurve;
 use clru_least::{Floor, ForesightPass};
-use clru_lines::OwnedKey;
+use clru_text::{Options, OwnedKey};
 use std::alloc::{AllocError, Allocator};
 use std::num::NonZeroUsize;
 

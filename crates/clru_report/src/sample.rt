@@ -5,42 +5,19 @@ ghost use Rattle.std.specs.Option.{option_map};
 ghost use Rattle.std.specs.Str.{bytes_eq};
 ghost use Rattle.clru_curve.specs.Curves.{HasMissesOf};
 ghost use Rattle.clru_model.specs.Requests.{distinct};
+ghost use Rattle.clru_text.specs.Samples.{times as times_of};
 ghost use Rattle.clru_report.specs.Passes.{IsFloorFor, wants_floor};
 ghost use Rattle.clru_report.specs.Report.{AreRowsOfSample, IsInFormOfSample};
-ghost use Rattle.clru_report.specs.Samples.{fnv, is_kept as is_kept_by, numbers_of, numbers_times, times as times_of};
+ghost use Rattle.clru_report.specs.Samples.{numbers_of, numbers_times};
 
-use crate::options::{Form, Options};
 use crate::rows::{Row, rows_and_floor, usual_table};
 use crate::table::summary_of;
 use crate::text::{Counts, text_by_keys};
 use clru_curve::MissCurve;
 use clru_least::Floor;
+use clru_text::{Form, Options, times};
 use std::alloc::{AllocError, Allocator};
 use std::num::NonZeroUsize;
-
-// Both numbers of FNV-1a for 64 bits.
-const BASIS: u64 = 14695981039346656037;
-
-const PRIME: u64 = 1099511628211;
-
-/// Returns whether all requests of a key are kept, where one key in so many is. One in one keeps each key and needs no hash.
-/// Cost: a step for each byte; no request for memory.
-pub fn is_kept(line: &[u8], one_in: NonZeroUsize) -> bool
-    ensures { result ≡ is_kept_by (non_zero_usize_get one_in) line.now }
-{
-    one_in.get() == 1 || fnv_of(line) % one_in.get() as u64 == 0
-}
-
-// The hash FNV-1a: no seed, so that a log has the same sample each time.
-fn fnv_of(line: &[u8]) -> u64
-    ensures { result ≡ fnv line.now }
-{
-    let mut hash = BASIS;
-    for byte in line {
-        hash = (hash ^ u64::from(*byte)).wrapping_mul(PRIME);
-    }
-    hash
-}
 
 /// The text in the form that is asked for, of a curve of kept requests and of how many there are in all.
 pub(crate) fn text_of_sample<A: Allocator + Copy>(
@@ -156,12 +133,4 @@ fn times_some(one_in: NonZeroUsize, bound: usize, number: Option<usize>) -> Opti
         Some(number) => Some(times(one_in, bound, number)),
         None => None,
     }
-}
-
-/// Returns so many times a number, and at most the bound: what a number of the kept requests says of all.
-/// Cost: none.
-pub fn times(one_in: NonZeroUsize, bound: usize, number: usize) -> usize
-    ensures { result ≡ times_of (non_zero_usize_get one_in) bound number }
-{
-    number.saturating_mul(one_in.get()).min(bound)
 }

@@ -2,11 +2,11 @@
 ghost use Rattle.std.specs.Prelude.{IfOk, string_bytes};
 ghost use Rattle.clru_report.specs.Passes.{IsTextByKeys};
 
-use crate::options::{Form, Options};
 use crate::picture::picture_by_keys;
 use crate::rows::Row;
 use crate::table::{summary_of, table_of};
 use clru_least::Floor;
+use clru_text::{Form, Options};
 use std::alloc::{AllocError, Allocator};
 use std::num::NonZeroUsize;
 

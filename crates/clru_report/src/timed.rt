@@ -1,13 +1,13 @@
 //! The report of an input whose lines begin with times, where entries may expire.
 ghost use Rattle.std.specs.Prelude.{◌≡◌, ◌<◌, ◌^◌, ◌-◌, ℕ, None, true, false, length, IfErr, IfOk, string_bytes};
 ghost use Rattle.std.specs.Int.NonZero.{non_zero_usize_get};
-ghost use Rattle.clru_lines.specs.Lines.{lines_of};
-ghost use Rattle.clru_lines.specs.Whole.{ReadWhole};
-ghost use Rattle.clru_report.specs.Faults.{is_of_writing};
+ghost use Rattle.clru_text.specs.Faults.{is_of_input, is_of_writing};
+ghost use Rattle.clru_text.specs.Lines.{lines_of};
+ghost use Rattle.clru_text.specs.Samples.{times as times_of};
+ghost use Rattle.clru_text.specs.Times.{idle_limit};
+ghost use Rattle.clru_text.specs.Whole.{ReadWhole};
 ghost use Rattle.clru_report.specs.Passes.{HasMisses};
-ghost use Rattle.clru_report.specs.Refusals.{is_of_input};
-ghost use Rattle.clru_report.specs.Samples.{times as times_of};
-ghost use Rattle.clru_report.specs.Timed.{all_by, idle_limit, IsInFormOn, IsTimedReport, IsTimedReportIn, IsUntimed, kept_in as kept_by, part_in as part_by};
+ghost use Rattle.clru_report.specs.Timed.{all_by, IsInFormOn, IsTimedReport, IsTimedReportIn, IsUntimed, kept_in as kept_by, part_in as part_by};
 
 mod aged;
 mod by_size;
@@ -15,23 +15,19 @@ mod lines;
 mod pass;
 mod sized_aged;
 mod sized_pass;
-mod time;
 
-use crate::options::{Options, Sample, Times};
 use crate::rows::{rows_for, usual_table};
-use crate::sample::{knees_times, rows_times, times};
+use crate::sample::{knees_times, rows_times};
 use crate::text::{Counts, text_by_keys};
 use aged::aged_report;
 pub(crate) use by_size::make_sized_timed_report;
 use clru_curve::MissCurve;
-use clru_lines::Fault;
+use clru_text::{Fault, Options, Sample, Times, times};
 use pass::curve_of_times;
 use std::alloc::{AllocError, Allocator};
 use std::hash::BuildHasher;
 use std::io::Read;
 use std::num::NonZeroUsize;
-pub(crate) use time::duration_of_word;
-pub use time::{split_time, time_of};
 
 /// Returns the report of all that a reader gives, by keys, under these limits.
 pub(crate) fn make_timed_report<R: Read, S: BuildHasher + Drop, A: Allocator + Copy>(

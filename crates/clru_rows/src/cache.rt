@@ -57,7 +57,7 @@ pub(crate) fn run(world: &'static World, first: &Line, lines: &[Line], answers: 
 }
 
 /// Makes an empty cache, or answers `None` for want of memory.
-pub(crate) fn made<W: WeightScale<Key, Value> + Copy>(
+pub fn made<W: WeightScale<Key, Value> + Copy>(
     world: &'static World,
     capacity: usize,
     reserve: usize,

@@ -19,7 +19,7 @@ type Owned<S, W, A> = CLruCacheIntoIter<Key, Value, S, W, A>;
 type Walk<'c, A> = CLruCacheIter<'c, Key, Value, A>;
 
 /// Says a value, or that there is none.
-pub(crate) fn say_value(value: Option<&Value>, out: &mut Out) {
+pub fn say_value(value: Option<&Value>, out: &mut Out) {
     match value {
         Some(value) => out.say(&value.text),
         None => out.say("none"),
@@ -27,7 +27,7 @@ pub(crate) fn say_value(value: Option<&Value>, out: &mut Out) {
 }
 
 /// Says a value that was taken out, or that there is none.
-pub(crate) fn say_popped(value: Option<Value>, out: &mut Out) {
+pub fn say_popped(value: Option<Value>, out: &mut Out) {
     say_value(value.as_ref(), out);
 }
 
@@ -39,7 +39,7 @@ pub(crate) fn say_pair(key: &Key, value: &Value, out: &mut Out) {
 }
 
 /// Says a pair, or that there is none.
-pub(crate) fn say_found(pair: Option<(&Key, &Value)>, out: &mut Out) {
+pub fn say_found(pair: Option<(&Key, &Value)>, out: &mut Out) {
     match pair {
         Some((key, value)) => say_pair(key, value, out),
         None => out.say("none"),
@@ -69,7 +69,7 @@ pub(crate) fn called<S: BuildHasher, W: WeightScale<Key, Value>, A: Allocator + 
 }
 
 /// Makes a call that changes nothing. Answers `false` where the name is none of these.
-pub(crate) fn read<S: BuildHasher, W: WeightScale<Key, Value>, A: Allocator + Copy>(
+pub fn read<S: BuildHasher, W: WeightScale<Key, Value>, A: Allocator + Copy>(
     cache: &Any<S, W, A>,
     world: &'static World,
     name: &str,
@@ -85,7 +85,7 @@ pub(crate) fn read<S: BuildHasher, W: WeightScale<Key, Value>, A: Allocator + Co
 }
 
 /// Says the pairs, the most recently used first.
-pub(crate) fn say_list<A: Allocator + Copy>(walk: Walk<'_, A>, out: &mut Out) {
+pub fn say_list<A: Allocator + Copy>(walk: Walk<'_, A>, out: &mut Out) {
     for (key, value) in walk {
         out.part(", ");
         say_pair(key, value, out);
@@ -152,7 +152,7 @@ fn copy_of<A: Allocator + Copy>(walk: &mut Walk<'_, A>, name: &str, out: &mut Ou
 }
 
 /// Says how many steps are left at least and at most.
-pub(crate) fn say_hint(hint: (usize, Option<usize>), out: &mut Out) {
+pub fn say_hint(hint: (usize, Option<usize>), out: &mut Out) {
     out.count("(", hint.0);
     match hint.1 {
         Some(most) => {

@@ -6,7 +6,7 @@ use crate::world::World;
 
 /// Which entries a retain keeps.
 #[derive(Clone, Copy)]
-pub(crate) enum Keep {
+pub enum Keep {
     All,
     None,
     /// Those whose value is an even number,
@@ -16,7 +16,7 @@ pub(crate) enum Keep {
 }
 
 impl Keep {
-    pub(crate) fn read(words: &mut Words) -> Keep {
+    pub fn read(words: &mut Words) -> Keep {
         match words.word() {
             "all" => Keep::All,
             "none" => Keep::None,
@@ -30,13 +30,13 @@ impl Keep {
     }
 
     /// Whether an entry is kept. The call is noted.
-    pub(crate) fn keeps_entry(self, world: &World, key: &Key, value: &Value) -> bool {
+    pub fn keeps_entry(self, world: &World, key: &Key, value: &Value) -> bool {
         world.note("keep", &key.text);
         self.keeps(value.number())
     }
 
     /// Whether an entry of this number is kept.
-    pub(crate) fn keeps(self, number: usize) -> bool {
+    pub fn keeps(self, number: usize) -> bool {
         match self {
             Keep::All => true,
             Keep::None => false,

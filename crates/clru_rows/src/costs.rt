@@ -26,7 +26,7 @@ pub(crate) fn run(world: &'static World, lines: &[Line], answers: &mut Answers) 
 }
 
 /// What the call of a line costs, and what is wrong after it.
-pub(crate) fn cost_of<T: Subject + Drop>(
+pub fn cost_of<T: Subject + Drop>(
     world: &World,
     made: Option<T>,
     line: &Line,

@@ -1,10 +1,10 @@
-//! The kinds of blocks on caches, lists and stores.
+//! The kinds of blocks on caches.
 
 use crate::answers::Answers;
 use crate::lines::Line;
 use crate::words::Wrong;
 use crate::world::World;
-use crate::{cache, costs, list, makers, replays, runs, store};
+use crate::{cache, costs, makers, replays, runs};
 
 /// Makes the calls of a block of one of these kinds.
 pub fn run(world: &'static World, block: &[Line], answers: &mut Answers) {
@@ -15,9 +15,6 @@ pub fn run(world: &'static World, block: &[Line], answers: &mut Answers) {
         "cache" => cache::run(world, first, lines, answers),
         "costs" => costs::run(world, lines, answers),
         "makers" => makers::run(world, lines, answers),
-        "list" => list::run(world, lines, answers),
-        "store" => store::run(world, lines, answers),
-        "store_costs" => store::run_costs(world, lines, answers),
         "replay" => replays::run(world, block, answers),
         "runs" => runs::run(world, lines, answers),
         _ => answers.wrong = Some(Wrong::NothingMade),

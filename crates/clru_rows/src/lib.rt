@@ -1,17 +1,16 @@
 //! Scripts as data: reads a script, has its blocks of calls made, and writes it again, each call with what it answered. It makes
-//! those on caches, lists and stores itself (`kinds`).
+//! those on caches itself (`kinds`).
 #![tactic(auto)]
 
 pub mod answers;
-mod cache;
-mod calls;
-mod closures;
-mod costs;
+pub mod cache;
+pub mod calls;
+pub mod closures;
+pub mod costs;
 pub mod fault;
 pub mod head;
 pub mod kinds;
 pub mod lines;
-mod list;
 mod makers;
 pub mod out;
 pub mod page;
@@ -20,15 +19,14 @@ mod plain;
 mod replays;
 pub mod requested;
 mod runs;
-mod scale;
-mod store;
+pub mod scale;
 pub mod subject;
-mod whole;
+pub mod whole;
 pub mod words;
 pub mod world;
 
 use crate::page::{Blocks, Page, answered};
-use clru_lines::{read_input, write_text};
+use clru_text::{read_input, write_text};
 use std::alloc::Global;
 use std::io::{Read, Write};
 

@@ -6,8 +6,8 @@ use clru::WeightScale;
 
 /// A value weighs what it says.
 #[derive(Clone, Copy)]
-pub(crate) struct Scale {
-    pub(crate) world: &'static World,
+pub struct Scale {
+    pub world: &'static World,
 }
 
 impl<K> WeightScale<K, Value> for Scale {

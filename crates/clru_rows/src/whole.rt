@@ -13,7 +13,7 @@ const MOST: usize = 100;
 
 /// What is wrong with a cache, if anything: its walks from both ends, the look-up of each key, its size, and the blocks that its
 /// pairs own.
-pub(crate) fn cache_fault<S: BuildHasher, W: WeightScale<Key, Value>, A: Allocator + Copy>(
+pub fn cache_fault<S: BuildHasher, W: WeightScale<Key, Value>, A: Allocator + Copy>(
     world: &World,
     cache: &Any<S, W, A>,
     values_beside: u64,

@@ -1,14 +1,16 @@
-//! Makes the calls of a script, and writes it again, each call with what it answered. Those on caches, lists and stores are made in
-//! `clru_rows`, which is proved before what curves and reports need.
+//! Makes the calls of a script, and writes it again, each call with what it answered. Those on caches are made in `clru_rows`,
+//! which is proved before what curves and reports need.
 #![tactic(auto)]
 
 mod aged;
 mod floors;
 mod foresight;
+mod list;
 mod misses;
 mod passes;
 mod report;
 mod requests;
+mod store;
 mod timed;
 
 use clru_rows::answers::Answers;
@@ -36,6 +38,9 @@ impl Blocks for Kinds {
             "aged_sizes" => aged::run_sizes(world, first, lines, answers),
             "foresight" => foresight::run(world, first, lines, answers),
             "input" => report::run(world, first, lines, answers),
+            "list" => list::run(world, lines, answers),
+            "store" => store::run(world, lines, answers),
+            "store_costs" => store::run_costs(world, lines, answers),
             _ => kinds::run(world, block, answers),
         }
     }

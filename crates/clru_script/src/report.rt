@@ -1,8 +1,6 @@
 //! Blocks of an input, whose lines ask for reports of it: what the program `clru_mrc` writes for these words, and its status.
 
-use clru_report::{
-    Command, DefaultState, Options, Refusal, command_of, exit_status, run as report,
-};
+use clru_report::{DefaultState, run as report};
 use clru_rows::answers::Answers;
 use clru_rows::fault::Fault;
 use clru_rows::lines::Line;
@@ -10,6 +8,7 @@ use clru_rows::out::Out;
 use clru_rows::subject::{Subject, begin};
 use clru_rows::words::{Words, Wrong};
 use clru_rows::world::World;
+use clru_text::{Command, Options, Refusal, command_of, exit_status};
 use ration::Rationed;
 use std::alloc::Global;
 
@@ -137,7 +136,7 @@ fn reported(
 }
 
 /// Says the status of a run, and its fault.
-fn say_outcome(outcome: &Result<(), clru_report::Fault>, status: &mut Out) {
+fn say_outcome(outcome: &Result<(), clru_text::Fault>, status: &mut Out) {
     status.count("status ", exit_status(outcome) as usize);
     if let Err(fault) = outcome {
         if write!(&mut status.text, ": {fault}").is_err() {

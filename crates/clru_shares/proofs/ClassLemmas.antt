@@ -10,7 +10,7 @@ use Rattle.std.proofs.lemmas.Map.Text.{is_eq-slice_cmp}
 use Rattle.std.proofs.lemmas.List.Edits.{length-insert, get_or-insert_at, get_or-insert_above, get_or-insert_below}
 use Rattle.std.proofs.lemmas.List.Elements.{filter-append}
 use Rattle.clru_model.proofs.Cases.{split}
-use Rattle.clru_report.proofs.SettledCurves.{bytes_laws, same_bytes}
+use Rattle.clru_text.proofs.ByteLemmas.{bytes_laws, same_bytes}
 use Rattle.clru_shares.specs.Classes.{AreAscending, IsBefore, class_in, of_class, requests_of}
 use Rattle.clru_shares.specs.Passes.{BelongsAt, IsHeldAt, IsPlaceOf}
 

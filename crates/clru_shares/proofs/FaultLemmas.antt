@@ -1,42 +1,48 @@
 -- What a fault says of lines.
-use Rattle.std.proofs.Common.{◌≡◌, ℕ, ◌+◌, ◌≤◌, ◌^◌, Bool, true, false, Option, Some, IsSome, Result, Ok, Err, IfErr, List, ◌∷◌, ◌++◌, length, take, refl, sym, ap, ◌∙◌, subst, arith}
-use Rattle.std.specs.List.{All}
+use Rattle.std.proofs.Common.{◌≡◌, ℕ, ◌+◌, ◌≤◌, ◌^◌, Bool, true, false, Option, Some, IsSome, Result, Ok, Err, IfErr, List, ◌∷◌, ◌++◌, length, map, take, refl, sym, ap, ◌∙◌, subst, arith}
 use Rattle.std.proofs.Math.Seq.{take-append-add}
+use Rattle.std.proofs.lemmas.List.{length-map}
 use Rattle.std.proofs.lemmas.List.Elements.{All-push}
-use Rattle.clru_report.specs.Times.{HaveTimes, time_of_line}
+use Rattle.clru_text.specs.Times.{HaveTimes, time_of_line}
 use Rattle.clru_shares.specs.Classes.{has_class}
 use Rattle.clru_shares.specs.Faults.{IsNumbered, comes_of_a_line}
-use Rattle.clru_shares.specs.Refusals.{AreTimedUpTo, IsSaidOfLines, IsSaidOfRests, IsShownOf, most_shown}
+use Rattle.clru_shares.specs.Passes.{HasTakenAll, name_of}
+use Rattle.clru_shares.specs.Refusals.{AreTimedUpTo, HaveNoFault, IsSaidOfLines, IsSaidOfRests, IsShownOf, most_shown}
 use Rattle.clru_shares.specs.Sizes.{is_sized, own_size, size_in}
 use Rattle.clru_shares.specs.Times.{rests_in}
+use Rattle.clru_shares.proofs.TakenClasses.{names_are}
+use Rattle.clru_shares.specs.declared.reading.Passes.{Passes}
 use Rattle.clru_shares.specs.declared.fault.SplitFault.{SplitFault}
 use Rattle.clru_shares.specs.declared.fault.SplitFault.TheVariants.{NoTime, NoClass, TooManyClasses, NoSize, TooLarge, NoRoom, Other}
 
+-- lines that were taken have no fault
+pub taken_faultless : {S A H : Type 0} (sizes : Bool) (limit : ℕ) (lines : List (List ℕ)) (kept : List (List ℕ × ℕ)) (passes : Passes S A H)
+    → HasTakenAll sizes limit lines kept passes → HaveNoFault sizes lines
+taken_faultless sizes limit lines kept passes is =
+    let classes = passes.classes.items in
+    record {
+      classed = is.classed;
+      few = (map name_of classes, names_are sizes limit lines kept classes is.classes, omega (arith, is.few, length-map classes name_of));
+      sized = is.sized;
+      fit = omega (arith, is.fit, is.summed);
+    }
+
 pub without_size : (sizes : Bool) (lines rest : List (List ℕ)) (line : List ℕ) (n : ℕ) → n ≡ length lines + 1
-    → All (λ l. has_class l ≡ true) lines → All (λ l. is_sized sizes l ≡ true) lines → has_class line ≡ true → is_sized sizes line ≡ false
-    → IsSaidOfRests sizes (NoSize n) (lines ++ line ∷ rest)
-without_size false lines rest line n counted classed sized own none = absurd (cc)
-without_size true lines rest line n counted classed sized own none = (
+    → HaveNoFault sizes lines → has_class line ≡ true → is_sized sizes line ≡ false → IsSaidOfRests sizes (NoSize n) (lines ++ line ∷ rest)
+without_size false lines rest line n counted faultless own none = absurd (cc)
+without_size true lines rest line n counted faultless own none = (
   refl,
-  record { before = lines; line = line; rest = rest; is = refl; number = counted; classed = classed; sized = sized; own = own; none = none },
+  record { before = lines; line = line; rest = rest; is = refl; number = counted; faultless = faultless; own = own; none = none },
 )
 
 -- by keys no size is counted
 pub sizes_large : (sizes : Bool) (lines rest : List (List ℕ)) (line : List ℕ)
-    → All (λ l. has_class l ≡ true) lines → All (λ l. is_sized sizes l ≡ true) lines → has_class line ≡ true → is_sized sizes line ≡ true
+    → HaveNoFault sizes lines → has_class line ≡ true → is_sized sizes line ≡ true
     → 2 ^ 64 ≤ size_in sizes lines + own_size sizes line → IsSaidOfRests sizes TooLarge (lines ++ line ∷ rest)
-sizes_large false lines rest line classed sized own has large = absurd (omega (arith, large))
-sizes_large true lines rest line classed sized own has large = (
+sizes_large false lines rest line faultless own has large = absurd (omega (arith, large))
+sizes_large true lines rest line faultless own has large = (
   refl,
-  record {
-    before = lines;
-    line = line;
-    rest = rest;
-    is = refl;
-    classed = All-push (λ l. has_class l ≡ true) lines line classed own;
-    sized = All-push (λ l. is_sized true l ≡ true) lines line sized has;
-    large = large;
-  },
+  record { before = lines; line = line; rest = rest; is = refl; faultless = faultless; own = own; has_size = has; large = large },
 )
 
 -- the line at fault is shown by its beginning

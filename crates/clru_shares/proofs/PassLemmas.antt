@@ -8,13 +8,13 @@ use Rattle.clru_curve.specs.IdlePasses.{HasIdleMissesOf}
 use Rattle.clru_curve.specs.PositionPasses.{Counted, IsPositionPass}
 use Rattle.clru_curve.specs.SizedCurves.{CurveBySize}
 use Rattle.clru_curve.specs.SizedIdlePasses.{IsSizedIdleCurveOf, IsSizedIdlePass, TimedPassBySize}
-use Rattle.clru_lines.specs.declared.lines.OwnedKey.{OwnedKey}
+use Rattle.clru_curve.proofs.SizedIdleViews.{idle_curve-view}
+use Rattle.clru_curve.proofs.TimedViews.{idle_misses-view}
 use Rattle.clru_model.specs.Sizes.{SameWeights}
-use Rattle.clru_report.specs.Passes.{line_of, same_line}
-use Rattle.clru_report.specs.TimedPasses.{HasTakenRequest, HasTakenRequests, shown_of}
-use Rattle.clru_report.proofs.SettledCurves.{same_bytes}
-use Rattle.clru_report.proofs.SizedIdleViews.{idle_curve-view}
-use Rattle.clru_report.proofs.TimedViews.{idle_misses-view}
+use Rattle.clru_text.specs.Keys.{line_of, same_line}
+use Rattle.clru_text.specs.TakenRequests.{HasTakenRequest, HasTakenRequests, shown_of}
+use Rattle.clru_text.specs.declared.lines.OwnedKey.{OwnedKey}
+use Rattle.clru_text.proofs.ByteLemmas.{same_bytes}
 use Rattle.clru_shares.specs.LinePasses.{HasTakenBy, weight_of_key}
 use Rattle.clru_shares.specs.Sizes.{own_size, size_in, weight_behind}
 use Rattle.clru_shares.specs.declared.pass.LinePass.{LinePass}

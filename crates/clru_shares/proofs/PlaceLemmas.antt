@@ -1,59 +1,28 @@
 -- Where and when the latest request of each line is after one more.
-use Rattle.std.proofs.Common.{◌≡◌, ℕ, suc, ◌+◌, ◌-◌, ◌≤◌, ◌||◌, Bool, true, false, cond, nat_le, List, [], ◌∷◌, ◌++◌, length, map, reverse, Option, Some, None, refl, sym, ap, ◌∙◌, subst, arith}
-use Rattle.std.specs.Prelude.{bytes_eq, IsSome}
-use Rattle.std.specs.Cmp.{IsEquivalence}
-use Rattle.std.specs.Map.{keys_of, lookup, set_value}
+use Rattle.std.proofs.Common.{◌≡◌, ℕ, ◌-◌, Bool, true, false, cond, nat_le, List, [], ◌∷◌, ◌++◌, length, map, reverse, Option, Some, None, refl, sym, ap, ◌∙◌, subst, arith}
+use Rattle.std.specs.Prelude.{bytes_eq}
+use Rattle.std.specs.Map.{keys_of, lookup}
 use Rattle.std.specs.Option.{option_map_or}
-use Rattle.std.proofs.lemmas.Map.{lookup-set_value, length-set_value}
 use Rattle.std.proofs.lemmas.Map.Entries.{length-keys_of}
-use Rattle.std.proofs.lemmas.List.{length-append, length-map, length-reverse, reverse-append, reverse-reverse}
+use Rattle.std.proofs.lemmas.List.{length-map, length-reverse, reverse-append, reverse-reverse}
 use Rattle.clru_model.specs.Ages.{is_recent}
-use Rattle.clru_model.specs.Requests.{holds, since}
+use Rattle.clru_model.specs.Requests.{since}
 use Rattle.clru_model.proofs.Cases.{split}
-use Rattle.clru_model.proofs.Distinct.{since-cons}
 use Rattle.clru_model.proofs.Views.{holds-map, map-reverse, since-map}
-use Rattle.clru_curve.specs.KeyTables.{Keyed, keyed}
+use Rattle.clru_curve.proofs.TimedViews.{keys-view, recent-view}
 use Rattle.clru_curve.specs.PositionPasses.{IsLatestOf}
-use Rattle.clru_lines.specs.declared.lines.OwnedKey.{OwnedKey}
-use Rattle.clru_report.specs.Passes.{line_of, same_line}
-use Rattle.clru_report.specs.TimedPasses.{shown_of}
-use Rattle.clru_report.proofs.SettledCurves.{bytes_laws, same_bytes}
-use Rattle.clru_report.proofs.TimedViews.{keys-view, recent-view}
+use Rattle.clru_curve.proofs.LatestRequests.{latest_here, latest_there}
+use Rattle.clru_linked_map.proofs.BytesMaps.{lookup-with_bytes}
+use Rattle.clru_linked_map.specs.BytesMaps.{with_bytes}
+use Rattle.clru_text.specs.Keys.{line_of, same_line}
+use Rattle.clru_text.specs.TakenRequests.{shown_of}
+use Rattle.clru_text.specs.declared.lines.OwnedKey.{OwnedKey}
+use Rattle.clru_text.proofs.ByteLemmas.{bytes_laws, same_bytes}
 use Rattle.clru_shares.proofs.ClassLemmas.{none_asked, one_asked}
 use Rattle.clru_shares.specs.Classes.{class_in, of_class}
 use Rattle.clru_shares.specs.Places.{AreLatest, AreLatestBy, IsAskedOf, IsLatestAt, IsNoted, IsNotedBy, all_of, own_of, soon_of, time_of}
 use Rattle.clru_shares.specs.declared.latest.Places.{Places}
 use Rattle.clru_shares.specs.declared.pass.Asked.{Asked}
-
-module _ {K : Type 0} (eq : K → K → Bool) (laws : IsEquivalence eq) (past : List K) (x : K) where
-  -- a key is requested where the requests so far end
-  pub latest_here : (p : ℕ) → p ≡ length past → IsLatestOf eq (x ∷ past) x (Some p)
-  latest_here p here = record {
-    known = rw (laws.refl x) refl;
-    position =
-        let none : length (since eq x (x ∷ past)) ≡ 0 = rw (since-cons eq x x past, laws.refl x) refl in
-        omega (arith, here, none);
-  }
-
-  -- the latest request of another key stays where it was
-  pub latest_there : (y : K) (latest : Option ℕ) → eq y x ≡ false → IsLatestOf eq past y latest → IsLatestOf eq (x ∷ past) y latest
-  latest_there y None other is = record { known = is.known ∙ sym (ap (λ b. b || holds eq y past) other); position = tt }
-  latest_there y (Some p) other is = record {
-    known = is.known ∙ sym (ap (λ b. b || holds eq y past) other);
-    position =
-        let more : length (since eq y (x ∷ past)) ≡ suc (length (since eq y past)) = rw (since-cons eq y x past, other) refl in
-        omega (arith, more, is.position);
-  }
-
-pub some_held : {X : Type 0} {o : Option X} {x : X} → Some x ≡ o → IsSome o
-some_held is = subst (λ p. IsSome p) is refl
-
-key_laws : {A : Type 0} → IsEquivalence (same_line {A = A})
-key_laws = record {
-  refl = λ x. bytes_laws.refl (line_of x);
-  symm = λ x y. bytes_laws.symm (line_of x) (line_of y);
-  congr = λ x y z t. bytes_laws.congr (line_of x) (line_of y) (line_of z) t;
-}
 
 -- a key is found among keys as its line among theirs
 pub latest_view : {A : Type 0} (past : List (OwnedKey A)) (key : OwnedKey A) (latest : Option ℕ)
@@ -90,7 +59,7 @@ module _ (requests : List (List ℕ × ℕ)) (r : List ℕ × ℕ) where
   at_here : (p : ℕ) → p ≡ length requests → IsLatestAt (requests ++ r ∷ []) r.0 (Some p) (Some r.1)
   at_here p here = record {
     position = subst (λ past. IsLatestOf bytes_eq (keys_of past) r.0 (Some p)) (sym back)
-        (latest_here bytes_eq bytes_laws (keys_of (reverse requests)) r.0 p
+        (latest_here bytes_eq (keys_of (reverse requests)) r.0 r.0 (bytes_laws.refl r.0) p
         (here ∙ sym (length-keys_of (reverse requests) ∙ length-reverse requests)));
     timed = sym (ap (lookup (bytes_eq r.0)) back ∙ ap (λ b. cond b (Some r.1) (lookup (bytes_eq r.0) (reverse requests))) (bytes_laws.refl r.0));
   }
@@ -99,7 +68,7 @@ module _ (requests : List (List ℕ × ℕ)) (r : List ℕ × ℕ) where
       → IsLatestAt (requests ++ r ∷ []) other latest time
   at_there other latest time apart is = record {
     position = subst (λ past. IsLatestOf bytes_eq (keys_of past) other latest) (sym back)
-        (latest_there bytes_eq bytes_laws (keys_of (reverse requests)) r.0 other latest apart is.position);
+        (latest_there bytes_eq (keys_of (reverse requests)) r.0 other apart latest is.position);
     timed = is.timed ∙ sym (ap (lookup (bytes_eq other)) back ∙ ap (λ b. cond b (Some r.1) (lookup (bytes_eq other) (reverse requests))) apart);
   }
 
@@ -125,44 +94,20 @@ module _ (requests : List (List ℕ × ℕ)) (line : List ℕ) where
   }
 
   -- once its place is noted, the places of all lines are
-  pub noted_more : {A S : Type 0} (table next : Keyed (OwnedKey A) Places S) (key : OwnedKey A) (here : Places) → line_of key ≡ line
-      → IsNoted requests table → here.all ≡ length requests → here.own ≡ length (of_class (class_in line) requests)
-      → length next.entries ≤ length table.entries + 1
-      → ((y : OwnedKey A) → lookup (same_line y) next.entries ≡ cond (same_line key y) (Some here) (lookup (same_line y) table.entries))
-      → IsNoted (requests ++ (line, here.time) ∷ []) next
-  noted_more table next key here is noted all own long moved = let more = requests ++ (line, here.time) ∷ [] in record {
-    few = omega (arith, long, noted.few, length-append requests ((line, here.time) ∷ []));
-    each = λ y. let found = λ (b : Bool). cond b (Some here) (lookup (same_line y) table.entries) in split (same_line key y)
-        (λ t. let same : line_of y ≡ line = sym (same_bytes (line_of key) (line_of y) t) ∙ is in
-        subst (λ l. AreLatest more l (lookup (same_line y) next.entries)) (sym same)
-        (subst (AreLatest more line) (sym (moved y ∙ ap found t)) (places_here here all own)))
-        (λ f. let apart : bytes_eq (line_of y) line ≡ false =
-        subst (λ l. bytes_eq (line_of y) l ≡ false) is (bytes_laws.symm (line_of y) (line_of key) ∙ f) in
-        subst (AreLatest more (line_of y)) (sym (moved y ∙ ap found f))
-        (places_there here.time (line_of y) (lookup (same_line y) table.entries) apart (noted.each y)));
+  pub noted_more : (noted : List (List ℕ × Places)) (here : Places) → IsNoted requests noted → here.all ≡ length requests
+      → here.own ≡ length (of_class (class_in line) requests) → IsNoted (requests ++ (line, here.time) ∷ []) (with_bytes line here noted)
+  noted_more noted here is all own = record {
+    each = λ other. rw (lookup-with_bytes other line here noted) (split (bytes_eq other line)
+        (λ t. rw (t, same_bytes other line t) (places_here here all own))
+        (λ f. rw f (places_there here.time other (lookup (bytes_eq other) noted) f (is.each other))));
   }
 
-  module _ {A S : Type 0} (table next : Keyed (OwnedKey A) Places S) (key : OwnedKey A) (here : Places) (b : S) (noted : IsNoted requests table)
-      (all : here.all ≡ length requests) (own : here.own ≡ length (of_class (class_in line) requests)) (is : line_of key ≡ line) where
-    pub noted_again : next ≡ keyed (set_value (same_line key) table.entries here) b → IsSome (lookup (same_line key) table.entries)
-        → IsNoted (requests ++ (line, here.time) ∷ []) next
-    noted_again to held = subst (IsNoted (requests ++ (line, here.time) ∷ [])) (sym to)
-        (noted_more table (keyed (set_value (same_line key) table.entries here) b) key here is noted all own
-        (omega (arith, length-set_value (same_line key) table.entries here))
-        (λ y. lookup-set_value key_laws (same_line key) (λ z w t. key_laws.congr key z w t) y here table.entries held))
-
-    pub noted_new : next ≡ keyed ((key, here) ∷ table.entries) b → IsNoted (requests ++ (line, here.time) ∷ []) next
-    noted_new to = subst (IsNoted (requests ++ (line, here.time) ∷ [])) (sym to)
-        (noted_more table (keyed ((key, here) ∷ table.entries) b) key here is noted all own (omega arith)
-        (λ y. ap (λ t. cond t (Some here) (lookup (same_line y) table.entries)) (key_laws.symm y key)))
-
 -- before the first line none is noted
-pub none_noted : {A S : Type 0} (sizes : Bool) (table : Keyed (OwnedKey A) Places S) → table.entries ≡ [] → IsNotedBy sizes [] table
-none_noted true table empty = tt
-none_noted false table empty =
+pub none_noted : (sizes : Bool) (noted : List (List ℕ × Places)) → noted ≡ [] → IsNotedBy sizes [] noted
+none_noted true noted empty = tt
+none_noted false noted empty =
     record {
-      few = omega (arith, ap length empty);
-      each = λ key. subst (λ es. AreLatest [] (line_of key) (lookup (same_line key) es)) (sym empty) (record {
+      each = λ line. subst (λ es. AreLatest [] line (lookup (bytes_eq line) es)) (sym empty) (record {
         all = record { position = record { known = refl; position = tt }; timed = refl };
         own = record { position = record { known = refl; position = tt }; timed = refl };
       });

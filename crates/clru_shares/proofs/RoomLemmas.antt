@@ -6,16 +6,17 @@ use Rattle.std.specs.Prelude.{bytes_eq}
 use Rattle.std.proofs.lemmas.List.{drop_more}
 use Rattle.clru_curve.specs.SizedCurves.{CurveBySize}
 use Rattle.clru_curve.specs.SizedIdlePasses.{IsSizedIdleCurveOf}
+use Rattle.clru_curve.proofs.GreatestWeights.{greatest_below}
 use Rattle.clru_model.specs.Sizes.{SameWeights}
-use Rattle.clru_report.proofs.SettledCurves.{bytes_laws, greatest_below, same_bytes}
+use Rattle.clru_text.proofs.ByteLemmas.{bytes_laws, same_bytes}
 use Rattle.clru_shares.specs.Classes.{AreClasses, of_class}
 use Rattle.clru_shares.specs.LinePasses.{IsCurveBy}
 use Rattle.clru_shares.specs.Passes.{AreTimeless, HasTakenLines, HaveShares, HaveTaken, IsShareOf, name_of}
-use Rattle.clru_shares.specs.Refusals.{HasNoRoom, IsFirstWithoutRoom}
+use Rattle.clru_shares.specs.Refusals.{HasNoRoom, HaveNoFault, IsFirstWithoutRoom}
 use Rattle.clru_shares.specs.Sampled.{kept_in}
 use Rattle.clru_shares.specs.Shares.{HasRoom, greatest_size}
 use Rattle.clru_shares.specs.Sizes.{weight_behind}
-use Rattle.clru_shares.specs.Times.{limit_of, requests_in, rests_in}
+use Rattle.clru_shares.specs.Times.{AreTimed, limit_of, requests_in, rests_in}
 use Rattle.clru_shares.specs.declared.classes.Class.{Class}
 use Rattle.clru_shares.specs.declared.curve.LineCurve.{LineCurve}
 use Rattle.clru_shares.specs.declared.curve.LineCurve.TheVariants.{ByKeys, BySize}
@@ -91,10 +92,12 @@ first_without sizes sample budget size requests names i low some room greatest b
 }
 
 pub no_room_in : (sizes : Bool) (idle sample : Option ℕ) (budget size : ℕ) (lines : List (List ℕ)) (names : List (List ℕ)) (name : List ℕ)
-    → AreClasses (rests_in idle lines) names → IsFirstWithoutRoom sizes sample budget size (requests_in idle lines) names name
-    → HasNoRoom sizes idle sample budget size lines name
-no_room_in sizes idle sample budget size lines names name classes first = record {
+    → AreTimed idle lines → HaveNoFault sizes (rests_in idle lines) → AreClasses (rests_in idle lines) names
+    → IsFirstWithoutRoom sizes sample budget size (requests_in idle lines) names name → HasNoRoom sizes idle sample budget size lines name
+no_room_in sizes idle sample budget size lines names name timed faultless classes first = record {
   sized = by_size sizes (of_class name (kept_in sample (requests_in idle lines))) budget (omega (arith, first.greatest, first.below));
+  timed = timed;
+  faultless = faultless;
   names = names;
   classes = classes;
   first = first;

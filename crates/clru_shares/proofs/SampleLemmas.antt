@@ -5,8 +5,8 @@ use Rattle.std.specs.Map.{keys_of}
 use Rattle.std.proofs.lemmas.List.{length-append}
 use Rattle.std.proofs.lemmas.List.Elements.{filter-append}
 use Rattle.clru_model.proofs.Cases.{split}
-use Rattle.clru_report.specs.Samples.{is_kept}
-use Rattle.clru_report.specs.Times.{kept_requests}
+use Rattle.clru_text.specs.Samples.{is_kept}
+use Rattle.clru_text.specs.Times.{kept_requests}
 use Rattle.clru_shares.proofs.ClassLemmas.{none_asked, one_asked}
 use Rattle.clru_shares.specs.Classes.{class_in, of_class, requests_of}
 use Rattle.clru_shares.specs.Passes.{next_kept, next_number}

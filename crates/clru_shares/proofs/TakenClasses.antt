@@ -6,7 +6,7 @@ use Rattle.std.proofs.lemmas.Bool.{cases_eq}
 use Rattle.std.proofs.lemmas.List.{length-map, length-set, get_or-map, get_or-set_same, get_or-set_other, map-set, set-get_or}
 use Rattle.std.proofs.lemmas.List.Elements.{All-append, All-cons, All-drop, All-from_get_or, All-nil, All-set, All-take}
 use Rattle.clru_model.proofs.Cases.{split}
-use Rattle.clru_report.proofs.SettledCurves.{same_bytes}
+use Rattle.clru_text.proofs.ByteLemmas.{same_bytes}
 use Rattle.clru_shares.proofs.ClassLemmas.{held_alone, inserted_ascends, is_any, missing_each, none_inserted, none_more, not_any}
 use Rattle.clru_shares.proofs.SampleLemmas.{none_next}
 use Rattle.clru_shares.specs.Classes.{AreAscending, AreClasses, class_in, of_class, requests_of}

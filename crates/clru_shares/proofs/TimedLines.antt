@@ -4,7 +4,7 @@ use Rattle.std.specs.Prelude.{unwrap_or}
 use Rattle.std.specs.Map.{keys_of}
 use Rattle.std.proofs.lemmas.List.{length-map, map-append}
 use Rattle.std.proofs.lemmas.List.Elements.{All-nil, All-push}
-use Rattle.clru_report.specs.Times.{request_of, requests_of, rest_of_line, rests_of, time_of_line}
+use Rattle.clru_text.specs.Times.{request_of, requests_of, rest_of_line, rests_of, time_of_line}
 use Rattle.clru_shares.proofs.SampleLemmas.{nothing_kept, sample_next}
 use Rattle.clru_shares.specs.Passes.{HasTakenAll, HasTakenLines, next_kept}
 use Rattle.clru_shares.specs.Sampled.{is_in, kept_in}

@@ -1,8 +1,6 @@
 -- What is printed of a fault of a split, and its exit status. Public clauses cite them.
 use Rattle.std.specs.Prelude.{◌≡◌, ℕ, Bool, true, false, List, ◌++◌, codes, decimal, ⊤}
-use Rattle.clru_lines.specs.Faults.{fault_text, status_of}
-use Rattle.clru_report.specs.Faults.{is_of_writing}
-use Rattle.clru_report.specs.Refusals.{is_of_input}
+use Rattle.clru_text.specs.Faults.{fault_text, is_of_input, is_of_writing, status_of}
 use Rattle.clru_shares.specs.declared.fault.SplitFault.{SplitFault}
 use Rattle.clru_shares.specs.declared.fault.SplitFault.TheVariants.{NoTime, NoClass, TooManyClasses, NoSize, TooLarge, NoRoom, Other}
 

@@ -1,6 +1,6 @@
 -- The rows of a table, and its text in each form. Public clauses cite them.
 use Rattle.std.specs.Prelude.{◌≡◌, ℕ, ◌*◌, Bool, true, false, List, [], ◌∷◌, ◌++◌, codes, decimal}
-use Rattle.clru_report.specs.Columns.{fraction_text, millionths}
+use Rattle.clru_text.specs.Fractions.{fraction_text, millionths}
 use Rattle.clru_shares.specs.declared.form.SplitForm.{SplitForm}
 use Rattle.clru_shares.specs.declared.form.SplitForm.TheVariants.{Table, Json, Picture}
 

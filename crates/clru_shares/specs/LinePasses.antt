@@ -3,9 +3,9 @@ use Rattle.std.specs.Prelude.{ℕ, Bool, true, false, List, bytes_eq}
 use Rattle.clru_curve.specs.IdlePasses.{HasIdleMissesOf}
 use Rattle.clru_curve.specs.PositionPasses.{IsPositionPass}
 use Rattle.clru_curve.specs.SizedIdlePasses.{IsSizedIdleCurveOf, IsSizedIdlePass}
-use Rattle.clru_lines.specs.declared.lines.OwnedKey.{OwnedKey}
-use Rattle.clru_report.specs.Passes.{line_of, same_line}
-use Rattle.clru_report.specs.TimedPasses.{HasTakenRequests}
+use Rattle.clru_text.specs.Keys.{line_of, same_line}
+use Rattle.clru_text.specs.TakenRequests.{HasTakenRequests}
+use Rattle.clru_text.specs.declared.lines.OwnedKey.{OwnedKey}
 use Rattle.clru_shares.specs.Sizes.{weight_behind}
 use Rattle.clru_shares.specs.declared.curve.LineCurve.{LineCurve}
 use Rattle.clru_shares.specs.declared.curve.LineCurve.TheVariants.{ByKeys, BySize}

@@ -74,6 +74,7 @@ module _ {S A H : Type 0} where
     pub fewer : passes.kept ≤ passes.requests
     pub counted : passes.requests ≡ length lines
     pub summed : passes.size ≡ size_in sizes lines
+    pub fit : passes.size < 2 ^ 64
 
 module _ {S A H : Type 0} where
   -- the passes took these lines, under the idle limit if there is one, or those of a sample

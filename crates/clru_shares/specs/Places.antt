@@ -1,12 +1,9 @@
 -- Where and when the latest request of each line was. No public clause cites it.
-use Rattle.std.specs.Prelude.{◌≡◌, ◌≤◌, ◌-◌, ℕ, nat_le, Bool, true, false, List, Option, Some, length, reverse, bytes_eq, ⊤}
+use Rattle.std.specs.Prelude.{◌≡◌, ◌-◌, ℕ, nat_le, Bool, true, false, List, Option, Some, reverse, bytes_eq, ⊤}
 use Rattle.std.specs.Map.{keys_of, lookup}
 use Rattle.std.specs.Option.{option_map, option_map_or}
-use Rattle.clru_curve.specs.KeyTables.{Keyed}
 use Rattle.clru_curve.specs.PositionPasses.{IsLatestOf}
-use Rattle.clru_lines.specs.declared.lines.OwnedKey.{OwnedKey}
 use Rattle.clru_model.specs.Ages.{is_recent}
-use Rattle.clru_report.specs.Passes.{line_of, same_line}
 use Rattle.clru_shares.specs.Classes.{class_in, of_class}
 use Rattle.clru_shares.specs.declared.latest.Places.{Places}
 use Rattle.clru_shares.specs.declared.pass.Asked.{Asked}
@@ -46,11 +43,10 @@ IsAskedOf false limit requests line asked = IsLatestOf bytes_eq (keys_of (revers
 IsAskedOf true limit requests line asked = ⊤
 
 -- they are noted of each line
-pub record IsNoted {A S : Type 0} (requests : List (List ℕ × ℕ)) (table : Keyed (OwnedKey A) Places S) : Type 0 where
-  pub each : (key : OwnedKey A) → AreLatest requests (line_of key) (lookup (same_line key) table.entries)
-  pub few : length table.entries ≤ length requests
+pub record IsNoted (requests : List (List ℕ × ℕ)) (noted : List (List ℕ × Places)) : Type 0 where
+  pub each : (line : List ℕ) → AreLatest requests line (lookup (bytes_eq line) noted)
 
 -- by keys
-abbrev pub IsNotedBy : {A S : Type 0} → Bool → List (List ℕ × ℕ) → Keyed (OwnedKey A) Places S → Type 0
-IsNotedBy false requests table = IsNoted requests table
-IsNotedBy true requests table = ⊤
+abbrev pub IsNotedBy : Bool → List (List ℕ × ℕ) → List (List ℕ × Places) → Type 0
+IsNotedBy false requests noted = IsNoted requests noted
+IsNotedBy true requests noted = ⊤

@@ -1,7 +1,7 @@
 -- Which lines a sample has, if there is one, and what its numbers say of all. Public clauses cite it.
 use Rattle.std.specs.Prelude.{ℕ, ◌/◌, ◌==◌, Bool, true, List, Option, None, Some, if◌then◌else◌}
-use Rattle.clru_report.specs.Samples.{is_kept, times}
-use Rattle.clru_report.specs.Times.{kept_requests}
+use Rattle.clru_text.specs.Samples.{is_kept, times}
+use Rattle.clru_text.specs.Times.{kept_requests}
 
 -- a line is one of the sample
 abbrev pub is_in : Option ℕ → List ℕ → Bool

@@ -1,5 +1,5 @@
 -- The table of a split. The numbers are those of the definitions of requests: no cache and no algorithm is in sight. Public clauses cite it.
-use Rattle.std.specs.Prelude.{◌≡◌, ℕ, zero, suc, ◌+◌, ◌*◌, ◌/◌, ◌≤◌, nat_lt, ◌-◌, ◌^◌, Bool, true, false, List, [], ◌∷◌, ◌++◌, length, map, max, replicate, reverse, Option, Some, None, codes, bytes_eq, if◌then◌else◌}
+use Rattle.std.specs.Prelude.{◌≡◌, ℕ, zero, suc, ◌+◌, ◌*◌, ◌/◌, ◌≤◌, ◌<◌, nat_lt, ◌-◌, ◌^◌, Bool, true, false, List, [], ◌∷◌, ◌++◌, length, map, max, replicate, reverse, Option, Some, None, codes, bytes_eq, if◌then◌else◌}
 use Rattle.std.specs.List.{All, sum_by}
 use Rattle.std.specs.Map.{keys_of}
 use Rattle.clru_curve.specs.IdlePasses.{idle_misses}
@@ -123,6 +123,7 @@ pub record IsSplitTable (form : SplitForm) (sizes : Bool) (idle sample : Option 
   pub timed : AreTimed idle lines
   pub classed : All (λ line. has_class line ≡ true) (rests_in idle lines)
   pub sized : All (λ line. is_sized sizes line ≡ true) (rests_in idle lines)
+  pub fit : size_in sizes (rests_in idle lines) < 2 ^ 64
   pub classes : AreClasses (rests_in idle lines) names
   pub few : length names ≤ most_classes
   pub room : All (HasRoom sizes sample budget (requests_in idle lines)) names

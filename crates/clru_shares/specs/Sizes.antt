@@ -1,7 +1,7 @@
 -- The sizes of lines that begin with a class: each stands behind the class. Public clauses cite them.
 use Rattle.std.specs.Prelude.{ℕ, ◌+◌, Bool, true, false, List, is_some}
 use Rattle.clru_curve.specs.SizedCurves.{size_of_all}
-use Rattle.clru_report.specs.Sizes.{size_of_line, weight_of_line}
+use Rattle.clru_text.specs.Sizes.{size_of_line, weight_of_line}
 use Rattle.clru_shares.specs.Classes.{rest_in}
 
 -- by size a line is to have one: what follows its class begins with it

@@ -1,6 +1,6 @@
 -- Lines that begin with times, where there is an idle limit. Public clauses cite it.
 use Rattle.std.specs.Prelude.{◌^◌, ◌-◌, ℕ, List, map, Option, None, Some, unwrap_or, ⊤}
-use Rattle.clru_report.specs.Times.{HaveTimes, requests_of as timed_requests, rests_of}
+use Rattle.clru_text.specs.Times.{HaveTimes, requests_of as timed_requests, rests_of}
 
 -- lines without their times, if they have any: each begins with a class
 abbrev pub rests_in : Option ℕ → List (List ℕ) → List (List ℕ)

@@ -1,6 +1,6 @@
 //! A pass for each class.
 ghost use Rattle.std.specs.Prelude.{◌≡◌, ◌≤◌, ℕ, Bool, List, [], ◌∷◌, ◌++◌, length, map, ◌<◌, true, false, IfErr, IfOk, OnOk};
-ghost use Rattle.clru_report.specs.Passes.{line_of};
+ghost use Rattle.clru_text.specs.Keys.{line_of};
 ghost use Rattle.clru_shares.specs.Classes.{AreAscending, class_in, most_classes, of_class, requests_of};
 ghost use Rattle.clru_shares.specs.Passes.{BelongsAt, HasTaken, HaveTaken, IsHeldAt, IsPlaceOf, name_of, next_kept};
 ghost use Rattle.clru_shares.specs.Places.{IsAskedOf};
@@ -8,7 +8,7 @@ ghost use Rattle.clru_shares.specs.Sizes.{own_size};
 
 use crate::pass::{Asked, LinePass, empty_pass, take_kept};
 use crate::sampled::next_number;
-use clru_lines::OwnedKey;
+use clru_text::OwnedKey;
 use std::alloc::{AllocError, Allocator};
 use std::cmp::Ordering;
 use std::hash::BuildHasher;

@@ -2,7 +2,7 @@
 ghost use Rattle.std.specs.Prelude.{◌≡◌, IfErr, IsOk, Some};
 ghost use Rattle.clru_shares.specs.Faults.{split_fault_text, split_status_of};
 
-use clru_report::{Fault, exit_status};
+use clru_text::{Fault, exit_status};
 use std::error::Error;
 use std::fmt;
 

@@ -5,7 +5,7 @@ ghost use Rattle.clru_shares.specs.Passes.{part_of_row, parts_of_table};
 
 use crate::picture::picture_of;
 use crate::table::{Row, Table};
-use clru_report::ratio_of;
+use clru_text::ratio_of;
 use std::alloc::{AllocError, Allocator};
 
 /// What is written of a split.

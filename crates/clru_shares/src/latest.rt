@@ -1,12 +1,12 @@
 //! Where and when the latest request of each line was.
-ghost use Rattle.std.specs.Prelude.{◌≡◌, ◌+◌, ◌^◌, ◌<◌, ℕ, Bool, List, [], ◌∷◌, ◌++◌, length, true, false, OnOk, IfOk};
-ghost use Rattle.clru_report.specs.Passes.{line_of};
+ghost use Rattle.std.specs.Prelude.{◌≡◌, ℕ, Bool, List, [], ◌∷◌, ◌++◌, length, true, false, OnOk, IfOk};
+ghost use Rattle.clru_text.specs.Keys.{line_of};
 ghost use Rattle.clru_shares.specs.Classes.{class_in, of_class};
 ghost use Rattle.clru_shares.specs.Passes.{next_kept};
 ghost use Rattle.clru_shares.specs.Places.{AreLatest, AreLatestBy, IsNoted, IsNotedBy, all_of as all_of_by, own_of as own_of_by, soon_of as soon_of_by};
 
-use clru_curve::KeyTable;
-use clru_lines::OwnedKey;
+use clru_linked_map::BytesMap;
+use clru_text::OwnedKey;
 use std::alloc::{AllocError, Allocator};
 use std::hash::BuildHasher;
 
@@ -20,16 +20,13 @@ pub(crate) struct Places {
 
 /// If the line is kept, returns where its latest request was, and notes that it is requested here. By size nothing is noted, since each
 /// pass knows that itself.
-pub(crate) fn note_kept<S: BuildHasher + Copy, A: Allocator + Copy>(
-    alloc: A,
+pub(crate) fn note_kept<S: BuildHasher, A: Allocator + Copy>(
     sizes: bool,
     is_kept: bool,
-    latest: &mut KeyTable<OwnedKey<A>, Places, S, A>,
+    latest: &mut BytesMap<Places, S, A>,
     key: &OwnedKey<A>,
     here: Places,
 ) -> Result<Option<Places>, AllocError>
-    requires countable { here.all + 1 < 2 ^ 64 }
-    requires noted { (kept : List (List ℕ × ℕ)) × IsNotedBy sizes kept latest.old × (here.all ≡ length kept) }
     ensures latest { (kept : List (List ℕ × ℕ)) → IsNotedBy sizes kept latest.old
         → IfOk result (λ places. is_kept ≡ true → AreLatestBy sizes kept (line_of key.now) places) }
     ensures noted { (kept : List (List ℕ × ℕ)) → IsNotedBy sizes kept latest.old → here.all ≡ length kept
@@ -37,22 +34,19 @@ pub(crate) fn note_kept<S: BuildHasher + Copy, A: Allocator + Copy>(
         → OnOk result (IsNotedBy sizes (next_kept is_kept kept (line_of key.now, here.time)) latest.new) }
 {
     if is_kept {
-        note(alloc, sizes, latest, key, here)
+        note(sizes, latest, key, here)
     } else {
         Ok(None)
     }
 }
 
 // Notes a line.
-fn note<S: BuildHasher + Copy, A: Allocator + Copy>(
-    alloc: A,
+fn note<S: BuildHasher, A: Allocator + Copy>(
     sizes: bool,
-    latest: &mut KeyTable<OwnedKey<A>, Places, S, A>,
+    latest: &mut BytesMap<Places, S, A>,
     key: &OwnedKey<A>,
     here: Places,
 ) -> Result<Option<Places>, AllocError>
-    requires countable { here.all + 1 < 2 ^ 64 }
-    requires noted { (kept : List (List ℕ × ℕ)) × IsNotedBy sizes kept latest.old × (here.all ≡ length kept) }
     ensures latest { (kept : List (List ℕ × ℕ)) → IsNotedBy sizes kept latest.old
         → IfOk result (AreLatestBy sizes kept (line_of key.now)) }
     ensures noted { (kept : List (List ℕ × ℕ)) → IsNotedBy sizes kept latest.old → here.all ≡ length kept
@@ -62,33 +56,23 @@ fn note<S: BuildHasher + Copy, A: Allocator + Copy>(
     if sizes {
         return Ok(None);
     }
-    note_line(alloc, latest, key, here)
+    note_line(latest, key, here)
 }
 
-// By keys. The line is copied where it is new.
-fn note_line<S: BuildHasher + Copy, A: Allocator + Copy>(
-    alloc: A,
-    latest: &mut KeyTable<OwnedKey<A>, Places, S, A>,
+// By keys.
+fn note_line<S: BuildHasher, A: Allocator + Copy>(
+    latest: &mut BytesMap<Places, S, A>,
     key: &OwnedKey<A>,
     here: Places,
 ) -> Result<Option<Places>, AllocError>
-    requires countable { here.all + 1 < 2 ^ 64 }
-    requires noted { (kept : List (List ℕ × ℕ)) × IsNoted kept latest.old × (here.all ≡ length kept) }
     ensures latest { (kept : List (List ℕ × ℕ)) → IsNoted kept latest.old → IfOk result (AreLatest kept (line_of key.now)) }
     ensures noted { (kept : List (List ℕ × ℕ)) → IsNoted kept latest.old → here.all ≡ length kept
         → here.own ≡ length (of_class (class_in (line_of key.now)) kept)
         → OnOk result (IsNoted (kept ++ (line_of key.now, here.time) ∷ []) latest.new) }
 {
-    let hash = latest.hash(key);
-    match latest.replace(hash, key, here) {
-        Some(before) => Ok(Some(before)),
-        None => {
-            let bytes = Vec::from_slice(alloc, &key.0)?;
-            match latest.insert(hash, OwnedKey(bytes), here) {
-                Ok(()) => Ok(None),
-                Err(_) => Err(AllocError),
-            }
-        }
+    match latest.insert(&key.0, here) {
+        Ok(before) => Ok(before),
+        Err(_) => Err(AllocError),
     }
 }
 

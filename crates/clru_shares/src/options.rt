@@ -5,7 +5,7 @@ ghost use Rattle.std.specs.Option.{is_none, option_map};
 ghost use Rattle.clru_shares.specs.Arguments.{form_of_split, goes_with_split, has_look as has_look_by, has_no_age as has_no_age_by, holds_all_lines as holds_all_lines_by, idle_of as idle_of_by, is_usual as is_usual_by, sample_number};
 
 use crate::form::SplitForm;
-use clru_report::{Capacities, Form, Look, Options, Sample, Times};
+use clru_text::{Capacities, Form, Look, Options, Sample, Times};
 use std::alloc::Allocator;
 use std::num::NonZeroUsize;
 

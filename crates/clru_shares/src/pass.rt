@@ -1,16 +1,16 @@
 //! A pass over lines with times, by keys or by size.
 ghost use Rattle.std.specs.Prelude.{◌≡◌, ℕ, Bool, true, List, [], ◌∷◌, ◌++◌, OnOk};
 ghost use Rattle.clru_curve.specs.SizedIdlePasses.{IsSizedIdlePass};
-ghost use Rattle.clru_lines.specs.declared.lines.OwnedKey.{OwnedKey};
-ghost use Rattle.clru_report.specs.Passes.{line_of, same_line};
-ghost use Rattle.clru_report.specs.TimedPasses.{HasTakenRequest};
+ghost use Rattle.clru_text.specs.Keys.{line_of, same_line};
+ghost use Rattle.clru_text.specs.TakenRequests.{HasTakenRequest};
+ghost use Rattle.clru_text.specs.declared.lines.OwnedKey.{OwnedKey};
 ghost use Rattle.clru_shares.specs.LinePasses.{HasTakenBy, weight_of_key};
 ghost use Rattle.clru_shares.specs.Passes.{next_kept};
 ghost use Rattle.clru_shares.specs.Places.{IsAskedOf};
 ghost use Rattle.clru_shares.specs.Sizes.{own_size, weight_behind};
 
 use clru_curve::{PositionPass, SizedIdlePass};
-use clru_lines::OwnedKey;
+use clru_text::OwnedKey;
 use std::alloc::{AllocError, Allocator};
 use std::hash::BuildHasher;
 

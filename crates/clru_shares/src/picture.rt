@@ -10,7 +10,7 @@ mod words;
 use crate::table::Table;
 use axis::draw_axis;
 use classes::draw_classes;
-use clru_report::STYLE;
+use clru_text::STYLE;
 use legend::draw_legend;
 use std::alloc::{AllocError, Allocator};
 use std::fmt::{self, Write};

@@ -4,8 +4,8 @@ ghost use Rattle.std.specs.Int.NonZero.{non_zero_usize_get};
 ghost use Rattle.std.specs.List.{All};
 ghost use Rattle.std.specs.Option.{option_map};
 ghost use Rattle.std.specs.Io.KnownBytes.{Appends, Keeps};
-ghost use Rattle.clru_lines.specs.Lines.{lines_of};
-ghost use Rattle.clru_lines.specs.Whole.{ReadWhole};
+ghost use Rattle.clru_text.specs.Lines.{lines_of};
+ghost use Rattle.clru_text.specs.Whole.{ReadWhole};
 ghost use Rattle.clru_shares.specs.Faults.{comes_of_a_line, comes_of_writing};
 ghost use Rattle.clru_shares.specs.Passes.{HasTakenLines, HaveShares, name_of};
 ghost use Rattle.clru_shares.specs.Refusals.{HasNoRoom, IsSaidOfLines, IsShownOf};
@@ -22,7 +22,7 @@ use crate::sampled::part_in;
 use crate::share::{Share, shares_of};
 use crate::table::table_of;
 use clru_curve::split;
-use clru_report::{Fault, write_report};
+use clru_text::{Fault, write_report};
 use std::alloc::{AllocError, Allocator};
 use std::hash::BuildHasher;
 use std::io::{Read, Write};
@@ -33,8 +33,8 @@ const MOST_STEPS: usize = 1000;
 
 /// Reads the whole input, and then writes the table of a best split of the budget among its classes, in this form. That of a sample is
 /// one of its part of the budget among its lines, as told of all. A request that comes later than the idle limit allows is a first one.
-/// Lines are hashed with `hash_builder`: a best split is one under each that is lawful. The beginning of the line that a fault names is
-/// put into `beginning`, or the name of the class for which the budget has no room.
+/// Lines are hashed with `hash_builder`: a best split is one under each that is lawful. The first 60 bytes of the line that a fault
+/// names are put into `beginning`, or the name of the class for which the budget has no room.
 /// Cost: one look-up a line, by size two, and that of `split` for at most a thousand steps. A sample takes a hash of each line, and
 /// look-ups of its own alone.
 pub fn run_split<R: Read, W: Write, S: BuildHasher + Copy, A: Allocator + Copy>(
@@ -82,6 +82,9 @@ pub fn run_split<R: Read, W: Write, S: BuildHasher + Copy, A: Allocator + Copy>(
 }
 
 /// Returns the table of a best split of the budget among the classes of all that a reader gives, in this form.
+///
+/// Fails if a line has no time, class or size, if there are more than 256 classes, if the sizes pass `usize::MAX`, if an object is larger
+/// than the budget, or if reading or memory fails.
 /// Cost: one look-up a line, by size two, and that of `split` for at most a thousand steps. A sample takes a hash of each line, and
 /// look-ups of its own alone.
 pub fn make_split<R: Read, S: BuildHasher + Copy, A: Allocator + Copy>(

@@ -2,9 +2,9 @@
 ghost use Rattle.std.specs.Prelude.{◌≡◌, ◌≢◌, ◌∷◌, ◌++◌, ◌+◌, ◌^◌, ◌<◌, ◌≤◌, ℕ, Bool, List, [], length, map, take, true, false, Some, IfErr, IfOk, OnOk};
 ghost use Rattle.std.specs.Int.NonZero.{non_zero_usize_get};
 ghost use Rattle.std.specs.Option.{option_map};
-ghost use Rattle.clru_lines.specs.Lines.{lines_of};
-ghost use Rattle.clru_lines.specs.Whole.{ReadWhole};
-ghost use Rattle.clru_report.specs.Passes.{line_of};
+ghost use Rattle.clru_text.specs.Keys.{line_of};
+ghost use Rattle.clru_text.specs.Lines.{lines_of};
+ghost use Rattle.clru_text.specs.Whole.{ReadWhole};
 ghost use Rattle.clru_shares.specs.Faults.{IsNumbered, comes_of_a_line, comes_of_writing};
 ghost use Rattle.clru_shares.specs.Classes.{class_in, most_classes};
 ghost use Rattle.clru_shares.specs.LinePasses.{HasTakenBy};
@@ -22,9 +22,8 @@ use crate::latest::{Places, all_of, note_kept, own_of, soon_of};
 use crate::pass::{Asked, LinePass, empty_pass, take_kept};
 use crate::sampled::{is_in, next_number};
 use crate::size::size_of_request;
-use clru_curve::KeyTable;
-use clru_lines::{LineBuffer, OwnedKey};
-use clru_report::{Fault, read_fault, split_time};
+use clru_linked_map::BytesMap;
+use clru_text::{Fault, LineBuffer, OwnedKey, read_fault, split_time};
 use std::alloc::{AllocError, Allocator};
 use std::hash::BuildHasher;
 use std::io::Read;
@@ -39,7 +38,7 @@ const MOST_SHOWN: usize = 60;
 pub(crate) struct Passes<S: BuildHasher + Copy, A: Allocator + Copy> {
     pub(crate) classes: Vec<Class<S, A>, A>,
     pub(crate) all: LinePass<S, A>,
-    pub(crate) latest: KeyTable<OwnedKey<A>, Places, S, A>,
+    pub(crate) latest: BytesMap<Places, S, A>,
     pub(crate) requests: usize,
     pub(crate) size: usize,
     pub(crate) kept: usize,
@@ -70,7 +69,7 @@ pub(crate) fn read_classes<R: Read, S: BuildHasher + Copy, A: Allocator + Copy>(
     let mut passes = Passes {
         classes: Vec::new(alloc),
         all: empty_pass(alloc, hash_builder, sizes, limit_of(idle)),
-        latest: KeyTable::empty(alloc, hash_builder),
+        latest: BytesMap::new(alloc, hash_builder),
         requests: 0,
         size: 0,
         kept: 0,
@@ -305,7 +304,6 @@ fn take_known<S: BuildHasher + Copy, A: Allocator + Copy>(
     time: usize,
     size: usize,
 ) -> Result<bool, AllocError>
-    requires countable { passes.old.kept + 1 < 2 ^ 64 }
     requires size { size ≡ own_size sizes (line_of key.now) }
     requires name { name.now ≡ class_in (line_of key.now) }
     requires taken { (lines : List (List ℕ)) × (kept : List (List ℕ × ℕ)) × HasTakenAll sizes limit lines kept passes.old }
@@ -330,7 +328,6 @@ fn take_known<S: BuildHasher + Copy, A: Allocator + Copy>(
     let own = kept_at(&passes.classes, place);
     let all = passes.kept;
     let places = note_kept(
-        alloc,
         sizes,
         is_kept,
         &mut passes.latest,

@@ -11,7 +11,7 @@ ghost use Rattle.clru_shares.specs.Shares.{HasRoom, greatest_size as greatest_si
 use crate::curve::LineCurve;
 use crate::fault::SplitFault;
 use crate::share::Share;
-use clru_report::Fault;
+use clru_text::Fault;
 use std::alloc::Allocator;
 use std::num::NonZeroUsize;
 

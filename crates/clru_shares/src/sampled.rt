@@ -5,7 +5,7 @@ ghost use Rattle.std.specs.Option.{option_map};
 ghost use Rattle.clru_shares.specs.Passes.{next_number as next_number_by};
 ghost use Rattle.clru_shares.specs.Sampled.{is_in as is_in_by, part_in as part_in_by, told_both as told_both_by, told_in as told_in_by, told_of as told_of_by};
 
-use clru_report::{is_kept, times};
+use clru_text::{is_kept, times};
 use std::num::NonZeroUsize;
 
 /// Returns whether a line is one of the sample.

@@ -3,7 +3,7 @@ ghost use Rattle.std.specs.Prelude.{◌≡◌, is_some, IfSome};
 ghost use Rattle.clru_shares.specs.Sizes.{is_sized, own_size};
 
 use crate::class::rest_of;
-use clru_report::size_of;
+use clru_text::size_of;
 
 /// Returns the size that follows the class of a line, or `None` if there is none. By keys lines have no sizes, and it returns 0.
 pub(crate) fn size_of_request(sizes: bool, line: &[u8]) -> Option<usize>

@@ -2,8 +2,8 @@
 //!
 //! Effects of calls: owned values are dropped once, and refused memory changes nothing: iterators up to a refusal, constructors by a
 //! configuration, items that own memory, look-ups by a borrowed text, a source that takes memory itself, lent memory, an index above
-//! its limit for 4 bytes, and the counts of the allocator that refuses. Examples and some callers of `clru_uses`; the laws at types
-//! of a caller's; what types print. Reports are tested in `clru_web`.
+//! its limit for 4 bytes, strings in one buffer, and the counts of the allocator that refuses. Examples and some callers of
+//! `clru_uses`; the laws at types of a caller's; what types print. Reports are tested in `clru_web`.
 #![tactic(auto)]
 
 #[cfg(test)]
@@ -51,5 +51,7 @@ mod splits;
 mod store_callers;
 #[cfg(test)]
 mod stores;
+#[cfg(test)]
+mod strings;
 #[cfg(test)]
 mod walks;

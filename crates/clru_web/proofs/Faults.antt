@@ -1,14 +1,13 @@
 -- What the fault of a split says of the log, by its status.
 use Rattle.std.proofs.Common.{◌≡◌, ℕ, Bool, true, List, [], ◌++◌, append-nil, Option, Some, refl, sym, ap, ◌∙◌, subst, arith}
-use Rattle.clru_lines.specs.Faults.{status_of}
-use Rattle.clru_lines.specs.Whole.{ReadWhole}
-use Rattle.clru_lines.specs.declared.fault.Fault.{Fault}
-use Rattle.clru_lines.specs.declared.fault.Fault.TheVariants.{BadCapacity, Memory, Reading, Writing, Closed, NoSize as NoSizeOf, TooLarge as TooLargeOf, TooSmall}
-use Rattle.clru_report.specs.Refusals.{is_of_input}
 use Rattle.clru_shares.specs.Faults.{comes_of_a_line, split_status_of}
 use Rattle.clru_shares.specs.Refusals.{HasNoRoom, IsSaidOfLines}
 use Rattle.clru_shares.specs.declared.fault.SplitFault.{SplitFault}
 use Rattle.clru_shares.specs.declared.fault.SplitFault.TheVariants.{NoTime, NoClass, TooManyClasses, NoSize, TooLarge, NoRoom, Other}
+use Rattle.clru_text.specs.Faults.{is_of_input, status_of}
+use Rattle.clru_text.specs.Whole.{ReadWhole}
+use Rattle.clru_text.specs.declared.fault.Fault.{Fault}
+use Rattle.clru_text.specs.declared.fault.Fault.TheVariants.{BadCapacity, Memory, Reading, Writing, Closed, NoSize as NoSizeOf, TooLarge as TooLargeOf, TooSmall}
 use Rattle.clru_web.specs.Splits.{IsSaidOfSplit}
 
 -- a log that was read to its end is the input

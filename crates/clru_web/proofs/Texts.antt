@@ -3,12 +3,12 @@ use Rattle.std.proofs.Common.{◌≡◌, ℕ, Bool, true, false, cond, List, ref
 use Rattle.std.proofs.lemmas.Str.{IsUtf8-from_is_utf8, is_utf8-from_IsUtf8}
 use Rattle.std.specs.Str.{IsUtf8, is_utf8}
 use Rattle.clru_web.specs.Answers.{IsTextOf, reading_of, words_in}
-use Rattle.clru_report.specs.Arguments.{GivesOptions}
-use Rattle.clru_report.specs.CommandLine.{asks, help, read_all, version, wrong}
-use Rattle.clru_report.specs.CommandLine as line
 use Rattle.clru_report.specs.Report.{IsReport}
-use Rattle.clru_report.specs.declared.help.TheConstants.{HELP, VERSION}
-use Rattle.clru_report.specs.declared.options.Options.{Options}
+use Rattle.clru_text.specs.Arguments.{GivesOptions}
+use Rattle.clru_text.specs.CommandLine as line
+use Rattle.clru_text.specs.CommandLine.{asks, help, read_all, version, wrong}
+use Rattle.clru_text.specs.declared.help.TheConstants.{HELP, VERSION}
+use Rattle.clru_text.specs.declared.options.Options.{Options}
 
 pub help_text : (A : Type 0) (reading : line.Reading) (log text : List ℕ) → reading ≡ help → text ≡ HELP.now → IsTextOf A reading log text
 unfolding IsTextOf

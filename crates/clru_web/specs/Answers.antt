@@ -5,15 +5,15 @@ use Rattle.std.specs.Prelude.{◌≡◌, ℕ, not, Bool, List, [], ◌∷◌, �
 use Rattle.std.specs.List.{filter}
 use Rattle.std.specs.Str.{is_utf8}
 use Rattle.std.specs.Str.Lines.{lines}
-use Rattle.clru_report.specs.Arguments.{GivesOptions}
-use Rattle.clru_report.specs.CommandLine.{Reading, asks, help, read_all, version, wrong}
 use Rattle.clru_report.specs.Report.{IsReport}
 use Rattle.clru_report.specs.Refusals.{IsRefused}
-use Rattle.clru_lines.specs.Faults.{fault_text, status_of}
-use Rattle.clru_lines.specs.declared.fault.Fault.{Fault}
-use Rattle.clru_lines.specs.declared.fault.Fault.TheVariants.{NoSize}
-use Rattle.clru_report.specs.declared.options.Options.{Options}
-use Rattle.clru_report.specs.declared.help.TheConstants.{HELP, VERSION}
+use Rattle.clru_text.specs.Arguments.{GivesOptions}
+use Rattle.clru_text.specs.CommandLine.{Reading, asks, help, read_all, version, wrong}
+use Rattle.clru_text.specs.Faults.{fault_text, status_of}
+use Rattle.clru_text.specs.declared.fault.Fault.{Fault}
+use Rattle.clru_text.specs.declared.fault.Fault.TheVariants.{NoSize}
+use Rattle.clru_text.specs.declared.help.TheConstants.{HELP, VERSION}
+use Rattle.clru_text.specs.declared.options.Options.{Options}
 
 -- each line is an argument, but for `--progress`, which asks nothing of a report
 abbrev pub words_in : List ℕ → List (List ℕ)

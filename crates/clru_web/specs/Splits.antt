@@ -1,13 +1,13 @@
 -- What the result of a split says of the log. Public clauses cite it.
 use Rattle.std.specs.Fmt.Cut.{IsTextOrCut}
 use Rattle.std.specs.Prelude.{ℕ, zero, suc, Bool, true, false, List, Option}
-use Rattle.clru_lines.specs.Lines.{lines_of}
 use Rattle.clru_shares.specs.Faults.{split_fault_text}
 use Rattle.clru_shares.specs.Refusals.{HasNoRoom, IsSaidOfLines}
 use Rattle.clru_shares.specs.declared.fault.SplitFault.{SplitFault}
 use Rattle.clru_shares.specs.declared.fault.SplitFault.TheVariants.{NoRoom}
 use Rattle.clru_shares.specs.declared.form.SplitForm.{SplitForm}
 use Rattle.clru_shares.specs.declared.form.SplitForm.TheVariants.{Table, Json, Picture}
+use Rattle.clru_text.specs.Lines.{lines_of}
 use Rattle.clru_web.specs.Answers.{IsSaid}
 
 -- by size or by keys

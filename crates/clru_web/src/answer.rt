@@ -1,11 +1,12 @@
 //! What the words ask for, of the log.
 ghost use Rattle.std.specs.Prelude.{◌≡◌, ◌⊎◌, ◌<◌, ◌≤◌, ℕ, List, true, IfErr, IfOk, length, map, take};
 ghost use Rattle.clru_web.specs.Answers.{HasNoReport, IsRefusedWith, IsTextOf, IsTold, reading_of, words_in};
-ghost use Rattle.clru_report.specs.Arguments.{is_wrong, IsAskedFor, IsRefusedLine};
 ghost use Rattle.clru_report.specs.Report.{IsReport};
+ghost use Rattle.clru_text.specs.Arguments.{is_wrong, IsAskedFor, IsRefusedLine};
 
 use crate::text::{put_whole, say, tell, tell_no_time};
-use clru_report::{Command, Fault, HELP, Options, Refusal, VERSION, command_of, make_report};
+use clru_report::make_report;
+use clru_text::{Command, Fault, HELP, Options, Refusal, VERSION, command_of};
 use std::alloc::{AllocError, Allocator};
 use std::hash::BuildHasher;
 

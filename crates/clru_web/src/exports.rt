@@ -1,18 +1,17 @@
 //! What a page calls.
 ghost use Rattle.std.specs.Prelude.{◌≡◌, ◌⊎◌, ◌<◌, ◌≤◌, ℕ, List, None, length, take};
 ghost use Rattle.std.specs.Borrow.{Bor};
-ghost use Rattle.clru_lines.specs.Lines.{lines_of};
 ghost use Rattle.clru_shares.specs.Shares.{IsSplitTable};
+ghost use Rattle.clru_text.specs.Arguments.{IsRefusedLine};
+ghost use Rattle.clru_text.specs.Lines.{lines_of};
 ghost use Rattle.clru_web.specs.Answers.{HasNoReport, IsTextOf, IsTold, reading_of};
 ghost use Rattle.clru_web.specs.Splits.{HasNoSplit, form_of as form_by, has_sizes as has_sizes_by};
-ghost use Rattle.clru_report.specs.Arguments.{IsRefusedLine};
 
 use crate::answer::answer;
 use crate::split::{form_of, has_sizes, split_log};
 use crate::text::say;
-use clru_lines::Seed;
-use clru_report::Fault;
 use clru_shares::SplitOptions;
+use clru_text::{Fault, Seed};
 use ration::{LentBlock, Loan};
 use std::num::NonZeroUsize;
 

@@ -2,14 +2,14 @@
 ghost use Rattle.std.specs.Prelude.{◌≡◌, ◌≢◌, ◌<◌, ◌≤◌, ℕ, List, length, take};
 ghost use Rattle.std.specs.Int.NonZero.{non_zero_usize_get};
 ghost use Rattle.std.specs.Option.{option_map};
-ghost use Rattle.clru_lines.specs.Lines.{lines_of};
 ghost use Rattle.clru_shares.specs.Shares.{IsSplitTable};
+ghost use Rattle.clru_text.specs.Lines.{lines_of};
 ghost use Rattle.clru_web.specs.Answers.{IsTold};
 ghost use Rattle.clru_web.specs.Splits.{HasNoSplit, form_of as form_by, has_sizes as has_sizes_by};
 
 use crate::text::{put_whole, tell_split};
-use clru_report::Fault;
 use clru_shares::{SplitForm, SplitOptions, make_split};
+use clru_text::Fault;
 use std::alloc::Allocator;
 use std::hash::BuildHasher;
 

@@ -12,7 +12,7 @@ mod words;
 use crate::asserts::equal;
 use crate::exports::{report, split};
 use crate::text::tell;
-use clru_report::Fault;
+use clru_text::Fault;
 use ration::Loan;
 
 const ENOUGH: usize = 1 << 20;

@@ -1,13 +1,13 @@
 //! The text that is handed back.
 ghost use Rattle.std.specs.Prelude.{◌≡◌, true, Some, ◌⊎◌, ◌+◌, ◌-◌, ◌<◌, ◌≤◌, ◌++◌, length, min, take};
-ghost use Rattle.clru_lines.specs.Faults.{status_of};
-ghost use Rattle.clru_lines.specs.declared.fault.Fault.TheVariants.{NoSize};
 ghost use Rattle.clru_shares.specs.Faults.{split_status_of};
+ghost use Rattle.clru_text.specs.Faults.{status_of};
+ghost use Rattle.clru_text.specs.declared.fault.Fault.TheVariants.{NoSize};
 ghost use Rattle.clru_web.specs.Answers.{IsSaid, IsTold, IsToldOfLog, no_time_text, wanted_text};
 ghost use Rattle.clru_web.specs.Splits.{IsToldOfSplit};
 
-use clru_report::{Fault, exit_status};
 use clru_shares::{SplitFault, split_status};
+use clru_text::{Fault, exit_status};
 use std::fmt::{self, InlineText};
 
 // The line of a fault. The longest has some 120 bytes.

@@ -2,7 +2,7 @@
 use super::fakes::Noting;
 use super::{FOUR, equal, lines};
 use crate::program::run;
-use clru_lines::Fault;
+use clru_text::Fault;
 use ration::Rationed;
 use std::alloc::Global;
 use std::io::{self, Read};

@@ -2,7 +2,7 @@
 use super::fakes::{Call, Dripping, Noting};
 use super::{FOUR, FOUR_MISSES, equal};
 use crate::program::run;
-use clru_lines::Fault;
+use clru_text::Fault;
 use std::alloc::Global;
 use std::io::ErrorKind;
 

@@ -1,14 +1,12 @@
 //! The picture by size of the requests behind the first ones.
 ghost use Rattle.std.specs.Prelude.{IfOk, string_bytes};
+ghost use Rattle.clru_text.specs.Pictures.{HasTable};
 ghost use Rattle.clru_report.specs.Passes.{IsSettled};
-ghost use Rattle.clru_report.specs.Tables.{HasTable};
 
 use super::by_size::greatest_named;
-use super::picture_of;
-use super::plot::{Line, Plot};
-use crate::options::Options;
 use crate::sized::{Totals, distinct_of, first_capacity, missed_behind, misses_behind};
 use clru_curve::SizedCurve;
+use clru_text::{Options, Plot, PlotLine, picture_of};
 use std::alloc::{AllocError, Allocator};
 use std::num::NonZeroUsize;
 
@@ -60,10 +58,10 @@ fn lines_behind<A: Allocator + Copy>(
     totals: Totals,
     first: usize,
     asked: &[NonZeroUsize],
-) -> Result<Vec<Line<A>, A>, AllocError> {
+) -> Result<Vec<PlotLine<A>, A>, AllocError> {
     let mut lines = Vec::new(alloc);
     let all = curve.distinct_size();
-    lines.push(Line {
+    lines.push(PlotLine {
         class: "lru",
         name: "miss ratio",
         whole: totals.requests,
@@ -72,7 +70,7 @@ fn lines_behind<A: Allocator + Copy>(
         floor: part_at(curve, head, all, false),
         marks: marks_behind(alloc, curve, head, asked, false)?,
     })?;
-    lines.push(Line {
+    lines.push(PlotLine {
         class: "bytes",
         name: "byte miss ratio",
         whole: totals.size,

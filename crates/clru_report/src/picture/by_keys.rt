@@ -1,14 +1,11 @@
 //! The picture where each key takes a place.
 ghost use Rattle.std.specs.Prelude.{IfOk, string_bytes};
-ghost use Rattle.clru_report.specs.Tables.{HasTable};
+ghost use Rattle.clru_text.specs.Pictures.{HasTable};
 
-use super::picture_of;
-use super::plot::{Line, Plot};
-use crate::options::{Capacities, Options};
 use crate::rows::Row;
-use crate::sample::times;
 use crate::text::Counts;
 use clru_least::Floor;
+use clru_text::{Capacities, Options, Plot, PlotLine, picture_of, times};
 use std::alloc::{AllocError, Allocator};
 use std::num::NonZeroUsize;
 
@@ -38,7 +35,7 @@ pub(crate) fn picture_by_keys<A: Allocator + Copy>(
     let start = curve.get((first.get() / one_in.get()).saturating_sub(1));
     let start = *start.or(curve.last()).unwrap_or(&0);
     let mut lines = Vec::new(alloc);
-    lines.push(Line {
+    lines.push(PlotLine {
         class: "lru",
         name: "LRU",
         whole: requests,
@@ -78,7 +75,7 @@ fn line_below<A: Allocator + Copy>(
     keys: usize,
     first: NonZeroUsize,
     counts: Counts,
-) -> Result<Line<A>, AllocError> {
+) -> Result<PlotLine<A>, AllocError> {
     let one_in = counts.one_in;
     let requests = counts.requests;
     let start = NonZeroUsize::new(first.get() / one_in.get()).unwrap_or(NonZeroUsize::MIN);
@@ -94,7 +91,7 @@ fn line_below<A: Allocator + Copy>(
         }
         room = room.saturating_add(1);
     }
-    Ok(Line {
+    Ok(PlotLine {
         class: "below",
         name: "floor",
         whole: requests,

@@ -1,14 +1,11 @@
 //! The picture where each key takes the size of its requests.
 ghost use Rattle.std.specs.Prelude.{IfOk, string_bytes};
+ghost use Rattle.clru_text.specs.Pictures.{HasTable};
 ghost use Rattle.clru_report.specs.Passes.{IsSettled};
-ghost use Rattle.clru_report.specs.Tables.{HasTable};
 
-use super::picture_of;
-use super::plot::{Line, Plot};
-use crate::options::{Capacities, Options};
-use crate::sample::times;
 use crate::sized::{Floors, Totals, first_capacity, sized_capacities_for};
 use clru_curve::{SizedCurve, Step};
+use clru_text::{Capacities, Options, Plot, PlotLine, picture_of, times};
 use std::alloc::{AllocError, Allocator};
 use std::num::NonZeroUsize;
 
@@ -70,7 +67,7 @@ fn line_below<A: Allocator + Copy>(
     totals: Totals,
     first: usize,
     last: usize,
-) -> Result<Line<A>, AllocError> {
+) -> Result<PlotLine<A>, AllocError> {
     let one_in = totals.one_in;
     let floor = &floors.missed_size;
     let end = last / one_in.get();
@@ -88,7 +85,7 @@ fn line_below<A: Allocator + Copy>(
             times(one_in, totals.size, floor.missed_size(room)),
         ))?;
     }
-    Ok(Line {
+    Ok(PlotLine {
         class: "below",
         name: "floor",
         whole: totals.size,
@@ -118,7 +115,7 @@ fn lines_of<A: Allocator + Copy>(
     totals: Totals,
     first: usize,
     capacities: &Capacities<A>,
-) -> Result<Vec<Line<A>, A>, AllocError>
+) -> Result<Vec<PlotLine<A>, A>, AllocError>
     requires { IsSettled curve.now }
 {
     let one_in = totals.one_in;
@@ -129,7 +126,7 @@ fn lines_of<A: Allocator + Copy>(
     let steps = curve.as_slice().get(hits..).unwrap_or(&[]);
     let (marks, marks_of_sizes) = marks_of(alloc, curve, totals, capacities)?;
     let mut lines = Vec::new(alloc);
-    lines.push(Line {
+    lines.push(PlotLine {
         class: "lru",
         name: "miss ratio",
         whole: totals.requests,
@@ -138,7 +135,7 @@ fn lines_of<A: Allocator + Copy>(
         floor: times(one_in, totals.requests, fewest),
         marks,
     })?;
-    lines.push(Line {
+    lines.push(PlotLine {
         class: "bytes",
         name: "byte miss ratio",
         whole: totals.size,

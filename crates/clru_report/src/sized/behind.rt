@@ -16,8 +16,8 @@ use super::rows::SizedRow;
 use super::sample::Totals;
 use crate::faithful::{Curve, Point, if_far};
 use crate::knees::{UsualTable, table_with_knees};
-use crate::options::Capacities;
 use clru_curve::SizedCurve;
+use clru_text::Capacities;
 use std::alloc::{AllocError, Allocator};
 use std::num::NonZeroUsize;
 

@@ -10,8 +10,8 @@ use super::faithful::BySize;
 use super::ratio::least_by_size;
 use crate::capacities::{push_capacity, usual_capacities};
 use crate::knees::{UsualTable, table_with_knees};
-use crate::options::Capacities;
 use clru_curve::SizedCurve;
+use clru_text::Capacities;
 use std::alloc::{AllocError, Allocator};
 use std::num::NonZeroUsize;
 

@@ -1,12 +1,13 @@
 //! Floors by size: what every policy misses at least.
 ghost use Rattle.std.specs.Prelude.{◌≡◌, Bool, List, map, reverse, IfOk};
 ghost use Rattle.std.specs.Int.NonZero.{non_zero_usize_get};
-ghost use Rattle.clru_lines.specs.declared.lines.OwnedKey.{OwnedKey};
-ghost use Rattle.clru_report.specs.Passes.{AreFloorsFor, HasFloorPass, floors_at, line_of};
-ghost use Rattle.clru_report.specs.Sizes.{weight_of_line};
+ghost use Rattle.clru_text.specs.Keys.{line_of};
+ghost use Rattle.clru_text.specs.Sizes.{weight_of_line};
+ghost use Rattle.clru_text.specs.declared.lines.OwnedKey.{OwnedKey};
+ghost use Rattle.clru_report.specs.Passes.{AreFloorsFor, HasFloorPass, floors_at};
 
 use clru_least::{Floor, FloorPass, SizeFloor};
-use clru_lines::OwnedKey;
+use clru_text::OwnedKey;
 use std::alloc::{AllocError, Allocator};
 use std::num::NonZeroUsize;
 

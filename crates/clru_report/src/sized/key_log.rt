@@ -1,19 +1,19 @@
 //! A log by the numbers of its keys, each with the greatest size it came with.
 ghost use Rattle.std.specs.Prelude.{◌≡◌, ◌<◌, ◌+◌, ℕ, Bool, true, false, List, [], ◌∷◌, ◌++◌, length, map, max, None, Some, IsSome, IfErr, IfOk, OnOk, if◌then◌else◌, slice_index, slice_set};
 ghost use Rattle.std.specs.HashMap.{get};
-ghost use Rattle.clru_lines.specs.Lines.{lines_of};
-ghost use Rattle.clru_lines.specs.Whole.{ReadWhole};
-ghost use Rattle.clru_report.specs.Faults.{is_of_writing};
+ghost use Rattle.clru_text.specs.Faults.{is_of_input, is_of_writing};
+ghost use Rattle.clru_text.specs.Keys.{line_of, same_line};
+ghost use Rattle.clru_text.specs.Lines.{lines_of};
+ghost use Rattle.clru_text.specs.Sizes.{HaveSizes, size_of_line, tail_of_line, weight_of_line};
+ghost use Rattle.clru_text.specs.Whole.{ReadWhole};
 ghost use Rattle.clru_report.specs.KeyLogs.{HasKeys, HasNoted, lines_in, tails_of};
-ghost use Rattle.clru_report.specs.OneSize.{tail_of_line, with_greatest};
-ghost use Rattle.clru_report.specs.Passes.{IsOfLines, line_of, same_line};
-ghost use Rattle.clru_report.specs.Refusals.{fault_from, is_of_input};
-ghost use Rattle.clru_report.specs.Sizes.{HaveSizes, size_of_line, size_of_lines, weight_of_line};
+ghost use Rattle.clru_report.specs.OneSize.{with_greatest};
+ghost use Rattle.clru_report.specs.Passes.{IsOfLines};
+ghost use Rattle.clru_report.specs.Refusals.{fault_from};
+ghost use Rattle.clru_report.specs.Sizes.{size_of_lines};
 
-use super::line::tail_of;
 use super::pass::count_line;
-use crate::fault::read_fault;
-use clru_lines::{Fault, LineBuffer, OwnedKey};
+use clru_text::{Fault, LineBuffer, OwnedKey, read_fault, tail_of};
 use std::alloc::{AllocError, Allocator};
 use std::collections::HashMap;
 use std::hash::BuildHasher;

@@ -1,21 +1,22 @@
 //! The curve of a log where each key has one size, the greatest it came with.
 ghost use Rattle.std.specs.Prelude.{◌≡◌, ◌++◌, decimal, ℕ, Bool, true, false, List, None, Some, length, IfErr, IfOk, OnOk};
 ghost use Rattle.std.specs.Int.NonZero.{non_zero_usize_get};
-ghost use Rattle.clru_lines.specs.Lines.{lines_of};
-ghost use Rattle.clru_lines.specs.Whole.{ReadWhole};
-ghost use Rattle.clru_report.specs.Faults.{is_of_writing};
+ghost use Rattle.clru_text.specs.Faults.{is_of_input, is_of_writing};
+ghost use Rattle.clru_text.specs.Keys.{line_of};
+ghost use Rattle.clru_text.specs.Lines.{lines_of};
+ghost use Rattle.clru_text.specs.Samples.{kept_of};
+ghost use Rattle.clru_text.specs.Whole.{ReadWhole};
 ghost use Rattle.clru_report.specs.KeyLogs.{HasKeys, lines_in};
 ghost use Rattle.clru_report.specs.OneSize.{counted_lines, one_size};
-ghost use Rattle.clru_report.specs.Passes.{AreFloorsFor, IsOfLines, IsSettled, IsSizedCurveOfKept, line_of};
-ghost use Rattle.clru_report.specs.Refusals.{fault_from, is_of_input};
-ghost use Rattle.clru_report.specs.Samples.{kept_of};
+ghost use Rattle.clru_report.specs.Passes.{AreFloorsFor, IsOfLines, IsSettled, IsSizedCurveOfKept};
+ghost use Rattle.clru_report.specs.Refusals.{fault_from};
 
 use super::floors::{Floors, floors_of};
 use super::key_log::{KeyLog, read_log};
 use super::pass::{count_and_take, curve_by_size};
 use clru_curve::{SizedCurve, SizedPass};
 use clru_least::FloorPass;
-use clru_lines::{Fault, OwnedKey};
+use clru_text::{Fault, OwnedKey};
 use std::alloc::{AllocError, Allocator};
 use std::fmt::Write;
 use std::hash::BuildHasher;

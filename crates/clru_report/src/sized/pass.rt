@@ -1,23 +1,22 @@
 //! The one reading of a log whose lines are objects with their sizes.
 ghost use Rattle.std.specs.Prelude.{◌≡◌, ℕ, ◌+◌, Bool, true, false, List, [], ◌∷◌, ◌++◌, length, Some, IsSome, IfErr, IfOk, OnOk};
 ghost use Rattle.std.specs.Int.NonZero.{non_zero_usize_get};
-ghost use Rattle.clru_lines.specs.Lines.{lines_of};
-ghost use Rattle.clru_lines.specs.Whole.{ReadWhole};
-ghost use Rattle.clru_report.specs.Faults.{is_of_writing};
 ghost use Rattle.clru_curve.specs.SizedPasses.{IsSizedPass};
-ghost use Rattle.clru_lines.specs.declared.lines.OwnedKey.{OwnedKey};
-ghost use Rattle.clru_report.specs.Passes.{AreFloorsFor, HasFloorPass, HasTaken, HasTakenOf, HasTakenSized, IsOfLines, IsSettled, IsSizedCurveOfKept, hash_of_line, line_of, same_line, weight_of_key};
-ghost use Rattle.clru_report.specs.Refusals.{fault_from, is_of_input};
-ghost use Rattle.clru_report.specs.Samples.{kept_of};
-ghost use Rattle.clru_report.specs.Sizes.{HaveSizes, size_of_line, size_of_lines, weight_of_line};
+ghost use Rattle.clru_text.specs.Faults.{is_of_input, is_of_writing};
+ghost use Rattle.clru_text.specs.Keys.{line_of, same_line};
+ghost use Rattle.clru_text.specs.Lines.{lines_of};
+ghost use Rattle.clru_text.specs.Samples.{kept_of};
+ghost use Rattle.clru_text.specs.Sizes.{HaveSizes, size_of_line, weight_of_line};
+ghost use Rattle.clru_text.specs.Whole.{ReadWhole};
+ghost use Rattle.clru_text.specs.declared.lines.OwnedKey.{OwnedKey};
+ghost use Rattle.clru_report.specs.Passes.{AreFloorsFor, HasFloorPass, HasTaken, HasTakenOf, HasTakenSized, IsOfLines, IsSettled, IsSizedCurveOfKept, hash_of_line, weight_of_key};
+ghost use Rattle.clru_report.specs.Refusals.{fault_from};
+ghost use Rattle.clru_report.specs.Sizes.{size_of_lines};
 
 use super::floors::{Floors, floors_of};
-use super::line::size_of;
-use crate::fault::read_fault;
-use crate::sample::is_kept;
 use clru_curve::{SizedCurve, SizedPass};
 use clru_least::FloorPass;
-use clru_lines::{Fault, LineBuffer, OwnedKey};
+use clru_text::{Fault, LineBuffer, OwnedKey, is_kept, read_fault, size_of};
 use std::alloc::{AllocError, Allocator};
 use std::hash::BuildHasher;
 use std::io::Read;

@@ -10,8 +10,9 @@ use super::behind::{missed_behind, misses_behind};
 use super::capacities::{each_fall_by_size, first_capacity};
 use super::faithful::missed_after;
 use crate::capacities::push_capacity;
-use crate::ratio::{Billionths, is_enough};
+use crate::ratio::is_enough;
 use clru_curve::SizedCurve;
+use clru_text::Billionths;
 use std::alloc::{AllocError, Allocator};
 use std::num::NonZeroUsize;
 

@@ -6,9 +6,8 @@ ghost use Rattle.clru_report.specs.SizedTables.{capacity_of_sized_row};
 
 use super::capacities::{first_capacity, sized_capacities_for};
 use super::floors::{Floors, RowFloor, floor_at};
-use crate::options::Capacities;
 use clru_curve::SizedCurve;
-use clru_lines::Fault;
+use clru_text::{Capacities, Fault};
 use std::alloc::Allocator;
 use std::num::NonZeroUsize;
 

@@ -3,19 +3,20 @@ ghost use Rattle.std.specs.Prelude.{◌≡◌, ◌+◌, ◌-◌, ◌/◌, ◌^�
 ghost use Rattle.std.specs.Int.NonZero.{non_zero_usize_get};
 ghost use Rattle.std.specs.List.{filter};
 ghost use Rattle.std.specs.Option.{option_map};
+ghost use Rattle.clru_text.specs.Samples.{times as times_of};
 ghost use Rattle.clru_report.specs.Passes.{capacities_on, distinct_in, IsSettled};
 ghost use Rattle.clru_report.specs.SampleTables.{AreSampledRows, IsSampledTable, IsSampledText};
-ghost use Rattle.clru_report.specs.Samples.{floor_times, sized_numbers_of, sized_numbers_times, times as times_of};
+ghost use Rattle.clru_report.specs.Samples.{floor_times, sized_numbers_of, sized_numbers_times};
 ghost use Rattle.clru_report.specs.SizedTables.{sized_summary_text};
 
 use super::capacities::{first_capacity, sized_capacities_for, sized_usual_table};
 use super::floors::{Floors, RowFloor};
 use super::rows::{SizedRow, sized_rows_at};
 use super::table::{distinct_of, greatest_of, sized_summary, sized_table_of};
-use crate::options::{Capacities, Form, Options};
 use crate::picture::picture_by_size;
-use crate::sample::{knees_times, times};
+use crate::sample::knees_times;
 use clru_curve::SizedCurve;
+use clru_text::{Capacities, Form, Options, times};
 use std::alloc::{AllocError, Allocator};
 use std::num::NonZeroUsize;
 

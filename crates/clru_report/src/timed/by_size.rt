@@ -2,21 +2,19 @@
 ghost use Rattle.std.specs.Prelude.{◌≡◌, None, true, false, ◌&&◌, nat_lt, IfErr, IfOk, string_bytes};
 ghost use Rattle.std.specs.Int.NonZero.{non_zero_usize_get};
 ghost use Rattle.std.specs.List.{list_any};
-ghost use Rattle.clru_lines.specs.Lines.{lines_of};
-ghost use Rattle.clru_lines.specs.Whole.{ReadWhole};
-ghost use Rattle.clru_report.specs.Choices.{is_summary, is_whole};
-ghost use Rattle.clru_report.specs.Faults.{is_of_writing};
-ghost use Rattle.clru_report.specs.Refusals.{IsRefusedBy, is_of_input, names_below as names_below_by};
+ghost use Rattle.clru_text.specs.Choices.{is_summary, is_whole};
+ghost use Rattle.clru_text.specs.Faults.{is_of_input, is_of_writing};
+ghost use Rattle.clru_text.specs.Lines.{lines_of};
+ghost use Rattle.clru_text.specs.Times.{rests_of};
+ghost use Rattle.clru_text.specs.Whole.{ReadWhole};
+ghost use Rattle.clru_report.specs.Refusals.{IsRefusedBy, names_below as names_below_by};
 ghost use Rattle.clru_report.specs.SizedTimed.{IsTimedReportBySize, IsTimedReportBySizeIn, size_by};
-ghost use Rattle.clru_report.specs.Times.{rests_of};
 
 use super::sized_aged::sized_aged_report;
 use super::sized_pass::curve_of_sized_times;
 use super::{all_of, idle_of, kept_in, part_in};
-use crate::options::{Capacities, Options, Sample, Times};
-use crate::sample::times;
 use crate::sized::{Totals, first_capacity, text_of_sized_sample};
-use clru_lines::Fault;
+use clru_text::{Capacities, Fault, Options, Sample, Times, times};
 use std::alloc::Allocator;
 use std::hash::BuildHasher;
 use std::io::Read;

@@ -1,16 +1,15 @@
 //! Lines that begin with times, handed to a pass.
 ghost use Rattle.std.specs.Prelude.{◌≡◌, ◌+◌, ℕ, true, false, List, [], ◌∷◌, ◌++◌, Some, OnOk};
 ghost use Rattle.std.specs.Int.NonZero.{non_zero_usize_get};
-ghost use Rattle.clru_lines.specs.declared.lines.OwnedKey.{OwnedKey};
-ghost use Rattle.clru_report.specs.Passes.{line_of};
-ghost use Rattle.clru_report.specs.TimedPasses.{HasTakenRequest, HasTakenTimed};
-ghost use Rattle.clru_report.specs.Times.{rest_of_line, time_of_line};
+ghost use Rattle.clru_text.specs.Keys.{line_of};
+ghost use Rattle.clru_text.specs.TakenRequests.{HasTakenRequest};
+ghost use Rattle.clru_text.specs.Times.{rest_of_line, time_of_line};
+ghost use Rattle.clru_text.specs.declared.lines.OwnedKey.{OwnedKey};
+ghost use Rattle.clru_report.specs.TimedPasses.{HasTakenTimed};
 
-use super::time::split_time;
 use crate::reading::TakesLines;
-use crate::sample::is_kept;
 use crate::sized::count_line;
-use clru_lines::{Fault, OwnedKey};
+use clru_text::{Fault, OwnedKey, is_kept, split_time};
 use std::alloc::{AllocError, Allocator};
 use std::num::NonZeroUsize;
 
@@ -43,8 +42,8 @@ pub(super) struct TimedLines<P, A: Allocator> {
 }
 
 impl<P: TakesRequests<A>, A: Allocator + Copy> TakesLines for TimedLines<P, A> {
+    ghost use Rattle.clru_text.specs.Faults.{is_of_input};
     ghost use Rattle.clru_report.specs.Timed.{IsUntimed};
-    ghost use Rattle.clru_report.specs.Refusals.{is_of_input};
 
     ghost since = { λ start lines now. (now.one_in ≡ start.one_in)
         × HasTakenTimed (P.since (λ _. 0) start.pass) (non_zero_usize_get now.one_in) lines now.pass };
@@ -79,11 +78,12 @@ pub(super) struct SizedTimedLines<P, A: Allocator> {
 }
 
 impl<P: TakesRequests<A>, A: Allocator + Copy> TakesLines for SizedTimedLines<P, A> {
+    ghost use Rattle.clru_text.specs.Faults.{is_of_input};
+    ghost use Rattle.clru_text.specs.Sizes.{weight_of_line};
+    ghost use Rattle.clru_text.specs.Times.{rests_of};
     ghost use Rattle.clru_report.specs.Passes.{IsOfLines};
-    ghost use Rattle.clru_report.specs.Refusals.{fault_from, is_of_input};
+    ghost use Rattle.clru_report.specs.Refusals.{fault_from};
     ghost use Rattle.clru_report.specs.SizedTimedPasses.{HasTakenSizedTimed};
-    ghost use Rattle.clru_report.specs.Sizes.{weight_of_line};
-    ghost use Rattle.clru_report.specs.Times.{rests_of};
 
     ghost since = { λ start lines now. (now.lines.one_in ≡ start.lines.one_in)
         × HasTakenSizedTimed (P.since weight_of_line start.lines.pass) (non_zero_usize_get now.lines.one_in) lines now.size now.lines.pass };

@@ -2,19 +2,19 @@
 ghost use Rattle.std.specs.Prelude.{◌≡◌, ℕ, List, true, false, IfErr, IfOk, OnOk};
 ghost use Rattle.std.specs.Int.NonZero.{non_zero_usize_get};
 ghost use Rattle.clru_curve.specs.IdlePasses.{IsIdlePass};
-ghost use Rattle.clru_lines.specs.Lines.{lines_of};
-ghost use Rattle.clru_lines.specs.Whole.{ReadWhole};
-ghost use Rattle.clru_lines.specs.declared.lines.OwnedKey.{OwnedKey};
-ghost use Rattle.clru_report.specs.Faults.{is_of_writing};
-ghost use Rattle.clru_report.specs.Passes.{line_of, same_line};
-ghost use Rattle.clru_report.specs.Refusals.{is_of_input};
+ghost use Rattle.clru_text.specs.Faults.{is_of_input, is_of_writing};
+ghost use Rattle.clru_text.specs.Keys.{line_of, same_line};
+ghost use Rattle.clru_text.specs.Lines.{lines_of};
+ghost use Rattle.clru_text.specs.TakenRequests.{HasTakenRequest};
+ghost use Rattle.clru_text.specs.Whole.{ReadWhole};
+ghost use Rattle.clru_text.specs.declared.lines.OwnedKey.{OwnedKey};
 ghost use Rattle.clru_report.specs.Timed.{IsUntimed};
-ghost use Rattle.clru_report.specs.TimedPasses.{HasTakenRequest, IsTimedCurveOf};
+ghost use Rattle.clru_report.specs.TimedPasses.{IsTimedCurveOf};
 
 use super::lines::{TakesRequests, TimedLines};
 use crate::reading::read_lines;
 use clru_curve::{IdlePass, MissCurve};
-use clru_lines::{Fault, OwnedKey};
+use clru_text::{Fault, OwnedKey};
 use std::alloc::{AllocError, Allocator};
 use std::hash::BuildHasher;
 use std::io::Read;

@@ -1,6 +1,7 @@
 //! How often a report hashes a line and asks for memory, in each form.
 use crate::tests::fakes::{Counting, plain};
-use clru_report::{Capacities, Form, NonZeroUsize, Options, Sample, run};
+use clru_report::{NonZeroUsize, run};
+use clru_text::{Capacities, Form, Options, Sample};
 use ration::{Rationed, equal};
 use std::alloc::{AllocError, Global};
 use std::cell::Cell;
@@ -11,29 +12,29 @@ const KEYS: usize = 10;
 
 // Of a form, whether by size, and whether with the least, or by size the floors: its requests for memory, and their bytes.
 static REQUESTS: &[(Form, bool, bool, u64, u64)] = &[
-    (Form::Table, false, false, 36, 69278),
+    (Form::Table, false, false, 30, 68664),
     (Form::Table, true, false, 49, 106206),
     (Form::Table, true, true, 61, 186446),
-    (Form::Table, false, true, 52, 78710),
-    (Form::Json, false, false, 37, 69790),
+    (Form::Table, false, true, 46, 78096),
+    (Form::Json, false, false, 31, 69176),
     (Form::Json, true, true, 62, 187470),
-    (Form::Picture, false, false, 49, 88828),
+    (Form::Picture, false, false, 43, 88214),
     (Form::Picture, true, false, 71, 175700),
     (Form::Picture, true, true, 88, 260591),
-    (Form::Picture, false, true, 67, 99691),
-    (Form::Summary, false, false, 31, 68871),
+    (Form::Picture, false, true, 61, 99077),
+    (Form::Summary, false, false, 25, 68257),
     (Form::Summary, true, false, 40, 104662),
     (Form::Summary, true, true, 40, 104662),
-    (Form::Summary, false, true, 31, 68871),
+    (Form::Summary, false, true, 25, 68257),
 ];
 
 // The same of a sample, which keeps half of the keys: whether by size, its hashes too.
 static OF_SAMPLES: &[(Form, bool, u64, u64, u64)] = &[
-    (Form::Table, false, 504, 29, 68871),
+    (Form::Table, false, 500, 26, 67944),
     (Form::Table, true, 504, 41, 89031),
-    (Form::Picture, false, 504, 41, 87430),
+    (Form::Picture, false, 500, 38, 86503),
     (Form::Picture, true, 504, 62, 133774),
-    (Form::Summary, false, 504, 19, 67984),
+    (Form::Summary, false, 500, 16, 67057),
     (Form::Summary, true, 504, 34, 88263),
 ];
 
@@ -85,13 +86,13 @@ fn costs_of(
 #[test]
 fn each_form_hashes_a_line_as_often(rt: HostRuntime) -> Result<(), Fail> {
     let input = thousand(rt.alloc())?;
-    // Each line is hashed once, and four of ten keys again where the places grow from 4 to 16 (buckets are made for 64 then, the
-    // capacity of a pass at first).
-    let once = 1_000 + 4;
+    // Each line is hashed once. By size four of ten keys are hashed again where the places grow from 4 to 16 (buckets are made for 64
+    // then, the capacity of a pass at first); by keys there are places for 64 at once.
     for (form, sizes, least, requests, bytes) in REQUESTS {
-        // (the least and the floors look each line up once more, by the same hash)
+        // (by size the floors look each line up once more, by the same hash)
         let costs = costs_of(rt.alloc(), &input, *form, (*sizes, *least), Sample::Whole)?;
-        equal!(rt; costs, (once, *requests, *bytes), (*form, *sizes, *least));
+        let hashes = if *sizes { 1_000 + 4 } else { 1_000 };
+        equal!(rt; costs, (hashes, *requests, *bytes), (*form, *sizes, *least));
     }
     Ok(())
 }

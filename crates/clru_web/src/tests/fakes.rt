@@ -1,7 +1,7 @@
 //! Readers and writers that fail, a hash builder that counts, and a plain look.
 ghost use Rattle.std.specs.Hash.FoldHasher as folding;
 
-use clru_report::Look;
+use clru_text::Look;
 use std::alloc::Allocator;
 use std::cell::Cell;
 use std::hash::{BuildHasher, FoldHasher};

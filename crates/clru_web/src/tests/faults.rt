@@ -1,9 +1,8 @@
 //! Reports whose reader, writer or memory fails, each with its status.
 
 use crate::tests::fakes::{Breaking, Filling, plain};
-use clru_report::{
-    Capacities, DefaultState, Fault, Form, Options, Sample, exit_status, run, write_report,
-};
+use clru_report::{DefaultState, run};
+use clru_text::{Capacities, Fault, Form, Options, Sample, exit_status, write_report};
 use ration::{Rationed, equal};
 use std::alloc::{Allocator, Global};
 use std::io::ErrorKind;

@@ -1,8 +1,8 @@
-//! How `clru_lines` calls readers and writers, and the errors that only what is called shows. What it returns
+//! How `clru_text` calls readers and writers, and the errors that only what is called shows. What it returns
 //! follows from clauses. Rows of `report` call `capacity_of` and `digits_of`.
 
 use crate::tests::fakes::{Breaking, Filling, Piecewise};
-use clru_lines::{LineBuffer, ReadError, keys_of, next_line, read_input, write_text};
+use clru_text::{LineBuffer, ReadError, keys_of, next_line, read_input, write_text};
 use ration::{Rationed, equal};
 use std::alloc::{Allocator, Global};
 use std::io::{ErrorKind, Read};

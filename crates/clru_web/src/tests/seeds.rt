@@ -1,7 +1,7 @@
 //! A seed hashes as std's builder under the same words, however the bytes are cut.
 ghost use Rattle.std.specs.Prelude.{◌<◌};
 
-use clru_lines::{Key, Seed};
+use clru_text::{Key, Seed};
 use ration::equal;
 use std::cell::Cell;
 use std::hash::{BuildHasher, Hasher, RandomState};

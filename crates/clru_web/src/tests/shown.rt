@@ -1,7 +1,6 @@
 //! What `{:?}` prints of what the arguments ask for, and of a key.
 
-use clru_lines::Key;
-use clru_report::{Command, Refusal, command_of};
+use clru_text::{Command, Key, Refusal, command_of};
 use ration::{equal, shows};
 use std::alloc::Global;
 

@@ -1,6 +1,6 @@
 //! What words and the beginnings of lines name, and ratios. Programs call these through reports.
 
-use clru_report::{number_of_word, ratio_of, time_of};
+use clru_text::{number_of_word, ratio_of, time_of};
 use ration::equal;
 
 /// A word, and the number that it names, or 0.

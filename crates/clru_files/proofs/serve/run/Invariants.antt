@@ -1,7 +1,7 @@
 use Rattle.std.proofs.Common.{◌≡◌, ℕ, ◌+◌, ◌≤◌, List, [], ◌++◌, length, map, flat_map}
 use Rattle.std.specs.List.{AllByRecursion}
 use Rattle.std.specs.Io.KnownBytes.{Appends}
-use Rattle.clru_lines.specs.Lines.{lines_of}
+use Rattle.clru_text.specs.Lines.{lines_of}
 use Rattle.clru_files.specs.Serving.{line_of, IsServed, AreCounted}
 use Rattle.clru_files.specs.declared.served.Served.{Served}
 use Rattle.clru_files.specs.declared.freshness.Freshness.TheVariants.{Within}

@@ -7,16 +7,16 @@ use Rattle.clru_model.specs.Requests.{distinct}
 use Rattle.clru_report.proofs.AfterLemmas.{head_more, head_now}
 use Rattle.clru_report.proofs.TakenLines.{distinct_taken, line_taken, misses_taken}
 use Rattle.clru_report.specs.AfterPasses.{IsHead}
-use Rattle.clru_report.specs.Passes.{HasTakenLines}
+use Rattle.clru_report.specs.LinePasses.{HasTakenLines}
 use Rattle.clru_report.proofs.after.curves_around.Goals as goal
 use Rattle.clru_report.proofs.after.curves_around.Goals.{then-requests-get+in-Ok, else-requests-get}
 
 pub lines-init : goal.lines-init
 lines-init g c =
-    let taken : HasTakenLines {A = g.row.A.Denot} [] c.with_hasher-pass.result = record {
+    let taken : HasTakenLines {A = g.row.A.Denot} [] c.new-pass.result = record {
       past = [];
       shown = refl;
-      taken = c.with_hasher-pass.ensures;
+      taken = c.new-pass.ensures;
     } in ([], taken, c.new-buffer.ensures (g.R.Read.remaining c.args.reader.now), refl, omega arith, omega arith)
 
 pub overflow_add-requests : goal.overflow_add-requests
@@ -25,8 +25,8 @@ overflow_add-requests g c =
     let fits = c.in_ok-read_line.ensures.fits (g.R.Read.remaining c.args.reader.now) before.0 before.2 c.if-branch.true in
     omega (arith, before.3, fits)
 
-pub take_key-requires : goal.take_key-requires
-take_key-requires g c = let taken = c.lines.invariant.1 in (taken.past, taken.taken)
+pub take-requires : goal.take-requires
+take-requires g c = let taken = c.lines.invariant.1 in (taken.past, taken.taken)
 
 pub lines-preserved : goal.lines-preserved
 lines-preserved g c =
@@ -42,7 +42,7 @@ lines-preserved g c =
           (head_more n before.0 line c.lines.head (λ same. omega (arith, w.if-requests-get.false, same, before.3, c.get.ensures.value)) before.5)
     ] in (
       before.0 ++ line ∷ [],
-      line_taken before.0 c.lines.pass taken line c.take_key.new.pass (c.in-Ok-take_key.ensures taken.past taken.taken),
+      line_taken before.0 c.lines.pass taken _ c.take.new.self (c.in-Ok-take.ensures.taken taken.past taken.taken),
       c.in_ok-read_line.ensures.line start before.0 before.2 c.if-branch.true,
       omega (arith, before.3, length-append before.0 (line ∷ [])),
       omega (arith, before.3, fits),
@@ -53,16 +53,16 @@ pub returns : goal.returns
 returns g c =
     let before = c.lines.invariant in let start = g.R.Read.remaining c.args.reader.now in
     let read = c.in_ok-read_line.ensures.end start before.0 before.2 c.if-branch.false in
-    let lines = sym read.3.0 in let curve = c.into_curve.result in let n = non_zero_usize_get c.args.after in (
+    let lines = sym read.3.0 in let curve = c.in-Ok-into_curve.curve in let n = non_zero_usize_get c.args.after in (
       read.0,
       read.1,
       read.2,
       record {
         whole = record {
           misses = subst (λ ls. HasMissesOf bytes_eq ls curve) lines
-              (misses_taken before.0 c.lines.pass before.1 curve (λ past is. c.into_curve.ensures.misses past is));
+              (misses_taken before.0 c.lines.pass before.1 curve (λ past is. c.in-Ok-into_curve.ensures.misses past is));
           distinct_keys = subst (λ ls. length curve ≡ distinct bytes_eq (reverse ls)) lines
-              (distinct_taken before.0 c.lines.pass before.1 curve (λ past is. c.into_curve.ensures.distinct past is));
+              (distinct_taken before.0 c.lines.pass before.1 curve (λ past is. c.in-Ok-into_curve.ensures.distinct past is));
         };
         before = subst (λ ls. IsHead n ls c.lines.head) lines before.5;
         all_counted = before.3 ∙ ap length lines;

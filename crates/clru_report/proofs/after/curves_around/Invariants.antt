@@ -1,8 +1,8 @@
 use Rattle.std.proofs.Common.{◌≡◌, ◌-◌, ◌^◌, ◌<◌, ℕ, List, length}
 use Rattle.std.specs.Int.NonZero.{non_zero_usize_get}
-use Rattle.clru_lines.specs.LinesRead.{HasReturned}
+use Rattle.clru_text.specs.LinesRead.{HasReturned}
 use Rattle.clru_report.specs.AfterPasses.{IsHead}
-use Rattle.clru_report.specs.Passes.{HasTakenLines}
+use Rattle.clru_report.specs.LinePasses.{HasTakenLines}
 use Rattle.clru_report.proofs.after.curves_around.Given as goal
 
 abbrev pub invariant-lines : goal.invariant-lines

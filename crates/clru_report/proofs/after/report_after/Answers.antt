@@ -1,7 +1,7 @@
 use Rattle.std.proofs.Common.{◌≡◌, ◌∙◌, arith}
 use Rattle.std.proofs.lemmas.List.{length-take}
 use Rattle.std.specs.Int.NonZero.{non_zero_usize_get}
-use Rattle.clru_lines.specs.Lines.{lines_of}
+use Rattle.clru_text.specs.Lines.{lines_of}
 use Rattle.clru_report.specs.After.{counted}
 use Rattle.clru_report.proofs.after.report_after.Goals as goal
 

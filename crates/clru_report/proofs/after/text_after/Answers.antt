@@ -1,10 +1,10 @@
 use Rattle.std.proofs.Common.{false, None, Some, nat_lt, length, string_bytes, sym, subst}
 use Rattle.std.proofs.lemmas.Bool.{le-ltb, lt-ltb}
-use Rattle.clru_lines.specs.Lines.{lines_of}
+use Rattle.clru_text.specs.Lines.{lines_of}
+use Rattle.clru_text.proofs.ResultLemmas.{ok_map}
 use Rattle.clru_report.specs.After.{AreCounted}
 use Rattle.clru_report.specs.AfterPasses.{IsHead}
 use Rattle.clru_report.proofs.AfterLemmas.{form_after}
-use Rattle.clru_report.proofs.ReportLemmas.{ok_map}
 use Rattle.clru_report.proofs.after.text_after.Goals as goal
 use Rattle.clru_report.proofs.after.text_after.Goals.{in-None, in-Some+in_ok-counted-in-Some}
 

@@ -2,7 +2,7 @@ use Rattle.std.proofs.Common.{◌≡◌, ℕ, ◌++◌, [], ◌∷◌, nat_lt, t
 use Rattle.std.specs.Prelude.{◌==◌, if◌then◌else◌}
 use Rattle.std.proofs.lemmas.List.{append-nil}
 use Rattle.std.specs.Int.NonZero.{non_zero_usize_get}
-use Rattle.clru_report.specs.Capacities.{round_number}
+use Rattle.clru_text.specs.RoundNumbers.{round_number}
 use Rattle.clru_report.proofs.CapacityLemmas.{passing, passing_one, passing_none}
 use Rattle.clru_report.proofs.capacities.usual_capacities.Goals as goal
 use Rattle.clru_report.proofs.capacities.usual_capacities.Goals.{then-capacity-distinct+in_ok-push_capacity, else-capacity-distinct, then-distinct-gt0+in_ok-push_capacity-2, else-distinct-gt0}

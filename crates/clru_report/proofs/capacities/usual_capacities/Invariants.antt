@@ -1,7 +1,7 @@
 use Rattle.std.proofs.Common.{◌≡◌, map, nat_lt}
 use Rattle.std.specs.Int.NonZero.{non_zero_usize_get}
 use Rattle.std.specs.List.{filter, range_with_len}
-use Rattle.clru_report.specs.Capacities.{round_number}
+use Rattle.clru_text.specs.RoundNumbers.{round_number}
 use Rattle.clru_report.proofs.capacities.usual_capacities.Given as goal
 
 abbrev pub invariant-loop-index : goal.invariant-loop-index

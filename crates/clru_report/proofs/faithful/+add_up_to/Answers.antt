@@ -1,7 +1,7 @@
 use Rattle.std.proofs.Common.{◌++◌, [], ◌∷◌, map, ap, ◌∙◌, append_assoc}
 use Rattle.std.specs.Int.NonZero.{non_zero_usize_get}
+use Rattle.clru_text.proofs.ResultLemmas.{on_ok_map}
 use Rattle.clru_report.proofs.FaithfulTables.{lead_one, lead_two}
-use Rattle.clru_report.proofs.ReportLemmas.{on_ok_map}
 use Rattle.clru_report.proofs.faithful.+add_up_to.Goals as goal
 
 pub returns-in-None : goal.returns-in-None

@@ -4,9 +4,10 @@ use Rattle.std.specs.Int.NonZero.{non_zero_usize_get}
 use Rattle.std.specs.Prelude.{bytes_eq, reverse}
 use Rattle.clru_curve.specs.Curves.{HasMissesOf}
 use Rattle.clru_model.specs.Requests.{distinct}
+use Rattle.clru_text.specs.Samples.{kept_of}
 use Rattle.clru_report.proofs.TakenLines.{distinct_taken, foreseen_for, misses_taken, taken_for}
-use Rattle.clru_report.specs.Passes.{HasFloorPass, HasForesight, HasTakenFor, IsFloorFor, IsForeseenFor}
-use Rattle.clru_report.specs.Samples.{kept_of}
+use Rattle.clru_report.specs.LinePasses.{HasTakenFor}
+use Rattle.clru_report.specs.Passes.{HasFloorPass, HasForesight, IsFloorFor, IsForeseenFor}
 use Rattle.clru_report.proofs.pass.curve_by_keys.Goals as goal
 use Rattle.clru_report.proofs.pass.curve_by_keys.Goals.{else-floored, else-least, then-floored, then-least}
 
@@ -20,10 +21,10 @@ lines-init g c =
       | then-floored w ↦ subst (HasFloorPass {A = g.row.A.Denot} (λ _. 0) c.args.floored []) (sym w.reuses-is) (w.if-floored.true, w.new-then-floored.ensures (λ _. 0))
       | else-floored w ↦ subst (HasFloorPass {A = g.row.A.Denot} (λ _. 0) c.args.floored []) (sym w.reuses-is) w.if-floored.false
     ] in
-    let taken : HasTakenFor c.args.least c.args.floored [] c.with_hasher-pass.result c.if-least.foresight c.if-floored.reuses = record {
+    let taken : HasTakenFor c.args.least c.args.floored [] c.new-pass.result c.if-least.foresight c.if-floored.reuses = record {
       past = [];
       shown = refl;
-      taken = c.with_hasher-pass.ensures;
+      taken = c.new-pass.ensures;
       foreseen = foreseen;
       floored = noted;
     } in ([], taken, c.new-buffer.ensures (g.R.Read.remaining c.args.reader.now), refl, omega arith)
@@ -50,7 +51,7 @@ pub returns : goal.returns
 returns g c =
     let before = c.lines.invariant in let start = g.R.Read.remaining c.args.reader.now in
     let read = c.in_ok-read_line.ensures.end start before.0 before.2 c.if-branch.false in
-    let lines = sym read.3.0 in let curve = c.into_curve.result in
+    let lines = sym read.3.0 in let curve = c.in-Ok-into_curve.curve in
     let kept = kept_of (non_zero_usize_get c.args.one_in) in
     let of_kept = kept before.0 in
     let all = before.1 in
@@ -63,9 +64,9 @@ returns g c =
       (
         record {
           misses = subst (λ ls. HasMissesOf bytes_eq (kept ls) curve) lines
-              (misses_taken of_kept c.lines.pass taken curve (λ past is. c.into_curve.ensures.misses past is));
+              (misses_taken of_kept c.lines.pass taken curve (λ past is. c.in-Ok-into_curve.ensures.misses past is));
           distinct_keys = subst (λ ls. length curve ≡ distinct bytes_eq (reverse (kept ls))) lines
-              (distinct_taken of_kept c.lines.pass taken curve (λ past is. c.into_curve.ensures.distinct past is));
+              (distinct_taken of_kept c.lines.pass taken curve (λ past is. c.in-Ok-into_curve.ensures.distinct past is));
           counted = before.3 ∙ ap length lines;
           in_bytes = c.bytes_read.ensures ∙ read.3.1;
         },

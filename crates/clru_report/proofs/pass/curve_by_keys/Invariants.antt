@@ -1,8 +1,8 @@
 use Rattle.std.proofs.Common.{◌≡◌, ◌-◌, ◌^◌, ◌<◌, ℕ, List, length}
 use Rattle.std.specs.Int.NonZero.{non_zero_usize_get}
-use Rattle.clru_lines.specs.LinesRead.{HasReturned}
-use Rattle.clru_report.specs.Passes.{HasTakenFor}
-use Rattle.clru_report.specs.Samples.{kept_of}
+use Rattle.clru_text.specs.LinesRead.{HasReturned}
+use Rattle.clru_text.specs.Samples.{kept_of}
+use Rattle.clru_report.specs.LinePasses.{HasTakenFor}
 use Rattle.clru_report.proofs.pass.curve_by_keys.Given as goal
 
 abbrev pub invariant-lines : goal.invariant-lines

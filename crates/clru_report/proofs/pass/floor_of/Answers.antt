@@ -1,6 +1,7 @@
 use Rattle.std.proofs.Common.{Some, reverse, sym, subst, ◌∙◌}
 use Rattle.std.specs.Prelude.{bytes_eq}
-use Rattle.clru_report.specs.Passes.{HasFloorPass, line_of}
+use Rattle.clru_text.specs.Keys.{line_of}
+use Rattle.clru_report.specs.Passes.{HasFloorPass}
 use Rattle.clru_report.proofs.FloorViews.{floor-view}
 use Rattle.clru_report.proofs.pass.floor_of.Goals as goal
 

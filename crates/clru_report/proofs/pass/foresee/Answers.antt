@@ -1,36 +1,23 @@
-use Rattle.std.proofs.Common.{◌≡◌, ◌∷◌, None, Some, sym, subst}
-use Rattle.clru_report.specs.Passes.{HasForesight, line_of}
-use Rattle.clru_report.proofs.SettledCurves.{bytes_laws}
-use Rattle.clru_report.proofs.ReportLemmas.{on_ok_all, on_ok_map}
-use Rattle.clru_report.proofs.TakenLines.{latest_alike}
+use Rattle.std.proofs.Common.{◌∷◌, None, Some, sym, subst}
+use Rattle.clru_least.specs.Passes.{IsForesight}
+use Rattle.clru_text.specs.Keys.{same_line}
+use Rattle.clru_text.proofs.ResultLemmas.{on_ok_map}
+use Rattle.clru_report.specs.Passes.{HasForesight}
 use Rattle.clru_report.proofs.pass.foresee.Goals as goal
 
 pub request-requires : goal.request-requires
 request-requires g c =
-    let past = c.requires.taken.1 in let key = c.args.key.now in
-    let given : HasForesight c.requires.taken.0 past (Some c.in-Some.foresight) =
-    subst (HasForesight c.requires.taken.0 past) c.in-Some.is c.requires.taken.3 in (
-      past,
-      key,
-      given.1,
-      record {
-        known = c.latest_request_with_hash.ensures.known past c.requires.taken.2;
-        position = c.latest_request_with_hash.ensures.position past key c.requires.taken.2 (bytes_laws.refl (line_of key));
-      },
-    )
+    let past = c.requires.1 in let latest = c.requires.3 in
+    let given : HasForesight c.requires.0 past (Some c.in-Some.foresight) = subst (HasForesight c.requires.0 past) c.in-Some.is c.requires.4 in
+    (past, c.requires.2, given.1, record { known = latest.known; position = latest.position })
 
 pub returns-in-None : goal.returns-in-None
-returns-in-None g c least past is has =
+returns-in-None g c least past key latest has =
     let none : HasForesight least past None = subst (HasForesight least past) c.in-None.is has in
-    λ same alike. subst (HasForesight least (same ∷ past)) (sym c.in-None.is) none
+    subst (HasForesight least (key ∷ past)) (sym c.in-None.is) none
 
 pub returns-in-Some : goal.returns-in-Some
-returns-in-Some g c least past is has =
-    let key = c.args.key.now in
+returns-in-Some g c least past key latest has =
     let given : HasForesight least past (Some c.in-Some.foresight) = subst (HasForesight least past) c.in-Some.is has in
-    on_ok_all (λ same. line_of same ≡ line_of key) (λ same. HasForesight least (same ∷ past) (Some c.request.new.self)) c.request.result
-    (λ same alike. on_ok_map c.request.result (λ one. (given.0, one))
-    (c.request.ensures.taken past same given.1 (latest_alike past key same c.latest_request_with_hash.result (sym alike) (record {
-      known = c.latest_request_with_hash.ensures.known past is;
-      position = c.latest_request_with_hash.ensures.position past key is (bytes_laws.refl (line_of key));
-    }))))
+    on_ok_map {P = IsForesight same_line (key ∷ past) c.request.new.self} c.request.result (λ one. (given.0, one))
+    (c.request.ensures.taken past key given.1 (record { known = latest.known; position = latest.position }))

@@ -1,8 +1,8 @@
 use Rattle.std.specs.Option.{is_none}
 use Rattle.std.proofs.Common.{◌≡◌, false, not, ◌++◌, ◌∷◌, [], ℕ, List, IfSome, append_assoc, append-nil, refl, sym, length, ap, ◌∙◌, subst, arith}
 use Rattle.std.proofs.lemmas.List.{length-append}
-use Rattle.clru_report.specs.Faults.{is_of_writing}
-use Rattle.clru_report.proofs.ReportLemmas.{no_none, no_some, none_map, of_none, some_map}
+use Rattle.clru_text.specs.Faults.{is_of_writing}
+use Rattle.clru_text.proofs.ResultLemmas.{no_none, no_some, none_map, of_none, some_map}
 use Rattle.clru_report.proofs.reading.read_lines.Goals as goal
 
 pub lines-init : goal.lines-init

@@ -1,6 +1,6 @@
 use Rattle.std.proofs.Common.{◌≡◌, false, ◌-◌, ◌^◌, ◌<◌, ℕ, List, ◌++◌, IfNone, IfSome, length}
-use Rattle.clru_lines.specs.LinesRead.{HasReturned}
-use Rattle.clru_report.specs.Faults.{is_of_writing}
+use Rattle.clru_text.specs.Faults.{is_of_writing}
+use Rattle.clru_text.specs.LinesRead.{HasReturned}
 use Rattle.clru_report.proofs.reading.read_lines.Given as goal
 
 -- the lines so far were taken, or are refused whatever follows

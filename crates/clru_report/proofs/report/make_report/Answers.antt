@@ -1,6 +1,6 @@
 use Rattle.std.proofs.Common.{ap}
 use Rattle.std.specs.Option.{is_some}
-use Rattle.clru_report.proofs.CutsAlone.{timed_rows}
+use Rattle.clru_text.proofs.CutsAlone.{timed_rows}
 use Rattle.clru_report.proofs.report.make_report.Goals as goal
 
 pub report_with_times-requires : goal.report_with_times-requires

@@ -1,6 +1,6 @@
 use Rattle.std.proofs.Common.{ap}
 use Rattle.std.specs.Option.{is_some}
-use Rattle.clru_report.proofs.CutsAlone.{rows_alone}
+use Rattle.clru_text.proofs.CutsAlone.{rows_alone}
 use Rattle.clru_report.proofs.report.report_by_keys.Goals as goal
 
 pub report_after-requires : goal.report_after-requires

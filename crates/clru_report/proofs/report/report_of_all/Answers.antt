@@ -2,12 +2,12 @@ use Rattle.std.proofs.Common.{◌≡◌, ◌∙◌, map, string_bytes, sym, ap, 
 use Rattle.std.specs.Int.NonZero.{non_zero_usize_get}
 use Rattle.std.specs.Prelude.{bytes_eq, reverse}
 use Rattle.clru_curve.specs.Curves.{HasMissesOf}
-use Rattle.clru_lines.specs.Lines.{lines_of}
 use Rattle.clru_model.specs.Requests.{distinct}
+use Rattle.clru_text.specs.Lines.{lines_of}
+use Rattle.clru_text.proofs.Samples.{all_kept}
 use Rattle.clru_report.specs.Passes.{IsFloorFor, IsForeseenFor, wants_floor, wants_least}
 use Rattle.clru_report.specs.Report.{AreRows, capacities_asked, misses_of}
 use Rattle.clru_report.proofs.Forms.{form_of_all}
-use Rattle.clru_report.proofs.Samples.{all_kept}
 use Rattle.clru_report.proofs.report.report_of_all.Goals as goal
 
 pub returns-in-Ok-text_by_keys : goal.returns-in-Ok-text_by_keys

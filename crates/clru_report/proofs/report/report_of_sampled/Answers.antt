@@ -1,10 +1,10 @@
 use Rattle.std.proofs.Common.{◌≡◌, subst, length}
 use Rattle.std.specs.Prelude.{bytes_eq, reverse}
 use Rattle.clru_curve.specs.Curves.{HasMissesOf}
-use Rattle.clru_lines.specs.Lines.{lines_of}
 use Rattle.clru_model.specs.Requests.{distinct}
+use Rattle.clru_text.specs.Lines.{lines_of}
+use Rattle.clru_text.proofs.Samples.{all_kept}
 use Rattle.clru_report.specs.Passes.{IsFloorFor}
-use Rattle.clru_report.proofs.Samples.{all_kept}
 use Rattle.clru_report.proofs.report.report_of_sampled.Goals as goal
 
 pub returns-in-Ok : goal.returns-in-Ok

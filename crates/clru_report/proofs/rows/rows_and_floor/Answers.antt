@@ -2,9 +2,9 @@ use Rattle.std.proofs.Common.{false, None, Some, map, sym, subst}
 use Rattle.std.specs.Int.NonZero.{non_zero_usize_get}
 use Rattle.std.specs.Prelude.{bytes_eq, reverse}
 use Rattle.clru_model.specs.Requests.{distinct}
+use Rattle.clru_text.proofs.ResultLemmas.{ok_map}
 use Rattle.clru_report.specs.Passes.{IsFloorFor}
 use Rattle.clru_report.specs.Report.{AreRows, capacities_asked, misses_of}
-use Rattle.clru_report.proofs.ReportLemmas.{ok_map}
 use Rattle.clru_report.proofs.rows.rows_and_floor.Goals as goal
 
 pub returns-in-Some : goal.returns-in-Some

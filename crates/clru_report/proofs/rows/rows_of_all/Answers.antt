@@ -1,9 +1,9 @@
 use Rattle.std.proofs.Common.{false, None, Some, map, sym, subst}
 use Rattle.std.specs.Int.NonZero.{non_zero_usize_get}
 use Rattle.std.specs.Prelude.{bytes_eq}
+use Rattle.clru_text.proofs.ResultLemmas.{ok_map}
 use Rattle.clru_report.specs.Passes.{IsForeseenFor}
 use Rattle.clru_report.specs.Report.{AreRows, capacities_asked}
-use Rattle.clru_report.proofs.ReportLemmas.{ok_map}
 use Rattle.clru_report.proofs.rows.rows_of_all.Goals as goal
 
 pub returns-in-None : goal.returns-in-None

@@ -5,7 +5,7 @@ use Rattle.std.proofs.lemmas.List.{map-append, take_more}
 use Rattle.std.proofs.lemmas.List.Elements.{All-get_or}
 use Rattle.std.proofs.lemmas.Slice.Eq.{bytes_eq-Decides}
 use Rattle.clru_model.specs.Least.{IsLeast}
-use Rattle.clru_report.specs.Passes.{line_of}
+use Rattle.clru_text.specs.Keys.{line_of}
 use Rattle.clru_report.specs.Report.{AreRows, IsRow}
 use Rattle.clru_report.specs.Tables.{capacity_of_row}
 use Rattle.clru_report.specs.declared.rows.Row.{Row}

@@ -1,12 +1,12 @@
 use Rattle.std.proofs.Common.{◌≡◌, map, ap, subst, ◌∙◌}
 use Rattle.std.specs.Int.NonZero.{non_zero_usize_get}
 use Rattle.clru_curve.specs.Curves.{misses_at}
+use Rattle.clru_text.proofs.ResultLemmas.{ok_both, ok_map}
 use Rattle.clru_report.specs.Capacities.{usual}
 use Rattle.clru_report.specs.Faithful.{AreWithAdded}
 use Rattle.clru_report.specs.Knees.{knees}
 use Rattle.clru_report.proofs.CapacityLemmas.{usual_some}
 use Rattle.clru_report.proofs.FaithfulTables.{faithful_alike, knees_alike}
-use Rattle.clru_report.proofs.ReportLemmas.{ok_both, ok_map}
 use Rattle.clru_report.proofs.rows.usual_table.Goals as goal
 
 pub returns-clause-table : goal.returns-clause-table

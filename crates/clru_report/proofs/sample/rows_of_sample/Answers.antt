@@ -1,9 +1,9 @@
 use Rattle.std.proofs.Common.{◌/◌, false, ap, ◌∙◌, map, subst}
 use Rattle.std.specs.Int.NonZero.{non_zero_usize_get}
 use Rattle.std.specs.Prelude.{bytes_eq}
+use Rattle.clru_text.proofs.ResultLemmas.{ok_map}
 use Rattle.clru_report.specs.Report.{AreRows, capacities_asked}
 use Rattle.clru_report.specs.Samples.{numbers_times}
-use Rattle.clru_report.proofs.ReportLemmas.{ok_map}
 use Rattle.clru_report.proofs.sample.rows_of_sample.Goals as goal
 
 pub returns : goal.returns

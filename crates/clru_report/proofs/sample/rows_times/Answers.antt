@@ -1,7 +1,8 @@
 use Rattle.std.proofs.Common.{◌≡◌, ℕ, ◌++◌, ◌∷◌, [], Option, None, map, take, take_all, sym, ap, ◌∙◌, arith}
 use Rattle.std.specs.Int.NonZero.{non_zero_usize_get}
 use Rattle.std.proofs.lemmas.List.{map-append, take_more}
-use Rattle.clru_report.specs.Samples.{numbers_of, numbers_times, times}
+use Rattle.clru_text.specs.Samples.{times}
+use Rattle.clru_report.specs.Samples.{numbers_of, numbers_times}
 use Rattle.clru_report.proofs.sample.rows_times.Goals as goal
 
 pub loop-row-preserved : goal.loop-row-preserved

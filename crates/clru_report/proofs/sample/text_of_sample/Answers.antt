@@ -2,13 +2,13 @@ use Rattle.std.proofs.Common.{◌≡◌, ℕ, List, ◌-◌, ◌/◌, ◌^◌, f
 use Rattle.std.specs.Int.NonZero.{non_zero_usize_get}
 use Rattle.std.specs.Prelude.{bytes_eq, reverse}
 use Rattle.clru_model.specs.Requests.{distinct}
+use Rattle.clru_text.specs.Samples.{times}
+use Rattle.clru_text.proofs.ResultLemmas.{ok_map}
 use Rattle.clru_report.specs.Knees.{knees}
 use Rattle.clru_report.specs.Passes.{IsTextByKeys, wants_floor}
 use Rattle.clru_report.specs.Report.{AreRowsOfSample, IsUsualTable, knees_of_sample, misses_of}
-use Rattle.clru_report.specs.Samples.{times}
 use Rattle.clru_report.specs.declared.text.Counts.{Counts}
 use Rattle.clru_report.proofs.Forms.{form_of_sample}
-use Rattle.clru_report.proofs.ReportLemmas.{ok_map}
 use Rattle.clru_report.proofs.sample.text_of_sample.Goals as goal
 
 pub returns : goal.returns

@@ -1,13 +1,14 @@
 use Rattle.std.proofs.Common.{ap, string_bytes, sym, subst}
 use Rattle.std.specs.Int.NonZero.{non_zero_usize_get}
 use Rattle.std.specs.Option.{is_some, option_map}
-use Rattle.clru_lines.specs.Lines.{lines_of}
+use Rattle.clru_text.specs.Lines.{lines_of}
+use Rattle.clru_text.proofs.CutsAlone.{rows_alone, whole_alone}
+use Rattle.clru_text.proofs.ResultLemmas.{err_map, ok_map}
 use Rattle.clru_report.specs.OneSize.{counted_lines}
 use Rattle.clru_report.specs.Refusals.{IsRefusedBy}
 use Rattle.clru_report.specs.Report.{IsReportBySizeFrom}
 use Rattle.clru_report.specs.SizedAfter.{IsReportBySizeAfter}
-use Rattle.clru_report.proofs.CutsAlone.{refused_whole, rows_alone, whole_alone}
-use Rattle.clru_report.proofs.ReportLemmas.{err_map, ok_map}
+use Rattle.clru_report.proofs.FaultLemmas.{refused_whole}
 use Rattle.clru_report.proofs.sized.make_sized_report.Goals as goal
 
 pub sized_report_after-requires : goal.sized_report_after-requires

@@ -1,9 +1,9 @@
 use Rattle.std.proofs.Common.{subst}
-use Rattle.clru_lines.specs.Lines.{lines_of}
+use Rattle.clru_text.specs.Lines.{lines_of}
+use Rattle.clru_text.proofs.ResultLemmas.{err_map, ok_map}
+use Rattle.clru_text.proofs.Samples.{all_kept}
 use Rattle.clru_report.specs.OneSize.{counted_lines}
 use Rattle.clru_report.specs.Passes.{AreFloorsFor}
-use Rattle.clru_report.proofs.ReportLemmas.{err_map, ok_map}
-use Rattle.clru_report.proofs.Samples.{all_kept}
 use Rattle.clru_report.proofs.sized.sized_report_of_all.Goals as goal
 
 pub returns-clause-report : goal.returns-clause-report

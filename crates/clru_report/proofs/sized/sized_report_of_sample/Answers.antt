@@ -1,9 +1,9 @@
 use Rattle.std.proofs.Common.{length, string_bytes, subst}
 use Rattle.std.specs.Int.NonZero.{non_zero_usize_get}
-use Rattle.clru_lines.specs.Lines.{lines_of}
+use Rattle.clru_text.specs.Lines.{lines_of}
+use Rattle.clru_text.specs.Samples.{kept_of}
 use Rattle.clru_report.specs.OneSize.{counted_lines}
 use Rattle.clru_report.specs.Passes.{AreFloorsFor}
-use Rattle.clru_report.specs.Samples.{kept_of}
 use Rattle.clru_report.specs.SizedReport.{IsInFormBySizeOfSample}
 use Rattle.clru_report.proofs.SizedSamples.{sampled_form}
 use Rattle.clru_report.proofs.sized.sized_report_of_sample.Goals as goal

@@ -1,12 +1,12 @@
 use Rattle.std.proofs.Common.{◌+◌, false, true, None, min, ap, string_bytes, sym, subst, ◌∙◌}
 use Rattle.std.specs.Prelude.{◌&&◌}
+use Rattle.clru_text.proofs.ResultLemmas.{err_map, ok_map}
 use Rattle.clru_report.specs.Passes.{AreFloorsFor, distinct_in, has_rows}
 use Rattle.clru_report.specs.Refusals.{fault_beside}
 use Rattle.clru_report.specs.SizedReport.{IsInFormBySize}
 use Rattle.clru_report.specs.SizedTables.{sized_summary_text}
 use Rattle.clru_report.specs.Sizes.{greatest_size}
 use Rattle.clru_report.proofs.FaultLemmas.{told_beside}
-use Rattle.clru_report.proofs.ReportLemmas.{err_map, ok_map}
 use Rattle.clru_report.proofs.SizedReports.{capacities_refused, rows_free, summary_is, table_is}
 use Rattle.clru_report.proofs.SizedSamples.{of_all}
 use Rattle.clru_report.proofs.sized.text_by_size.Goals as goal

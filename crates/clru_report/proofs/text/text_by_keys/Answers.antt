@@ -1,7 +1,7 @@
 use Rattle.std.proofs.Common.{◌∙◌, string_bytes, sym, subst}
+use Rattle.clru_text.specs.Pictures.{HasTable}
+use Rattle.clru_text.proofs.ResultLemmas.{ok_map}
 use Rattle.clru_report.specs.Passes.{IsTextByKeys}
-use Rattle.clru_report.specs.Tables.{HasTable}
-use Rattle.clru_report.proofs.ReportLemmas.{ok_map}
 use Rattle.clru_report.proofs.text.text_by_keys.Goals as goal
 
 pub returns-in_ok-table-in-Picture : goal.returns-in_ok-table-in-Picture

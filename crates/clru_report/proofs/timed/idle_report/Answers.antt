@@ -2,12 +2,12 @@ use Rattle.std.proofs.Common.{◌-◌, ◌^◌, string_bytes, ap, subst, length,
 use Rattle.std.specs.Int.NonZero.{non_zero_usize_get}
 use Rattle.std.specs.Map.{keys_of}
 use Rattle.std.specs.Prelude.{bytes_eq, reverse}
-use Rattle.clru_lines.specs.Lines.{lines_of}
 use Rattle.clru_model.specs.Requests.{distinct}
-use Rattle.clru_report.specs.Samples.{times}
+use Rattle.clru_text.specs.Lines.{lines_of}
+use Rattle.clru_text.specs.Samples.{times}
+use Rattle.clru_text.specs.Times.{kept_requests, requests_of}
 use Rattle.clru_report.specs.Timed.{IsInFormOn, all_by, kept_in, misses_under, part_in}
 use Rattle.clru_report.specs.TimedPasses.{IsTimedCurveOf}
-use Rattle.clru_report.specs.Times.{kept_requests, requests_of}
 use Rattle.clru_report.proofs.timed.idle_report.Goals as goal
 
 pub returns-in-Ok-clause-report : goal.returns-in-Ok-clause-report

@@ -1,13 +1,14 @@
 use Rattle.std.proofs.Common.{◌≡◌, ◌-◌, ◌/◌, ◌^◌, false, map, ap, ◌∙◌, string_bytes, sym, subst}
 use Rattle.std.specs.Int.NonZero.{non_zero_usize_get}
+use Rattle.clru_text.specs.Samples.{times}
+use Rattle.clru_text.proofs.ResultLemmas.{ok_map}
 use Rattle.clru_report.specs.Capacities.{capacities_of, usual}
 use Rattle.clru_report.specs.Faithful.{IsFaithful}
 use Rattle.clru_report.specs.Knees.{knees}
 use Rattle.clru_report.specs.Passes.{IsTextByKeys}
 use Rattle.clru_report.specs.PlainRows.{ArePlainRows}
-use Rattle.clru_report.specs.Samples.{numbers_times, times}
+use Rattle.clru_report.specs.Samples.{numbers_times}
 use Rattle.clru_report.specs.Timed.{AreRowsOn, knees_on}
-use Rattle.clru_report.proofs.ReportLemmas.{ok_map}
 use Rattle.clru_report.proofs.TimedForms.{form_on}
 use Rattle.clru_report.proofs.timed.text_of_curve.Goals as goal
 

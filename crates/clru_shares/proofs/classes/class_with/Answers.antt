@@ -1,5 +1,5 @@
 use Rattle.std.proofs.Common.{[], length, refl, sym, ap, ◌∙◌, subst, arith}
-use Rattle.clru_report.specs.Passes.{line_of}
+use Rattle.clru_text.specs.Keys.{line_of}
 use Rattle.clru_shares.specs.Classes.{of_class, requests_of}
 use Rattle.clru_shares.specs.LinePasses.{HasTakenBy}
 use Rattle.clru_shares.specs.Places.{IsAskedOf}

@@ -2,7 +2,7 @@ use Rattle.std.proofs.Common.{◌<◌, ◌≤◌, ◌++◌, ◌∷◌, [], lengt
 use Rattle.std.proofs.lemmas.List.{get_or-map, length-map}
 use Rattle.std.proofs.lemmas.List.Edits.{length-insert}
 use Rattle.std.proofs.lemmas.List.Elements.{All-get_or}
-use Rattle.clru_report.specs.Passes.{line_of}
+use Rattle.clru_text.specs.Keys.{line_of}
 use Rattle.clru_shares.specs.Classes.{of_class}
 use Rattle.clru_shares.specs.Passes.{BelongsAt, HasTaken, HaveTaken, IsHeldAt, IsPlaceOf, name_of, next_kept}
 use Rattle.clru_shares.specs.Places.{IsAskedOf}

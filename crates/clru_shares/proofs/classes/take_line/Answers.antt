@@ -1,8 +1,8 @@
 use Rattle.std.proofs.Common.{◌≡◌, ℕ, List, true, [], ◌∷◌, length, sym, ap, ◌∙◌, subst, arith}
 use Rattle.std.specs.Prelude.{bytes_eq}
 use Rattle.std.proofs.lemmas.List.{length-append}
-use Rattle.clru_report.specs.Passes.{line_of}
-use Rattle.clru_report.proofs.SettledCurves.{bytes_laws}
+use Rattle.clru_text.specs.Keys.{line_of}
+use Rattle.clru_text.proofs.ByteLemmas.{bytes_laws}
 use Rattle.clru_shares.specs.Classes.{of_class, requests_of}
 use Rattle.clru_shares.specs.LinePasses.{HasTakenBy}
 use Rattle.clru_shares.specs.Passes.{name_of, next_number}

@@ -1,6 +1,6 @@
 use Rattle.std.proofs.Common.{◌++◌, codes, ap, ◌∙◌}
 use Rattle.std.specs.Prelude.{decimal}
-use Rattle.clru_report.specs.Columns.{fraction_text}
+use Rattle.clru_text.specs.Fractions.{fraction_text}
 use Rattle.clru_shares.proofs.form.push_key_members.Goals as goal
 
 pub returns : goal.returns

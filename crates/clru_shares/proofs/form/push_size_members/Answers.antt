@@ -1,6 +1,6 @@
 use Rattle.std.proofs.Common.{◌++◌, codes, sym, ap, ◌∙◌}
 use Rattle.std.specs.Prelude.{decimal}
-use Rattle.clru_report.specs.Columns.{fraction_text}
+use Rattle.clru_text.specs.Fractions.{fraction_text}
 use Rattle.clru_shares.specs.Forms.{size_members}
 use Rattle.clru_shares.specs.Passes.{part_of_row}
 use Rattle.clru_shares.proofs.form.push_size_members.Goals as goal

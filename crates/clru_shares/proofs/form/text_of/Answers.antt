@@ -1,5 +1,5 @@
 use Rattle.std.proofs.Common.{sym, ◌∙◌, subst}
-use Rattle.clru_report.proofs.ReportLemmas.{ok_map}
+use Rattle.clru_text.proofs.ResultLemmas.{ok_map}
 use Rattle.clru_shares.specs.Forms.{HasTable, IsTextOf}
 use Rattle.clru_shares.specs.Passes.{parts_of_table}
 use Rattle.clru_shares.proofs.form.text_of.Goals as goal

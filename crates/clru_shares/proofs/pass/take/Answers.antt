@@ -1,9 +1,9 @@
 use Rattle.std.proofs.Common.{◌++◌, ◌∷◌, [], refl, sym, subst}
 use Rattle.clru_curve.specs.PositionPasses.{IsPositionPass}
 use Rattle.clru_curve.specs.SizedIdlePasses.{IsSizedIdlePass}
-use Rattle.clru_report.specs.Passes.{line_of, same_line}
-use Rattle.clru_report.proofs.ReportLemmas.{on_ok_map}
-use Rattle.clru_report.proofs.TimedLines.{request_taken}
+use Rattle.clru_text.specs.Keys.{line_of, same_line}
+use Rattle.clru_text.proofs.ResultLemmas.{on_ok_map}
+use Rattle.clru_text.proofs.TakenRequests.{request_taken}
 use Rattle.clru_shares.specs.LinePasses.{HasTakenBy, weight_of_key}
 use Rattle.clru_shares.specs.Places.{IsAskedOf}
 use Rattle.clru_shares.specs.declared.pass.LinePass.TheVariants.{OfKeys, OfSizes}

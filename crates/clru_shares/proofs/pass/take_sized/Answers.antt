@@ -3,9 +3,9 @@ use Rattle.std.specs.Prelude.{bytes_eq}
 use Rattle.std.specs.List.{list_any}
 use Rattle.std.specs.Map.{keys_of}
 use Rattle.clru_curve.specs.SizedIdlePasses.{IsSizedIdlePass}
-use Rattle.clru_report.specs.Passes.{line_of, same_line}
-use Rattle.clru_report.proofs.SettledCurves.{bytes_laws}
-use Rattle.clru_report.proofs.TimedLines.{request_taken}
+use Rattle.clru_text.specs.Keys.{line_of, same_line}
+use Rattle.clru_text.proofs.ByteLemmas.{bytes_laws}
+use Rattle.clru_text.proofs.TakenRequests.{request_taken}
 use Rattle.clru_shares.specs.LinePasses.{weight_of_key}
 use Rattle.clru_shares.specs.Sizes.{weight_behind}
 use Rattle.clru_shares.proofs.PassLemmas.{keys_weigh}

@@ -1,4 +1,4 @@
-use Rattle.clru_report.proofs.ReportLemmas.{err_map}
+use Rattle.clru_text.proofs.ResultLemmas.{err_map}
 use Rattle.clru_shares.proofs.program.make_split.Goals as goal
 
 pub returns-clause-no_room : goal.returns-clause-no_room

@@ -1,6 +1,6 @@
 use Rattle.std.proofs.Common.{◌≡◌, true, false, sym, ◌∙◌}
-use Rattle.clru_lines.specs.Lines.{lines_of}
-use Rattle.clru_report.proofs.ReportLemmas.{err_map, ok_map}
+use Rattle.clru_text.specs.Lines.{lines_of}
+use Rattle.clru_text.proofs.ResultLemmas.{err_map, ok_map}
 use Rattle.clru_shares.proofs.program.split_text.Goals as goal
 
 pub returns-clause-table : goal.returns-clause-table

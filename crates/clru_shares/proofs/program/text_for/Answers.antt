@@ -5,7 +5,7 @@ use Rattle.std.specs.Map.{keys_of}
 use Rattle.std.specs.Option.{option_map}
 use Rattle.std.proofs.lemmas.List.{length-map}
 use Rattle.clru_curve.specs.Splits.{IsBestSplit}
-use Rattle.clru_report.proofs.ReportLemmas.{ok_map}
+use Rattle.clru_text.proofs.ResultLemmas.{ok_map}
 use Rattle.clru_shares.specs.Classes.{of_class}
 use Rattle.clru_shares.specs.Forms.{IsTextOf}
 use Rattle.clru_shares.specs.Passes.{IsShare, name_of, part_of_share, parts_of_table}
@@ -56,6 +56,7 @@ returns g c lines has have room =
       timed = has.timed;
       classed = taken.classed;
       sized = taken.sized;
+      fit = omega (arith, taken.fit, taken.summed);
       classes = names_are sizes (limit_of idle) (rests_in idle lines) kept classes taken.classes;
       few = omega (arith, taken.few, length-map classes name_of);
       room = room;

@@ -3,8 +3,8 @@ use Rattle.std.specs.Int.NonZero.{non_zero_usize_get}
 use Rattle.std.specs.Option.{option_map}
 use Rattle.std.proofs.lemmas.List.{length-append}
 use Rattle.std.proofs.lemmas.List.Elements.{All-nil}
-use Rattle.clru_report.specs.Refusals.{is_of_input}
-use Rattle.clru_report.proofs.ReportLemmas.{no_none, no_some, none_map, of_none, some_map}
+use Rattle.clru_text.specs.Faults.{is_of_input}
+use Rattle.clru_text.proofs.ResultLemmas.{no_none, no_some, none_map, of_none, some_map}
 use Rattle.clru_shares.specs.Classes.{has_class}
 use Rattle.clru_shares.specs.Faults.{comes_of_a_line, comes_of_writing}
 use Rattle.clru_shares.specs.Refusals.{IsSaidOfLines, IsShownOf, most_shown}
@@ -25,7 +25,7 @@ lines-init g c =
     let none : Passes g.row.S.Denot g.row.A.Denot g.row.S-Hasher.Denot = record {
       classes = c.new.result;
       all = c.empty_pass.result;
-      latest = c.empty.result;
+      latest = c.new-2.result;
       requests = 0;
       size = 0;
       kept = 0;
@@ -40,11 +40,12 @@ lines-init g c =
         classes = none_taken c.args.sizes (limit_of c.args.idle) c.new.result.items c.new.ensures.items;
         few = omega (arith, ap length c.new.ensures.items);
         all = subst (λ n. HasTakenBy c.args.sizes n [] c.empty_pass.result) c.limit_of.ensures c.empty_pass.ensures;
-        latest = none_noted c.args.sizes c.empty.result (ap (λ t. t.entries) c.empty.ensures);
+        latest = none_noted c.args.sizes c.new-2.result c.new-2.ensures;
         numbered = refl;
         fewer = omega arith;
         counted = refl;
         summed = sym (none_sized c.args.sizes);
+        fit = omega arith;
       }),
       tt,
     )

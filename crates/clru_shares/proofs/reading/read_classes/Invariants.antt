@@ -1,7 +1,7 @@
 use Rattle.std.proofs.Common.{◌≡◌, true, false, ◌-◌, ◌^◌, ◌<◌, ℕ, List, ◌++◌, IfNone, IfSome, length}
 use Rattle.std.specs.Int.NonZero.{non_zero_usize_get}
 use Rattle.std.specs.Option.{option_map}
-use Rattle.clru_lines.specs.LinesRead.{HasReturned}
+use Rattle.clru_text.specs.LinesRead.{HasReturned}
 use Rattle.clru_shares.specs.Faults.{comes_of_a_line, comes_of_writing}
 use Rattle.clru_shares.specs.Passes.{HasTakenLines}
 use Rattle.clru_shares.specs.Refusals.{IsSaidOfLines, IsShownOf}

@@ -1,8 +1,8 @@
 use Rattle.std.proofs.Common.{◌++◌, ◌∷◌, [], None, sym, subst}
 use Rattle.std.specs.Int.NonZero.{non_zero_usize_get}
 use Rattle.std.specs.Option.{option_map}
-use Rattle.clru_report.specs.Passes.{line_of}
-use Rattle.clru_report.proofs.ReportLemmas.{err_map, on_ok_map}
+use Rattle.clru_text.specs.Keys.{line_of}
+use Rattle.clru_text.proofs.ResultLemmas.{err_map, on_ok_map}
 use Rattle.clru_shares.specs.Passes.{HasTakenLines}
 use Rattle.clru_shares.specs.Refusals.{IsSaidOfLines}
 use Rattle.clru_shares.specs.Sampled.{kept_in}

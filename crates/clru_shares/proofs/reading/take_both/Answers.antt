@@ -5,14 +5,14 @@ use Rattle.std.specs.List.{list_any}
 use Rattle.std.specs.Option.{option_map}
 use Rattle.std.proofs.lemmas.List.{length-append, length-map}
 use Rattle.std.proofs.lemmas.List.Elements.{All-push}
-use Rattle.clru_report.specs.Passes.{line_of}
+use Rattle.clru_text.specs.Keys.{line_of}
 use Rattle.clru_shares.specs.Classes.{class_in, has_class}
 use Rattle.clru_shares.specs.LinePasses.{HasTakenBy}
 use Rattle.clru_shares.specs.Passes.{HaveTaken, name_of, next_kept, next_number}
 use Rattle.clru_shares.specs.Places.{IsNotedBy}
 use Rattle.clru_shares.specs.Sampled.{is_in}
 use Rattle.clru_shares.specs.Sizes.{is_sized, own_size}
-use Rattle.clru_shares.proofs.FaultLemmas.{sizes_large, without_size}
+use Rattle.clru_shares.proofs.FaultLemmas.{sizes_large, taken_faultless, without_size}
 use Rattle.clru_shares.proofs.PassLemmas.{size_next}
 use Rattle.clru_shares.proofs.SampleLemmas.{next_counted, next_few}
 use Rattle.clru_shares.proofs.TakenClasses.{is_other, names_are}
@@ -20,29 +20,27 @@ use Rattle.clru_shares.proofs.reading.take_both.Goals as goal
 
 pub returns-in_default-clause-refused : goal.returns-in_default-clause-refused
 returns-in_default-clause-refused g c lines rest kept is counted of =
-    let classes = c.args.passes.now.classes.items in
     record {
       before = lines;
       line = line_of c.args.key.now;
       rest = rest;
       is = refl;
       number = counted;
-      classed = is.classed;
-      few = (map name_of classes, names_are c.args.sizes c.args.limit lines kept classes is.classes, omega (arith, is.few, length-map classes name_of));
+      faultless = taken_faultless c.args.sizes c.args.limit lines kept c.args.passes.now is;
       none = ap has_class (sym c.deref.ensures.value) ∙ sym c.in_default.ensures.has_class;
     }
 
 pub returns-in_default-size_of_request-clause-refused : goal.returns-in_default-size_of_request-clause-refused
 returns-in_default-size_of_request-clause-refused g c lines rest kept is counted of =
     let line = line_of c.args.key.now in
-    without_size c.args.sizes lines rest line c.args.number counted is.classed is.sized
+    without_size c.args.sizes lines rest line c.args.number counted (taken_faultless c.args.sizes c.args.limit lines kept c.args.passes.now is)
     (ap has_class (sym c.deref.ensures.value) ∙ sym c.in-Some.ensures.has_class)
     (ap (is_sized c.args.sizes) (sym c.deref-2.ensures.value) ∙ sym c.in_default-size_of_request.ensures.is_sized)
 
 pub returns-in_default-checked_add-clause-refused : goal.returns-in_default-checked_add-clause-refused
 returns-in_default-checked_add-clause-refused g c lines rest kept is counted of =
     let line = line_of c.args.key.now in
-    sizes_large c.args.sizes lines rest line is.classed is.sized
+    sizes_large c.args.sizes lines rest line (taken_faultless c.args.sizes c.args.limit lines kept c.args.passes.now is)
     (ap has_class (sym c.deref.ensures.value) ∙ sym c.in-Some.ensures.has_class)
     (ap (is_sized c.args.sizes) (sym c.deref-2.ensures.value) ∙ sym c.in-Some-size_of_request.ensures.is_sized)
     (omega (arith, c.in_default-checked_add.ensures, is.summed, c.in-Some-size_of_request.ensures.size, ap (own_size c.args.sizes) c.deref-2.ensures.value))
@@ -56,9 +54,6 @@ take_known-requires-clause-name g c = c.in-Some.ensures.class ∙ ap class_in c.
 pub take_known-requires-clause-taken : goal.take_known-requires-clause-taken
 take_known-requires-clause-taken g c = (c.requires.0, c.requires.1, c.requires.2)
 
-pub take_known-requires-clause-countable : goal.take_known-requires-clause-countable
-take_known-requires-clause-countable g c = omega (arith, c.requires.2.fewer, c.requires.2.counted, c.requires.3)
-
 pub next_number-passes-requires : goal.next_number-passes-requires
 next_number-passes-requires g c = omega (arith, c.in-Ok-true.ensures.kept, c.requires.2.fewer, c.requires.2.counted, c.requires.3)
 
@@ -66,6 +61,7 @@ pub returns-in-Ok-false-clause-refused : goal.returns-in-Ok-false-clause-refused
 returns-in-Ok-false-clause-refused g c lines rest kept is counted of =
     let classes = c.args.passes.now.classes.items in let line = line_of c.args.key.now in
     let own = c.in-Some.ensures.class ∙ ap class_in c.deref.ensures.value in
+    let size = c.in-Some-size_of_request.ensures.size ∙ ap (own_size c.args.sizes) c.deref-2.ensures.value in
     let full = c.in-Ok-false.ensures.full c.in-Ok-false.field-0-test in
     record {
       before = lines;
@@ -73,8 +69,10 @@ returns-in-Ok-false-clause-refused g c lines rest kept is counted of =
       rest = rest;
       is = refl;
       number = counted;
-      classed = is.classed;
+      faultless = taken_faultless c.args.sizes c.args.limit lines kept c.args.passes.now is;
       own = ap has_class (sym c.deref.ensures.value) ∙ sym c.in-Some.ensures.has_class;
+      has_size = ap (is_sized c.args.sizes) (sym c.deref-2.ensures.value) ∙ sym c.in-Some-size_of_request.ensures.is_sized;
+      fits = omega (arith, c.in-Some-checked_add.ensures, size, is.summed);
       names = map name_of classes;
       classes = names_are c.args.sizes c.args.limit lines kept classes is.classes;
       full = omega (arith, full.0, is.few, length-map classes name_of);
@@ -111,4 +109,5 @@ returns-clause-taken g c lines kept is counted =
       );
       counted = omega (arith, counted, length-append lines (line ∷ []));
       summed = omega (arith, c.in-Some-checked_add.ensures, size, is.summed, size_next sizes lines line);
+      fit = omega (arith, c.in-Some-checked_add.ensures);
     }

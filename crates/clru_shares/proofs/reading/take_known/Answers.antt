@@ -1,7 +1,7 @@
 use Rattle.std.proofs.Common.{length, map, sym, ap, ◌∙◌, subst, arith}
 use Rattle.std.proofs.lemmas.List.{length-map}
-use Rattle.clru_report.specs.Passes.{line_of}
-use Rattle.clru_report.proofs.ReportLemmas.{ok_map}
+use Rattle.clru_text.specs.Keys.{line_of}
+use Rattle.clru_text.proofs.ResultLemmas.{ok_map}
 use Rattle.clru_shares.specs.Classes.{AreAscending, of_class}
 use Rattle.clru_shares.specs.Passes.{HaveTaken, IsPlaceOf, name_of}
 use Rattle.clru_shares.specs.Places.{IsAskedOf}

@@ -1,21 +1,19 @@
-use Rattle.std.proofs.Common.{◌≡◌, ◌++◌, ◌∷◌, [], map, None, Some, IsNone, sym, ap, ◌∙◌, subst, arith, refl}
+use Rattle.std.proofs.Common.{◌≡◌, ◌++◌, ◌∷◌, [], None, Some, IsNone, sym, ap, ◌∙◌, subst, arith, refl}
 use Rattle.std.specs.Int.NonZero.{non_zero_usize_get}
 use Rattle.std.specs.Option.{option_map}
-use Rattle.std.proofs.lemmas.List.{length-map}
-use Rattle.clru_report.specs.Passes.{line_of}
-use Rattle.clru_report.specs.Times.{requests_of, rest_of_line, rests_of, time_of_line}
-use Rattle.clru_report.proofs.ReportLemmas.{err_map, on_ok_map}
-use Rattle.clru_shares.specs.Passes.{HasTakenAll, name_of, next_kept}
+use Rattle.clru_text.specs.Keys.{line_of}
+use Rattle.clru_text.specs.Times.{requests_of, rest_of_line, rests_of, time_of_line}
+use Rattle.clru_text.proofs.ResultLemmas.{err_map, on_ok_map}
+use Rattle.clru_shares.specs.Passes.{HasTakenAll, next_kept}
 use Rattle.clru_shares.specs.Refusals.{IsSaidOfRests}
 use Rattle.clru_shares.specs.Sampled.{is_in, kept_in}
-use Rattle.clru_shares.proofs.FaultLemmas.{said_of_result, timed_up_to}
-use Rattle.clru_shares.proofs.TakenClasses.{names_are}
+use Rattle.clru_shares.proofs.FaultLemmas.{said_of_result, taken_faultless, timed_up_to}
 use Rattle.clru_shares.proofs.TimedLines.{as_many_rests, rests_behind, timed_more}
 use Rattle.clru_shares.proofs.reading.take_timed.Goals as goal
 
 pub returns-in_default-clause-refused : goal.returns-in_default-clause-refused
 returns-in_default-clause-refused g c lines more has counted of =
-    let line = line_of c.args.line.now in let classes = c.args.passes.now.classes.items in
+    let line = line_of c.args.line.now in
     let kept = kept_in (option_map non_zero_usize_get c.args.sample) (requests_of lines) in
     let none : time_of_line line ≡ None = ap time_of_line (sym c.deref.ensures.value) ∙ c.in_default.ensures.none in (
       refl,
@@ -26,13 +24,7 @@ returns-in_default-clause-refused g c lines more has counted of =
         is = refl;
         number = counted;
         timed = has.timed;
-        classed = has.taken.classed;
-        few = (
-          map name_of classes,
-          names_are c.args.sizes c.args.limit (rests_of lines) kept classes has.taken.classes,
-          omega (arith, has.taken.few, length-map classes name_of),
-        );
-        sized = has.taken.sized;
+        faultless = taken_faultless c.args.sizes c.args.limit (rests_of lines) kept c.args.passes.now has.taken;
         none = subst (λ o. IsNone o) (sym none) refl;
       },
     )

@@ -1,9 +1,9 @@
 use Rattle.std.proofs.Common.{◌≡◌, ◌∙◌, ap, map, subst, sym}
+use Rattle.clru_text.specs.Arguments.{IsRefusedLine}
+use Rattle.clru_text.specs.CommandLine.{read_all}
 use Rattle.clru_web.specs.Answers.{reading_of, words_in}
 use Rattle.clru_web.proofs.Texts.{reading_none, reading_utf8}
 use Rattle.clru_web.proofs.answer.parse_args.Goals as goal
-use Rattle.clru_report.specs.Arguments.{IsRefusedLine}
-use Rattle.clru_report.specs.CommandLine.{read_all}
 
 pub returns-in-Err-clause-refused : goal.returns-in-Err-clause-refused
 returns-in-Err-clause-refused g c = λ _. subst IsRefusedLine (sym (reading_none c.args.arguments.now c.in-Err.ensures.cases.0)) tt

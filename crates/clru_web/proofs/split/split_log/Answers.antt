@@ -1,8 +1,8 @@
 use Rattle.std.proofs.Common.{◌≡◌, ℕ, List, sym, ◌∙◌}
 use Rattle.std.specs.Int.NonZero.{non_zero_usize_get}
 use Rattle.std.specs.Option.{option_map}
-use Rattle.clru_lines.specs.Lines.{lines_of}
 use Rattle.clru_shares.specs.Refusals.{HasNoRoom, IsSaidOfLines}
+use Rattle.clru_text.specs.Lines.{lines_of}
 use Rattle.clru_web.proofs.Faults.{of_log, said_of_split}
 use Rattle.clru_web.proofs.split.split_log.Goals as goal
 

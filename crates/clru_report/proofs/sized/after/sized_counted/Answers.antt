@@ -1,9 +1,9 @@
 use Rattle.std.proofs.Common.{Some, None, [], length, sym, subst}
 use Rattle.std.proofs.lemmas.Bool.{lt-ltb}
 use Rattle.clru_curve.specs.SizedCurves.{misses_within, missed_size_within}
+use Rattle.clru_text.proofs.ResultLemmas.{ok_map}
 use Rattle.clru_report.specs.SizedAfter.{AreSizedCounted}
 use Rattle.clru_report.specs.SizedAfterPasses.{IsSizedHead}
-use Rattle.clru_report.proofs.ReportLemmas.{ok_map}
 use Rattle.clru_report.proofs.SizedAfterLemmas.{counted_are, rows_fit, too_small}
 use Rattle.clru_report.proofs.sized.after.sized_counted.Goals as goal
 

@@ -1,5 +1,5 @@
 use Rattle.std.proofs.Common.{false, sym, subst}
-use Rattle.clru_lines.specs.Lines.{lines_of}
+use Rattle.clru_text.specs.Lines.{lines_of}
 use Rattle.clru_report.specs.SizedAfter.{IsSizedTableAfter}
 use Rattle.clru_report.proofs.sized.after.sized_picture_after.Goals as goal
 

@@ -1,8 +1,8 @@
 use Rattle.std.proofs.Common.{string_bytes, sym, subst}
 use Rattle.std.specs.Int.NonZero.{non_zero_usize_get}
-use Rattle.clru_lines.specs.Lines.{lines_of}
+use Rattle.clru_text.specs.Lines.{lines_of}
+use Rattle.clru_text.proofs.ResultLemmas.{err_map, ok_map}
 use Rattle.clru_report.specs.SizedAfter.{IsInFormBySizeAfter}
-use Rattle.clru_report.proofs.ReportLemmas.{err_map, ok_map}
 use Rattle.clru_report.proofs.sized.after.sized_report_after.Goals as goal
 
 pub returns-in-Table-clause-report : goal.returns-in-Table-clause-report

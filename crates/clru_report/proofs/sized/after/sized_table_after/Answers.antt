@@ -1,5 +1,5 @@
 use Rattle.std.proofs.Common.{ap, ◌∙◌}
-use Rattle.clru_lines.specs.Lines.{lines_of}
+use Rattle.clru_text.specs.Lines.{lines_of}
 use Rattle.clru_report.specs.After.{counted}
 use Rattle.clru_report.specs.SizedTables.{sized_table_text}
 use Rattle.clru_report.proofs.SizedAfterLemmas.{capacities_free, too_small_refused}

@@ -1,10 +1,10 @@
 use Rattle.std.proofs.Common.{◌≡◌, ◌+◌, map, ap, subst, ◌∙◌}
 use Rattle.std.specs.Int.NonZero.{non_zero_usize_get}
+use Rattle.clru_text.proofs.ResultLemmas.{ok_both}
 use Rattle.clru_report.specs.Capacities.{usual_from}
 use Rattle.clru_report.specs.Faithful.{AreWithAdded}
 use Rattle.clru_report.specs.SizedAfterPasses.{missed_left}
 use Rattle.clru_report.proofs.FaithfulTables.{faithful}
-use Rattle.clru_report.proofs.ReportLemmas.{ok_both}
 use Rattle.clru_report.proofs.sized.behind.usual_table_behind.Goals as goal
 
 pub returns : goal.returns

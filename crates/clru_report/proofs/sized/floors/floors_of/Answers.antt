@@ -1,7 +1,8 @@
 use Rattle.std.proofs.Common.{Some, reverse, sym, subst, ◌∙◌}
 use Rattle.std.specs.Prelude.{bytes_eq}
-use Rattle.clru_report.specs.Passes.{HasFloorPass, line_of, weight_of_key}
-use Rattle.clru_report.specs.Sizes.{weight_of_line}
+use Rattle.clru_text.specs.Keys.{line_of}
+use Rattle.clru_text.specs.Sizes.{weight_of_line}
+use Rattle.clru_report.specs.Passes.{HasFloorPass, weight_of_key}
 use Rattle.clru_report.proofs.FloorViews.{floor-view, size_floor-view}
 use Rattle.clru_report.proofs.sized.floors.floors_of.Goals as goal
 

@@ -1,7 +1,7 @@
 use Rattle.std.proofs.Common.{◌≡◌, cond, Some, length, ◌∙◌, sym, ap, arith}
+use Rattle.clru_text.specs.Keys.{line_of, same_line}
 use Rattle.clru_report.proofs.KeyNumbers.{noted_again, noted_new}
 use Rattle.clru_report.specs.KeyLogs.{tails_of}
-use Rattle.clru_report.specs.Passes.{line_of, same_line}
 use Rattle.std.proofs.lemmas.List.{length-map}
 use Rattle.std.specs.HashMap.{get}
 use Rattle.clru_report.proofs.sized.key_log.note_tail.Goals as goal

@@ -4,15 +4,17 @@ use Rattle.std.proofs.lemmas.List.{length-append, length-map}
 use Rattle.std.proofs.lemmas.List.Elements.{All-nil, All-push}
 use Rattle.std.specs.HashMap.{get}
 use Rattle.std.specs.Map.{lookup}
-use Rattle.clru_lines.specs.LinesRead.{HasReturned}
+use Rattle.clru_text.specs.Faults.{is_of_input}
+use Rattle.clru_text.specs.Keys.{line_of, same_line}
+use Rattle.clru_text.specs.LinesRead.{HasReturned}
+use Rattle.clru_text.specs.Sizes.{size_of_line}
+use Rattle.clru_text.proofs.ResultLemmas.{no_none, no_some, none_map, of_none, some_map}
 use Rattle.clru_report.specs.KeyLogs.{lines_in}
 use Rattle.clru_report.specs.OneSize.{with_greatest}
-use Rattle.clru_report.specs.Passes.{IsOfLines, line_of, same_line}
-use Rattle.clru_report.specs.Refusals.{fault_from, is_of_input}
-use Rattle.clru_report.specs.Sizes.{size_of_line}
+use Rattle.clru_report.specs.Passes.{IsOfLines}
+use Rattle.clru_report.specs.Refusals.{fault_from}
 use Rattle.clru_report.proofs.FaultLemmas.{lines_unwritten}
 use Rattle.clru_report.proofs.KeyNumbers.{lines_are, noted_none, numbers_low}
-use Rattle.clru_report.proofs.ReportLemmas.{no_none, no_some, none_map, of_none, some_map}
 use Rattle.clru_report.proofs.SizedSamples.{size_more}
 use Rattle.clru_report.proofs.sized.key_log.read_log.Goals as goal
 

@@ -1,10 +1,13 @@
 use Rattle.std.proofs.Common.{◌≡◌, true, ◌+◌, ◌-◌, ◌^◌, ◌<◌, ℕ, List, ◌++◌, Some, IfNone, IfSome, length}
 use Rattle.std.specs.HashMap.{get}
-use Rattle.clru_lines.specs.LinesRead.{HasReturned}
+use Rattle.clru_text.specs.Faults.{is_of_input}
+use Rattle.clru_text.specs.Keys.{line_of, same_line}
+use Rattle.clru_text.specs.LinesRead.{HasReturned}
+use Rattle.clru_text.specs.Sizes.{HaveSizes}
 use Rattle.clru_report.specs.KeyLogs.{HasNoted, tails_of}
-use Rattle.clru_report.specs.Passes.{IsOfLines, line_of, same_line}
-use Rattle.clru_report.specs.Refusals.{fault_from, is_of_input}
-use Rattle.clru_report.specs.Sizes.{HaveSizes, size_of_lines}
+use Rattle.clru_report.specs.Passes.{IsOfLines}
+use Rattle.clru_report.specs.Refusals.{fault_from}
+use Rattle.clru_report.specs.Sizes.{size_of_lines}
 use Rattle.clru_report.proofs.sized.key_log.read_log.Given as goal
 
 -- the lines so far were noted, or have a fault whatever follows

@@ -4,11 +4,13 @@ use Rattle.std.specs.Int.NonZero.{non_zero_usize_get}
 use Rattle.std.proofs.lemmas.List.{length-map}
 use Rattle.std.proofs.lemmas.List.Elements.{All-nil}
 use Rattle.clru_curve.specs.SizedCurves.{IsSizedCurveOf}
+use Rattle.clru_text.specs.Keys.{line_of}
+use Rattle.clru_text.specs.Samples.{kept_of}
+use Rattle.clru_text.specs.Sizes.{HaveSizes, size_of_line, weight_of_line}
 use Rattle.clru_report.specs.KeyLogs.{line_at, lines_in}
-use Rattle.clru_report.specs.Passes.{AreFloorsFor, HasFloorPass, IsOfLines, line_of, weight_of_key}
+use Rattle.clru_report.specs.Passes.{AreFloorsFor, HasFloorPass, IsOfLines, weight_of_key}
 use Rattle.clru_report.specs.Refusals.{fault_from}
-use Rattle.clru_report.specs.Samples.{kept_of}
-use Rattle.clru_report.specs.Sizes.{HaveSizes, size_of_line, size_of_lines, weight_of_line}
+use Rattle.clru_report.specs.Sizes.{size_of_lines}
 use Rattle.clru_report.proofs.FaultLemmas.{lines_unwritten}
 use Rattle.clru_report.proofs.KeyLines.{line_read, lines_around, one_more_line}
 use Rattle.clru_report.proofs.SettledCurves.{settled_curve}

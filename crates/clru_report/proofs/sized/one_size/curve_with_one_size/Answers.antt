@@ -1,11 +1,11 @@
 use Rattle.std.proofs.Common.{◌≡◌, ◌∙◌, sym, ap, subst, cond, map, length, arith}
 use Rattle.std.specs.Int.NonZero.{non_zero_usize_get}
 use Rattle.std.specs.Option.{is_none}
-use Rattle.clru_lines.specs.Lines.{lines_of}
+use Rattle.clru_text.specs.Lines.{lines_of}
+use Rattle.clru_text.specs.Samples.{kept_of}
 use Rattle.clru_report.specs.KeyLogs.{lines_in}
 use Rattle.clru_report.specs.OneSize.{one_size, with_greatest}
 use Rattle.clru_report.specs.Passes.{AreFloorsFor, IsSizedCurveOfKept}
-use Rattle.clru_report.specs.Samples.{kept_of}
 use Rattle.clru_report.proofs.sized.one_size.curve_with_one_size.Goals as goal
 
 pub returns-clause-curve : goal.returns-clause-curve

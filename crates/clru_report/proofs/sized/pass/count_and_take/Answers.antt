@@ -1,8 +1,8 @@
 use Rattle.std.proofs.Common.{◌+◌, ◌∷◌, IsSome, sym, ap, ◌∙◌, subst}
 use Rattle.std.specs.Int.NonZero.{non_zero_usize_get}
-use Rattle.clru_report.specs.Passes.{line_of}
+use Rattle.clru_text.specs.Keys.{line_of}
+use Rattle.clru_text.specs.Sizes.{size_of_line, weight_of_line}
 use Rattle.clru_report.specs.Refusals.{fault_from}
-use Rattle.clru_report.specs.Sizes.{size_of_line, weight_of_line}
 use Rattle.clru_report.proofs.SizedSamples.{counted_more}
 use Rattle.clru_report.proofs.sized.pass.count_and_take.Goals as goal
 

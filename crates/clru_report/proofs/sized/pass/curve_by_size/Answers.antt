@@ -5,14 +5,15 @@ use Rattle.std.specs.Prelude.{bytes_eq}
 use Rattle.std.proofs.lemmas.List.{length-append}
 use Rattle.std.proofs.lemmas.List.Elements.{All-nil}
 use Rattle.clru_curve.specs.SizedCurves.{IsSizedCurveOf}
-use Rattle.clru_lines.specs.Lines.{lines_of}
+use Rattle.clru_text.specs.Faults.{is_of_input}
+use Rattle.clru_text.specs.Lines.{lines_of}
+use Rattle.clru_text.specs.Samples.{kept_of}
+use Rattle.clru_text.specs.Sizes.{HaveSizes, size_of_line, weight_of_line}
+use Rattle.clru_text.proofs.ResultLemmas.{no_none, no_some, none_map, of_none, some_map}
 use Rattle.clru_report.proofs.FaultLemmas.{lines_unwritten}
 use Rattle.clru_report.specs.Passes.{AreFloorsFor, HasFloorPass, IsOfLines, weight_of_key}
-use Rattle.clru_report.specs.Refusals.{fault_from, is_of_input}
-use Rattle.clru_report.specs.Samples.{kept_of}
-use Rattle.clru_report.specs.Sizes.{HaveSizes, size_of_line, size_of_lines, weight_of_line}
-use Rattle.clru_report.proofs.FaultLemmas.{lines_unwritten}
-use Rattle.clru_report.proofs.ReportLemmas.{no_none, no_some, none_map, of_none, some_map}
+use Rattle.clru_report.specs.Refusals.{fault_from}
+use Rattle.clru_report.specs.Sizes.{size_of_lines}
 use Rattle.clru_report.proofs.SettledCurves.{settled_curve}
 use Rattle.clru_report.proofs.TakenLines.{curve_taken}
 use Rattle.clru_report.proofs.sized.pass.curve_by_size.Goals as goal

@@ -1,8 +1,9 @@
 use Rattle.std.proofs.Common.{◌∷◌, None, Some, sym, subst, ap, ◌∙◌, arith}
-use Rattle.clru_report.specs.Passes.{HasFloorPass, line_of, weight_of_key}
-use Rattle.clru_report.specs.Sizes.{weight_of_line}
-use Rattle.clru_report.proofs.SettledCurves.{bytes_laws}
-use Rattle.clru_report.proofs.ReportLemmas.{some_map}
+use Rattle.clru_text.specs.Keys.{line_of}
+use Rattle.clru_text.specs.Sizes.{weight_of_line}
+use Rattle.clru_text.proofs.ByteLemmas.{bytes_laws}
+use Rattle.clru_text.proofs.ResultLemmas.{some_map}
+use Rattle.clru_report.specs.Passes.{HasFloorPass, weight_of_key}
 use Rattle.clru_report.proofs.TakenLines.{latest_alike}
 use Rattle.clru_report.proofs.sized.pass.note_reuse.Goals as goal
 

@@ -1,9 +1,10 @@
 use Rattle.std.proofs.Common.{sym, ap, ◌∙◌, subst}
 use Rattle.std.specs.Int.NonZero.{non_zero_usize_get}
-use Rattle.clru_report.specs.Passes.{HasTaken, line_of}
-use Rattle.clru_report.specs.Samples.{is_kept, kept_of}
-use Rattle.clru_report.proofs.ReportLemmas.{on_ok_map}
-use Rattle.clru_report.proofs.Samples.{kept_one}
+use Rattle.clru_text.specs.Keys.{line_of}
+use Rattle.clru_text.specs.Samples.{is_kept, kept_of}
+use Rattle.clru_text.proofs.ResultLemmas.{on_ok_map}
+use Rattle.clru_text.proofs.Samples.{kept_one}
+use Rattle.clru_report.specs.Passes.{HasTaken}
 use Rattle.clru_report.proofs.TakenLines.{taken_more}
 use Rattle.clru_report.proofs.sized.pass.take_kept.Goals as goal
 

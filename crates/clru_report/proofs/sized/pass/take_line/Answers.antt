@@ -2,9 +2,11 @@ use Rattle.std.proofs.Common.{is_some, refl, sym, ap, ◌∙◌, subst}
 use Rattle.std.specs.Prelude.{bytes_eq}
 use Rattle.std.specs.List.{list_any}
 use Rattle.clru_curve.specs.SizedPasses.{IsSizedPass}
-use Rattle.clru_report.specs.Passes.{line_of, same_line, weight_of_key}
-use Rattle.clru_report.specs.Sizes.{weight_of_line}
-use Rattle.clru_report.proofs.SettledCurves.{bytes_laws, same_weights}
+use Rattle.clru_text.specs.Keys.{line_of, same_line}
+use Rattle.clru_text.specs.Sizes.{weight_of_line}
+use Rattle.clru_text.proofs.ByteLemmas.{bytes_laws}
+use Rattle.clru_report.specs.Passes.{weight_of_key}
+use Rattle.clru_report.proofs.SettledCurves.{same_weights}
 use Rattle.clru_report.proofs.TakenLines.{sized_taken}
 use Rattle.clru_report.proofs.sized.pass.take_line.Goals as goal
 use Rattle.clru_report.proofs.sized.pass.take_line.Goals.{in-Err-request_new_with_hash, in-Ok}

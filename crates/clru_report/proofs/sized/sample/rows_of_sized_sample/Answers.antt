@@ -1,8 +1,8 @@
 use Rattle.std.proofs.Common.{map, ap, ◌∙◌, subst}
 use Rattle.std.specs.Int.NonZero.{non_zero_usize_get}
+use Rattle.clru_text.proofs.ResultLemmas.{ok_map}
 use Rattle.clru_report.specs.Passes.{AreRowsOf}
 use Rattle.clru_report.specs.Samples.{sized_numbers_times}
-use Rattle.clru_report.proofs.ReportLemmas.{ok_map}
 use Rattle.clru_report.proofs.sized.sample.rows_of_sized_sample.Goals as goal
 
 pub returns : goal.returns

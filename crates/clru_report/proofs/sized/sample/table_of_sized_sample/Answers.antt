@@ -1,10 +1,10 @@
 use Rattle.std.proofs.Common.{◌≡◌, ◌-◌, ◌/◌, ◌^◌, map, ap, ◌∙◌, subst}
 use Rattle.std.specs.Int.NonZero.{non_zero_usize_get}
+use Rattle.clru_text.specs.Samples.{times}
+use Rattle.clru_text.proofs.ResultLemmas.{ok_map}
 use Rattle.clru_report.specs.Passes.{IsUsualOn}
 use Rattle.clru_report.specs.SampleTables.{AreSampledRows}
-use Rattle.clru_report.specs.Samples.{times}
 use Rattle.clru_report.specs.SizedTables.{sized_table_text}
-use Rattle.clru_report.proofs.ReportLemmas.{ok_map}
 use Rattle.clru_report.proofs.sized.sample.table_of_sized_sample.Goals as goal
 
 pub returns : goal.returns

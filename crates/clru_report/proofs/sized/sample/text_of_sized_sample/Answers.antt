@@ -1,7 +1,7 @@
 use Rattle.std.proofs.Common.{false, string_bytes, sym, subst}
 use Rattle.std.specs.Int.NonZero.{non_zero_usize_get}
+use Rattle.clru_text.proofs.ResultLemmas.{ok_map}
 use Rattle.clru_report.specs.SampleTables.{IsSampledTable, IsSampledText}
-use Rattle.clru_report.proofs.ReportLemmas.{ok_map}
 use Rattle.clru_report.proofs.sized.sample.text_of_sized_sample.Goals as goal
 
 pub returns-in-Table : goal.returns-in-Table

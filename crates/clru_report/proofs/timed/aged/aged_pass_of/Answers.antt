@@ -1,7 +1,7 @@
 use Rattle.std.proofs.Common.{[], map, ap, subst, ◌∙◌}
 use Rattle.std.specs.Int.NonZero.{non_zero_usize_get}
 use Rattle.clru_curve.specs.SizedAgedPasses.{IsSizedAgedPass}
-use Rattle.clru_report.specs.Passes.{same_line}
+use Rattle.clru_text.specs.Keys.{same_line}
 use Rattle.clru_report.proofs.timed.aged.aged_pass_of.Goals as goal
 
 pub returns-in-Ok : goal.returns-in-Ok

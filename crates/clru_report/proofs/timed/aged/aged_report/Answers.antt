@@ -3,15 +3,15 @@ use Rattle.std.specs.Int.NonZero.{non_zero_usize_get}
 use Rattle.std.specs.Map.{keys_of}
 use Rattle.std.specs.Prelude.{bytes_eq}
 use Rattle.clru_curve.specs.AgedPasses.{IsAgedPass, aged_misses_at}
-use Rattle.clru_lines.specs.Lines.{lines_of}
 use Rattle.clru_model.specs.Requests.{distinct}
+use Rattle.clru_text.specs.Keys.{same_line}
+use Rattle.clru_text.specs.Lines.{lines_of}
+use Rattle.clru_text.specs.Times.{kept_requests, requests_of}
+use Rattle.clru_text.proofs.ByteLemmas.{bytes_laws}
 use Rattle.clru_report.specs.Capacities.{aged_capacities}
-use Rattle.clru_report.specs.Passes.{same_line}
 use Rattle.clru_report.specs.Timed.{IsTableAt, all_by, kept_in, misses_in_age, part_in}
 use Rattle.clru_report.specs.TimedPasses.{HasTakenTimed}
-use Rattle.clru_report.specs.Times.{kept_requests, requests_of}
 use Rattle.clru_report.proofs.AgedCapacities.{aged_keys_alike, numbers_at}
-use Rattle.clru_report.proofs.SettledCurves.{bytes_laws}
 use Rattle.clru_report.proofs.TimedLines.{aged_keys, aged_own, aged_taken, timed_start}
 use Rattle.clru_report.proofs.timed.aged.aged_report.Goals as goal
 

@@ -1,9 +1,9 @@
 use Rattle.std.proofs.Common.{◌≡◌, false, [], map, ap, sym, subst, ◌∙◌}
 use Rattle.std.specs.Int.NonZero.{non_zero_usize_get}
+use Rattle.clru_text.proofs.ResultLemmas.{ok_map}
 use Rattle.clru_report.specs.PlainRows.{AreNumbersAt, ArePlainRows}
 use Rattle.clru_report.specs.Samples.{numbers_of, numbers_times}
 use Rattle.clru_report.specs.Tables.{table_text}
-use Rattle.clru_report.proofs.ReportLemmas.{ok_map}
 use Rattle.clru_report.proofs.timed.aged.table_of_misses.Goals as goal
 
 pub returns : goal.returns

@@ -1,8 +1,8 @@
 use Rattle.std.proofs.Common.{refl, sym, ap, ◌∙◌, subst}
 use Rattle.clru_curve.specs.SizedAgedPasses.{IsSizedAgedPass}
-use Rattle.clru_report.specs.Passes.{line_of, same_line}
-use Rattle.clru_report.proofs.SettledCurves.{bytes_laws, same_bytes}
-use Rattle.clru_report.proofs.TimedLines.{request_taken}
+use Rattle.clru_text.specs.Keys.{line_of, same_line}
+use Rattle.clru_text.proofs.ByteLemmas.{bytes_laws, same_bytes}
+use Rattle.clru_text.proofs.TakenRequests.{request_taken}
 use Rattle.clru_report.proofs.timed.aged.take_request.Goals as goal
 use Rattle.clru_report.proofs.timed.aged.take_request.Goals.{in-Ok, in-Err-request}
 

@@ -1,7 +1,7 @@
 use Rattle.std.proofs.Common.{string_bytes, sym, subst}
-use Rattle.clru_lines.specs.Lines.{lines_of}
+use Rattle.clru_text.specs.Lines.{lines_of}
+use Rattle.clru_text.proofs.ResultLemmas.{ok_map}
 use Rattle.clru_report.specs.SizedTimed.{IsTimedReportBySizeIn}
-use Rattle.clru_report.proofs.ReportLemmas.{ok_map}
 use Rattle.clru_report.proofs.timed.by_size.make_sized_timed_report.Goals as goal
 
 pub returns-in-None-clause-report : goal.returns-in-None-clause-report

@@ -1,9 +1,10 @@
 use Rattle.std.proofs.Common.{◌+◌, None, string_bytes, sym, ap, subst, length, ◌∙◌}
 use Rattle.std.specs.Map.{keys_of}
 use Rattle.std.proofs.lemmas.Bool.{and_parts}
-use Rattle.clru_lines.specs.Lines.{lines_of}
-use Rattle.clru_lines.specs.declared.fault.Fault.TheVariants.{TooSmall}
-use Rattle.clru_report.specs.Choices.{is_whole}
+use Rattle.clru_text.specs.Choices.{is_whole}
+use Rattle.clru_text.specs.Lines.{lines_of}
+use Rattle.clru_text.specs.Times.{kept_requests, requests_of, rests_of}
+use Rattle.clru_text.specs.declared.fault.Fault.TheVariants.{TooSmall}
 use Rattle.clru_report.specs.Refusals.{IsRefusedBy, names_below}
 use Rattle.clru_report.specs.SampleTables.{IsSampledText}
 use Rattle.clru_report.specs.SizedReport.{distinct_size}
@@ -11,7 +12,6 @@ use Rattle.clru_report.specs.SizedTimed.{missed_size_under, size_by, sized_misse
 use Rattle.clru_report.specs.SizedTimedPasses.{IsSizedTimedCurveOf}
 use Rattle.clru_report.specs.Sizes.{greatest_size}
 use Rattle.clru_report.specs.Timed.{all_by, kept_in, part_in}
-use Rattle.clru_report.specs.Times.{kept_requests, requests_of, rests_of}
 use Rattle.clru_report.proofs.SizedTimedForms.{none_small, sized_form_on, small_alike, too_small, whole_first}
 use Rattle.clru_report.proofs.timed.by_size.sized_idle_report.Goals as goal
 

@@ -1,8 +1,8 @@
 use Rattle.std.proofs.Common.{◌++◌, sym, ap, ◌∙◌, subst}
 use Rattle.std.specs.Int.NonZero.{non_zero_usize_get}
-use Rattle.clru_report.specs.Samples.{is_kept}
-use Rattle.clru_report.specs.TimedPasses.{HasTakenRequest}
-use Rattle.clru_report.proofs.ReportLemmas.{on_ok_map}
+use Rattle.clru_text.specs.Samples.{is_kept}
+use Rattle.clru_text.specs.TakenRequests.{HasTakenRequest}
+use Rattle.clru_text.proofs.ResultLemmas.{on_ok_map}
 use Rattle.clru_report.proofs.TimedLines.{timed_skipped, timed_taken}
 use Rattle.clru_report.proofs.timed.lines.take_kept.Goals as goal
 

@@ -2,10 +2,10 @@ use Rattle.std.proofs.Common.{[], refl, sym, ap, subst}
 use Rattle.std.specs.Int.NonZero.{non_zero_usize_get}
 use Rattle.std.specs.Prelude.{bytes_eq}
 use Rattle.clru_curve.specs.IdlePasses.{HasIdleMissesOf, IsIdlePass}
-use Rattle.clru_lines.specs.Lines.{lines_of}
-use Rattle.clru_report.specs.Passes.{same_line}
+use Rattle.clru_text.specs.Keys.{same_line}
+use Rattle.clru_text.specs.Lines.{lines_of}
+use Rattle.clru_text.specs.Times.{kept_requests, requests_of}
 use Rattle.clru_report.specs.TimedPasses.{HasTakenTimed}
-use Rattle.clru_report.specs.Times.{kept_requests, requests_of}
 use Rattle.clru_report.proofs.TimedLines.{idle_taken, kinds_taken, timed_start}
 use Rattle.clru_report.proofs.timed.pass.curve_of_times.Goals as goal
 

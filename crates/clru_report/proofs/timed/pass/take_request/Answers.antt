@@ -3,9 +3,9 @@ use Rattle.std.specs.Prelude.{bytes_eq}
 use Rattle.std.specs.List.{list_any}
 use Rattle.std.specs.Map.{keys_of}
 use Rattle.clru_curve.specs.IdlePasses.{IsIdlePass}
-use Rattle.clru_report.specs.Passes.{line_of, same_line}
-use Rattle.clru_report.proofs.SettledCurves.{bytes_laws}
-use Rattle.clru_report.proofs.TimedLines.{request_taken}
+use Rattle.clru_text.specs.Keys.{line_of, same_line}
+use Rattle.clru_text.proofs.ByteLemmas.{bytes_laws}
+use Rattle.clru_text.proofs.TakenRequests.{request_taken}
 use Rattle.clru_report.proofs.timed.pass.take_request.Goals as goal
 use Rattle.clru_report.proofs.timed.pass.take_request.Goals.{in-Ok, in-Err-request_new_with_hash}
 

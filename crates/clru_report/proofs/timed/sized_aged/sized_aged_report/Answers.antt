@@ -4,20 +4,23 @@ use Rattle.std.specs.Map.{keys_of}
 use Rattle.std.specs.Prelude.{bytes_eq}
 use Rattle.std.proofs.lemmas.Bool.{and_parts}
 use Rattle.clru_curve.specs.SizedAgedPasses.{IsSizedAgedPass, aged_missed_size, aged_misses_by_size}
-use Rattle.clru_lines.specs.Lines.{lines_of}
-use Rattle.clru_lines.specs.declared.fault.Fault.TheVariants.{TooSmall}
+use Rattle.clru_text.specs.Choices.{is_whole}
+use Rattle.clru_text.specs.Keys.{same_line}
+use Rattle.clru_text.specs.Lines.{lines_of}
+use Rattle.clru_text.specs.Sizes.{weight_of_line}
+use Rattle.clru_text.specs.Times.{kept_requests, requests_of, rests_of}
+use Rattle.clru_text.specs.declared.fault.Fault.TheVariants.{TooSmall}
+use Rattle.clru_text.proofs.ByteLemmas.{bytes_laws}
 use Rattle.clru_report.specs.Capacities.{aged_capacities}
-use Rattle.clru_report.specs.Choices.{is_whole}
-use Rattle.clru_report.specs.Passes.{same_line, weight_of_key}
+use Rattle.clru_report.specs.Passes.{weight_of_key}
 use Rattle.clru_report.specs.Refusals.{IsRefusedBy, names_below}
 use Rattle.clru_report.specs.SizedReport.{distinct_size}
 use Rattle.clru_report.specs.SizedTimed.{IsSizedTableAt, missed_size_in_age, size_by, sized_misses_in_age}
 use Rattle.clru_report.specs.SizedTimedPasses.{HasTakenSizedTimed}
-use Rattle.clru_report.specs.Sizes.{greatest_size, weight_of_line}
+use Rattle.clru_report.specs.Sizes.{greatest_size}
 use Rattle.clru_report.specs.Timed.{all_by, kept_in, part_in}
-use Rattle.clru_report.specs.Times.{kept_requests, requests_of, rests_of}
 use Rattle.clru_report.proofs.AgedCapacities.{aged_missed_alike, aged_misses_alike, numbers_at}
-use Rattle.clru_report.proofs.SettledCurves.{bytes_laws, same_weights}
+use Rattle.clru_report.proofs.SettledCurves.{same_weights}
 use Rattle.clru_report.proofs.SizedTimedForms.{none_small, small_alike, too_small, whole_first}
 use Rattle.clru_report.proofs.SizedTimedLines.{sized_aged_first, sized_aged_missed, sized_aged_misses, sized_aged_size, sized_free, sized_start}
 use Rattle.clru_report.proofs.TimedLines.{aged_own}

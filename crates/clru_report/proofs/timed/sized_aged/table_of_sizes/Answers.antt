@@ -2,12 +2,12 @@ use Rattle.std.proofs.Common.{◌≡◌, nat_le, [], map, ap, sym, subst, ◌∙
 use Rattle.std.specs.Int.NonZero.{non_zero_usize_get}
 use Rattle.std.specs.List.{filter}
 use Rattle.std.proofs.lemmas.Fn.{filter_same}
+use Rattle.clru_text.proofs.ResultLemmas.{ok_map}
 use Rattle.clru_report.specs.Capacities.{aged_capacities}
 use Rattle.clru_report.specs.PlainRows.{AreNumbersAt}
 use Rattle.clru_report.specs.Samples.{sized_numbers_of, sized_numbers_times}
 use Rattle.clru_report.specs.SizedTables.{capacity_of_sized_row, sized_table_text}
 use Rattle.clru_report.specs.SizedTimed.{ArePlainSizedRows}
-use Rattle.clru_report.proofs.ReportLemmas.{ok_map}
 use Rattle.clru_report.proofs.SizedTimedForms.{plain_sized_from}
 use Rattle.clru_report.proofs.timed.sized_aged.table_of_sizes.Goals as goal
 

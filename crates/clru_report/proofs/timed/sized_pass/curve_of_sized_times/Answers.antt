@@ -2,11 +2,12 @@ use Rattle.std.proofs.Common.{[], refl, sym, ap, subst}
 use Rattle.std.specs.Int.NonZero.{non_zero_usize_get}
 use Rattle.std.specs.Prelude.{bytes_eq}
 use Rattle.clru_curve.specs.SizedIdlePasses.{IsSizedIdleCurveOf, IsSizedIdlePass}
-use Rattle.clru_lines.specs.Lines.{lines_of}
-use Rattle.clru_report.specs.Passes.{same_line, weight_of_key}
+use Rattle.clru_text.specs.Keys.{same_line}
+use Rattle.clru_text.specs.Lines.{lines_of}
+use Rattle.clru_text.specs.Sizes.{weight_of_line}
+use Rattle.clru_text.specs.Times.{kept_requests, requests_of}
+use Rattle.clru_report.specs.Passes.{weight_of_key}
 use Rattle.clru_report.specs.SizedTimedPasses.{HasTakenSizedTimed}
-use Rattle.clru_report.specs.Sizes.{weight_of_line}
-use Rattle.clru_report.specs.Times.{kept_requests, requests_of}
 use Rattle.clru_report.proofs.SettledIdle.{settled_idle}
 use Rattle.clru_report.proofs.SizedTimedLines.{sized_free, sized_idle_taken, sized_start}
 use Rattle.clru_report.proofs.timed.sized_pass.curve_of_sized_times.Goals as goal

@@ -1,8 +1,8 @@
 use Rattle.std.proofs.Common.{◌+◌, ◌∷◌, [], IsSome, sym, ap, subst, ◌∙◌, arith}
 use Rattle.std.specs.Int.NonZero.{non_zero_usize_get}
+use Rattle.clru_text.specs.Sizes.{size_of_line, weight_of_line}
+use Rattle.clru_text.specs.Times.{rest_of_line}
 use Rattle.clru_report.specs.Refusals.{fault_from}
-use Rattle.clru_report.specs.Sizes.{size_of_line, weight_of_line}
-use Rattle.clru_report.specs.Times.{rest_of_line}
 use Rattle.clru_report.proofs.SizedTimedLines.{sized_more, untimed_refused, unwritten_line}
 use Rattle.clru_report.proofs.timed.lines.SizedTimedLinesTakesLines.take_line.Goals as goal
 

@@ -1,0 +1,57 @@
+-- Requests without times miss under an idle limit what they miss without it.
+use Rattle.std.proofs.Common.{◌≡◌, ℕ, ◌-◌, Bool, true, false, not, ◌&&◌, Option, None, Some, List, [], ◌∷◌, refl, sym, ap, ◌∙◌, arith}
+use Rattle.std.specs.Cmp.{IsEquivalence}
+use Rattle.std.specs.List.{All, count_by}
+use Rattle.std.specs.Map.{keys_of, lookup}
+use Rattle.std.specs.Option.{option_map_or}
+use Rattle.std.proofs.lemmas.Bool.{le-leb}
+use Rattle.std.proofs.lemmas.List.Elements.{All-head, All-tail}
+use Rattle.clru_curve.specs.IdlePasses.{idle_misses}
+use Rattle.clru_curve.specs.SizedIdlePasses.{idle_missed_size, idle_misses_by_size}
+use Rattle.clru_model.proofs.Cases.{split}
+use Rattle.clru_model.proofs.IdleMarks.{recent_unlimited, unlimited_marks, unlimited_marks_by_size}
+use Rattle.clru_model.proofs.Spans.{missed_by_marks}
+use Rattle.clru_model.specs.Ages.{aged_hit, aged_marks_after, is_in_limit, is_recent}
+use Rattle.clru_model.specs.Requests.{hit, holds, misses}
+use Rattle.clru_model.specs.Sizes.{hit_by_size, missed_size, misses_by_size}
+use Rattle.clru_model.specs.Spans.{size_of_misses}
+
+module _ {K : Type 0} (eq : K → K → Bool) (idle : ℕ) where
+  -- at the time 0 no request comes late
+  recent_timeless : (r : K × ℕ) (past : List (K × ℕ)) → r.1 ≡ 0 → is_recent eq (Some idle) r past ≡ is_recent eq None r past
+  recent_timeless r past zero = at (lookup (eq r.0) past)
+    where
+      at : (o : Option ℕ) → option_map_or (λ time. is_in_limit (Some idle) (r.1 - time)) o false
+          ≡ option_map_or (λ time. is_in_limit None (r.1 - time)) o false
+      at None = refl
+      at (Some t) = le-leb (r.1 - t) idle (omega (arith, zero))
+
+  -- and each whose key came before comes soon enough
+  pub recent_held : (r : K × ℕ) (past : List (K × ℕ)) → r.1 ≡ 0 → is_recent eq (Some idle) r past ≡ holds eq r.0 (keys_of past)
+  recent_held r past zero = recent_timeless r past zero ∙ recent_unlimited eq r past
+
+  marks_timeless : (hits : K → List K → Bool) (past fetches rs : List (K × ℕ)) → All (λ r. r.1 ≡ 0) rs
+      → aged_marks_after eq hits (Some idle) None past fetches rs ≡ aged_marks_after eq hits None None past fetches rs
+  marks_timeless hits past fetches [] all = refl
+  marks_timeless hits past fetches (r ∷ rs) all =
+      let zero = All-head (λ (q : K × ℕ). q.1 ≡ 0) r rs all in let rest = All-tail (λ (q : K × ℕ). q.1 ≡ 0) r rs all in
+      let here : aged_hit eq hits (Some idle) None r past fetches ≡ aged_hit eq hits None None r past fetches =
+      ap (λ b. hits r.0 (keys_of past) && b && is_recent eq None r fetches) (recent_timeless r past zero) in
+      split (aged_hit eq hits None None r past fetches)
+      (λ t. rw (here ∙ t, t) (ap (λ ms. true ∷ ms) (marks_timeless hits (r ∷ past) fetches rs rest)))
+      (λ f. rw (here ∙ f, f) (ap (λ ms. false ∷ ms) (marks_timeless hits (r ∷ past) (r ∷ fetches) rs rest)))
+
+module _ {K : Type 0} (eq : K → K → Bool) (laws : IsEquivalence eq) (idle : ℕ) (rs : List (K × ℕ)) (all : All (λ r. r.1 ≡ 0) rs) where
+  pub misses_timeless : (k : ℕ) → idle_misses eq idle k rs ≡ misses eq k (keys_of rs)
+  misses_timeless k = ap (count_by not) (marks_timeless eq idle (hit eq k) [] [] rs all ∙ unlimited_marks eq laws k rs)
+
+  module _ (weight : K → ℕ) (c : ℕ) where
+    pub sized_misses_timeless : idle_misses_by_size eq weight idle c rs ≡ misses_by_size eq weight c (keys_of rs)
+    sized_misses_timeless =
+        ap (count_by not) (marks_timeless eq idle (hit_by_size eq weight c) [] [] rs all ∙ unlimited_marks_by_size eq laws weight c rs)
+
+    pub missed_size_timeless : idle_missed_size eq weight idle c rs ≡ missed_size eq weight c (keys_of rs)
+    missed_size_timeless =
+        ap (λ ms. size_of_misses weight ms (keys_of rs))
+        (marks_timeless eq idle (hit_by_size eq weight c) [] [] rs all ∙ unlimited_marks_by_size eq laws weight c rs)
+        ∙ sym (missed_by_marks eq weight c [] (keys_of rs))

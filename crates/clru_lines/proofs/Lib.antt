@@ -1,4 +1,0 @@
-mod KnownLemmas
-mod LineLemmas
-mod LinesReadLemmas
-mod SipLemmas

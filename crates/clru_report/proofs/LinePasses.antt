@@ -1,0 +1,64 @@
+-- What a pass over lines knows after one more, and what its curve is.
+use Rattle.std.proofs.Common.{◌≡◌, ℕ, Bool, cond, List, [], ◌∷◌, length, reverse, Option, Some, is_some, refl, sym, ap, ◌∙◌, subst}
+use Rattle.std.specs.Cmp.{on_equiv}
+use Rattle.std.specs.List.{All}
+use Rattle.std.specs.Map.{keys_of, lookup}
+use Rattle.std.specs.Prelude.{bytes_eq}
+use Rattle.std.proofs.lemmas.List.Elements.{All-map}
+use Rattle.clru_curve.specs.Curves.{HasMissesOf}
+use Rattle.clru_curve.specs.IdlePasses.{HasIdleMissesOf, idle_misses}
+use Rattle.clru_curve.specs.PositionPasses.{IsLatestOf}
+use Rattle.clru_curve.proofs.LatestRequests.{latest_here, latest_there}
+use Rattle.clru_curve.proofs.Timeless.{misses_timeless, recent_held}
+use Rattle.clru_linked_map.specs.BytesMaps.{with_bytes}
+use Rattle.clru_linked_map.proofs.BytesMaps.{lookup-with_bytes}
+use Rattle.clru_model.proofs.Cases.{split}
+use Rattle.clru_model.proofs.Views.{map-reverse}
+use Rattle.clru_model.specs.Ages.{is_recent}
+use Rattle.clru_model.specs.Requests.{holds, misses}
+use Rattle.clru_text.specs.Keys.{line_of, same_line}
+use Rattle.clru_text.specs.declared.lines.OwnedKey.{OwnedKey}
+use Rattle.clru_text.proofs.ByteLemmas.{bytes_laws}
+use Rattle.clru_report.specs.LinePasses.{timeless}
+
+-- requests without times are of the same keys
+pub keys_timeless : {K : Type 0} (ks : List K) → keys_of (timeless ks) ≡ ks
+keys_timeless [] = refl
+keys_timeless (k ∷ ks) = ap (λ l. k ∷ l) (keys_timeless ks)
+
+module _ {A : Type 0} (past : List (OwnedKey A)) where
+  -- what is said of keys is said of their requests at the time 0
+  module _ (key : OwnedKey A) (latest : Option ℕ) (is : IsLatestOf same_line past key latest) where
+    pub latest_timeless : IsLatestOf same_line (keys_of (timeless past)) key latest
+    latest_timeless = subst (λ ks. IsLatestOf same_line ks key latest) (sym (keys_timeless past)) is
+
+    pub soon_timeless : is_some latest ≡ is_recent same_line (Some 0) (key, 0) (timeless past)
+    soon_timeless = is.known ∙ sym (recent_held same_line 0 (key, 0) (timeless past) refl ∙ ap (holds same_line key) (keys_timeless past))
+
+  -- where the latest request of each line is noted
+  module _ (noted : List (List ℕ × ℕ)) (each : (y : OwnedKey A) → IsLatestOf same_line past y (lookup (bytes_eq (line_of y)) noted))
+      (key : OwnedKey A) (line : List ℕ) (is : line ≡ line_of key) where
+    pub latest_noted : (latest : Option ℕ) → latest ≡ lookup (bytes_eq line) noted → IsLatestOf same_line past key latest
+    latest_noted latest found = subst (IsLatestOf same_line past key) (sym (found ∙ ap (λ l. lookup (bytes_eq l) noted) is)) (each key)
+
+    -- that of one more is
+    pub noted_more : (here : ℕ) (next : List (List ℕ × ℕ)) → here ≡ length past → next ≡ with_bytes line here noted
+        → (y : OwnedKey A) → IsLatestOf same_line (key ∷ past) y (lookup (bytes_eq (line_of y)) next)
+    noted_more here next at to y =
+        let found = λ (b : Bool). cond b (Some here) (lookup (bytes_eq (line_of y)) noted) in
+        let moved : lookup (bytes_eq (line_of y)) next ≡ found (same_line y key) =
+        ap (lookup (bytes_eq (line_of y))) to ∙ lookup-with_bytes (line_of y) line here noted ∙ ap (λ l. found (bytes_eq (line_of y) l)) is in
+        split (same_line y key)
+        (λ t. subst (IsLatestOf same_line (key ∷ past) y) (sym (moved ∙ ap found t)) (latest_here same_line past key y t here at))
+        (λ f. subst (IsLatestOf same_line (key ∷ past) y) (sym (moved ∙ ap found f))
+        (latest_there same_line past key y f (lookup (bytes_eq (line_of y)) noted) (each y)))
+
+  -- the misses of requests at the time 0 are those of their keys
+  pub misses_of_keys : (curve : List ℕ) → HasIdleMissesOf same_line 0 (reverse (timeless past)) curve → HasMissesOf same_line (reverse past) curve
+  misses_of_keys curve has k some =
+      let keys = reverse past in
+      let none_late : All (λ r. r.1 ≡ 0) (timeless keys) =
+      All-map (λ (r : OwnedKey A × ℕ). r.1 ≡ 0) (λ (key : OwnedKey A). (key, 0)) keys (λ i d low. refl) in
+      has k some ∙ ap (idle_misses same_line 0 k) (sym (map-reverse (λ (key : OwnedKey A). (key, 0)) past))
+      ∙ misses_timeless same_line (on_equiv (λ (key : OwnedKey A). line_of key) bytes_laws) 0 (timeless keys) none_late k
+      ∙ ap (misses same_line k) (keys_timeless keys)

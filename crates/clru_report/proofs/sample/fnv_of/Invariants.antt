@@ -1,6 +1,0 @@
-use Rattle.std.proofs.Common.{◌≡◌, take}
-use Rattle.clru_report.specs.Samples.{fnv}
-use Rattle.clru_report.proofs.sample.fnv_of.Given as goal
-
-abbrev pub invariant-loop-byte : goal.invariant-loop-byte
-invariant-loop-byte l = l.hash ≡ fnv (take l.byte-index l.line)

@@ -1,0 +1,97 @@
+//! `LinePass`, which takes lines one by one.
+ghost use Rattle.std.specs.Prelude.{◌≡◌, List, [], ◌∷◌, length, reverse, IfOk, OnOk};
+ghost use Rattle.clru_curve.specs.Curves.{HasMissesOf};
+ghost use Rattle.clru_curve.specs.PositionPasses.{IsLatestOf};
+ghost use Rattle.clru_model.specs.Requests.{distinct};
+ghost use Rattle.clru_text.specs.Keys.{same_line};
+ghost use Rattle.clru_text.specs.declared.lines.OwnedKey.{OwnedKey};
+ghost use Rattle.clru_report.specs.LinePasses.{IsLinePass};
+
+use clru_curve::{MissCurve, NoMemory, PositionPass};
+use clru_linked_map::BytesMap;
+use clru_text::OwnedKey;
+use std::alloc::Allocator;
+use std::hash::BuildHasher;
+
+/// A pass over lines, each of which is a key. The bytes of all distinct lines stand in one table, with the position of the latest request
+/// of each, so that a line costs one look-up, and a new one no memory of its own.
+pub(crate) struct LinePass<S: BuildHasher, A: Allocator + Copy> {
+    latest: BytesMap<usize, S, A>,
+    pass: PositionPass<OwnedKey<A>, A>,
+    requests: usize,
+}
+
+impl<S: BuildHasher + Drop, A: Allocator + Copy> Drop for LinePass<S, A> {
+    fn drop(self) {
+        let LinePass {
+            latest,
+            pass,
+            requests: _,
+        } = self;
+        drop(latest);
+        drop(pass);
+    }
+}
+
+impl<S: BuildHasher, A: Allocator + Copy> LinePass<S, A> {
+    /// Creates a pass that has taken no line.
+    /// Cost: no request for memory.
+    pub(crate) fn new(alloc: A, hash_builder: S) -> Self
+        ensures { IsLinePass [] result }
+    {
+        LinePass {
+            latest: BytesMap::new(alloc, hash_builder),
+            pass: PositionPass::new(alloc),
+            requests: 0,
+        }
+    }
+
+    /// Takes one more line, and returns the position of its latest request: how many lines came before that one. Returns `None` if the
+    /// line is new.
+    ///
+    /// If memory is refused, or there were `usize::MAX` lines, no more can be said of the pass.
+    /// Cost: that of `BytesMap::insert`, and steps that grow as the logarithm of the number of lines.
+    pub(crate) fn take(&mut self, key: &OwnedKey<A>) -> Result<Option<usize>, NoMemory>
+        requires { (past : List (OwnedKey A)) × IsLinePass past self.old }
+        ensures latest { (past : List (OwnedKey A)) → IsLinePass past self.old → IfOk result (IsLatestOf same_line past key.now) }
+        ensures taken { (past : List (OwnedKey A)) → IsLinePass past self.old → OnOk result (IsLinePass (key.now ∷ past) self.new) }
+    {
+        let Some(requests) = self.requests.checked_add(1) else {
+            return Err(NoMemory);
+        };
+        let latest = self.latest.insert(&key.0, self.requests)?;
+        // (without times each reuse comes soon enough)
+        self.pass.request(latest, latest.is_some())?;
+        self.requests = requests;
+        Ok(latest)
+    }
+
+    /// Returns the curve of the lines so far, and lets the pass go on.
+    /// Cost: a step for each distinct line; one request for memory, of a number for each, and none without lines.
+    pub(crate) fn curve(&self, alloc: A) -> Result<MissCurve<A>, NoMemory>
+        ensures misses { (past : List (OwnedKey A)) → IsLinePass past self.now
+            → IfOk result (HasMissesOf same_line (reverse past)) }
+        ensures distinct { (past : List (OwnedKey A)) → IsLinePass past self.now
+            → IfOk result (λ curve. length curve ≡ distinct same_line past) }
+    {
+        self.pass.curve(alloc)
+    }
+
+    /// Does what `curve` does, when no line follows. The lines are dropped first.
+    /// Cost: that of `curve`.
+    pub(crate) fn into_curve(self, alloc: A) -> Result<MissCurve<A>, NoMemory>
+    where
+        S: Drop,
+        ensures misses { (past : List (OwnedKey A)) → IsLinePass past self → IfOk result (HasMissesOf same_line (reverse past)) }
+        ensures distinct { (past : List (OwnedKey A)) → IsLinePass past self
+            → IfOk result (λ curve. length curve ≡ distinct same_line past) }
+    {
+        let LinePass {
+            latest,
+            pass,
+            requests: _,
+        } = self;
+        drop(latest);
+        pass.curve(alloc)
+    }
+}

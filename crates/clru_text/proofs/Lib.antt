@@ -1,0 +1,14 @@
+pub mod ByteLemmas
+mod Choices
+mod CommandLines
+pub mod CutsAlone
+mod KnownLemmas
+mod LineLemmas
+mod LinesReadLemmas
+pub mod ResultLemmas
+pub mod RoundNumbers
+pub mod Samples
+mod SipLemmas
+mod SortedSets
+pub mod TakenRequests
+mod TimeFigures
