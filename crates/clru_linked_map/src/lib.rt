@@ -6,7 +6,7 @@
 //! A caller hashes a key once, and hands the hash to the calls that look for it. The caller must also keep the keys distinct,
 //! because a key that is put in is not looked for.
 //!
-//! `BytesMap` is another map over such an index: strings of bytes in one buffer, of which none is dropped.
+//! `BytesMap` is another map with such an index. It keeps strings of bytes in one buffer, each with a value, and drops none.
 #![tactic(auto)]
 
 mod bytes_map;

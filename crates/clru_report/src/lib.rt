@@ -1,8 +1,8 @@
 //! What an LRU cache of each capacity misses on a list of requests, as a text: what the program `clru_mrc` is, but for its `main`.
 //!
-//! What the words of a command line ask for of an input, as `command_of` of `clru_text` reads them, is a table, a summary or a
-//! picture, in keys or by size, and [`run`] takes it from a reader to a writer: for each of both whose bytes std knows its contract
-//! says which text is written of which input, or why none is. [`make_report`] returns the text itself.
+//! A report is a table, a summary or a picture, in keys or by size; `command_of` of `clru_text` reads which one a command line asks
+//! for. [`run`] reads an input and writes its report. For readers and writers whose bytes std's contracts describe, its contract says
+//! what is written for each input, or why nothing is. [`make_report`] returns the text.
 //!
 //! `specs/Report` and `specs/SizedReport` say what a report is, and `specs/Refusals` which inputs have none.
 #![tactic(auto)]

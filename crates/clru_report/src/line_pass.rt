@@ -13,8 +13,8 @@ use clru_text::OwnedKey;
 use std::alloc::Allocator;
 use std::hash::BuildHasher;
 
-/// A pass over lines, each of which is a key. The bytes of all distinct lines stand in one table, with the position of the latest request
-/// of each, so that a line costs one look-up, and a new one no memory of its own.
+/// A pass over lines as keys. One table has the bytes of each distinct line and the position of its latest request, so a line costs
+/// one look-up, and a new line has no allocation of its own.
 pub(crate) struct LinePass<S: BuildHasher, A: Allocator + Copy> {
     latest: BytesMap<usize, S, A>,
     pass: PositionPass<OwnedKey<A>, A>,

@@ -2,8 +2,8 @@
 //!
 //! A program reads its input line by line by a [`LineBuffer`], or whole by [`read_input`], and takes its lines apart by
 //! [`next_line`] or [`keys_of`]; it reads a number of an argument or a line by [`capacity_of`] or [`digits_of`], hashes its keys under a
-//! [`Seed`], and writes its text by [`write_text`]. Each says in its contract which bytes it took and which it gave, by what is known of the
-//! reader and the writer. A [`Fault`] says why a program failed, and [`exit_status`] how it ends.
+//! [`Seed`], and writes its text by [`write_text`]. For readers and writers whose bytes std's contracts describe, their contracts say
+//! what was read or written. A [`Fault`] says why a program failed, and [`exit_status`] how it ends.
 //!
 //! [`command_of`] reads the words of a command line: [`Options`] are what they ask a report to have. [`size_of`] and [`split_time`] read
 //! what a line begins with, [`is_kept`] tells which lines a sample keeps, and [`picture_of`] draws a [`Plot`].

@@ -47,7 +47,7 @@ pub struct Plot<A: Allocator> {
     /// The first and the last capacity.
     pub ends: (usize, usize),
 
-    /// The lines, of which the first has its ratios above it.
+    /// The lines. The ratios of the first one are written above it.
     pub lines: Vec<PlotLine<A>, A>,
 
     /// What every policy misses at least, where it is asked for.
