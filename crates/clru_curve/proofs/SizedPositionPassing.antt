@@ -1,5 +1,5 @@
 -- What a pass by size that holds no key has taken, after one more request, and its curve.
-use Rattle.std.proofs.Common.{◌≡◌, ℕ, suc, ◌+◌, ◌-◌, ◌^◌, ◌<◌, ◌≤◌, Bool, true, false, cond, nat_le, nat_lt, List, [], ◌∷◌, ◌++◌, length, reverse, Option, Some, None, refl, sym, ap, ◌∙◌, subst, arith}
+use Rattle.std.proofs.Common.{◌≡◌, ℕ, suc, ◌+◌, ◌-◌, ◌^◌, ◌<◌, ◌≤◌, Bool, true, false, cond, nat_le, nat_lt, List, [], ◌∷◌, ◌++◌, length, reverse, Option, Some, None, refl, sym, ap, ◌∙◌, subst, arith, ⊤}
 use Rattle.std.proofs.lemmas.Bool.{le-leb}
 use Rattle.std.proofs.lemmas.List.{length_push, reverse-reverse}
 use Rattle.std.proofs.lemmas.List.Elements.{All-head, All-nil, All-push, All-same, All-tail}
@@ -20,10 +20,10 @@ use Rattle.clru_curve.specs.declared.sized.step.Step.{Step}
 use Rattle.clru_curve.specs.LatestSizes.{live_from, total_from, IsSummed}
 use Rattle.clru_curve.specs.PositionPasses.{IsLatestOf}
 use Rattle.clru_curve.specs.Rising.{IsRising}
-use Rattle.clru_curve.specs.Seen.{reuse_by, seen_at}
+use Rattle.clru_curve.specs.Seen.{positions_of, reuse_by, seen_at}
 use Rattle.clru_curve.specs.SizedCurves.{CurveBySize, step, hits_within, IsCurveOfHits, IsSizedCurveOf}
-use Rattle.clru_curve.specs.SizedIdlePasses.{AreIdleHits, IsSizedIdleCurveOf, timed_pass_by_size, untimed}
-use Rattle.clru_curve.specs.SizedPasses.{AreHits, IsSizedPass}
+use Rattle.clru_curve.specs.SizedIdlePasses.{AreIdleHits, IsSizedIdleCurveOf, timed_pass_by_size}
+use Rattle.clru_curve.specs.SizedPasses.{AreHits, IsSizedPass, pass_by_size}
 use Rattle.clru_curve.specs.SizedPositionPasses.{CountedBySize, counted_by_size, IsSizedPositionPass, IsSoundCountedBySize}
 use Rattle.clru_curve.specs.Tree.{up_by}
 use Rattle.clru_curve.proofs.IdlePassing.{moved_again, moved_new, position_at, position_found, unseen}
@@ -164,8 +164,8 @@ all_within c [] room = refl
 all_within c (h ∷ hs) room =
     let both = sum_by-cons (λ g. g.capacity) h hs in
     let here : nat_le h.capacity c ≡ true = le-leb h.capacity c (omega (arith, room, both)) in
-    let one : hits_within c (h ∷ hs) ≡ 1 + hits_within c hs = rw here at (count_by-cons (λ g. nat_le g.capacity c) h hs) in
-    omega (arith, one, all_within c hs (omega (arith, room, both)))
+    let one : cond (nat_le h.capacity c) 1 0 + hits_within c hs ≡ suc (hits_within c hs) = rw here (omega arith) in
+    count_by-cons (λ g. nat_le g.capacity c) h hs ∙ one ∙ ap suc (all_within c hs (omega (arith, room, both)))
 
 some_position : (o : Option Seen) (q : ℕ) → option_map (λ s. s.position) o ≡ Some q → (s : Seen) × (o ≡ Some s) × (s.position ≡ q)
 some_position None q at = absurd (cc)
@@ -203,7 +203,7 @@ module _ {K : Type 0} (eq : K → K → Bool) (laws : IsEquivalence eq) (weight 
       )
 
   pub pass_timeless : (c : CountedBySize) (is : IsSizedPositionPass eq weight idle past c)
-      → IsSizedPass eq weight (keys_of past) (untimed (timed_pass_by_size is.seen c.sizes c.requests c.hits c.size c.greatest idle tt))
+      → IsSizedPass eq weight {S = ⊤} (keys_of past) (pass_by_size (positions_of is.seen) c.sizes c.requests c.hits c.size c.greatest tt)
   pass_timeless c is = record {
     ranked = is.taken.ranked;
     hits = hits_timeless c.hits is.taken.hits;
@@ -221,10 +221,10 @@ module _ {K : Type 0} (eq : K → K → Bool) (weight : K → ℕ) (idle : ℕ) 
     (curve : CurveBySize) (hits : List Step) (n d : ℕ) (from : hits ≡ c.hits) (all : n ≡ c.requests) (held : d ≡ total_from c.sizes 0)
     (of : IsCurveOfHits hits n c.size d c.greatest curve) where
   pub curve_taken : IsSizedIdleCurveOf eq weight idle (reverse past) curve
-  curve_taken = IsSizedIdleCurveOf-by eq weight idle past (timed_pass_by_size is.seen c.sizes c.requests c.hits c.size c.greatest idle tt) curve hits n d
+  curve_taken = IsSizedIdleCurveOf-by eq weight idle past (timed_pass_by_size {S = ⊤} is.seen c.sizes c.requests c.hits c.size c.greatest idle tt) curve hits n d
       is.taken from all held of
 
   pub curve_timeless : IsEquivalence eq → SameWeights eq weight → All (λ r. r.1 ≡ 0) past → IsSizedCurveOf eq weight (reverse (keys_of past)) curve
   curve_timeless laws same timeless =
-      IsSizedCurveOf-by eq weight (keys_of past) (untimed (timed_pass_by_size is.seen c.sizes c.requests c.hits c.size c.greatest idle tt)) curve hits n d
+      IsSizedCurveOf-by eq weight (keys_of past) (pass_by_size {S = ⊤} (positions_of is.seen) c.sizes c.requests c.hits c.size c.greatest tt) curve hits n d
       (pass_timeless eq laws weight same idle past timeless c is) from all held of

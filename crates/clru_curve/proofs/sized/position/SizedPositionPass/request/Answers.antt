@@ -89,16 +89,16 @@ invariant_of-self-in-Some g c =
     (omega (arith, moved_less ss left ts pushed p n w c.drop_empty.ensures.totals c.drop_empty.ensures.live removed grown, inv.held))
     c.args.soon c.remove-span.result)
 
-pub returns-in-Some-clause-span : goal.returns-in-Some-clause-span
-returns-in-Some-clause-span g c w idle past key time same before weighs latest soon =
+pub returns-in-Ok-reserve-clause-span : goal.returns-in-Ok-reserve-clause-span
+returns-in-Ok-reserve-clause-span g c w idle past key time same before weighs latest soon =
     let eq = g.K.PartialEq.eq in let p = c.in-Some.position in
     c.hit_if.ensures.span
     ∙ some_reuse eq g.met.K.Eq.laws w idle past _ key time (subst (IsSizedPositionPass eq w idle past) (sym c.self.view_is) before)
     p (subst (IsLatestOf eq (keys_of past) key) c.in-Some.is latest) c.args.weight weighs same c.args.soon soon c.remove-span.result
     (c.remove-span.ensures.total ∙ ap (λ l. total_from l p) c.make_ready.ensures.sizes)
 
-pub returns-in-Some-clause-taken : goal.returns-in-Some-clause-taken
-returns-in-Some-clause-taken g c w idle past key time same before weighs latest soon =
+pub returns-in-Ok-reserve-clause-taken : goal.returns-in-Ok-reserve-clause-taken
+returns-in-Ok-reserve-clause-taken g c w idle past key time same before weighs latest soon =
     let eq = g.K.PartialEq.eq in let laws = g.met.K.Eq.laws in let s = c.self.inside in
     let ss = s.latest.sizes.items in let n = s.latest.requests in let p = c.in-Some.position in
     let e = c.make_ready.ensures in let v = c.args.weight in
@@ -116,19 +116,19 @@ returns-in-Some-clause-taken g c w idle past key time same before weighs latest 
     (moved_totals ss left ts pushed p n v c.drop_empty.ensures.totals c.drop_empty.ensures.live removed grown n c.self.invariant.summed.rising
     (size_at eq laws w idle past _ key time is p at v weighs)))
 
-pub returns-in-Some-clause-size : goal.returns-in-Some-clause-size
-returns-in-Some-clause-size g c = omega (arith, ap (λ v. v.size) c.self.view_is)
+pub returns-in-Ok-reserve-clause-size : goal.returns-in-Ok-reserve-clause-size
+returns-in-Ok-reserve-clause-size g c = omega (arith, ap (λ v. v.size) c.self.view_is)
 
-pub returns-in-Some-clause-too_large : goal.returns-in-Some-clause-too_large
-returns-in-Some-clause-too_large g c = not_too_large (ap (λ v. v.size) c.self.view_is) c.if-weight-self.false
+pub returns-in-Ok-reserve-clause-too_large : goal.returns-in-Ok-reserve-clause-too_large
+returns-in-Ok-reserve-clause-too_large g c = not_too_large (ap (λ v. v.size) c.self.view_is) c.if-weight-self.false
 
-pub push-in-None-requires-clause-fits : goal.push-in-None-requires-clause-fits
-push-in-None-requires-clause-fits g c =
+pub push-requires-in-None-clause-fits : goal.push-requires-in-None-clause-fits
+push-requires-in-None-clause-fits g c =
     let ss = c.self.inside.latest.sizes.items in let inv = c.self.invariant in
     omega (arith, ap (λ l. sizes_from l 0) c.make_ready.ensures.sizes, total_zero ss, inv.held, c.if-weight-self.false)
 
-pub push-in-None-requires-clause-countable : goal.push-in-None-requires-clause-countable
-push-in-None-requires-clause-countable g c = omega (arith, c.make_ready.ensures.requests, c.self.invariant.many, c.if-weight-self.false)
+pub push-requires-in-None-clause-countable : goal.push-requires-in-None-clause-countable
+push-requires-in-None-clause-countable g c = omega (arith, c.make_ready.ensures.requests, c.self.invariant.many, c.if-weight-self.false)
 
 pub invariant_of-self-in-None : goal.invariant_of-self-in-None
 invariant_of-self-in-None g c =
