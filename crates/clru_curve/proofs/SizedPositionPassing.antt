@@ -10,10 +10,9 @@ use Rattle.std.specs.List.{All, sum_by}
 use Rattle.std.specs.Map.{keys_of, lookup, set_value}
 use Rattle.std.specs.Option.{option_map}
 use Rattle.std.specs.Prelude.{⊤}
-use Rattle.clru_model.proofs.Cases.{split}
 use Rattle.clru_model.proofs.Spans.{room_misses_first}
 use Rattle.clru_model.specs.Ages.{is_recent}
-use Rattle.clru_model.specs.Requests.{distinct, holds}
+use Rattle.clru_model.specs.Requests.{distinct}
 use Rattle.clru_model.specs.Sizes.{SameWeights, misses_by_size, missed_size, span, total}
 use Rattle.clru_curve.specs.declared.numbered.Numbered.{Numbered}
 use Rattle.clru_curve.specs.declared.seen.Seen.{Seen}
