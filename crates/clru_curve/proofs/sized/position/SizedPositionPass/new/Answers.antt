@@ -1,6 +1,7 @@
-use Rattle.std.proofs.Common.{subst}
+use Rattle.std.proofs.Common.{[], subst}
 use Rattle.clru_curve.proofs.SizedPositionPassing.{none_taken, sound_none}
 use Rattle.clru_curve.specs.LatestSizes.{IsSummed}
+use Rattle.clru_curve.specs.SizedPositionPasses.{IsSizedPositionPass}
 use Rattle.clru_curve.proofs.sized.position.SizedPositionPass.new.Goals as goal
 
 pub invariant_of-result : goal.invariant_of-result
@@ -11,4 +12,5 @@ invariant_of-result g c =
 
 pub returns : goal.returns
 returns g c w idle =
-    rw (c.new.ensures.sizes, c.new.ensures.requests, c.new-2.ensures.items) (none_taken g.K.PartialEq.eq g.met.K.Eq.laws w idle)
+    let e = c.new.ensures in
+    subst (IsSizedPositionPass g.K.PartialEq.eq w idle []) (cc (e.sizes, e.requests, c.new-2.ensures.items)) (none_taken g.K.PartialEq.eq g.met.K.Eq.laws w idle)
