@@ -26,6 +26,10 @@ some_either : (o : Option Seen) → is_some o ≡ is_some (option_map (λ s. s.p
 some_either None = refl
 some_either (Some s) = refl
 
+none_of : (o : Option Seen) → is_some o ≡ false → o ≡ None
+none_of None is = refl
+none_of (Some s) is = absurd (cc)
+
 module _ {K : Type 0} (eq : K → K → Bool) where
   -- the position of a key
   pub position_at : (test : K → Bool) (seen : List (K × Seen)) → lookup test (positions_of seen) ≡ option_map (λ s. s.position) (lookup test seen)
@@ -38,6 +42,11 @@ module _ {K : Type 0} (eq : K → K → Bool) where
   pub seen_known : (past : List K) (seen : List (K × Seen)) → ((x : K) → is_some (lookup (eq x) (positions_of seen)) ≡ holds eq x past)
       → (x : K) → is_some (lookup (eq x) seen) ≡ holds eq x past
   seen_known past seen known x = some_either (lookup (eq x) seen) ∙ ap is_some (sym (position_at (eq x) seen)) ∙ known x
+
+  -- a key that was not requested was not seen
+  pub unseen : (past : List K) (seen : List (K × Seen)) → ((x : K) → is_some (lookup (eq x) (positions_of seen)) ≡ holds eq x past)
+      → (x : K) → holds eq x past ≡ false → lookup (eq x) seen ≡ None
+  unseen past seen known x new = none_of (lookup (eq x) seen) (seen_known past seen known x ∙ new)
 
   pub same_length : (seen : List (K × Seen)) → length (positions_of seen) ≡ length seen
   same_length seen = length-map seen (λ e. (e.0, e.1.position))
@@ -93,11 +102,7 @@ module _ {K S : Type 0} {b : S} (eq : K → K → Bool) (laws : IsEquivalence eq
 
   -- and one that was not requested is not known
   pub absent_key : holds eq x (keys_of past) ≡ false → lookup (eq x) seen ≡ None
-  absent_key new = none_of (lookup (eq x) seen) (seen_known eq (keys_of past) seen is.ranked.known x ∙ new)
-    where
-      none_of : (o : Option Seen) → is_some o ≡ false → o ≡ None
-      none_of None h = refl
-      none_of (Some p) h = cc
+  absent_key new = unseen eq (keys_of past) seen is.ranked.known x new
 
   pub IsIdlePass-new : (cs : List Numbered) → lookup (eq x) seen ≡ None → ((p : ℕ) → ones_from cs p ≡ ones_from bs p + up_to p n)
       → IsIdlePass eq idle ((x, t) ∷ past) (timed_pass ((x, seen_at n t) ∷ seen) cs (n + 1) (h ++ 0 ∷ []) l b)

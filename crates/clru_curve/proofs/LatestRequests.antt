@@ -1,5 +1,5 @@
 -- Where the latest request of each key is after one more.
-use Rattle.std.proofs.Common.{◌≡◌, ℕ, suc, ◌+◌, ◌||◌, Bool, true, false, List, ◌∷◌, length, Option, None, Some, refl, sym, ap, ◌∙◌, arith}
+use Rattle.std.proofs.Common.{◌≡◌, ℕ, suc, ◌||◌, Bool, true, false, List, ◌∷◌, length, Option, None, Some, refl, sym, ap, ◌∙◌, arith}
 use Rattle.clru_model.specs.Requests.{holds, since}
 use Rattle.clru_model.proofs.Distinct.{since-cons}
 use Rattle.clru_curve.specs.PositionPasses.{IsLatestOf}

@@ -1,5 +1,5 @@
 -- Sums of sizes, by index and by number, and what one more size and one less keep of them and of the nodes.
-use Rattle.std.proofs.Common.{◌≡◌, ℕ, zero, suc, ◌+◌, ◌*◌, ◌/◌, ◌<◌, ◌≤◌, true, false, List, [], ◌∷◌, ◌++◌, length, set, take, inl, inr, refl, ap, ◌∙◌, subst, arith, length-set}
+use Rattle.std.proofs.Common.{◌≡◌, ℕ, zero, suc, ◌+◌, ◌*◌, ◌/◌, ◌<◌, ◌≤◌, true, false, cond, List, [], ◌∷◌, ◌++◌, length, set, take, inl, inr, refl, sym, ap, ◌∙◌, subst, arith, length-set}
 use Rattle.std.proofs.lemmas.Bool.{cases_lt}
 use Rattle.std.proofs.lemmas.Nat.{mod_below, div-add-mod'}
 use Rattle.std.proofs.lemmas.List.{length_push}
@@ -174,6 +174,45 @@ total_next low (s ∷ ss) high zero is inside =
 total_next low (s ∷ ss) high (suc i) is inside =
     let later = rising_at (suc s.number) ss high i is.1 (omega (arith, inside)) in
     omega (arith, up_by-gt s.value (suc (number_at ss i)) s.number (omega (arith, later)), total_next (suc s.number) ss high i is.1 (omega (arith, inside)))
+
+-- sizes of later requests all count
+live_after : (low : ℕ) (ss : List Numbered) (high t : ℕ) → IsRising low ss high → t ≤ low → live_from ss t ≡ live_from ss 0
+live_after low [] high t is le = refl
+live_after low (s ∷ ss) high t is le =
+    let here = ap (λ u. cond (has_value s) u 0) (up_by-le 1 t s.number (omega (arith, le, is.0))) in
+    omega (arith, here, live_after (suc s.number) ss high t is.1 (omega (arith, le, is.0)))
+
+-- where the sum falls, one size that is not 0 is passed
+pub live_falls : (low : ℕ) (ss : List Numbered) (high p : ℕ) → IsRising low ss high → total_from ss (suc p) < total_from ss p
+    → live_from ss p ≡ suc (live_from ss (suc p))
+live_falls low [] high p is less = omega (arith, less)
+live_falls low (s ∷ ss) high p is less = elim (cases_lt s.number p) [
+  | inl lt ↦ let next : s.number < suc p = omega (arith, lt) in
+      let rest = live_falls (suc s.number) ss high p is.1 (omega (arith, less, up_by-gt s.value p s.number lt, up_by-gt s.value (suc p) s.number next)) in
+      omega (arith, rest, ap (λ u. cond (has_value s) u 0) (up_by-gt 1 p s.number lt ∙ sym (up_by-gt 1 (suc p) s.number next)))
+  | inr ge ↦ elim (cases_lt p s.number) [
+    | inl gt ↦ let next : suc p ≤ s.number = omega (arith, gt) in
+        let rest = live_falls (suc s.number) ss high p is.1 (omega (arith, less, up_by-le s.value p s.number ge, up_by-le s.value (suc p) s.number next)) in
+        omega (arith, rest, ap (λ u. cond (has_value s) u 0) (up_by-le 1 p s.number ge ∙ sym (up_by-le 1 (suc p) s.number next)))
+    | inr le ↦ let past : s.number < suc p = omega (arith, le) in
+        let first : p ≤ suc s.number = omega (arith, ge) in let second : suc p ≤ suc s.number = omega (arith, ge) in
+        let some = some_value s (omega (
+          arith,
+          less,
+          up_by-gt s.value (suc p) s.number past,
+          up_by-le s.value p s.number ge,
+          total_after (suc s.number) ss high p is.1 first,
+          total_after (suc s.number) ss high (suc p) is.1 second,
+        )) in
+        rw some (omega (
+          arith,
+          up_by-le 1 p s.number ge,
+          up_by-gt 1 (suc p) s.number past,
+          live_after (suc s.number) ss high p is.1 first,
+          live_after (suc s.number) ss high (suc p) is.1 second,
+        ))
+  ]
+]
 
 -- a request of which the size is not 0
 pub record IsLive (ss : List Numbered) (p : ℕ) : Type 0 where

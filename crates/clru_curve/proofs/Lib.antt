@@ -28,6 +28,7 @@ pub mod SizedHits
 pub mod SizedIdleHits
 pub mod SizedIdlePassing
 pub mod SizedPassing
+pub mod SizedPositionPassing
 pub mod Timeless
 pub mod Totals
 pub mod UpTo

@@ -5,14 +5,14 @@ use Rattle.std.specs.Cmp.{IsEquivalence}
 use Rattle.std.specs.Map.{keys_of, lookup, set_value}
 use Rattle.clru_model.specs.Ages.{is_recent}
 use Rattle.clru_model.specs.Distances.{distance}
-use Rattle.clru_model.specs.Requests.{since}
+use Rattle.clru_model.specs.Requests.{holds, since}
 use Rattle.clru_model.proofs.Cases.{split}
 use Rattle.clru_model.proofs.Distinct.{since-cons}
 use Rattle.clru_curve.specs.declared.numbered.Numbered.{Numbered}
 use Rattle.clru_curve.specs.declared.seen.Seen.{Seen}
 use Rattle.clru_curve.specs.Latest.{ones_from}
 use Rattle.clru_curve.specs.PositionPasses.{IsLatestOf, IsPositionPass, counted}
-use Rattle.clru_curve.specs.Seen.{reuse_by, seen_at}
+use Rattle.clru_curve.specs.Seen.{positions_of, reuse_by, seen_at}
 use Rattle.clru_curve.specs.Tree.{up_to}
 use Rattle.clru_curve.proofs.IdlePassing.{IsIdlePass-again, IsIdlePass-new, IsIdlePass-none, IsIdlePass-same, absent_key, bit_there, distance_below, distance_some, moved_again, moved_new, number_few, recent_there, seen_known}
 use Rattle.clru_curve.proofs.IdleReuses.{reuse-new}
@@ -41,23 +41,33 @@ module _ {K : Type 0} (eq : K → K → Bool) where
     latest = is.latest;
   }
 
-module _ {K : Type 0} (eq : K → K → Bool) (laws : IsEquivalence eq) (idle : ℕ) (past : List (K × ℕ)) (bs : List Numbered) (n : ℕ)
-    (h : List ℕ) (x : K) (t : ℕ) (is : IsPositionPass eq idle past (counted bs n h)) where
-  -- after one more request of x, each key has a position that is that of its latest one
-  latest_more : (moved : List (K × Seen)) → ((y : K) → lookup (eq y) moved ≡ cond (eq x y) (Some (seen_at n t)) (lookup (eq y) is.seen))
+-- where each key was seen where its latest request is
+module _ {K : Type 0} (eq : K → K → Bool) (past : List (K × ℕ)) (seen : List (K × Seen))
+    (latest : (y : K) (s : Seen) → lookup (eq y) seen ≡ Some s → s.position + 1 + length (since eq y (keys_of past)) ≡ length past) (x : K) where
+  -- so it is after one more request of x
+  pub latest_more : IsEquivalence eq → (n t : ℕ) → n ≡ length past → (moved : List (K × Seen))
+      → ((y : K) → lookup (eq y) moved ≡ cond (eq x y) (Some (seen_at n t)) (lookup (eq y) seen))
       → (y : K) (s : Seen) → lookup (eq y) moved ≡ Some s
       → s.position + 1 + length (since eq y (x ∷ keys_of past)) ≡ length ((x, t) ∷ past)
-  latest_more moved are y s at = split (eq x y)
+  latest_more laws n t all moved are y s at = split (eq x y)
       (λ u. let back : eq y x ≡ true = laws.symm y x ∙ u in
       let here : Some (seen_at n t) ≡ Some s = rw (are y, u) at at in
       let none : length (since eq y (x ∷ keys_of past)) ≡ 0 = rw (since-cons eq y x (keys_of past), back) refl in
-      omega (arith, same_position (seen_at n t) s here, none, is.taken.requests))
+      omega (arith, same_position (seen_at n t) s here, none, all))
       (λ f. let back : eq y x ≡ false = laws.symm y x ∙ f in
-      let there : lookup (eq y) is.seen ≡ Some s = rw (are y, f) at at in
+      let there : lookup (eq y) seen ≡ Some s = rw (are y, f) at at in
       let more : length (since eq y (x ∷ keys_of past)) ≡ suc (length (since eq y (keys_of past))) =
       rw (since-cons eq y x (keys_of past), back) refl in
-      omega (arith, more, is.latest y s there))
+      omega (arith, more, latest y s there))
 
+  -- the position of the latest request of x is the one that is seen
+  pub seen_there : ((y : K) → is_some (lookup (eq y) (positions_of seen)) ≡ holds eq y (keys_of past))
+      → (p : ℕ) → IsLatestOf eq (keys_of past) x (Some p) → (s : Seen) × (lookup (eq x) seen ≡ Some s) × (s.position ≡ p)
+  seen_there known p is = some_seen (lookup (eq x) seen) p (length past) (length (since eq x (keys_of past)))
+      (seen_known eq (keys_of past) seen known x ∙ sym is.known) (latest x) (omega (arith, is.position, length-keys_of past))
+
+module _ {K : Type 0} (eq : K → K → Bool) (laws : IsEquivalence eq) (idle : ℕ) (past : List (K × ℕ)) (bs : List Numbered) (n : ℕ)
+    (h : List ℕ) (x : K) (t : ℕ) (is : IsPositionPass eq idle past (counted bs n h)) where
   -- one more request of a key that was not requested
   module _ (latest : IsLatestOf eq (keys_of past) x None) where
     pub none_reuse : None ≡ reuse_by eq (distance eq) idle (x, t) past
@@ -69,17 +79,13 @@ module _ {K : Type 0} (eq : K → K → Bool) (laws : IsEquivalence eq) (idle : 
       seen = (x, seen_at n t) ∷ is.seen;
       taken = IsIdlePass-new eq laws idle past is.seen bs n h idle x t is.taken cs
           (absent_key eq laws idle past is.seen bs n h idle x t is.taken (sym latest.known)) counts;
-      latest = latest_more ((x, seen_at n t) ∷ is.seen) (moved_new eq laws is.seen x (seen_at n t));
+      latest = latest_more eq past is.seen is.latest x laws n t is.taken.requests ((x, seen_at n t) ∷ is.seen) (moved_new eq laws is.seen x (seen_at n t));
     }
 
   -- and of one that was, at this position
   module _ (p : ℕ) (latest : IsLatestOf eq (keys_of past) x (Some p)) where
     there : (s : Seen) × (lookup (eq x) is.seen ≡ Some s) × (s.position ≡ p)
-    there = some_seen (lookup (eq x) is.seen) p (length past) (length (since eq x (keys_of past)))
-        (seen_known eq (keys_of past) is.seen is.taken.ranked.known x ∙ sym latest.known) (is.latest x) latest_at
-      where
-        latest_at : p + 1 + length (since eq x (keys_of past)) ≡ length past
-        latest_at = omega (arith, latest.position, length-keys_of past)
+    there = seen_there eq past is.seen is.latest x is.taken.ranked.known p latest
 
     pub was_latest : ones_from bs p ≡ suc (ones_from bs (suc p))
     was_latest = subst (λ q. ones_from bs q ≡ suc (ones_from bs (suc q))) there.2
@@ -112,5 +118,6 @@ module _ {K : Type 0} (eq : K → K → Bool) (laws : IsEquivalence eq) (idle : 
             seen = set_value (eq x) is.seen (seen_at n t);
             taken = IsIdlePass-again eq laws idle past is.seen bs n h idle x t is.taken there.0 there.1 d distance_at cs
                 (λ q. subst (λ r. ones_from cs q + up_to q r ≡ ones_from bs q + up_to q n) (sym there.2) (counts q));
-            latest = latest_more (set_value (eq x) is.seen (seen_at n t)) (moved_again eq laws is.seen x (seen_at n t) there.0 there.1);
+            latest = latest_more eq past is.seen is.latest x laws n t is.taken.requests (set_value (eq x) is.seen (seen_at n t))
+                (moved_again eq laws is.seen x (seen_at n t) there.0 there.1);
           })

@@ -83,7 +83,7 @@ module _ {K S : Type 0} {b : S} (eq : K → K → Bool) (laws : IsEquivalence eq
         span_there = omega (arith, is.ranked.latest x s.position (position_found eq seen x s found), is.ranked.rank x s.position (position_found eq seen x s found))
 
         -- the time is that of the latest request of the key
-        recent_there : is_recent eq (Some idle) (x, t) past ≡ nat_le (t - s.time) l
+        pub recent_there : is_recent eq (Some idle) (x, t) past ≡ nat_le (t - s.time) l
         recent_there =
             let time : lookup (eq x) past ≡ Some s.time = sym (is.times x) ∙ ap (option_map (λ (q : Seen). q.time)) found in
             rw (time, is.limit) refl

@@ -18,5 +18,6 @@ pub mod SizedAgedPasses
 pub mod SizedCurves
 pub mod SizedIdlePasses
 pub mod SizedPasses
+pub mod SizedPositionPasses
 pub mod Splits
 pub mod Tree

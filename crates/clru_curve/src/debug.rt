@@ -4,7 +4,7 @@ use crate::aged::AgedPass;
 use crate::curve::MissCurve;
 use crate::idle::IdlePass;
 use crate::pass::DistancePass;
-use crate::sized::{SizedAgedPass, SizedCurve, SizedIdlePass, SizedPass};
+use crate::sized::{SizedAgedPass, SizedCurve, SizedIdlePass, SizedPass, SizedPositionPass};
 use std::alloc::Allocator;
 use std::fmt;
 use std::hash::{BuildHasher, Hash};
@@ -45,6 +45,15 @@ impl<K: Eq + Hash, S: BuildHasher, A: Allocator + Copy> fmt::Debug for SizedIdle
             .field("size", &self.size)
             .field("distinct", &self.seen.len())
             .field("limit", &self.limit)
+            .finish()
+    }
+}
+
+impl<K: Eq, A: Allocator + Copy> fmt::Debug for SizedPositionPass<K, A> {
+    fn fmt<W: fmt::Write>(&self, f: &mut fmt::Formatter<W>) -> fmt::Result {
+        f.debug_struct("SizedPositionPass")
+            .field("requests", &self.latest.requests)
+            .field("size", &self.size)
             .finish()
     }
 }

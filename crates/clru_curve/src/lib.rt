@@ -42,7 +42,8 @@ pub use list::miss_curve;
 pub use pass::DistancePass;
 pub use position::PositionPass;
 pub use sized::{
-    SizedAgedPass, SizedCurve, SizedIdlePass, SizedPass, SizedRequestError, Step, sized_curve,
+    SizedAgedPass, SizedCurve, SizedIdlePass, SizedPass, SizedPositionPass, SizedRequestError,
+    Step, sized_curve,
 };
 pub use splits::{Class, Curve, law_split, split};
 pub use std::num::NonZeroUsize;

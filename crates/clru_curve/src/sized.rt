@@ -7,6 +7,7 @@ mod guide;
 mod idle;
 mod list;
 mod pass;
+mod position;
 mod sizes;
 mod step;
 
@@ -16,4 +17,5 @@ pub use error::SizedRequestError;
 pub use idle::SizedIdlePass;
 pub use list::sized_curve;
 pub use pass::SizedPass;
+pub use position::SizedPositionPass;
 pub use step::Step;

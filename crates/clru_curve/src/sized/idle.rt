@@ -356,7 +356,7 @@ impl<K: Eq + Hash, S: BuildHasher, A: Allocator + Copy> SizedIdlePass<K, S, A> {
 }
 
 /// Notes a request as a hit from its span on, and returns that, if the request came soon enough.
-fn hit_if<A: Allocator>(
+pub(crate) fn hit_if<A: Allocator>(
     hits: &mut Vec<Step, A>,
     soon: bool,
     span: usize,

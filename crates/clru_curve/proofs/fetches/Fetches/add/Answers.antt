@@ -1,4 +1,4 @@
-use Rattle.std.proofs.Common.{◌≡◌, ◌+◌, ◌++◌, ◌∷◌, [], length, replicate, ap, ◌∙◌, arith}
+use Rattle.std.proofs.Common.{◌≡◌, ◌+◌, ◌++◌, ◌∷◌, [], length, ap, ◌∙◌, arith}
 use Rattle.clru_curve.proofs.FetchBlocks.{AreBlocks-add, resized_by, times_add}
 use Rattle.clru_curve.proofs.fetches.Fetches.add.Goals as goal
 

@@ -1,4 +1,4 @@
-use Rattle.std.proofs.Common.{◌≡◌, ℕ, ◌+◌, ◌<◌, ◌≤◌, Bool, false, cond, nat_lt, length, get_or, set, refl, sym, ap, ◌∙◌, subst, arith}
+use Rattle.std.proofs.Common.{ℕ, ◌+◌, ◌<◌, Bool, cond, nat_lt, length, get_or, set, refl, sym, subst, arith}
 use Rattle.clru_curve.proofs.FetchBlocks.{read_at}
 use Rattle.clru_curve.proofs.FetchTables.{AreCounted-hits, AreCounted-more, none_less}
 use Rattle.clru_curve.specs.Fetches.{AreCounted}

@@ -1,4 +1,4 @@
-use Rattle.std.proofs.Common.{◌≡◌, ℕ, ◌+◌, ◌-◌, ◌*◌, ◌/◌, ◌<◌, ◌≤◌, ◌&&◌, true, false, cond, nat_le, nat_lt, List, length, get_or, refl, sym, ap, ◌∙◌, subst, arith}
+use Rattle.std.proofs.Common.{◌≡◌, ◌+◌, ◌-◌, ◌*◌, ◌/◌, ◌<◌, ◌&&◌, true, false, cond, nat_le, nat_lt, length, get_or, sym, ap, ◌∙◌, subst, arith}
 use Rattle.std.proofs.lemmas.Nat.{div_below}
 use Rattle.clru_curve.proofs.FetchBlocks.{AreBlocks-take, counted_all, hits_alike, read_at, times_take}
 use Rattle.clru_curve.proofs.FetchRows.{rows_length}

@@ -1,4 +1,4 @@
-use Rattle.std.proofs.Common.{◌≡◌, false, nat_lt, length, get_or, ap, subst, arith}
+use Rattle.std.proofs.Common.{false, nat_lt, length, get_or, ap, subst, arith}
 use Rattle.clru_curve.proofs.FetchTables.{AreCounted-alike, none_less}
 use Rattle.clru_curve.specs.Fetches.{AreCounted}
 use Rattle.clru_curve.proofs.fetches.Fetches.take_new.Goals as goal
