@@ -61,7 +61,7 @@ impl Head {
     }
 
     /// Reads what follows the name, in any order. A word `from_iter` is the last one: behind it stand the items. A block of
-    /// requests, or of an input, says nothing but its hash.
+    /// requests says nothing but its hash.
     pub fn read(words: &mut Words, name: &str) -> Head {
         let mut head = Head::empty();
         let asks = ["cache", "costs", "list", "store", "store_costs", "runs"].contains(&name);

@@ -15,7 +15,7 @@ pub struct Line {
 }
 
 /// What begins a block of lines.
-const SUBJECTS: [&str; 20] = [
+const SUBJECTS: [&str; 19] = [
     "cache",
     "costs",
     "list",
@@ -35,7 +35,6 @@ const SUBJECTS: [&str; 20] = [
     "foresight",
     "makers",
     "runs",
-    "input",
 ];
 
 impl Line {

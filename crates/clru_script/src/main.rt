@@ -1,5 +1,5 @@
 //! Makes the calls of a script, and writes it again, each call with what it answered. Those on caches are made in `clru_rows`,
-//! which is proved before what curves and reports need.
+//! which is proved before what curves need.
 #![tactic(auto)]
 
 mod aged;
@@ -8,7 +8,6 @@ mod foresight;
 mod list;
 mod misses;
 mod passes;
-mod report;
 mod requests;
 mod store;
 mod timed;
@@ -37,7 +36,6 @@ impl Blocks for Kinds {
             "aged_misses" => aged::run_misses(world, first, lines, answers),
             "aged_sizes" => aged::run_sizes(world, first, lines, answers),
             "foresight" => foresight::run(world, first, lines, answers),
-            "input" => report::run(world, first, lines, answers),
             "list" => list::run(world, lines, answers),
             "store" => store::run(world, lines, answers),
             "store_costs" => store::run_costs(world, lines, answers),

@@ -1,8 +1,10 @@
-//! Reports whose reader, writer or memory fails, each with its status.
+//! Reports whose reader, writer or memory fails, each with its status, and arguments that find no memory.
 
 use crate::tests::fakes::{Breaking, Filling, plain};
 use clru_report::{DefaultState, run};
-use clru_text::{Capacities, Fault, Form, Options, Sample, exit_status, write_report};
+use clru_text::{
+    Capacities, Fault, Form, Options, Refusal, Sample, command_of, exit_status, write_report,
+};
 use ration::{Rationed, equal};
 use std::alloc::{Allocator, Global};
 use std::io::ErrorKind;
@@ -161,6 +163,18 @@ fn each_refused_request_is_want_of_memory(rt: HostRuntime) {
             met = n;
         }
         equal!(rt; met > 0 && met < MOST - 1, true, input);
+    }
+}
+
+#[test]
+fn arguments_without_memory_are_not_called_wrong(rt: HostRuntime) {
+    // (a capacity that is kept, and a refusal that is written)
+    for word in ["--at=1", "--no"] {
+        let heap = Rationed::new(rt.alloc());
+        heap.refuse_after(0);
+        let is_memory = matches!(command_of(&heap, &[word]), Err(Refusal::Memory));
+        equal!(rt; is_memory, true, word);
+        equal!(rt; heap.blocks(), 0, word);
     }
 }
 

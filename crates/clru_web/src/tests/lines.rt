@@ -1,5 +1,5 @@
 //! How `clru_text` calls readers and writers, and the errors that only what is called shows. What it returns
-//! follows from clauses. Rows of `report` call `capacity_of` and `digits_of`.
+//! follows from clauses. Rows of `reports/report` call `capacity_of` and `digits_of`.
 
 use crate::tests::fakes::{Breaking, Filling, Piecewise};
 use clru_text::{LineBuffer, ReadError, keys_of, next_line, read_input, write_text};
