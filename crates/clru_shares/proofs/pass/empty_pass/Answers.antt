@@ -6,4 +6,4 @@ pub returns-then-sizes : goal.returns-then-sizes
 returns-then-sizes g c limit = rw c.if-sizes.true (record { past = []; shown = refl; taken = c.new.ensures weight_of_key limit })
 
 pub returns-else-sizes : goal.returns-else-sizes
-returns-else-sizes g c limit = rw c.if-sizes.false (record { past = []; shown = refl; taken = c.new-2.ensures limit })
+returns-else-sizes g c limit = rw c.if-sizes.false (record { past = []; shown = refl; taken = c.new-else-sizes.ensures limit })

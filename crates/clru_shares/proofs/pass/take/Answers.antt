@@ -28,8 +28,8 @@ returns-in-Ok g c sizes limit kept request taken sized is =
     (request_more (IsPositionPass same_line limit) kept c.in-OfKeys.pass of.1 request next
     (c.in-Ok.ensures.taken limit of.1.past request.0 request.1 of.1.taken latest soon))
 
-pub request-2-requires : goal.request-2-requires
-request-2-requires g c =
+pub request-requires-in-OfSizes : goal.request-requires-in-OfSizes
+request-requires-in-OfSizes g c =
     let sizes = c.requires.0 in let limit = c.requires.1 in let kept = c.requires.2 in let request = c.requires.3 in let asked = c.args.asked in
     let of = by_size limit kept sizes c.args.pass.now c.in-OfSizes.pass c.in-OfSizes.is c.requires.4 in
     let weight : weight_of_key request.0 ≡ asked.size - 1 = omega (arith, c.requires.5, ap (λ s. own_size s (line_of request.0)) of.0) in
@@ -39,7 +39,7 @@ request-2-requires g c =
 
 pub returns-in-Ok-request : goal.returns-in-Ok-request
 returns-in-Ok-request g c sizes limit kept request taken sized is =
-    let asked = c.args.asked in let next = c.request-2.new.self in
+    let asked = c.args.asked in let next = c.request-in-OfSizes.new.self in
     let of = by_size limit kept sizes c.args.pass.now c.in-OfSizes.pass c.in-OfSizes.is taken in
     let weight : weight_of_key request.0 ≡ asked.size - 1 = omega (arith, sized, ap (λ s. own_size s (line_of request.0)) of.0) in
     let latest = latest_shown limit kept of.1.past request asked of.1.shown is in
