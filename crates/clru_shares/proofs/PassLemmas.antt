@@ -7,12 +7,13 @@ use Rattle.std.proofs.lemmas.List.Sums.{sum_by-append, sum_by-cons}
 use Rattle.clru_curve.specs.IdlePasses.{HasIdleMissesOf}
 use Rattle.clru_curve.specs.PositionPasses.{Counted, IsPositionPass}
 use Rattle.clru_curve.specs.SizedCurves.{CurveBySize}
-use Rattle.clru_curve.specs.SizedIdlePasses.{IsSizedIdleCurveOf, IsSizedIdlePass, TimedPassBySize}
+use Rattle.clru_curve.specs.SizedIdlePasses.{IsSizedIdleCurveOf}
+use Rattle.clru_curve.specs.SizedPositionPasses.{CountedBySize, IsSizedPositionPass}
 use Rattle.clru_curve.proofs.SizedIdleViews.{idle_curve-view}
 use Rattle.clru_curve.proofs.TimedViews.{idle_misses-view}
 use Rattle.clru_model.specs.Sizes.{SameWeights}
 use Rattle.clru_text.specs.Keys.{line_of, same_line}
-use Rattle.clru_text.specs.TakenRequests.{HasTakenRequest, HasTakenRequests, shown_of}
+use Rattle.clru_text.specs.TakenRequests.{HasTakenRequests, shown_of}
 use Rattle.clru_text.specs.declared.lines.OwnedKey.{OwnedKey}
 use Rattle.clru_text.proofs.ByteLemmas.{same_bytes}
 use Rattle.clru_shares.specs.LinePasses.{HasTakenBy, weight_of_key}
@@ -26,15 +27,13 @@ keys_weigh x y t = ap weight_behind (same_bytes (line_of x) (line_of y) t)
 
 -- one more request of a key is one more of its line
 pub request_more : {A P : Type 0} (Is : List (OwnedKey A × ℕ) → P → Type 0) (requests : List (List ℕ × ℕ)) (pass : P)
-    (taken : HasTakenRequests Is requests pass) (line : List ℕ) (time : ℕ) (next : P) → HasTakenRequest Is taken.past line time next
-    → HasTakenRequests Is (requests ++ (line, time) ∷ []) next
-request_more Is requests pass taken line time next one = record {
-  past = (one.key, time) ∷ taken.past;
-  shown = ap (map shown_of) (reverse_onto taken.past (one.key, time) [])
-      ∙ map-append shown_of (reverse taken.past) ((one.key, time) ∷ [])
-      ∙ ap (λ rs. rs ++ (line_of one.key, time) ∷ []) taken.shown
-      ∙ ap (λ l. requests ++ (l, time) ∷ []) one.is;
-  taken = one.taken;
+    (taken : HasTakenRequests Is requests pass) (request : OwnedKey A × ℕ) (next : P) → Is (request ∷ taken.past) next
+    → HasTakenRequests Is (requests ++ shown_of request ∷ []) next
+request_more Is requests pass taken request next one = record {
+  past = request ∷ taken.past;
+  shown = ap (map shown_of) (reverse_onto taken.past request []) ∙ map-append shown_of (reverse taken.past) (request ∷ [])
+      ∙ ap (λ rs. rs ++ shown_of request ∷ []) taken.shown;
+  taken = one;
 }
 
 module _ {A : Type 0} (limit : ℕ) (requests : List (List ℕ × ℕ)) (pass : Counted)
@@ -46,10 +45,10 @@ module _ {A : Type 0} (limit : ℕ) (requests : List (List ℕ × ℕ)) (pass : 
       subst (λ rs. HasIdleMissesOf bytes_eq limit rs curve) taken.shown
       (λ k some. made taken.past taken.taken k some ∙ sym (idle_misses-view bytes_eq line_of k limit (reverse taken.past)))
 
-module _ {A S : Type 0} (limit : ℕ) (requests : List (List ℕ × ℕ)) (pass : TimedPassBySize (OwnedKey A) S)
-    (taken : HasTakenRequests (IsSizedIdlePass same_line weight_of_key limit) requests pass) where
+module _ {A : Type 0} (limit : ℕ) (requests : List (List ℕ × ℕ)) (pass : CountedBySize)
+    (taken : HasTakenRequests {A = A} (IsSizedPositionPass same_line weight_of_key limit) requests pass) where
   pub sizes_curve : (curve : CurveBySize)
-      → ((past : List (OwnedKey A × ℕ)) → IsSizedIdlePass same_line weight_of_key limit past pass
+      → ((past : List (OwnedKey A × ℕ)) → IsSizedPositionPass same_line weight_of_key limit past pass
       → IsSizedIdleCurveOf same_line weight_of_key limit (reverse past) curve)
       → IsSizedIdleCurveOf bytes_eq weight_behind limit requests curve
   sizes_curve curve made =
@@ -57,15 +56,14 @@ module _ {A S : Type 0} (limit : ℕ) (requests : List (List ℕ × ℕ)) (pass 
       (idle_curve-view bytes_eq weight_behind line_of limit (reverse taken.past) curve (made taken.past taken.taken))
 
 -- a pass is one by keys or by size
-module _ {S A H : Type 0} (limit : ℕ) (requests : List (List ℕ × ℕ)) where
-  pub by_keys : (sizes : Bool) (all : LinePass S A H) (pass : Counted) → all ≡ OfKeys pass → HasTakenBy sizes limit requests all
+module _ {A : Type 0} (limit : ℕ) (requests : List (List ℕ × ℕ)) where
+  pub by_keys : (sizes : Bool) (all : LinePass A) (pass : Counted) → all ≡ OfKeys pass → HasTakenBy sizes limit requests all
       → (sizes ≡ false) × HasTakenRequests {A = A} (IsPositionPass same_line limit) requests pass
   by_keys false all pass is taken = (refl, subst (HasTakenBy false limit requests) is taken)
   by_keys true all pass is taken = absurd (subst (HasTakenBy true limit requests) is taken)
 
-  pub by_size : (sizes : Bool) (all : LinePass S A H) (pass : TimedPassBySize (OwnedKey A) S) → all ≡ OfSizes pass
-      → HasTakenBy sizes limit requests all
-      → (sizes ≡ true) × HasTakenRequests (IsSizedIdlePass same_line weight_of_key limit) requests pass
+  pub by_size : (sizes : Bool) (all : LinePass A) (pass : CountedBySize) → all ≡ OfSizes pass → HasTakenBy sizes limit requests all
+      → (sizes ≡ true) × HasTakenRequests {A = A} (IsSizedPositionPass same_line weight_of_key limit) requests pass
   by_size true all pass is taken = (refl, subst (HasTakenBy true limit requests) is taken)
   by_size false all pass is taken = absurd (subst (HasTakenBy false limit requests) is taken)
 

@@ -20,7 +20,7 @@ use Rattle.clru_text.specs.declared.lines.OwnedKey.{OwnedKey}
 use Rattle.clru_text.proofs.ByteLemmas.{bytes_laws, same_bytes}
 use Rattle.clru_shares.proofs.ClassLemmas.{none_asked, one_asked}
 use Rattle.clru_shares.specs.Classes.{class_in, of_class}
-use Rattle.clru_shares.specs.Places.{AreLatest, AreLatestBy, IsAskedOf, IsLatestAt, IsNoted, IsNotedBy, all_of, own_of, soon_of, time_of}
+use Rattle.clru_shares.specs.Places.{AreLatest, IsAskedOf, IsLatestAt, IsNoted, all_of, own_of, soon_of, time_of}
 use Rattle.clru_shares.specs.declared.latest.Places.{Places}
 use Rattle.clru_shares.specs.declared.pass.Asked.{Asked}
 
@@ -39,17 +39,18 @@ latest_view past key (Some p) is = record {
   );
 }
 
--- what is asked of requests of lines is asked of those of their keys
-pub asked_shown : {A : Type 0} (limit : ℕ) (requests : List (List ℕ × ℕ)) (past : List (OwnedKey A × ℕ)) (key : OwnedKey A) (asked : Asked)
-    → map shown_of (reverse past) ≡ requests → IsAskedOf false limit requests (line_of key) asked
-    → IsLatestOf same_line (keys_of past) key asked.latest × (asked.soon ≡ is_recent same_line (Some limit) (key, asked.time) past)
-asked_shown limit requests past key asked shown is =
-    let behind : reverse requests ≡ map shown_of past = ap reverse (sym shown ∙ map-reverse shown_of past) ∙ reverse-reverse (map shown_of past) in (
-      latest_view (keys_of past) key asked.latest
-          (subst (λ ls. IsLatestOf bytes_eq ls (line_of key) asked.latest) (ap keys_of behind ∙ keys-view bytes_eq line_of past) is.0),
-      is.1 ∙ ap (is_recent bytes_eq (Some limit) (line_of key, asked.time)) behind
-          ∙ recent-view bytes_eq line_of (Some limit) (key, asked.time) past,
-    )
+-- what is told of requests of lines is told of those of their keys
+module _ {A : Type 0} (limit : ℕ) (requests : List (List ℕ × ℕ)) (past : List (OwnedKey A × ℕ)) (request : OwnedKey A × ℕ) (asked : Asked)
+    (shown : map shown_of (reverse past) ≡ requests) (is : IsAskedOf limit requests (shown_of request) asked) where
+  behind : reverse requests ≡ map shown_of past
+  behind = ap reverse (sym shown ∙ map-reverse shown_of past) ∙ reverse-reverse (map shown_of past)
+
+  pub latest_shown : IsLatestOf same_line (keys_of past) request.0 asked.latest
+  latest_shown = latest_view (keys_of past) request.0 asked.latest
+      (subst (λ ls. IsLatestOf bytes_eq ls (line_of request.0) asked.latest) (ap keys_of behind ∙ keys-view bytes_eq line_of past) is.latest)
+
+  pub soon_shown : asked.soon ≡ is_recent same_line (Some limit) request past
+  soon_shown = is.soon ∙ ap (is_recent bytes_eq (Some limit) (shown_of request)) behind ∙ recent-view bytes_eq line_of (Some limit) request past
 
 -- with one more request behind
 module _ (requests : List (List ℕ × ℕ)) (r : List ℕ × ℕ) where
@@ -103,37 +104,26 @@ module _ (requests : List (List ℕ × ℕ)) (line : List ℕ) where
   }
 
 -- before the first line none is noted
-pub none_noted : (sizes : Bool) (noted : List (List ℕ × Places)) → noted ≡ [] → IsNotedBy sizes [] noted
-none_noted true noted empty = tt
-none_noted false noted empty =
-    record {
-      each = λ line. subst (λ es. AreLatest [] line (lookup (bytes_eq line) es)) (sym empty) (record {
-        all = record { position = record { known = refl; position = tt }; timed = refl };
-        own = record { position = record { known = refl; position = tt }; timed = refl };
-      });
-    }
+pub none_noted : (noted : List (List ℕ × Places)) → noted ≡ [] → IsNoted [] noted
+none_noted noted empty = record {
+  each = λ line. subst (λ es. AreLatest [] line (lookup (bytes_eq line) es)) (sym empty) (record {
+    all = record { position = record { known = refl; position = tt }; timed = refl };
+    own = record { position = record { known = refl; position = tt }; timed = refl };
+  });
+}
 
 -- what the noted places say of one more request
-module _ (sizes : Bool) (limit : ℕ) (requests : List (List ℕ × ℕ)) (line : List ℕ) (places : Option Places) (asked : Asked)
-    (soon : asked.soon ≡ soon_of limit asked.time places) where
-  late_at : (rs : List (List ℕ × ℕ)) → time_of places ≡ lookup (bytes_eq line) (reverse rs)
-      → asked.soon ≡ is_recent bytes_eq (Some limit) (line, asked.time) (reverse rs)
-  late_at rs at = soon ∙ ap (λ o. option_map_or (λ before. nat_le (asked.time - before) limit) o false) at
+module _ (limit : ℕ) (requests : List (List ℕ × ℕ)) (request : List ℕ × ℕ) (places : Option Places) (asked : Asked)
+    (soon : asked.soon ≡ soon_of limit request.1 places) (are : AreLatest requests request.0 places) where
+  asked_at : (rs : List (List ℕ × ℕ)) (latest : Option ℕ) → IsLatestAt rs request.0 latest (time_of places) → asked.latest ≡ latest
+      → IsAskedOf limit rs request asked
+  asked_at rs latest is at = record {
+    latest = subst (IsLatestOf bytes_eq (keys_of (reverse rs)) request.0) (sym at) is.position;
+    soon = soon ∙ ap (λ o. option_map_or (λ before. nat_le (request.1 - before) limit) o false) is.timed;
+  }
 
-  pub asked_all : AreLatestBy sizes requests line places → asked.latest ≡ all_of places → IsAskedOf sizes limit requests line asked
-  asked_all are at = by sizes are
-    where
-      by : (s : Bool) → AreLatestBy s requests line places → IsAskedOf s limit requests line asked
-      by true is = tt
-      by false is = (subst (IsLatestOf bytes_eq (keys_of (reverse requests)) line) (sym at) is.all.position, late_at requests is.all.timed)
+  pub asked_all : asked.latest ≡ all_of places → IsAskedOf limit requests request asked
+  asked_all at = asked_at requests (all_of places) are.all at
 
-  pub asked_own : AreLatestBy sizes requests line places → asked.latest ≡ own_of places
-      → IsAskedOf sizes limit (of_class (class_in line) requests) line asked
-  asked_own are at = by sizes are
-    where
-      own : List (List ℕ × ℕ)
-      own = of_class (class_in line) requests
-
-      by : (s : Bool) → AreLatestBy s requests line places → IsAskedOf s limit own line asked
-      by true is = tt
-      by false is = (subst (IsLatestOf bytes_eq (keys_of (reverse own)) line) (sym at) is.own.position, late_at own is.own.timed)
+  pub asked_own : asked.latest ≡ own_of places → IsAskedOf limit (of_class (class_in request.0) requests) request asked
+  asked_own at = asked_at (of_class (class_in request.0) requests) (own_of places) are.own at

@@ -104,7 +104,7 @@ no_room_in sizes idle sample budget size lines names name timed faultless classe
 }
 
 -- the shares of passes that took these lines
-pub shares_taken : {S A H : Type 0} (sizes : Bool) (idle sample : Option ℕ) (lines : List (List ℕ)) (passes : Passes S A H) (classes : List (Class S A H))
+pub shares_taken : {S A H : Type 0} (sizes : Bool) (idle sample : Option ℕ) (lines : List (List ℕ)) (passes : Passes S A H) (classes : List (Class A))
     (shares : List (Share A)) → HasTakenLines sizes idle sample lines passes → classes ≡ passes.classes.items
     → ((s : Bool) (i : Option ℕ) (requests : List (List ℕ × ℕ)) → AreTimeless i requests
     → HaveTaken s (limit_of i) (keys_of requests) (kept_in sample requests) classes → HaveShares s i sample requests (map name_of classes) shares)

@@ -19,16 +19,16 @@ absurd_any : (names : List (List ℕ)) (name : List ℕ) (at : ℕ) → at < len
     → list_any (bytes_eq name) names ≡ false → {P : Type 0} → P
 absurd_any names name at low is none {P} = let has = is_any names name at low is in absurd (cc)
 
-map_insert : {S A H : Type 0} (classes : List (Class S A H)) (at : ℕ) (class : Class S A H)
+map_insert : {A : Type 0} (classes : List (Class A)) (at : ℕ) (class : Class A)
     → map name_of (insert classes at class) ≡ insert (map name_of classes) at (name_of class)
 map_insert [] zero class = refl
 map_insert [] (suc at) class = refl
 map_insert (c ∷ cs) zero class = refl
 map_insert (c ∷ cs) (suc at) class = ap (λ ns. name_of c ∷ ns) (map_insert cs at class)
 
-module _ {S A H : Type 0} (sizes : Bool) (limit : ℕ) (lines : List (List ℕ)) (kept : List (List ℕ × ℕ)) (b : Bool) (line : List ℕ) (time : ℕ) where
+module _ {A : Type 0} (sizes : Bool) (limit : ℕ) (lines : List (List ℕ)) (kept : List (List ℕ × ℕ)) (b : Bool) (line : List ℕ) (time : ℕ) where
   -- a line of another class changes nothing
-  pub taken_other : (class : Class S A H) → bytes_eq (name_of class) (class_in line) ≡ false → HasTaken sizes limit lines kept class
+  pub taken_other : (class : Class A) → bytes_eq (name_of class) (class_in line) ≡ false → HasTaken sizes limit lines kept class
       → HasTaken sizes limit (lines ++ line ∷ []) (next_kept b kept (line, time)) class
   taken_other class other is =
       let same = sym (none_more (name_of class) lines line other) in let behind = sym (none_next b (name_of class) kept (line, time) other) in
@@ -40,7 +40,7 @@ module _ {S A H : Type 0} (sizes : Bool) (limit : ℕ) (lines : List (List ℕ))
         summed = is.summed ∙ ap (size_in sizes) same;
       }
 
-  module _ (classes : List (Class S A H)) (is : HaveTaken sizes limit lines kept classes) (at : ℕ) (class : Class S A H)
+  module _ (classes : List (Class A)) (is : HaveTaken sizes limit lines kept classes) (at : ℕ) (class : Class A)
       (own : name_of class ≡ class_in line) (taken : HasTaken sizes limit (lines ++ line ∷ []) (next_kept b kept (line, time)) class) (some : 0 < class.requests) where
     other_at : (k : ℕ) → k < length classes → bytes_eq (get_or (map name_of classes) k []) (class_in line) ≡ false
         → HasTaken sizes limit (lines ++ line ∷ []) (next_kept b kept (line, time)) (get_or classes k class)
@@ -96,14 +96,14 @@ module _ {S A H : Type 0} (sizes : Bool) (limit : ℕ) (lines : List (List ℕ))
         }
 
 -- a class that belongs at a place has no line so far
-pub new_class : {S A H : Type 0} (sizes : Bool) (limit : ℕ) (lines : List (List ℕ)) (kept : List (List ℕ × ℕ)) (classes : List (Class S A H)) (name : List ℕ) (at : ℕ)
+pub new_class : {A : Type 0} (sizes : Bool) (limit : ℕ) (lines : List (List ℕ)) (kept : List (List ℕ × ℕ)) (classes : List (Class A)) (name : List ℕ) (at : ℕ)
     → HaveTaken sizes limit lines kept classes
     → BelongsAt (map name_of classes) name at → (requests_of name lines ≡ []) × (of_class name kept ≡ [])
 new_class sizes limit lines kept classes name at is belongs =
     is.no_other name (not_any (map name_of classes) name (missing_each (map name_of classes) name at belongs))
 
 -- the lines of a class that is held are numbered
-pub lines_held : {S A H : Type 0} (sizes : Bool) (limit : ℕ) (lines : List (List ℕ)) (kept : List (List ℕ × ℕ)) (classes : List (Class S A H)) (name : List ℕ) (at : ℕ) (class : Class S A H)
+pub lines_held : {A : Type 0} (sizes : Bool) (limit : ℕ) (lines : List (List ℕ)) (kept : List (List ℕ × ℕ)) (classes : List (Class A)) (name : List ℕ) (at : ℕ) (class : Class A)
     → HaveTaken sizes limit lines kept classes → IsHeldAt (map name_of classes) name at → get_or classes at class ≡ class
     → class.kept ≡ length (of_class name kept)
 lines_held sizes limit lines kept classes name at class is held same =
@@ -112,7 +112,7 @@ lines_held sizes limit lines kept classes name at class is held same =
     (subst (HasTaken sizes limit lines kept) same (is.each at class low)).numbered ∙ ap (λ n. length (of_class n kept)) named
 
 -- without a line there is no class
-pub none_taken : {S A H : Type 0} (sizes : Bool) (limit : ℕ) (classes : List (Class S A H)) → classes ≡ [] → HaveTaken sizes limit [] [] classes
+pub none_taken : {A : Type 0} (sizes : Bool) (limit : ℕ) (classes : List (Class A)) → classes ≡ [] → HaveTaken sizes limit [] [] classes
 none_taken sizes limit classes empty = subst (HaveTaken sizes limit [] []) (sym empty) (record {
   ascending = λ i j lt low. absurd (omega (arith, low));
   each = All-nil (HasTaken sizes limit [] []);
@@ -120,7 +120,7 @@ none_taken sizes limit classes empty = subst (HaveTaken sizes limit [] []) (sym 
   no_other = λ name none. (refl, refl);
 })
 
-requested : {S A H : Type 0} (sizes : Bool) (limit : ℕ) (lines : List (List ℕ)) (kept : List (List ℕ × ℕ)) (classes : List (Class S A H)) → All (HasTaken sizes limit lines kept) classes
+requested : {A : Type 0} (sizes : Bool) (limit : ℕ) (lines : List (List ℕ)) (kept : List (List ℕ × ℕ)) (classes : List (Class A)) → All (HasTaken sizes limit lines kept) classes
     → All (λ c. 0 < c.requests) classes → (k : ℕ) → k < length (map name_of classes) → 0 < length (requests_of (get_or (map name_of classes) k []) lines)
 requested sizes limit lines kept [] each some k low = absurd (omega (arith, low))
 requested sizes limit lines kept (c ∷ cs) each some k low =
@@ -129,7 +129,7 @@ requested sizes limit lines kept (c ∷ cs) each some k low =
     (omega (arith, (each k c there).counted, some k c there))
 
 -- their names are the classes of the lines
-pub names_are : {S A H : Type 0} (sizes : Bool) (limit : ℕ) (lines : List (List ℕ)) (kept : List (List ℕ × ℕ)) (classes : List (Class S A H)) → HaveTaken sizes limit lines kept classes
+pub names_are : {A : Type 0} (sizes : Bool) (limit : ℕ) (lines : List (List ℕ)) (kept : List (List ℕ × ℕ)) (classes : List (Class A)) → HaveTaken sizes limit lines kept classes
     → AreClasses lines (map name_of classes)
 names_are sizes limit lines kept classes is = record {
   ascending = is.ascending;
@@ -138,6 +138,6 @@ names_are sizes limit lines kept classes is = record {
 }
 
 -- one that belongs at a place is none of them
-pub is_other : {S A H : Type 0} (classes : List (Class S A H)) (name : List ℕ) (at : ℕ) → BelongsAt (map name_of classes) name at
+pub is_other : {A : Type 0} (classes : List (Class A)) (name : List ℕ) (at : ℕ) → BelongsAt (map name_of classes) name at
     → list_any (bytes_eq name) (map name_of classes) ≡ false
 is_other classes name at belongs = not_any (map name_of classes) name (missing_each (map name_of classes) name at belongs)

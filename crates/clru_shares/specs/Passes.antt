@@ -5,7 +5,7 @@ use Rattle.std.specs.Map.{keys_of}
 use Rattle.clru_shares.specs.Classes.{AreAscending, IsBefore, has_class, most_classes, of_class, requests_of}
 use Rattle.clru_shares.specs.Forms.{Part}
 use Rattle.clru_shares.specs.LinePasses.{HasTakenBy, IsCurveBy}
-use Rattle.clru_shares.specs.Places.{IsNotedBy}
+use Rattle.clru_shares.specs.Places.{IsNoted}
 use Rattle.clru_shares.specs.Sampled.{kept_in, told_of, told_pair}
 use Rattle.clru_shares.specs.ShareCurves.{missed_pair, sample_of}
 use Rattle.clru_shares.specs.Shares.{part_with}
@@ -42,12 +42,12 @@ abbrev pub IsPlaceOf : List (List ℕ) → List ℕ → Result ℕ ℕ → Type 
 IsPlaceOf names name (Ok at) = IsHeldAt names name at
 IsPlaceOf names name (Err at) = BelongsAt names name at
 
-module _ {S A H : Type 0} where
-  abbrev pub name_of : Class S A H → List ℕ
+module _ {A : Type 0} where
+  abbrev pub name_of : Class A → List ℕ
   name_of class = class.name.items
 
   -- the pass of the class took those of its requests that are kept under the limit, by size or by keys, and all lines are counted
-  pub record HasTaken (sizes : Bool) (limit : ℕ) (lines : List (List ℕ)) (kept : List (List ℕ × ℕ)) (class : Class S A H) : Type 0 where
+  pub record HasTaken (sizes : Bool) (limit : ℕ) (lines : List (List ℕ)) (kept : List (List ℕ × ℕ)) (class : Class A) : Type 0 where
     pub taken : HasTakenBy sizes limit (of_class (name_of class) kept) class.pass
     pub numbered : class.kept ≡ length (of_class (name_of class) kept)
     pub fewer : class.kept ≤ class.requests
@@ -55,13 +55,14 @@ module _ {S A H : Type 0} where
     pub summed : class.size ≡ size_in sizes (requests_of (name_of class) lines)
 
   -- each class took its lines, and no other class has any
-  pub record HaveTaken (sizes : Bool) (limit : ℕ) (lines : List (List ℕ)) (kept : List (List ℕ × ℕ)) (classes : List (Class S A H)) : Type 0 where
+  pub record HaveTaken (sizes : Bool) (limit : ℕ) (lines : List (List ℕ)) (kept : List (List ℕ × ℕ)) (classes : List (Class A)) : Type 0 where
     pub ascending : AreAscending (map name_of classes)
     pub each : All (HasTaken sizes limit lines kept) classes
     pub some : All (λ class. 0 < class.requests) classes
     pub no_other : (name : List ℕ) → list_any (bytes_eq name) (map name_of classes) ≡ false
         → (requests_of name lines ≡ []) × (of_class name kept ≡ [])
 
+module _ {S A H : Type 0} where
   -- the passes took those of these lines that are kept, each with its time. Each line begins with a class, and by size then with a size
   pub record HasTakenAll (sizes : Bool) (limit : ℕ) (lines : List (List ℕ)) (kept : List (List ℕ × ℕ)) (passes : Passes S A H) : Type 0 where
     pub classed : All (λ line. has_class line ≡ true) lines
@@ -69,14 +70,13 @@ module _ {S A H : Type 0} where
     pub classes : HaveTaken sizes limit lines kept passes.classes.items
     pub few : length passes.classes.items ≤ most_classes
     pub all : HasTakenBy sizes limit kept passes.all
-    pub latest : IsNotedBy sizes kept passes.latest
+    pub latest : IsNoted kept passes.latest
     pub numbered : passes.kept ≡ length kept
     pub fewer : passes.kept ≤ passes.requests
     pub counted : passes.requests ≡ length lines
     pub summed : passes.size ≡ size_in sizes lines
     pub fit : passes.size < 2 ^ 64
 
-module _ {S A H : Type 0} where
   -- the passes took these lines, under the idle limit if there is one, or those of a sample
   pub record HasTakenLines (sizes : Bool) (idle sample : Option ℕ) (lines : List (List ℕ)) (passes : Passes S A H) : Type 0 where
     pub timed : AreTimed idle lines

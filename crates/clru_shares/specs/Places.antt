@@ -1,5 +1,5 @@
 -- Where and when the latest request of each line was. No public clause cites it.
-use Rattle.std.specs.Prelude.{◌≡◌, ◌-◌, ℕ, nat_le, Bool, true, false, List, Option, Some, reverse, bytes_eq, ⊤}
+use Rattle.std.specs.Prelude.{◌≡◌, ◌-◌, ℕ, nat_le, Bool, false, List, Option, Some, reverse, bytes_eq}
 use Rattle.std.specs.Map.{keys_of, lookup}
 use Rattle.std.specs.Option.{option_map, option_map_or}
 use Rattle.clru_curve.specs.PositionPasses.{IsLatestOf}
@@ -31,22 +31,11 @@ pub record AreLatest (requests : List (List ℕ × ℕ)) (line : List ℕ) (plac
   pub all : IsLatestAt requests line (all_of places) (time_of places)
   pub own : IsLatestAt (of_class (class_in line) requests) line (own_of places) (time_of places)
 
--- by keys. By size passes know that themselves
-abbrev pub AreLatestBy : Bool → List (List ℕ × ℕ) → List ℕ → Option Places → Type 0
-AreLatestBy false requests line places = AreLatest requests line places
-AreLatestBy true requests line places = ⊤
-
--- what a request of the line asks of a pass by keys that took these: where the latest one was, and whether it came soon enough
-abbrev pub IsAskedOf : Bool → ℕ → List (List ℕ × ℕ) → List ℕ → Asked → Type 0
-IsAskedOf false limit requests line asked = IsLatestOf bytes_eq (keys_of (reverse requests)) line asked.latest
-    × (asked.soon ≡ is_recent bytes_eq (Some limit) (line, asked.time) (reverse requests))
-IsAskedOf true limit requests line asked = ⊤
+-- what a request tells a pass that took these: where the latest one of its line was, and whether that came within the limit
+pub record IsAskedOf (limit : ℕ) (requests : List (List ℕ × ℕ)) (request : List ℕ × ℕ) (asked : Asked) : Type 0 where
+  pub latest : IsLatestOf bytes_eq (keys_of (reverse requests)) request.0 asked.latest
+  pub soon : asked.soon ≡ is_recent bytes_eq (Some limit) request (reverse requests)
 
 -- they are noted of each line
 pub record IsNoted (requests : List (List ℕ × ℕ)) (noted : List (List ℕ × Places)) : Type 0 where
   pub each : (line : List ℕ) → AreLatest requests line (lookup (bytes_eq line) noted)
-
--- by keys
-abbrev pub IsNotedBy : Bool → List (List ℕ × ℕ) → List (List ℕ × Places) → Type 0
-IsNotedBy false requests noted = IsNoted requests noted
-IsNotedBy true requests noted = ⊤

@@ -1,6 +1,8 @@
 //! A pass for each class.
 ghost use Rattle.std.specs.Prelude.{◌≡◌, ◌≤◌, ℕ, Bool, List, [], ◌∷◌, ◌++◌, length, map, ◌<◌, true, false, IfErr, IfOk, OnOk};
 ghost use Rattle.clru_text.specs.Keys.{line_of};
+ghost use Rattle.clru_text.specs.TakenRequests.{shown_of};
+ghost use Rattle.clru_text.specs.declared.lines.OwnedKey.{OwnedKey};
 ghost use Rattle.clru_shares.specs.Classes.{AreAscending, class_in, most_classes, of_class, requests_of};
 ghost use Rattle.clru_shares.specs.Passes.{BelongsAt, HasTaken, HaveTaken, IsHeldAt, IsPlaceOf, name_of, next_kept};
 ghost use Rattle.clru_shares.specs.Places.{IsAskedOf};
@@ -8,27 +10,25 @@ ghost use Rattle.clru_shares.specs.Sizes.{own_size};
 
 use crate::pass::{Asked, LinePass, empty_pass, take_kept};
 use crate::sampled::next_number;
-use clru_text::OwnedKey;
 use std::alloc::{AllocError, Allocator};
 use std::cmp::Ordering;
-use std::hash::BuildHasher;
 
 /// More classes than these are refused.
 pub(crate) const MOST_CLASSES: usize = 256;
 
 /// A class: the pass over those of its lines that are kept, how many these are, how many there are in all, and by size the size of all.
 #[derive(Drop)]
-pub(crate) struct Class<S: BuildHasher + Copy, A: Allocator + Copy> {
+pub(crate) struct Class<A: Allocator + Copy> {
     pub(crate) name: Vec<u8, A>,
     pub(crate) requests: usize,
     pub(crate) size: usize,
     pub(crate) kept: usize,
-    pub(crate) pass: LinePass<S, A>,
+    pub(crate) pass: LinePass<A>,
 }
 
 /// Returns where the class is among the others, or else where it belongs.
-pub(crate) fn place_of<S: BuildHasher + Copy, A: Allocator + Copy>(
-    classes: &[Class<S, A>],
+pub(crate) fn place_of<A: Allocator + Copy>(
+    classes: &[Class<A>],
     name: &[u8],
 ) -> Result<usize, usize>
     requires { AreAscending (map name_of classes.now) }
@@ -46,8 +46,8 @@ pub(crate) fn place_of<S: BuildHasher + Copy, A: Allocator + Copy>(
 }
 
 /// Returns how many lines of the class were kept, from where it is or belongs.
-pub(crate) fn kept_at<S: BuildHasher + Copy, A: Allocator + Copy>(
-    classes: &[Class<S, A>],
+pub(crate) fn kept_at<A: Allocator + Copy>(
+    classes: &[Class<A>],
     place: Result<usize, usize>,
 ) -> usize
     requires { IfOk place (λ at. at < length classes.now) }
@@ -61,29 +61,27 @@ pub(crate) fn kept_at<S: BuildHasher + Copy, A: Allocator + Copy>(
     }
 }
 
-/// Counts one more line of a class, which is or belongs at this place, and takes it if it is kept. Returns whether there
+/// Counts one more line of a class, which is or belongs at this place, and takes its request if it is kept. Returns whether there
 /// was room for the class.
-pub(crate) fn take_classed<S: BuildHasher + Copy, A: Allocator + Copy>(
+pub(crate) fn take_classed<A: Allocator + Copy>(
     alloc: A,
-    hash_builder: S,
     sizes: bool,
-    limit: usize,
-    classes: &mut Vec<Class<S, A>, A>,
+    classes: &mut Vec<Class<A>, A>,
     place: Result<usize, usize>,
     name: &[u8],
-    key: &OwnedKey<A>,
     is_kept: bool,
     asked: Asked,
 ) -> Result<bool, AllocError>
     requires place { IsPlaceOf (map name_of classes.old.items) name.now place }
-    requires size { asked.size ≡ own_size sizes (line_of key.now) }
-    requires taken { (lines : List (List ℕ)) × (kept : List (List ℕ × ℕ)) × HaveTaken sizes limit lines kept classes.old.items
-        × (is_kept ≡ true → IsAskedOf sizes limit (of_class name.now kept) (line_of key.now) asked) }
-    ensures taken { (lines : List (List ℕ)) (kept : List (List ℕ × ℕ)) → HaveTaken sizes limit lines kept classes.old.items
-        → name.now ≡ class_in (line_of key.now)
-        → (is_kept ≡ true → IsAskedOf sizes limit (of_class name.now kept) (line_of key.now) asked)
-        → IfOk result (λ has_room. has_room ≡ true → HaveTaken sizes limit (lines ++ line_of key.now ∷ [])
-        (next_kept is_kept kept (line_of key.now, asked.time)) classes.new.items) }
+    requires taken { (limit : ℕ) × (lines : List (List ℕ)) × (kept : List (List ℕ × ℕ)) × (request : OwnedKey A × ℕ)
+        × HaveTaken sizes limit lines kept classes.old.items × (asked.size ≡ own_size sizes (line_of request.0))
+        × (is_kept ≡ true → IsAskedOf limit (of_class name.now kept) (shown_of request) asked) }
+    ensures taken { (limit : ℕ) (lines : List (List ℕ)) (kept : List (List ℕ × ℕ)) (request : OwnedKey A × ℕ)
+        → HaveTaken sizes limit lines kept classes.old.items → asked.size ≡ own_size sizes (line_of request.0)
+        → (is_kept ≡ true → IsAskedOf limit (of_class name.now kept) (shown_of request) asked)
+        → name.now ≡ class_in (line_of request.0)
+        → IfOk result (λ has_room. has_room ≡ true → HaveTaken sizes limit (lines ++ line_of request.0 ∷ [])
+        (next_kept is_kept kept (shown_of request)) classes.new.items) }
     ensures full { IfOk result (λ has_room. has_room ≡ false
         → (most_classes ≤ length classes.old.items) × ((at : ℕ) × BelongsAt (map name_of classes.old.items) name.now at)) }
     ensures few { IfOk result (λ has_room. has_room ≡ true → length classes.old.items ≤ most_classes
@@ -91,14 +89,14 @@ pub(crate) fn take_classed<S: BuildHasher + Copy, A: Allocator + Copy>(
 {
     match place {
         Ok(at) => {
-            take_line(alloc, &mut classes[at], key, is_kept, asked)?;
+            take_line(&mut classes[at], is_kept, asked)?;
             Ok(true)
         }
         Err(at) => {
             if classes.len() >= MOST_CLASSES {
                 return Ok(false);
             }
-            let class = class_with(alloc, hash_builder, sizes, limit, name, key, is_kept, asked)?;
+            let class = class_with(alloc, sizes, name, is_kept, asked)?;
             match classes.insert(at, class) {
                 Ok(()) => Ok(true),
                 Err(_) => Err(AllocError),
@@ -108,22 +106,20 @@ pub(crate) fn take_classed<S: BuildHasher + Copy, A: Allocator + Copy>(
 }
 
 // A class with this line, its first.
-fn class_with<S: BuildHasher + Copy, A: Allocator + Copy>(
+fn class_with<A: Allocator + Copy>(
     alloc: A,
-    hash_builder: S,
     sizes: bool,
-    limit: usize,
     name: &[u8],
-    key: &OwnedKey<A>,
     is_kept: bool,
     asked: Asked,
-) -> Result<Class<S, A>, AllocError>
-    requires size { asked.size ≡ own_size sizes (line_of key.now) }
-    requires latest { is_kept ≡ true → IsAskedOf sizes limit [] (line_of key.now) asked }
+) -> Result<Class<A>, AllocError>
+    requires { (limit : ℕ) × (request : OwnedKey A × ℕ) × (asked.size ≡ own_size sizes (line_of request.0))
+        × (is_kept ≡ true → IsAskedOf limit [] (shown_of request) asked) }
     ensures name { IfOk result (λ class. name_of class ≡ name.now) }
-    ensures taken { (lines : List (List ℕ)) (kept : List (List ℕ × ℕ)) → requests_of name.now lines ≡ [] → of_class name.now kept ≡ []
-        → name.now ≡ class_in (line_of key.now)
-        → IfOk result (HasTaken sizes limit (lines ++ line_of key.now ∷ []) (next_kept is_kept kept (line_of key.now, asked.time))) }
+    ensures taken { (limit : ℕ) (lines : List (List ℕ)) (kept : List (List ℕ × ℕ)) (request : OwnedKey A × ℕ)
+        → requests_of name.now lines ≡ [] → of_class name.now kept ≡ [] → asked.size ≡ own_size sizes (line_of request.0)
+        → (is_kept ≡ true → IsAskedOf limit [] (shown_of request) asked) → name.now ≡ class_in (line_of request.0)
+        → IfOk result (HasTaken sizes limit (lines ++ line_of request.0 ∷ []) (next_kept is_kept kept (shown_of request))) }
     ensures some { IfOk result (λ class. 0 < class.requests) }
 {
     let mut class = Class {
@@ -131,30 +127,28 @@ fn class_with<S: BuildHasher + Copy, A: Allocator + Copy>(
         requests: 0,
         size: 0,
         kept: 0,
-        pass: empty_pass(alloc, hash_builder, sizes, limit),
+        pass: empty_pass(alloc, sizes),
     };
-    take_line(alloc, &mut class, key, is_kept, asked)?;
+    take_line(&mut class, is_kept, asked)?;
     Ok(class)
 }
 
-// Counts one more line of this class, and takes it if it is kept.
-fn take_line<S: BuildHasher + Copy, A: Allocator + Copy>(
-    alloc: A,
-    class: &mut Class<S, A>,
-    key: &OwnedKey<A>,
+// Counts one more line of this class, and takes its request if it is kept.
+fn take_line<A: Allocator + Copy>(
+    class: &mut Class<A>,
     is_kept: bool,
     asked: Asked,
 ) -> Result<(), AllocError>
-    requires { (sizes : Bool) × (limit : ℕ) × (lines : List (List ℕ)) × (kept : List (List ℕ × ℕ)) × HasTaken sizes limit lines kept class.old
-        × (asked.size ≡ own_size sizes (line_of key.now))
-        × (is_kept ≡ true → IsAskedOf sizes limit (of_class (name_of class.old) kept) (line_of key.now) asked) }
+    requires { (sizes : Bool) × (limit : ℕ) × (lines : List (List ℕ)) × (kept : List (List ℕ × ℕ)) × (request : OwnedKey A × ℕ)
+        × HasTaken sizes limit lines kept class.old × (asked.size ≡ own_size sizes (line_of request.0))
+        × (is_kept ≡ true → IsAskedOf limit (of_class (name_of class.old) kept) (shown_of request) asked) }
     ensures name { name_of class.new ≡ name_of class.old }
-    ensures taken { (sizes : Bool) (limit : ℕ) (lines : List (List ℕ)) (kept : List (List ℕ × ℕ)) → HasTaken sizes limit lines kept class.old
-        → asked.size ≡ own_size sizes (line_of key.now)
-        → (is_kept ≡ true → IsAskedOf sizes limit (of_class (name_of class.old) kept) (line_of key.now) asked)
-        → name_of class.old ≡ class_in (line_of key.now)
-        → OnOk result (HasTaken sizes limit (lines ++ line_of key.now ∷ [])
-        (next_kept is_kept kept (line_of key.now, asked.time)) class.new) }
+    ensures taken { (sizes : Bool) (limit : ℕ) (lines : List (List ℕ)) (kept : List (List ℕ × ℕ)) (request : OwnedKey A × ℕ)
+        → HasTaken sizes limit lines kept class.old → asked.size ≡ own_size sizes (line_of request.0)
+        → (is_kept ≡ true → IsAskedOf limit (of_class (name_of class.old) kept) (shown_of request) asked)
+        → name_of class.old ≡ class_in (line_of request.0)
+        → OnOk result (HasTaken sizes limit (lines ++ line_of request.0 ∷ [])
+        (next_kept is_kept kept (shown_of request)) class.new) }
     ensures some { OnOk result (0 < class.new.requests) }
 {
     let Some(requests) = class.requests.checked_add(1) else {
@@ -163,7 +157,7 @@ fn take_line<S: BuildHasher + Copy, A: Allocator + Copy>(
     let Some(total) = class.size.checked_add(asked.size) else {
         return Err(AllocError);
     };
-    take_kept(alloc, is_kept, &mut class.pass, key, asked)?;
+    take_kept(is_kept, &mut class.pass, asked)?;
     class.kept = next_number(is_kept, class.kept);
     class.requests = requests;
     class.size = total;

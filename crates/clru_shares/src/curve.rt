@@ -5,7 +5,6 @@ ghost use Rattle.clru_shares.specs.LinePasses.{HasTakenBy, IsCurveBy};
 use crate::pass::LinePass;
 use clru_curve::{MissCurve, SizedCurve};
 use std::alloc::{AllocError, Allocator};
-use std::hash::BuildHasher;
 
 /// What misses at every capacity.
 #[derive(Drop)]
@@ -15,9 +14,9 @@ pub(crate) enum LineCurve<A: Allocator> {
 }
 
 /// Returns the curve of the lines so far.
-pub(crate) fn curve_of<S: BuildHasher + Copy, A: Allocator + Copy>(
+pub(crate) fn curve_of<A: Allocator + Copy>(
     alloc: A,
-    pass: &LinePass<S, A>,
+    pass: &LinePass<A>,
 ) -> Result<LineCurve<A>, AllocError>
     ensures { (sizes : Bool) (limit : ℕ) (requests : List (List ℕ × ℕ)) → HasTakenBy sizes limit requests pass.now
         → IfOk result (IsCurveBy sizes limit requests) }

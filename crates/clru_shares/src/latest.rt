@@ -1,9 +1,9 @@
 //! Where and when the latest request of each line was.
-ghost use Rattle.std.specs.Prelude.{◌≡◌, ℕ, Bool, List, [], ◌∷◌, ◌++◌, length, true, false, OnOk, IfOk};
+ghost use Rattle.std.specs.Prelude.{◌≡◌, ℕ, List, [], ◌∷◌, ◌++◌, length, true, OnOk, IfOk};
 ghost use Rattle.clru_text.specs.Keys.{line_of};
 ghost use Rattle.clru_shares.specs.Classes.{class_in, of_class};
 ghost use Rattle.clru_shares.specs.Passes.{next_kept};
-ghost use Rattle.clru_shares.specs.Places.{AreLatest, AreLatestBy, IsNoted, IsNotedBy, all_of as all_of_by, own_of as own_of_by, soon_of as soon_of_by};
+ghost use Rattle.clru_shares.specs.Places.{AreLatest, IsNoted, all_of as all_of_by, own_of as own_of_by, soon_of as soon_of_by};
 
 use clru_linked_map::BytesMap;
 use clru_text::OwnedKey;
@@ -18,48 +18,27 @@ pub(crate) struct Places {
     pub(crate) time: usize,
 }
 
-/// If the line is kept, returns where its latest request was, and notes that it is requested here. By size nothing is noted, since each
-/// pass knows that itself.
+/// If the line is kept, returns where its latest request was, and notes that it is requested here.
 pub(crate) fn note_kept<S: BuildHasher, A: Allocator + Copy>(
-    sizes: bool,
     is_kept: bool,
     latest: &mut BytesMap<Places, S, A>,
     key: &OwnedKey<A>,
     here: Places,
 ) -> Result<Option<Places>, AllocError>
-    ensures latest { (kept : List (List ℕ × ℕ)) → IsNotedBy sizes kept latest.old
-        → IfOk result (λ places. is_kept ≡ true → AreLatestBy sizes kept (line_of key.now) places) }
-    ensures noted { (kept : List (List ℕ × ℕ)) → IsNotedBy sizes kept latest.old → here.all ≡ length kept
+    ensures latest { (kept : List (List ℕ × ℕ)) → IsNoted kept latest.old
+        → IfOk result (λ places. is_kept ≡ true → AreLatest kept (line_of key.now) places) }
+    ensures noted { (kept : List (List ℕ × ℕ)) → IsNoted kept latest.old → here.all ≡ length kept
         → here.own ≡ length (of_class (class_in (line_of key.now)) kept)
-        → OnOk result (IsNotedBy sizes (next_kept is_kept kept (line_of key.now, here.time)) latest.new) }
+        → OnOk result (IsNoted (next_kept is_kept kept (line_of key.now, here.time)) latest.new) }
 {
     if is_kept {
-        note(sizes, latest, key, here)
+        note_line(latest, key, here)
     } else {
         Ok(None)
     }
 }
 
 // Notes a line.
-fn note<S: BuildHasher, A: Allocator + Copy>(
-    sizes: bool,
-    latest: &mut BytesMap<Places, S, A>,
-    key: &OwnedKey<A>,
-    here: Places,
-) -> Result<Option<Places>, AllocError>
-    ensures latest { (kept : List (List ℕ × ℕ)) → IsNotedBy sizes kept latest.old
-        → IfOk result (AreLatestBy sizes kept (line_of key.now)) }
-    ensures noted { (kept : List (List ℕ × ℕ)) → IsNotedBy sizes kept latest.old → here.all ≡ length kept
-        → here.own ≡ length (of_class (class_in (line_of key.now)) kept)
-        → OnOk result (IsNotedBy sizes (kept ++ (line_of key.now, here.time) ∷ []) latest.new) }
-{
-    if sizes {
-        return Ok(None);
-    }
-    note_line(latest, key, here)
-}
-
-// By keys.
 fn note_line<S: BuildHasher, A: Allocator + Copy>(
     latest: &mut BytesMap<Places, S, A>,
     key: &OwnedKey<A>,

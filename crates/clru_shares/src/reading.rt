@@ -9,7 +9,7 @@ ghost use Rattle.clru_shares.specs.Faults.{IsNumbered, comes_of_a_line, comes_of
 ghost use Rattle.clru_shares.specs.Classes.{class_in, most_classes};
 ghost use Rattle.clru_shares.specs.LinePasses.{HasTakenBy};
 ghost use Rattle.clru_shares.specs.Passes.{BelongsAt, HasTakenAll, HasTakenLines, HaveTaken, name_of, next_kept};
-ghost use Rattle.clru_shares.specs.Places.{IsNotedBy};
+ghost use Rattle.clru_shares.specs.Places.{IsNoted};
 ghost use Rattle.clru_shares.specs.Refusals.{IsSaidOfLines, IsSaidOfRests, IsShownOf, most_shown};
 ghost use Rattle.clru_shares.specs.Sampled.{is_in as is_in_by};
 ghost use Rattle.clru_shares.specs.Sizes.{own_size};
@@ -36,8 +36,8 @@ const MOST_SHOWN: usize = 60;
 /// passes; how many lines there are, by size their size together, and how many of them were kept.
 #[derive(Drop)]
 pub(crate) struct Passes<S: BuildHasher + Copy, A: Allocator + Copy> {
-    pub(crate) classes: Vec<Class<S, A>, A>,
-    pub(crate) all: LinePass<S, A>,
+    pub(crate) classes: Vec<Class<A>, A>,
+    pub(crate) all: LinePass<A>,
     pub(crate) latest: BytesMap<Places, S, A>,
     pub(crate) requests: usize,
     pub(crate) size: usize,
@@ -68,7 +68,7 @@ pub(crate) fn read_classes<R: Read, S: BuildHasher + Copy, A: Allocator + Copy>(
 {
     let mut passes = Passes {
         classes: Vec::new(alloc),
-        all: empty_pass(alloc, hash_builder, sizes, limit_of(idle)),
+        all: empty_pass(alloc, sizes),
         latest: BytesMap::new(alloc, hash_builder),
         requests: 0,
         size: 0,
@@ -89,7 +89,6 @@ pub(crate) fn read_classes<R: Read, S: BuildHasher + Copy, A: Allocator + Copy>(
         if refused.is_none() {
             match take_any(
                 alloc,
-                hash_builder,
                 sizes,
                 idle,
                 sample,
@@ -146,7 +145,6 @@ fn limit_of(idle: Option<usize>) -> usize
 // Counts one more line, of this number. Under an idle limit it begins with a time, and what follows that is put into `rest`.
 fn take_any<S: BuildHasher + Copy, A: Allocator + Copy>(
     alloc: A,
-    hash_builder: S,
     sizes: bool,
     idle: Option<usize>,
     sample: Option<NonZeroUsize>,
@@ -169,7 +167,6 @@ fn take_any<S: BuildHasher + Copy, A: Allocator + Copy>(
     match idle {
         None => take_both(
             alloc,
-            hash_builder,
             sizes,
             usize::MAX,
             sample,
@@ -180,7 +177,6 @@ fn take_any<S: BuildHasher + Copy, A: Allocator + Copy>(
         ),
         Some(limit) => take_timed(
             alloc,
-            hash_builder,
             sizes,
             limit,
             sample,
@@ -195,7 +191,6 @@ fn take_any<S: BuildHasher + Copy, A: Allocator + Copy>(
 // The same under this limit.
 fn take_timed<S: BuildHasher + Copy, A: Allocator + Copy>(
     alloc: A,
-    hash_builder: S,
     sizes: bool,
     limit: usize,
     sample: Option<NonZeroUsize>,
@@ -223,15 +218,7 @@ fn take_timed<S: BuildHasher + Copy, A: Allocator + Copy>(
         return Err(SplitFault::Other(Fault::Memory));
     };
     take_both(
-        alloc,
-        hash_builder,
-        sizes,
-        limit,
-        sample,
-        passes,
-        rest,
-        time,
-        number,
+        alloc, sizes, limit, sample, passes, rest, time, number,
     )
 }
 
@@ -239,7 +226,6 @@ fn take_timed<S: BuildHasher + Copy, A: Allocator + Copy>(
 // for all.
 fn take_both<S: BuildHasher + Copy, A: Allocator + Copy>(
     alloc: A,
-    hash_builder: S,
     sizes: bool,
     limit: usize,
     sample: Option<NonZeroUsize>,
@@ -271,7 +257,6 @@ fn take_both<S: BuildHasher + Copy, A: Allocator + Copy>(
     let is_kept = is_in(sample, &key.0);
     match take_known(
         alloc,
-        hash_builder,
         sizes,
         limit,
         passes,
@@ -294,7 +279,6 @@ fn take_both<S: BuildHasher + Copy, A: Allocator + Copy>(
 // Counts one more line, of this class and size, and takes it if it is kept. Returns whether there was room for the class.
 fn take_known<S: BuildHasher + Copy, A: Allocator + Copy>(
     alloc: A,
-    hash_builder: S,
     sizes: bool,
     limit: usize,
     passes: &mut Passes<S, A>,
@@ -314,7 +298,7 @@ fn take_known<S: BuildHasher + Copy, A: Allocator + Copy>(
         → IfOk result (λ has_room. has_room ≡ true
         → HasTakenBy sizes limit (next_kept is_kept kept (line_of key.now, time)) passes.new.all) }
     ensures latest { (lines : List (List ℕ)) (kept : List (List ℕ × ℕ)) → HasTakenAll sizes limit lines kept passes.old
-        → IfOk result (λ has_room. has_room ≡ true → IsNotedBy sizes (next_kept is_kept kept (line_of key.now, time)) passes.new.latest) }
+        → IfOk result (λ has_room. has_room ≡ true → IsNoted (next_kept is_kept kept (line_of key.now, time)) passes.new.latest) }
     ensures full { IfOk result (λ has_room. has_room ≡ false
         → (most_classes ≤ length passes.old.classes.items)
         × ((at : ℕ) × BelongsAt (map name_of passes.old.classes.items) name.now at)) }
@@ -328,7 +312,6 @@ fn take_known<S: BuildHasher + Copy, A: Allocator + Copy>(
     let own = kept_at(&passes.classes, place);
     let all = passes.kept;
     let places = note_kept(
-        sizes,
         is_kept,
         &mut passes.latest,
         key,
@@ -337,18 +320,14 @@ fn take_known<S: BuildHasher + Copy, A: Allocator + Copy>(
     let soon = soon_of(limit, time, places);
     let has_room = take_classed(
         alloc,
-        hash_builder,
         sizes,
-        limit,
         &mut passes.classes,
         place,
         name,
-        key,
         is_kept,
         Asked {
             latest: own_of(places),
             soon,
-            time,
             size,
         },
     )?;
@@ -356,10 +335,9 @@ fn take_known<S: BuildHasher + Copy, A: Allocator + Copy>(
         let asked = Asked {
             latest: all_of(places),
             soon,
-            time,
             size,
         };
-        take_kept(alloc, is_kept, &mut passes.all, key, asked)?;
+        take_kept(is_kept, &mut passes.all, asked)?;
     }
     Ok(has_room)
 }

@@ -13,7 +13,6 @@ use crate::curve::{LineCurve, curve_of};
 use crate::sampled::told_in;
 use clru_curve::Curve;
 use std::alloc::{AllocError, Allocator};
-use std::hash::BuildHasher;
 use std::num::NonZeroUsize;
 
 /// A class with the number and the size of its requests, and what misses at every capacity, of all or of a sample.
@@ -59,10 +58,10 @@ fn missed_by<A: Allocator>(curve: &LineCurve<A>, capacity: NonZeroUsize) -> Opti
 }
 
 /// Returns the curves of the classes, whose passes took the lines of a sample.
-pub(crate) fn shares_of<S: BuildHasher + Copy, A: Allocator + Copy>(
+pub(crate) fn shares_of<A: Allocator + Copy>(
     alloc: A,
     sample: Option<NonZeroUsize>,
-    classes: &[Class<S, A>],
+    classes: &[Class<A>],
 ) -> Result<Vec<Share<A>, A>, AllocError>
     ensures { (sizes : Bool) (idle : Option ℕ) (requests : List (List ℕ × ℕ)) → AreTimeless idle requests
         → HaveTaken sizes (limit_of idle) (keys_of requests) (kept_in (option_map non_zero_usize_get sample) requests) classes.now
@@ -75,10 +74,10 @@ pub(crate) fn shares_of<S: BuildHasher + Copy, A: Allocator + Copy>(
     Ok(shares)
 }
 
-fn share_of<S: BuildHasher + Copy, A: Allocator + Copy>(
+fn share_of<A: Allocator + Copy>(
     alloc: A,
     sample: Option<NonZeroUsize>,
-    class: &Class<S, A>,
+    class: &Class<A>,
 ) -> Result<Share<A>, AllocError>
     ensures { (sizes : Bool) (idle : Option ℕ) (requests : List (List ℕ × ℕ)) → AreTimeless idle requests
         → HasTaken sizes (limit_of idle) (keys_of requests) (kept_in (option_map non_zero_usize_get sample) requests) class.now

@@ -8,7 +8,6 @@ use Rattle.clru_text.proofs.ResultLemmas.{no_none, no_some, none_map, of_none, s
 use Rattle.clru_shares.specs.Classes.{has_class}
 use Rattle.clru_shares.specs.Faults.{comes_of_a_line, comes_of_writing}
 use Rattle.clru_shares.specs.Refusals.{IsSaidOfLines, IsShownOf, most_shown}
-use Rattle.clru_shares.specs.LinePasses.{HasTakenBy}
 use Rattle.clru_shares.specs.Times.{limit_of}
 use Rattle.clru_shares.specs.Passes.{HasTakenLines}
 use Rattle.clru_shares.specs.Sizes.{is_sized}
@@ -39,8 +38,8 @@ lines-init g c =
         sized = All-nil (λ line. is_sized c.args.sizes line ≡ true);
         classes = none_taken c.args.sizes (limit_of c.args.idle) c.new.result.items c.new.ensures.items;
         few = omega (arith, ap length c.new.ensures.items);
-        all = subst (λ n. HasTakenBy c.args.sizes n [] c.empty_pass.result) c.limit_of.ensures c.empty_pass.ensures;
-        latest = none_noted c.args.sizes c.new-2.result c.new-2.ensures;
+        all = c.empty_pass.ensures (limit_of c.args.idle);
+        latest = none_noted c.new-2.result c.new-2.ensures;
         numbered = refl;
         fewer = omega arith;
         counted = refl;

@@ -9,7 +9,7 @@ use Rattle.clru_text.specs.Keys.{line_of}
 use Rattle.clru_shares.specs.Classes.{class_in, has_class}
 use Rattle.clru_shares.specs.LinePasses.{HasTakenBy}
 use Rattle.clru_shares.specs.Passes.{HaveTaken, name_of, next_kept, next_number}
-use Rattle.clru_shares.specs.Places.{IsNotedBy}
+use Rattle.clru_shares.specs.Places.{IsNoted}
 use Rattle.clru_shares.specs.Sampled.{is_in}
 use Rattle.clru_shares.specs.Sizes.{is_sized, own_size}
 use Rattle.clru_shares.proofs.FaultLemmas.{sizes_large, taken_faultless, without_size}
@@ -95,7 +95,7 @@ returns-clause-taken g c lines kept is counted =
       few = c.in-Ok-true.ensures.few c.in-Ok-true.field-0-test is.few;
       all = subst (λ b. HasTakenBy sizes c.args.limit (next_kept b kept r) c.take_known.new.passes.all) in_sample
           (c.in-Ok-true.ensures.all lines kept is c.in-Ok-true.field-0-test);
-      latest = subst (λ b. IsNotedBy sizes (next_kept b kept r) c.take_known.new.passes.latest) in_sample
+      latest = subst (λ b. IsNoted (next_kept b kept r) c.take_known.new.passes.latest) in_sample
           (c.in-Ok-true.ensures.latest lines kept is c.in-Ok-true.field-0-test);
       numbered = subst (λ b. c.next_number-passes.result ≡ length (next_kept b kept r)) in_sample
           (c.next_number-passes.ensures ∙ ap (next_number here) (c.in-Ok-true.ensures.kept ∙ is.numbered) ∙ next_counted here kept r);

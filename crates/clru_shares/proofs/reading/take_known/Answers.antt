@@ -1,4 +1,4 @@
-use Rattle.std.proofs.Common.{length, map, sym, ap, ◌∙◌, subst, arith}
+use Rattle.std.proofs.Common.{ℕ, List, length, map, sym, ap, ◌∙◌, subst, arith}
 use Rattle.std.proofs.lemmas.List.{length-map}
 use Rattle.clru_text.specs.Keys.{line_of}
 use Rattle.clru_text.proofs.ResultLemmas.{ok_map}
@@ -25,44 +25,47 @@ take_classed-requires-clause-place g c =
 
 pub take_classed-requires-clause-taken : goal.take_classed-requires-clause-taken
 take_classed-requires-clause-taken g c =
-    let kept = c.requires.taken.1 in let taken = c.requires.taken.2 in let line = line_of c.args.key.now in
-    let asked : Asked = record { latest = c.own_of.result; soon = c.soon_of-soon.result; time = c.args.time; size = c.args.size } in (
+    let kept = c.requires.taken.1 in let taken = c.requires.taken.2 in let key = c.args.key.now in let r : List ℕ × ℕ = (line_of key, c.args.time) in
+    let asked : Asked = record { latest = c.own_of.result; soon = c.soon_of-soon.result; size = c.args.size } in (
+      c.args.limit,
       c.requires.taken.0,
       kept,
+      (key, c.args.time),
       taken.classes,
-      λ is. subst (λ n. IsAskedOf c.args.sizes c.args.limit (of_class n kept) line asked) (sym c.requires.name)
-          (asked_own c.args.sizes c.args.limit kept line c.in_ok-places.places asked c.soon_of-soon.ensures
-          (c.in_ok-places.ensures.latest kept taken.latest is) c.own_of.ensures),
+      c.requires.size,
+      λ is. subst (λ n. IsAskedOf c.args.limit (of_class n kept) r asked) (sym c.requires.name)
+          (asked_own c.args.limit kept r c.in_ok-places.places asked c.soon_of-soon.ensures (c.in_ok-places.ensures.latest kept taken.latest is) c.own_of.ensures),
     )
 
 pub take_kept-requires : goal.take_kept-requires
 take_kept-requires g c =
-    let kept = c.requires.taken.1 in let taken = c.requires.taken.2 in
-    let asked : Asked = record { latest = c.all_of.result; soon = c.soon_of-soon.result; time = c.args.time; size = c.args.size } in (
+    let kept = c.requires.taken.1 in let taken = c.requires.taken.2 in let key = c.args.key.now in let r : List ℕ × ℕ = (line_of key, c.args.time) in
+    let asked : Asked = record { latest = c.all_of.result; soon = c.soon_of-soon.result; size = c.args.size } in (
       c.args.sizes,
       c.args.limit,
       kept,
+      (key, c.args.time),
       taken.all,
       c.requires.size,
-      λ is. asked_all c.args.sizes c.args.limit kept (line_of c.args.key.now) c.in_ok-places.places asked c.soon_of-soon.ensures
+      λ is. asked_all c.args.limit kept r c.in_ok-places.places asked c.soon_of-soon.ensures
           (c.in_ok-places.ensures.latest kept taken.latest is) c.all_of.ensures,
     )
 
 pub returns-in_ok-take_kept-clause-classes : goal.returns-in_ok-take_kept-clause-classes
 returns-in_ok-take_kept-clause-classes g c lines kept taken room =
-    let line = line_of c.args.key.now in
-    let asked : Asked = record { latest = c.own_of.result; soon = c.soon_of-soon.result; time = c.args.time; size = c.args.size } in
-    c.in_ok-has_room.ensures.taken lines kept taken.classes c.requires.name
-    (λ is. subst (λ n. IsAskedOf c.args.sizes c.args.limit (of_class n kept) line asked) (sym c.requires.name)
-    (asked_own c.args.sizes c.args.limit kept line c.in_ok-places.places asked c.soon_of-soon.ensures
-    (c.in_ok-places.ensures.latest kept taken.latest is) c.own_of.ensures))
-    room
+    let key = c.args.key.now in let r : List ℕ × ℕ = (line_of key, c.args.time) in
+    let asked : Asked = record { latest = c.own_of.result; soon = c.soon_of-soon.result; size = c.args.size } in
+    c.in_ok-has_room.ensures.taken c.args.limit lines kept (key, c.args.time) taken.classes c.requires.size
+    (λ is. subst (λ n. IsAskedOf c.args.limit (of_class n kept) r asked) (sym c.requires.name)
+    (asked_own c.args.limit kept r c.in_ok-places.places asked c.soon_of-soon.ensures (c.in_ok-places.ensures.latest kept taken.latest is) c.own_of.ensures))
+    c.requires.name room
 
 pub returns-in_ok-take_kept-clause-all : goal.returns-in_ok-take_kept-clause-all
 returns-in_ok-take_kept-clause-all g c lines kept taken room =
-    let asked : Asked = record { latest = c.all_of.result; soon = c.soon_of-soon.result; time = c.args.time; size = c.args.size } in
-    c.in_ok-take_kept.ensures c.args.sizes c.args.limit kept taken.all c.requires.size
-    (λ is. asked_all c.args.sizes c.args.limit kept (line_of c.args.key.now) c.in_ok-places.places asked c.soon_of-soon.ensures
+    let key = c.args.key.now in let r : List ℕ × ℕ = (line_of key, c.args.time) in
+    let asked : Asked = record { latest = c.all_of.result; soon = c.soon_of-soon.result; size = c.args.size } in
+    c.in_ok-take_kept.ensures c.args.sizes c.args.limit kept (key, c.args.time) taken.all c.requires.size
+    (λ is. asked_all c.args.limit kept r c.in_ok-places.places asked c.soon_of-soon.ensures
     (c.in_ok-places.ensures.latest kept taken.latest is) c.all_of.ensures)
 
 pub returns-in_ok-take_kept-clause-latest : goal.returns-in_ok-take_kept-clause-latest
