@@ -165,26 +165,8 @@ fn take_any<S: BuildHasher + Copy, A: Allocator + Copy>(
     ensures fault { IfErr result (λ fault. comes_of_writing fault ≡ false) }
 {
     match idle {
-        None => take_both(
-            alloc,
-            sizes,
-            usize::MAX,
-            sample,
-            passes,
-            line,
-            0,
-            number,
-        ),
-        Some(limit) => take_timed(
-            alloc,
-            sizes,
-            limit,
-            sample,
-            passes,
-            line,
-            rest,
-            number,
-        ),
+        None => take_both(alloc, sizes, usize::MAX, sample, passes, line, 0, number),
+        Some(limit) => take_timed(alloc, sizes, limit, sample, passes, line, rest, number),
     }
 }
 
@@ -217,9 +199,7 @@ fn take_timed<S: BuildHasher + Copy, A: Allocator + Copy>(
     let Ok(()) = rest.0.extend_from_slice(behind) else {
         return Err(SplitFault::Other(Fault::Memory));
     };
-    take_both(
-        alloc, sizes, limit, sample, passes, rest, time, number,
-    )
+    take_both(alloc, sizes, limit, sample, passes, rest, time, number)
 }
 
 // Counts one more line without its time, of this number. If it is one of the sample, it goes into the pass of its class and into that
@@ -255,17 +235,7 @@ fn take_both<S: BuildHasher + Copy, A: Allocator + Copy>(
         return Err(SplitFault::TooLarge);
     };
     let is_kept = is_in(sample, &key.0);
-    match take_known(
-        alloc,
-        sizes,
-        limit,
-        passes,
-        name,
-        key,
-        is_kept,
-        time,
-        size,
-    ) {
+    match take_known(alloc, sizes, limit, passes, name, key, is_kept, time, size) {
         Ok(true) => {}
         Ok(false) => return Err(SplitFault::TooManyClasses(number)),
         Err(_) => return Err(SplitFault::Other(Fault::Memory)),
@@ -311,12 +281,7 @@ fn take_known<S: BuildHasher + Copy, A: Allocator + Copy>(
     let place = place_of(&passes.classes, name);
     let own = kept_at(&passes.classes, place);
     let all = passes.kept;
-    let places = note_kept(
-        is_kept,
-        &mut passes.latest,
-        key,
-        Places { own, all, time },
-    )?;
+    let places = note_kept(is_kept, &mut passes.latest, key, Places { own, all, time })?;
     let soon = soon_of(limit, time, places);
     let has_room = take_classed(
         alloc,
