@@ -1,5 +1,5 @@
 //! Values with numbers that rise.
-ghost use Rattle.std.specs.Prelude.{◌≡◌, ℕ, ◌+◌, ◌<◌, ◌≤◌, length};
+ghost use Rattle.std.specs.Prelude.{◌≡◌, ℕ, ◌<◌, length};
 ghost use Rattle.clru_curve.specs.Rising.{number_at, HasNumber, IsRising};
 
 /// The bits of a block of requests or the size of one, and its number.
@@ -19,36 +19,31 @@ pub(crate) fn place_of(values: &[Numbered], number: usize) -> usize
     // It is here unless some after it were dropped, and never before here.
     let last = values.len() - 1;
     let guess = last.saturating_sub(values[last].number.saturating_sub(number));
-    place_within(values, number, guess, guess + 1)
+    place_near(values, number, guess)
 }
 
-/// Returns the same. It looks first from one place on and before another, where the value is likely to be.
-pub(crate) fn place_within(values: &[Numbered], number: usize, first: usize, end: usize) -> usize
+/// Returns the same. It looks first at the place where the value is likely to be.
+pub(crate) fn place_near(values: &[Numbered], number: usize, guess: usize) -> usize
     requires there { HasNumber values.now number }
     requires rising { (high : ℕ) × IsRising 0 values.now high }
     ensures inside { result < length values.now }
     ensures number { number_at values.now result ≡ number }
 {
-    let end = end.min(values.len());
-    if first < end {
-        let place = last_up_to(values, number, first, end - first);
-        if values[place].number == number {
-            return place;
-        }
+    if guess < values.len() && values[guess].number == number {
+        return guess;
     }
-    last_up_to(values, number, 0, values.len())
+    last_up_to(values, number)
 }
 
-/// Returns the last of so many places whose number is not greater, or the first of them.
-fn last_up_to(values: &[Numbered], number: usize, from: usize, many: usize) -> usize
-    requires some { 0 < many }
-    requires within { from + many ≤ length values.now }
+/// Returns the last place whose number is not greater, or the first of all.
+fn last_up_to(values: &[Numbered], number: usize) -> usize
+    requires { 0 < length values.now }
     ensures inside { result < length values.now }
-    ensures there { (i high : ℕ) → IsRising 0 values.now high → number_at values.now i ≡ number → from ≤ i → i < from + many
+    ensures there { (i high : ℕ) → IsRising 0 values.now high → number_at values.now i ≡ number → i < length values.now
         → result ≡ i }
 {
-    let mut first = from;
-    let mut count = many;
+    let mut first = 0;
+    let mut count = values.len();
     while count > 1 {
         let half = count / 2;
         count -= half;

@@ -4,7 +4,7 @@ ghost use Rattle.clru_curve.specs.LatestSizes.{IsRemoved, IsSummed, live_from, s
 ghost use Rattle.clru_curve.specs.Rising.{has_value, numbered, value_at};
 ghost use Rattle.clru_curve.specs.Tree.{IsCounted};
 
-use crate::numbered::{Numbered, place_within};
+use crate::numbered::{Numbered, place_near};
 use crate::sized::guide::Guide;
 use crate::tree::{add_at, count_from, subtract_at};
 use std::alloc::{AllocError, Allocator};
@@ -101,8 +101,8 @@ impl<A: Allocator + Copy> Sizes<A> {
         ensures capacity { vec_capacity self.new.sizes ≡ vec_capacity self.old.sizes }
         ensures nodes { length self.new.nodes.items ≡ length self.old.nodes.items }
     {
-        let (first, end) = self.guide.likely(request);
-        let at = place_within(&self.sizes, request, first, end);
+        let guess = self.guide.likely(request);
+        let at = place_near(&self.sizes, request, guess);
         let total = self.sum_from(at);
         let size = self.sizes[at].value;
         self.sizes[at].value = 0;
@@ -197,14 +197,20 @@ fn sum_of_rest(sizes: &[Numbered], at: usize) -> usize
     requires fits { sizes_from sizes.now at < 2 ^ 64 }
     ensures { result + sizes_from sizes.now (16 * (at / 16 + 1)) ≡ sizes_from sizes.now at }
 {
-    // (all sixteen are read, as many each time, so that no guess of the processor is wrong)
     let first = at / BLOCK * BLOCK;
     let mut sum = 0;
     for place in first..first + BLOCK {
-        let size = sizes[place].value;
-        if place >= at {
-            sum += size;
-        }
+        sum += size_behind(sizes, at, place);
     }
     sum
+}
+
+/// The size at a place, or 0 if that is before `at`.
+fn size_behind(sizes: &[Numbered], at: usize, place: usize) -> usize
+    requires { place < length sizes.now }
+    ensures before { place < at → result ≡ 0 }
+    ensures behind { at ≤ place → result ≡ value_at sizes.now place }
+{
+    // (by a mask, since the processor would guess a branch wrong)
+    sizes[place].value & 0usize.wrapping_sub((place >= at) as usize)
 }

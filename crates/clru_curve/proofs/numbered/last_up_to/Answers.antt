@@ -13,8 +13,8 @@ loop-count-preserved-then-values-first c =
     record {
       some = omega (arith, whole, low, c.loop-count-test.true);
       within = omega (arith, whole, low, c.loop-count.invariant.within);
-      there = λ i high rising same low_i up_i.
-          let is = c.loop-count.invariant.there i high rising same low_i up_i in (
+      there = λ i high rising same up_i.
+          let is = c.loop-count.invariant.there i high rising same up_i in (
             elim (cases_lt i m) [
               | inl lt ↦
                   let less = rising_order 0 bs high i m rising lt (omega (arith, before, c.loop-count.invariant.within)) in
@@ -32,13 +32,13 @@ loop-count-preserved c =
     record {
       some = omega (arith, whole, low, c.loop-count-test.true);
       within = omega (arith, whole, low, c.loop-count.invariant.within);
-      there = λ i high rising same low_i up_i.
-          let is = c.loop-count.invariant.there i high rising same low_i up_i in
+      there = λ i high rising same up_i.
+          let is = c.loop-count.invariant.there i high rising same up_i in
           let before : i < m = elim (cases_lt i m) [
             | inl lt ↦ lt
             | inr le ↦ elim (cases_lt m i) [
               | inl gt ↦
-                  let less = rising_order 0 bs high m i rising gt (omega (arith, up_i, c.requires.within)) in
+                  let less = rising_order 0 bs high m i rising gt up_i in
                   absurd (omega (arith, less, same, c.if-values-first.false))
               | inr ge ↦
                   let here : m ≡ i = omega (arith, le, ge) in
@@ -49,5 +49,5 @@ loop-count-preserved c =
     }
 
 pub returns-clause-there : goal.returns-clause-there
-returns-clause-there c i high rising same low_i up_i =
-    omega (arith, c.loop-count.invariant.there i high rising same low_i up_i, c.loop-count.invariant.some, c.loop-count-test.false)
+returns-clause-there c i high rising same up_i =
+    omega (arith, c.loop-count.invariant.there i high rising same up_i, c.loop-count.invariant.some, c.loop-count-test.false)

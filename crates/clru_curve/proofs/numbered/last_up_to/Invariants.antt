@@ -6,7 +6,7 @@ abbrev pub invariant-loop-count : goal.invariant-loop-count
 invariant-loop-count l = record {
   some : 0 < l.count;
   within : l.first + l.count ≤ length l.values;
-  there : (i high : ℕ) → IsRising 0 l.values high → number_at l.values i ≡ l.number → l.from ≤ i → i < l.from + l.many
+  there : (i high : ℕ) → IsRising 0 l.values high → number_at l.values i ≡ l.number → i < length l.values
       → (l.first ≤ i) × (i < l.first + l.count);
 }
 

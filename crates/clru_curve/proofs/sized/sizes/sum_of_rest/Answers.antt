@@ -1,31 +1,38 @@
-use Rattle.std.proofs.Common.{◌≡◌, suc, ◌+◌, ap, arith}
+use Rattle.std.proofs.Common.{◌≡◌, suc, ◌+◌, ap, inl, inr, arith}
+use Rattle.std.proofs.lemmas.Bool.{cases_lt}
 use Rattle.clru_curve.specs.LatestSizes.{sizes_from}
 use Rattle.clru_curve.proofs.LatestSizes.{sizes_step}
 use Rattle.clru_curve.proofs.sized.sizes.sum_of_rest.Goals as goal
-use Rattle.clru_curve.proofs.sized.sizes.sum_of_rest.Goals.{then-place-at, else-place-at}
 
 pub overflow_add-sum : goal.overflow_add-sum
 overflow_add-sum c =
-    omega (arith, c.loop-place.invariant.behind c.if-place-at.true, sizes_step c.args.sizes.now c.loop-place.place, c.requires.fits)
+    let at = c.args.at in let place = c.loop-place.place in
+    let all = sizes_step c.args.sizes.now place in
+    elim (cases_lt place at) [
+      | inl lt ↦ omega (arith, c.size_behind-sum.ensures.before lt, c.loop-place.invariant.before (omega (arith, lt)))
+      | inr ge ↦ omega (arith, c.size_behind-sum.ensures.behind ge, c.loop-place.invariant.behind ge, all, c.requires.fits)
+    ]
 
 pub loop-place-preserved : goal.loop-place-preserved
 loop-place-preserved c =
     let ss = c.args.sizes.now in let at = c.args.at in let place = c.loop-place.place in let next : place + 1 ≡ suc place = omega arith in
-    elim c.if-place-at.branch [
-      | then-place-at w ↦ record {
-        before = λ le. absurd (omega (arith, w.if-place-at.true, le));
-        behind = λ ge. omega (
+    record {
+      before = λ le. omega (arith, c.size_behind-sum.ensures.before (omega (arith, le)), c.loop-place.invariant.before (omega (arith, le)));
+      behind = λ ge. elim (cases_lt place at) [
+        | inl lt ↦
+            let here : place + 1 ≡ at = omega (arith, lt, ge) in
+            omega (
+              arith,
+              c.size_behind-sum.ensures.before lt,
+              c.loop-place.invariant.before (omega (arith, lt)),
+              ap (sizes_from ss) here,
+            )
+        | inr le ↦ omega (
           arith,
-          w.sum-is,
-          c.loop-place.invariant.behind w.if-place-at.true,
+          c.size_behind-sum.ensures.behind le,
+          c.loop-place.invariant.behind le,
           sizes_step ss place,
           ap (sizes_from ss) next,
-        );
-      }
-      | else-place-at w ↦ record {
-        before = λ le. omega (arith, w.sum-is, c.loop-place.invariant.before (omega (arith, w.if-place-at.false)));
-        behind = λ ge.
-            let here : place + 1 ≡ at = omega (arith, w.if-place-at.false, ge) in
-            omega (arith, w.sum-is, c.loop-place.invariant.before (omega (arith, w.if-place-at.false)), ap (sizes_from ss) here);
-      }
-    ]
+        )
+      ];
+    }

@@ -5,16 +5,16 @@ use Rattle.clru_curve.proofs.Latests.{written_back, block_read}
 use Rattle.clru_curve.proofs.LatestSizes.{is_live, blocks_fall, clear_counted, same_place, total_at, IsSummed-clear}
 use Rattle.clru_curve.proofs.sized.sizes.Sizes.remove.Goals as goal
 
-pub place_within-at-requires-clause-there : goal.place_within-at-requires-clause-there
-place_within-at-requires-clause-there g c =
+pub place_near-at-requires-clause-there : goal.place_near-at-requires-clause-there
+place_near-at-requires-clause-there g c =
     let ss = c.args.self.now.sizes.items in let p = c.args.request in let l = is_live ss p c.requires.live in
     subst (λ s. HasNumber s p) (sym c.deref.ensures.value) (l.at, l.inside, l.number)
 
 pub subtract_at-requires-clause-counted : goal.subtract_at-requires-clause-counted
 subtract_at-requires-clause-counted g c =
     let self = c.args.self.now in let ss = self.sizes.items in let ns = self.nodes.items in let n = self.requests in
-    let p = c.args.request in let i = c.place_within-at.result in let kept = c.requires.kept in
-    let inside : i < length ss = omega (arith, c.place_within-at.ensures.inside, ap (λ l. length l) c.deref.ensures.value) in
+    let p = c.args.request in let i = c.place_near-at.result in let kept = c.requires.kept in
+    let inside : i < length ss = omega (arith, c.place_near-at.ensures.inside, ap (λ l. length l) c.deref.ensures.value) in
     let word = block_read ss i i c.index.result.now refl inside c.index.ensures in
     let size = ap (λ b. b.value) word in (
       λ j. sizes_from (set ss i (numbered (number_at ss i) 0)) (16 * j),
@@ -27,16 +27,16 @@ subtract_at-requires-clause-counted g c =
 pub returns-clause-total : goal.returns-clause-total
 returns-clause-total g c =
     let self = c.args.self.now in let ss = self.sizes.items in let ns = self.nodes.items in let n = self.requests in
-    let p = c.args.request in let i = c.place_within-at.result in let kept = c.requires.kept in
-    let inside : i < length ss = omega (arith, c.place_within-at.ensures.inside, ap (λ l. length l) c.deref.ensures.value) in
-    let number : number_at ss i ≡ p = ap (λ l. number_at l i) (sym c.deref.ensures.value) ∙ c.place_within-at.ensures.number in
+    let p = c.args.request in let i = c.place_near-at.result in let kept = c.requires.kept in
+    let inside : i < length ss = omega (arith, c.place_near-at.ensures.inside, ap (λ l. length l) c.deref.ensures.value) in
+    let number : number_at ss i ≡ p = ap (λ l. number_at l i) (sym c.deref.ensures.value) ∙ c.place_near-at.ensures.number in
     c.sum_from-total.ensures ∙ sym (total_at 0 ss n i kept.rising inside) ∙ ap (total_from ss) number
 
 pub returns-clause-kept : goal.returns-clause-kept
 returns-clause-kept g c =
     let self = c.args.self.now in let ss = self.sizes.items in let ns = self.nodes.items in let n = self.requests in
-    let p = c.args.request in let i = c.place_within-at.result in let kept = c.requires.kept in
-    let inside : i < length ss = omega (arith, c.place_within-at.ensures.inside, ap (λ l. length l) c.deref.ensures.value) in
+    let p = c.args.request in let i = c.place_near-at.result in let kept = c.requires.kept in
+    let inside : i < length ss = omega (arith, c.place_near-at.ensures.inside, ap (λ l. length l) c.deref.ensures.value) in
     let word = block_read ss i i c.index.result.now refl inside c.index.ensures in
     let size = ap (λ b. b.value) word in
     let read = block_read ss i i c.index_mut.result.now refl inside c.index_mut.ensures.value in
@@ -49,9 +49,9 @@ returns-clause-kept g c =
 pub returns-clause-removed : goal.returns-clause-removed
 returns-clause-removed g c =
     let self = c.args.self.now in let ss = self.sizes.items in let ns = self.nodes.items in let n = self.requests in
-    let p = c.args.request in let i = c.place_within-at.result in let kept = c.requires.kept in
-    let inside : i < length ss = omega (arith, c.place_within-at.ensures.inside, ap (λ l. length l) c.deref.ensures.value) in
-    let number : number_at ss i ≡ p = ap (λ l. number_at l i) (sym c.deref.ensures.value) ∙ c.place_within-at.ensures.number in
+    let p = c.args.request in let i = c.place_near-at.result in let kept = c.requires.kept in
+    let inside : i < length ss = omega (arith, c.place_near-at.ensures.inside, ap (λ l. length l) c.deref.ensures.value) in
+    let number : number_at ss i ≡ p = ap (λ l. number_at l i) (sym c.deref.ensures.value) ∙ c.place_near-at.ensures.number in
     let read = block_read ss i i c.index_mut.result.now refl inside c.index_mut.ensures.value in
     let l = is_live ss p c.requires.live in
     let same = same_place ss n l.at i kept.rising l.inside inside (l.number ∙ sym number) in
