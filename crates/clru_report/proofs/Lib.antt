@@ -29,4 +29,5 @@ mod SizedTimedForms
 mod SizedTimedLines
 mod TakenLines
 mod TimedForms
+mod TimedLinePasses
 mod TimedLines

@@ -8,7 +8,7 @@ use Rattle.std.proofs.lemmas.List.Elements.{All-nil, All-push, filter-append}
 use Rattle.clru_curve.specs.AgedPasses.{IsAgedPass, aged_misses_at}
 use Rattle.clru_curve.proofs.AgedPassing.{misses_weightless}
 use Rattle.clru_curve.specs.SizedAgedPasses.{AgedPassBySize, IsSizedAgedPass, aged_misses_by_size}
-use Rattle.clru_curve.specs.IdlePasses.{HasIdleMissesOf, IsIdlePass, TimedPass}
+use Rattle.clru_curve.specs.IdlePasses.{HasIdleMissesOf}
 use Rattle.clru_curve.proofs.TimedViews.{aged_misses-view, idle_misses-view, keys-view}
 use Rattle.clru_model.proofs.Views.{distinct-map, map-reverse}
 use Rattle.clru_model.proofs.Spans.{total_weightless}
@@ -92,19 +92,17 @@ module _ {A P : Type 0} (Is : List (OwnedKey A × ℕ) → P → Type 0) (reques
       (made has.past has.taken ∙ map_alike (λ c. own c (reverse has.past)) (λ c. shown c (map shown_of (reverse has.past)))
       (λ c. sym (alike c (reverse has.past))) capacities)
 
-module _ {A S : Type 0} (idle : ℕ) (requests : List (List ℕ × ℕ)) (pass : TimedPass (OwnedKey A) S) (has : HasTakenRequests (IsIdlePass same_line idle) requests pass)
-    (curve : List ℕ) where
-  pub idle_taken : ((past : List (OwnedKey A × ℕ)) → IsIdlePass same_line idle past pass → HasIdleMissesOf same_line idle (reverse past) curve)
+  -- under an idle limit the curve of the keys is that of what they show
+  pub idle_taken : (idle : ℕ) (curve : List ℕ) → ((past : List (OwnedKey A × ℕ)) → Is past pass → HasIdleMissesOf same_line idle (reverse past) curve)
       → HasIdleMissesOf bytes_eq idle requests curve
-  idle_taken made =
+  idle_taken idle curve made =
       subst (λ rs. HasIdleMissesOf bytes_eq idle rs curve) has.shown
       (λ k some. made has.past has.taken k some ∙ sym (idle_misses-view bytes_eq line_of k idle (reverse has.past)))
 
-  pub kinds_taken : ((past : List (OwnedKey A × ℕ)) → IsIdlePass same_line idle past pass → length curve ≡ distinct same_line (keys_of past))
+  pub kinds_taken : (curve : List ℕ) → ((past : List (OwnedKey A × ℕ)) → Is past pass → length curve ≡ distinct same_line (keys_of past))
       → length curve ≡ distinct bytes_eq (reverse (keys_of requests))
-  kinds_taken made =
-      made has.past has.taken ∙ sym (distinct-map bytes_eq line_of (keys_of has.past))
-      ∙ ap (distinct bytes_eq) (keys_taken (IsIdlePass same_line idle) requests pass has)
+  kinds_taken curve made =
+      made has.past has.taken ∙ sym (distinct-map bytes_eq line_of (keys_of has.past)) ∙ ap (distinct bytes_eq) keys_taken
 
 -- so many miss at each capacity under an age limit
 pub aged_taken : {A S : Type 0} (capacities : List ℕ) (idle : Option ℕ) (age : ℕ) (requests : List (List ℕ × ℕ))

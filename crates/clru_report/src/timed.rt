@@ -11,6 +11,7 @@ ghost use Rattle.clru_report.specs.Timed.{all_by, IsInFormOn, IsTimedReport, IsT
 
 mod aged;
 mod by_size;
+mod line_pass;
 mod lines;
 mod pass;
 mod sized_aged;

@@ -18,7 +18,7 @@ pub(super) trait TakesRequests<A: Allocator> {
     // Where keys weigh that by their lines, these requests were taken since the first of both states, the latest first.
     ghost since: { (List ℕ → ℕ) → Self → List (OwnedKey A × ℕ) → Self → Type 0 };
 
-    /// Takes one more request of this weight. Its key is copied where it is new. Returns whether it is.
+    /// Takes one more request of this weight. Its key is copied if it is new. Returns whether it is.
     fn take_request(
         &mut self,
         alloc: A,
@@ -26,7 +26,8 @@ pub(super) trait TakesRequests<A: Allocator> {
         time: usize,
         weight: usize,
     ) -> Result<bool, AllocError>
-        requires { (w : List ℕ → ℕ) × (start : Self) × (past : List (OwnedKey A × ℕ)) × since w start past self.old }
+        requires { (w : List ℕ → ℕ) × (start : Self) × (past : List (OwnedKey A × ℕ)) × since w start past self.old
+            × (weight ≡ w (line_of key.now)) }
         ensures { (w : List ℕ → ℕ) (start : Self) (past : List (OwnedKey A × ℕ)) → since w start past self.old
             → weight ≡ w (line_of key.now)
             → OnOk result (HasTakenRequest (since w start) past (line_of key.now) time self.new) };
@@ -131,7 +132,7 @@ fn take_kept<P: TakesRequests<A>, A: Allocator + Copy>(
     weight: usize,
 ) -> Result<bool, AllocError>
     requires { (w : List ℕ → ℕ) × (start : P) × (lines : List (List ℕ))
-        × HasTakenTimed (P.since w start) (non_zero_usize_get one_in) lines pass.old }
+        × HasTakenTimed (P.since w start) (non_zero_usize_get one_in) lines pass.old × (weight ≡ w rest.now) }
     ensures { (w : List ℕ → ℕ) (start : P) (lines : List (List ℕ)) (line : List ℕ)
         → HasTakenTimed (P.since w start) (non_zero_usize_get one_in) lines pass.old
         → time_of_line line ≡ Some time → rest.now ≡ rest_of_line line → weight ≡ w rest.now

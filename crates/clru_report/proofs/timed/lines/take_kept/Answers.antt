@@ -7,7 +7,10 @@ use Rattle.clru_report.proofs.TimedLines.{timed_skipped, timed_taken}
 use Rattle.clru_report.proofs.timed.lines.take_kept.Goals as goal
 
 pub take_request-requires : goal.take_request-requires
-take_request-requires g c = let has = c.requires.3 in (c.requires.0, c.requires.1, has.taken.past, has.taken.taken)
+take_request-requires g c =
+    let w = c.requires.0 in let has = c.requires.3 in
+    let copied = c.in_ok-extend_from_slice.ensures.items ∙ ap (λ bytes. bytes ++ c.args.rest.now) c.clear.ensures.items in
+    (w, c.requires.1, has.taken.past, has.taken.taken, c.requires.4 ∙ ap w (sym copied))
 
 pub returns-then-not-is_kept : goal.returns-then-not-is_kept
 returns-then-not-is_kept g c w start lines line has timed is weighs =

@@ -1,37 +1,43 @@
 use Rattle.std.proofs.Common.{[], refl, sym, ap, subst}
 use Rattle.std.specs.Int.NonZero.{non_zero_usize_get}
 use Rattle.std.specs.Prelude.{bytes_eq}
-use Rattle.clru_curve.specs.IdlePasses.{HasIdleMissesOf, IsIdlePass}
+use Rattle.clru_curve.specs.IdlePasses.{HasIdleMissesOf}
+use Rattle.clru_curve.specs.PositionPasses.{IsPositionPass}
 use Rattle.clru_text.specs.Keys.{same_line}
 use Rattle.clru_text.specs.Lines.{lines_of}
 use Rattle.clru_text.specs.Times.{kept_requests, requests_of}
-use Rattle.clru_report.specs.TimedPasses.{HasTakenTimed}
+use Rattle.clru_report.specs.TimedPasses.{HasTakenTimed, IsNoted, IsTimedLinePass}
 use Rattle.clru_report.proofs.TimedLines.{idle_taken, kinds_taken, timed_start}
 use Rattle.clru_report.proofs.timed.pass.curve_of_times.Goals as goal
 
 pub read_lines-requires : goal.read_lines-requires
 read_lines-requires g c =
-    let pass = c.with_hasher.result in let is = c.with_hasher.ensures in (
+    let table = c.new.result in (
       refl,
-      timed_start (λ past p. IsIdlePass same_line pass.limit past p) (non_zero_usize_get c.args.one_in) pass
-          (subst (λ l. IsIdlePass same_line l [] pass) (sym is.limit) is),
+      timed_start (IsTimedLinePass (IsPositionPass same_line table.limit) table.limit) (non_zero_usize_get c.args.one_in) _ (record {
+        noted = subst (λ l. IsNoted l [] table) (sym c.new.ensures.limit) c.new.ensures;
+        taken = c.new-2.ensures table.limit;
+      }),
     )
 
 pub returns-clause-curve : goal.returns-clause-curve
 returns-clause-curve g c =
-    let pass = c.with_hasher.result in let is = c.with_hasher.ensures in
+    let limit = c.new.result.limit in let Is = IsTimedLinePass (IsPositionPass same_line limit) limit in
     let now = c.read_lines.new.taker in let read = c.in_ok-requests.ensures.taken in let got = read.3.taken in
     let lines = lines_of read.0 in let n = non_zero_usize_get c.args.one_in in
-    let kept = kept_requests n (requests_of lines) in let curve = c.into_curve.result in
-    let has = subst (λ k. HasTakenTimed (λ past p. IsIdlePass same_line pass.limit past p) k lines now.pass) (ap non_zero_usize_get got.0) got.1 in (
+    let kept = kept_requests n (requests_of lines) in let curve = c.in-Ok.curve in
+    let has = subst (λ k. HasTakenTimed Is k lines now.pass) (ap non_zero_usize_get got.0) got.1 in
+    let same = sym c.into_pass.ensures in (
       read.0,
       read.1,
       read.2,
       record {
         timed = has.timed;
-        misses = subst (λ l. HasIdleMissesOf bytes_eq l kept curve) is.limit
-            (idle_taken pass.limit kept now.pass has.taken curve (c.into_curve.ensures.misses pass.limit));
-        distinct_keys = kinds_taken pass.limit kept now.pass has.taken curve (c.into_curve.ensures.distinct pass.limit);
+        misses = subst (λ l. HasIdleMissesOf bytes_eq l kept curve) c.new.ensures.limit
+            (idle_taken Is kept now.pass has.taken limit curve
+            (λ past is. c.in-Ok.ensures.misses limit past (subst (IsPositionPass same_line limit past) same is.taken)));
+        distinct_keys = kinds_taken Is kept now.pass has.taken curve
+            (λ past is. c.in-Ok.ensures.distinct limit past (subst (IsPositionPass same_line limit past) same is.taken));
         counted = read.3.counted;
         in_bytes = read.3.in_bytes;
       },

@@ -17,7 +17,7 @@ returns-in-Err-clause-fault g c =
     unwritten_line c.in-Some.rest.now c.args.number c.args.self.now.size c.in-Err.fault (c.in-Err.ensures.fault [])
 
 pub take_kept-requires : goal.take_kept-requires
-take_kept-requires g c = let since = c.requires.2 in (weight_of_line, c.requires.0.lines.pass, c.requires.1, since.1.timed)
+take_kept-requires g c = let since = c.requires.2 in (weight_of_line, c.requires.0.lines.pass, c.requires.1, since.1.timed, omega (arith, c.in-Ok.ensures.sum))
 
 pub returns-in-Ok-take_kept-clause-taken : goal.returns-in-Ok-take_kept-clause-taken
 returns-in-Ok-take_kept-clause-taken g c start lines since counted =
