@@ -8,7 +8,7 @@ use Rattle.std.proofs.lemmas.List.Elements.{All-nil, All-push}
 use Rattle.std.proofs.lemmas.List.Sums.{sum_by-cons}
 use Rattle.clru_curve.specs.SizedAgedPasses.{AgedPassBySize, IsSizedAgedPass, aged_missed_size, aged_misses_by_size}
 use Rattle.clru_curve.specs.SizedCurves.{CurveBySize, greatest_of, size_of_all}
-use Rattle.clru_curve.specs.SizedIdlePasses.{IsSizedIdleCurveOf, IsSizedIdlePass, TimedPassBySize}
+use Rattle.clru_curve.specs.SizedIdlePasses.{IsSizedIdleCurveOf}
 use Rattle.clru_curve.proofs.SizeViews.{greatest-view, total-view}
 use Rattle.clru_curve.proofs.SizedIdleViews.{idle_curve-view, missed_size-view, sized_misses-view}
 use Rattle.clru_model.proofs.Cases.{split}
@@ -104,12 +104,11 @@ module _ {A P : Type 0} (Is : List (OwnedKey A × ℕ) → P → Type 0) (n : �
   pub sized_free : fault_from 1 0 (rests_of lines) ≡ None
   sized_free = ap (fault_from 1 0) (sym (append-nil (rests_of lines))) ∙ has.faults []
 
-pub sized_idle_taken : {A S : Type 0} (idle : ℕ) (requests : List (List ℕ × ℕ)) (pass : TimedPassBySize (OwnedKey A) S) (curve : CurveBySize)
-    → HasTakenRequests (IsSizedIdlePass same_line weight_of_key idle) requests pass
-    → ((past : List (OwnedKey A × ℕ)) → IsSizedIdlePass same_line weight_of_key idle past pass
-    → IsSizedIdleCurveOf same_line weight_of_key idle (reverse past) curve)
+pub sized_idle_taken : {A P : Type 0} (Is : List (OwnedKey A × ℕ) → P → Type 0) (idle : ℕ) (requests : List (List ℕ × ℕ)) (pass : P) (curve : CurveBySize)
+    → HasTakenRequests Is requests pass
+    → ((past : List (OwnedKey A × ℕ)) → Is past pass → IsSizedIdleCurveOf same_line weight_of_key idle (reverse past) curve)
     → IsSizedIdleCurveOf bytes_eq weight_of_line idle requests curve
-sized_idle_taken idle requests pass curve has made =
+sized_idle_taken Is idle requests pass curve has made =
     subst (λ rs. IsSizedIdleCurveOf bytes_eq weight_of_line idle rs curve) has.shown
     (idle_curve-view bytes_eq weight_of_line line_of idle (reverse has.past) curve (made has.past has.taken))
 

@@ -1,21 +1,21 @@
 //! The one reading of a log whose lines begin with times and sizes.
-ghost use Rattle.std.specs.Prelude.{◌≡◌, ℕ, List, true, false, Some, IfErr, IfOk, OnOk};
+ghost use Rattle.std.specs.Prelude.{◌≡◌, true, false, Some, IfErr, IfOk};
 ghost use Rattle.std.specs.Int.NonZero.{non_zero_usize_get};
-ghost use Rattle.clru_curve.specs.SizedIdlePasses.{IsSizedIdlePass};
+ghost use Rattle.clru_curve.specs.SizedPositionPasses.{IsSizedPositionPass};
 ghost use Rattle.clru_text.specs.Faults.{is_of_input, is_of_writing};
 ghost use Rattle.clru_text.specs.Keys.{line_of, same_line};
 ghost use Rattle.clru_text.specs.Lines.{lines_of};
-ghost use Rattle.clru_text.specs.TakenRequests.{HasTakenRequest};
 ghost use Rattle.clru_text.specs.Times.{rests_of};
 ghost use Rattle.clru_text.specs.Whole.{ReadWhole};
-ghost use Rattle.clru_text.specs.declared.lines.OwnedKey.{OwnedKey};
 ghost use Rattle.clru_report.specs.Passes.{IsOfLines, IsSettled};
 ghost use Rattle.clru_report.specs.Refusals.{fault_from};
 ghost use Rattle.clru_report.specs.SizedTimedPasses.{IsSizedTimedCurveOf};
+ghost use Rattle.clru_report.specs.TimedPasses.{IsTimedLinePass};
 
+use super::line_pass::{LatestLines, TimedLinePass};
 use super::lines::{SizedTimedLines, TakesRequests, TimedLines};
 use crate::reading::read_lines;
-use clru_curve::{SizedCurve, SizedIdlePass};
+use clru_curve::{SizedCurve, SizedPositionPass};
 use clru_text::{Fault, OwnedKey};
 use std::alloc::{AllocError, Allocator};
 use std::hash::BuildHasher;
@@ -40,7 +40,10 @@ pub(super) fn curve_of_sized_times<R: Read, S: BuildHasher + Drop, A: Allocator 
         (λ input. IsOfLines fault (rests_of (lines_of input)) × (fault_from 1 0 (rests_of (lines_of input)) ≡ Some fault))) }
     ensures fault { IfErr result (λ fault. is_of_writing fault ≡ false) }
 {
-    let pass = SizedIdlePass::with_hasher(alloc, idle, hash_builder);
+    let pass = TimedLinePass {
+        lines: LatestLines::new(alloc, idle, hash_builder),
+        pass: SizedPositionPass::new(alloc),
+    };
     let mut sized = SizedTimedLines {
         lines: TimedLines {
             alloc,
@@ -63,46 +66,28 @@ pub(super) fn curve_of_sized_times<R: Read, S: BuildHasher + Drop, A: Allocator 
         pass,
         key: _,
     } = lines;
-    Ok((pass.into_curve(), requests, size, distinct, bytes))
+    let curve = pass.into_pass().into_curve();
+    Ok((curve, requests, size, distinct, bytes))
 }
 
-impl<S: BuildHasher, A: Allocator + Copy> TakesRequests<A> for SizedIdlePass<OwnedKey<A>, S, A> {
+impl<S: BuildHasher, A: Allocator + Copy> TakesRequests<A>
+    for TimedLinePass<SizedPositionPass<OwnedKey<A>, A>, S, A> {
     // Under the limit of the first state.
-    ghost since = { λ w start past now. IsSizedIdlePass same_line (λ k. w (line_of k)) start.limit past now };
+    ghost since = { λ w start past now. IsTimedLinePass (IsSizedPositionPass same_line (λ k. w (line_of k)) start.lines.limit)
+        start.lines.limit past now };
 
+    // The sizes of the kept lines are too large only where those of all are, and then the line was refused before.
     fn take_request(
         &mut self,
-        alloc: A,
+        _alloc: A,
         key: &OwnedKey<A>,
         time: usize,
         weight: usize,
     ) -> Result<bool, AllocError> {
-        take_request(alloc, self, key, time, weight)
-    }
-}
-
-// Takes one more request of this weight. Its key is copied where it is new. Returns whether it is. The sizes of the kept lines are
-// too large only where those of all are, and then the line was refused before.
-fn take_request<S: BuildHasher, A: Allocator + Copy>(
-    alloc: A,
-    pass: &mut SizedIdlePass<OwnedKey<A>, S, A>,
-    key: &OwnedKey<A>,
-    time: usize,
-    weight: usize,
-) -> Result<bool, AllocError>
-    ensures { (w : List ℕ → ℕ) (idle : ℕ) (past : List (OwnedKey A × ℕ))
-        → IsSizedIdlePass same_line (λ k. w (line_of k)) idle past pass.old → weight ≡ w (line_of key.now)
-        → OnOk result (HasTakenRequest (IsSizedIdlePass same_line (λ k. w (line_of k)) idle) past (line_of key.now) time pass.new) }
-{
-    match pass.request_again(key, time, weight) {
-        Ok(Some(_)) => Ok(false),
-        Ok(None) => {
-            let bytes = Vec::from_slice(alloc, &key.0)?;
-            match pass.request(OwnedKey(bytes), time, weight) {
-                Ok(_) => Ok(true),
-                Err(_) => Err(AllocError),
-            }
+        let (latest, soon) = self.lines.note(key, time)?;
+        match self.pass.request(latest, soon, weight) {
+            Ok(_) => Ok(latest.is_none()),
+            Err(_) => Err(AllocError),
         }
-        Err(_) => Err(AllocError),
     }
 }
