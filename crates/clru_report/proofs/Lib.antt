@@ -22,6 +22,7 @@ mod RowLemmas
 mod SettledCurves
 mod SettledIdle
 mod SizedAfterLemmas
+mod SizedLinePasses
 mod SizedPieces
 mod SizedReports
 mod SizedSamples

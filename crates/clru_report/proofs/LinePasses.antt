@@ -26,6 +26,9 @@ pub keys_timeless : {K : Type 0} (ks : List K) → keys_of (timeless ks) ≡ ks
 keys_timeless [] = refl
 keys_timeless (k ∷ ks) = ap (λ l. k ∷ l) (keys_timeless ks)
 
+pub none_late : {K : Type 0} (ks : List K) → All (λ r. r.1 ≡ 0) (timeless ks)
+none_late {K = K} ks = All-map (λ (r : K × ℕ). r.1 ≡ 0) (λ (key : K). (key, 0)) ks (λ i d low. refl)
+
 module _ {A : Type 0} (past : List (OwnedKey A)) where
   -- what is said of keys is said of their requests at the time 0
   module _ (key : OwnedKey A) (latest : Option ℕ) (is : IsLatestOf same_line past key latest) where
@@ -57,8 +60,6 @@ module _ {A : Type 0} (past : List (OwnedKey A)) where
   pub misses_of_keys : (curve : List ℕ) → HasIdleMissesOf same_line 0 (reverse (timeless past)) curve → HasMissesOf same_line (reverse past) curve
   misses_of_keys curve has k some =
       let keys = reverse past in
-      let none_late : All (λ r. r.1 ≡ 0) (timeless keys) =
-      All-map (λ (r : OwnedKey A × ℕ). r.1 ≡ 0) (λ (key : OwnedKey A). (key, 0)) keys (λ i d low. refl) in
       has k some ∙ ap (idle_misses same_line 0 k) (sym (map-reverse (λ (key : OwnedKey A). (key, 0)) past))
-      ∙ misses_timeless same_line (on_equiv (λ (key : OwnedKey A). line_of key) bytes_laws) 0 (timeless keys) none_late k
+      ∙ misses_timeless same_line (on_equiv (λ (key : OwnedKey A). line_of key) bytes_laws) 0 (timeless keys) (none_late keys) k
       ∙ ap (misses same_line k) (keys_timeless keys)

@@ -5,22 +5,22 @@ use Rattle.std.specs.List.{filter}
 use Rattle.std.proofs.lemmas.List.Elements.{All-push, All-weaker}
 use Rattle.std.proofs.lemmas.List.Sums.{sum_by-append, sum_by-cons}
 use Rattle.clru_curve.specs.SizedCurves.{CurveBySize, IsSizedCurveOf}
-use Rattle.clru_curve.specs.SizedPasses.{PassBySize}
 use Rattle.clru_least.specs.Reuses.{Reused}
 use Rattle.clru_model.specs.Requests.{distinct}
 use Rattle.clru_text.specs.Samples.{kept_of, times}
 use Rattle.clru_text.specs.Sizes.{size_of_line, weight_of_line}
-use Rattle.clru_text.specs.declared.lines.OwnedKey.{OwnedKey}
 use Rattle.clru_text.specs.declared.options.Form.{Form}
 use Rattle.clru_text.specs.declared.options.Form.TheVariants.{Table, Json, Picture, Summary}
 use Rattle.clru_text.specs.declared.options.Options.{Options}
 use Rattle.clru_text.proofs.Samples.{all_kept}
-use Rattle.clru_report.specs.Passes.{AreFloorsFor, AreRowsOf, HasTaken, HasTakenOf, IsRowOf, IsSizedCurveOfKept, capacities_on, distinct_in, has_rows}
+use Rattle.clru_report.specs.Passes.{AreFloorsFor, AreRowsOf, IsRowOf, IsSizedCurveOfKept, capacities_on, distinct_in, has_rows}
 use Rattle.clru_report.specs.SampleTables.{IsSampledTable, IsSampledText}
+use Rattle.clru_report.specs.SizedLinePasses.{HasTaken, HasTakenOf}
 use Rattle.clru_report.specs.SizedReport.{AreSizedRows, IsInFormBySizeOfSample, IsSizedRow, IsSizedTableOfSample, distinct_size, sized_capacities_of_sample, summary_by_size_of_sample}
 use Rattle.clru_report.specs.SizedTables.{sized_summary_text, sized_table_text}
 use Rattle.clru_report.specs.Sizes.{greatest_size, size_of_lines}
 use Rattle.clru_report.specs.declared.sized.floors.Floors.{Floors}
+use Rattle.clru_report.specs.declared.sized.line_pass.SizedLinePass.{SizedLinePass}
 use Rattle.clru_report.specs.declared.sized.rows.SizedRow.{SizedRow}
 use Rattle.clru_report.proofs.SizedReports.{capacities_are, distinct_are, greatest_is, row_is, usual_is}
 
@@ -39,8 +39,8 @@ size_more lines rest line = omega (
   sum_by-cons (λ x. 1 + weight_of_line x) line rest,
 )
 
-pub counted_more : {A S : Type 0} (floored : Bool) (n : ℕ) (lines : List (List ℕ)) (line : List ℕ) (size more : ℕ)
-    (pass next : PassBySize (OwnedKey A) S) (reused after : Option Reused)
+pub counted_more : {S A H : Type 0} (floored : Bool) (n : ℕ) (lines : List (List ℕ)) (line : List ℕ) (size more : ℕ)
+    (pass next : SizedLinePass S A H) (reused after : Option Reused)
     → HasTakenOf floored n lines size pass reused → IsSome (size_of_line line) → more ≡ size + (1 + weight_of_line line)
     → HasTaken floored (kept_of n (lines ++ line ∷ [])) next after → HasTakenOf floored n (lines ++ line ∷ []) more next after
 counted_more floored n lines line size more pass next reused after of sized sum taken = record {

@@ -1,15 +1,13 @@
 -- What a pass knows that has taken lines: one more line, and the curve.
-use Rattle.std.proofs.Common.{◌≡◌, Bool, ℕ, ◌+◌, List, None, [], ◌∷◌, ◌++◌, IsNone, IsSome, IfSome, Option, not, map, length, reverse, take, Some, refl, sym, ap, ◌∙◌, subst}
+use Rattle.std.proofs.Common.{◌≡◌, Bool, ℕ, ◌+◌, List, None, [], ◌∷◌, ◌++◌, IsNone, IsSome, Option, map, length, reverse, take, Some, refl, sym, ap, ◌∙◌, subst}
 use Rattle.std.specs.Prelude.{bytes_eq, IsSomeAnd}
-use Rattle.std.specs.List.{list_any, slice_get, take_while}
+use Rattle.std.specs.List.{slice_get}
 use Rattle.std.proofs.lemmas.Grind.{reverse_onto}
 use Rattle.std.proofs.lemmas.List.{map-append, reverse-reverse}
 use Rattle.std.proofs.lemmas.List.Elements.{All-push}
 use Rattle.clru_curve.specs.SizedCurves.{CurveBySize, IsSizedCurveOf}
-use Rattle.clru_curve.specs.SizedPasses.{PassBySize, IsSizedPass}
 use Rattle.clru_curve.specs.Curves.{HasMissesOf}
 use Rattle.clru_curve.proofs.SizeViews.{curve-view}
-use Rattle.clru_least.specs.Passes.{IsLatestOf}
 use Rattle.clru_least.specs.Reuses.{Reused}
 use Rattle.clru_model.proofs.Views.{distinct-map, map-reverse, misses-map}
 use Rattle.clru_model.specs.Requests.{distinct}
@@ -17,28 +15,17 @@ use Rattle.clru_text.specs.Keys.{line_of, same_line}
 use Rattle.clru_text.specs.Sizes.{HaveSizes, size_of_line, weight_of_line}
 use Rattle.clru_text.specs.declared.lines.OwnedKey.{OwnedKey}
 use Rattle.clru_report.specs.LinePasses.{HasTakenFor, HasTakenLines, IsLinePass}
-use Rattle.clru_report.specs.Passes.{HasFloorPass, HasForesight, HasTaken, HasTakenSized, IsForeseenFor, weight_of_key}
+use Rattle.clru_report.specs.Passes.{HasFloorPass, HasForesight, IsForeseenFor, weight_of_key}
 use Rattle.clru_report.specs.Refusals.{IsFirstWithout}
+use Rattle.clru_report.specs.SizedLinePasses.{HasTaken, IsSizedLinePass}
 use Rattle.clru_report.specs.declared.line_pass.LinePass.{LinePass}
+use Rattle.clru_report.specs.declared.sized.line_pass.SizedLinePass.{SizedLinePass}
 
 -- one more key shows one more line
-shown_more : {A : Type 0} (key : OwnedKey A) (past : List (OwnedKey A))
-    → map line_of (reverse (key ∷ past)) ≡ map line_of (reverse past) ++ line_of key ∷ []
-shown_more key past = ap (map line_of) (reverse_onto past key []) ∙ map-append line_of (reverse past) (key ∷ [])
-
--- and it shows the line that it is of
-one_more : {A : Type 0} (lines : List (List ℕ)) (past : List (OwnedKey A)) (key : OwnedKey A) (line : List ℕ)
-    → map line_of (reverse past) ≡ lines → line_of key ≡ line → map line_of (reverse (key ∷ past)) ≡ lines ++ line ∷ []
-one_more lines past key line shown is =
-    shown_more key past ∙ ap (λ ls. ls ++ line_of key ∷ []) shown ∙ ap (λ l. lines ++ l ∷ []) is
-
--- the latest request of a key is that of each other key of its line
-pub latest_alike : {A : Type 0} (past : List (OwnedKey A)) (x y : OwnedKey A) (latest : Option ℕ) → line_of x ≡ line_of y
-    → IsLatestOf same_line past x latest → IsLatestOf same_line past y latest
-latest_alike past x y latest is of = record {
-  known = of.known ∙ ap (λ l. list_any (λ z. bytes_eq l (line_of z)) past) is;
-  position = subst (λ l. IfSome latest (λ p. p + 1 + length (take_while (λ z. not (bytes_eq l (line_of z))) past) ≡ length past)) is of.position;
-}
+one_more : {A : Type 0} (lines : List (List ℕ)) (past : List (OwnedKey A)) (key : OwnedKey A)
+    → map line_of (reverse past) ≡ lines → map line_of (reverse (key ∷ past)) ≡ lines ++ line_of key ∷ []
+one_more lines past key shown =
+    ap (map line_of) (reverse_onto past key []) ∙ map-append line_of (reverse past) (key ∷ []) ∙ ap (λ ls. ls ++ line_of key ∷ []) shown
 
 -- what is asked for beside the pass took these lines
 module _ {A : Type 0} (lines : List (List ℕ)) (past : List (OwnedKey A)) (shown : map line_of (reverse past) ≡ lines) where
@@ -54,7 +41,7 @@ module _ {S A H : Type 0} (least floored : Bool) (lines : List (List ℕ)) (pass
       → HasTakenFor least floored (lines ++ line_of key ∷ []) next after more
   one_taken key next after more taken foreseen noted = record {
     past = key ∷ all.past;
-    shown = one_more lines all.past key (line_of key) all.shown refl;
+    shown = one_more lines all.past key all.shown;
     taken = taken;
     foreseen = foreseen;
     floored = noted;
@@ -71,7 +58,7 @@ module _ {S A H : Type 0} (lines : List (List ℕ)) (pass : LinePass S A H) (tak
   pub line_taken : (key : OwnedKey A) (next : LinePass S A H) → IsLinePass (key ∷ taken.past) next → HasTakenLines (lines ++ line_of key ∷ []) next
   line_taken key next one = record {
     past = key ∷ taken.past;
-    shown = one_more lines taken.past key (line_of key) taken.shown refl;
+    shown = one_more lines taken.past key taken.shown;
     taken = one;
   }
 
@@ -89,26 +76,22 @@ module _ {S A H : Type 0} (lines : List (List ℕ)) (pass : LinePass S A H) (tak
         ∙ ap (distinct bytes_eq) (sym (reverse-reverse (map line_of taken.past))
         ∙ ap reverse (sym (map-reverse line_of taken.past) ∙ taken.shown))
 
-pub sized_taken : {A S : Type 0} (past : List (OwnedKey A)) (key : OwnedKey A) (line : List ℕ) (next : PassBySize (OwnedKey A) S)
-    → line_of key ≡ line → IsSizedPass same_line weight_of_key (key ∷ past) next → HasTakenSized past line next
-sized_taken past key line next is taken = record { key = key; is = is; taken = taken }
-
-module _ {A S : Type 0} (floored : Bool) (lines : List (List ℕ)) (pass : PassBySize (OwnedKey A) S) (reused : Option Reused)
+module _ {S A H : Type 0} (floored : Bool) (lines : List (List ℕ)) (pass : SizedLinePass S A H) (reused : Option Reused)
     (taken : HasTaken floored lines pass reused) where
   -- one more line, which has a size
-  pub taken_more : (line : List ℕ) (next : PassBySize (OwnedKey A) S) (more : Option Reused) → IsSome (size_of_line line)
-      → ((same : OwnedKey A) → line_of same ≡ line → HasFloorPass weight_of_line floored (same ∷ taken.past) more)
-      → HasTakenSized taken.past line next → HasTaken floored (lines ++ line ∷ []) next more
-  taken_more line next more size noted one = record {
-    past = one.key ∷ taken.past;
-    shown = one_more lines taken.past one.key line taken.shown one.is;
-    sizes = All-push (λ l. IsSome (size_of_line l)) lines line taken.sizes size;
-    taken = one.taken;
-    floored = noted one.key one.is;
+  pub taken_more : (key : OwnedKey A) (next : SizedLinePass S A H) (more : Option Reused) → IsSome (size_of_line (line_of key))
+      → IsSizedLinePass (key ∷ taken.past) next → HasFloorPass weight_of_line floored (key ∷ taken.past) more
+      → HasTaken floored (lines ++ line_of key ∷ []) next more
+  taken_more key next more size one noted = record {
+    past = key ∷ taken.past;
+    shown = one_more lines taken.past key taken.shown;
+    sizes = All-push (λ l. IsSome (size_of_line l)) lines (line_of key) taken.sizes size;
+    taken = one;
+    floored = noted;
   }
 
   pub curve_taken : (curve : CurveBySize)
-      → ((past : List (OwnedKey A)) → IsSizedPass same_line weight_of_key past pass → IsSizedCurveOf same_line weight_of_key (reverse past) curve)
+      → ((past : List (OwnedKey A)) → IsSizedLinePass past pass → IsSizedCurveOf same_line weight_of_key (reverse past) curve)
       → IsSizedCurveOf bytes_eq weight_of_line lines curve
   curve_taken curve made =
       subst (λ ls. IsSizedCurveOf bytes_eq weight_of_line ls curve) taken.shown

@@ -22,6 +22,7 @@ pub mod Samples
 pub mod Scans
 pub mod SizedAfter
 pub mod SizedAfterPasses
+pub mod SizedLinePasses
 pub mod SizedReport
 pub mod SizedTables
 pub mod SizedTimed

@@ -1,8 +1,7 @@
 -- What a pass over lines has taken, and what it answers. No public clause cites it.
-use Rattle.std.specs.Prelude.{◌≡◌, Bool, true, false, ◌&&◌, Option, None, Some, ℕ, ◌+◌, ◌<◌, ◌≤◌, ◌^◌, List, ◌∷◌, length, map, reverse, bytes_eq, ◌==◌, if◌then◌else◌, ⊤}
+use Rattle.std.specs.Prelude.{◌≡◌, Bool, true, false, ◌&&◌, Option, None, Some, ℕ, ◌+◌, ◌<◌, ◌≤◌, ◌^◌, List, length, map, reverse, bytes_eq, ◌==◌, if◌then◌else◌, ⊤}
 use Rattle.std.specs.List.{All, Contains}
 use Rattle.clru_curve.specs.SizedCurves.{CurveBySize, IsSizedCurveOf, misses_within, missed_size_within}
-use Rattle.clru_curve.specs.SizedPasses.{PassBySize, IsSizedPass}
 use Rattle.clru_curve.specs.Curves.{HasMissesOf, misses_at}
 use Rattle.clru_least.specs.Passes.{IsForesight}
 use Rattle.clru_least.specs.FloorNumbers.{Floored, IsFloorOf, IsSizeFloorOf, floor_at, size_floor_at}
@@ -36,10 +35,6 @@ use Rattle.clru_report.specs.declared.sized.rows.SizedRow.{SizedRow}
 -- at each capacity the curve has so many misses
 abbrev pub HasMisses : (ℕ → ℕ) → List ℕ → Type 0
 HasMisses m curve = (k : ℕ) → 0 < k → misses_at curve k ≡ m k
-
--- the hash of a line, by what the builder and its hasher say
-abbrev pub hash_of_line : {S H : Type 0} → (H → ℕ) → (H → List ℕ → H) → (S → H) → S → List ℕ → ℕ
-hash_of_line finish write build builder line = finish (write (build builder) line)
 
 abbrev pub weight_of_key : {A : Type 0} → OwnedKey A → ℕ
 weight_of_key x = weight_of_line (line_of x)
@@ -117,27 +112,6 @@ IsTextByKeys Table least floor counts knees rows text = text ≡ table_text fals
 IsTextByKeys Json least floor counts knees rows text = text ≡ table_text true least floor counts.requests knees rows
 IsTextByKeys Picture least floor counts knees rows text = HasTable (table_text false least floor counts.requests knees rows) text
 IsTextByKeys Summary least floor counts knees rows text = text ≡ summary_text counts.requests counts.distinct counts.bytes
-
--- the pass took these lines, each of which has a size, and so did that for a floor if it is asked for
-pub record HasTaken {A S : Type 0} (floor : Bool) (lines : List (List ℕ)) (pass : PassBySize (OwnedKey A) S) (reused : Option Reused) : Type 0 where
-  pub past : List (OwnedKey A)
-  pub shown : map line_of (reverse past) ≡ lines
-  pub sizes : HaveSizes lines
-  pub taken : IsSizedPass same_line weight_of_key past pass
-  pub floored : HasFloorPass weight_of_line floor past reused
-
--- after these keys the pass took one more, of this line
-pub record HasTakenSized {A S : Type 0} (past : List (OwnedKey A)) (line : List ℕ) (pass : PassBySize (OwnedKey A) S) : Type 0 where
-  pub key : OwnedKey A
-  pub is : line_of key ≡ line
-  pub taken : IsSizedPass same_line weight_of_key (key ∷ past) pass
-
--- of these lines, each of which has a size, and which have that size together, the passes took those that a sample keeps
-pub record HasTakenOf {A S : Type 0} (floor : Bool) (n : ℕ) (lines : List (List ℕ)) (size : ℕ) (pass : PassBySize (OwnedKey A) S)
-    (reused : Option Reused) : Type 0 where
-  pub sizes : HaveSizes lines
-  pub summed : size ≡ size_of_lines lines
-  pub taken : HasTaken floor (kept_of n lines) pass reused
 
 -- why lines have no curve
 abbrev pub IsOfLines : Fault → List (List ℕ) → Type 0

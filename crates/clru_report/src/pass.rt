@@ -1,5 +1,5 @@
 //! The one reading of a log whose lines are keys.
-ghost use Rattle.std.specs.Prelude.{ℕ, List, Bool, [], ◌∷◌, ◌++◌, map, reverse, IfOk, OnOk};
+ghost use Rattle.std.specs.Prelude.{◌≡◌, ℕ, List, Bool, [], ◌∷◌, ◌++◌, map, reverse, IfOk, OnOk};
 ghost use Rattle.std.specs.Int.NonZero.{non_zero_usize_get};
 ghost use Rattle.clru_curve.specs.PositionPasses.{IsLatestOf};
 ghost use Rattle.clru_text.specs.Keys.{line_of, same_line};
@@ -109,7 +109,7 @@ fn take_kept<S: BuildHasher, A: Allocator + Copy>(
         return Err(AllocError);
     };
     foresee(foresight, latest)?;
-    note_reuse(reuses, latest)
+    note_reuse(reuses, latest, 0)
 }
 
 // The foresight learns where the key was requested last.
@@ -128,19 +128,21 @@ fn foresee<A: Allocator + Copy>(
     }
 }
 
-// And so does the pass for a floor.
-fn note_reuse<A: Allocator + Copy>(
+/// The pass for a floor learns where a key of this weight was requested last.
+pub(crate) fn note_reuse<A: Allocator + Copy>(
     reuses: &mut Option<FloorPass<OwnedKey<A>, A>>,
     latest: Option<usize>,
+    weight: usize,
 ) -> Result<(), AllocError>
-    requires { (floored : Bool) × (past : List (OwnedKey A)) × (key : OwnedKey A) × IsLatestOf same_line past key latest
-        × HasFloorPass (λ _. 0) floored past reuses.old }
-    ensures { (floored : Bool) (past : List (OwnedKey A)) (key : OwnedKey A) → IsLatestOf same_line past key latest
-        → HasFloorPass (λ _. 0) floored past reuses.old → OnOk result (HasFloorPass (λ _. 0) floored (key ∷ past) reuses.new) }
+    requires { (w : List ℕ → ℕ) × (floored : Bool) × (past : List (OwnedKey A)) × (key : OwnedKey A)
+        × IsLatestOf same_line past key latest × HasFloorPass w floored past reuses.old }
+    ensures { (w : List ℕ → ℕ) (floored : Bool) (past : List (OwnedKey A)) (key : OwnedKey A) → IsLatestOf same_line past key latest
+        → HasFloorPass w floored past reuses.old → weight ≡ w (line_of key)
+        → OnOk result (HasFloorPass w floored (key ∷ past) reuses.new) }
 {
     match reuses {
         None => Ok(()),
-        Some(reuses) => match reuses.request(latest, 0) {
+        Some(reuses) => match reuses.request(latest, weight) {
             Ok(()) => Ok(()),
             Err(_) => Err(AllocError),
         },

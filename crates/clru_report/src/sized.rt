@@ -18,6 +18,7 @@ mod capacities;
 mod faithful;
 mod floors;
 mod key_log;
+mod line_pass;
 mod one_size;
 mod pass;
 mod ratio;

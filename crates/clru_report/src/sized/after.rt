@@ -15,12 +15,13 @@ ghost use Rattle.clru_report.specs.SizedAfter.{AreSizedCounted, counted_size, Is
 ghost use Rattle.clru_report.specs.SizedAfterPasses.{AreSizedCurvesAround, IsCountedOf, IsSizedHead, IsTooSmall, StaysBetween};
 
 use super::behind::{capacities_behind, sized_rows_behind, usual_table_behind};
+use super::line_pass::SizedLinePass;
 use super::pass::count_and_take;
 use super::rows::{SizedRow, sized_rows_at, sized_rows_for};
 use super::sample::Totals;
 use super::table::sized_table_of;
 use crate::picture::picture_behind;
-use clru_curve::{SizedCurve, SizedPass};
+use clru_curve::SizedCurve;
 use clru_text::{Capacities, Fault, Form, LineBuffer, Options, OwnedKey, read_fault};
 use std::alloc::{AllocError, Allocator};
 use std::hash::BuildHasher;
@@ -67,7 +68,7 @@ fn sized_curves_around<R: Read, S: BuildHasher + Drop, A: Allocator + Copy>(
     ensures fault { IfErr result (λ fault. is_of_writing fault ≡ false) }
 {
     let one_in = NonZeroUsize::MIN;
-    let mut pass = SizedPass::with_hasher(alloc, hash_builder);
+    let mut pass = SizedLinePass::new(alloc, hash_builder);
     let mut reuses = None;
     let mut head = None;
     let mut buffer = LineBuffer::new(alloc);
@@ -89,7 +90,7 @@ fn sized_curves_around<R: Read, S: BuildHasher + Drop, A: Allocator + Copy>(
         }
         requests += 1;
         if refused.is_none() {
-            match count_and_take(alloc, one_in, &mut pass, &mut reuses, &key, requests, size) {
+            match count_and_take(one_in, &mut pass, &mut reuses, &key, requests, size) {
                 Ok(more) => size = more,
                 Err(Fault::Memory) => return Err(Fault::Memory),
                 Err(fault) => refused = Some(fault),

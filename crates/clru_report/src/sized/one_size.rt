@@ -13,8 +13,9 @@ ghost use Rattle.clru_report.specs.Refusals.{fault_from};
 
 use super::floors::{Floors, floors_of};
 use super::key_log::{KeyLog, read_log};
+use super::line_pass::SizedLinePass;
 use super::pass::{count_and_take, curve_by_size};
-use clru_curve::{SizedCurve, SizedPass};
+use clru_curve::SizedCurve;
 use clru_least::FloorPass;
 use clru_text::{Fault, OwnedKey};
 use std::alloc::{AllocError, Allocator};
@@ -85,7 +86,7 @@ fn curve_of_log<S: BuildHasher + Drop, A: Allocator + Copy>(
         → IsOfLines fault (lines_in log.now) × (fault_from 1 0 (lines_in log.now) ≡ Some fault)) }
     ensures fault { IfErr result (λ fault. is_of_writing fault ≡ false) }
 {
-    let mut pass = SizedPass::with_hasher(alloc, hash_builder);
+    let mut pass = SizedLinePass::new(alloc, hash_builder);
     let mut reuses = if floored {
         Some(FloorPass::new(alloc))
     } else {
@@ -99,7 +100,7 @@ fn curve_of_log<S: BuildHasher + Drop, A: Allocator + Copy>(
         let Ok(()) = write_line(&mut digits, &mut key, log.sizes[number], &log.tails[number]) else {
             return Err(Fault::Memory);
         };
-        match count_and_take(alloc, one_in, &mut pass, &mut reuses, &key, index + 1, size) {
+        match count_and_take(one_in, &mut pass, &mut reuses, &key, index + 1, size) {
             Ok(more) => size = more,
             Err(fault) => return Err(fault),
         }

@@ -1,20 +1,21 @@
 //! The one reading of a log whose lines are objects with their sizes.
 ghost use Rattle.std.specs.Prelude.{◌≡◌, ℕ, ◌+◌, Bool, true, false, List, [], ◌∷◌, ◌++◌, length, Some, IsSome, IfErr, IfOk, OnOk};
 ghost use Rattle.std.specs.Int.NonZero.{non_zero_usize_get};
-ghost use Rattle.clru_curve.specs.SizedPasses.{IsSizedPass};
 ghost use Rattle.clru_text.specs.Faults.{is_of_input, is_of_writing};
-ghost use Rattle.clru_text.specs.Keys.{line_of, same_line};
+ghost use Rattle.clru_text.specs.Keys.{line_of};
 ghost use Rattle.clru_text.specs.Lines.{lines_of};
 ghost use Rattle.clru_text.specs.Samples.{kept_of};
 ghost use Rattle.clru_text.specs.Sizes.{HaveSizes, size_of_line, weight_of_line};
 ghost use Rattle.clru_text.specs.Whole.{ReadWhole};
-ghost use Rattle.clru_text.specs.declared.lines.OwnedKey.{OwnedKey};
-ghost use Rattle.clru_report.specs.Passes.{AreFloorsFor, HasFloorPass, HasTaken, HasTakenOf, HasTakenSized, IsOfLines, IsSettled, IsSizedCurveOfKept, hash_of_line, weight_of_key};
+ghost use Rattle.clru_report.specs.Passes.{AreFloorsFor, IsOfLines, IsSettled, IsSizedCurveOfKept};
 ghost use Rattle.clru_report.specs.Refusals.{fault_from};
+ghost use Rattle.clru_report.specs.SizedLinePasses.{HasTaken, HasTakenOf};
 ghost use Rattle.clru_report.specs.Sizes.{size_of_lines};
 
 use super::floors::{Floors, floors_of};
-use clru_curve::{SizedCurve, SizedPass};
+use super::line_pass::SizedLinePass;
+use crate::pass::note_reuse;
+use clru_curve::SizedCurve;
 use clru_least::FloorPass;
 use clru_text::{Fault, LineBuffer, OwnedKey, is_kept, read_fault, size_of};
 use std::alloc::{AllocError, Allocator};
@@ -42,7 +43,7 @@ pub(super) fn curve_by_size<R: Read, S: BuildHasher + Drop, A: Allocator + Copy>
         (λ input. IsOfLines fault (lines_of input) × (fault_from 1 0 (lines_of input) ≡ Some fault))) }
     ensures fault { IfErr result (λ fault. is_of_writing fault ≡ false) }
 {
-    let mut pass = SizedPass::with_hasher(alloc, hash_builder);
+    let mut pass = SizedLinePass::new(alloc, hash_builder);
     let mut reuses = if floored {
         Some(FloorPass::new(alloc))
     } else {
@@ -61,7 +62,7 @@ pub(super) fn curve_by_size<R: Read, S: BuildHasher + Drop, A: Allocator + Copy>
         }
         requests += 1;
         if refused.is_none() {
-            match count_and_take(alloc, one_in, &mut pass, &mut reuses, &key, requests, size) {
+            match count_and_take(one_in, &mut pass, &mut reuses, &key, requests, size) {
                 Ok(more) => size = more,
                 Err(Fault::Memory) => return Err(Fault::Memory),
                 Err(fault) => refused = Some(fault),
@@ -82,9 +83,8 @@ pub(super) fn curve_by_size<R: Read, S: BuildHasher + Drop, A: Allocator + Copy>
 
 /// Returns the size of all lines with one more, of this number, which is taken if the sample keeps it.
 pub(super) fn count_and_take<S: BuildHasher, A: Allocator + Copy>(
-    alloc: A,
     one_in: NonZeroUsize,
-    pass: &mut SizedPass<OwnedKey<A>, S, A>,
+    pass: &mut SizedLinePass<S, A>,
     reuses: &mut Option<FloorPass<OwnedKey<A>, A>>,
     key: &OwnedKey<A>,
     number: usize,
@@ -105,7 +105,7 @@ pub(super) fn count_and_take<S: BuildHasher, A: Allocator + Copy>(
         Ok(more) => more,
         Err(fault) => return Err(fault),
     };
-    match take_kept(alloc, one_in, pass, reuses, key, more - size - 1) {
+    match take_kept(one_in, pass, reuses, key, more - size - 1) {
         Ok(()) => Ok(more),
         Err(_) => Err(Fault::Memory),
     }
@@ -131,11 +131,11 @@ pub(crate) fn count_line(line: &[u8], number: usize, size: usize) -> Result<usiz
     }
 }
 
-// Takes one more line of this weight if the sample keeps it.
+// Takes one more line of this weight if the sample keeps it. The sizes of the kept lines are too large only where those of all are,
+// and then the line was refused before.
 fn take_kept<S: BuildHasher, A: Allocator + Copy>(
-    alloc: A,
     one_in: NonZeroUsize,
-    pass: &mut SizedPass<OwnedKey<A>, S, A>,
+    pass: &mut SizedLinePass<S, A>,
     reuses: &mut Option<FloorPass<OwnedKey<A>, A>>,
     key: &OwnedKey<A>,
     weight: usize,
@@ -150,59 +150,8 @@ fn take_kept<S: BuildHasher, A: Allocator + Copy>(
     if !is_kept(&key.0, one_in) {
         return Ok(());
     }
-    let hash = pass.hash(key);
-    note_reuse(pass, reuses, hash, key, weight)?;
-    take_line(alloc, pass, hash, key, weight)
-}
-
-// The pass for a floor learns where the key was requested last.
-fn note_reuse<S: BuildHasher, A: Allocator + Copy>(
-    pass: &SizedPass<OwnedKey<A>, S, A>,
-    reuses: &mut Option<FloorPass<OwnedKey<A>, A>>,
-    hash: u64,
-    key: &OwnedKey<A>,
-    weight: usize,
-) -> Result<(), AllocError>
-    requires hash { hash ≡ hash_of_line S.Hasher.Hasher.finish S.Hasher.Hasher.write S.BuildHasher.build_hasher pass.now.builder (line_of key.now) }
-    requires taken { (floored : Bool) × (past : List (OwnedKey A)) × IsSizedPass same_line weight_of_key past pass.now
-        × HasFloorPass weight_of_line floored past reuses.old }
-    ensures { (floored : Bool) (past : List (OwnedKey A)) → IsSizedPass same_line weight_of_key past pass.now
-        → HasFloorPass weight_of_line floored past reuses.old → weight ≡ weight_of_line (line_of key.now)
-        → OnOk result ((same : OwnedKey A) → line_of same ≡ line_of key.now → HasFloorPass weight_of_line floored (same ∷ past) reuses.new) }
-{
-    match reuses {
-        None => Ok(()),
-        Some(reuses) => match reuses.request(pass.latest_request_with_hash(hash, key), weight) {
-            Ok(()) => Ok(()),
-            Err(_) => Err(AllocError),
-        },
-    }
-}
-
-// Takes one more line of this weight. It is copied where it is new. The sizes of the kept lines are too large only where those
-// of all are, and then the line was refused before.
-fn take_line<S: BuildHasher, A: Allocator + Copy>(
-    alloc: A,
-    pass: &mut SizedPass<OwnedKey<A>, S, A>,
-    hash: u64,
-    key: &OwnedKey<A>,
-    weight: usize,
-) -> Result<(), AllocError>
-    requires hash { hash ≡ hash_of_line S.Hasher.Hasher.finish S.Hasher.Hasher.write S.BuildHasher.build_hasher pass.old.builder (line_of key.now) }
-    requires weight { weight ≡ weight_of_line (line_of key.now) }
-    requires taken { (past : List (OwnedKey A)) × IsSizedPass same_line weight_of_key past pass.old }
-    ensures { (past : List (OwnedKey A)) → IsSizedPass same_line weight_of_key past pass.old
-        → OnOk result (HasTakenSized past (line_of key.now) pass.new) }
-{
-    match pass.request_again_with_hash(hash, key, weight) {
-        Ok(Some(_)) => Ok(()),
-        Ok(None) => {
-            let bytes = Vec::from_slice(alloc, &key.0)?;
-            match pass.request_new_with_hash(hash, OwnedKey(bytes), weight) {
-                Ok(()) => Ok(()),
-                Err(_) => Err(AllocError),
-            }
-        }
-        Err(_) => Err(AllocError),
-    }
+    let Ok(latest) = pass.take(key, weight) else {
+        return Err(AllocError);
+    };
+    note_reuse(reuses, latest, weight)
 }

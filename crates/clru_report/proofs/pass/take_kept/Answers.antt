@@ -1,4 +1,4 @@
-use Rattle.std.proofs.Common.{sym, ap, ◌∙◌, subst}
+use Rattle.std.proofs.Common.{refl, sym, ap, ◌∙◌, subst}
 use Rattle.std.specs.Int.NonZero.{non_zero_usize_get}
 use Rattle.clru_text.specs.Keys.{line_of}
 use Rattle.clru_text.specs.Samples.{is_kept, kept_of}
@@ -18,7 +18,7 @@ foresee-requires g c =
 
 pub note_reuse-requires : goal.note_reuse-requires
 note_reuse-requires g c =
-    let has = c.requires.3 in (c.requires.1, has.past, c.args.key.now, c.in-Ok.ensures.latest has.past has.taken, has.floored)
+    let has = c.requires.3 in (λ _. 0, c.requires.1, has.past, c.args.key.now, c.in-Ok.ensures.latest has.past has.taken, has.floored)
 
 pub returns : goal.returns
 returns g c least floored lines has =
@@ -30,4 +30,4 @@ returns g c least floored lines has =
     (λ noted. subst (λ ls. HasTakenFor least floored ls next later reused) (sym more)
     (one_taken least floored (kept_of n lines) c.args.pass.now c.args.foresight.now c.args.reuses.now has key next later reused
     (c.in-Ok.ensures.taken has.past has.taken) (c.in_ok-foresee.ensures least has.past key latest has.foreseen) noted))
-    (c.note_reuse.ensures floored has.past key latest has.floored)
+    (c.note_reuse.ensures (λ _. 0) floored has.past key latest has.floored refl)

@@ -11,9 +11,10 @@ use Rattle.clru_text.specs.Samples.{kept_of}
 use Rattle.clru_text.specs.Sizes.{HaveSizes, size_of_line, weight_of_line}
 use Rattle.clru_text.proofs.ResultLemmas.{no_none, no_some, none_map, of_none, some_map}
 use Rattle.clru_text.proofs.Samples.{all_kept}
-use Rattle.clru_report.specs.Passes.{HasTakenOf, IsOfLines, weight_of_key}
+use Rattle.clru_report.specs.Passes.{IsOfLines}
 use Rattle.clru_report.specs.Refusals.{fault_from}
 use Rattle.clru_report.specs.SizedAfterPasses.{IsSizedHead}
+use Rattle.clru_report.specs.SizedLinePasses.{HasTakenOf}
 use Rattle.clru_report.proofs.SettledCurves.{settled_curve}
 use Rattle.clru_report.proofs.SizedAfterLemmas.{head_stays, sized_head_more, sized_head_now}
 use Rattle.clru_report.proofs.TakenLines.{curve_taken}
@@ -22,23 +23,22 @@ use Rattle.clru_report.proofs.sized.after.sized_curves_around.Goals as goal
 use Rattle.clru_report.proofs.sized.after.sized_curves_around.Goals.{then-requests-get+in-Ok, else-requests-get}
 
 pub lines-init : goal.lines-init
-lines-init g c =
-    let made = c.with_hasher-pass.ensures weight_of_key in (
-      [],
-      c.new-buffer.ensures (g.R.Read.remaining c.args.reader.now),
-      refl,
-      omega arith,
-      (
-        record {
-          sizes = All-nil (λ line. IsSome (size_of_line line));
-          summed = refl;
-          taken = record { past = []; shown = refl; sizes = All-nil (λ line. IsSome (size_of_line line)); taken = made; floored = refl };
-        },
-        λ rest. refl,
-        omega arith,
-      ),
-      tt,
-    )
+lines-init g c = (
+  [],
+  c.new-buffer.ensures (g.R.Read.remaining c.args.reader.now),
+  refl,
+  omega arith,
+  (
+    record {
+      sizes = All-nil (λ line. IsSome (size_of_line line));
+      summed = refl;
+      taken = record { past = []; shown = refl; sizes = All-nil (λ line. IsSome (size_of_line line)); taken = c.new-pass.ensures; floored = refl };
+    },
+    λ rest. refl,
+    omega arith,
+  ),
+  tt,
+)
 
 pub count_and_take-requires : goal.count_and_take-requires
 count_and_take-requires g c =
@@ -57,7 +57,7 @@ lines-preserved-in-Ok-count_and_take g c =
       | then-requests-get+in-Ok w ↦ subst (IsSizedHead n (before.0 ++ line ∷ [])) (sym w.head-is)
           (sized_head_now n before.0 line w.in-Ok.curve (omega (arith, before.2, w.if-requests-get.true, c.get.ensures.value))
           (subst (λ ls. IsSizedCurveOf bytes_eq weight_of_line ls w.in-Ok.curve) (all_kept before.0)
-          (curve_taken false kept c.lines.pass c.lines.reuses so.0.taken w.in-Ok.curve (w.in-Ok.ensures.curve weight_of_key))))
+          (curve_taken false kept c.lines.pass c.lines.reuses so.0.taken w.in-Ok.curve w.in-Ok.ensures)))
       | else-requests-get w ↦ subst (IsSizedHead n (before.0 ++ line ∷ [])) (sym w.head-is)
           (sized_head_more n before.0 line c.lines.head (λ same. omega (arith, w.if-requests-get.false, same, before.2, c.get.ensures.value)) so.2)
     ] in
@@ -119,7 +119,7 @@ returns-in-None-clause-curves g c =
       record {
         sizes = subst HaveSizes lines so.0.sizes;
         whole = subst (λ ls. IsSizedCurveOf bytes_eq weight_of_line ls curve) (all_kept before.0 ∙ lines)
-            (curve_taken false (kept_of 1 before.0) c.lines.pass c.lines.reuses so.0.taken curve (c.into_curve.ensures weight_of_key));
+            (curve_taken false (kept_of 1 before.0) c.lines.pass c.lines.reuses so.0.taken curve c.into_curve.ensures);
         before = subst (λ ls. IsSizedHead n ls c.lines.head) lines so.2;
         no_fault = ap (fault_from 1 0) (sym lines ∙ sym (append-nil before.0)) ∙ so.1 [];
       },

@@ -2,9 +2,10 @@ use Rattle.std.proofs.Common.{◌≡◌, true, false, ◌+◌, ◌-◌, ◌^◌,
 use Rattle.std.specs.Int.NonZero.{non_zero_usize_get}
 use Rattle.clru_text.specs.Faults.{is_of_input}
 use Rattle.clru_text.specs.LinesRead.{HasReturned}
-use Rattle.clru_report.specs.Passes.{HasTakenOf, IsOfLines}
+use Rattle.clru_report.specs.Passes.{IsOfLines}
 use Rattle.clru_report.specs.Refusals.{fault_from}
 use Rattle.clru_report.specs.SizedAfterPasses.{IsSizedHead}
+use Rattle.clru_report.specs.SizedLinePasses.{HasTakenOf}
 use Rattle.clru_report.proofs.sized.after.sized_curves_around.Given as goal
 
 -- the lines so far were counted and taken, and the first ones have their curve if others follow; or the lines have a fault whatever

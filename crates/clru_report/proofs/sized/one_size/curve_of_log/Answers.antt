@@ -24,12 +24,11 @@ loop-index-init g c =
       | then-floored w ↦ subst (HasFloorPass {A = g.row.A.Denot} weight_of_line c.args.floored []) (sym w.reuses-is)
           (w.if-floored.true, w.new.ensures weight_of_key)
       | else-floored w ↦ subst (HasFloorPass {A = g.row.A.Denot} weight_of_line c.args.floored []) (sym w.reuses-is) w.if-floored.false
-    ] in
-    let made = c.with_hasher-pass.ensures weight_of_key in (
+    ] in (
       record {
         sizes = All-nil (λ line. IsSome (size_of_line line));
         summed = refl;
-        taken = record { past = []; shown = refl; sizes = All-nil (λ line. IsSome (size_of_line line)); taken = made; floored = noted };
+        taken = record { past = []; shown = refl; sizes = All-nil (λ line. IsSome (size_of_line line)); taken = c.new-pass.ensures; floored = noted };
       },
       λ rest. refl,
     )
@@ -86,7 +85,7 @@ returns-clause-curve g c input =
         sizes = subst HaveSizes whole so.0.sizes;
         of_kept = subst (λ ls. IsSizedCurveOf bytes_eq weight_of_line (kept ls) c.into_curve.result) whole
             (curve_taken c.args.floored (kept (take c.loop-index.index all)) c.loop-index.pass c.loop-index.reuses taken c.into_curve.result
-            (c.into_curve.ensures weight_of_key));
+            c.into_curve.ensures);
         no_fault = ap (fault_from 1 0) (sym whole ∙ sym (append-nil (take c.loop-index.index all))) ∙ so.1 [];
         counted = sym long;
         summed = so.0.summed ∙ ap size_of_lines whole;

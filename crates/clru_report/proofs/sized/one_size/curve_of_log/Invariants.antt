@@ -1,8 +1,8 @@
 use Rattle.std.proofs.Common.{◌≡◌, ◌+◌, ◌++◌, ℕ, List, take}
 use Rattle.std.specs.Int.NonZero.{non_zero_usize_get}
 use Rattle.clru_report.specs.KeyLogs.{lines_in}
-use Rattle.clru_report.specs.Passes.{HasTakenOf}
 use Rattle.clru_report.specs.Refusals.{fault_from}
+use Rattle.clru_report.specs.SizedLinePasses.{HasTakenOf}
 use Rattle.clru_report.proofs.sized.one_size.curve_of_log.Given as goal
 
 -- the lines so far were taken, and have no fault

@@ -25,8 +25,7 @@ lines-init g c =
       | then-floored w ↦ subst (HasFloorPass {A = g.row.A.Denot} weight_of_line c.args.floored []) (sym w.reuses-is)
           (w.if-floored.true, w.new.ensures weight_of_key)
       | else-floored w ↦ subst (HasFloorPass {A = g.row.A.Denot} weight_of_line c.args.floored []) (sym w.reuses-is) w.if-floored.false
-    ] in
-    let made = c.with_hasher-pass.ensures weight_of_key in (
+    ] in (
       [],
       c.new-buffer.ensures (g.R.Read.remaining c.args.reader.now),
       refl,
@@ -35,7 +34,7 @@ lines-init g c =
         record {
           sizes = All-nil (λ line. IsSome (size_of_line line));
           summed = refl;
-          taken = record { past = []; shown = refl; sizes = All-nil (λ line. IsSome (size_of_line line)); taken = made; floored = noted };
+          taken = record { past = []; shown = refl; sizes = All-nil (λ line. IsSome (size_of_line line)); taken = c.new-pass.ensures; floored = noted };
         },
         λ rest. refl,
       ),
@@ -111,7 +110,7 @@ returns-in-Ok-floors_of-clause-curve g c =
         record {
           sizes = subst HaveSizes lines so.0.sizes;
           of_kept = subst (λ ls. IsSizedCurveOf bytes_eq weight_of_line (kept ls) c.into_curve.result) lines
-              (curve_taken c.args.floored (kept before.0) c.lines.pass c.lines.reuses so.0.taken c.into_curve.result (c.into_curve.ensures weight_of_key));
+              (curve_taken c.args.floored (kept before.0) c.lines.pass c.lines.reuses so.0.taken c.into_curve.result c.into_curve.ensures);
           no_fault = ap (fault_from 1 0) (sym lines ∙ sym (append-nil before.0)) ∙ so.1 [];
           counted = before.2 ∙ ap length lines;
           summed = so.0.summed ∙ ap size_of_lines lines;

@@ -2,8 +2,9 @@ use Rattle.std.proofs.Common.{◌≡◌, true, ◌+◌, ◌-◌, ◌^◌, ◌<�
 use Rattle.std.specs.Int.NonZero.{non_zero_usize_get}
 use Rattle.clru_text.specs.Faults.{is_of_input}
 use Rattle.clru_text.specs.LinesRead.{HasReturned}
-use Rattle.clru_report.specs.Passes.{HasTakenOf, IsOfLines}
+use Rattle.clru_report.specs.Passes.{IsOfLines}
 use Rattle.clru_report.specs.Refusals.{fault_from}
+use Rattle.clru_report.specs.SizedLinePasses.{HasTakenOf}
 use Rattle.clru_report.proofs.sized.pass.curve_by_size.Given as goal
 
 -- the lines so far were counted, and taken where they are kept, or have a fault whatever follows

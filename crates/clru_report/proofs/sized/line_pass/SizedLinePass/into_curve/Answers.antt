@@ -1,0 +1,10 @@
+use Rattle.clru_report.specs.LinePasses.{timeless}
+use Rattle.clru_report.specs.Passes.{weight_of_key}
+use Rattle.clru_report.proofs.LinePasses.{none_late}
+use Rattle.clru_report.proofs.SizedLinePasses.{curve_of_keys, same_key_weights}
+use Rattle.clru_report.proofs.sized.line_pass.SizedLinePass.into_curve.Goals as goal
+
+pub returns : goal.returns
+returns g c past is =
+    curve_of_keys past c.into_curve.result
+    (c.into_curve.ensures.timeless weight_of_key 0 (timeless past) same_key_weights (none_late past) is.taken)

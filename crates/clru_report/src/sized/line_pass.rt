@@ -1,0 +1,101 @@
+//! `SizedLinePass`, which takes lines with sizes one by one.
+ghost use Rattle.std.specs.Prelude.{◌≡◌, List, [], ◌∷◌, reverse, IfOk, OnOk};
+ghost use Rattle.clru_curve.specs.PositionPasses.{IsLatestOf};
+ghost use Rattle.clru_curve.specs.SizedCurves.{IsSizedCurveOf};
+ghost use Rattle.clru_text.specs.Keys.{line_of, same_line};
+ghost use Rattle.clru_text.specs.Sizes.{weight_of_line};
+ghost use Rattle.clru_text.specs.declared.lines.OwnedKey.{OwnedKey};
+ghost use Rattle.clru_report.specs.Passes.{weight_of_key};
+ghost use Rattle.clru_report.specs.SizedLinePasses.{IsSizedLinePass};
+
+use clru_curve::{NoMemory, SizedCurve, SizedPositionPass};
+use clru_linked_map::BytesMap;
+use clru_text::OwnedKey;
+use std::alloc::Allocator;
+use std::hash::BuildHasher;
+
+/// A pass over lines as objects with sizes. One table has the bytes of each distinct line and the position of its latest request, so a
+/// line costs one look-up, and a new line has no allocation of its own.
+pub(super) struct SizedLinePass<S: BuildHasher, A: Allocator + Copy> {
+    latest: BytesMap<usize, S, A>,
+    pass: SizedPositionPass<OwnedKey<A>, A>,
+    requests: usize,
+}
+
+impl<S: BuildHasher + Drop, A: Allocator + Copy> Drop for SizedLinePass<S, A> {
+    fn drop(self) {
+        let SizedLinePass {
+            latest,
+            pass,
+            requests: _,
+        } = self;
+        drop(latest);
+        drop(pass);
+    }
+}
+
+impl<S: BuildHasher, A: Allocator + Copy> SizedLinePass<S, A> {
+    /// Creates a pass that has taken no line.
+    /// Cost: no request for memory.
+    pub(super) fn new(alloc: A, hash_builder: S) -> Self
+        ensures { IsSizedLinePass [] result }
+    {
+        SizedLinePass {
+            latest: BytesMap::new(alloc, hash_builder),
+            pass: SizedPositionPass::new(alloc),
+            requests: 0,
+        }
+    }
+
+    /// Takes one more line, of this weight, and returns the position of its latest request: how many lines came before that one. Returns
+    /// `None` if the line is new.
+    ///
+    /// If memory is refused, there were `usize::MAX` lines, or their sizes exceed `usize::MAX` together, no more can be said of the pass.
+    /// Cost: that of `BytesMap::insert`, and steps that grow as the logarithm of the number of lines.
+    pub(super) fn take(
+        &mut self,
+        key: &OwnedKey<A>,
+        weight: usize,
+    ) -> Result<Option<usize>, NoMemory>
+        requires weight { weight ≡ weight_of_line (line_of key.now) }
+        requires taken { (past : List (OwnedKey A)) × IsSizedLinePass past self.old }
+        ensures latest { (past : List (OwnedKey A)) → IsSizedLinePass past self.old → IfOk result (IsLatestOf same_line past key.now) }
+        ensures taken { (past : List (OwnedKey A)) → IsSizedLinePass past self.old → OnOk result (IsSizedLinePass (key.now ∷ past) self.new) }
+    {
+        let Some(requests) = self.requests.checked_add(1) else {
+            return Err(NoMemory);
+        };
+        let latest = self.latest.insert(&key.0, self.requests)?;
+        // (without times each reuse comes soon enough)
+        let Ok(_) = self.pass.request(latest, latest.is_some(), weight) else {
+            return Err(NoMemory);
+        };
+        self.requests = requests;
+        Ok(latest)
+    }
+
+    /// Returns the curve of the lines so far, and lets the pass go on.
+    /// Cost: that of `SizedPositionPass::curve`.
+    pub(super) fn curve(&self, alloc: A) -> Result<SizedCurve<A>, NoMemory>
+        ensures { (past : List (OwnedKey A)) → IsSizedLinePass past self.now
+            → IfOk result (IsSizedCurveOf same_line weight_of_key (reverse past)) }
+    {
+        self.pass.curve(alloc)
+    }
+
+    /// Does what `curve` does, when no line follows. The lines are dropped first.
+    /// Cost: that of `SizedPositionPass::into_curve`.
+    pub(super) fn into_curve(self) -> SizedCurve<A>
+    where
+        S: Drop,
+        ensures { (past : List (OwnedKey A)) → IsSizedLinePass past self → IsSizedCurveOf same_line weight_of_key (reverse past) result }
+    {
+        let SizedLinePass {
+            latest,
+            pass,
+            requests: _,
+        } = self;
+        drop(latest);
+        pass.into_curve()
+    }
+}
