@@ -8,13 +8,18 @@ use Rattle.clru_report.specs.KeyLogs.{HasKeys, line_at, lines_in}
 use Rattle.clru_report.specs.declared.sized.key_log.KeyLog.{KeyLog}
 
 module _ {A : Type 0} (log : KeyLog A) where
+  -- the number of a request is that of a key
+  pub key_read : (i number : ℕ) → HasKeys log → i < length log.requests.items → number ≡ get_or log.requests.items i number
+      → number < length log.tails.items
+  key_read i number keys low is = subst (λ n. n < length log.tails.items) (sym is) (keys.numbered i number low)
+
   -- the line that is made of the numbers of a request
   pub line_read : (i number size : ℕ) (tail : OwnedKey A) (line : List ℕ) → HasKeys log → i < length log.requests.items
       → number ≡ get_or log.requests.items i number → size ≡ get_or log.sizes.items number size
       → tail ≡ get_or log.tails.items number tail → line ≡ decimal size ++ line_of tail
       → line ≡ line_at log (slice_index log.requests.items i)
   line_read i number size tail line keys low is sized tailed made =
-      let key : number < length log.tails.items = subst (λ n. n < length log.tails.items) (sym is) (keys.numbered i number low) in
+      let key = key_read i number keys low is in
       let size_is : size ≡ slice_index log.sizes.items number =
       sized ∙ get_or_default log.sizes.items number size 0 (omega (arith, key, keys.sized)) in
       made ∙ ap (λ s. decimal s ++ line_of tail) size_is

@@ -12,7 +12,7 @@ use Rattle.clru_report.specs.Passes.{AreFloorsFor, HasFloorPass, IsOfLines, weig
 use Rattle.clru_report.specs.Refusals.{fault_from}
 use Rattle.clru_report.specs.Sizes.{size_of_lines}
 use Rattle.clru_report.proofs.FaultLemmas.{lines_unwritten}
-use Rattle.clru_report.proofs.KeyLines.{line_read, lines_around, one_more_line}
+use Rattle.clru_report.proofs.KeyLines.{key_read, line_read, lines_around, one_more_line}
 use Rattle.clru_report.proofs.SettledCurves.{settled_curve}
 use Rattle.clru_report.proofs.TakenLines.{curve_taken}
 use Rattle.clru_report.proofs.sized.one_size.curve_of_log.Goals as goal
@@ -32,6 +32,17 @@ loop-index-init g c =
       },
       λ rest. refl,
     )
+
+pub index-requires : goal.index-requires
+index-requires g c =
+    let low : c.loop-index.index < length c.args.log.now.requests.items = omega (arith, c.loop-index-test.true, c.len-index-end.ensures) in
+    let key = key_read c.args.log.now c.loop-index.index c.index-number.result.now c.requires low c.index-number.ensures in
+    omega (arith, key, c.requires.sized)
+
+pub index-requires-in-loop-index : goal.index-requires-in-loop-index
+index-requires-in-loop-index g c =
+    let low : c.loop-index.index < length c.args.log.now.requests.items = omega (arith, c.loop-index-test.true, c.len-index-end.ensures) in
+    omega (arith, key_read c.args.log.now c.loop-index.index c.index-number.result.now c.requires low c.index-number.ensures)
 
 pub count_and_take-requires : goal.count_and_take-requires
 count_and_take-requires g c =
