@@ -1,6 +1,6 @@
 -- From the size of all keys on, capacities miss the same under an age limit: so the last one that a pass counts at has what misses there.
-use Rattle.std.proofs.Common.{◌≡◌, ℕ, zero, suc, ◌+◌, ◌-◌, ◌^◌, ◌<◌, ◌≤◌, ◌⊎◌, inl, inr, Bool, true, false, cond, not, ◌&&◌, nat_le, nat_lt, Option, Some, List, [], ◌∷◌, ◌++◌, get_or, length, map, reverse, append-nil, refl, sym, ap, ◌∙◌, arith}
-use Rattle.std.proofs.lemmas.Bool.{and_parts, eqb-false, le-leb, leb-true, ltb-false, ltb-true, lt-ltb}
+use Rattle.std.proofs.Common.{◌≡◌, ℕ, zero, suc, ◌+◌, ◌-◌, ◌^◌, ◌<◌, ◌≤◌, ◌⊎◌, inl, inr, Bool, true, false, cond, not, ◌&&◌, nat_lt, Option, Some, List, [], ◌∷◌, ◌++◌, get_or, length, map, reverse, append-nil, refl, sym, ap, ◌∙◌, arith}
+use Rattle.std.proofs.lemmas.Bool.{and_parts, eqb-false, le-leb, ltb-false, ltb-true, lt-ltb}
 use Rattle.std.proofs.lemmas.Bool.Decides.{nat_tests}
 use Rattle.std.proofs.lemmas.List.{get_or-map}
 use Rattle.std.specs.Cmp.{IsEquivalence}

@@ -1,5 +1,5 @@
 -- The columns of a table, by keys or by size, and how a line says them: as CSV or as JSON. Public clauses cite them.
-use Rattle.std.specs.Prelude.{ℕ, ◌+◌, Bool, true, false, ◌&&◌, not, List, [], ◌∷◌, ◌++◌, codes, decimal, map, if◌then◌else◌}
+use Rattle.std.specs.Prelude.{ℕ, Bool, true, false, ◌&&◌, not, List, [], ◌∷◌, ◌++◌, codes, decimal, map, if◌then◌else◌}
 use Rattle.std.specs.List.{filter}
 use Rattle.clru_text.specs.Fractions.{fraction_text, millionths}
 use Rattle.clru_report.specs.declared.columns.Cells.{Cells}
