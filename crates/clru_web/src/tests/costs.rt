@@ -13,29 +13,29 @@ const KEYS: usize = 10;
 // Of a form, whether by size, and whether with the least, or by size the floors: its requests for memory, and their bytes.
 static REQUESTS: &[(Form, bool, bool, u64, u64)] = &[
     (Form::Table, false, false, 30, 68664),
-    (Form::Table, true, false, 49, 106206),
-    (Form::Table, true, true, 61, 186446),
+    (Form::Table, true, false, 42, 105544),
+    (Form::Table, true, true, 54, 185784),
     (Form::Table, false, true, 46, 78096),
     (Form::Json, false, false, 31, 69176),
-    (Form::Json, true, true, 62, 187470),
+    (Form::Json, true, true, 55, 186808),
     (Form::Picture, false, false, 43, 88214),
-    (Form::Picture, true, false, 71, 175700),
-    (Form::Picture, true, true, 88, 260591),
+    (Form::Picture, true, false, 64, 175038),
+    (Form::Picture, true, true, 81, 259929),
     (Form::Picture, false, true, 61, 99077),
     (Form::Summary, false, false, 25, 68257),
-    (Form::Summary, true, false, 40, 104662),
-    (Form::Summary, true, true, 40, 104662),
+    (Form::Summary, true, false, 33, 104000),
+    (Form::Summary, true, true, 33, 104000),
     (Form::Summary, false, true, 25, 68257),
 ];
 
-// The same of a sample, which keeps half of the keys: whether by size, its hashes too.
-static OF_SAMPLES: &[(Form, bool, u64, u64, u64)] = &[
-    (Form::Table, false, 500, 26, 67944),
-    (Form::Table, true, 504, 41, 89031),
-    (Form::Picture, false, 500, 38, 86503),
-    (Form::Picture, true, 504, 62, 133774),
-    (Form::Summary, false, 500, 16, 67057),
-    (Form::Summary, true, 504, 34, 88263),
+// The same of a sample, which keeps half of the keys: whether by size.
+static OF_SAMPLES: &[(Form, bool, u64, u64)] = &[
+    (Form::Table, false, 26, 67944),
+    (Form::Table, true, 37, 88096),
+    (Form::Picture, false, 38, 86503),
+    (Form::Picture, true, 58, 132839),
+    (Form::Summary, false, 16, 67057),
+    (Form::Summary, true, 30, 87328),
 ];
 
 /// A thousand lines of ten keys, each with the size 7.
@@ -86,13 +86,10 @@ fn costs_of(
 #[test]
 fn each_form_hashes_a_line_as_often(rt: HostRuntime) -> Result<(), Fail> {
     let input = thousand(rt.alloc())?;
-    // Each line is hashed once. By size four of ten keys are hashed again where the places grow from 4 to 16 (buckets are made for 64
-    // then, the capacity of a pass at first); by keys there are places for 64 at once.
+    // Each line is hashed once: there are places for 64 at once.
     for (form, sizes, least, requests, bytes) in REQUESTS {
-        // (by size the floors look each line up once more, by the same hash)
         let costs = costs_of(rt.alloc(), &input, *form, (*sizes, *least), Sample::Whole)?;
-        let hashes = if *sizes { 1_000 + 4 } else { 1_000 };
-        equal!(rt; costs, (hashes, *requests, *bytes), (*form, *sizes, *least));
+        equal!(rt; costs, (1_000, *requests, *bytes), (*form, *sizes, *least));
     }
     Ok(())
 }
@@ -101,7 +98,7 @@ fn each_form_hashes_a_line_as_often(rt: HostRuntime) -> Result<(), Fail> {
 fn each_form_of_a_sample_hashes_kept_lines_alone(rt: HostRuntime) -> Result<(), Fail> {
     let input = thousand(rt.alloc())?;
     let two = NonZeroUsize::new(2).ok_or("two")?;
-    for (form, sizes, hashes, requests, bytes) in OF_SAMPLES {
+    for (form, sizes, requests, bytes) in OF_SAMPLES {
         let costs = costs_of(
             rt.alloc(),
             &input,
@@ -109,7 +106,7 @@ fn each_form_of_a_sample_hashes_kept_lines_alone(rt: HostRuntime) -> Result<(), 
             (*sizes, false),
             Sample::OneIn(two),
         )?;
-        equal!(rt; costs, (*hashes, *requests, *bytes), (*form, *sizes));
+        equal!(rt; costs, (500, *requests, *bytes), (*form, *sizes));
     }
     Ok(())
 }
