@@ -16,6 +16,7 @@ pub mod LatestSizes
 pub mod KeyTables
 pub mod LatestRequests
 pub mod Latests
+pub mod Looking
 pub mod Nodes
 pub mod Passing
 pub mod PositionPassing

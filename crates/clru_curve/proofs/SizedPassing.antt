@@ -63,23 +63,23 @@ module _ {K : Type 0} (eq : K → K → Bool) where
   }
 
 module _ {K : Type 0} (eq : K → K → Bool) (laws : IsEquivalence eq) (positions : List (K × ℕ)) (n : ℕ) (x : K) where
-  moved_new : (y : K) → lookup (eq y) ((x, n) ∷ positions) ≡ cond (eq x y) (Some n) (lookup (eq y) positions)
+  pub moved_new : (y : K) → lookup (eq y) ((x, n) ∷ positions) ≡ cond (eq x y) (Some n) (lookup (eq y) positions)
   moved_new y = ap (λ b. cond b (Some n) (lookup (eq y) positions)) (laws.symm y x)
 
-  moved_again : (p : ℕ) → lookup (eq x) positions ≡ Some p
+  pub moved_again : (p : ℕ) → lookup (eq x) positions ≡ Some p
       → (y : K) → lookup (eq y) (set_value (eq x) positions n) ≡ cond (eq x y) (Some n) (lookup (eq y) positions)
   moved_again p found y = lookup-set_value laws (eq x) (λ z v t. laws.congr x z v t) y n positions (rw found refl)
 
   -- what is noted of one more request, by any measure
   module _ (size : K → ℕ) (measure : List K → ℕ) (sums : IsMeasure eq size measure) (past : List K) (f f' : ℕ → ℕ)
       (r : IsRanked eq size measure past positions n f) where
-    ranked_new : lookup (eq x) positions ≡ None → ((t : ℕ) → f' t ≡ f t + up_by (size x) t n)
+    pub ranked_new : lookup (eq x) positions ≡ None → ((t : ℕ) → f' t ≡ f t + up_by (size x) t n)
         → IsRanked eq size measure (x ∷ past) ((x, n) ∷ positions) (suc n) f'
     ranked_new absent counts =
         IsRanked-new eq laws size measure sums past positions ((x, n) ∷ positions) n f f' x r moved_new (sym (r.known x) ∙ ap is_some absent) counts
         (omega (arith, r.few))
 
-    ranked_again : (p : ℕ) → lookup (eq x) positions ≡ Some p → ((t : ℕ) → f' t + up_by (size x) t p ≡ f t + up_by (size x) t n)
+    pub ranked_again : (p : ℕ) → lookup (eq x) positions ≡ Some p → ((t : ℕ) → f' t + up_by (size x) t p ≡ f t + up_by (size x) t n)
         → IsRanked eq size measure (x ∷ past) (set_value (eq x) positions n) (suc n) f'
     ranked_again p found counts =
         IsRanked-again eq laws size measure sums past positions (set_value (eq x) positions n) n f f' x r (moved_again p found) p found counts

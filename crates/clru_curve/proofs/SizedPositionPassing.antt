@@ -1,5 +1,5 @@
 -- What a pass by size that holds no key has taken, after one more request, and its curve.
-use Rattle.std.proofs.Common.{◌≡◌, ℕ, suc, ◌+◌, ◌-◌, ◌^◌, ◌<◌, ◌≤◌, Bool, true, false, cond, nat_le, nat_lt, List, [], ◌∷◌, ◌++◌, length, reverse, Option, Some, None, refl, sym, ap, ◌∙◌, subst, arith}
+use Rattle.std.proofs.Common.{◌≡◌, ℕ, suc, ◌+◌, ◌-◌, ◌^◌, ◌<◌, ◌≤◌, Bool, true, false, cond, nat_le, nat_lt, List, [], ◌∷◌, ◌++◌, length, reverse, Option, Some, None, IfSome, refl, sym, ap, ◌∙◌, subst, arith}
 use Rattle.std.proofs.lemmas.Bool.{le-leb}
 use Rattle.std.proofs.lemmas.List.{length_push, reverse-reverse}
 use Rattle.std.proofs.lemmas.List.Elements.{All-head, All-nil, All-push, All-same, All-tail}
@@ -17,7 +17,7 @@ use Rattle.clru_model.specs.Sizes.{SameWeights, misses_by_size, missed_size, spa
 use Rattle.clru_curve.specs.declared.numbered.Numbered.{Numbered}
 use Rattle.clru_curve.specs.declared.seen.Seen.{Seen}
 use Rattle.clru_curve.specs.declared.sized.step.Step.{Step}
-use Rattle.clru_curve.specs.LatestSizes.{live_from, total_from, IsSummed}
+use Rattle.clru_curve.specs.LatestSizes.{IsLiveAt, live_from, total_from, IsSummed}
 use Rattle.clru_curve.specs.PositionPasses.{IsLatestOf}
 use Rattle.clru_curve.specs.Rising.{IsRising}
 use Rattle.clru_curve.specs.Seen.{positions_of, reuse_by, seen_at}
@@ -117,7 +117,7 @@ module _ {K : Type 0} (eq : K → K → Bool) (laws : IsEquivalence eq) (weight 
     size_at = subst (λ q. total_from c.sizes q ≡ w + 1 + total_from c.sizes (suc q)) there.2
         (omega (arith, weighs, is.taken.ranked.latest x there.0.position (position_found eq is.seen x there.0 there.1)))
 
-    pub was_live : (high : ℕ) → IsRising 0 c.sizes high → live_from c.sizes p ≡ suc (live_from c.sizes (suc p))
+    was_live : (high : ℕ) → IsRising 0 c.sizes high → IsLiveAt c.sizes p
     was_live high rising = live_falls 0 c.sizes high p rising (omega (arith, size_at))
 
     -- it can hit where it came soon enough
@@ -151,6 +151,12 @@ module _ {K : Type 0} (eq : K → K → Bool) (laws : IsEquivalence eq) (weight 
             latest = latest_more eq past is.seen is.latest x laws c.requests t is.taken.requests (set_value (eq x) is.seen (seen_at c.requests t))
                 (moved_again eq laws is.seen x (seen_at c.requests t) there.0 there.1);
           }))
+
+  -- what was its latest request, if it was one, has a size
+  pub latest_live : (o : Option ℕ) → IsLatestOf eq (keys_of past) x o → (w : ℕ) → weight x ≡ w → (high : ℕ) → IsRising 0 c.sizes high
+      → IfSome o (λ p. IsLiveAt c.sizes p)
+  latest_live None latest w weighs high rising = tt
+  latest_live (Some p) latest w weighs high rising = was_live p latest w weighs high rising
 
 all_reversed : {X : Type 0} (P : X → Type 0) (xs : List X) → All P xs → All P (reverse xs)
 all_reversed P [] all = All-nil P

@@ -1,12 +1,14 @@
 -- Requests without times miss under an idle limit what they miss without it.
-use Rattle.std.proofs.Common.{◌≡◌, ℕ, ◌-◌, Bool, true, false, not, ◌&&◌, Option, None, Some, List, [], ◌∷◌, refl, sym, ap, ◌∙◌, arith}
+use Rattle.std.proofs.Common.{◌≡◌, ℕ, ◌-◌, Bool, true, false, not, ◌&&◌, Option, None, Some, is_some, List, [], ◌∷◌, refl, sym, ap, ◌∙◌, subst, arith}
 use Rattle.std.specs.Cmp.{IsEquivalence}
 use Rattle.std.specs.List.{All, count_by}
 use Rattle.std.specs.Map.{keys_of, lookup}
 use Rattle.std.specs.Option.{option_map_or}
 use Rattle.std.proofs.lemmas.Bool.{le-leb}
-use Rattle.std.proofs.lemmas.List.Elements.{All-head, All-tail}
+use Rattle.std.proofs.lemmas.List.Elements.{All-head, All-map, All-tail}
 use Rattle.clru_curve.specs.IdlePasses.{idle_misses}
+use Rattle.clru_curve.specs.PositionPasses.{IsLatestOf}
+use Rattle.clru_curve.specs.Seen.{timeless}
 use Rattle.clru_curve.specs.SizedIdlePasses.{idle_missed_size, idle_misses_by_size}
 use Rattle.clru_model.proofs.Cases.{split}
 use Rattle.clru_model.proofs.IdleMarks.{recent_unlimited, unlimited_marks, unlimited_marks_by_size}
@@ -15,6 +17,14 @@ use Rattle.clru_model.specs.Ages.{aged_hit, aged_marks_after, is_in_limit, is_re
 use Rattle.clru_model.specs.Requests.{hit, holds, misses}
 use Rattle.clru_model.specs.Sizes.{hit_by_size, missed_size, misses_by_size}
 use Rattle.clru_model.specs.Spans.{size_of_misses}
+
+-- requests without times are of the same keys
+pub keys_timeless : {K : Type 0} (ks : List K) → keys_of (timeless ks) ≡ ks
+keys_timeless [] = refl
+keys_timeless (k ∷ ks) = ap (λ l. k ∷ l) (keys_timeless ks)
+
+pub none_late : {K : Type 0} (ks : List K) → All (λ r. r.1 ≡ 0) (timeless ks)
+none_late {K = K} ks = All-map (λ (r : K × ℕ). r.1 ≡ 0) (λ (key : K). (key, 0)) ks (λ i d low. refl)
 
 module _ {K : Type 0} (eq : K → K → Bool) (idle : ℕ) where
   -- at the time 0 no request comes late
@@ -29,6 +39,14 @@ module _ {K : Type 0} (eq : K → K → Bool) (idle : ℕ) where
   -- and each whose key came before comes soon enough
   pub recent_held : (r : K × ℕ) (past : List (K × ℕ)) → r.1 ≡ 0 → is_recent eq (Some idle) r past ≡ holds eq r.0 (keys_of past)
   recent_held r past zero = recent_timeless r past zero ∙ recent_unlimited eq r past
+
+  -- what is said of keys is said of their requests at the time 0
+  module _ (past : List K) (key : K) (latest : Option ℕ) (is : IsLatestOf eq past key latest) where
+    pub latest_timeless : IsLatestOf eq (keys_of (timeless past)) key latest
+    latest_timeless = subst (λ ks. IsLatestOf eq ks key latest) (sym (keys_timeless past)) is
+
+    pub soon_timeless : is_some latest ≡ is_recent eq (Some idle) (key, 0) (timeless past)
+    soon_timeless = is.known ∙ sym (recent_held (key, 0) (timeless past) refl ∙ ap (holds eq key) (keys_timeless past))
 
   marks_timeless : (hits : K → List K → Bool) (past fetches rs : List (K × ℕ)) → All (λ r. r.1 ≡ 0) rs
       → aged_marks_after eq hits (Some idle) None past fetches rs ≡ aged_marks_after eq hits None None past fetches rs

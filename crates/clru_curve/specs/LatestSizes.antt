@@ -20,6 +20,10 @@ abbrev pub live_from : List Numbered → ℕ → ℕ
 live_from [] t = 0
 live_from (s ∷ ss) t = (if has_value s then up_to t s.number else 0) + live_from ss t
 
+-- the size of this request is not 0
+abbrev pub IsLiveAt : List Numbered → ℕ → Type 0
+IsLiveAt ss p = live_from ss p ≡ suc (live_from ss (suc p))
+
 -- the size of this request became 0
 pub record IsRemoved (ss : List Numbered) (request : ℕ) (left : List Numbered) : Type 0 where
   pub at : ℕ

@@ -1,4 +1,5 @@
 pub mod AgedPasses
+pub mod Ahead
 pub mod Apart
 pub mod Classes
 pub mod Curves

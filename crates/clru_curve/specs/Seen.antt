@@ -16,6 +16,10 @@ seen_code = code_by (ℕ × ℕ) (coded× coded_ℕ coded_ℕ) (λ s. (s.positio
 abbrev pub positions_of : {K : Type 0} → List (K × Seen) → List (K × ℕ)
 positions_of seen = map (λ e. (e.0, e.1.position)) seen
 
+-- requests without times, which all have the time 0
+abbrev pub timeless : {K : Type 0} → List K → List (K × ℕ)
+timeless keys = map (λ key. (key, 0)) keys
+
 module _ {K : Type 0} (eq : K → K → Bool) where
   -- each key has the time of its latest request, the latest first
   abbrev pub AreTimes : List (K × ℕ) → List (K × Seen) → Type 0

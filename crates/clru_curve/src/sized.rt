@@ -1,6 +1,7 @@
 //! The same pass over requests of keys that weigh something.
 
 mod aged;
+mod ahead;
 mod curve;
 mod error;
 mod guide;

@@ -9,7 +9,7 @@ use Rattle.clru_curve.specs.Curves.{HasMissesOf}
 use Rattle.clru_curve.specs.IdlePasses.{HasIdleMissesOf, idle_misses}
 use Rattle.clru_curve.specs.PositionPasses.{IsLatestOf}
 use Rattle.clru_curve.proofs.LatestRequests.{latest_here, latest_there}
-use Rattle.clru_curve.proofs.Timeless.{misses_timeless, recent_held}
+use Rattle.clru_curve.proofs.Timeless.{keys_timeless, misses_timeless, none_late}
 use Rattle.clru_linked_map.specs.BytesMaps.{with_bytes}
 use Rattle.clru_linked_map.proofs.BytesMaps.{lookup-with_bytes}
 use Rattle.clru_model.proofs.Cases.{split}
@@ -19,25 +19,9 @@ use Rattle.clru_model.specs.Requests.{holds, misses}
 use Rattle.clru_text.specs.Keys.{line_of, same_line}
 use Rattle.clru_text.specs.declared.lines.OwnedKey.{OwnedKey}
 use Rattle.clru_text.proofs.ByteLemmas.{bytes_laws}
-use Rattle.clru_report.specs.LinePasses.{timeless}
-
--- requests without times are of the same keys
-pub keys_timeless : {K : Type 0} (ks : List K) → keys_of (timeless ks) ≡ ks
-keys_timeless [] = refl
-keys_timeless (k ∷ ks) = ap (λ l. k ∷ l) (keys_timeless ks)
-
-pub none_late : {K : Type 0} (ks : List K) → All (λ r. r.1 ≡ 0) (timeless ks)
-none_late {K = K} ks = All-map (λ (r : K × ℕ). r.1 ≡ 0) (λ (key : K). (key, 0)) ks (λ i d low. refl)
+use Rattle.clru_curve.specs.Seen.{timeless}
 
 module _ {A : Type 0} (past : List (OwnedKey A)) where
-  -- what is said of keys is said of their requests at the time 0
-  module _ (key : OwnedKey A) (latest : Option ℕ) (is : IsLatestOf same_line past key latest) where
-    pub latest_timeless : IsLatestOf same_line (keys_of (timeless past)) key latest
-    latest_timeless = subst (λ ks. IsLatestOf same_line ks key latest) (sym (keys_timeless past)) is
-
-    pub soon_timeless : is_some latest ≡ is_recent same_line (Some 0) (key, 0) (timeless past)
-    soon_timeless = is.known ∙ sym (recent_held same_line 0 (key, 0) (timeless past) refl ∙ ap (holds same_line key) (keys_timeless past))
-
   -- where the latest request of each line is noted
   module _ (noted : List (List ℕ × ℕ)) (each : (y : OwnedKey A) → IsLatestOf same_line past y (lookup (bytes_eq (line_of y)) noted))
       (key : OwnedKey A) (line : List ℕ) (is : line ≡ line_of key) where

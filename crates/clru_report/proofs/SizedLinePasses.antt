@@ -5,9 +5,9 @@ use Rattle.clru_curve.specs.SizedCurves.{CurveBySize, IsSizedCurveOf}
 use Rattle.clru_model.specs.Sizes.{SameWeights}
 use Rattle.clru_text.specs.Keys.{line_of, same_line}
 use Rattle.clru_text.specs.declared.lines.OwnedKey.{OwnedKey}
-use Rattle.clru_report.specs.LinePasses.{timeless}
+use Rattle.clru_curve.specs.Seen.{timeless}
 use Rattle.clru_report.specs.Passes.{weight_of_key}
-use Rattle.clru_report.proofs.LinePasses.{keys_timeless}
+use Rattle.clru_curve.proofs.Timeless.{keys_timeless}
 use Rattle.clru_report.proofs.SettledCurves.{same_weights}
 
 module _ {A : Type 0} where

@@ -2,6 +2,7 @@
 use Rattle.std.specs.Prelude.{◌≡◌, ℕ, Bool, Option, List, length, map, reverse, bytes_eq}
 use Rattle.std.specs.Map.{lookup}
 use Rattle.clru_curve.specs.PositionPasses.{IsLatestOf, IsPositionPass}
+use Rattle.clru_curve.specs.Seen.{timeless}
 use Rattle.clru_least.specs.Reuses.{Reused}
 use Rattle.clru_text.specs.Keys.{line_of, same_line}
 use Rattle.clru_text.specs.declared.lines.OwnedKey.{OwnedKey}

@@ -8,7 +8,7 @@ use Rattle.clru_text.specs.Keys.{line_of, same_line}
 use Rattle.clru_text.specs.Samples.{kept_of}
 use Rattle.clru_text.specs.Sizes.{HaveSizes, weight_of_line}
 use Rattle.clru_text.specs.declared.lines.OwnedKey.{OwnedKey}
-use Rattle.clru_report.specs.LinePasses.{timeless}
+use Rattle.clru_curve.specs.Seen.{timeless}
 use Rattle.clru_report.specs.Passes.{HasFloorPass, weight_of_key}
 use Rattle.clru_report.specs.Sizes.{size_of_lines}
 use Rattle.clru_report.specs.declared.sized.line_pass.SizedLinePass.{SizedLinePass}

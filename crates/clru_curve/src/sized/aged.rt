@@ -219,7 +219,8 @@ impl<K: Eq + Hash, S: BuildHasher, A: Allocator + Copy> SizedAgedPass<K, S, A> {
         let Some(before) = self.seen.see_again(hash, key, here) else {
             return Ok(false);
         };
-        let span = self.latest.remove(before.seen.position);
+        let likely = self.latest.likely(before.seen.position);
+        let span = self.latest.remove(before.seen.position, likely);
         self.latest.push(size);
         self.latest.drop_empty();
         let soon = is_in_limit(self.idle, before.seen.time, time);

@@ -277,7 +277,8 @@ impl<K: Eq + Hash, S: BuildHasher, A: Allocator + Copy> SizedIdlePass<K, S, A> {
         let Some(before) = self.seen.replace(hash, key, here) else {
             return Ok(None);
         };
-        let span = self.latest.remove(before.position);
+        let likely = self.latest.likely(before.position);
+        let span = self.latest.remove(before.position, likely);
         self.latest.push(size);
         self.latest.drop_empty();
         let soon = is_soon(self.limit, before.time, time);

@@ -4,9 +4,11 @@ ghost use Rattle.clru_model.specs.Sizes.{SameWeights};
 ghost use Rattle.clru_curve.specs.SizedCurves.{IsSizedCurveOf, size_of_all};
 ghost use Rattle.clru_curve.specs.SizedPasses.{IsNoMemory, IsFirstRefused};
 
+use crate::key_table::KeyTable;
+use crate::sized::ahead::{AHEAD, Ahead, count, look_up};
 use crate::sized::curve::SizedCurve;
 use crate::sized::error::SizedRequestError;
-use crate::sized::pass::SizedPass;
+use crate::sized::position::SizedPositionPass;
 use clru_model::WeightScale;
 use std::alloc::Allocator;
 use std::hash::{BuildHasher, Hash};
@@ -37,12 +39,24 @@ where
     ensures given_back { IfErr result (λ e. IsFirstRefused (λ x. W.weight scale x tt) keys.now e) }
     ensures never_refused { keys.now ≡ [] → IsOk result }
 {
-    let mut pass = SizedPass::with_hasher(alloc, hash_builder);
-    for key in keys {
-        match pass.request(*key, scale.weight(key, &())) {
-            Ok(_) => {}
+    let mut positions = KeyTable::empty(alloc, hash_builder);
+    let mut pass: SizedPositionPass<K, A> = SizedPositionPass::new(alloc);
+    let mut ahead = [Ahead {
+        latest: None,
+        weight: 0,
+    }; AHEAD];
+    let mut first = 0;
+    let mut size = 0;
+    while first < keys.len() {
+        let end = first + (keys.len() - first).min(AHEAD);
+        match look_up(&mut positions, keys, first, end, &scale, size, &mut ahead) {
+            Ok(sum) => size = sum,
             Err(refusal) => return Err(refusal),
         }
+        if let Err(key) = count(&mut pass, keys, first, end, &ahead) {
+            return Err(SizedRequestError::NoMemory(key));
+        }
+        first = end;
     }
     Ok(pass.into_curve())
 }

@@ -297,7 +297,8 @@ impl<K: Eq + Hash, S: BuildHasher, A: Allocator + Copy> SizedPass<K, S, A> {
         let Some(position) = self.positions.replace(hash, key, here) else {
             return Ok(None);
         };
-        let span = self.latest.remove(position);
+        let likely = self.latest.likely(position);
+        let span = self.latest.remove(position, likely);
         self.latest.push(size);
         self.latest.drop_empty();
         self.hits.push_reserved(Step {

@@ -1,10 +1,13 @@
 //! `SizedPositionPass`, which takes requests of keys that weigh something one by one, and holds no key.
-ghost use Rattle.std.specs.Prelude.{◌≡◌, ℕ, ◌+◌, ◌^◌, ◌≤◌, ◌↔◌, List, [], ◌∷◌, reverse, Some, IfOk, IsErrAnd, OnOk, OnErr, IsOk};
+ghost use Rattle.std.specs.Prelude.{◌≡◌, ℕ, ◌+◌, ◌^◌, ◌≤◌, ◌↔◌, List, [], ◌∷◌, reverse, Some, IfOk, IfSome, IsErrAnd, OnOk, OnErr, IsOk};
 ghost use Rattle.std.specs.List.{All};
 ghost use Rattle.std.specs.Map.{keys_of};
 ghost use Rattle.clru_model.specs.Ages.{is_recent};
 ghost use Rattle.clru_model.specs.Sizes.{SameWeights, span};
+ghost use Rattle.clru_curve.specs.Ahead.{HasMoved};
+ghost use Rattle.clru_curve.specs.LatestSizes.{IsLiveAt};
 ghost use Rattle.clru_curve.specs.PositionPasses.{IsLatestOf};
+ghost use Rattle.clru_curve.specs.Rising.{IsRising};
 ghost use Rattle.clru_curve.specs.Seen.{reuse_by};
 ghost use Rattle.clru_curve.specs.SizedCurves.{IsSizedCurveOf};
 ghost use Rattle.clru_curve.specs.SizedIdlePasses.{IsSizedIdleCurveOf};
@@ -110,6 +113,42 @@ impl<K: Eq, A: Allocator + Copy> SizedPositionPass<K, A> {
         ensures refused { OnErr result (self.new ≡ self.old) }
         ensures too_large { IsErrAnd result IsTooLarge ↔ (2 ^ 64 ≤ self.old.size + (1 + weight)) }
     {
+        let likely = self.likely(latest);
+        self.count(latest, soon, weight, likely)
+    }
+
+    /// The place where a size is likely to stand, for `count`. Whoever asks for those of some requests first need not wait for each.
+    pub(crate) fn likely(&self, latest: Option<usize>) -> usize
+        ensures rising { IsRising 0 self.now.sizes self.now.requests }
+    {
+        match latest {
+            Some(position) => self.latest.likely(position),
+            None => 0,
+        }
+    }
+
+    /// Does what `request` does, whatever keys weigh, if the latest request of the key has a size here.
+    pub(crate) fn count(
+        &mut self,
+        latest: Option<usize>,
+        soon: bool,
+        weight: usize,
+        likely: usize,
+    ) -> Result<Option<usize>, SizedRequestError<()>>
+        requires live { IfSome latest (λ p. IsLiveAt self.old.sizes p) }
+        ensures span { (w : K → ℕ) (idle : ℕ) (past : List (K × ℕ)) (key : K) (time : ℕ) → SameWeights K.eq w
+            → IsSizedPositionPass K.eq w idle past self.old → w key ≡ weight
+            → IsLatestOf K.eq (keys_of past) key latest → soon ≡ is_recent K.eq (Some idle) (key, time) past
+            → IfOk result (λ s. s ≡ reuse_by K.eq (span K.eq w) idle (key, time) past) }
+        ensures taken { (w : K → ℕ) (idle : ℕ) (past : List (K × ℕ)) (key : K) (time : ℕ) → SameWeights K.eq w
+            → IsSizedPositionPass K.eq w idle past self.old → w key ≡ weight
+            → IsLatestOf K.eq (keys_of past) key latest → soon ≡ is_recent K.eq (Some idle) (key, time) past
+            → OnOk result (IsSizedPositionPass K.eq w idle ((key, time) ∷ past) self.new) }
+        ensures moved { OnOk result (HasMoved latest self.old self.new) }
+        ensures size { OnOk result (self.new.size ≡ self.old.size + (1 + weight)) }
+        ensures refused { OnErr result (self.new ≡ self.old) }
+        ensures too_large { IsErrAnd result IsTooLarge ↔ (2 ^ 64 ≤ self.old.size + (1 + weight)) }
+    {
         if weight >= usize::MAX - self.size {
             return Err(SizedRequestError::TooLarge(()));
         }
@@ -123,7 +162,7 @@ impl<K: Eq, A: Allocator + Copy> SizedPositionPass<K, A> {
                 let Ok(()) = self.hits.reserve(1) else {
                     return Err(SizedRequestError::NoMemory(()));
                 };
-                let span = self.latest.remove(position);
+                let span = self.latest.remove(position, likely);
                 self.latest.push(size);
                 self.latest.drop_empty();
                 self.size += size;

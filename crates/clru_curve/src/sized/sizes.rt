@@ -87,9 +87,20 @@ impl<A: Allocator + Copy> Sizes<A> {
         self.requests += 1;
     }
 
+    /// The place where the size of a request is, or one behind all others if the guide does not know it. A caller who asks for some
+    /// before it removes them need not wait for each.
+    pub(crate) fn likely(&self, request: usize) -> usize {
+        let place = self.guide.likely(request);
+        if place < self.sizes.len() && self.sizes[place].number == request {
+            place
+        } else {
+            usize::MAX
+        }
+    }
+
     /// The request is no longer the latest of its key. Returns its size and those of all later requests that are the latest of
-    /// theirs.
-    pub(crate) fn remove(&mut self, request: usize) -> usize
+    /// theirs. Only the time rests on the likely place.
+    pub(crate) fn remove(&mut self, request: usize, likely: usize) -> usize
         requires kept { IsSummed self.old.sizes.items self.old.nodes.items self.old.requests }
         requires live { live_from self.old.sizes.items request ≡ suc (live_from self.old.sizes.items (suc request)) }
         requires fits { sizes_from self.old.sizes.items 0 < 2 ^ 64 }
@@ -101,8 +112,7 @@ impl<A: Allocator + Copy> Sizes<A> {
         ensures capacity { vec_capacity self.new.sizes ≡ vec_capacity self.old.sizes }
         ensures nodes { length self.new.nodes.items ≡ length self.old.nodes.items }
     {
-        let guess = self.guide.likely(request);
-        let at = place_near(&self.sizes, request, guess);
+        let at = place_near(&self.sizes, request, likely);
         let total = self.sum_from(at);
         let size = self.sizes[at].value;
         self.sizes[at].value = 0;

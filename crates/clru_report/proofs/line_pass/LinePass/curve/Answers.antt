@@ -2,8 +2,9 @@ use Rattle.std.proofs.Common.{ap, ◌∙◌}
 use Rattle.clru_model.specs.Requests.{distinct}
 use Rattle.clru_text.specs.Keys.{same_line}
 use Rattle.clru_text.proofs.ResultLemmas.{ok_map}
-use Rattle.clru_report.specs.LinePasses.{timeless}
-use Rattle.clru_report.proofs.LinePasses.{keys_timeless, misses_of_keys}
+use Rattle.clru_curve.specs.Seen.{timeless}
+use Rattle.clru_curve.proofs.Timeless.{keys_timeless}
+use Rattle.clru_report.proofs.LinePasses.{misses_of_keys}
 use Rattle.clru_report.proofs.line_pass.LinePass.curve.Goals as goal
 
 pub returns-clause-misses : goal.returns-clause-misses

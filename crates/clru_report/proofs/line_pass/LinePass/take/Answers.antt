@@ -1,13 +1,15 @@
 use Rattle.std.proofs.Common.{◌∙◌, arith}
-use Rattle.clru_report.specs.LinePasses.{timeless}
-use Rattle.clru_report.proofs.LinePasses.{latest_noted, latest_timeless, noted_more, soon_timeless}
+use Rattle.clru_curve.specs.Seen.{timeless}
+use Rattle.clru_text.specs.Keys.{same_line}
+use Rattle.clru_curve.proofs.Timeless.{latest_timeless, soon_timeless}
+use Rattle.clru_report.proofs.LinePasses.{latest_noted, noted_more}
 use Rattle.clru_report.proofs.line_pass.LinePass.take.Goals as goal
 
 pub request-requires : goal.request-requires
 request-requires g c =
     let past = c.requires.0 in let is = c.requires.1 in let key = c.args.key.now in let latest = c.in_ok-latest.latest in
     let at = latest_noted past c.args.self.now.latest is.noted key c.deref.result.now c.deref.ensures.value latest c.in_ok-latest.ensures.before in
-    (0, timeless past, key, 0, is.taken, latest_timeless past key latest at, c.is_some.ensures ∙ soon_timeless past key latest at)
+    (0, timeless past, key, 0, is.taken, latest_timeless same_line 0 past key latest at, c.is_some.ensures ∙ soon_timeless same_line 0 past key latest at)
 
 pub returns-clause-latest : goal.returns-clause-latest
 returns-clause-latest g c past is =
@@ -21,7 +23,7 @@ returns-clause-taken g c past is =
     record {
       noted = noted_more past noted is.noted key c.deref.result.now c.deref.ensures.value _ c.insert.new.self
           (omega (arith, is.counted)) c.in_ok-latest.ensures.taken;
-      taken = c.in_ok-request.ensures.taken 0 (timeless past) key 0 is.taken (latest_timeless past key latest at)
-          (c.is_some.ensures ∙ soon_timeless past key latest at);
+      taken = c.in_ok-request.ensures.taken 0 (timeless past) key 0 is.taken (latest_timeless same_line 0 past key latest at)
+          (c.is_some.ensures ∙ soon_timeless same_line 0 past key latest at);
       counted = omega (arith, is.counted, c.in-Some.ensures);
     }

@@ -1,6 +1,6 @@
-use Rattle.clru_report.specs.LinePasses.{timeless}
+use Rattle.clru_curve.specs.Seen.{timeless}
 use Rattle.clru_report.specs.Passes.{weight_of_key}
-use Rattle.clru_report.proofs.LinePasses.{none_late}
+use Rattle.clru_curve.proofs.Timeless.{none_late}
 use Rattle.clru_report.proofs.SizedLinePasses.{curve_of_keys, same_key_weights}
 use Rattle.clru_report.proofs.sized.line_pass.SizedLinePass.into_curve.Goals as goal
 

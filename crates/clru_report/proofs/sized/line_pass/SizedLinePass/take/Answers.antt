@@ -1,7 +1,9 @@
 use Rattle.std.proofs.Common.{sym, ◌∙◌, arith}
-use Rattle.clru_report.specs.LinePasses.{timeless}
+use Rattle.clru_curve.specs.Seen.{timeless}
+use Rattle.clru_text.specs.Keys.{same_line}
 use Rattle.clru_report.specs.Passes.{weight_of_key}
-use Rattle.clru_report.proofs.LinePasses.{latest_noted, latest_timeless, noted_more, soon_timeless}
+use Rattle.clru_curve.proofs.Timeless.{latest_timeless, soon_timeless}
+use Rattle.clru_report.proofs.LinePasses.{latest_noted, noted_more}
 use Rattle.clru_report.proofs.SizedLinePasses.{same_key_weights}
 use Rattle.clru_report.proofs.sized.line_pass.SizedLinePass.take.Goals as goal
 
@@ -17,8 +19,8 @@ request-requires g c =
       same_key_weights,
       is.taken,
       sym c.requires.weight,
-      latest_timeless past key latest at,
-      c.is_some.ensures ∙ soon_timeless past key latest at,
+      latest_timeless same_line 0 past key latest at,
+      c.is_some.ensures ∙ soon_timeless same_line 0 past key latest at,
     )
 
 pub returns-clause-latest : goal.returns-clause-latest
@@ -34,6 +36,6 @@ returns-clause-taken g c past is =
       noted = noted_more past noted is.noted key c.deref.result.now c.deref.ensures.value _ c.insert.new.self
           (omega (arith, is.counted)) c.in_ok-latest.ensures.taken;
       taken = c.in-Ok.ensures.taken weight_of_key 0 (timeless past) key 0 same_key_weights is.taken (sym c.requires.weight)
-          (latest_timeless past key latest at) (c.is_some.ensures ∙ soon_timeless past key latest at);
+          (latest_timeless same_line 0 past key latest at) (c.is_some.ensures ∙ soon_timeless same_line 0 past key latest at);
       counted = omega (arith, is.counted, c.in-Some.ensures);
     }
