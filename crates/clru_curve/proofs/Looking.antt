@@ -12,7 +12,7 @@ use Rattle.std.specs.Map.{lookup, set_value}
 use Rattle.clru_model.proofs.Cases.{split}
 use Rattle.clru_model.specs.Requests.{distinct, holds, since}
 use Rattle.clru_curve.specs.declared.numbered.Numbered.{Numbered}
-use Rattle.clru_curve.specs.declared.sized.ahead.Ahead.{Ahead}
+use Rattle.clru_curve.specs.declared.ahead.Ahead.{Ahead}
 use Rattle.clru_curve.specs.declared.sized.error.SizedRequestError.{SizedRequestError}
 use Rattle.clru_curve.specs.Ahead.{ArePlaced, AreLatest, HasMoved, HaveWeights, HoldsLatest, nothing, up_to_some}
 use Rattle.clru_curve.specs.LatestSizes.{IsLiveAt, live_from, total_from}

@@ -2,7 +2,6 @@
 use Rattle.std.proofs.Common.{◌≡◌, ℕ, suc, ◌+◌, ◌-◌, ◌^◌, ◌<◌, ◌≤◌, Bool, true, false, cond, nat_le, nat_lt, List, [], ◌∷◌, ◌++◌, length, reverse, Option, Some, None, IfSome, refl, sym, ap, ◌∙◌, subst, arith}
 use Rattle.std.proofs.lemmas.Bool.{le-leb}
 use Rattle.std.proofs.lemmas.List.{length_push, reverse-reverse}
-use Rattle.std.proofs.lemmas.List.Elements.{All-head, All-nil, All-push, All-same, All-tail}
 use Rattle.std.proofs.lemmas.List.Sums.{sum_by-cons, sum_by_push}
 use Rattle.std.proofs.lemmas.Map.Entries.{length-keys_of}
 use Rattle.std.specs.Cmp.{IsEquivalence}
@@ -27,14 +26,14 @@ use Rattle.clru_curve.specs.SizedPasses.{AreHits, IsSizedPass, pass_by_size}
 use Rattle.clru_curve.specs.SizedPositionPasses.{CountedBySize, counted_by_size, IsSizedPositionPass, IsSoundCountedBySize}
 use Rattle.clru_curve.specs.Tree.{up_by}
 use Rattle.clru_curve.proofs.IdlePassing.{moved_again, moved_new, position_at, position_found, unseen}
-use Rattle.clru_curve.proofs.IdleReuses.{keys_of-reverse, reuse-new, turned}
+use Rattle.clru_curve.proofs.IdleReuses.{keys_of-reverse, reuse-new}
 use Rattle.clru_curve.proofs.LatestSizes.{live_falls}
 use Rattle.clru_curve.proofs.PositionPassing.{latest_more, seen_there}
 use Rattle.clru_curve.proofs.Ranks.{same_some}
 use Rattle.clru_curve.proofs.SizedCurves.{IsSizedCurveOf-by}
 use Rattle.clru_curve.proofs.SizedHits.{count_by-cons}
 use Rattle.clru_curve.proofs.SizedIdlePassing.{IsSizedIdleCurveOf-by, IsSizedIdlePass-again, IsSizedIdlePass-new, IsSizedIdlePass-none, recent_there, span_some}
-use Rattle.clru_curve.proofs.Timeless.{missed_size_timeless, sized_misses_timeless}
+use Rattle.clru_curve.proofs.Timeless.{all_reversed, missed_size_timeless, sized_misses_timeless}
 
 -- before the first request
 pub none_taken : {K : Type 0} (eq : K → K → Bool) → IsEquivalence eq → (weight : K → ℕ) (idle : ℕ)
@@ -157,12 +156,6 @@ module _ {K : Type 0} (eq : K → K → Bool) (laws : IsEquivalence eq) (weight 
       → IfSome o (λ p. IsLiveAt c.sizes p)
   latest_live None latest w weighs high rising = tt
   latest_live (Some p) latest w weighs high rising = was_live p latest w weighs high rising
-
-all_reversed : {X : Type 0} (P : X → Type 0) (xs : List X) → All P xs → All P (reverse xs)
-all_reversed P [] all = All-nil P
-all_reversed P (x ∷ xs) all =
-    All-same P (reverse (x ∷ xs)) (reverse xs ++ x ∷ []) (turned x xs)
-    (All-push P (reverse xs) x (all_reversed P xs (All-tail P x xs all)) (All-head P x xs all))
 
 -- with room for all spans together each is within
 all_within : (c : ℕ) (hits : List Step) → sum_by (λ h. h.capacity) hits ≤ c → hits_within c hits ≡ length hits

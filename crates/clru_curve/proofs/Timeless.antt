@@ -1,15 +1,17 @@
 -- Requests without times miss under an idle limit what they miss without it.
-use Rattle.std.proofs.Common.{◌≡◌, ℕ, ◌-◌, Bool, true, false, not, ◌&&◌, Option, None, Some, is_some, List, [], ◌∷◌, refl, sym, ap, ◌∙◌, subst, arith}
+use Rattle.std.proofs.Common.{◌≡◌, ℕ, ◌-◌, Bool, true, false, not, ◌&&◌, Option, None, Some, is_some, List, [], ◌∷◌, ◌++◌, reverse, refl, sym, ap, ◌∙◌, subst, arith}
 use Rattle.std.specs.Cmp.{IsEquivalence}
 use Rattle.std.specs.List.{All, count_by}
 use Rattle.std.specs.Map.{keys_of, lookup}
 use Rattle.std.specs.Option.{option_map_or}
 use Rattle.std.proofs.lemmas.Bool.{le-leb}
-use Rattle.std.proofs.lemmas.List.Elements.{All-head, All-map, All-tail}
-use Rattle.clru_curve.specs.IdlePasses.{idle_misses}
+use Rattle.std.proofs.lemmas.List.Elements.{All-head, All-map, All-nil, All-push, All-same, All-tail}
+use Rattle.clru_curve.specs.Curves.{HasMissesOf}
+use Rattle.clru_curve.specs.IdlePasses.{HasIdleMissesOf, idle_misses}
 use Rattle.clru_curve.specs.PositionPasses.{IsLatestOf}
 use Rattle.clru_curve.specs.Seen.{timeless}
 use Rattle.clru_curve.specs.SizedIdlePasses.{idle_missed_size, idle_misses_by_size}
+use Rattle.clru_curve.proofs.IdleReuses.{keys_of-reverse, turned}
 use Rattle.clru_model.proofs.Cases.{split}
 use Rattle.clru_model.proofs.IdleMarks.{recent_unlimited, unlimited_marks, unlimited_marks_by_size}
 use Rattle.clru_model.proofs.Spans.{missed_by_marks}
@@ -17,6 +19,12 @@ use Rattle.clru_model.specs.Ages.{aged_hit, aged_marks_after, is_in_limit, is_re
 use Rattle.clru_model.specs.Requests.{hit, holds, misses}
 use Rattle.clru_model.specs.Sizes.{hit_by_size, missed_size, misses_by_size}
 use Rattle.clru_model.specs.Spans.{size_of_misses}
+
+pub all_reversed : {X : Type 0} (P : X → Type 0) (xs : List X) → All P xs → All P (reverse xs)
+all_reversed P [] all = All-nil P
+all_reversed P (x ∷ xs) all =
+    All-same P (reverse (x ∷ xs)) (reverse xs ++ x ∷ []) (turned x xs)
+    (All-push P (reverse xs) x (all_reversed P xs (All-tail P x xs all)) (All-head P x xs all))
 
 -- requests without times are of the same keys
 pub keys_timeless : {K : Type 0} (ks : List K) → keys_of (timeless ks) ≡ ks
@@ -73,3 +81,9 @@ module _ {K : Type 0} (eq : K → K → Bool) (laws : IsEquivalence eq) (idle : 
         ap (λ ms. size_of_misses weight ms (keys_of rs))
         (marks_timeless eq idle (hit_by_size eq weight c) [] [] rs all ∙ unlimited_marks_by_size eq laws weight c rs)
         ∙ sym (missed_by_marks eq weight c [] (keys_of rs))
+
+-- a curve of requests at the time 0 is that of their keys
+pub has_timeless : {K : Type 0} (eq : K → K → Bool) → IsEquivalence eq → (idle : ℕ) (past : List (K × ℕ)) → All (λ r. r.1 ≡ 0) past
+    → (curve : List ℕ) → HasIdleMissesOf eq idle (reverse past) curve → HasMissesOf eq (reverse (keys_of past)) curve
+has_timeless eq laws idle past none curve has k some =
+    has k some ∙ misses_timeless eq laws idle (reverse past) (all_reversed (λ r. r.1 ≡ 0) past none) k ∙ ap (misses eq k) (keys_of-reverse past)

@@ -2,7 +2,7 @@
 use Rattle.std.specs.Prelude.{◌≡◌, ℕ, ◌+◌, ◌<◌, ◌≤◌, Bool, List, length, reverse, take, slice_get, slice_index_or, Option, None, Some}
 use Rattle.std.specs.Map.{lookup}
 use Rattle.clru_model.specs.Requests.{distinct}
-use Rattle.clru_curve.specs.declared.sized.ahead.Ahead.{Ahead}
+use Rattle.clru_curve.specs.declared.ahead.Ahead.{Ahead}
 use Rattle.clru_curve.specs.LatestSizes.{live_from}
 use Rattle.clru_curve.specs.PositionPasses.{IsLatestOf}
 use Rattle.clru_curve.specs.Ranked.{IsRanked}

@@ -5,16 +5,17 @@
 //! A pass notes for each key the number of its latest request, in a hash table, and a bit for each request,
 //! which is set if that request is the latest of its key. The distance of a request is the number of bits after the one
 //! of its key; a Fenwick tree over the blocks counts them. A request costs a look-up, and steps that grow as the
-//! logarithm of the number of requests. Bits stand in blocks, and blocks without a set bit are dropped, so memory grows with the
-//! distinct keys.
+//! logarithm of the number of requests. Bits stand in blocks, and blocks without a set bit are dropped now and then, a step for each,
+//! so memory grows with the distinct keys.
 //!
-//! If keys weigh something, a sized pass does the same with a size instead of each bit, and sums instead of numbers of bits; it
-//! keeps a size for each request.
+//! If keys weigh something, a sized pass does the same with a size instead of each bit, and sums instead of numbers of bits. It
+//! drops the sizes of earlier requests, so these grow with the distinct keys too; each request whose key came before takes 16 bytes.
 //!
 //! `split` divides a budget among several caches, by their curves.
 #![tactic(auto)]
 
 mod aged;
+mod ahead;
 mod curve;
 mod debug;
 mod fetches;

@@ -3,9 +3,12 @@ ghost use Rattle.std.specs.Prelude.{◌≡◌, [], length, reverse, IfOk, IsOk};
 ghost use Rattle.clru_model.specs.Requests.{distinct};
 ghost use Rattle.clru_curve.specs.Curves.{HasMissesOf};
 
+use crate::ahead::{AHEAD, Ahead, look_up};
 use crate::curve::MissCurve;
-use crate::pass::DistancePass;
+use crate::key_table::KeyTable;
+use crate::position::PositionPass;
 use clru_list::NoMemory;
+use clru_model::ZeroWeightScale;
 use std::alloc::Allocator;
 use std::hash::{BuildHasher, Hash};
 
@@ -34,11 +37,36 @@ pub fn miss_curve<K: Eq + Hash + Copy, S: BuildHasher + Drop, A: Allocator + Cop
     ensures distinct { IfOk result (λ c. length c ≡ distinct K.eq (reverse keys.now)) }
     ensures never_refused { keys.now ≡ [] → IsOk result }
 {
-    let mut pass = DistancePass::with_hasher(alloc, hash_builder);
-    for key in keys {
-        let Ok(_) = pass.request(*key) else {
-            return Err(NoMemory);
-        };
+    let mut positions = KeyTable::empty(alloc, hash_builder);
+    let mut pass: PositionPass<K, A> = PositionPass::new(alloc);
+    let mut ahead = [Ahead {
+        latest: None,
+        weight: 0,
+    }; AHEAD];
+    let mut first = 0;
+    let mut size = 0;
+    while first < keys.len() {
+        let end = first + (keys.len() - first).min(AHEAD);
+        match look_up(
+            &mut positions,
+            keys,
+            first,
+            end,
+            &ZeroWeightScale,
+            size,
+            &mut ahead,
+        ) {
+            Ok(sum) => size = sum,
+            Err(_) => return Err(NoMemory),
+        }
+        let mut at = first;
+        while at < end {
+            let latest = ahead[at - first].latest;
+            // (without times each reuse comes soon enough)
+            pass.request(latest, latest.is_some())?;
+            at += 1;
+        }
+        first = end;
     }
     Ok(pass.into_curve())
 }

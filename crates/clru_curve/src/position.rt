@@ -1,9 +1,11 @@
 //! `PositionPass`, which takes requests one by one and holds no key.
 ghost use Rattle.std.specs.Prelude.{◌≡◌, ℕ, ◌+◌, ◌%◌, ◌^◌, ◌<◌, List, [], ◌∷◌, length, reverse, Option, Some, is_some, true, IfOk, OnOk, OnErr, IsOk};
+ghost use Rattle.std.specs.List.{All};
 ghost use Rattle.std.specs.Map.{keys_of};
 ghost use Rattle.clru_model.specs.Ages.{is_recent};
 ghost use Rattle.clru_model.specs.Distances.{distance};
 ghost use Rattle.clru_model.specs.Requests.{distinct};
+ghost use Rattle.clru_curve.specs.Curves.{HasMissesOf};
 ghost use Rattle.clru_curve.specs.IdlePasses.{HasIdleMissesOf};
 ghost use Rattle.clru_curve.specs.PositionPasses.{IsLatestOf, IsPositionPass};
 ghost use Rattle.clru_curve.specs.Seen.{reuse_by};
@@ -21,7 +23,7 @@ use std::marker::{Model, PhantomData};
 /// for all, can share one table of keys.
 ///
 /// Clauses describe the requests that it has taken under a limit, the latest first, each with its time, by `IsPositionPass`. Without
-/// times each has the same, and each reuse comes soon enough.
+/// times each has the time 0, and each reuse comes soon enough.
 ///
 /// Takes the memory of a `DistancePass` but for its hash table.
 pub struct PositionPass<K: Eq, A: Allocator + Copy = Global> {
@@ -70,7 +72,7 @@ impl<K: Eq, A: Allocator + Copy> PositionPass<K, A> {
 
     /// Takes one more request, and returns its distance, or `None` if its key was not requested before, or too long ago. `latest` is the
     /// position of the latest request of its key, which is how many came before that one, or `None` if its key was not requested
-    /// before. `soon` says whether that one came within the limit.
+    /// before. `soon` says whether there was one and it came within the limit.
     ///
     /// If memory is refused, or there were `usize::MAX` requests, the pass is unchanged. A key that was requested before asks for
     /// memory at most once in 64 requests.
@@ -109,11 +111,31 @@ impl<K: Eq, A: Allocator + Copy> PositionPass<K, A> {
         }
     }
 
+    /// Returns the curve of the requests so far.
+    /// Cost: a step for each distinct key; no request for memory.
+    pub fn into_curve(self) -> MissCurve<A>
+        ensures misses { (idle : ℕ) (past : List (K × ℕ)) → IsPositionPass K.eq idle past self → HasIdleMissesOf K.eq idle (reverse past) result }
+        ensures timeless { (idle : ℕ) (past : List (K × ℕ)) → All (λ r. r.1 ≡ 0) past → IsPositionPass K.eq idle past self
+            → HasMissesOf K.eq (reverse (keys_of past)) result }
+        ensures distinct { (idle : ℕ) (past : List (K × ℕ)) → IsPositionPass K.eq idle past self
+            → length result ≡ distinct K.eq (keys_of past) }
+    {
+        let PositionPass {
+            latest,
+            mut histogram,
+            keys: _,
+        } = self;
+        misses_of(&mut histogram, latest.requests);
+        MissCurve::from_misses(histogram)
+    }
+
     /// Returns the curve of the requests so far, and lets the pass go on.
     /// Cost: a step for each distinct key; one request for memory, of a number for each, and none without requests.
     pub fn curve(&self, alloc: A) -> Result<MissCurve<A>, NoMemory>
         ensures misses { (idle : ℕ) (past : List (K × ℕ)) → IsPositionPass K.eq idle past self.now
             → IfOk result (λ c. HasIdleMissesOf K.eq idle (reverse past) c) }
+        ensures timeless { (idle : ℕ) (past : List (K × ℕ)) → All (λ r. r.1 ≡ 0) past → IsPositionPass K.eq idle past self.now
+            → IfOk result (λ c. HasMissesOf K.eq (reverse (keys_of past)) c) }
         ensures distinct { (idle : ℕ) (past : List (K × ℕ)) → IsPositionPass K.eq idle past self.now
             → IfOk result (λ c. length c ≡ distinct K.eq (keys_of past)) }
         ensures never_refused { (idle : ℕ) → IsPositionPass K.eq idle [] self.now → IsOk result }

@@ -72,7 +72,7 @@ impl<'a, K: Eq, A: Allocator + Copy> Foresight<'a, K, A> {
     /// One that starts with keys has at most `room` fewer; a replay of that capacity has no fewer.
     ///
     /// Memory is asked for at the start, and may be refused; without requests none is.
-    /// Cost: time that grows as the requests times the logarithm of their number; memory of at most a byte for four requests, until
+    /// Cost: time that grows as the requests times the logarithm of their number; memory of about a byte for four requests, until
     /// it returns. No key is hashed or compared.
     pub fn least(&self, room: NonZeroUsize) -> Result<usize, AllocError>
         ensures least { IfOk result (IsLeast K.eq (non_zero_usize_get room) self.now) }

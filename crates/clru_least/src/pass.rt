@@ -17,7 +17,7 @@ use std::num::NonZeroUsize;
 /// Clauses describe the requests that it has taken, the latest first, by `IsForesight`: none at first, then each taken request
 /// comes in front.
 ///
-/// Memory is 4 bytes for each request, or 8 if there are more than 4,294,967,295.
+/// Memory is 4 to 8 bytes for each request, since it doubles, or twice that if there are more than 4,294,967,295.
 pub struct ForesightPass<K: Eq, A: Allocator + Copy = Global> {
     // For each request the position of the next one of its key, and 0 where there is none.
     pub(crate) later: PackedNumbers<A>,
@@ -101,7 +101,7 @@ impl<K: Eq, A: Allocator + Copy> ForesightPass<K, A> {
     /// One that starts with keys has at most `room` fewer; a replay of that capacity has no fewer.
     ///
     /// Memory is asked for at the start, and may be refused; without requests none is.
-    /// Cost: time that grows as the requests times the logarithm of their number; memory of at most a byte for four requests, until
+    /// Cost: time that grows as the requests times the logarithm of their number; memory of about a byte for four requests, until
     /// it returns.
     pub fn least(&self, room: NonZeroUsize) -> Result<usize, AllocError>
         ensures least { (past : List K) → IsForesight K.eq past self.now

@@ -39,11 +39,3 @@ module _ {A : Type 0} (past : List (OwnedKey A)) where
         (λ t. subst (IsLatestOf same_line (key ∷ past) y) (sym (moved ∙ ap found t)) (latest_here same_line past key y t here at))
         (λ f. subst (IsLatestOf same_line (key ∷ past) y) (sym (moved ∙ ap found f))
         (latest_there same_line past key y f (lookup (bytes_eq (line_of y)) noted) (each y)))
-
-  -- the misses of requests at the time 0 are those of their keys
-  pub misses_of_keys : (curve : List ℕ) → HasIdleMissesOf same_line 0 (reverse (timeless past)) curve → HasMissesOf same_line (reverse past) curve
-  misses_of_keys curve has k some =
-      let keys = reverse past in
-      has k some ∙ ap (idle_misses same_line 0 k) (sym (map-reverse (λ (key : OwnedKey A). (key, 0)) past))
-      ∙ misses_timeless same_line (on_equiv (λ (key : OwnedKey A). line_of key) bytes_laws) 0 (timeless keys) (none_late keys) k
-      ∙ ap (misses same_line k) (keys_timeless keys)

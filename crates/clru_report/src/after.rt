@@ -77,9 +77,7 @@ fn curves_around<R: Read, S: BuildHasher + Drop, A: Allocator + Copy>(
         };
         requests += 1;
     }
-    let Ok(curve) = pass.into_curve(alloc) else {
-        return Err(ReadError::Memory);
-    };
+    let curve = pass.into_curve();
     Ok((curve, head, requests, buffer.bytes_read()))
 }
 

@@ -77,21 +77,19 @@ impl<S: BuildHasher, A: Allocator + Copy> LinePass<S, A> {
         self.pass.curve(alloc)
     }
 
-    /// Does what `curve` does, when no line follows. The lines are dropped first.
-    /// Cost: that of `curve`.
-    pub(crate) fn into_curve(self, alloc: A) -> Result<MissCurve<A>, NoMemory>
+    /// Returns the curve of the lines so far.
+    /// Cost: a step for each distinct line; no request for memory.
+    pub(crate) fn into_curve(self) -> MissCurve<A>
     where
         S: Drop,
-        ensures misses { (past : List (OwnedKey A)) → IsLinePass past self → IfOk result (HasMissesOf same_line (reverse past)) }
-        ensures distinct { (past : List (OwnedKey A)) → IsLinePass past self
-            → IfOk result (λ curve. length curve ≡ distinct same_line past) }
+        ensures misses { (past : List (OwnedKey A)) → IsLinePass past self → HasMissesOf same_line (reverse past) result }
+        ensures distinct { (past : List (OwnedKey A)) → IsLinePass past self → length result ≡ distinct same_line past }
     {
         let LinePass {
-            latest,
+            latest: _,
             pass,
             requests: _,
         } = self;
-        drop(latest);
-        pass.curve(alloc)
+        pass.into_curve()
     }
 }

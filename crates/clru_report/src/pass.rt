@@ -66,9 +66,7 @@ pub(crate) fn curve_by_keys<R: Read, S: BuildHasher + Drop, A: Allocator + Copy>
         };
         requests += 1;
     }
-    let Ok(curve) = pass.into_curve(alloc) else {
-        return Err(ReadError::Memory);
-    };
+    let curve = pass.into_curve();
     let Ok(floor) = floor_of(&reuses) else {
         return Err(ReadError::Memory);
     };

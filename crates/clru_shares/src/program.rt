@@ -35,8 +35,8 @@ const MOST_STEPS: usize = 1000;
 /// one of its part of the budget among its lines, as told of all. A request that comes later than the idle limit allows is a first one.
 /// Lines are hashed with `hash_builder`: a best split is one under each that is lawful. The first 60 bytes of the line that a fault
 /// names are put into `beginning`, or the name of the class for which the budget has no room.
-/// Cost: one look-up a line, and that of `split` for at most a thousand steps. A sample takes a hash of each line, and look-ups of its
-/// own alone.
+/// Cost: for each line a look-up and a comparison with each class up to its own, and that of `split` for at most a thousand steps. A
+/// sample takes a hash of each line, and look-ups of its own alone.
 pub fn run_split<R: Read, W: Write, S: BuildHasher + Copy, A: Allocator + Copy>(
     alloc: A,
     options: SplitOptions,
@@ -85,8 +85,8 @@ pub fn run_split<R: Read, W: Write, S: BuildHasher + Copy, A: Allocator + Copy>(
 ///
 /// Fails if a line has no time, class or size, if there are more than 256 classes, if the sizes pass `usize::MAX`, if an object is larger
 /// than the budget, or if reading or memory fails.
-/// Cost: one look-up a line, and that of `split` for at most a thousand steps. A sample takes a hash of each line, and look-ups of its
-/// own alone.
+/// Cost: for each line a look-up and a comparison with each class up to its own, and that of `split` for at most a thousand steps. A
+/// sample takes a hash of each line, and look-ups of its own alone.
 pub fn make_split<R: Read, S: BuildHasher + Copy, A: Allocator + Copy>(
     alloc: A,
     options: SplitOptions,

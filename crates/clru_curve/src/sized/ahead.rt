@@ -1,100 +1,13 @@
-//! Requests of a whole list, which are looked up some at a time before they are counted: no look-up waits for what is counted of the
-//! request before it.
-ghost use Rattle.std.specs.Prelude.{◌≡◌, ℕ, ◌+◌, ◌^◌, ◌<◌, ◌≤◌, List, ◌∷◌, length, reverse, take, Some, slice_get, IfOk, IfErr, OnOk};
+//! Requests by size that were looked up, and are counted now.
+ghost use Rattle.std.specs.Prelude.{◌≡◌, ℕ, ◌+◌, ◌<◌, ◌≤◌, List, length, reverse, take, Some, slice_get, IfErr, OnOk};
 ghost use Rattle.clru_model.specs.Sizes.{SameWeights};
-ghost use Rattle.clru_curve.specs.Ahead.{ArePlaced, AreLatest, HaveWeights, HoldsLatest};
-ghost use Rattle.clru_curve.specs.PositionPasses.{IsLatestOf};
+ghost use Rattle.clru_curve.specs.Ahead.{AreLatest, HaveWeights, HoldsLatest};
 ghost use Rattle.clru_curve.specs.Seen.{timeless};
-ghost use Rattle.clru_curve.specs.SizedCurves.{size_of_all};
-ghost use Rattle.clru_curve.specs.SizedPasses.{IsFirstRefused};
 ghost use Rattle.clru_curve.specs.SizedPositionPasses.{IsSizedPositionPass};
 
-use crate::key_table::KeyTable;
-use crate::sized::error::SizedRequestError;
+use crate::ahead::{AHEAD, Ahead};
 use crate::sized::position::SizedPositionPass;
-use clru_model::WeightScale;
 use std::alloc::Allocator;
-use std::hash::{BuildHasher, Hash};
-
-/// How many requests are looked up at a time.
-pub(crate) const AHEAD: usize = 128;
-
-/// The position of the latest request of a key that is requested again, and its weight.
-#[derive(Clone, Copy)]
-pub(crate) struct Ahead {
-    pub(crate) latest: Option<usize>,
-    pub(crate) weight: usize,
-}
-
-/// Looks up the requests from `first` up to `end`, if those before have this size. Returns the size of all before `end`, or the first
-/// request that is refused.
-pub(crate) fn look_up<K, W, S, A>(
-    positions: &mut KeyTable<K, usize, S, A>,
-    keys: &[K],
-    first: usize,
-    end: usize,
-    scale: &W,
-    size: usize,
-    ahead: &mut [Ahead],
-) -> Result<usize, SizedRequestError<K>>
-where
-    K: Eq + Hash + Copy,
-    W: WeightScale<K, ()>,
-    S: BuildHasher,
-    A: Allocator + Copy,
-    requires order { first ≤ end }
-    requires within { end ≤ length keys.now }
-    requires room { end ≤ first + length ahead.old }
-    requires placed { ArePlaced K.eq (reverse (take first keys.now)) positions.old.entries }
-    requires size { size ≡ size_of_all (λ x. W.weight scale.now x tt) (take first keys.now) }
-    ensures length { length ahead.new ≡ length ahead.old }
-    ensures latest { OnOk result (AreLatest K.eq keys.now first end ahead.new) }
-    ensures weights { OnOk result (HaveWeights (λ x. W.weight scale.now x tt) keys.now first end ahead.new) }
-    ensures placed { OnOk result (ArePlaced K.eq (reverse (take end keys.now)) positions.new.entries) }
-    ensures size { IfOk result (λ s. s ≡ size_of_all (λ x. W.weight scale.now x tt) (take end keys.now)) }
-    ensures fits { OnOk result (size_of_all (λ x. W.weight scale.now x tt) (take end keys.now) < 2 ^ 64) }
-    ensures refused { IfErr result (λ e. IsFirstRefused (λ x. W.weight scale.now x tt) keys.now e) }
-{
-    let mut sum = size;
-    let mut at = first;
-    while at < end {
-        let key = keys[at];
-        let weight = scale.weight(&key, &());
-        if weight >= usize::MAX - sum {
-            return Err(SizedRequestError::TooLarge(key));
-        }
-        let latest = match place(positions, key, at) {
-            Ok(latest) => latest,
-            Err(key) => return Err(SizedRequestError::NoMemory(key)),
-        };
-        ahead[at - first] = Ahead { latest, weight };
-        sum += weight + 1;
-        at += 1;
-    }
-    Ok(sum)
-}
-
-/// Notes the position of a request, and returns that of the latest one of its key. If memory is refused, it returns the key.
-fn place<K: Eq + Hash + Copy, S: BuildHasher, A: Allocator + Copy>(
-    positions: &mut KeyTable<K, usize, S, A>,
-    key: K,
-    at: usize,
-) -> Result<Option<usize>, K>
-    requires { length positions.old.entries + 1 < 2 ^ 64 }
-    ensures latest { (past : List K) → ArePlaced K.eq past positions.old.entries → IfOk result (IsLatestOf K.eq past key) }
-    ensures placed { (past : List K) → ArePlaced K.eq past positions.old.entries → at ≡ length past
-        → OnOk result (ArePlaced K.eq (key ∷ past) positions.new.entries) }
-    ensures refused { IfErr result (λ back. back ≡ key) }
-{
-    let hash = positions.hash(&key);
-    match positions.replace(hash, &key, at) {
-        Some(latest) => Ok(Some(latest)),
-        None => match positions.insert(hash, key, at) {
-            Ok(()) => Ok(None),
-            Err(key) => Err(key),
-        },
-    }
-}
 
 /// Counts the requests from `first` up to `end`, which were looked up. Returns the first key for which memory is refused.
 pub(crate) fn count<K: Eq + Copy, A: Allocator + Copy>(

@@ -5,7 +5,7 @@ ghost use Rattle.clru_curve.specs.Errors.{sized_request_error_debug, sized_reque
 use std::error::Error;
 use std::fmt;
 
-/// Why a `SizedPass` did not take a request. The key comes back, and the pass is as before.
+/// Why a pass by size did not take a request. The key comes back, or `()` from a `SizedPositionPass`, and the pass is as before.
 #[derive(Drop, PartialEq, Eq)]
 pub enum SizedRequestError<K> {
     /// Memory was refused.

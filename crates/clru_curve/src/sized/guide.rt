@@ -34,7 +34,7 @@ impl<A: Allocator + Copy> Guide<A> {
         }
     }
 
-    /// Makes room for so many words.
+    /// Adds a word if there are fewer than so many.
     pub(crate) fn make_ready(&mut self, words: usize) -> Result<(), AllocError> {
         if self.words.len() >= words {
             return Ok(());

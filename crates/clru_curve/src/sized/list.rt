@@ -4,8 +4,9 @@ ghost use Rattle.clru_model.specs.Sizes.{SameWeights};
 ghost use Rattle.clru_curve.specs.SizedCurves.{IsSizedCurveOf, size_of_all};
 ghost use Rattle.clru_curve.specs.SizedPasses.{IsNoMemory, IsFirstRefused};
 
+use crate::ahead::{AHEAD, Ahead, look_up};
 use crate::key_table::KeyTable;
-use crate::sized::ahead::{AHEAD, Ahead, count, look_up};
+use crate::sized::ahead::count;
 use crate::sized::curve::SizedCurve;
 use crate::sized::error::SizedRequestError;
 use crate::sized::position::SizedPositionPass;

@@ -338,7 +338,7 @@ impl<K: Eq + Hash, S: BuildHasher, A: Allocator + Copy> SizedPass<K, S, A> {
     }
 
     /// Returns the curve of the requests so far.
-    /// Cost: a sort of the spans; no request for memory.
+    /// Cost: a sort of the spans, and a step for each size; no request for memory.
     pub fn into_curve(self) -> SizedCurve<A>
     where
         K: Drop,
@@ -357,8 +357,8 @@ impl<K: Eq + Hash, S: BuildHasher, A: Allocator + Copy> SizedPass<K, S, A> {
     }
 
     /// Returns the curve of the requests so far, and lets the pass go on.
-    /// Cost: a sort of the spans; one request for memory, of two numbers for each request that asked for a key again, and none
-    /// without requests.
+    /// Cost: a sort of the spans, and a step for each size; one request for memory, of two numbers for each request that asked for a
+    /// key again, and none without requests.
     pub fn curve(&self, alloc: A) -> Result<SizedCurve<A>, NoMemory>
         ensures curve { (w : K → ℕ) (past : List K) → IsSizedPass K.eq w past self.now
             → IfOk result (λ c. IsSizedCurveOf K.eq w (reverse past) c) }

@@ -30,8 +30,9 @@ use std::marker::{Model, PhantomData};
 /// [`SizedIdlePass`](crate::SizedIdlePass) does. So several passes, as one for each class of keys and one for all, can share one
 /// table of keys.
 ///
-/// Weights are as in a [`SizedPass`](crate::SizedPass). Clauses describe the requests that it has taken under a limit, the latest
-/// first, each with its time, by `IsSizedPositionPass`. Without times each has the same, and each reuse comes soon enough.
+/// Equal keys must weigh the same each time, and `request` requires it. Clauses describe the requests that it has taken under a
+/// limit, the latest first, each with its time, by `IsSizedPositionPass`. Without times each has the time 0, and each reuse comes
+/// soon enough.
 ///
 /// Takes the memory of a `SizedPass` but for its hash table.
 pub struct SizedPositionPass<K: Eq, A: Allocator + Copy = Global> {
@@ -87,7 +88,7 @@ impl<K: Eq, A: Allocator + Copy> SizedPositionPass<K, A> {
 
     /// Takes one more request, of a key of this weight, and returns its span, or `None` if its key was not requested before, or too
     /// long ago. `latest` is the position of the latest request of its key, which is how many came before that one, or `None` if
-    /// its key was not requested before. `soon` says whether that one came within the limit. If each key fits, the request hits at
+    /// its key was not requested before. `soon` says whether there was one and it came within the limit. If each key fits, the request hits at
     /// the capacities from the span on, and at no other.
     ///
     /// If memory is refused, or the sizes of all requests with this one exceed `usize::MAX`, the pass is unchanged.
@@ -179,7 +180,7 @@ impl<K: Eq, A: Allocator + Copy> SizedPositionPass<K, A> {
     }
 
     /// Returns the curve of the requests so far.
-    /// Cost: a sort of the spans; no request for memory.
+    /// Cost: a sort of the spans, and a step for each size; no request for memory.
     pub fn into_curve(self) -> SizedCurve<A>
         ensures curve { (w : K → ℕ) (idle : ℕ) (past : List (K × ℕ)) → IsSizedPositionPass K.eq w idle past self
             → IsSizedIdleCurveOf K.eq w idle (reverse past) result }
@@ -197,7 +198,8 @@ impl<K: Eq, A: Allocator + Copy> SizedPositionPass<K, A> {
     }
 
     /// Returns the curve of the requests so far, and lets the pass go on.
-    /// Cost: a sort of the spans; one request for memory, of two numbers for each hit that is possible, and none without requests.
+    /// Cost: a sort of the spans, and a step for each size; one request for memory, of two numbers for each hit that is possible, and
+    /// none without requests.
     pub fn curve(&self, alloc: A) -> Result<SizedCurve<A>, NoMemory>
         ensures curve { (w : K → ℕ) (idle : ℕ) (past : List (K × ℕ)) → IsSizedPositionPass K.eq w idle past self.now
             → IfOk result (λ c. IsSizedIdleCurveOf K.eq w idle (reverse past) c) }

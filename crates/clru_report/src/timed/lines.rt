@@ -18,7 +18,7 @@ pub(super) trait TakesRequests<A: Allocator> {
     // Where keys weigh that by their lines, these requests were taken since the first of both states, the latest first.
     ghost since: { (List ℕ → ℕ) → Self → List (OwnedKey A × ℕ) → Self → Type 0 };
 
-    /// Takes one more request of this weight. Its key is copied if it is new. Returns whether it is.
+    /// Takes one more request of this weight. Returns whether its key is new, for the heading of a picture.
     fn take_request(
         &mut self,
         alloc: A,

@@ -51,9 +51,7 @@ pub(super) fn curve_of_times<R: Read, S: BuildHasher + Drop, A: Allocator + Copy
         pass,
         key: _,
     } = lines;
-    let Ok(curve) = pass.into_pass().curve(alloc) else {
-        return Err(Fault::Memory);
-    };
+    let curve = pass.into_pass().into_curve();
     Ok((curve, requests, bytes))
 }
 

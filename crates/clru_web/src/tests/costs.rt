@@ -12,29 +12,29 @@ const KEYS: usize = 10;
 
 // Of a form, whether by size, and whether with the least, or by size the floors: its requests for memory, and their bytes.
 static REQUESTS: &[(Form, bool, bool, u64, u64)] = &[
-    (Form::Table, false, false, 30, 68664),
+    (Form::Table, false, false, 29, 68584),
     (Form::Table, true, false, 42, 105544),
     (Form::Table, true, true, 54, 185784),
-    (Form::Table, false, true, 46, 78096),
-    (Form::Json, false, false, 31, 69176),
+    (Form::Table, false, true, 45, 78016),
+    (Form::Json, false, false, 30, 69096),
     (Form::Json, true, true, 55, 186808),
-    (Form::Picture, false, false, 43, 88214),
+    (Form::Picture, false, false, 42, 88134),
     (Form::Picture, true, false, 64, 175038),
     (Form::Picture, true, true, 81, 259929),
-    (Form::Picture, false, true, 61, 99077),
-    (Form::Summary, false, false, 25, 68257),
+    (Form::Picture, false, true, 60, 98997),
+    (Form::Summary, false, false, 24, 68177),
     (Form::Summary, true, false, 33, 104000),
     (Form::Summary, true, true, 33, 104000),
-    (Form::Summary, false, true, 25, 68257),
+    (Form::Summary, false, true, 24, 68177),
 ];
 
 // The same of a sample, which keeps half of the keys: whether by size.
 static OF_SAMPLES: &[(Form, bool, u64, u64)] = &[
-    (Form::Table, false, 26, 67944),
+    (Form::Table, false, 25, 67904),
     (Form::Table, true, 37, 88096),
-    (Form::Picture, false, 38, 86503),
+    (Form::Picture, false, 37, 86463),
     (Form::Picture, true, 58, 132839),
-    (Form::Summary, false, 16, 67057),
+    (Form::Summary, false, 15, 67017),
     (Form::Summary, true, 30, 87328),
 ];
 

@@ -53,16 +53,16 @@ pub returns : goal.returns
 returns g c =
     let before = c.lines.invariant in let start = g.R.Read.remaining c.args.reader.now in
     let read = c.in_ok-read_line.ensures.end start before.0 before.2 c.if-branch.false in
-    let lines = sym read.3.0 in let curve = c.in-Ok-into_curve.curve in let n = non_zero_usize_get c.args.after in (
+    let lines = sym read.3.0 in let curve = c.into_curve-curve.result in let n = non_zero_usize_get c.args.after in (
       read.0,
       read.1,
       read.2,
       record {
         whole = record {
           misses = subst (λ ls. HasMissesOf bytes_eq ls curve) lines
-              (misses_taken before.0 c.lines.pass before.1 curve (λ past is. c.in-Ok-into_curve.ensures.misses past is));
+              (misses_taken before.0 c.lines.pass before.1 curve (λ past is. c.into_curve-curve.ensures.misses past is));
           distinct_keys = subst (λ ls. length curve ≡ distinct bytes_eq (reverse ls)) lines
-              (distinct_taken before.0 c.lines.pass before.1 curve (λ past is. c.in-Ok-into_curve.ensures.distinct past is));
+              (distinct_taken before.0 c.lines.pass before.1 curve (λ past is. c.into_curve-curve.ensures.distinct past is));
         };
         before = subst (λ ls. IsHead n ls c.lines.head) lines before.5;
         all_counted = before.3 ∙ ap length lines;

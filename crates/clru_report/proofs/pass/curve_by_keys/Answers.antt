@@ -51,7 +51,7 @@ pub returns : goal.returns
 returns g c =
     let before = c.lines.invariant in let start = g.R.Read.remaining c.args.reader.now in
     let read = c.in_ok-read_line.ensures.end start before.0 before.2 c.if-branch.false in
-    let lines = sym read.3.0 in let curve = c.in-Ok-into_curve.curve in
+    let lines = sym read.3.0 in let curve = c.into_curve-curve.result in
     let kept = kept_of (non_zero_usize_get c.args.one_in) in
     let of_kept = kept before.0 in
     let all = before.1 in
@@ -64,9 +64,9 @@ returns g c =
       (
         record {
           misses = subst (λ ls. HasMissesOf bytes_eq (kept ls) curve) lines
-              (misses_taken of_kept c.lines.pass taken curve (λ past is. c.in-Ok-into_curve.ensures.misses past is));
+              (misses_taken of_kept c.lines.pass taken curve (λ past is. c.into_curve-curve.ensures.misses past is));
           distinct_keys = subst (λ ls. length curve ≡ distinct bytes_eq (reverse (kept ls))) lines
-              (distinct_taken of_kept c.lines.pass taken curve (λ past is. c.in-Ok-into_curve.ensures.distinct past is));
+              (distinct_taken of_kept c.lines.pass taken curve (λ past is. c.into_curve-curve.ensures.distinct past is));
           counted = before.3 ∙ ap length lines;
           in_bytes = c.bytes_read.ensures ∙ read.3.1;
         },

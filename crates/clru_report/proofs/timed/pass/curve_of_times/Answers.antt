@@ -25,7 +25,7 @@ returns-clause-curve g c =
     let limit = c.new.result.limit in let Is = IsTimedLinePass (IsPositionPass same_line limit) limit in
     let now = c.read_lines.new.taker in let read = c.in_ok-requests.ensures.taken in let got = read.3.taken in
     let lines = lines_of read.0 in let n = non_zero_usize_get c.args.one_in in
-    let kept = kept_requests n (requests_of lines) in let curve = c.in-Ok.curve in
+    let kept = kept_requests n (requests_of lines) in let curve = c.into_curve-curve.result in
     let has = subst (λ k. HasTakenTimed Is k lines now.pass) (ap non_zero_usize_get got.0) got.1 in
     let same = sym c.into_pass.ensures in (
       read.0,
@@ -35,9 +35,9 @@ returns-clause-curve g c =
         timed = has.timed;
         misses = subst (λ l. HasIdleMissesOf bytes_eq l kept curve) c.new.ensures.limit
             (idle_taken Is kept now.pass has.taken limit curve
-            (λ past is. c.in-Ok.ensures.misses limit past (subst (IsPositionPass same_line limit past) same is.taken)));
+            (λ past is. c.into_curve-curve.ensures.misses limit past (subst (IsPositionPass same_line limit past) same is.taken)));
         distinct_keys = kinds_taken Is kept now.pass has.taken curve
-            (λ past is. c.in-Ok.ensures.distinct limit past (subst (IsPositionPass same_line limit past) same is.taken));
+            (λ past is. c.into_curve-curve.ensures.distinct limit past (subst (IsPositionPass same_line limit past) same is.taken));
         counted = read.3.counted;
         in_bytes = read.3.in_bytes;
       },

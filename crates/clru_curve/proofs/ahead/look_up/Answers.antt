@@ -5,7 +5,7 @@ use Rattle.clru_curve.specs.Ahead.{ArePlaced}
 use Rattle.clru_curve.specs.PositionPasses.{IsLatestOf}
 use Rattle.clru_curve.proofs.Looking.{latest_with, refused_here, size_more, turned_more, weights_with}
 use Rattle.clru_curve.proofs.SizedPassing.{not_too_large}
-use Rattle.clru_curve.proofs.sized.ahead.look_up.Goals as goal
+use Rattle.clru_curve.proofs.ahead.look_up.Goals as goal
 
 pub returns-then-weight-sum-clause-refused : goal.returns-then-weight-sum-clause-refused
 returns-then-weight-sum-clause-refused g c =

@@ -1,7 +1,7 @@
 use Rattle.std.proofs.Common.{length, ◌-◌, ◌≡◌, ◌≤◌, reverse, take}
 use Rattle.clru_curve.specs.Ahead.{ArePlaced, AreLatest, HaveWeights}
 use Rattle.clru_curve.specs.SizedCurves.{size_of_all}
-use Rattle.clru_curve.proofs.sized.ahead.look_up.Given as goal
+use Rattle.clru_curve.proofs.ahead.look_up.Given as goal
 
 abbrev pub invariant-loop-at : goal.invariant-loop-at
 invariant-loop-at g l = record {

@@ -1,6 +1,6 @@
 use Rattle.std.proofs.Common.{refl, sym}
 use Rattle.clru_curve.proofs.Looking.{placed_again, placed_new}
-use Rattle.clru_curve.proofs.sized.ahead.place.Goals as goal
+use Rattle.clru_curve.proofs.ahead.place.Goals as goal
 
 pub returns-in-Some-clause-placed : goal.returns-in-Some-clause-placed
 returns-in-Some-clause-placed g c past is here =
