@@ -19,6 +19,7 @@ mod ahead;
 mod curve;
 mod debug;
 mod fetches;
+mod guide;
 mod idle;
 mod key_table;
 mod latest;

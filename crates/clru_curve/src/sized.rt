@@ -4,7 +4,6 @@ mod aged;
 mod ahead;
 mod curve;
 mod error;
-mod guide;
 mod idle;
 mod list;
 mod pass;

@@ -142,18 +142,20 @@ impl Lines {
         if !self.have_sizes {
             return;
         }
-        match size_of(sized_part(&self.begun, self.have_times)) {
-            Some(size) if self.count > self.after => {
-                self.size = self.size.saturating_add(size.get() as u64);
+        let line = sized_part(&self.begun, self.have_times);
+        let Some(size) = size_of(line) else {
+            if self.odd_number == 0 {
+                self.note_odd();
             }
-            Some(_) => {}
-            None if self.odd_number == 0 => self.note_odd(),
-            None => {}
-        }
+            return;
+        };
         if let Some(sizes) = &mut self.sizes {
             if !self.is_long {
-                sizes.note(sized_part(&self.begun, self.have_times));
+                sizes.note(line, size.get());
             }
+        }
+        if self.count > self.after {
+            self.size = self.size.saturating_add(size.get() as u64);
         }
     }
 
@@ -191,8 +193,8 @@ impl Lines {
         }
     }
 
-    /// How many keys came with several sizes, and how many there are, where it is more than one in a hundred.
-    pub(crate) fn several_sizes(&self) -> Option<(usize, usize)> {
+    /// What `SizesOfKeys` tells, if the sizes of keys are looked at.
+    pub(crate) fn several_sizes(&self) -> Option<(usize, usize, bool)> {
         match &self.sizes {
             Some(sizes) => sizes.told(),
             None => None,

@@ -1,14 +1,16 @@
 //! Which keys came with several sizes.
 
-use clru_text::{Seed, size_of};
+use clru_text::Seed;
 use std::collections::HashMap;
 
-/// The size of each key, by a hash of its bytes: 0 once it came with another size.
+/// The size of each key, by a hash of its bytes: 0 once it came with another size. Of many keys a part is looked at.
 #[derive(Drop)]
 pub(crate) struct SizesOfKeys {
     seen: HashMap<u64, usize, Seed>,
-    // How many keys came with several sizes.
+    // How many of these keys came with several sizes.
     several: usize,
+    // Keys are looked at whose hash has none of these bits.
+    mask: u64,
     // Memory was refused, so nothing is told.
     is_lost: bool,
 }
@@ -16,28 +18,37 @@ pub(crate) struct SizesOfKeys {
 // More keys with several sizes than one in so many are told.
 const FEW_KEYS: usize = 100;
 
+// So many keys are looked at, so that they fit the processor's cache.
+const MOST_KEYS: usize = 4096;
+
 impl SizesOfKeys {
     pub(crate) fn new(rt: &HostRuntime, seed: Seed) -> SizesOfKeys {
         SizesOfKeys {
             seen: HashMap::with_hasher(rt.alloc(), seed),
             several: 0,
+            mask: 0,
             is_lost: false,
         }
     }
 
-    /// Looks at a line. One without a size says nothing of its key.
-    pub(crate) fn note(&mut self, line: &[u8]) {
-        let Some(size) = size_of(line) else {
-            return;
-        };
+    /// Looks at a line that begins with this size.
+    pub(crate) fn note(&mut self, line: &[u8], size: usize) {
         if self.is_lost {
             return;
         }
         let key = hash_of(key_of(line));
+        if key & self.mask != 0 {
+            return;
+        }
         match self.seen.get_mut(&key) {
-            None => self.is_lost = self.seen.insert(key, size.get()).is_err(),
+            None => {
+                self.is_lost = self.seen.insert(key, size).is_err();
+                if self.seen.len() > MOST_KEYS {
+                    self.halve();
+                }
+            }
             Some(held) => {
-                let is_other = *held != 0 && *held != size.get();
+                let is_other = *held != 0 && *held != size;
                 if is_other {
                     *held = 0;
                     self.several = self.several.saturating_add(1);
@@ -46,12 +57,21 @@ impl SizesOfKeys {
         }
     }
 
-    /// How many keys came with several sizes, and how many there are, where it is more than one in a hundred.
-    pub(crate) fn told(&self) -> Option<(usize, usize)> {
+    // Looks at half of the keys from here on.
+    fn halve(&mut self) {
+        let mask = self.mask << 1 | 1;
+        self.mask = mask;
+        self.seen.retain(|key, _| *key & mask == 0);
+        self.several = self.seen.values().filter(|size| **size == 0).count();
+    }
+
+    /// How many keys came with several sizes, of how many that were looked at, and whether these were all, where it is more than one in
+    /// a hundred.
+    pub(crate) fn told(&self) -> Option<(usize, usize, bool)> {
         let keys = self.seen.len();
         let are_many = self.several.saturating_mul(FEW_KEYS) > keys;
         if are_many && !self.is_lost {
-            Some((self.several, keys))
+            Some((self.several, keys, self.mask == 0))
         } else {
             None
         }

@@ -84,7 +84,8 @@ impl<'h, R: Read> Watch<'h, R> {
     }
 
     fn warn_of_sizes(&self, options: &Options) {
-        if let Some((several, keys)) = self.lines.several_sizes() {
+        if let Some((several, keys, are_all)) = self.lines.several_sizes() {
+            let looked_at = if are_all { "" } else { " looked at" };
             let without = if options.after.is_some() {
                 "without --after, "
             } else if options.times.is_some() {
@@ -93,7 +94,7 @@ impl<'h, R: Read> Watch<'h, R> {
                 ""
             };
             let _ = eprintln!(self.rt;
-                "clru_mrc: {several} of {keys} keys came with several sizes, and each size counts as an object of its own: {without}--one-size gives each key the greatest one"
+                "clru_mrc: {several} of {keys} keys{looked_at} came with several sizes, and each size counts as an object of its own: {without}--one-size gives each key the greatest one"
             );
         }
     }

@@ -9,10 +9,6 @@ use Rattle.clru_text.specs.declared.lines.OwnedKey.{OwnedKey}
 use Rattle.clru_report.specs.Passes.{HasFloorPass, HasForesight}
 use Rattle.clru_report.specs.declared.line_pass.LinePass.{LinePass}
 
--- requests of keys without times, which all have the time 0
-abbrev pub timeless : {K : Type 0} → List K → List (K × ℕ)
-timeless keys = map (λ key. (key, 0)) keys
-
 module _ {S A H : Type 0} where
   -- the pass took these keys, the latest first, and notes where the latest request of each line was
   pub record IsLinePass (past : List (OwnedKey A)) (pass : LinePass S A H) : Type 0 where
