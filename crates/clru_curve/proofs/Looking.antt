@@ -1,5 +1,5 @@
 -- What is known of the requests that were looked up, and what a pass holds, after one more.
-use Rattle.std.proofs.Common.{◌≡◌, ℕ, zero, suc, ◌+◌, ◌-◌, ◌^◌, ◌<◌, ◌≤◌, ◌↔◌, Bool, true, false, cond, List, [], ◌∷◌, ◌++◌, length, get_or, set, drop, take, reverse, slice_get, Option, None, Some, is_some, IfSome, inl, inr, refl, sym, ap, ◌∙◌, subst, arith}
+use Rattle.std.proofs.Common.{◌≡◌, ℕ, zero, suc, ◌+◌, ◌-◌, ◌^◌, ◌<◌, ◌≤◌, ◌↔◌, Bool, true, false, cond, List, [], ◌∷◌, ◌++◌, length, get_or, set, drop, take, reverse, slice_get, Option, None, Some, IfSome, inl, inr, refl, sym, ap, ◌∙◌, subst, arith}
 use Rattle.std.proofs.Math.Seq.{drop-cons}
 use Rattle.std.proofs.lemmas.Bool.{cases_lt}
 use Rattle.std.proofs.lemmas.List.{get_or-set_other, get_or-set_same, reverse-append, take-append-drop, take_more}
@@ -10,7 +10,7 @@ use Rattle.std.specs.Cmp.{IsEquivalence}
 use Rattle.std.specs.List.{sum_by}
 use Rattle.std.specs.Map.{lookup, set_value}
 use Rattle.clru_model.proofs.Cases.{split}
-use Rattle.clru_model.specs.Requests.{distinct, holds, since}
+use Rattle.clru_model.specs.Requests.{distinct}
 use Rattle.clru_curve.specs.declared.numbered.Numbered.{Numbered}
 use Rattle.clru_curve.specs.declared.ahead.Ahead.{Ahead}
 use Rattle.clru_curve.specs.declared.sized.error.SizedRequestError.{SizedRequestError}
@@ -21,7 +21,7 @@ use Rattle.clru_curve.specs.Rising.{has_value}
 use Rattle.clru_curve.specs.SizedCurves.{size_of_all}
 use Rattle.clru_curve.specs.SizedPasses.{IsFirstRefused, IsTooLarge, key_of}
 use Rattle.clru_curve.specs.SizedPositionPasses.{CountedBySize, IsSizedPositionPass}
-use Rattle.clru_curve.specs.Tree.{up_by, up_to}
+use Rattle.clru_curve.specs.Tree.{up_to}
 use Rattle.clru_curve.proofs.LatestRequests.{latest_here, latest_there}
 use Rattle.clru_curve.proofs.Ranks.{IsRanked-none, distinct_measures, same_some}
 use Rattle.clru_curve.proofs.SizedPassing.{moved_again, moved_new, ranked_again, ranked_new}

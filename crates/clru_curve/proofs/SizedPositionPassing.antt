@@ -16,7 +16,7 @@ use Rattle.clru_model.specs.Sizes.{SameWeights, misses_by_size, missed_size, spa
 use Rattle.clru_curve.specs.declared.numbered.Numbered.{Numbered}
 use Rattle.clru_curve.specs.declared.seen.Seen.{Seen}
 use Rattle.clru_curve.specs.declared.sized.step.Step.{Step}
-use Rattle.clru_curve.specs.LatestSizes.{IsLiveAt, live_from, total_from, IsSummed}
+use Rattle.clru_curve.specs.LatestSizes.{IsLiveAt, total_from, IsSummed}
 use Rattle.clru_curve.specs.PositionPasses.{IsLatestOf}
 use Rattle.clru_curve.specs.Rising.{IsRising}
 use Rattle.clru_curve.specs.Seen.{positions_of, reuse_by, seen_at}

@@ -1,25 +1,14 @@
 -- What a pass over lines knows after one more, and what its curve is.
-use Rattle.std.proofs.Common.{◌≡◌, ℕ, Bool, cond, List, [], ◌∷◌, length, reverse, Option, Some, is_some, refl, sym, ap, ◌∙◌, subst}
-use Rattle.std.specs.Cmp.{on_equiv}
-use Rattle.std.specs.List.{All}
-use Rattle.std.specs.Map.{keys_of, lookup}
+use Rattle.std.proofs.Common.{◌≡◌, ℕ, Bool, cond, List, ◌∷◌, length, Option, Some, sym, ap, ◌∙◌, subst}
+use Rattle.std.specs.Map.{lookup}
 use Rattle.std.specs.Prelude.{bytes_eq}
-use Rattle.std.proofs.lemmas.List.Elements.{All-map}
-use Rattle.clru_curve.specs.Curves.{HasMissesOf}
-use Rattle.clru_curve.specs.IdlePasses.{HasIdleMissesOf, idle_misses}
 use Rattle.clru_curve.specs.PositionPasses.{IsLatestOf}
 use Rattle.clru_curve.proofs.LatestRequests.{latest_here, latest_there}
-use Rattle.clru_curve.proofs.Timeless.{keys_timeless, misses_timeless, none_late}
 use Rattle.clru_linked_map.specs.BytesMaps.{with_bytes}
 use Rattle.clru_linked_map.proofs.BytesMaps.{lookup-with_bytes}
 use Rattle.clru_model.proofs.Cases.{split}
-use Rattle.clru_model.proofs.Views.{map-reverse}
-use Rattle.clru_model.specs.Ages.{is_recent}
-use Rattle.clru_model.specs.Requests.{holds, misses}
 use Rattle.clru_text.specs.Keys.{line_of, same_line}
 use Rattle.clru_text.specs.declared.lines.OwnedKey.{OwnedKey}
-use Rattle.clru_text.proofs.ByteLemmas.{bytes_laws}
-use Rattle.clru_curve.specs.Seen.{timeless}
 
 module _ {A : Type 0} (past : List (OwnedKey A)) where
   -- where the latest request of each line is noted

@@ -1,5 +1,5 @@
 use Rattle.std.proofs.Common.{refl, sym}
-use Rattle.clru_curve.proofs.Looking.{placed_again, placed_new}
+use Rattle.clru_curve.proofs.Looking.{placed_again}
 use Rattle.clru_curve.proofs.ahead.place.Goals as goal
 
 pub returns-in-Some-clause-placed : goal.returns-in-Some-clause-placed

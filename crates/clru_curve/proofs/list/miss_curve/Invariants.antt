@@ -1,5 +1,5 @@
 use Rattle.std.proofs.Common.{length, ◌-◌, ◌≡◌, ◌≤◌, reverse, take}
-use Rattle.clru_curve.specs.Ahead.{ArePlaced, AreLatest}
+use Rattle.clru_curve.specs.Ahead.{ArePlaced}
 use Rattle.clru_curve.specs.PositionPasses.{IsPositionPass}
 use Rattle.clru_curve.specs.Seen.{timeless}
 use Rattle.clru_curve.specs.SizedCurves.{size_of_all}

@@ -1,4 +1,4 @@
-use Rattle.std.proofs.Common.{◌-◌, ◌≡◌, ℕ, ◌≤◌, reverse, take}
+use Rattle.std.proofs.Common.{◌-◌, ℕ, ◌≤◌, reverse, take}
 use Rattle.clru_model.specs.Sizes.{SameWeights}
 use Rattle.clru_curve.specs.Ahead.{HaveWeights, HoldsLatest}
 use Rattle.clru_curve.specs.Seen.{timeless}
