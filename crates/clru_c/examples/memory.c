@@ -227,7 +227,7 @@ static void see_many(void) {
     held_by(clru_hits_at(keys, MANY, MANY, 0, 0, hits, MANY, &number));
     see_requested("hits", 3, 3882864);
     curve(MANY);
-    see_requested("misses", 69, 13731568);
+    see_requested("misses", 63, 13727536);
     curve_by_size(MANY);
     see_requested("misses by size", 68, 19336368);
     held_by(clru_least_by_room(keys, MANY, &room, 1, 0, 0, &least, 1));

@@ -75,7 +75,7 @@ uint32_t clru_hits_at(const uint64_t *keys, size_t keys_len, size_t capacity, ui
  * Proved: misses[i] is the number of requests that don't hit, as clru_hits_at says it, at capacity i + 1.
  *
  * Codes: CLRU_NO_MEMORY.
- * Cost: for each request a look-up, and steps that go with the logarithm of their number. Memory: 20 to 49 bytes for each 64
+ * Cost: for each request a look-up, and steps that go with the logarithm of their number. Memory: 19 to 48 bytes for each 64
  * requests with the latest of a key, and 60 to 129 bytes for each distinct key. */
 uint32_t clru_misses_by_capacity(const uint64_t *keys, size_t keys_len, uint64_t seed_low, uint64_t seed_high,
                                  size_t *misses, size_t misses_len, size_t *distinct);

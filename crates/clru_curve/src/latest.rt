@@ -5,16 +5,12 @@ ghost use Rattle.clru_curve.specs.Latest.{ones_from, blocks_from, IsLatest};
 ghost use Rattle.clru_curve.specs.Rising.{has_value, EndsAt, IsRising};
 ghost use Rattle.clru_curve.specs.Tree.{up_by, up_to, IsCounted};
 
-use crate::guide::Guide;
-use crate::numbered::{Numbered, place_near};
+use crate::numbered::{Numbered, place_of};
 use crate::tree::{add_at, count_from, subtract_at};
 use std::alloc::{AllocError, Allocator};
 
 /// How many requests share a block.
 const BITS: usize = 64;
-
-/// For so many blocks the guide has a word.
-const GUIDED: usize = 16;
 
 /// How many blocks there may be more than those with bits and half as many again.
 const FEW: usize = 4;
@@ -29,7 +25,6 @@ pub(crate) struct Latest<A: Allocator> {
     pub(crate) requests: usize,
     // From so many blocks on, those without bits are dropped before one more is made.
     pub(crate) limit: usize,
-    guide: Guide<A>,
 }
 
 impl<A: Allocator + Copy> Latest<A> {
@@ -43,7 +38,6 @@ impl<A: Allocator + Copy> Latest<A> {
             nodes: Vec::new(alloc),
             requests: 0,
             limit: FEW,
-            guide: Guide::new(alloc),
         }
     }
 
@@ -68,9 +62,6 @@ impl<A: Allocator + Copy> Latest<A> {
             return Ok(());
         }
         self.drop_empty();
-        let Ok(()) = self.guide.make_ready(self.blocks.len() / GUIDED) else {
-            return Err(AllocError);
-        };
         let Ok(()) = self.nodes.reserve(1) else {
             return Err(AllocError);
         };
@@ -102,7 +93,6 @@ impl<A: Allocator + Copy> Latest<A> {
         let blocks = self.blocks.len();
         self.nodes.truncate(blocks);
         count_anew(&mut self.nodes, &self.blocks);
-        self.guide.learn(&self.blocks, self.requests / BITS);
         self.limit = (blocks / 2).saturating_add(blocks).saturating_add(FEW);
     }
 
@@ -133,8 +123,7 @@ impl<A: Allocator + Copy> Latest<A> {
         ensures room { EndsAt self.old.blocks.items (self.old.requests / 64)
             → EndsAt self.new.blocks.items (self.new.requests / 64) }
     {
-        let number = request / BITS;
-        let at = place_near(&self.blocks, number, self.guide.likely(number));
+        let at = place_of(&self.blocks, request / BITS);
         let above = (self.blocks[at].value >> (request % BITS)) >> 1;
         let count = above.count_ones() as usize + count_from(&self.nodes, at + 1);
         self.blocks[at].value -= 1 << (request % BITS);

@@ -19,7 +19,6 @@ mod ahead;
 mod curve;
 mod debug;
 mod fetches;
-mod guide;
 mod idle;
 mod key_table;
 mod latest;

@@ -9,7 +9,20 @@ pub(crate) struct Numbered {
     pub(crate) value: usize,
 }
 
-/// Returns the place of the value with this number, which there is. It looks first where it is likely to be.
+/// Returns the place of the value with this number, which there is.
+pub(crate) fn place_of(values: &[Numbered], number: usize) -> usize
+    requires there { HasNumber values.now number }
+    requires rising { (high : ℕ) × IsRising 0 values.now high }
+    ensures inside { result < length values.now }
+    ensures number { number_at values.now result ≡ number }
+{
+    // It is here unless some after it were dropped, and never before here.
+    let last = values.len() - 1;
+    let guess = last.saturating_sub(values[last].number.saturating_sub(number));
+    place_near(values, number, guess)
+}
+
+/// Returns the same. It looks first at the place where the value is likely to be.
 pub(crate) fn place_near(values: &[Numbered], number: usize, guess: usize) -> usize
     requires there { HasNumber values.now number }
     requires rising { (high : ℕ) × IsRising 0 values.now high }

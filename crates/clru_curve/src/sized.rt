@@ -4,6 +4,7 @@ mod aged;
 mod ahead;
 mod curve;
 mod error;
+mod guide;
 mod idle;
 mod list;
 mod pass;

@@ -4,8 +4,8 @@ ghost use Rattle.clru_curve.specs.LatestSizes.{IsRemoved, IsSummed, live_from, s
 ghost use Rattle.clru_curve.specs.Rising.{has_value, numbered, value_at};
 ghost use Rattle.clru_curve.specs.Tree.{IsCounted};
 
-use crate::guide::Guide;
 use crate::numbered::{Numbered, place_near};
+use crate::sized::guide::Guide;
 use crate::tree::{add_at, count_from, subtract_at};
 use std::alloc::{AllocError, Allocator};
 

@@ -1,28 +1,27 @@
-//! Where numbered values are likely to stand: the sizes of requests, or blocks of bits. Only the time of a search rests on it, and no
-//! result.
+//! Where the sizes of requests are likely to stand. Only the time of a search rests on it, and no result.
 use crate::numbered::Numbered;
 use std::alloc::{AllocError, Allocator};
 
-/// How many numbers share a word.
+/// How many requests share a word.
 const BITS: usize = 64;
 
-/// A bit for each of some numbers, which is set if its value was there, and the place behind the last of these values.
+/// A bit for each of some requests, which is set if its size was there, and the place behind the last of these sizes.
 #[derive(Clone, Copy)]
 struct Word {
     bits: usize,
     end: usize,
 }
 
-/// What was seen of the values when they were last looked through.
+/// What was seen of the sizes when they were last looked through.
 ///
-/// The latest numbers up to then have a bit each. Values of later ones stand behind those, in order.
+/// The latest requests up to then have a bit each. Later ones stand behind those sizes, in order.
 #[derive(Drop)]
 pub(crate) struct Guide<A: Allocator> {
     words: Vec<Word, A>,
     // How many words there would be before these.
     first: usize,
-    numbers: usize,
-    values: usize,
+    requests: usize,
+    sizes: usize,
 }
 
 impl<A: Allocator + Copy> Guide<A> {
@@ -30,8 +29,8 @@ impl<A: Allocator + Copy> Guide<A> {
         Guide {
             words: Vec::new(alloc),
             first: 0,
-            numbers: 0,
-            values: 0,
+            requests: 0,
+            sizes: 0,
         }
     }
 
@@ -46,33 +45,33 @@ impl<A: Allocator + Copy> Guide<A> {
         Ok(())
     }
 
-    /// The place where the value with this number is likely to stand.
-    pub(crate) fn likely(&self, number: usize) -> usize {
+    /// The place where the size of a request is likely to stand.
+    pub(crate) fn likely(&self, request: usize) -> usize {
         let later = self
-            .values
-            .saturating_add(number.saturating_sub(self.numbers));
+            .sizes
+            .saturating_add(request.saturating_sub(self.requests));
         // (a word is read each time, so that no guess of the processor is wrong)
         let last = self.words.len().saturating_sub(1);
-        let at = (number / BITS).wrapping_sub(self.first).min(last);
+        let at = (request / BITS).wrapping_sub(self.first).min(last);
         let Some(word) = self.words.get(at) else {
             return later;
         };
-        let behind = (word.bits >> (number % BITS)).count_ones() as usize;
-        if number < self.numbers {
+        let behind = (word.bits >> (request % BITS)).count_ones() as usize;
+        if request < self.requests {
             word.end.wrapping_sub(behind)
         } else {
             later
         }
     }
 
-    /// Looks where the values with numbers below this one stand now.
-    pub(crate) fn learn(&mut self, values: &[Numbered], numbers: usize) {
-        self.numbers = numbers;
-        self.values = values.len();
-        self.first = (numbers / BITS + 1).saturating_sub(self.words.len());
+    /// Looks where the sizes of so many requests stand now.
+    pub(crate) fn learn(&mut self, sizes: &[Numbered], requests: usize) {
+        self.requests = requests;
+        self.sizes = sizes.len();
+        self.first = (requests / BITS + 1).saturating_sub(self.words.len());
         self.words.fill(Word { bits: 0, end: 0 });
-        for place in 0..values.len() {
-            let number = values[place].number;
+        for place in 0..sizes.len() {
+            let number = sizes[place].number;
             let at = (number / BITS).wrapping_sub(self.first);
             if at < self.words.len() {
                 self.words[at] = Word {
