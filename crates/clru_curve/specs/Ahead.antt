@@ -14,7 +14,7 @@ abbrev pub up_to_some : Option ℕ → ℕ → ℕ
 up_to_some None t = 0
 up_to_some (Some p) t = up_to t p
 
--- one more request has a size, and the latest one of its key has none any more
+-- one more request has a size, and the latest one of its key before it has none any more
 pub record HasMoved (latest : Option ℕ) (before after : CountedBySize) : Type 0 where
   pub sizes : (t : ℕ) → live_from after.sizes t + up_to_some latest t ≡ live_from before.sizes t + up_to t before.requests
   pub requests : after.requests ≡ before.requests + 1
@@ -35,12 +35,12 @@ module _ {K : Type 0} (eq : K → K → Bool) where
     pub ranked : IsRanked eq (λ x. 1) (distinct eq) past positions c.requests (live_from c.sizes)
     pub requests : c.requests ≡ length past
 
-  -- what was looked up of the requests of a list from one on up to another: the position of the latest request of the key
+  -- of each request from the first to before the end the position of the latest request of its key was found
   abbrev pub AreLatest : List K → ℕ → ℕ → List Ahead → Type 0
   AreLatest keys first end ahead = (j : ℕ) (x : K) → first + j < end → slice_get keys (first + j) ≡ Some x
       → IsLatestOf eq (reverse (take (first + j) keys)) x (slice_index_or ahead j nothing).latest
 
--- and its weight
+-- and the weight of its key
 abbrev pub HaveWeights : {K : Type 0} → (K → ℕ) → List K → ℕ → ℕ → List Ahead → Type 0
 HaveWeights {K = K} weight keys first end ahead = (j : ℕ) (x : K) → first + j < end → slice_get keys (first + j) ≡ Some x
     → weight x ≡ (slice_index_or ahead j nothing).weight

@@ -1,5 +1,5 @@
-//! Requests of a whole list, which are looked up some at a time before they are counted: no look-up waits for what is counted of the
-//! request before it.
+//! Looks up requests of a whole list, many at a time, before they are counted: so no look-up waits until the request before it is
+//! counted.
 ghost use Rattle.std.specs.Prelude.{◌≡◌, ◌+◌, ◌^◌, ◌<◌, ◌≤◌, List, ◌∷◌, length, reverse, take, IfOk, IfErr, OnOk};
 ghost use Rattle.clru_curve.specs.Ahead.{ArePlaced, AreLatest, HaveWeights};
 ghost use Rattle.clru_curve.specs.PositionPasses.{IsLatestOf};
@@ -15,15 +15,15 @@ use std::hash::{BuildHasher, Hash};
 /// How many requests are looked up at a time.
 pub(crate) const AHEAD: usize = 128;
 
-/// The position of the latest request of a key that is requested again, and its weight.
+/// What is known of a request that was looked up: the position of the latest request of its key before it, and its weight.
 #[derive(Clone, Copy)]
 pub(crate) struct Ahead {
     pub(crate) latest: Option<usize>,
     pub(crate) weight: usize,
 }
 
-/// Looks up the requests from `first` up to `end`, if those before have this size. Returns the size of all before `end`, or the first
-/// request that is refused.
+/// Looks up the requests from `first` to before `end`. `size` is the size of all before `first`. Returns the size of all before `end`, or
+/// the first request that is refused.
 pub(crate) fn look_up<K, W, S, A>(
     positions: &mut KeyTable<K, usize, S, A>,
     keys: &[K],

@@ -18,7 +18,7 @@ pub(crate) struct SizesOfKeys {
 // More keys with several sizes than one in so many are told.
 const FEW_KEYS: usize = 100;
 
-// So many keys are looked at, so that they fit the processor's cache.
+// At most so many keys are looked at: their table fits the processor's cache.
 const MOST_KEYS: usize = 4096;
 
 impl SizesOfKeys {

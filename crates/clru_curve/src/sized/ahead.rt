@@ -9,7 +9,7 @@ use crate::ahead::{AHEAD, Ahead};
 use crate::sized::position::SizedPositionPass;
 use std::alloc::Allocator;
 
-/// Counts the requests from `first` up to `end`, which were looked up. Returns the first key for which memory is refused.
+/// Counts the requests from `first` to before `end`, which were looked up. Returns the first key for which memory is refused.
 pub(crate) fn count<K: Eq + Copy, A: Allocator + Copy>(
     pass: &mut SizedPositionPass<K, A>,
     keys: &[K],

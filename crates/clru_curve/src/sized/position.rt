@@ -88,8 +88,8 @@ impl<K: Eq, A: Allocator + Copy> SizedPositionPass<K, A> {
 
     /// Takes one more request, of a key of this weight, and returns its span, or `None` if its key was not requested before, or too
     /// long ago. `latest` is the position of the latest request of its key, which is how many came before that one, or `None` if
-    /// its key was not requested before. `soon` says whether there was one and it came within the limit. If each key fits, the request hits at
-    /// the capacities from the span on, and at no other.
+    /// its key was not requested before. `soon` says whether there was one and it came within the limit. If each key fits, the
+    /// request hits at the capacities from the span on, and at no other.
     ///
     /// If memory is refused, or the sizes of all requests with this one exceed `usize::MAX`, the pass is unchanged.
     /// Cost: steps that grow as the logarithm of the number of requests.
@@ -118,7 +118,7 @@ impl<K: Eq, A: Allocator + Copy> SizedPositionPass<K, A> {
         self.count(latest, soon, weight, likely)
     }
 
-    /// The place where a size is likely to stand, for `count`. Whoever asks for those of some requests first need not wait for each.
+    /// Where the size of this request is likely to stand, for `count`. Reads of several such places do not wait for one another.
     pub(crate) fn likely(&self, latest: Option<usize>) -> usize
         ensures rising { IsRising 0 self.now.sizes self.now.requests }
     {
@@ -128,7 +128,7 @@ impl<K: Eq, A: Allocator + Copy> SizedPositionPass<K, A> {
         }
     }
 
-    /// Does what `request` does, whatever keys weigh, if the latest request of the key has a size here.
+    /// Does what `request` does, also where equal keys weigh differently. Only the time depends on the likely place.
     pub(crate) fn count(
         &mut self,
         latest: Option<usize>,

@@ -87,8 +87,8 @@ impl<A: Allocator + Copy> Sizes<A> {
         self.requests += 1;
     }
 
-    /// The place where the size of a request is, or one behind all others if the guide does not know it. A caller who asks for some
-    /// before it removes them need not wait for each.
+    /// The place where the size of a request is, or `usize::MAX` if the guide does not know it. Reads of several such places do not
+    /// wait for one another.
     pub(crate) fn likely(&self, request: usize) -> usize {
         let place = self.guide.likely(request);
         if place < self.sizes.len() && self.sizes[place].number == request {
@@ -99,7 +99,7 @@ impl<A: Allocator + Copy> Sizes<A> {
     }
 
     /// The request is no longer the latest of its key. Returns its size and those of all later requests that are the latest of
-    /// theirs. Only the time rests on the likely place.
+    /// theirs. Only the time depends on the likely place.
     pub(crate) fn remove(&mut self, request: usize, likely: usize) -> usize
         requires kept { IsSummed self.old.sizes.items self.old.nodes.items self.old.requests }
         requires live { live_from self.old.sizes.items request ≡ suc (live_from self.old.sizes.items (suc request)) }
