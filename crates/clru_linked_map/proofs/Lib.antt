@@ -1,3 +1,4 @@
+pub mod AnnouncedStrings
 pub mod ChainWalks
 pub mod Chaining
 pub mod Chains

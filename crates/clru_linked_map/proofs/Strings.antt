@@ -1,12 +1,16 @@
 -- The strings in a buffer: where they stand, one more, and another value at a place.
-use Rattle.std.proofs.Common.{◌≡◌, ℕ, zero, suc, ◌+◌, ◌-◌, ◌<◌, ◌≤◌, Bool, true, Some, List, [], ◌∷◌, ◌++◌, length, take, drop, set, slice_range, slice_index_or, refl, sym, ap, ◌∙◌, arith, append_assoc}
+use Rattle.std.proofs.Common.{◌≡◌, ℕ, zero, suc, ◌+◌, ◌-◌, ◌<◌, ◌≤◌, Bool, true, false, inl, inr, None, Some, subst, List, [], ◌∷◌, ◌++◌, length, take, drop, set, slice_range, slice_index_or, refl, sym, ap, ◌∙◌, arith, append_assoc}
 use Rattle.std.proofs.lemmas.List.{drop-append-le, take-append-le, drop_at, length-append, length-drop, take_all}
+use Rattle.std.proofs.lemmas.Bool.{cases_Bool}
+use Rattle.std.proofs.lemmas.Option.{none-some}
+use Rattle.std.specs.Cmp.Lexicographic.{nat_list_eq_equiv}
 use Rattle.std.specs.Map.{lookup, set_value}
-use Rattle.clru_linked_map.specs.BytesTable.{Fills, IsFoundAt, NonePass, StandsAt, entries_onto, hashes_of, start_from, string_at}
+use Rattle.std.specs.Prelude.{bytes_eq}
+use Rattle.clru_linked_map.specs.BytesTable.{AreApart, Fills, IsFoundAt, NonePass, StandsAt, entries_onto, hashes_of, start_from, string_at}
 use Rattle.clru_linked_map.specs.declared.bytes_table.Item.{Item}
 
 -- bytes behind leave a part that ends before them
-part_stays : (xs ys : List ℕ) (start end : ℕ) → start ≤ end → end ≤ length xs → slice_range (xs ++ ys) start end ≡ slice_range xs start end
+pub part_stays : (xs ys : List ℕ) (start end : ℕ) → start ≤ end → end ≤ length xs → slice_range (xs ++ ys) start end ≡ slice_range xs start end
 part_stays xs ys start end order within =
     ap (λ l. take (end - start) l) (drop-append-le start xs ys (omega (arith, order, within)))
     ∙ take-append-le (end - start) (drop start xs) ys (omega (arith, order, within, length-drop start xs))
@@ -202,3 +206,60 @@ module _ {V : Type 0} where
         ∙ sym (ap (λ es. set_value test es v) found.split ∙ value_set test found.later found.entry found.earlier v found.passed found.same
         ∙ ap (λ l. l ++ (found.entry.0, v) ∷ found.earlier) same.0 ∙ ap (λ (e : List ℕ × V). here.before ++ (e.0, v) ∷ found.earlier) same.1
         ∙ ap (λ l. here.before ++ (string_at bytes 0 is p, v) ∷ l) same.2)
+
+  -- another value leaves strings apart
+  none_valued : (test : List ℕ → Bool) (later : List (List ℕ × V)) (string : List ℕ) (v w : V) (earlier : List (List ℕ × V))
+      → NonePass test (later ++ (string, v) ∷ earlier) → NonePass test (later ++ (string, w) ∷ earlier)
+  none_valued test [] string v w earlier none = none
+  none_valued test (e ∷ later) string v w earlier none = (none.0, none_valued test later string v w earlier none.1)
+
+  apart_valued : (later : List (List ℕ × V)) (string : List ℕ) (v w : V) (earlier : List (List ℕ × V))
+      → AreApart (later ++ (string, v) ∷ earlier) → AreApart (later ++ (string, w) ∷ earlier)
+  apart_valued [] string v w earlier apart = apart
+  apart_valued (e ∷ later) string v w earlier apart =
+      (none_valued (bytes_eq e.0) later string v w earlier apart.0, apart_valued later string v w earlier apart.1)
+
+  -- so does one that is written at a place
+  pub apart_written : (bytes : List ℕ) (is : List (Item V)) (p : ℕ) (i : Item V) (v : V) → p < length is → i ≡ slice_index_or is p i
+      → AreApart (entries_onto bytes 0 is []) → AreApart (entries_onto bytes 0 (set is p (valued i v)) [])
+  apart_written bytes is p i v within at apart =
+      let here = placed bytes 0 is p i [] within at in
+      subst AreApart (sym (here.written v))
+      (apart_valued here.before (string_at bytes 0 is p) i.value v here.behind (subst AreApart here.split apart))
+
+  -- one that is not found stays apart from them
+  pub none_found : (test : List ℕ → Bool) (es : List (List ℕ × V)) → lookup test es ≡ None → NonePass test es
+  none_found test [] none = tt
+  none_found test (e ∷ es) none = elim (cases_Bool (test e.0)) [
+      | inl t ↦ absurd (none-some e.1 (sym none ∙ rw t refl))
+      | inr f ↦ (f, none_found test es (let rest : lookup test (e ∷ es) ≡ lookup test es = rw f refl in sym rest ∙ none))
+    ]
+
+  none_at : (test : List ℕ → Bool) (later : List (List ℕ × V)) (e : List ℕ × V) (earlier : List (List ℕ × V))
+      → NonePass test (later ++ e ∷ earlier) → test e.0 ≡ false
+  none_at test [] e earlier none = none.0
+  none_at test (d ∷ later) e earlier none = none_at test later e earlier none.1
+
+  -- of strings that are apart, no other passes before one that stands there
+  none_before : (key string : List ℕ) (v : V) (later earlier : List (List ℕ × V)) → bytes_eq key string ≡ true
+      → AreApart (later ++ (string, v) ∷ earlier) → NonePass (bytes_eq key) later
+  none_before key string v [] earlier same apart = tt
+  none_before key string v (e ∷ later) earlier same apart =
+      (nat_list_eq_equiv.congr key string e.0 same ∙ nat_list_eq_equiv.symm string e.0 ∙ none_at (bytes_eq e.0) later (string, v) earlier apart.0,
+      none_before key string v later earlier same apart.1)
+
+  -- so it is found at its place
+  pub found_apart : (bytes : List ℕ) (is : List (Item V)) (p : ℕ) (key : List ℕ) → p < length is
+      → bytes_eq key (string_at bytes 0 is p) ≡ true → AreApart (entries_onto bytes 0 is [])
+      → IsFoundAt (bytes_eq key) p (entries_onto bytes 0 is [])
+  found_apart bytes is p key within same apart =
+      let i = item_there is p within in let here = placed bytes 0 is p i.0 [] within i.1 in
+      record {
+        later = here.before;
+        entry = (string_at bytes 0 is p, i.0.value);
+        earlier = here.behind;
+        split = here.split;
+        passed = none_before key (string_at bytes 0 is p) i.0.value here.before here.behind same (subst AreApart here.split apart);
+        same = same;
+        place = omega (arith, here.place);
+      }

@@ -1,11 +1,13 @@
 -- One string more in a table.
 use Rattle.std.proofs.Common.{◌≡◌, ℕ, ◌+◌, ◌<◌, ◌≤◌, List, [], ◌∷◌, ◌++◌, length, slice_range, sym, ap, ◌∙◌, subst, arith}
 use Rattle.std.proofs.lemmas.List.{length-append}
-use Rattle.clru_linked_map.specs.BytesTable.{Fills, IsTable, KeepsStrings, entries_of, entries_onto, hashes_of}
+use Rattle.std.specs.Map.{lookup}
+use Rattle.std.specs.Prelude.{None, bytes_eq}
+use Rattle.clru_linked_map.specs.BytesTable.{AreApart, Fills, IsTable, KeepsStrings, entries_of, entries_onto, hashes_of}
 use Rattle.clru_linked_map.specs.Stacked.{IsStacked}
 use Rattle.clru_linked_map.specs.declared.bytes_table.BytesTable.{BytesTable}
 use Rattle.clru_linked_map.specs.declared.bytes_table.Item.{Item}
-use Rattle.clru_linked_map.proofs.Strings.{entries_more, entries_stay, fills_more, part_behind}
+use Rattle.clru_linked_map.proofs.Strings.{entries_more, entries_stay, fills_more, none_found, part_behind}
 
 -- the entries with one more
 entries_pushed : {V : Type 0} (bytes more : List ℕ) (is : List (Item V)) (i : Item V) → Fills 0 (length bytes) is
@@ -30,14 +32,15 @@ module _ {V S A : Type 0} (t u : BytesTable V S A) where
         ∙ entries_pushed t.buffer.items more t.held.items i fills ends
 
     -- and is one of the table once it is linked
-    pub table_taken : {hash : S → List ℕ → ℕ} → IsTable hash t → u.hash_builder ≡ t.hash_builder
+    pub table_taken : {hash : S → List ℕ → ℕ} → IsTable hash t → lookup (bytes_eq more) (entries_of t) ≡ None → u.hash_builder ≡ t.hash_builder
         → IsStacked u.index (hash t.hash_builder more ∷ hashes_of (hash t.hash_builder) (entries_of t))
         → length t.held.items < length u.index.links → length u.index.links ≤ u.index.bound → IsTable hash u
-    table_taken {hash} table builder stacked linked named =
+    table_taken {hash} table absent builder stacked linked named =
         let all : length u.buffer.items ≡ length t.buffer.items + length more = omega (arith, ap length buffer, length-append t.buffer.items more) in
         record {
           fills = subst (λ (is : List (Item V)). Fills 0 (length u.buffer.items) is) (sym held)
               (fills_more 0 (length t.buffer.items) (length u.buffer.items) t.held.items i table.fills (omega (arith, all)) (ends ∙ sym all));
+          apart = subst AreApart (sym (entries_taken table.fills)) (none_found (bytes_eq more) (entries_of t) absent, table.apart);
           stacked = subst (λ (b : S). IsStacked u.index (hashes_of (hash b) (entries_of u))) (sym builder)
               (subst (λ (es : List (List ℕ × V)). IsStacked u.index (hashes_of (hash t.hash_builder) es)) (sym (entries_taken table.fills)) stacked);
           linked = omega (arith, ap length held, length-append t.held.items (i ∷ []), linked);

@@ -1,5 +1,5 @@
 -- Private: what a table of strings is seen as, and what holds of it between the calls. No public clause cites it.
-use Rattle.std.specs.Prelude.{◌≡◌, ℕ, zero, suc, ◌≤◌, ◌==◌, Bool, true, false, if◌then◌else◌, List, [], ◌∷◌, ◌++◌, length, map, slice_range}
+use Rattle.std.specs.Prelude.{◌≡◌, ℕ, zero, suc, ◌≤◌, ◌==◌, Bool, true, false, if◌then◌else◌, List, [], ◌∷◌, ◌++◌, length, map, slice_range, bytes_eq, ⊤}
 use Rattle.std.specs.List.{AllByRecursion}
 use Rattle.std.specs.declared.hash.BuildHasher as builder
 use Rattle.std.specs.declared.hash.Hasher as hasher
@@ -52,6 +52,11 @@ module _ {V : Type 0} where
   abbrev pub NonePass : (List ℕ → Bool) → List (List ℕ × V) → Type 0
   NonePass test es = AllByRecursion (λ e. test e.0 ≡ false) es
 
+  -- no string stands there twice
+  abbrev pub AreApart : List (List ℕ × V) → Type 0
+  AreApart [] = ⊤
+  AreApart (e ∷ es) = NonePass (bytes_eq e.0) es × AreApart es
+
   -- the string stands at the place p
   pub record StandsAt (string : List ℕ) (p : ℕ) (es : List (List ℕ × V)) : Type 0 where
     pub later : List (List ℕ × V)
@@ -84,9 +89,11 @@ module _ {V S A : Type 0} where
   abbrev pub entries_of : BytesTable V S A → List (List ℕ × V)
   entries_of t = entries_onto t.buffer.items 0 t.held.items []
 
-  -- what holds between the calls: the strings fill the buffer, each is found by its hash, and each place has a link and a name
+  -- what holds between the calls: the strings fill the buffer, none is there twice, each is found by its hash, and each place has a
+  -- link and a name
   pub record IsTable (hash : S → List ℕ → ℕ) (t : BytesTable V S A) : Type 0 where
     pub fills : Fills 0 (length t.buffer.items) t.held.items
+    pub apart : AreApart (entries_of t)
     pub stacked : IsStacked t.index (hashes_of (hash t.hash_builder) (entries_of t))
     pub linked : length t.held.items ≤ length t.index.links
     pub named : length t.index.links ≤ t.index.bound

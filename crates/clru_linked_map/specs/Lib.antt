@@ -1,3 +1,4 @@
+pub mod Announced
 pub mod BucketList
 pub mod Buckets
 pub mod BytesMaps

@@ -1,10 +1,14 @@
 //! `BytesMap`: strings of bytes with a value each, which keeps all of them in one buffer.
 ghost use Rattle.std.specs.Prelude.{◌≡◌, [], true, is_some, bytes_eq, IfOk, IsOk, OnOk, OnErr};
+ghost use Rattle.std.specs.List.{All};
 ghost use Rattle.std.specs.Map.{lookup};
+ghost use Rattle.clru_linked_map.specs.Announced.{AreHashed, IsHashed};
 ghost use Rattle.clru_linked_map.specs.BytesMaps.{with_bytes};
+ghost use Rattle.clru_linked_map.specs.BytesTable.{IsTable, bytes_hash_of};
 
+use crate::announced::{Announced, Hashed};
 use crate::bytes_table::BytesTable;
-use clru_list::NoMemory;
+use clru_list::{NOWHERE, NoMemory};
 use std::alloc::Allocator;
 use std::hash::BuildHasher;
 use std::marker::Model;
@@ -16,18 +20,21 @@ use std::marker::Model;
 /// past 2^30 strings. Each of these doubles when it is full.
 pub struct BytesMap<V: Copy, S: BuildHasher, A: Allocator + Copy> {
     table: BytesTable<V, S, A>,
+    announced: Announced<A>,
 }
 
 impl<V: Copy, S: BuildHasher + Drop, A: Allocator + Copy> Drop for BytesMap<V, S, A> {
     fn drop(self) {
-        let BytesMap { table } = self;
+        let BytesMap { table, announced } = self;
         drop(table);
+        drop(announced);
     }
 }
 
 impl<V: Copy, S: BuildHasher, A: Allocator + Copy> Model for BytesMap<V, S, A> {
     ghost use Rattle.std.specs.Prelude.{ℕ, List};
     ghost use Rattle.std.specs.Coded.{coded×, coded_list, coded_ℕ};
+    ghost use Rattle.clru_linked_map.specs.Announced.{AreHashed};
     ghost use Rattle.clru_linked_map.specs.BytesTable.{IsTable, bytes_hash_by, entries_of};
 
     ghost Value = { List (List ℕ × V) };
@@ -36,7 +43,8 @@ impl<V: Copy, S: BuildHasher, A: Allocator + Copy> Model for BytesMap<V, S, A> {
 
     ghost view = { λ m. entries_of m.table };
 
-    ghost invariant = { λ m. IsTable (bytes_hash_by S.Hasher.finish S.Hasher.write S.build_hasher) m.table };
+    ghost invariant = { λ m. IsTable (bytes_hash_by S.Hasher.finish S.Hasher.write S.build_hasher) m.table
+        × AreHashed (bytes_hash_by S.Hasher.finish S.Hasher.write S.build_hasher m.table.hash_builder) m.announced };
 }
 
 impl<V: Copy, S: BuildHasher, A: Allocator + Copy> BytesMap<V, S, A> {
@@ -47,6 +55,7 @@ impl<V: Copy, S: BuildHasher, A: Allocator + Copy> BytesMap<V, S, A> {
     {
         BytesMap {
             table: BytesTable::new(alloc, hash_builder),
+            announced: Announced::new(alloc),
         }
     }
 
@@ -60,7 +69,12 @@ impl<V: Copy, S: BuildHasher, A: Allocator + Copy> BytesMap<V, S, A> {
         ensures refused { OnErr result (self.new ≡ self.old) }
         ensures held { is_some (lookup (bytes_eq bytes.now) self.old) ≡ true → IsOk result }
     {
-        let hash = self.table.hash(bytes);
+        let at = self.announced.pass();
+        let place = self.announced.place(at);
+        if self.table.holds(place, bytes) {
+            return Ok(Some(self.table.replace(place, value)));
+        }
+        let hash = hash_at(&self.table, &self.announced, at, bytes);
         match self.table.find(hash, bytes) {
             Some(place) => Ok(Some(self.table.replace(place, value))),
             None => {
@@ -69,4 +83,74 @@ impl<V: Copy, S: BuildHasher, A: Allocator + Copy> BytesMap<V, S, A> {
             }
         }
     }
+
+    /// Announces a string that will be inserted behind those that were announced before. The map stays as it is, also where another
+    /// string is inserted instead.
+    /// Cost: one hash, and a copy of the string, which is held until none waits; at most two requests for memory.
+    pub fn announce(&mut self, bytes: &[u8]) -> Result<(), NoMemory>
+        ensures { self.new ≡ self.old }
+    {
+        let hash = self.table.hash(bytes);
+        self.announced.push(hash, bytes)
+    }
+
+    /// Returns how many of the announced strings wait for their insertion.
+    pub fn waiting(&self) -> usize {
+        self.announced.waiting()
+    }
+
+    /// Looks all announced strings up. No look-up waits for memory until the one before is done, as it does between insertions, so that
+    /// these find at hand what they need. The map stays as it is.
+    /// Cost: a walk along one chain for each; at most one request for memory.
+    pub fn prefetch(&mut self) -> Result<(), NoMemory>
+        ensures { self.new ≡ self.old }
+    {
+        let announced = &mut self.announced;
+        places_of(
+            &self.table,
+            &announced.bytes,
+            &announced.strings,
+            &mut announced.places,
+        )
+    }
+}
+
+/// The hash of a string, which may be the announced one of this number.
+fn hash_at<V: Copy, S: BuildHasher, A: Allocator + Copy>(
+    table: &BytesTable<V, S, A>,
+    announced: &Announced<A>,
+    at: usize,
+    bytes: &[u8],
+) -> u64
+    requires { AreHashed (bytes_hash_of S.BuildHasher S.Hasher.Hasher table.now.hash_builder) announced.now }
+    ensures { result ≡ bytes_hash_of S.BuildHasher S.Hasher.Hasher table.now.hash_builder bytes.now }
+{
+    match announced.hash_of(at, bytes) {
+        Some(hash) => hash,
+        None => table.hash(bytes),
+    }
+}
+
+/// Puts where these strings stand into `places`, or `NOWHERE`.
+fn places_of<V: Copy, S: BuildHasher, A: Allocator + Copy>(
+    table: &BytesTable<V, S, A>,
+    bytes: &[u8],
+    strings: &[Hashed],
+    places: &mut Vec<usize, A>,
+) -> Result<(), NoMemory>
+    requires table { IsTable (bytes_hash_of S.BuildHasher S.Hasher.Hasher) table.now }
+    requires hashed { All (IsHashed (bytes_hash_of S.BuildHasher S.Hasher.Hasher table.now.hash_builder) bytes.now) strings.now }
+{
+    places.clear();
+    for at in 0..strings.len() {
+        let Hashed { start, end, hash } = strings[at];
+        let place = match table.find(hash, &bytes[start..end]) {
+            Some(place) => place,
+            None => NOWHERE,
+        };
+        let Ok(()) = places.push(place) else {
+            return Err(NoMemory);
+        };
+    }
+    Ok(())
 }

@@ -115,6 +115,16 @@ impl<V: Copy, S: BuildHasher, A: Allocator + Copy> BytesTable<V, S, A> {
         Some(self.index.place(number))
     }
 
+    /// Returns whether the string stands at a place, which may be none.
+    #[inline(always)]
+    pub(crate) fn holds(&self, place: usize, bytes: &[u8]) -> bool
+        requires { IsTable (bytes_hash_of S.BuildHasher S.Hasher.Hasher) self.now }
+        ensures found { result ≡ true → IsFoundAt (bytes_eq bytes.now) place (entries_of self.now) }
+        ensures place { result ≡ true → place < vec_len self.now.held }
+    {
+        place < self.held.len() && bytes == self.bytes_at(place)
+    }
+
     /// Returns whether a number names another place than that of the string, whose hash is given.
     #[inline(always)]
     fn is_other(&self, number: usize, hash: u64, bytes: &[u8]) -> bool
@@ -148,6 +158,7 @@ impl<V: Copy, S: BuildHasher, A: Allocator + Copy> BytesTable<V, S, A> {
         ensures replaced { (test : List ℕ → Bool) → IsFoundAt test place (entries_of self.old)
             → entries_of self.new ≡ set_value test (entries_of self.old) value }
         ensures table { IsTable (bytes_hash_of S.BuildHasher S.Hasher.Hasher) self.new }
+        ensures builder { self.new.hash_builder ≡ self.old.hash_builder }
     {
         let before = self.held[place].value;
         self.held[place].value = value;
@@ -158,9 +169,11 @@ impl<V: Copy, S: BuildHasher, A: Allocator + Copy> BytesTable<V, S, A> {
     pub(crate) fn push(&mut self, hash: u64, bytes: &[u8], value: V) -> Result<(), NoMemory>
         requires hash { hash ≡ bytes_hash_of S.BuildHasher S.Hasher.Hasher self.old.hash_builder bytes.now }
         requires table { IsTable (bytes_hash_of S.BuildHasher S.Hasher.Hasher) self.old }
+        requires absent { lookup (bytes_eq bytes.now) (entries_of self.old) ≡ None }
         ensures taken { OnOk result (entries_of self.new ≡ (bytes.now, value) ∷ entries_of self.old) }
         ensures refused { OnErr result (entries_of self.new ≡ entries_of self.old) }
         ensures table { IsTable (bytes_hash_of S.BuildHasher S.Hasher.Hasher) self.new }
+        ensures builder { self.new.hash_builder ≡ self.old.hash_builder }
     {
         self.make_room()?;
         let place = self.held.len();

@@ -9,6 +9,7 @@
 //! `BytesMap` is another map with such an index. It keeps strings of bytes in one buffer, each with a value, and drops none.
 #![tactic(auto)]
 
+mod announced;
 mod bytes_map;
 mod bytes_table;
 mod hash_index;

@@ -72,7 +72,7 @@ fn curves_around<R: Read, S: BuildHasher + Drop, A: Allocator + Copy>(
             };
             head = Some(curve);
         }
-        let Ok(_) = pass.take(&key) else {
+        let Ok(_) = pass.take(&key, buffer.buffer()) else {
             return Err(ReadError::Memory);
         };
         requests += 1;

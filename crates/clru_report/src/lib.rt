@@ -16,6 +16,7 @@ mod laws;
 mod line_pass;
 mod pass;
 mod picture;
+mod prefetch;
 mod program;
 mod ratio;
 mod reading;

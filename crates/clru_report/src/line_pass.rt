@@ -7,6 +7,7 @@ ghost use Rattle.clru_text.specs.Keys.{same_line};
 ghost use Rattle.clru_text.specs.declared.lines.OwnedKey.{OwnedKey};
 ghost use Rattle.clru_report.specs.LinePasses.{IsLinePass};
 
+use crate::prefetch::prefetch;
 use clru_curve::{MissCurve, NoMemory, PositionPass};
 use clru_linked_map::BytesMap;
 use clru_text::OwnedKey;
@@ -51,7 +52,11 @@ impl<S: BuildHasher, A: Allocator + Copy> LinePass<S, A> {
     ///
     /// If memory is refused, or there were `usize::MAX` lines, no more can be said of the pass.
     /// Cost: that of `BytesMap::insert`, and steps that grow as the logarithm of the number of lines.
-    pub(crate) fn take(&mut self, key: &OwnedKey<A>) -> Result<Option<usize>, NoMemory>
+    pub(crate) fn take(
+        &mut self,
+        key: &OwnedKey<A>,
+        ahead: &[u8],
+    ) -> Result<Option<usize>, NoMemory>
         requires { (past : List (OwnedKey A)) × IsLinePass past self.old }
         ensures latest { (past : List (OwnedKey A)) → IsLinePass past self.old → IfOk result (IsLatestOf same_line past key.now) }
         ensures taken { (past : List (OwnedKey A)) → IsLinePass past self.old → OnOk result (IsLinePass (key.now ∷ past) self.new) }
@@ -60,6 +65,7 @@ impl<S: BuildHasher, A: Allocator + Copy> LinePass<S, A> {
             return Err(NoMemory);
         };
         let latest = self.latest.insert(&key.0, self.requests)?;
+        prefetch(&mut self.latest, ahead)?;
         // (without times each reuse comes soon enough)
         self.pass.request(latest, latest.is_some())?;
         self.requests = requests;

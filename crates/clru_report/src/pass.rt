@@ -11,6 +11,7 @@ ghost use Rattle.clru_report.specs.LinePasses.{HasTakenFor};
 ghost use Rattle.clru_report.specs.Passes.{HasFloorPass, HasForesight, IsCurveOfKept, IsFloorFor, IsForeseenFor};
 
 use crate::line_pass::LinePass;
+use crate::prefetch::next_kept;
 use clru_curve::MissCurve;
 use clru_least::{Floor, FloorPass, ForesightPass};
 use clru_text::{LineBuffer, OwnedKey, ReadError, is_kept};
@@ -61,7 +62,7 @@ pub(crate) fn curve_by_keys<R: Read, S: BuildHasher + Drop, A: Allocator + Copy>
     let mut key = OwnedKey(Vec::new(alloc));
     let mut requests = 0;
     'lines: while buffer.read_line(reader, &mut key.0)? {
-        let Ok(()) = take_kept(one_in, &mut pass, &mut foresight, &mut reuses, &key) else {
+        let Ok(()) = take_kept(one_in, &mut pass, &mut foresight, &mut reuses, &key, buffer.buffer()) else {
             return Err(ReadError::Memory);
         };
         requests += 1;
@@ -93,6 +94,7 @@ fn take_kept<S: BuildHasher, A: Allocator + Copy>(
     foresight: &mut Option<ForesightPass<OwnedKey<A>, A>>,
     reuses: &mut Option<FloorPass<OwnedKey<A>, A>>,
     key: &OwnedKey<A>,
+    behind: &[u8],
 ) -> Result<(), AllocError>
     requires { (least floored : Bool) × (lines : List (List ℕ)) × HasTakenFor least floored lines pass.old foresight.old reuses.old }
     ensures { (least floored : Bool) (lines : List (List ℕ))
@@ -103,7 +105,7 @@ fn take_kept<S: BuildHasher, A: Allocator + Copy>(
     if !is_kept(&key.0, one_in) {
         return Ok(());
     }
-    let Ok(latest) = pass.take(key) else {
+    let Ok(latest) = pass.take(key, next_kept(one_in, behind)) else {
         return Err(AllocError);
     };
     foresee(foresight, latest)?;

@@ -90,6 +90,14 @@ impl<A: Allocator> LineBuffer<A> {
         }
     }
 
+    /// Returns what was read and not yet returned as a line.
+    /// Cost: none.
+    pub fn buffer(&self) -> &[u8]
+        ensures { result.now ≡ self.now.left }
+    {
+        &self.bytes[self.start..self.end]
+    }
+
     /// Returns how many bytes were read.
     pub fn bytes_read(&self) -> usize
         ensures { result ≡ self.now.read }

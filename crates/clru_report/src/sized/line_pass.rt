@@ -8,6 +8,7 @@ ghost use Rattle.clru_text.specs.declared.lines.OwnedKey.{OwnedKey};
 ghost use Rattle.clru_report.specs.Passes.{weight_of_key};
 ghost use Rattle.clru_report.specs.SizedLinePasses.{IsSizedLinePass};
 
+use crate::prefetch::prefetch;
 use clru_curve::{NoMemory, SizedCurve, SizedPositionPass};
 use clru_linked_map::BytesMap;
 use clru_text::OwnedKey;
@@ -56,6 +57,7 @@ impl<S: BuildHasher, A: Allocator + Copy> SizedLinePass<S, A> {
         &mut self,
         key: &OwnedKey<A>,
         weight: usize,
+        ahead: &[u8],
     ) -> Result<Option<usize>, NoMemory>
         requires weight { weight ≡ weight_of_line (line_of key.now) }
         requires taken { (past : List (OwnedKey A)) × IsSizedLinePass past self.old }
@@ -66,6 +68,7 @@ impl<S: BuildHasher, A: Allocator + Copy> SizedLinePass<S, A> {
             return Err(NoMemory);
         };
         let latest = self.latest.insert(&key.0, self.requests)?;
+        prefetch(&mut self.latest, ahead)?;
         // (without times each reuse comes soon enough)
         let Ok(_) = self.pass.request(latest, latest.is_some(), weight) else {
             return Err(NoMemory);

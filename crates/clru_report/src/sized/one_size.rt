@@ -100,7 +100,7 @@ fn curve_of_log<S: BuildHasher + Drop, A: Allocator + Copy>(
         let Ok(()) = write_line(&mut digits, &mut key, log.sizes[number], &log.tails[number]) else {
             return Err(Fault::Memory);
         };
-        match count_and_take(one_in, &mut pass, &mut reuses, &key, index + 1, size) {
+        match count_and_take(one_in, &mut pass, &mut reuses, &key, index + 1, size, &[]) {
             Ok(more) => size = more,
             Err(fault) => return Err(fault),
         }

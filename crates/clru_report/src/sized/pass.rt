@@ -15,6 +15,7 @@ ghost use Rattle.clru_report.specs.Sizes.{size_of_lines};
 use super::floors::{Floors, floors_of};
 use super::line_pass::SizedLinePass;
 use crate::pass::note_reuse;
+use crate::prefetch::next_kept;
 use clru_curve::SizedCurve;
 use clru_least::FloorPass;
 use clru_text::{Fault, LineBuffer, OwnedKey, is_kept, read_fault, size_of};
@@ -62,7 +63,7 @@ pub(super) fn curve_by_size<R: Read, S: BuildHasher + Drop, A: Allocator + Copy>
         }
         requests += 1;
         if refused.is_none() {
-            match count_and_take(one_in, &mut pass, &mut reuses, &key, requests, size) {
+            match count_and_take(one_in, &mut pass, &mut reuses, &key, requests, size, buffer.buffer()) {
                 Ok(more) => size = more,
                 Err(Fault::Memory) => return Err(Fault::Memory),
                 Err(fault) => refused = Some(fault),
@@ -89,6 +90,7 @@ pub(super) fn count_and_take<S: BuildHasher, A: Allocator + Copy>(
     key: &OwnedKey<A>,
     number: usize,
     size: usize,
+    behind: &[u8],
 ) -> Result<usize, Fault>
     requires { (floored : Bool) × (lines : List (List ℕ)) × HasTaken floored lines pass.old reuses.old }
     ensures taken { (floored : Bool) (lines : List (List ℕ))
@@ -105,7 +107,7 @@ pub(super) fn count_and_take<S: BuildHasher, A: Allocator + Copy>(
         Ok(more) => more,
         Err(fault) => return Err(fault),
     };
-    match take_kept(one_in, pass, reuses, key, more - size - 1) {
+    match take_kept(one_in, pass, reuses, key, more - size - 1, behind) {
         Ok(()) => Ok(more),
         Err(_) => Err(Fault::Memory),
     }
@@ -139,6 +141,7 @@ fn take_kept<S: BuildHasher, A: Allocator + Copy>(
     reuses: &mut Option<FloorPass<OwnedKey<A>, A>>,
     key: &OwnedKey<A>,
     weight: usize,
+    behind: &[u8],
 ) -> Result<(), AllocError>
     requires sized { IsSome (size_of_line (line_of key.now)) }
     requires weight { weight ≡ weight_of_line (line_of key.now) }
@@ -150,7 +153,7 @@ fn take_kept<S: BuildHasher, A: Allocator + Copy>(
     if !is_kept(&key.0, one_in) {
         return Ok(());
     }
-    let Ok(latest) = pass.take(key, weight) else {
+    let Ok(latest) = pass.take(key, weight, next_kept(one_in, behind)) else {
         return Err(AllocError);
     };
     note_reuse(reuses, latest, weight)

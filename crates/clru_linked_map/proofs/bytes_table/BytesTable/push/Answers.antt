@@ -1,5 +1,7 @@
 use Rattle.std.proofs.Common.{◌≡◌, ◌+◌, ◌∷◌, ℕ, length, refl, sym, ap, ◌∙◌, subst, arith}
 use Rattle.std.proofs.lemmas.List.{length-map}
+use Rattle.std.specs.Map.{lookup}
+use Rattle.std.specs.Prelude.{bytes_eq}
 use Rattle.clru_linked_map.specs.BytesTable.{bytes_hash_by, entries_of, hashes_of}
 use Rattle.clru_linked_map.specs.Stacked.{IsStacked}
 use Rattle.clru_linked_map.specs.declared.bytes_table.BytesTable.{BytesTable}
@@ -30,6 +32,7 @@ returns-clause-table g c =
     let long : length hashes ≡ c.len-place.result =
     omega (arith, length-map (entries_of m) (λ e. hash m.hash_builder e.0), length-entries m.buffer.items m.held.items, m.held.ok.0, c.len-place.ensures) in
     let hashed : c.args.hash ≡ hash m.hash_builder more = c.requires.hash ∙ ap (λ b. hash b more) (sym room.keeps.builder) in
-    table_taken m u more i c.in-Ok.ensures.items c.push_reserved.ensures.items ends {hash = hash} room.table refl
+    table_taken m u more i c.in-Ok.ensures.items c.push_reserved.ensures.items ends {hash = hash} room.table
+    (ap (λ es. lookup (bytes_eq more) es) (entries_kept c.args.self.now m room.keeps) ∙ c.requires.absent) refl
     (subst (λ (n : ℕ). IsStacked c.link_place.new.index (n ∷ hashes)) hashed (linked.stacked hashes long room.table.stacked))
     (omega (arith, c.in_ok-make_room.ensures.linked, m.held.ok.0, linked.same.links)) (omega (arith, room.table.named, linked.same.links, linked.same.bound))

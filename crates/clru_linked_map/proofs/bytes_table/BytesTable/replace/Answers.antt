@@ -2,7 +2,7 @@ use Rattle.std.proofs.Common.{ℕ, List, length, sym, subst, arith}
 use Rattle.std.proofs.lemmas.List.{length-set}
 use Rattle.clru_linked_map.specs.BytesTable.{bytes_hash_by}
 use Rattle.clru_linked_map.specs.Stacked.{IsStacked}
-use Rattle.clru_linked_map.proofs.Strings.{fills_valued, found_set, found_value, hashes_written, valued}
+use Rattle.clru_linked_map.proofs.Strings.{apart_written, fills_valued, found_set, found_value, hashes_written, valued}
 use Rattle.clru_linked_map.proofs.bytes_table.BytesTable.replace.Goals as goal
 
 pub returns-clause-before : goal.returns-clause-before
@@ -21,6 +21,7 @@ returns-clause-table g c =
     let hash = bytes_hash_by g.S.Hasher.Hasher.finish g.S.Hasher.Hasher.write g.S.BuildHasher.build_hasher t.hash_builder in
     record {
       fills = fills_valued 0 (length t.buffer.items) t.held.items p i c.args.value table.fills c.index_mut.ensures.value;
+      apart = apart_written t.buffer.items t.held.items p i c.args.value (omega (arith, t.held.ok.0, c.requires.place)) c.index_mut.ensures.value table.apart;
       stacked = subst (λ (hashes : List ℕ). IsStacked t.index hashes)
           (sym (hashes_written hash t.buffer.items t.held.items p i c.args.value (omega (arith, t.held.ok.0, c.requires.place)) c.index_mut.ensures.value))
           table.stacked;

@@ -21,8 +21,8 @@ returns-clause-taken g c past is =
     let key = c.args.key.now in let latest = c.in_ok-latest.latest in let noted = c.args.self.now.latest in
     let at = latest_noted past noted is.noted key c.deref.result.now c.deref.ensures.value latest c.in_ok-latest.ensures.before in
     record {
-      noted = noted_more past noted is.noted key c.deref.result.now c.deref.ensures.value _ c.insert.new.self
-          (omega (arith, is.counted)) c.in_ok-latest.ensures.taken;
+      noted = noted_more past noted is.noted key c.deref.result.now c.deref.ensures.value _ c.prefetch.new.map
+          (omega (arith, is.counted)) (c.prefetch.ensures ∙ c.in_ok-latest.ensures.taken);
       taken = c.in_ok-request.ensures.taken 0 (timeless past) key 0 is.taken (latest_timeless same_line 0 past key latest at)
           (c.is_some.ensures ∙ soon_timeless same_line 0 past key latest at);
       counted = omega (arith, is.counted, c.in-Some.ensures);
