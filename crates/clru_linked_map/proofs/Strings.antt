@@ -231,9 +231,9 @@ module _ {V : Type 0} where
   pub none_found : (test : List ℕ → Bool) (es : List (List ℕ × V)) → lookup test es ≡ None → NonePass test es
   none_found test [] none = tt
   none_found test (e ∷ es) none = elim (cases_Bool (test e.0)) [
-      | inl t ↦ absurd (none-some e.1 (sym none ∙ rw t refl))
-      | inr f ↦ (f, none_found test es (let rest : lookup test (e ∷ es) ≡ lookup test es = rw f refl in sym rest ∙ none))
-    ]
+    | inl t ↦ absurd (none-some e.1 (sym none ∙ rw t refl))
+    | inr f ↦ (f, none_found test es (let rest : lookup test (e ∷ es) ≡ lookup test es = rw f refl in sym rest ∙ none))
+  ]
 
   none_at : (test : List ℕ → Bool) (later : List (List ℕ × V)) (e : List ℕ × V) (earlier : List (List ℕ × V))
       → NonePass test (later ++ e ∷ earlier) → test e.0 ≡ false
@@ -244,9 +244,10 @@ module _ {V : Type 0} where
   none_before : (key string : List ℕ) (v : V) (later earlier : List (List ℕ × V)) → bytes_eq key string ≡ true
       → AreApart (later ++ (string, v) ∷ earlier) → NonePass (bytes_eq key) later
   none_before key string v [] earlier same apart = tt
-  none_before key string v (e ∷ later) earlier same apart =
-      (nat_list_eq_equiv.congr key string e.0 same ∙ nat_list_eq_equiv.symm string e.0 ∙ none_at (bytes_eq e.0) later (string, v) earlier apart.0,
-      none_before key string v later earlier same apart.1)
+  none_before key string v (e ∷ later) earlier same apart = (
+    nat_list_eq_equiv.congr key string e.0 same ∙ nat_list_eq_equiv.symm string e.0 ∙ none_at (bytes_eq e.0) later (string, v) earlier apart.0,
+    none_before key string v later earlier same apart.1,
+  )
 
   -- so it is found at its place
   pub found_apart : (bytes : List ℕ) (is : List (Item V)) (p : ℕ) (key : List ℕ) → p < length is

@@ -50,11 +50,6 @@ impl<A: Allocator + Copy> Announced<A> {
         }
     }
 
-    /// How many wait for their insertion.
-    pub(crate) fn waiting(&self) -> usize {
-        self.strings.len().saturating_sub(self.next)
-    }
-
     /// Takes one more, whose hash is given. Where none waits, the earlier ones are forgotten first.
     pub(crate) fn push(&mut self, hash: u64, bytes: &[u8]) -> Result<(), NoMemory>
         ensures { (of : List ℕ → ℕ) → hash ≡ of bytes.now → AreHashed of self.old → AreHashed of self.new }

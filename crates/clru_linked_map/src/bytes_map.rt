@@ -94,11 +94,6 @@ impl<V: Copy, S: BuildHasher, A: Allocator + Copy> BytesMap<V, S, A> {
         self.announced.push(hash, bytes)
     }
 
-    /// Returns how many of the announced strings wait for their insertion.
-    pub fn waiting(&self) -> usize {
-        self.announced.waiting()
-    }
-
     /// Looks all announced strings up. No look-up waits for memory until the one before is done, as it does between insertions, so that
     /// these find at hand what they need. The map stays as it is.
     /// Cost: a walk along one chain for each; at most one request for memory.
@@ -131,7 +126,8 @@ fn hash_at<V: Copy, S: BuildHasher, A: Allocator + Copy>(
     }
 }
 
-/// Puts where these strings stand into `places`, or `NOWHERE`.
+/// Puts where these strings are likely to stand into `places`, or `NOWHERE`. Each step is done for all strings before the next one, since a wrong guess of
+/// the processor would end what it reads ahead.
 fn places_of<V: Copy, S: BuildHasher, A: Allocator + Copy>(
     table: &BytesTable<V, S, A>,
     bytes: &[u8],
@@ -143,14 +139,18 @@ fn places_of<V: Copy, S: BuildHasher, A: Allocator + Copy>(
 {
     places.clear();
     for at in 0..strings.len() {
-        let Hashed { start, end, hash } = strings[at];
-        let place = match table.find(hash, &bytes[start..end]) {
-            Some(place) => place,
-            None => NOWHERE,
-        };
-        let Ok(()) = places.push(place) else {
+        let Ok(()) = places.push(table.number(strings[at].hash)) else {
             return Err(NoMemory);
         };
+    }
+    for at in 0..strings.len().min(places.len()) {
+        places[at] = table.likely(places[at], strings[at].hash);
+    }
+    for at in 0..strings.len().min(places.len()) {
+        let Hashed { start, end, .. } = strings[at];
+        if !table.begins_alike(places[at], &bytes[start..end]) {
+            places[at] = NOWHERE;
+        }
     }
     Ok(())
 }

@@ -115,6 +115,40 @@ impl<V: Copy, S: BuildHasher, A: Allocator + Copy> BytesTable<V, S, A> {
         Some(self.index.place(number))
     }
 
+    /// The number of the bucket of a hash, for `likely`.
+    #[inline(always)]
+    pub(crate) fn number(&self, hash: u64) -> usize {
+        self.index.first(self.index.bucket_of(hash))
+    }
+
+    /// The first place with the tag of a hash in the chain that begins with a number. It looks at no string.
+    #[inline(always)]
+    pub(crate) fn likely(&self, number: usize, hash: u64) -> usize
+        requires { vec_len self.now.held ≤ length self.now.index.links }
+    {
+        let mut number = number;
+        let mut bound = self.held.len();
+        'chain: while self.index.has_other_tag(number, hash) && !self.index.is_last(number) {
+            let place = self.index.place(number);
+            if place >= bound {
+                break;
+            }
+            bound = place;
+            number = self.index.next(place);
+        }
+        self.index.place(number)
+    }
+
+    /// Returns whether a string at a place, which may be none, begins with the same byte.
+    #[inline(always)]
+    pub(crate) fn begins_alike(&self, place: usize, bytes: &[u8]) -> bool {
+        if place >= self.held.len() || bytes.is_empty() {
+            return false;
+        }
+        let start = self.start_at(place);
+        start < self.buffer.len() && self.buffer[start] == bytes[0]
+    }
+
     /// Returns whether the string stands at a place, which may be none.
     #[inline(always)]
     pub(crate) fn holds(&self, place: usize, bytes: &[u8]) -> bool

@@ -20,6 +20,8 @@ pub(crate) struct LinePass<S: BuildHasher, A: Allocator + Copy> {
     latest: BytesMap<usize, S, A>,
     pass: PositionPass<OwnedKey<A>, A>,
     requests: usize,
+    // So many lines were looked up and are not taken yet.
+    ahead: usize,
 }
 
 impl<S: BuildHasher + Drop, A: Allocator + Copy> Drop for LinePass<S, A> {
@@ -28,6 +30,7 @@ impl<S: BuildHasher + Drop, A: Allocator + Copy> Drop for LinePass<S, A> {
             latest,
             pass,
             requests: _,
+            ahead: _,
         } = self;
         drop(latest);
         drop(pass);
@@ -44,6 +47,7 @@ impl<S: BuildHasher, A: Allocator + Copy> LinePass<S, A> {
             latest: BytesMap::new(alloc, hash_builder),
             pass: PositionPass::new(alloc),
             requests: 0,
+            ahead: 0,
         }
     }
 
@@ -55,7 +59,7 @@ impl<S: BuildHasher, A: Allocator + Copy> LinePass<S, A> {
     pub(crate) fn take(
         &mut self,
         key: &OwnedKey<A>,
-        ahead: &[u8],
+        behind: &[u8],
     ) -> Result<Option<usize>, NoMemory>
         requires { (past : List (OwnedKey A)) × IsLinePass past self.old }
         ensures latest { (past : List (OwnedKey A)) → IsLinePass past self.old → IfOk result (IsLatestOf same_line past key.now) }
@@ -65,7 +69,7 @@ impl<S: BuildHasher, A: Allocator + Copy> LinePass<S, A> {
             return Err(NoMemory);
         };
         let latest = self.latest.insert(&key.0, self.requests)?;
-        prefetch(&mut self.latest, ahead)?;
+        self.ahead = prefetch(&mut self.latest, self.ahead, behind)?;
         // (without times each reuse comes soon enough)
         self.pass.request(latest, latest.is_some())?;
         self.requests = requests;
@@ -95,6 +99,7 @@ impl<S: BuildHasher, A: Allocator + Copy> LinePass<S, A> {
             latest: _,
             pass,
             requests: _,
+            ahead: _,
         } = self;
         pass.into_curve()
     }

@@ -62,7 +62,14 @@ pub(crate) fn curve_by_keys<R: Read, S: BuildHasher + Drop, A: Allocator + Copy>
     let mut key = OwnedKey(Vec::new(alloc));
     let mut requests = 0;
     'lines: while buffer.read_line(reader, &mut key.0)? {
-        let Ok(()) = take_kept(one_in, &mut pass, &mut foresight, &mut reuses, &key, buffer.buffer()) else {
+        let Ok(()) = take_kept(
+            one_in,
+            &mut pass,
+            &mut foresight,
+            &mut reuses,
+            &key,
+            buffer.buffer(),
+        ) else {
             return Err(ReadError::Memory);
         };
         requests += 1;

@@ -11,29 +11,34 @@ use std::num::NonZeroUsize;
 /// How many lines are looked up at a time.
 const AHEAD: usize = 128;
 
-/// Looks up the first whole lines of these bytes, unless some that were looked up before are not inserted yet. The map stays as it is.
-/// Cost: for each of these lines that of `BytesMap::announce` and `prefetch`.
+/// Looks up the first whole lines of these bytes, once the lines that were looked up before are inserted: all but so many, less the one
+/// that was inserted now. Returns how many are left. The map stays as it is.
+/// Cost: for each line that of `BytesMap::announce` and `prefetch`.
 pub(crate) fn prefetch<V: Copy, S: BuildHasher, A: Allocator + Copy>(
     map: &mut BytesMap<V, S, A>,
-    ahead: &[u8],
-) -> Result<(), NoMemory>
+    left: usize,
+    behind: &[u8],
+) -> Result<usize, NoMemory>
     ensures { map.new ≡ map.old }
 {
-    if map.waiting() > 0 {
-        return Ok(());
+    if left > 1 {
+        return Ok(left - 1);
     }
-    let mut left = ahead;
-    'lines: for _ in 0..AHEAD {
-        let Some((line, rest)) = next_line(left) else {
+    let mut count = 0;
+    let mut behind = behind;
+    'lines: while count < AHEAD {
+        let Some((line, rest)) = next_line(behind) else {
             break;
         };
-        if line.len() == left.len() {
+        if line.len() == behind.len() {
             break;
         }
         map.announce(line)?;
-        left = rest;
+        behind = rest;
+        count += 1;
     }
-    map.prefetch()
+    map.prefetch()?;
+    Ok(count)
 }
 
 /// What stands behind a line, if a sample keeps all lines of it.

@@ -1,4 +1,5 @@
-//! Strings of bytes with values: many of them, those that begin alike, the memory that they ask for, and its refusals.
+//! Strings of bytes with values: many of them, those that begin alike, those that were announced, the memory that they ask for, and
+//! its refusals.
 ghost use Rattle.std.specs.Prelude.{◌≤◌};
 
 use clru::DefaultState;
@@ -52,6 +53,50 @@ fn inserts_thrice(heap: &Rationed<Global>) -> ([u32; 3], u64) {
     ([first, second, third], heap.requests().wrapping_sub(before))
 }
 
+/// Announces the strings from a number on but for each one of so many, if the number is one of those for which it is done. Returns how often memory was refused.
+fn announce_some<A: Allocator + Copy>(
+    map: &mut BytesMap<u32, DefaultState, A>,
+    from: u32,
+    but: u32,
+) -> u64 {
+    let mut refused = 0u64;
+    if from % ANNOUNCED != 3 {
+        return refused;
+    }
+    for number in from..from.saturating_add(ANNOUNCED) {
+        let (bytes, len) = bytes_of(number);
+        if number % but.max(1) != but / 2 && map.announce(&bytes[..len]).is_err() {
+            refused = refused.saturating_add(1);
+        }
+    }
+    if map.prefetch().is_err() {
+        refused = refused.saturating_add(1);
+    }
+    refused
+}
+
+/// How many strings are announced at a time.
+const ANNOUNCED: u32 = 50;
+
+#[test]
+fn announced_strings_find_the_same_values(rt: HostRuntime) {
+    for but in [u32::MAX, 2, 3, 7, 50, 51] {
+        let mut map = BytesMap::new(rt.alloc(), DefaultState);
+        let mut met = [0u32; 3];
+        for round in 0..3u32 {
+            for number in 0..1000u32 {
+                let _ = announce_some(&mut map, number, but);
+                let (bytes, len) = bytes_of(number);
+                let before = if round == 0 { None } else { Some(round) };
+                if map.insert(&bytes[..len], round.wrapping_add(1)) == Ok(before) {
+                    met[round as usize % 3] = met[round as usize % 3].saturating_add(1);
+                }
+            }
+        }
+        equal!(rt; met, [1000, 1000, 1000], but);
+    }
+}
+
 /// Strings in the order in which they are inserted, each with the place of its latest insertion before this one.
 static ALIKE: &[(&[u8], Option<usize>)] = &[
     (b"", None),
@@ -80,7 +125,7 @@ fn strings_that_begin_alike_are_told_apart(rt: HostRuntime) {
 #[test]
 fn a_refusal_leaves_the_strings(rt: HostRuntime) {
     let mut met = 0;
-    for n in 0..40u64 {
+    for n in 0..60u64 {
         let heap = Rationed::new(rt.alloc());
         heap.refuse_one_after(n);
         let (failed, lost) = inserts_refused(&heap);
@@ -89,15 +134,17 @@ fn a_refusal_leaves_the_strings(rt: HostRuntime) {
         met = met.max(refused.saturating_mul(n + 1));
     }
     // There was a request to refuse, and the last runs met none.
-    equal!(rt; met > 0 && met < 40, true, met);
+    equal!(rt; met > 0 && met < 60, true, met);
 }
 
-/// How many inserts of 300 strings were refused, and how many strings were lost there, or held that should not be.
+/// How many inserts and announcements of 300 strings were refused, and how many strings were lost at an insert, or held that should not
+/// be.
 fn inserts_refused(heap: &Rationed<Global>) -> (u64, u64) {
     let mut map = BytesMap::new(heap, DefaultState);
     let mut failed = 0u64;
     let mut lost = 0u64;
     for number in 0..300u32 {
+        failed = failed.saturating_add(announce_some(&mut map, number, u32::MAX));
         let (bytes, len) = bytes_of(number);
         if map.insert(&bytes[..len], number).is_err() {
             failed = failed.saturating_add(1);

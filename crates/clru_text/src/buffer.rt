@@ -95,7 +95,7 @@ impl<A: Allocator> LineBuffer<A> {
     pub fn buffer(&self) -> &[u8]
         ensures { result.now ≡ self.now.left }
     {
-        &self.bytes[self.start..self.end]
+        &self.bytes.as_slice()[self.start..self.end]
     }
 
     /// Returns how many bytes were read.

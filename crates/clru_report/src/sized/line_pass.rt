@@ -21,6 +21,8 @@ pub(super) struct SizedLinePass<S: BuildHasher, A: Allocator + Copy> {
     latest: BytesMap<usize, S, A>,
     pass: SizedPositionPass<OwnedKey<A>, A>,
     requests: usize,
+    // So many lines were looked up and are not taken yet.
+    ahead: usize,
 }
 
 impl<S: BuildHasher + Drop, A: Allocator + Copy> Drop for SizedLinePass<S, A> {
@@ -29,6 +31,7 @@ impl<S: BuildHasher + Drop, A: Allocator + Copy> Drop for SizedLinePass<S, A> {
             latest,
             pass,
             requests: _,
+            ahead: _,
         } = self;
         drop(latest);
         drop(pass);
@@ -45,6 +48,7 @@ impl<S: BuildHasher, A: Allocator + Copy> SizedLinePass<S, A> {
             latest: BytesMap::new(alloc, hash_builder),
             pass: SizedPositionPass::new(alloc),
             requests: 0,
+            ahead: 0,
         }
     }
 
@@ -57,7 +61,7 @@ impl<S: BuildHasher, A: Allocator + Copy> SizedLinePass<S, A> {
         &mut self,
         key: &OwnedKey<A>,
         weight: usize,
-        ahead: &[u8],
+        behind: &[u8],
     ) -> Result<Option<usize>, NoMemory>
         requires weight { weight ≡ weight_of_line (line_of key.now) }
         requires taken { (past : List (OwnedKey A)) × IsSizedLinePass past self.old }
@@ -68,7 +72,7 @@ impl<S: BuildHasher, A: Allocator + Copy> SizedLinePass<S, A> {
             return Err(NoMemory);
         };
         let latest = self.latest.insert(&key.0, self.requests)?;
-        prefetch(&mut self.latest, ahead)?;
+        self.ahead = prefetch(&mut self.latest, self.ahead, behind)?;
         // (without times each reuse comes soon enough)
         let Ok(_) = self.pass.request(latest, latest.is_some(), weight) else {
             return Err(NoMemory);
@@ -97,6 +101,7 @@ impl<S: BuildHasher, A: Allocator + Copy> SizedLinePass<S, A> {
             latest,
             pass,
             requests: _,
+            ahead: _,
         } = self;
         drop(latest);
         pass.into_curve()

@@ -63,7 +63,15 @@ pub(super) fn curve_by_size<R: Read, S: BuildHasher + Drop, A: Allocator + Copy>
         }
         requests += 1;
         if refused.is_none() {
-            match count_and_take(one_in, &mut pass, &mut reuses, &key, requests, size, buffer.buffer()) {
+            match count_and_take(
+                one_in,
+                &mut pass,
+                &mut reuses,
+                &key,
+                requests,
+                size,
+                buffer.buffer(),
+            ) {
                 Ok(more) => size = more,
                 Err(Fault::Memory) => return Err(Fault::Memory),
                 Err(fault) => refused = Some(fault),

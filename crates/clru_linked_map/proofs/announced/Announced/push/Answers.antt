@@ -1,6 +1,4 @@
-use Rattle.std.proofs.Common.{◌≡◌, ◌+◌, length, subst, arith}
-use Rattle.std.specs.List.{All}
-use Rattle.clru_linked_map.specs.Announced.{IsHashed}
+use Rattle.std.proofs.Common.{◌≡◌, ◌+◌, length, arith}
 use Rattle.clru_linked_map.specs.declared.announced.Hashed.{Hashed}
 use Rattle.clru_linked_map.proofs.AnnouncedStrings.{all_more}
 use Rattle.clru_linked_map.proofs.announced.Announced.push.Goals as goal

@@ -1,4 +1,4 @@
-use Rattle.std.proofs.Common.{◌≡◌, true, sym, ap, ◌∙◌, subst, arith}
+use Rattle.std.proofs.Common.{sym, ap, ◌∙◌, arith}
 use Rattle.std.specs.Prelude.{bytes_eq}
 use Rattle.clru_linked_map.proofs.Strings.{found_apart}
 use Rattle.clru_linked_map.proofs.bytes_table.BytesTable.holds.Goals as goal
