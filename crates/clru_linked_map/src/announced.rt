@@ -50,11 +50,11 @@ impl<A: Allocator + Copy> Announced<A> {
         }
     }
 
-    /// Takes one more, whose hash is given. Where none waits, the earlier ones are forgotten first.
+    /// Takes one more, whose hash is given. Where all were passed, they are dropped first.
     pub(crate) fn push(&mut self, hash: u64, bytes: &[u8]) -> Result<(), NoMemory>
         ensures { (of : List ℕ → ℕ) → hash ≡ of bytes.now → AreHashed of self.old → AreHashed of self.new }
     {
-        self.forget();
+        self.drop_passed();
         let Ok(()) = self.strings.reserve(1) else {
             return Err(NoMemory);
         };
@@ -67,8 +67,8 @@ impl<A: Allocator + Copy> Announced<A> {
         Ok(())
     }
 
-    /// Forgets all strings, if none waits.
-    fn forget(&mut self)
+    /// Drops all strings, if each was passed.
+    fn drop_passed(&mut self)
         ensures { (of : List ℕ → ℕ) → AreHashed of self.old → AreHashed of self.new }
     {
         if self.next >= self.strings.len() {

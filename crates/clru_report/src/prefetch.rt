@@ -8,8 +8,10 @@ use std::alloc::Allocator;
 use std::hash::BuildHasher;
 use std::num::NonZeroUsize;
 
-/// How many lines are looked up at a time.
+/// So many lines are looked up at a time, and no more than so many bytes hold.
 const AHEAD: usize = 128;
+
+const AHEAD_BYTES: usize = 8192;
 
 /// Looks up the first whole lines of these bytes, once the lines that were looked up before are inserted: all but so many, less the one
 /// that was inserted now. Returns how many are left. The map stays as it is.
@@ -25,7 +27,7 @@ pub(crate) fn prefetch<V: Copy, S: BuildHasher, A: Allocator + Copy>(
         return Ok(left - 1);
     }
     let mut count = 0;
-    let mut behind = behind;
+    let mut behind = &behind[..behind.len().min(AHEAD_BYTES)];
     'lines: while count < AHEAD {
         let Some((line, rest)) = next_line(behind) else {
             break;
