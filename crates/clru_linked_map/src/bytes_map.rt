@@ -1,5 +1,5 @@
 //! `BytesMap`: strings of bytes with a value each, which keeps all of them in one buffer.
-ghost use Rattle.std.specs.Prelude.{◌≡◌, [], true, is_some, bytes_eq, IfOk, IsOk, OnOk, OnErr};
+ghost use Rattle.std.specs.Prelude.{◌≡◌, [], true, length, is_some, bytes_eq, IfOk, IsOk, OnOk, OnErr};
 ghost use Rattle.std.specs.List.{All};
 ghost use Rattle.std.specs.Map.{lookup};
 ghost use Rattle.clru_linked_map.specs.Announced.{AreHashed, IsHashed};
@@ -57,6 +57,14 @@ impl<V: Copy, S: BuildHasher, A: Allocator + Copy> BytesMap<V, S, A> {
             table: BytesTable::new(alloc, hash_builder),
             announced: Announced::new(alloc),
         }
+    }
+
+    /// Returns how many strings are held.
+    /// Cost: none.
+    pub fn len(&self) -> usize
+        ensures { result ≡ length self.now }
+    {
+        self.table.len()
     }
 
     /// Gives the string a value, and returns the one that it had. If memory is refused, the map is unchanged. A string that is held

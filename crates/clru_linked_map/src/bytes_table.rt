@@ -62,6 +62,13 @@ impl<V: Copy, S: BuildHasher, A: Allocator + Copy> BytesTable<V, S, A> {
         }
     }
 
+    /// Returns how many strings there are.
+    pub(crate) fn len(&self) -> usize
+        ensures { result ≡ length (entries_of self.now) }
+    {
+        self.held.len()
+    }
+
     /// Returns the hash of bytes.
     pub(crate) fn hash(&self, bytes: &[u8]) -> u64
         ensures { result ≡ bytes_hash_of S.BuildHasher S.Hasher.Hasher self.now.hash_builder bytes.now }

@@ -8,13 +8,16 @@ use std::alloc::Allocator;
 use std::hash::BuildHasher;
 use std::num::NonZeroUsize;
 
+/// So few lines stand in the processor's caches, where looking ahead would take longer.
+const FEW_LINES: usize = 4096;
+
 /// So many lines are looked up at a time, and no more than so many bytes hold.
 const AHEAD: usize = 128;
 
 const AHEAD_BYTES: usize = 8192;
 
-/// Looks up the first whole lines of these bytes, once the lines that were looked up before are inserted: all but so many, less the one
-/// that was inserted now. Returns how many are left. The map stays as it is.
+/// Looks up the first whole lines of these bytes, once those that were looked up before are inserted, of which so many were left, with the
+/// one that is inserted now. Returns how many are left. The map stays as it is.
 /// Cost: for each line that of `BytesMap::announce` and `prefetch`.
 pub(crate) fn prefetch<V: Copy, S: BuildHasher, A: Allocator + Copy>(
     map: &mut BytesMap<V, S, A>,
@@ -25,6 +28,9 @@ pub(crate) fn prefetch<V: Copy, S: BuildHasher, A: Allocator + Copy>(
 {
     if left > 1 {
         return Ok(left - 1);
+    }
+    if map.len() < FEW_LINES {
+        return Ok(0);
     }
     let mut count = 0;
     let mut behind = &behind[..behind.len().min(AHEAD_BYTES)];

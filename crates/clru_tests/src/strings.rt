@@ -120,6 +120,7 @@ fn strings_that_begin_alike_are_told_apart(rt: HostRuntime) {
         let (bytes, before) = ALIKE[index];
         equal!(rt; map.insert(bytes, index), Ok(before), index);
     }
+    equal!(rt; map.len(), 7);
 }
 
 #[test]

@@ -12,20 +12,20 @@ const KEYS: usize = 10;
 
 // Of a form, whether by size, and whether with the least, or by size the floors: its requests for memory, and their bytes.
 static REQUESTS: &[(Form, bool, bool, u64, u64)] = &[
-    (Form::Table, false, false, 48, 77664),
-    (Form::Table, true, false, 61, 114624),
-    (Form::Table, true, true, 73, 194864),
-    (Form::Table, false, true, 64, 87096),
-    (Form::Json, false, false, 49, 78176),
-    (Form::Json, true, true, 74, 195888),
-    (Form::Picture, false, false, 61, 97214),
-    (Form::Picture, true, false, 83, 184118),
-    (Form::Picture, true, true, 100, 269009),
-    (Form::Picture, false, true, 79, 108077),
-    (Form::Summary, false, false, 43, 77257),
-    (Form::Summary, true, false, 52, 113080),
-    (Form::Summary, true, true, 52, 113080),
-    (Form::Summary, false, true, 43, 77257),
+    (Form::Table, false, false, 29, 68584),
+    (Form::Table, true, false, 42, 105544),
+    (Form::Table, true, true, 54, 185784),
+    (Form::Table, false, true, 45, 78016),
+    (Form::Json, false, false, 30, 69096),
+    (Form::Json, true, true, 55, 186808),
+    (Form::Picture, false, false, 42, 88134),
+    (Form::Picture, true, false, 64, 175038),
+    (Form::Picture, true, true, 81, 259929),
+    (Form::Picture, false, true, 60, 98997),
+    (Form::Summary, false, false, 24, 68177),
+    (Form::Summary, true, false, 33, 104000),
+    (Form::Summary, true, true, 33, 104000),
+    (Form::Summary, false, true, 24, 68177),
 ];
 
 // The same of a sample, which keeps half of the keys: whether by size.
@@ -90,6 +90,32 @@ fn each_form_hashes_a_line_as_often(rt: HostRuntime) -> Result<(), Fail> {
     for (form, sizes, least, requests, bytes) in REQUESTS {
         let costs = costs_of(rt.alloc(), &input, *form, (*sizes, *least), Sample::Whole)?;
         equal!(rt; costs, (1_000, *requests, *bytes), (*form, *sizes, *least));
+    }
+    Ok(())
+}
+
+// From 4,096 keys on lines are looked up ahead. An index for twice as many keys hashes all of them again.
+#[test]
+fn a_line_that_is_looked_up_ahead_is_hashed_once(rt: HostRuntime) -> Result<(), Fail> {
+    let mut input = Vec::new(rt.alloc());
+    for line in 0..18_000u32 {
+        let mut key = line % 6_000;
+        input.extend_from_slice(b"7 ")?;
+        for _ in 0..4 {
+            input.push(b'a' + (key % 10) as u8)?;
+            key /= 10;
+        }
+        input.push(b'\n')?;
+    }
+    for sizes in [false, true] {
+        let costs = costs_of(
+            rt.alloc(),
+            &input,
+            Form::Summary,
+            (sizes, false),
+            Sample::Whole,
+        )?;
+        equal!(rt; costs.0, 18_000 + 8_128, sizes);
     }
     Ok(())
 }
