@@ -1,7 +1,7 @@
 //! What is noted of the lines of an input: how many there are, which one leads, and which is the first without a size or a time.
 
 use crate::several::SizesOfKeys;
-use clru_text::{Options, Sample, Seed, size_of, time_of};
+use clru_text::{Options, Sample, Seed, next_line, size_of, time_of};
 use std::alloc::AllocError;
 
 /// So many bytes of a line are kept. One that is longer counts as one that is like no other.
@@ -73,20 +73,26 @@ impl Lines {
 
     /// Looks at more bytes.
     pub(crate) fn note(&mut self, bytes: &[u8]) {
-        let mut is_first = true;
-        for part in bytes.split(|byte| *byte == b'\n') {
-            if !is_first {
-                self.end_line();
+        let mut left = bytes;
+        'lines: while let Some((line, rest)) = next_line(left) {
+            if line.len() == left.len() {
+                self.go_on(line);
+                break;
             }
-            is_first = false;
-            self.go_on(part);
+            if self.last.is_none() && line.len() <= MOST {
+                self.note_line(line, line.last().copied());
+            } else {
+                self.go_on(line);
+                self.end_begun();
+            }
+            left = rest;
         }
     }
 
     /// The input ended. Its last line needs no newline.
     pub(crate) fn end(&mut self) {
         if self.last.is_some() {
-            self.end_line();
+            self.end_begun();
         }
     }
 
@@ -109,43 +115,52 @@ impl Lines {
         }
     }
 
-    fn end_line(&mut self) {
-        self.count = self.count.saturating_add(1);
-        match self.last {
-            None => self.empty = self.empty.saturating_add(1),
-            Some(b'\r') => self.returns = self.returns.saturating_add(1),
-            Some(_) => {}
-        }
-        self.note_time();
-        self.note_size();
-        self.vote();
-        self.begun.clear();
+    // The line that was begun ends.
+    fn end_begun(&mut self) {
+        let none = Vec::new(*self.begun.allocator());
+        let mut line = std::mem::replace(&mut self.begun, none);
+        self.note_line(&line, self.last);
+        line.clear();
+        self.begun = line;
         self.last = None;
         self.is_long = false;
     }
 
+    // One more line, or what is kept of it, and its last byte.
+    fn note_line(&mut self, line: &[u8], last: Option<u8>) {
+        self.count = self.count.saturating_add(1);
+        match last {
+            None => self.empty = self.empty.saturating_add(1),
+            Some(b'\r') => self.returns = self.returns.saturating_add(1),
+            Some(_) => {}
+        }
+        self.note_time(line);
+        self.note_size(line);
+        self.vote(line);
+    }
+
     // (the time stands among the bytes that are kept, or the line has none)
-    fn note_time(&mut self) {
-        if self.have_times && self.odd_number == 0 && time_of(&self.begun).is_none() {
-            self.note_odd();
+    fn note_time(&mut self, line: &[u8]) {
+        if self.have_times && self.odd_number == 0 && time_of(line).is_none() {
+            self.note_odd(line);
         }
     }
 
-    fn note_odd(&mut self) {
+    fn note_odd(&mut self, line: &[u8]) {
         self.odd_number = self.count;
-        let beginning = self.begun.get(..SHOWN).unwrap_or(&self.begun);
+        let beginning = line.get(..SHOWN).unwrap_or(line);
         let _ = self.odd.extend_from_slice(beginning);
     }
 
     // (the size stands among the bytes that are kept, or the line has none)
-    fn note_size(&mut self) {
+    fn note_size(&mut self, whole: &[u8]) {
         if !self.have_sizes {
             return;
         }
-        let line = sized_part(&self.begun, self.have_times);
+        let line = sized_part(whole, self.have_times);
         let Some(size) = size_of(line) else {
             if self.odd_number == 0 {
-                self.note_odd();
+                self.note_odd(whole);
             }
             return;
         };
@@ -159,16 +174,23 @@ impl Lines {
         }
     }
 
-    fn vote(&mut self) {
+    fn vote(&mut self, line: &[u8]) {
         if self.votes == 0 && !self.is_long {
-            std::mem::swap(&mut self.leader, &mut self.begun);
-            self.votes = 1;
-            self.seen = 1;
-        } else if !self.is_long && self.leader.as_slice() == self.begun.as_slice() {
+            self.succeed(line);
+        } else if !self.is_long && self.leader.as_slice() == line {
             self.votes = self.votes.saturating_add(1);
             self.seen = self.seen.saturating_add(1);
         } else {
             self.votes = self.votes.saturating_sub(1);
+        }
+    }
+
+    // (a line that is not held leads no vote)
+    fn succeed(&mut self, line: &[u8]) {
+        self.leader.clear();
+        if self.leader.extend_from_slice(line).is_ok() {
+            self.votes = 1;
+            self.seen = 1;
         }
     }
 
