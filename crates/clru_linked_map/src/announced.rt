@@ -1,7 +1,6 @@
-//! `Announced`: the strings that a map expects next, with their hashes, and where each was found.
-ghost use Rattle.std.specs.Prelude.{◌≡◌, ◌<◌, ℕ, List, length, IfSome, slice_index_or};
-ghost use Rattle.std.specs.List.{All};
-ghost use Rattle.clru_linked_map.specs.Announced.{AreHashed, IsHashed};
+//! `Announced`: the strings that a map expects next, with their hashes, and the places where they are likely to stand.
+ghost use Rattle.std.specs.Prelude.{◌≡◌, ℕ, List, IfSome};
+ghost use Rattle.clru_linked_map.specs.Announced.{AreHashed};
 
 use clru_list::{NOWHERE, NoMemory};
 use std::alloc::Allocator;
@@ -14,12 +13,12 @@ pub(crate) struct Hashed {
     pub(crate) hash: u64,
 }
 
-/// The announced strings, in their order. No clause speaks of the places: who uses one looks whether the string is there.
+/// The announced strings, in their order. No clause speaks of the places, so the map compares the string at a place before it uses it.
 pub(crate) struct Announced<A: Allocator + Copy> {
     pub(crate) bytes: Vec<u8, A>,
     pub(crate) strings: Vec<Hashed, A>,
     pub(crate) places: Vec<usize, A>,
-    // That of the next insertion.
+    // The number of the string that is expected next.
     next: usize,
 }
 
@@ -50,7 +49,8 @@ impl<A: Allocator + Copy> Announced<A> {
         }
     }
 
-    /// Takes one more, whose hash is given. Where all were passed, they are dropped first.
+    /// Takes one more, whose hash is given. If no earlier one is expected any more, all of these are dropped first. If memory is refused, it
+    /// is not among the strings.
     pub(crate) fn push(&mut self, hash: u64, bytes: &[u8]) -> Result<(), NoMemory>
         ensures { (of : List ℕ → ℕ) → hash ≡ of bytes.now → AreHashed of self.old → AreHashed of self.new }
     {
@@ -67,7 +67,7 @@ impl<A: Allocator + Copy> Announced<A> {
         Ok(())
     }
 
-    /// Drops all strings, if each was passed.
+    /// Drops all strings, if none is expected any more.
     fn drop_passed(&mut self)
         ensures { (of : List ℕ → ℕ) → AreHashed of self.old → AreHashed of self.new }
     {
@@ -79,7 +79,7 @@ impl<A: Allocator + Copy> Announced<A> {
         }
     }
 
-    /// Passes the string of an insertion. Returns its number.
+    /// Returns the number of the string that is expected now, and expects the one behind it.
     pub(crate) fn pass(&mut self) -> usize
         ensures { (of : List ℕ → ℕ) → AreHashed of self.old → AreHashed of self.new }
     {
@@ -88,7 +88,7 @@ impl<A: Allocator + Copy> Announced<A> {
         at
     }
 
-    /// Where the string of this number was found, or `NOWHERE`.
+    /// The place where the string of this number is likely to stand, or `NOWHERE`.
     pub(crate) fn place(&self, at: usize) -> usize {
         match self.places.get(at) {
             Some(place) => *place,
@@ -96,7 +96,7 @@ impl<A: Allocator + Copy> Announced<A> {
         }
     }
 
-    /// The hash of the string of this number, if it is that string.
+    /// The hash of these bytes, if they are the string of this number.
     pub(crate) fn hash_of(&self, at: usize, bytes: &[u8]) -> Option<u64>
         requires { (of : List ℕ → ℕ) × AreHashed of self.now }
         ensures { (of : List ℕ → ℕ) → AreHashed of self.now → IfSome result (λ hash. hash ≡ of bytes.now) }

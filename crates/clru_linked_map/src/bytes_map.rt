@@ -92,9 +92,10 @@ impl<V: Copy, S: BuildHasher, A: Allocator + Copy> BytesMap<V, S, A> {
         }
     }
 
-    /// Announces a string that will be inserted behind those that were announced before. The map stays as it is, also where another
-    /// string is inserted instead.
-    /// Cost: one hash, and a copy of the string, which is held until none waits; at most two requests for memory.
+    /// Announces a string that is to be inserted after those that were announced before. This only saves time: its insertion does not hash
+    /// it again. The map stays as it is, whatever is inserted instead. If memory is refused, the string is not announced.
+    /// Cost: one hash, and a copy of the string, which is kept until as many strings are inserted as were announced; at most two requests
+    /// for memory.
     pub fn announce(&mut self, bytes: &[u8]) -> Result<(), NoMemory>
         ensures { self.new ≡ self.old }
     {
@@ -102,9 +103,9 @@ impl<V: Copy, S: BuildHasher, A: Allocator + Copy> BytesMap<V, S, A> {
         self.announced.push(hash, bytes)
     }
 
-    /// Looks all announced strings up. No look-up waits for memory until the one before is done, as it does between insertions, so that
-    /// these find at hand what they need. The map stays as it is.
-    /// Cost: a walk along one chain for each; at most one request for memory.
+    /// Looks all announced strings up together, so that the processor reads for several at once, and their insertions find in its caches
+    /// what they need. The map stays as it is. If memory is refused, some are not looked up.
+    /// Cost: a walk along one chain for each; requests for memory only if there are more strings than at any earlier call.
     pub fn prefetch(&mut self) -> Result<(), NoMemory>
         ensures { self.new ≡ self.old }
     {
@@ -134,8 +135,8 @@ fn hash_at<V: Copy, S: BuildHasher, A: Allocator + Copy>(
     }
 }
 
-/// Puts where these strings are likely to stand into `places`, or `NOWHERE`. Each step is done for all strings before the next one, since a wrong guess of
-/// the processor would end what it reads ahead.
+/// Puts the places where these strings are likely to stand, or `NOWHERE`, into `places`. Each step is done for all strings before the next
+/// one, because the processor stops reading ahead where it guessed wrong.
 fn places_of<V: Copy, S: BuildHasher, A: Allocator + Copy>(
     table: &BytesTable<V, S, A>,
     bytes: &[u8],

@@ -185,7 +185,7 @@ impl Lines {
         }
     }
 
-    // (a line that is not held leads no vote)
+    // (without memory for it, no line leads)
     fn succeed(&mut self, line: &[u8]) {
         self.leader.clear();
         if self.leader.extend_from_slice(line).is_ok() {

@@ -20,7 +20,7 @@ pub(crate) struct LinePass<S: BuildHasher, A: Allocator + Copy> {
     latest: BytesMap<usize, S, A>,
     pass: PositionPass<OwnedKey<A>, A>,
     requests: usize,
-    // So many lines were looked up and are not taken yet.
+    // How many lines were looked up and are not taken yet.
     ahead: usize,
 }
 
@@ -55,7 +55,8 @@ impl<S: BuildHasher, A: Allocator + Copy> LinePass<S, A> {
     /// line is new.
     ///
     /// If memory is refused, or there were `usize::MAX` lines, no more can be said of the pass.
-    /// Cost: that of `BytesMap::insert`, and steps that grow as the logarithm of the number of lines.
+    /// `behind` is what was read behind the line, whose lines may be looked up already.
+    /// Cost: that of `BytesMap::insert`, and of `prefetch`, and steps that grow as the logarithm of the number of lines.
     pub(crate) fn take(
         &mut self,
         key: &OwnedKey<A>,

@@ -1,4 +1,4 @@
-//! The lines that stand behind the one that is taken are looked up many at a time, so that none waits for memory by itself.
+//! Lines that were read but not yet taken are looked up many at a time, so that none waits for memory by itself.
 ghost use Rattle.std.specs.Prelude.{◌≡◌};
 
 use clru_curve::NoMemory;
@@ -8,16 +8,17 @@ use std::alloc::Allocator;
 use std::hash::BuildHasher;
 use std::num::NonZeroUsize;
 
-/// So few lines stand in the processor's caches, where looking ahead would take longer.
+/// As long as fewer distinct lines are held, they fit the processor's caches, and a look ahead would save nothing.
 const FEW_LINES: usize = 4096;
 
-/// So many lines are looked up at a time, and no more than so many bytes hold.
+/// How many lines are looked up at a time.
 const AHEAD: usize = 128;
 
+/// Only lines that end within so many bytes are looked up, so that long ones take no more memory.
 const AHEAD_BYTES: usize = 8192;
 
-/// Looks up the first whole lines of these bytes, once those that were looked up before are inserted, of which so many were left, with the
-/// one that is inserted now. Returns how many are left. The map stays as it is.
+/// Is called after each insertion, and looks up the first whole lines of `behind` if no line is left that was looked up before. `left` is
+/// how many were left before the insertion; the result is how many are left now. The map stays as it is, also if memory is refused.
 /// Cost: for each line that of `BytesMap::announce` and `prefetch`.
 pub(crate) fn prefetch<V: Copy, S: BuildHasher, A: Allocator + Copy>(
     map: &mut BytesMap<V, S, A>,
@@ -49,7 +50,7 @@ pub(crate) fn prefetch<V: Copy, S: BuildHasher, A: Allocator + Copy>(
     Ok(count)
 }
 
-/// What stands behind a line, if a sample keeps all lines of it.
+/// The bytes whose lines may be looked up: those behind a line, or none if a sample leaves lines out.
 pub(crate) fn next_kept(one_in: NonZeroUsize, behind: &[u8]) -> &[u8] {
     if one_in.get() == 1 { behind } else { &[] }
 }

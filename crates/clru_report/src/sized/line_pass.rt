@@ -21,7 +21,7 @@ pub(super) struct SizedLinePass<S: BuildHasher, A: Allocator + Copy> {
     latest: BytesMap<usize, S, A>,
     pass: SizedPositionPass<OwnedKey<A>, A>,
     requests: usize,
-    // So many lines were looked up and are not taken yet.
+    // How many lines were looked up and are not taken yet.
     ahead: usize,
 }
 
@@ -56,7 +56,8 @@ impl<S: BuildHasher, A: Allocator + Copy> SizedLinePass<S, A> {
     /// `None` if the line is new.
     ///
     /// If memory is refused, there were `usize::MAX` lines, or their sizes exceed `usize::MAX` together, no more can be said of the pass.
-    /// Cost: that of `BytesMap::insert`, and steps that grow as the logarithm of the number of lines.
+    /// `behind` is what was read behind the line, whose lines may be looked up already.
+    /// Cost: that of `BytesMap::insert`, and of `prefetch`, and steps that grow as the logarithm of the number of lines.
     pub(super) fn take(
         &mut self,
         key: &OwnedKey<A>,
