@@ -2,6 +2,7 @@
 ghost use Rattle.std.specs.Prelude.{◌≡◌, ℕ, List, IfSome};
 ghost use Rattle.clru_linked_map.specs.Announced.{AreHashed};
 
+use crate::equal_bytes::are_equal;
 use clru_list::{NOWHERE, NoMemory};
 use std::alloc::Allocator;
 
@@ -14,26 +15,13 @@ pub(crate) struct Hashed {
 }
 
 /// The announced strings, in their order. No clause speaks of the places, so the map compares the string at a place before it uses it.
+#[derive(Drop)]
 pub(crate) struct Announced<A: Allocator + Copy> {
     pub(crate) bytes: Vec<u8, A>,
     pub(crate) strings: Vec<Hashed, A>,
     pub(crate) places: Vec<usize, A>,
     // The number of the string that is expected next.
     next: usize,
-}
-
-impl<A: Allocator + Copy> Drop for Announced<A> {
-    fn drop(self) {
-        let Announced {
-            bytes,
-            strings,
-            places,
-            next: _,
-        } = self;
-        drop(bytes);
-        drop(strings);
-        drop(places);
-    }
 }
 
 impl<A: Allocator + Copy> Announced<A> {
@@ -105,7 +93,7 @@ impl<A: Allocator + Copy> Announced<A> {
             return None;
         }
         let string = self.strings[at];
-        if bytes == &self.bytes[string.start..string.end] {
+        if are_equal(bytes, &self.bytes[string.start..string.end]) {
             Some(string.hash)
         } else {
             None

@@ -17,7 +17,8 @@ use std::marker::Model;
 /// the entries, the latest inserted first.
 ///
 /// Takes memory for the bytes in one buffer, and for each string 8 bytes, its value, two buckets and a link of 4 bytes each, or of 8
-/// past 2^30 strings. Each of these doubles when it is full.
+/// past 2^30 strings. Each of these doubles when it is full. Announced strings take their bytes and 24 more each, and 8 once they are
+/// looked up.
 pub struct BytesMap<V: Copy, S: BuildHasher, A: Allocator + Copy> {
     table: BytesTable<V, S, A>,
     announced: Announced<A>,
@@ -68,8 +69,8 @@ impl<V: Copy, S: BuildHasher, A: Allocator + Copy> BytesMap<V, S, A> {
     }
 
     /// Gives the string a value, and returns the one that it had. If memory is refused, the map is unchanged. A string that is held
-    /// asks for none. Past 2^61 strings memory counts as refused.
-    /// Cost: one hash and a walk along one chain. For a new string also a copy of it, and at most three requests for memory: for the
+    /// asks for none.
+    /// Cost: at most one hash and a walk along one chain. For a new string also a copy of it, and at most three requests for memory: for the
     /// bytes, for the items, and for an index, into which all strings are hashed again.
     pub fn insert(&mut self, bytes: &[u8], value: V) -> Result<Option<V>, NoMemory>
         ensures before { IfOk result (λ v. v ≡ lookup (bytes_eq bytes.now) self.old) }
@@ -94,8 +95,8 @@ impl<V: Copy, S: BuildHasher, A: Allocator + Copy> BytesMap<V, S, A> {
 
     /// Announces a string that is to be inserted after those that were announced before. This only saves time: its insertion does not hash
     /// it again. The map stays as it is, whatever is inserted instead. If memory is refused, the string is not announced.
-    /// Cost: one hash, and a copy of the string, which is kept until as many strings are inserted as were announced; at most two requests
-    /// for memory.
+    /// Cost: one hash, and a copy of the string, which is dropped by the first announcement after as many strings were inserted as were
+    /// announced; at most two requests for memory.
     pub fn announce(&mut self, bytes: &[u8]) -> Result<(), NoMemory>
         ensures { self.new ≡ self.old }
     {
@@ -104,7 +105,7 @@ impl<V: Copy, S: BuildHasher, A: Allocator + Copy> BytesMap<V, S, A> {
     }
 
     /// Looks all announced strings up together, so that the processor reads for several at once, and their insertions find in its caches
-    /// what they need. The map stays as it is. If memory is refused, some are not looked up.
+    /// what they need. The map stays as it is. If memory is refused, none is looked up.
     /// Cost: a walk along one chain for each; requests for memory only if there are more strings than at any earlier call.
     pub fn prefetch(&mut self) -> Result<(), NoMemory>
         ensures { self.new ≡ self.old }

@@ -10,6 +10,7 @@ ghost use Rattle.clru_linked_map.specs.Buckets.{HasLink, KeepsSizes};
 ghost use Rattle.clru_linked_map.specs.BytesTable.{Fills, IsFoundAt, IsTable, KeepsStrings, bytes_hash_of, entries_of, hashes_of, start_from, string_at};
 ghost use Rattle.clru_linked_map.specs.Stacked.{IsStacked};
 
+use crate::equal_bytes::are_equal;
 use crate::hash_index::HashIndex;
 use clru_list::{NARROW, NOWHERE, NoMemory};
 use std::alloc::Allocator;
@@ -128,7 +129,7 @@ impl<V: Copy, S: BuildHasher, A: Allocator + Copy> BytesTable<V, S, A> {
         self.index.first(self.index.bucket_of(hash))
     }
 
-    /// The first place with the tag of a hash in the chain that begins with a number. It looks at no string.
+    /// The first place with the tag of a hash in the chain that begins with a number, or the last one if none has it. It looks at no string.
     #[inline(always)]
     pub(crate) fn likely(&self, number: usize, hash: u64) -> usize
         requires { vec_len self.now.held ≤ length self.now.index.links }
@@ -146,7 +147,7 @@ impl<V: Copy, S: BuildHasher, A: Allocator + Copy> BytesTable<V, S, A> {
         self.index.place(number)
     }
 
-    /// Returns whether a string at a place, which may be none, begins with the same byte.
+    /// Returns whether a string at a place, which may be none, begins with the same byte. Of an empty string there the next one's byte counts.
     #[inline(always)]
     pub(crate) fn begins_alike(&self, place: usize, bytes: &[u8]) -> bool {
         if place >= self.held.len() || bytes.is_empty() {
@@ -163,7 +164,7 @@ impl<V: Copy, S: BuildHasher, A: Allocator + Copy> BytesTable<V, S, A> {
         ensures found { result ≡ true → IsFoundAt (bytes_eq bytes.now) place (entries_of self.now) }
         ensures place { result ≡ true → place < vec_len self.now.held }
     {
-        place < self.held.len() && bytes == self.bytes_at(place)
+        place < self.held.len() && are_equal(bytes, self.bytes_at(place))
     }
 
     /// Returns whether a number names another place than that of the string, whose hash is given.
@@ -186,7 +187,7 @@ impl<V: Copy, S: BuildHasher, A: Allocator + Copy> BytesTable<V, S, A> {
         if place == NOWHERE {
             return true;
         }
-        bytes != self.bytes_at(place)
+        !are_equal(bytes, self.bytes_at(place))
     }
 
     /// Gives the string at a place another value, and returns the one that it had.

@@ -12,6 +12,7 @@
 mod announced;
 mod bytes_map;
 mod bytes_table;
+mod equal_bytes;
 mod hash_index;
 mod indexed_list;
 mod map;

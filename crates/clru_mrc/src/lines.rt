@@ -4,7 +4,7 @@ use crate::several::SizesOfKeys;
 use clru_text::{Options, Sample, Seed, next_line, size_of, time_of};
 use std::alloc::AllocError;
 
-/// So many bytes of a line are kept. One that is longer counts as one that is like no other.
+/// How many bytes of a line are kept. One that is longer counts as one that is like no other.
 const MOST: usize = 4096;
 
 /// Fewer lines than this are no log, and what looks odd with them is not told.
@@ -16,7 +16,7 @@ pub(crate) struct Lines {
     pub(crate) count: u64,
     pub(crate) empty: u64,
     pub(crate) returns: u64,
-    // So many of them come first, and are not counted in the report.
+    // How many of them come first, and are not counted in the report.
     after: u64,
     // The sizes of the counted lines together, where each is to begin with one.
     pub(crate) size: u64,
@@ -188,6 +188,7 @@ impl Lines {
     // (without memory for it, no line leads)
     fn succeed(&mut self, line: &[u8]) {
         self.leader.clear();
+        self.seen = 0;
         if self.leader.extend_from_slice(line).is_ok() {
             self.votes = 1;
             self.seen = 1;
@@ -233,7 +234,7 @@ impl Lines {
     }
 }
 
-/// So many bytes of a line are shown.
+/// How many bytes of a line are shown.
 pub(crate) const SHOWN: usize = 60;
 
 /// The beginning of a line in quotes, with whatever is no plain letter escaped.

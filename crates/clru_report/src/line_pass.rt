@@ -54,8 +54,9 @@ impl<S: BuildHasher, A: Allocator + Copy> LinePass<S, A> {
     /// Takes one more line, and returns the position of its latest request: how many lines came before that one. Returns `None` if the
     /// line is new.
     ///
+    /// `behind` is what was read behind the line; its lines may be looked up ahead.
+    ///
     /// If memory is refused, or there were `usize::MAX` lines, no more can be said of the pass.
-    /// `behind` is what was read behind the line, whose lines may be looked up already.
     /// Cost: that of `BytesMap::insert`, and of `prefetch`, and steps that grow as the logarithm of the number of lines.
     pub(crate) fn take(
         &mut self,

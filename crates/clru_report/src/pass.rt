@@ -11,7 +11,7 @@ ghost use Rattle.clru_report.specs.LinePasses.{HasTakenFor};
 ghost use Rattle.clru_report.specs.Passes.{HasFloorPass, HasForesight, IsCurveOfKept, IsFloorFor, IsForeseenFor};
 
 use crate::line_pass::LinePass;
-use crate::prefetch::next_kept;
+use crate::prefetch::lines_ahead;
 use clru_curve::MissCurve;
 use clru_least::{Floor, FloorPass, ForesightPass};
 use clru_text::{LineBuffer, OwnedKey, ReadError, is_kept};
@@ -112,7 +112,7 @@ fn take_kept<S: BuildHasher, A: Allocator + Copy>(
     if !is_kept(&key.0, one_in) {
         return Ok(());
     }
-    let Ok(latest) = pass.take(key, next_kept(one_in, behind)) else {
+    let Ok(latest) = pass.take(key, lines_ahead(one_in, behind)) else {
         return Err(AllocError);
     };
     foresee(foresight, latest)?;

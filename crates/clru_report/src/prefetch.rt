@@ -46,11 +46,13 @@ pub(crate) fn prefetch<V: Copy, S: BuildHasher, A: Allocator + Copy>(
         behind = rest;
         count += 1;
     }
-    map.prefetch()?;
+    if count > 0 {
+        map.prefetch()?;
+    }
     Ok(count)
 }
 
 /// The bytes whose lines may be looked up: those behind a line, or none if a sample leaves lines out.
-pub(crate) fn next_kept(one_in: NonZeroUsize, behind: &[u8]) -> &[u8] {
+pub(crate) fn lines_ahead(one_in: NonZeroUsize, behind: &[u8]) -> &[u8] {
     if one_in.get() == 1 { behind } else { &[] }
 }

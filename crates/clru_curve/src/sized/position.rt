@@ -199,7 +199,7 @@ impl<K: Eq, A: Allocator + Copy> SizedPositionPass<K, A> {
 
     /// Returns the curve of the requests so far, and lets the pass go on.
     /// Cost: a sort of the spans, and a step for each size; one request for memory, of two numbers for each hit that is possible, and
-    /// none without requests.
+    /// none without hits.
     pub fn curve(&self, alloc: A) -> Result<SizedCurve<A>, NoMemory>
         ensures curve { (w : K → ℕ) (idle : ℕ) (past : List (K × ℕ)) → IsSizedPositionPass K.eq w idle past self.now
             → IfOk result (λ c. IsSizedIdleCurveOf K.eq w idle (reverse past) c) }

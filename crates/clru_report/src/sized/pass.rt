@@ -15,7 +15,7 @@ ghost use Rattle.clru_report.specs.Sizes.{size_of_lines};
 use super::floors::{Floors, floors_of};
 use super::line_pass::SizedLinePass;
 use crate::pass::note_reuse;
-use crate::prefetch::next_kept;
+use crate::prefetch::lines_ahead;
 use clru_curve::SizedCurve;
 use clru_least::FloorPass;
 use clru_text::{Fault, LineBuffer, OwnedKey, is_kept, read_fault, size_of};
@@ -161,7 +161,7 @@ fn take_kept<S: BuildHasher, A: Allocator + Copy>(
     if !is_kept(&key.0, one_in) {
         return Ok(());
     }
-    let Ok(latest) = pass.take(key, weight, next_kept(one_in, behind)) else {
+    let Ok(latest) = pass.take(key, weight, lines_ahead(one_in, behind)) else {
         return Err(AllocError);
     };
     note_reuse(reuses, latest, weight)

@@ -21,18 +21,24 @@ pub(super) fn draw_line<W: Write, A: Allocator>(
     let mut across = LEFT;
     let mut height = down(line.start, line.whole);
     write!(text, "<path class=\"{class}\" d=\"M{across} {height}")?;
+    let mut next = match line.steps.first() {
+        Some((capacity, _)) => scale.across(*capacity),
+        None => RIGHT,
+    };
     for (index, (capacity, part)) in line.steps.iter().enumerate() {
-        if !scale.has(*capacity) {
-            continue;
-        }
-        let here = scale.across(*capacity);
-        let next_height = down(*part, line.whole);
+        let here = next;
         let hidden = match line.steps.get(index.saturating_add(1)) {
-            Some((next, _)) => scale.across(*next)
-                < here.saturating_add(1).max(across.saturating_add(NEAR)),
+            Some((capacity, _)) => {
+                next = scale.across(*capacity);
+                next < here.saturating_add(1).max(across.saturating_add(NEAR))
+            }
             None => false,
         };
-        if next_height != height && !hidden {
+        if hidden || !scale.has(*capacity) {
+            continue;
+        }
+        let next_height = down(*part, line.whole);
+        if next_height != height {
             write!(text, "H{here}V{next_height}")?;
             across = here;
             height = next_height;

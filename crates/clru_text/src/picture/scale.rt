@@ -14,15 +14,22 @@ pub(super) const BOTTOM: u128 = TOP + HEIGHT;
 
 /// From the top edge of the picture to a part of a whole.
 pub(super) fn down(part: usize, whole: usize) -> u128 {
-    let whole = whole.max(1) as u128;
-    BOTTOM - (HEIGHT * part as u128 / whole).min(HEIGHT)
+    let whole = whole.max(1);
+    let length = match part.checked_mul(HEIGHT as usize) {
+        Some(product) => (product / whole) as u128,
+        None => HEIGHT * part as u128 / whole as u128,
+    };
+    BOTTOM - length.min(HEIGHT)
 }
 
-/// The axis of capacities, by their logarithm.
+/// The axis of capacities, by their logarithm. A curve by size has a step for each hit, so numbers of 64 bits are used.
 #[derive(Clone, Copy, Debug)]
 pub(super) struct Scale {
     pub(super) first: usize,
     pub(super) last: usize,
+    // The logarithm of the first capacity, and by how much that of the last one is greater.
+    begin: u64,
+    length: u64,
 }
 
 impl Scale {
@@ -34,7 +41,14 @@ impl Scale {
         } else {
             first.saturating_mul(2)
         };
-        Scale { first, last }
+        let begin = logarithm(first);
+        let length = logarithm(last).saturating_sub(begin);
+        Scale {
+            first,
+            last,
+            begin,
+            length,
+        }
     }
 
     /// Whether it shows a capacity.
@@ -47,7 +61,7 @@ impl Scale {
         if capacity >= self.last {
             return RIGHT;
         }
-        let length = logarithm(capacity).saturating_sub(logarithm(self.first));
+        let length = logarithm(capacity).saturating_sub(self.begin);
         LEFT + self.scaled(length).min(WIDTH)
     }
 
@@ -57,21 +71,21 @@ impl Scale {
     }
 
     // So many parts of an octave, also beyond the end of the axis.
-    fn scaled(&self, length: u128) -> u128 {
-        let whole = logarithm(self.last).saturating_sub(logarithm(self.first));
-        WIDTH.saturating_mul(length) / whole.max(1)
+    fn scaled(&self, length: u64) -> u128 {
+        ((WIDTH as u64).saturating_mul(length) / self.length.max(1)) as u128
     }
 }
 
 // An octave, which is a doubling.
-const OCTAVE: u128 = 4_294_967_296;
+const OCTAVE: u64 = 4_294_967_296;
 
 // The binary logarithm, in parts of an octave, from 0 at 1. Within an octave it is `x + 0.344 x (1 - x)`, which is
 // right to a hundredth of it.
-fn logarithm(number: usize) -> u128 {
-    let number = number.max(1);
+fn logarithm(number: usize) -> u64 {
+    let number = number.max(1) as u64;
     let octaves = number.ilog2();
-    let part = ((number as u128 * OCTAVE) >> octaves) % OCTAVE;
+    // (the 32 bits behind the first one)
+    let part = (((number << (63 - octaves)) << 1) >> 32) % OCTAVE;
     let bend = part.saturating_mul(OCTAVE - part) / OCTAVE * 344 / 1000;
-    octaves as u128 * OCTAVE + part + bend
+    octaves as u64 * OCTAVE + part + bend
 }
