@@ -135,12 +135,23 @@ const other = Buffer.concat([short, Buffer.from("\nf\n")]);
 const [, one] = instance.ask([], short, MIB, MIB), [, two] = instance.ask([], other, MIB, MIB);
 same("another log", [Number(one !== two), ""], [1, ""]);
 // What the page's worker cuts: lines of 17 bytes, which fill the megabyte that it holds back but for 16.
-const Cutter = runInNewContext(`${readFileSync(new URL("worker.js", import.meta.url), "utf8")}\nCutter`);
+const [Cutter, Passer] = runInNewContext(`${readFileSync(new URL("worker.js", import.meta.url), "utf8")}\n[Cutter, Passer]`);
 const cutLines = [];
 const cutter = new Cutter({ split: "blanks", keys: [3, 1], size: 2, time: 0, answers: [], method: 0, status: 0 }, (bytes) => cutLines.push(Buffer.from(bytes)));
 const columns = Array.from({ length: 70000 }, (_, line) => [1000 + line % 9000, 2000 + line % 7000, 100000 + line]);
 cutter.take(Buffer.from(columns.map((words) => words.join(" ") + "\n").join("")));
 cutter.end();
 same("cut lines", [0, Buffer.concat(cutLines).toString("latin1")], [0, columns.map(([a, b, c]) => `${b} ${c} ${a}\n`).join("")]);
+// What it counts of lines that it passes on, in pieces of any length, beside a regular expression for each count.
+const draw = drawn(11), odd = Buffer.from(Array.from({ length: 20000 }, () => [0, 10, 10, 13, 31, 32, 65, 127, 128, 160, 255][draw(11)]));
+const passer = new Passer(() => {});
+for (let at = 0; at < odd.length;) {
+    const end = at + draw(9);
+    passer.take(new Uint8Array(odd.buffer, odd.byteOffset + at, Math.min(end, odd.length) - at));
+    at = end;
+}
+const counted = (form) => (odd.toString("latin1").match(form) ?? []).length;
+const wanted = { lines: counted(/\n/g), empty: counted(/(?<=^|\n)\n/g), returns: counted(/\r\n/g), zeros: counted(/\0/g) };
+same("odd lines", [0, JSON.stringify(passer.odd)], [0, JSON.stringify(wanted)]);
 console.log(`${passed} passed, ${failed} failed`);
 process.exit(failed ? 1 : 0);
