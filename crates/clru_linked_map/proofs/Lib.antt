@@ -3,7 +3,6 @@ pub mod ChainWalks
 pub mod Chaining
 pub mod Chains
 pub mod Cuts
-pub mod EqualBytes
 pub mod BucketLists
 pub mod BytesMaps
 pub mod Hints

@@ -2,7 +2,6 @@
 ghost use Rattle.std.specs.Prelude.{◌≡◌, ℕ, List, IfSome};
 ghost use Rattle.clru_linked_map.specs.Announced.{AreHashed};
 
-use crate::equal_bytes::are_equal;
 use clru_list::{NOWHERE, NoMemory};
 use std::alloc::Allocator;
 
@@ -93,7 +92,7 @@ impl<A: Allocator + Copy> Announced<A> {
             return None;
         }
         let string = self.strings[at];
-        if are_equal(bytes, &self.bytes[string.start..string.end]) {
+        if bytes == &self.bytes[string.start..string.end] {
             Some(string.hash)
         } else {
             None

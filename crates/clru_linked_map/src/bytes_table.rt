@@ -10,7 +10,6 @@ ghost use Rattle.clru_linked_map.specs.Buckets.{HasLink, KeepsSizes};
 ghost use Rattle.clru_linked_map.specs.BytesTable.{Fills, IsFoundAt, IsTable, KeepsStrings, bytes_hash_of, entries_of, hashes_of, start_from, string_at};
 ghost use Rattle.clru_linked_map.specs.Stacked.{IsStacked};
 
-use crate::equal_bytes::are_equal;
 use crate::hash_index::HashIndex;
 use clru_list::{NARROW, NOWHERE, NoMemory};
 use std::alloc::Allocator;
@@ -164,7 +163,7 @@ impl<V: Copy, S: BuildHasher, A: Allocator + Copy> BytesTable<V, S, A> {
         ensures found { result ≡ true → IsFoundAt (bytes_eq bytes.now) place (entries_of self.now) }
         ensures place { result ≡ true → place < vec_len self.now.held }
     {
-        place < self.held.len() && are_equal(bytes, self.bytes_at(place))
+        place < self.held.len() && bytes == self.bytes_at(place)
     }
 
     /// Returns whether a number names another place than that of the string, whose hash is given.
@@ -187,7 +186,7 @@ impl<V: Copy, S: BuildHasher, A: Allocator + Copy> BytesTable<V, S, A> {
         if place == NOWHERE {
             return true;
         }
-        !are_equal(bytes, self.bytes_at(place))
+        bytes != self.bytes_at(place)
     }
 
     /// Gives the string at a place another value, and returns the one that it had.

@@ -12,7 +12,6 @@
 mod announced;
 mod bytes_map;
 mod bytes_table;
-mod equal_bytes;
 mod hash_index;
 mod indexed_list;
 mod map;

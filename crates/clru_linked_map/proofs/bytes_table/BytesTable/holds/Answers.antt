@@ -7,4 +7,4 @@ pub returns-then-place-len-clause-found : goal.returns-then-place-len-clause-fou
 returns-then-place-len-clause-found g c = λ same.
     let t = c.args.self.now in
     found_apart t.buffer.items t.held.items c.args.place c.args.bytes.now (omega (arith, t.held.ok.0, c.len.ensures, c.if-place-len.true))
-    (ap (bytes_eq c.args.bytes.now) (sym c.bytes_at.ensures) ∙ sym c.are_equal.ensures ∙ same) c.requires.apart
+    (ap (bytes_eq c.args.bytes.now) (sym c.bytes_at.ensures) ∙ sym c.eq.ensures ∙ same) c.requires.apart
