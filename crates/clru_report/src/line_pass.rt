@@ -16,25 +16,13 @@ use std::hash::BuildHasher;
 
 /// A pass over lines as keys. One table has the bytes of each distinct line and the position of its latest request, so a line costs
 /// one look-up, and a new line has no allocation of its own.
+#[derive(Drop)]
 pub(crate) struct LinePass<S: BuildHasher, A: Allocator + Copy> {
     latest: BytesMap<usize, S, A>,
     pass: PositionPass<OwnedKey<A>, A>,
     requests: usize,
     // How many lines were looked up and are not taken yet.
     ahead: usize,
-}
-
-impl<S: BuildHasher + Drop, A: Allocator + Copy> Drop for LinePass<S, A> {
-    fn drop(self) {
-        let LinePass {
-            latest,
-            pass,
-            requests: _,
-            ahead: _,
-        } = self;
-        drop(latest);
-        drop(pass);
-    }
 }
 
 impl<S: BuildHasher, A: Allocator + Copy> LinePass<S, A> {

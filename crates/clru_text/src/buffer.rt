@@ -62,7 +62,8 @@ impl<A: Allocator> LineBuffer<A> {
     ///
     /// Returns `Reading` if a read failed, and `Memory` if memory for buffer or line was refused, or more bytes were read than
     /// the greatest `usize`. No clause says what is left after an error: the rest of that line may be returned as one.
-    /// Cost: each byte is looked at once and copied once; a request for memory if the line is longer than all before it.
+    /// Cost: each byte is looked at once and copied once; requests for memory only for the buffer, at the first read, and if the line is
+    /// longer than all before it.
     pub fn read_line<R: Read>(
         &mut self,
         reader: &mut R,
@@ -99,6 +100,7 @@ impl<A: Allocator> LineBuffer<A> {
     }
 
     /// Returns how many bytes were read.
+    /// Cost: none.
     pub fn bytes_read(&self) -> usize
         ensures { result ≡ self.now.read }
     {

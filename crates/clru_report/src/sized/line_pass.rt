@@ -17,25 +17,13 @@ use std::hash::BuildHasher;
 
 /// A pass over lines as objects with sizes. One table has the bytes of each distinct line and the position of its latest request, so a
 /// line costs one look-up, and a new line has no allocation of its own.
+#[derive(Drop)]
 pub(super) struct SizedLinePass<S: BuildHasher, A: Allocator + Copy> {
     latest: BytesMap<usize, S, A>,
     pass: SizedPositionPass<OwnedKey<A>, A>,
     requests: usize,
     // How many lines were looked up and are not taken yet.
     ahead: usize,
-}
-
-impl<S: BuildHasher + Drop, A: Allocator + Copy> Drop for SizedLinePass<S, A> {
-    fn drop(self) {
-        let SizedLinePass {
-            latest,
-            pass,
-            requests: _,
-            ahead: _,
-        } = self;
-        drop(latest);
-        drop(pass);
-    }
 }
 
 impl<S: BuildHasher, A: Allocator + Copy> SizedLinePass<S, A> {
@@ -55,8 +43,9 @@ impl<S: BuildHasher, A: Allocator + Copy> SizedLinePass<S, A> {
     /// Takes one more line, of this weight, and returns the position of its latest request: how many lines came before that one. Returns
     /// `None` if the line is new.
     ///
+    /// `behind` is what was read behind the line; its lines may be looked up ahead.
+    ///
     /// If memory is refused, there were `usize::MAX` lines, or their sizes exceed `usize::MAX` together, no more can be said of the pass.
-    /// `behind` is what was read behind the line, whose lines may be looked up already.
     /// Cost: that of `BytesMap::insert`, and of `prefetch`, and steps that grow as the logarithm of the number of lines.
     pub(super) fn take(
         &mut self,
