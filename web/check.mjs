@@ -2,7 +2,7 @@
 //
 // Both get the same words and the same log; status and text have to be the same, byte for byte. The last lines ask whether the
 // comparison sees a difference, whether a small block, a small text and a second call answer as they should, and whether the page's
-// worker cuts the columns of lines. Words that begin with --split are for the module's function of that name, and its help lacks their paragraph.
+// worker cuts the columns of lines, and counts odd ones. Words that begin with --split are for the module's function of that name, and its help lacks their paragraph.
 import { spawnSync } from "node:child_process";
 import { readFileSync } from "node:fs";
 import { runInNewContext } from "node:vm";

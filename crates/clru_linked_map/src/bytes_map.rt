@@ -18,7 +18,7 @@ use std::marker::Model;
 ///
 /// Takes memory for the bytes in one buffer, and for each string 8 bytes, its value, two buckets and a link of 4 bytes each, or of 8
 /// past 2^30 strings. Each of these doubles when it is full. Announced strings take their bytes and 24 more each, and 8 once they are
-/// looked up.
+/// looked up; the map keeps that memory for later ones.
 pub struct BytesMap<V: Copy, S: BuildHasher, A: Allocator + Copy> {
     table: BytesTable<V, S, A>,
     announced: Announced<A>,

@@ -146,7 +146,7 @@ impl<V: Copy, S: BuildHasher, A: Allocator + Copy> BytesTable<V, S, A> {
         self.index.place(number)
     }
 
-    /// Returns whether a string at a place, which may be none, begins with the same byte. Of an empty string there the next one's byte counts.
+    /// Returns whether a string at a place, which may be none, begins with the same byte. If that string is empty, the byte after it counts.
     #[inline(always)]
     pub(crate) fn begins_alike(&self, place: usize, bytes: &[u8]) -> bool {
         if place >= self.held.len() || bytes.is_empty() {

@@ -53,7 +53,7 @@ fn inserts_thrice(heap: &Rationed<Global>) -> ([u32; 3], u64) {
     ([first, second, third], heap.requests().wrapping_sub(before))
 }
 
-/// At each fiftieth number announces the next 50 strings but one in each `but`, and looks them up. Returns how often memory was refused.
+/// At each fiftieth number announces the next 50 strings, leaves out one in each `but`, and looks them up. Returns how often memory was refused.
 fn announce_some<A: Allocator + Copy>(
     map: &mut BytesMap<u32, DefaultState, A>,
     from: u32,

@@ -22,7 +22,7 @@ pub(super) fn down(part: usize, whole: usize) -> u128 {
     BOTTOM - length.min(HEIGHT)
 }
 
-/// The axis of capacities, by their logarithm. A curve by size has a step for each hit, so numbers of 64 bits are used.
+/// The axis of capacities, by their logarithm. Computed in 64 bits, because a curve by size has a step for each hit.
 #[derive(Clone, Copy, Debug)]
 pub(super) struct Scale {
     pub(super) first: usize,
@@ -84,7 +84,7 @@ const OCTAVE: u64 = 4_294_967_296;
 fn logarithm(number: usize) -> u64 {
     let number = number.max(1) as u64;
     let octaves = number.ilog2();
-    // (the 32 bits behind the first one)
+    // (the 32 bits after the highest bit that is set)
     let part = (((number << (63 - octaves)) << 1) >> 32) % OCTAVE;
     let bend = part.saturating_mul(OCTAVE - part) / OCTAVE * 344 / 1000;
     octaves as u64 * OCTAVE + part + bend

@@ -94,8 +94,8 @@ fn each_form_hashes_a_line_as_often(rt: HostRuntime) -> Result<(), Fail> {
     Ok(())
 }
 
-// From 4,096 keys on lines are looked up ahead. An index for twice as many keys hashes all of them again. Announced strings are dropped, or
-// they would ask for more.
+// From 4,096 keys on lines are looked up ahead. An index for twice as many keys hashes all of them again. If announced
+// strings were never dropped, the report would ask for more memory; if none were looked up, for less.
 #[test]
 fn a_line_that_is_looked_up_ahead_is_hashed_once(rt: HostRuntime) -> Result<(), Fail> {
     let mut input = Vec::new(rt.alloc());
