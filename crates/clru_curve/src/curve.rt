@@ -1,8 +1,10 @@
 //! `MissCurve`: what a pass returns.
-ghost use Rattle.std.specs.Prelude.{◌≡◌, length};
+ghost use Rattle.std.specs.Prelude.{◌≡◌, [], length, IfOk, IsOk};
 ghost use Rattle.std.specs.Int.NonZero.{non_zero_usize_get};
 ghost use Rattle.clru_curve.specs.Curves.{misses_at};
 
+use crate::pass::copied;
+use clru_list::NoMemory;
 use std::alloc::{Allocator, Global};
 use std::marker::Model;
 use std::num::NonZeroUsize;
@@ -23,6 +25,17 @@ impl<A: Allocator> Model for MissCurve<A> {
 }
 
 impl<A: Allocator> MissCurve<A> {
+    /// Creates a curve from its misses at the capacities 1, 2 and so on, as `as_slice` lends them: one that was kept somewhere else.
+    /// Cost: a copy; one request for memory, and none of an empty curve.
+    pub fn from_slice(alloc: A, misses: &[usize]) -> Result<Self, NoMemory>
+        ensures curve { IfOk result (λ curve. curve ≡ misses.now) }
+        ensures never_refused { misses.now ≡ [] → IsOk result }
+    {
+        Ok(MissCurve {
+            misses: copied(alloc, misses)?,
+        })
+    }
+
     /// Returns the number of misses at any capacity. Where all keys have room, it stays the same.
     /// Cost: a read.
     pub fn misses(&self, capacity: NonZeroUsize) -> usize

@@ -5,6 +5,7 @@ mod ahead;
 mod curve;
 mod error;
 mod guide;
+mod hints;
 mod idle;
 mod list;
 mod pass;

@@ -1,10 +1,12 @@
 -- The strings in a buffer: where they stand, one more, and another value at a place.
-use Rattle.std.proofs.Common.{◌≡◌, ℕ, zero, suc, ◌+◌, ◌-◌, ◌<◌, ◌≤◌, Bool, true, false, inl, inr, None, Some, subst, List, [], ◌∷◌, ◌++◌, length, take, drop, set, slice_range, slice_index_or, refl, sym, ap, ◌∙◌, arith, append_assoc}
-use Rattle.std.proofs.lemmas.List.{drop-append-le, take-append-le, drop_at, length-append, length-drop, take_all}
+use Rattle.std.proofs.Common.{◌≡◌, ℕ, zero, suc, ◌+◌, ◌-◌, ◌<◌, ◌≤◌, Bool, true, false, inl, inr, None, Some, subst, List, [], ◌∷◌, ◌++◌, length, reverse, take, drop, set, slice_range, slice_index_or, refl, sym, ap, ◌∙◌, arith, append_assoc}
+use Rattle.std.proofs.lemmas.List.{drop-append-le, take-append-le, drop_at, length-append, length-drop, length-reverse, reverse-append, take_all}
 use Rattle.std.proofs.lemmas.Bool.{cases_Bool}
 use Rattle.std.proofs.lemmas.Option.{none-some}
 use Rattle.std.specs.Cmp.Lexicographic.{nat_list_eq_equiv}
+use Rattle.std.specs.List.{slice_get}
 use Rattle.std.specs.Map.{lookup, set_value}
+use Rattle.clru_model.proofs.Positions.{slice_get_middle}
 use Rattle.std.specs.Prelude.{bytes_eq}
 use Rattle.clru_linked_map.specs.BytesTable.{AreApart, Fills, IsFoundAt, NonePass, StandsAt, entries_onto, hashes_of, start_from, string_at}
 use Rattle.clru_linked_map.specs.declared.bytes_table.Item.{Item}
@@ -156,6 +158,19 @@ module _ {V : Type 0} where
       let same = split_once stands.later here.before (string, stands.value) (string_at bytes 0 is p, i.0.value) stands.earlier here.behind
       (sym stands.split ∙ here.split) (omega (arith, stands.place, here.place)) in
       ap (λ (e : List ℕ × V). e.0) same.1
+
+  -- from the back the entries stand at their places
+  pub entry_at : (bytes : List ℕ) (is : List (Item V)) (p : ℕ) (i : Item V) → p < length is → i ≡ slice_index_or is p i
+      → slice_get (reverse (entries_onto bytes 0 is [])) p ≡ Some (string_at bytes 0 is p, i.value)
+  entry_at bytes is p i within at =
+      let here = placed bytes 0 is p i [] within at in
+      let e : List ℕ × V = (string_at bytes 0 is p, i.value) in
+      let place : length (reverse here.behind) ≡ p = let n = here.place in length-reverse here.behind ∙ omega (arith, n) in
+      ap (λ l. slice_get (reverse l) p) here.split
+      ∙ ap (λ l. slice_get l p) (reverse-append here.before (e ∷ here.behind) ∙ ap (λ l. l ++ reverse here.before) (reverse-append (e ∷ []) here.behind)
+      ∙ append_assoc (reverse here.behind) (e ∷ []) (reverse here.before))
+      ∙ ap (λ n. slice_get (reverse here.behind ++ e ∷ reverse here.before) n) (sym place)
+      ∙ slice_get_middle (reverse here.behind) (reverse here.before) e
 
   module _ (test : List ℕ → Bool) where
     -- the first entry that passes

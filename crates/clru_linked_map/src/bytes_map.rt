@@ -1,6 +1,6 @@
 //! `BytesMap`: strings of bytes with a value each, which keeps all of them in one buffer.
-ghost use Rattle.std.specs.Prelude.{◌≡◌, [], true, length, is_some, bytes_eq, IfOk, IsOk, OnOk, OnErr};
-ghost use Rattle.std.specs.List.{All};
+ghost use Rattle.std.specs.Prelude.{◌≡◌, ◌≤◌, ℕ, List, [], true, Some, length, reverse, is_some, bytes_eq, IfNone, IfOk, IfSome, IsOk, OnOk, OnErr};
+ghost use Rattle.std.specs.List.{All, slice_get};
 ghost use Rattle.std.specs.Map.{lookup};
 ghost use Rattle.clru_linked_map.specs.Announced.{AreHashed, IsHashed};
 ghost use Rattle.clru_linked_map.specs.BytesMaps.{with_bytes};
@@ -68,6 +68,18 @@ impl<V: Copy, S: BuildHasher, A: Allocator + Copy> BytesMap<V, S, A> {
         self.table.len()
     }
 
+    /// Returns the string that was inserted when so many others were held, and its value. Returns `None` if no more are held.
+    /// Cost: none.
+    pub fn get_index(&self, index: usize) -> Option<(&[u8], V)>
+        ensures found { IfSome result (λ found. slice_get (reverse self.now) index ≡ Some (found.0.now, found.1)) }
+        ensures none { IfNone result (length self.now ≤ index) }
+    {
+        if index >= self.table.len() {
+            return None;
+        }
+        Some((self.table.bytes_at(index), self.table.value_at(index)))
+    }
+
     /// Gives the string a value, and returns the one that it had. If memory is refused, the map is unchanged. A string that is held
     /// asks for none.
     /// Cost: at most one hash and a walk along one chain. For a new string also a copy of it, and at most three requests for memory: for the
@@ -117,6 +129,19 @@ impl<V: Copy, S: BuildHasher, A: Allocator + Copy> BytesMap<V, S, A> {
             &announced.strings,
             &mut announced.places,
         )
+    }
+
+    /// Returns the value that an announced string is likely to have, by its number among those that were looked up together. Returns `None`
+    /// if it is likely to be new.
+    /// Cost: none.
+    pub fn announced_value(&self, number: usize) -> Option<V>
+        ensures { IfSome result (λ value. (place : ℕ) × (string : List ℕ) × (slice_get (reverse self.now) place ≡ Some (string, value))) }
+    {
+        let place = self.announced.place(number);
+        if place >= self.table.len() {
+            return None;
+        }
+        Some(self.table.value_at(place))
     }
 }
 

@@ -2,7 +2,8 @@
 //!
 //! Strings have places in the order in which they came, and none is taken out. So a chain of the index grows only at its front, and
 //! each link leads to an earlier place.
-ghost use Rattle.std.specs.Prelude.{◌≡◌, ℕ, ◌<◌, ◌≤◌, List, [], ◌∷◌, true, false, Bool, None, Some, length, vec_len, vec_capacity, bytes_eq, IfOk, IfSome, IfNone, OnOk, OnErr};
+ghost use Rattle.std.specs.Prelude.{◌≡◌, ℕ, ◌<◌, ◌≤◌, List, [], ◌∷◌, true, false, Bool, None, Some, length, reverse, vec_len, vec_capacity, bytes_eq, IfOk, IfSome, IfNone, OnOk, OnErr};
+ghost use Rattle.std.specs.List.{slice_get};
 ghost use Rattle.std.specs.Map.{lookup, set_value};
 ghost use Rattle.clru_list.specs.Places.{nowhere};
 ghost use Rattle.clru_linked_map.specs.BucketList.{place_named, tag_by};
@@ -91,7 +92,7 @@ impl<V: Copy, S: BuildHasher, A: Allocator + Copy> BytesTable<V, S, A> {
     }
 
     /// The string at a place.
-    fn bytes_at(&self, place: usize) -> &[u8]
+    pub(crate) fn bytes_at(&self, place: usize) -> &[u8]
         requires place { place < vec_len self.now.held }
         requires fills { Fills 0 (length self.now.buffer.items) self.now.held.items }
         ensures { result.now ≡ string_at self.now.buffer.items 0 self.now.held.items place }
@@ -99,6 +100,15 @@ impl<V: Copy, S: BuildHasher, A: Allocator + Copy> BytesTable<V, S, A> {
         let start = self.start_at(place);
         let end = self.held[place].end;
         &self.buffer[start..end]
+    }
+
+    /// The value of the string at a place.
+    pub(crate) fn value_at(&self, place: usize) -> V
+        requires place { place < vec_len self.now.held }
+        ensures { slice_get (reverse (entries_of self.now)) place
+            ≡ Some (string_at self.now.buffer.items 0 self.now.held.items place, result) }
+    {
+        self.held[place].value
     }
 
     /// Returns the place of the string, whose hash is given.

@@ -31,12 +31,14 @@ pub mod Hits
 pub mod IdleMarks
 pub mod Inclusion
 pub mod KeyedRuns
+pub mod LatestOrder
 pub mod Least
 pub mod LeastIsThere
 pub mod Lookups
 pub mod Marks
 pub mod Optimum
 pub mod Orders
+pub mod Parts
 pub mod Positions
 pub mod PutRuns
 pub mod PutSteps

@@ -9,6 +9,7 @@ pub mod Errors
 pub mod Floor
 pub mod Laws
 pub mod Least
+pub mod Parts
 pub mod Refusals
 pub mod Requests
 pub mod Runs

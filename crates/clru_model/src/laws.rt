@@ -20,6 +20,7 @@ ghost use Rattle.clru_model.specs.Spans.{HitsAreWithin, MarksAreWithin, MissedSi
 ghost use Rattle.clru_model.specs.Spans.{HitsBySizeGrow, MissesBySizeFall, MissedSizeFalls};
 ghost use Rattle.clru_model.specs.Spans.{WeightlessTotalIsDistinct, WeightlessMarksAreMarks, WeightlessMissedSizeIsMisses};
 ghost use Rattle.clru_model.specs.Spans.{WeightlessSpanIsDistance};
+ghost use Rattle.clru_model.specs.Parts.{PartsMiss};
 ghost use Rattle.clru_model.specs.SpansByPosition.{SpansAreByPosition, OneSpanForEach, TotalSumsFirst};
 ghost use Rattle.clru_model.specs.Least.{LeastIsThere, LeastIsOne, LeastFalls, RoomForAllHasDistinct, LeastIsNearFromAnyStart};
 ghost use Rattle.clru_model.specs.Least.{ReplayIsSchedule, LeastIsBelowReplay, ReplayIsNearLeast};
@@ -174,8 +175,10 @@ pub fn law_floor<K: Eq>()
 {}
 
 /// States that two parts of a list, each counted from an empty cache, have at least the misses of the whole, and at most the capacity
-/// more. The requests for some of the keys, as a sample has them, have no more misses than all requests.
+/// more. The misses of the whole follow from those of each part, and those of the first part's latest requests for its keys with the
+/// second's first ones behind them. The requests for some of the keys, as a sample has them, have no more misses than all requests.
 pub fn law_parts<K: Eq>()
+    ensures parts { PartsMiss K.eq }
     ensures cut { CutsMissMore K.eq }
     ensures cut_few { CutsMissFewMore K.eq }
     ensures some_keys { SomeKeysMissLess K.eq }

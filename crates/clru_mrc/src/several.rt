@@ -86,11 +86,32 @@ fn key_of(line: &[u8]) -> &[u8] {
     }
 }
 
-// By FNV-1a. Keys with one hash count as one, which is rare enough for what is told.
+// Keys with one hash count as one, which is rare enough for what is told.
 fn hash_of(key: &[u8]) -> u64 {
-    let mut hash: u64 = 0xcbf2_9ce4_8422_2325;
-    for byte in key {
-        hash = (hash ^ u64::from(*byte)).wrapping_mul(0x0100_0000_01b3);
+    let mut hash = 0;
+    let mut left = key;
+    'words: while let Some((word, behind)) = left.split_first_chunk::<8>() {
+        hash = mixed(hash, u64::from_le_bytes(*word));
+        left = behind;
     }
-    hash
+    // (the last eight bytes of a long key tell more than those that are left, and are one word)
+    let last = match key.last_chunk::<8>() {
+        Some(word) => u64::from_le_bytes(*word),
+        None => short_word(left),
+    };
+    mixed(mixed(hash, last), key.len() as u64)
+}
+
+fn mixed(hash: u64, word: u64) -> u64 {
+    let product = (hash ^ word).wrapping_mul(0x9e37_79b9_7f4a_7c15);
+    product ^ product >> 32
+}
+
+// Fewer than eight bytes as one word.
+fn short_word(bytes: &[u8]) -> u64 {
+    let mut word = 0;
+    for byte in bytes {
+        word = word << 8 | u64::from(*byte);
+    }
+    word
 }

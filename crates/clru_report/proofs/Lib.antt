@@ -2,13 +2,17 @@ mod AfterLemmas
 mod AgedCapacities
 mod CapacityLemmas
 mod CurveNumbers
+mod CurveReports
+mod DistinctLines
 mod FaithfulTables
 mod Falls
 mod FaultLemmas
 mod FloorViews
 mod Forms
+mod JoinedCurves
 mod KeyLines
 mod KeyNumbers
+mod LatestLines
 mod LeastBehind
 mod LeastLemmas
 mod LeastSizes

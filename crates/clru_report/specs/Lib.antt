@@ -3,12 +3,14 @@ pub mod AfterPasses
 pub mod Capacities
 pub mod Columns
 pub mod Faithful
+pub mod JoinedCurves
 pub mod KeyLogs
 pub mod Knees
 pub mod LineFaults
 pub mod LinePasses
 pub mod OneSize
 pub mod OneSizeLaws
+pub mod Parts
 pub mod Passes
 pub mod PlainRows
 pub mod RatioLaws

@@ -16,7 +16,7 @@ use Rattle.clru_report.specs.declared.sized.line_pass.SizedLinePass.{SizedLinePa
 module _ {S A H : Type 0} where
   -- the pass took these keys, the latest first, and notes where the latest request of each line was
   pub record IsSizedLinePass (past : List (OwnedKey A)) (pass : SizedLinePass S A H) : Type 0 where
-    pub noted : (key : OwnedKey A) → IsLatestOf same_line past key (lookup (bytes_eq (line_of key)) pass.latest)
+    pub noted : (line : List ℕ) → IsLatestOf bytes_eq (map line_of past) line (lookup (bytes_eq line) pass.latest)
     pub taken : IsSizedPositionPass same_line weight_of_key 0 (timeless past) pass.pass
     pub counted : pass.requests ≡ length past
 

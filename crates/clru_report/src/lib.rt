@@ -14,6 +14,7 @@ mod faithful;
 mod knees;
 mod laws;
 mod line_pass;
+mod parts;
 mod pass;
 mod picture;
 mod prefetch;
@@ -30,6 +31,7 @@ mod timed;
 
 pub use clru_model::DefaultState;
 pub use laws::{law_hit_ratios, law_one_size, law_rows};
+pub use parts::{Beginning, Part, join, part_of, report_of_curve};
 pub use program::run;
 pub use report::make_report;
 pub use std::num::NonZeroUsize;

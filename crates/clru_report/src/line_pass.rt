@@ -1,11 +1,14 @@
 //! `LinePass`, which takes lines one by one.
-ghost use Rattle.std.specs.Prelude.{◌≡◌, List, [], ◌∷◌, length, reverse, IfOk, OnOk};
+ghost use Rattle.std.specs.Prelude.{◌≡◌, ℕ, List, [], ◌∷◌, ◌++◌, Some, length, map, reverse, bytes_eq, IfOk, OnOk};
+ghost use Rattle.std.specs.List.{slice_get};
 ghost use Rattle.clru_curve.specs.Curves.{HasMissesOf};
 ghost use Rattle.clru_curve.specs.PositionPasses.{IsLatestOf};
+ghost use Rattle.clru_model.specs.Parts.{firsts, lasts};
 ghost use Rattle.clru_model.specs.Requests.{distinct};
-ghost use Rattle.clru_text.specs.Keys.{same_line};
+ghost use Rattle.clru_text.specs.Keys.{line_of, same_line};
+ghost use Rattle.clru_text.specs.Texts.{bytes_of};
 ghost use Rattle.clru_text.specs.declared.lines.OwnedKey.{OwnedKey};
-ghost use Rattle.clru_report.specs.LinePasses.{IsLinePass};
+ghost use Rattle.clru_report.specs.LinePasses.{IsInOrder, IsLinePass};
 
 use crate::prefetch::prefetch;
 use clru_curve::{MissCurve, NoMemory, PositionPass};
@@ -66,6 +69,33 @@ impl<S: BuildHasher, A: Allocator + Copy> LinePass<S, A> {
         Ok(latest)
     }
 
+    /// Returns the first request for each distinct line, in order, as lines with their newlines.
+    /// Cost: a copy of these lines; requests for memory as the text grows.
+    pub(crate) fn firsts(&self, alloc: A) -> Result<Vec<u8, A>, NoMemory>
+        ensures { (past : List (OwnedKey A)) → IsLinePass past self.now
+            → IfOk result (λ text. text.items ≡ bytes_of (firsts bytes_eq (map line_of (reverse past)))) }
+    {
+        let mut text = Vec::new(alloc);
+        for index in 0..self.latest.len() {
+            push_line(&mut text, &self.latest, index)?;
+        }
+        Ok(text)
+    }
+
+    /// Returns the latest request for each distinct line, in order, as lines with their newlines.
+    /// Cost: a sort of their positions and a copy of these lines; two numbers for each of them, and requests for memory as the text grows.
+    pub(crate) fn lasts(&self, alloc: A) -> Result<Vec<u8, A>, NoMemory>
+        ensures { (past : List (OwnedKey A)) → IsLinePass past self.now
+            → IfOk result (λ text. text.items ≡ bytes_of (lasts bytes_eq (map line_of (reverse past)))) }
+    {
+        let order = latest_order(alloc, &self.latest)?;
+        let mut text = Vec::new(alloc);
+        for line in &order {
+            push_line(&mut text, &self.latest, line.index)?;
+        }
+        Ok(text)
+    }
+
     /// Returns the curve of the lines so far, and lets the pass go on.
     /// Cost: a step for each distinct line; one request for memory, of a number for each, and none without lines.
     pub(crate) fn curve(&self, alloc: A) -> Result<MissCurve<A>, NoMemory>
@@ -93,4 +123,50 @@ impl<S: BuildHasher, A: Allocator + Copy> LinePass<S, A> {
         } = self;
         pass.into_curve()
     }
+}
+
+/// The latest position of a distinct line, and how many others came first.
+#[derive(Clone, Copy)]
+struct Latest {
+    position: usize,
+    index: usize,
+}
+
+/// The distinct lines by their latest positions.
+fn latest_order<S: BuildHasher, A: Allocator + Copy>(
+    alloc: A,
+    latest: &BytesMap<usize, S, A>,
+) -> Result<Vec<Latest, A>, NoMemory>
+    ensures { IfOk result (λ order. IsInOrder latest.now order.items) }
+{
+    let mut order = Vec::new(alloc);
+    for index in 0..latest.len() {
+        if let Some((_, position)) = latest.get_index(index) {
+            let Ok(()) = order.push(Latest { position, index }) else {
+                return Err(NoMemory);
+            };
+        }
+    }
+    order.sort_unstable_by_key(|line| line.position);
+    Ok(order)
+}
+
+/// Writes a line of the map and its newline.
+fn push_line<S: BuildHasher, A: Allocator + Copy>(
+    text: &mut Vec<u8, A>,
+    lines: &BytesMap<usize, S, A>,
+    index: usize,
+) -> Result<(), NoMemory>
+    ensures { (line : List ℕ × ℕ) → slice_get (reverse lines.now) index ≡ Some line
+        → OnOk result (text.new.items ≡ text.old.items ++ line.0 ++ 10 ∷ []) }
+{
+    if let Some((line, _)) = lines.get_index(index) {
+        let Ok(()) = text.extend_from_slice(line) else {
+            return Err(NoMemory);
+        };
+        let Ok(()) = text.push(b'\n') else {
+            return Err(NoMemory);
+        };
+    }
+    Ok(())
 }

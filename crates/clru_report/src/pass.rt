@@ -1,5 +1,5 @@
 //! The one reading of a log whose lines are keys.
-ghost use Rattle.std.specs.Prelude.{◌≡◌, ℕ, List, Bool, [], ◌∷◌, ◌++◌, map, reverse, IfOk, OnOk};
+ghost use Rattle.std.specs.Prelude.{◌≡◌, ℕ, List, Bool, [], ◌∷◌, ◌++◌, length, map, reverse, IfOk, OnOk};
 ghost use Rattle.std.specs.Int.NonZero.{non_zero_usize_get};
 ghost use Rattle.clru_curve.specs.PositionPasses.{IsLatestOf};
 ghost use Rattle.clru_text.specs.Keys.{line_of, same_line};
@@ -48,37 +48,74 @@ pub(crate) fn curve_by_keys<R: Read, S: BuildHasher + Drop, A: Allocator + Copy>
         × IsFloorFor floored (kept_of (non_zero_usize_get one_in) (lines_of input)) found.2)) }
 {
     let mut pass = LinePass::new(alloc, hash_builder);
-    let mut foresight = if least {
-        Some(ForesightPass::new(alloc))
-    } else {
-        None
-    };
-    let mut reuses = if floored {
-        Some(FloorPass::new(alloc))
-    } else {
-        None
-    };
-    let mut buffer = LineBuffer::new(alloc);
-    let mut key = OwnedKey(Vec::new(alloc));
-    let mut requests = 0;
-    'lines: while buffer.read_line(reader, &mut key.0)? {
-        let Ok(()) = take_kept(
-            one_in,
-            &mut pass,
-            &mut foresight,
-            &mut reuses,
-            &key,
-            buffer.buffer(),
-        ) else {
-            return Err(ReadError::Memory);
-        };
-        requests += 1;
-    }
+    let mut foresight = foresight_for(alloc, least);
+    let mut reuses = floor_pass_for(alloc, floored);
+    let (requests, bytes) = take_lines(
+        alloc,
+        one_in,
+        &mut pass,
+        &mut foresight,
+        &mut reuses,
+        reader,
+    )?;
     let curve = pass.into_curve();
     let Ok(floor) = floor_of(&reuses) else {
         return Err(ReadError::Memory);
     };
-    Ok((curve, foresight, floor, requests, buffer.bytes_read()))
+    Ok((curve, foresight, floor, requests, bytes))
+}
+
+// The foresight that has taken no line, if it is asked for.
+fn foresight_for<A: Allocator + Copy>(
+    alloc: A,
+    least: bool,
+) -> Option<ForesightPass<OwnedKey<A>, A>>
+    ensures { HasForesight {A = A} least [] result }
+{
+    if !least {
+        return None;
+    }
+    Some(ForesightPass::new(alloc))
+}
+
+/// The pass for a floor that has taken no line, if it is asked for.
+pub(crate) fn floor_pass_for<A: Allocator + Copy>(
+    alloc: A,
+    floored: bool,
+) -> Option<FloorPass<OwnedKey<A>, A>>
+    ensures { (w : List ℕ → ℕ) → HasFloorPass {A = A} w floored [] result }
+{
+    if !floored {
+        return None;
+    }
+    Some(FloorPass::new(alloc))
+}
+
+/// Takes the lines of a reader that a sample keeps, and returns how many lines and bytes it gives in all.
+pub(crate) fn take_lines<R: Read, S: BuildHasher, A: Allocator + Copy>(
+    alloc: A,
+    one_in: NonZeroUsize,
+    pass: &mut LinePass<S, A>,
+    foresight: &mut Option<ForesightPass<OwnedKey<A>, A>>,
+    reuses: &mut Option<FloorPass<OwnedKey<A>, A>>,
+    reader: &mut R,
+) -> Result<(usize, usize), ReadError>
+    requires { (least floored : Bool) × (before : List (List ℕ)) × HasTakenFor least floored before pass.old foresight.old reuses.old }
+    ensures { (least floored : Bool) (before : List (List ℕ)) → HasTakenFor least floored before pass.old foresight.old reuses.old
+        → IfOk result (λ found. ReadWhole (R.remaining reader.old) (R.remaining reader.new) (λ input. (found.0 ≡ length (lines_of input))
+        × (found.1 ≡ length input)
+        × HasTakenFor least floored (before ++ kept_of (non_zero_usize_get one_in) (lines_of input)) pass.new foresight.new reuses.new)) }
+{
+    let mut buffer = LineBuffer::new(alloc);
+    let mut key = OwnedKey(Vec::new(alloc));
+    let mut requests = 0;
+    'lines: while buffer.read_line(reader, &mut key.0)? {
+        let Ok(()) = take_kept(one_in, pass, foresight, reuses, &key, buffer.buffer()) else {
+            return Err(ReadError::Memory);
+        };
+        requests += 1;
+    }
+    Ok((requests, buffer.bytes_read()))
 }
 
 // The floor, if it is asked for.
@@ -104,9 +141,8 @@ fn take_kept<S: BuildHasher, A: Allocator + Copy>(
     behind: &[u8],
 ) -> Result<(), AllocError>
     requires { (least floored : Bool) × (lines : List (List ℕ)) × HasTakenFor least floored lines pass.old foresight.old reuses.old }
-    ensures { (least floored : Bool) (lines : List (List ℕ))
-        → HasTakenFor least floored (kept_of (non_zero_usize_get one_in) lines) pass.old foresight.old reuses.old → OnOk result
-        (HasTakenFor least floored (kept_of (non_zero_usize_get one_in) (lines ++ line_of key.now ∷ []))
+    ensures { (least floored : Bool) (before : List (List ℕ)) → HasTakenFor least floored before pass.old foresight.old reuses.old
+        → OnOk result (HasTakenFor least floored (before ++ kept_of (non_zero_usize_get one_in) (line_of key.now ∷ []))
         pass.new foresight.new reuses.new) }
 {
     if !is_kept(&key.0, one_in) {

@@ -1,11 +1,12 @@
 //! The text of the report, taken whole before any of it is written.
-ghost use Rattle.std.specs.Prelude.{◌≡◌, true, false, IfErr, IfOk, string_bytes};
+ghost use Rattle.std.specs.Prelude.{◌≡◌, ℕ, List, true, false, IfErr, IfOk, string_bytes};
 ghost use Rattle.std.specs.Int.NonZero.{non_zero_usize_get};
 ghost use Rattle.std.specs.Option.{option_map};
 ghost use Rattle.clru_text.specs.Choices.{is_summary};
 ghost use Rattle.clru_text.specs.Faults.{is_of_input, is_of_writing};
+ghost use Rattle.clru_text.specs.Lines.{lines_of};
 ghost use Rattle.clru_text.specs.Whole.{ReadWhole};
-ghost use Rattle.clru_report.specs.Passes.{wants_floor, wants_least};
+ghost use Rattle.clru_report.specs.Passes.{IsCurveOfKept, IsFloorFor, IsForeseenFor, wants_floor, wants_least};
 ghost use Rattle.clru_report.specs.Refusals.{IsRefused, IsRefusedPlain, IsRefusedTimed};
 ghost use Rattle.clru_report.specs.Report.{IsInForm, IsReport, IsReportBy, IsReportByKeys, IsReportByKeysFrom, IsReportTimed};
 
@@ -16,8 +17,10 @@ use crate::sample::text_of_sample;
 use crate::sized::make_sized_report;
 use crate::text::{Counts, text_by_keys};
 use crate::timed::{make_sized_timed_report, make_timed_report};
-use clru_text::{Fault, Form, Options, ReadError, Sample, Times, read_fault};
-use std::alloc::Allocator;
+use clru_curve::MissCurve;
+use clru_least::{Floor, ForesightPass};
+use clru_text::{Fault, Form, Options, OwnedKey, ReadError, Sample, Times, read_fault};
+use std::alloc::{AllocError, Allocator};
 use std::hash::BuildHasher;
 use std::io::Read;
 use std::num::NonZeroUsize;
@@ -129,42 +132,63 @@ fn report_of_all<R: Read, S: BuildHasher + Drop, A: Allocator + Copy>(
         reader,
         hash_builder,
     )?;
-    let Ok(table) = usual_table(alloc, &curve, requests) else {
-        return Err(ReadError::Memory);
-    };
-    let Ok(rows) = rows_of_all(
+    match text_of_all(
         alloc,
         options,
         &curve,
-        requests,
-        &table.capacities,
         &foresight,
         &floor,
-    ) else {
-        return Err(ReadError::Memory);
-    };
-    let counts = Counts {
-        one_in,
         requests,
-        distinct: curve.distinct(),
         bytes,
-    };
-    match text_by_keys(
-        alloc,
-        options,
-        curve.as_slice(),
-        &floor,
-        &rows,
-        &table.knees,
-        options.least,
-        counts,
     ) {
         Ok(text) => Ok(text),
         Err(_) => Err(ReadError::Memory),
     }
 }
 
-fn asks_for_least<A: Allocator>(options: &Options<A>) -> bool
+/// The report of all lines of a log from their curve, and from a foresight and a floor if it asks for them.
+pub(crate) fn text_of_all<A: Allocator + Copy>(
+    alloc: A,
+    options: &Options<A>,
+    curve: &MissCurve<A>,
+    foresight: &Option<ForesightPass<OwnedKey<A>, A>>,
+    floor: &Option<Floor<A>>,
+    requests: usize,
+    bytes: usize,
+) -> Result<String<A>, AllocError>
+    ensures { (log : List ℕ) → IsCurveOfKept 1 log curve.now requests bytes
+        → IsForeseenFor A (wants_least options.now) (lines_of log) foresight.now → IsFloorFor (wants_floor options.now) (lines_of log) floor.now
+        → IfOk result (λ text. IsInForm options.now.form options.now log (string_bytes text)) }
+{
+    let table = usual_table(alloc, curve, requests)?;
+    let rows = rows_of_all(
+        alloc,
+        options,
+        curve,
+        requests,
+        &table.capacities,
+        foresight,
+        floor,
+    )?;
+    let counts = Counts {
+        one_in: NonZeroUsize::MIN,
+        requests,
+        distinct: curve.distinct(),
+        bytes,
+    };
+    text_by_keys(
+        alloc,
+        options,
+        curve.as_slice(),
+        floor,
+        &rows,
+        &table.knees,
+        options.least,
+        counts,
+    )
+}
+
+pub(crate) fn asks_for_least<A: Allocator>(options: &Options<A>) -> bool
     ensures { result ≡ wants_least options.now }
 {
     match options.form {

@@ -9,6 +9,8 @@ pub mod ResultLemmas
 pub mod RoundNumbers
 pub mod Samples
 mod SipLemmas
+mod SizeFigures
 mod SortedSets
 pub mod TakenRequests
+pub mod Texts
 mod TimeFigures

@@ -60,7 +60,7 @@ module _ (whole decimals tail : List ℕ) (whole_all : list_all is_ascii_digit w
 
 -- digits and a blank
 module _ (whole tail : List ℕ) (all : list_all is_ascii_digit whole ≡ true) where
-  whole_blank : position (λ b. b == 32) (whole ++ 32 ∷ tail) ≡ Some (length whole)
+  pub whole_blank : position (λ b. b == 32) (whole ++ 32 ∷ tail) ≡ Some (length whole)
   whole_blank = first (λ b. b == 32) 32 refl tail whole (no_digit 32 refl whole all)
 
   no_point : position (λ b. b == 46) whole ≡ None
@@ -75,7 +75,7 @@ module _ (whole tail : List ℕ) (all : list_all is_ascii_digit whole ≡ true) 
       ∙ ap (λ o. drop (unwrap_or o 0 + 1) (whole ++ 32 ∷ tail)) whole_blank ∙ drop-append-add whole (32 ∷ tail) 1
 
 -- a list about one of its bytes
-cut : (k c : ℕ) (xs : List ℕ) → k < length xs → get_or xs k 0 ≡ c → xs ≡ take k xs ++ c ∷ drop (k + 1) xs
+pub cut : (k c : ℕ) (xs : List ℕ) → k < length xs → get_or xs k 0 ≡ c → xs ≡ take k xs ++ c ∷ drop (k + 1) xs
 cut k c xs inside is =
     let piece : drop k xs ≡ get_or xs k 0 ∷ drop (k + 1) xs = rw (add-one, drop-cons xs k 0) refl in
     sym (take-append-drop k xs) ∙ ap (λ l. take k xs ++ l) (subst (λ d. drop k xs ≡ d ∷ drop (k + 1) xs) is piece)

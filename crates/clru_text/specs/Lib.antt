@@ -16,5 +16,6 @@ pub mod Samples
 pub mod SipHasher
 pub mod Sizes
 pub mod TakenRequests
+pub mod Texts
 pub mod Times
 pub mod Whole

@@ -1,6 +1,8 @@
 //! A number in decimal digits, and a capacity.
-ghost use Rattle.std.specs.Prelude.{◌≡◌, ◌<◌, ◌≤◌, ◌^◌, length, true, false, IfSome, IfNone};
+ghost use Rattle.std.specs.Prelude.{◌≡◌, ◌<◌, ◌≤◌, ◌^◌, length, take, true, false, Some, IfSome, IfNone};
+ghost use Rattle.std.specs.Char.{is_ascii_digit};
 ghost use Rattle.std.specs.Int.NonZero.{non_zero_usize_get};
+ghost use Rattle.std.specs.List.{list_all};
 ghost use Rattle.std.specs.Str.Parse.{digits_value};
 ghost use Rattle.clru_text.specs.Lines.{digits_named, is_capacity};
 
@@ -38,4 +40,26 @@ pub fn digits_of(word: &[u8]) -> Option<u128>
         value = value * 10 + (*digit - b'0') as u128;
     }
     Some(value)
+}
+
+// Any number of one digit more fits 64 bits.
+const FEW_DIGITS: usize = 18;
+
+/// Returns the number of the digits that bytes begin with, and how many these are. It reads a few at most.
+/// Cost: a step for each of these digits.
+pub(crate) fn leading_number(bytes: &[u8]) -> (u64, usize)
+    ensures within { result.1 ≤ length bytes.now }
+    ensures few { result.1 ≤ 18 }
+    ensures digits { list_all is_ascii_digit (take result.1 bytes.now) ≡ true }
+    ensures named { 0 < result.1 → digits_named (take result.1 bytes.now) ≡ Some result.0 }
+    ensures below { result.0 < 10 ^ 18 }
+{
+    let mut value = 0u64;
+    for (at, byte) in bytes.iter().enumerate() {
+        if at == FEW_DIGITS || !byte.is_ascii_digit() {
+            return (value, at);
+        }
+        value = value * 10 + (*byte - b'0') as u64;
+    }
+    (value, bytes.len())
 }

@@ -4,11 +4,32 @@ ghost use Rattle.std.specs.Int.NonZero.{non_zero_usize_get};
 ghost use Rattle.std.specs.List.{list_all};
 ghost use Rattle.clru_text.specs.Sizes.{is_zero, size_in, size_of_line, tail_of_line};
 
-use crate::capacity::capacity_of;
+use crate::capacity::{capacity_of, leading_number};
 use std::num::NonZeroUsize;
 
 /// Returns the size before the first blank of a line, in 1 to 20 digits, or `None` if there is none. A size of 0 counts as 1.
 pub fn size_of(line: &[u8]) -> Option<NonZeroUsize>
+    ensures size { IfSome result (λ size. size_of_line line.now ≡ Some (non_zero_usize_get size)) }
+    ensures none { IfNone result (size_of_line line.now ≡ None) }
+{
+    match short_size(line) {
+        Some(size) => Some(size),
+        None => any_size(line),
+    }
+}
+
+// In one reading, if the size has few digits and is not 0; else `None`.
+fn short_size(line: &[u8]) -> Option<NonZeroUsize>
+    ensures { IfSome result (λ size. size_of_line line.now ≡ Some (non_zero_usize_get size)) }
+{
+    let (size, at) = leading_number(line);
+    if at == 0 || size == 0 || at >= line.len() || line[at] != b' ' {
+        return None;
+    }
+    NonZeroUsize::new(size as usize)
+}
+
+fn any_size(line: &[u8]) -> Option<NonZeroUsize>
     ensures size { IfSome result (λ size. size_of_line line.now ≡ Some (non_zero_usize_get size)) }
     ensures none { IfNone result (size_of_line line.now ≡ None) }
 {

@@ -1,17 +1,11 @@
 //! The time that a line begins with, and how long a time a word names.
-ghost use Rattle.std.specs.Prelude.{◌≡◌, ◌<◌, ◌≤◌, ◌^◌, ◌==◌, true, length, take, position, None, Some, IfNone, IfSome};
-ghost use Rattle.std.specs.Char.{is_ascii_digit};
-ghost use Rattle.std.specs.List.{list_all};
-ghost use Rattle.clru_text.specs.Lines.{digits_named};
+ghost use Rattle.std.specs.Prelude.{◌≡◌, ◌<◌, ◌≤◌, ◌^◌, ◌==◌, length, position, None, Some, IfNone, IfSome};
 ghost use Rattle.clru_text.specs.Times.{decimal_span, decimal_time, duration_in, in_time as in_time_by, millionths_of as millionths_by, rest_of_line, span_named as span_by, time_in as time_by, time_of_line, times_span as times_span_by};
 
-use crate::capacity::digits_of;
+use crate::capacity::{digits_of, leading_number};
 use crate::numbers::{point_at, unit_at};
 
 const MILLION: u128 = 1_000_000;
-
-// Any number of one digit more fits 64 bits.
-const FEW_DIGITS: usize = 18;
 
 /// Returns the time before the first blank of a line, in millionths, or `None` if there is none: 1 to 20 digits, and if need be a
 /// point and 1 to 20 more, of which six count. A time that is more than the greatest `usize` is none.
@@ -62,24 +56,6 @@ fn split_short(line: &[u8]) -> Option<(usize, &[u8])>
         Some(time) => Some((time, &behind[places + 1..])),
         None => None,
     }
-}
-
-// The number of the digits that bytes begin with, and how many these are. It reads a few at most.
-fn leading_number(bytes: &[u8]) -> (u64, usize)
-    ensures within { result.1 ≤ length bytes.now }
-    ensures few { result.1 ≤ 18 }
-    ensures digits { list_all is_ascii_digit (take result.1 bytes.now) ≡ true }
-    ensures named { 0 < result.1 → digits_named (take result.1 bytes.now) ≡ Some result.0 }
-    ensures below { result.0 < 10 ^ 18 }
-{
-    let mut value = 0u64;
-    for (at, byte) in bytes.iter().enumerate() {
-        if at == FEW_DIGITS || !byte.is_ascii_digit() {
-            return (value, at);
-        }
-        value = value * 10 + (*byte - b'0') as u64;
-    }
-    (value, bytes.len())
 }
 
 fn split_any(line: &[u8]) -> Option<(usize, &[u8])>

@@ -1,18 +1,13 @@
 -- What the fault of a split says of the log, by its status.
-use Rattle.std.proofs.Common.{◌≡◌, ℕ, Bool, true, List, [], ◌++◌, append-nil, Option, Some, refl, sym, ap, ◌∙◌, subst, arith}
+use Rattle.std.proofs.Common.{◌≡◌, ℕ, Bool, true, List, Option, refl, arith}
 use Rattle.clru_shares.specs.Faults.{comes_of_a_line, split_status_of}
 use Rattle.clru_shares.specs.Refusals.{HasNoRoom, IsSaidOfLines}
 use Rattle.clru_shares.specs.declared.fault.SplitFault.{SplitFault}
 use Rattle.clru_shares.specs.declared.fault.SplitFault.TheVariants.{NoTime, NoClass, TooManyClasses, NoSize, TooLarge, NoRoom, Other}
 use Rattle.clru_text.specs.Faults.{is_of_input, status_of}
-use Rattle.clru_text.specs.Whole.{ReadWhole}
 use Rattle.clru_text.specs.declared.fault.Fault.{Fault}
 use Rattle.clru_text.specs.declared.fault.Fault.TheVariants.{BadCapacity, Memory, Reading, Writing, Closed, NoSize as NoSizeOf, TooLarge as TooLargeOf, TooSmall}
 use Rattle.clru_web.specs.Splits.{IsSaidOfSplit}
-
--- a log that was read to its end is the input
-pub of_log : (log left : List ℕ) (P : List ℕ → Type 0) → ReadWhole (Some log) (Some left) P → P log
-of_log log left P read = subst P (sym (read.1 ∙ ap (λ l. read.0 ++ l) read.2 ∙ append-nil read.0)) read.3
 
 of_input : (fault : Fault) → status_of fault ≡ 6 → is_of_input fault ≡ true
 of_input BadCapacity is = refl

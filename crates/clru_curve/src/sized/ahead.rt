@@ -50,7 +50,7 @@ fn places_in<K: Eq, A: Allocator + Copy>(
 ) -> [usize; AHEAD] {
     let mut places = [0; AHEAD];
     for at in 0..ahead.len().min(AHEAD) {
-        places[at] = pass.likely(ahead[at].latest);
+        places[at] = pass.likely(ahead[at].latest, usize::MAX);
     }
     places
 }

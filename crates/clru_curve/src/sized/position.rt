@@ -17,6 +17,7 @@ ghost use Rattle.clru_curve.specs.SizedPositionPasses.{IsSizedPositionPass};
 use crate::pass::copied;
 use crate::sized::curve::SizedCurve;
 use crate::sized::error::SizedRequestError;
+use crate::sized::hints::Hints;
 use crate::sized::idle::hit_if;
 use crate::sized::pass::greater;
 use crate::sized::sizes::Sizes;
@@ -41,6 +42,7 @@ pub struct SizedPositionPass<K: Eq, A: Allocator + Copy = Global> {
     hits: Vec<Step, A>,
     pub(crate) size: usize,
     greatest: usize,
+    hints: Hints,
     keys: PhantomData<K>,
 }
 
@@ -51,6 +53,7 @@ impl<K: Eq, A: Allocator + Copy> Drop for SizedPositionPass<K, A> {
             hits,
             size: _,
             greatest: _,
+            hints: _,
             keys: _,
         } = self;
         drop(latest);
@@ -82,6 +85,7 @@ impl<K: Eq, A: Allocator + Copy> SizedPositionPass<K, A> {
             hits: Vec::new(alloc),
             size: 0,
             greatest: 0,
+            hints: Hints::new(),
             keys: PhantomData,
         }
     }
@@ -114,16 +118,32 @@ impl<K: Eq, A: Allocator + Copy> SizedPositionPass<K, A> {
         ensures refused { OnErr result (self.new ≡ self.old) }
         ensures too_large { IsErrAnd result IsTooLarge ↔ (2 ^ 64 ≤ self.old.size + (1 + weight)) }
     {
-        let likely = self.likely(latest);
+        let hint = self.hints.pass();
+        let likely = self.likely(latest, hint);
         self.count(latest, soon, weight, likely)
     }
 
-    /// Where the size of this request is likely to stand, for `count`. Reads of several such places do not wait for one another.
-    pub(crate) fn likely(&self, latest: Option<usize>) -> usize
+    /// Announces a request that is to come behind those that were announced before it, and reads what it is likely to read, so that it
+    /// need not wait for that. `latest` is the position of the latest request of its key, or a guess. This only saves time: the pass stays
+    /// as it is, whatever comes instead. Of more than 128 that are to come, the first ones count.
+    /// Cost: a few reads.
+    pub fn announce(&mut self, latest: Option<usize>)
+        ensures { self.new ≡ self.old }
+    {
+        let place = match latest {
+            Some(position) => self.latest.read_ahead(position),
+            None => usize::MAX,
+        };
+        self.hints.push(place);
+    }
+
+    /// Where the size of this request is likely to stand, for `count`: at the hint, if it stands there. Reads of several such places do not
+    /// wait for one another.
+    pub(crate) fn likely(&self, latest: Option<usize>, hint: usize) -> usize
         ensures rising { IsRising 0 self.now.sizes self.now.requests }
     {
         match latest {
-            Some(position) => self.latest.likely(position),
+            Some(position) => self.latest.likely_by(position, hint),
             None => 0,
         }
     }
@@ -192,6 +212,7 @@ impl<K: Eq, A: Allocator + Copy> SizedPositionPass<K, A> {
             hits,
             size,
             greatest,
+            hints: _,
             keys: _,
         } = self;
         SizedCurve::from_hits(hits, latest.requests, size, latest.total(), greatest)

@@ -91,7 +91,38 @@ impl<A: Allocator + Copy> Sizes<A> {
     /// wait for one another.
     pub(crate) fn likely(&self, request: usize) -> usize {
         let place = self.guide.likely(request);
-        if place < self.sizes.len() && self.sizes[place].number == request {
+        if self.is_at(request, place) {
+            place
+        } else {
+            usize::MAX
+        }
+    }
+
+    /// The same. The place may be the hint.
+    pub(crate) fn likely_by(&self, request: usize, hint: usize) -> usize {
+        if self.is_at(request, hint) {
+            hint
+        } else {
+            self.likely(request)
+        }
+    }
+
+    fn is_at(&self, request: usize, place: usize) -> bool {
+        place < self.sizes.len() && self.sizes[place].number == request
+    }
+
+    /// The place where the size of a request is, or `usize::MAX` if it is not known or in the last block. It reads both ends of the block
+    /// too, since `remove` sums it up.
+    pub(crate) fn read_ahead(&self, request: usize) -> usize {
+        let place = self.guide.likely(request);
+        if !self.is_at(request, place) {
+            return usize::MAX;
+        }
+        let first = place / BLOCK * BLOCK;
+        let (Some(start), Some(end)) = (self.sizes.get(first), self.sizes.get(first | (BLOCK - 1))) else {
+            return usize::MAX;
+        };
+        if start.number <= request && request <= end.number {
             place
         } else {
             usize::MAX

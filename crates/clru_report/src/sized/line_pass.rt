@@ -62,11 +62,14 @@ impl<S: BuildHasher, A: Allocator + Copy> SizedLinePass<S, A> {
             return Err(NoMemory);
         };
         let latest = self.latest.insert(&key.0, self.requests)?;
-        self.ahead = prefetch(&mut self.latest, self.ahead, behind)?;
+        let left = self.ahead;
+        self.ahead = prefetch(&mut self.latest, left, behind)?;
         // (without times each reuse comes soon enough)
         let Ok(_) = self.pass.request(latest, latest.is_some(), weight) else {
             return Err(NoMemory);
         };
+        let fresh = if left <= 1 { self.ahead } else { 0 };
+        announce(&mut self.pass, &self.latest, fresh);
         self.requests = requests;
         Ok(latest)
     }
@@ -95,5 +98,18 @@ impl<S: BuildHasher, A: Allocator + Copy> SizedLinePass<S, A> {
         } = self;
         drop(latest);
         pass.into_curve()
+    }
+}
+
+/// Announces so many lines that were looked up together to the pass, which reads their sizes ahead.
+fn announce<S: BuildHasher, A: Allocator + Copy>(
+    pass: &mut SizedPositionPass<OwnedKey<A>, A>,
+    lines: &BytesMap<usize, S, A>,
+    count: usize,
+)
+    ensures { pass.new ≡ pass.old }
+{
+    for number in 0..count {
+        pass.announce(lines.announced_value(number));
     }
 }

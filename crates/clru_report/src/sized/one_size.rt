@@ -15,8 +15,9 @@ use super::floors::{Floors, floors_of};
 use super::key_log::{KeyLog, read_log};
 use super::line_pass::SizedLinePass;
 use super::pass::{count_and_take, curve_by_size};
+use crate::pass::floor_pass_for;
 use clru_curve::SizedCurve;
-use clru_least::FloorPass;
+
 use clru_text::{Fault, OwnedKey};
 use std::alloc::{AllocError, Allocator};
 use std::fmt::Write;
@@ -87,11 +88,7 @@ fn curve_of_log<S: BuildHasher + Drop, A: Allocator + Copy>(
     ensures fault { IfErr result (λ fault. is_of_writing fault ≡ false) }
 {
     let mut pass = SizedLinePass::new(alloc, hash_builder);
-    let mut reuses = if floored {
-        Some(FloorPass::new(alloc))
-    } else {
-        None
-    };
+    let mut reuses = floor_pass_for(alloc, floored);
     let mut digits = String::new(alloc);
     let mut key = OwnedKey(Vec::new(alloc));
     let mut size = 0;

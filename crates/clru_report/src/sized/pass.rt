@@ -14,7 +14,7 @@ ghost use Rattle.clru_report.specs.Sizes.{size_of_lines};
 
 use super::floors::{Floors, floors_of};
 use super::line_pass::SizedLinePass;
-use crate::pass::note_reuse;
+use crate::pass::{floor_pass_for, note_reuse};
 use crate::prefetch::lines_ahead;
 use clru_curve::SizedCurve;
 use clru_least::FloorPass;
@@ -45,11 +45,7 @@ pub(super) fn curve_by_size<R: Read, S: BuildHasher + Drop, A: Allocator + Copy>
     ensures fault { IfErr result (λ fault. is_of_writing fault ≡ false) }
 {
     let mut pass = SizedLinePass::new(alloc, hash_builder);
-    let mut reuses = if floored {
-        Some(FloorPass::new(alloc))
-    } else {
-        None
-    };
+    let mut reuses = floor_pass_for(alloc, floored);
     let mut buffer = LineBuffer::new(alloc);
     let mut key = OwnedKey(Vec::new(alloc));
     let mut requests = 0;

@@ -1,4 +1,4 @@
-use Rattle.std.proofs.Common.{refl, sym, ap, ◌∙◌, subst}
+use Rattle.std.proofs.Common.{[], ◌++◌, refl, sym, ap, ◌∙◌, subst}
 use Rattle.std.specs.Int.NonZero.{non_zero_usize_get}
 use Rattle.clru_text.specs.Keys.{line_of}
 use Rattle.clru_text.specs.Samples.{is_kept, kept_of}
@@ -21,13 +21,13 @@ note_reuse-requires g c =
     let has = c.requires.3 in (λ _. 0, c.requires.1, has.past, c.args.key.now, c.in-Ok.ensures.latest has.past has.taken, has.floored)
 
 pub returns : goal.returns
-returns g c least floored lines has =
+returns g c least floored before has =
     let key = c.args.key.now in let n = non_zero_usize_get c.args.one_in in
-    let more = kept_one n lines (line_of key) (ap (is_kept n) (sym c.deref.ensures.value) ∙ sym c.if-not-is_kept.ensures) in
+    let kept = kept_one n [] (line_of key) (ap (is_kept n) (sym c.deref.ensures.value) ∙ sym c.if-not-is_kept.ensures) in
     let next = c.take.new.self in let later = c.foresee.new.foresight in let reused = c.note_reuse.new.reuses in
     let latest = c.in-Ok.ensures.latest has.past has.taken in
     on_ok_map c.note_reuse.result
-    (λ noted. subst (λ ls. HasTakenFor least floored ls next later reused) (sym more)
-    (one_taken least floored (kept_of n lines) c.args.pass.now c.args.foresight.now c.args.reuses.now has key next later reused
+    (λ noted. subst (λ ls. HasTakenFor least floored (before ++ ls) next later reused) (sym kept)
+    (one_taken least floored before c.args.pass.now c.args.foresight.now c.args.reuses.now has key next later reused
     (c.in-Ok.ensures.taken has.past has.taken) (c.in_ok-foresee.ensures least has.past key latest has.foreseen) noted))
     (c.note_reuse.ensures (λ _. 0) floored has.past key latest has.floored refl)

@@ -16,22 +16,16 @@ use Rattle.clru_report.proofs.KeyLines.{key_read, line_read, lines_around, one_m
 use Rattle.clru_report.proofs.SettledCurves.{settled_curve}
 use Rattle.clru_report.proofs.TakenLines.{curve_taken}
 use Rattle.clru_report.proofs.sized.one_size.curve_of_log.Goals as goal
-use Rattle.clru_report.proofs.sized.one_size.curve_of_log.Goals.{else-floored, then-floored}
 
 pub loop-index-init : goal.loop-index-init
-loop-index-init g c =
-    let noted : HasFloorPass {A = g.row.A.Denot} weight_of_line c.args.floored [] c.if-floored.reuses = elim c.if-floored.branch [
-      | then-floored w ↦ subst (HasFloorPass {A = g.row.A.Denot} weight_of_line c.args.floored []) (sym w.reuses-is)
-          (w.if-floored.true, w.new.ensures weight_of_key)
-      | else-floored w ↦ subst (HasFloorPass {A = g.row.A.Denot} weight_of_line c.args.floored []) (sym w.reuses-is) w.if-floored.false
-    ] in (
-      record {
-        sizes = All-nil (λ line. IsSome (size_of_line line));
-        summed = refl;
-        taken = record { past = []; shown = refl; sizes = All-nil (λ line. IsSome (size_of_line line)); taken = c.new-pass.ensures; floored = noted };
-      },
-      λ rest. refl,
-    )
+loop-index-init g c = (
+  record {
+    sizes = All-nil (λ line. IsSome (size_of_line line));
+    summed = refl;
+    taken = record { past = []; shown = refl; sizes = All-nil (λ line. IsSome (size_of_line line)); taken = c.new-pass.ensures; floored = c.floor_pass_for-reuses.ensures weight_of_line };
+  },
+  λ rest. refl,
+)
 
 pub index-requires : goal.index-requires
 index-requires g c =

@@ -17,29 +17,23 @@ use Rattle.clru_report.specs.Sizes.{size_of_lines}
 use Rattle.clru_report.proofs.SettledCurves.{settled_curve}
 use Rattle.clru_report.proofs.TakenLines.{curve_taken}
 use Rattle.clru_report.proofs.sized.pass.curve_by_size.Goals as goal
-use Rattle.clru_report.proofs.sized.pass.curve_by_size.Goals.{else-floored, then-floored}
 
 pub lines-init : goal.lines-init
-lines-init g c =
-    let noted : HasFloorPass {A = g.row.A.Denot} weight_of_line c.args.floored [] c.if-floored.reuses = elim c.if-floored.branch [
-      | then-floored w ↦ subst (HasFloorPass {A = g.row.A.Denot} weight_of_line c.args.floored []) (sym w.reuses-is)
-          (w.if-floored.true, w.new.ensures weight_of_key)
-      | else-floored w ↦ subst (HasFloorPass {A = g.row.A.Denot} weight_of_line c.args.floored []) (sym w.reuses-is) w.if-floored.false
-    ] in (
-      [],
-      c.new-buffer.ensures (g.R.Read.remaining c.args.reader.now),
-      refl,
-      omega arith,
-      (
-        record {
-          sizes = All-nil (λ line. IsSome (size_of_line line));
-          summed = refl;
-          taken = record { past = []; shown = refl; sizes = All-nil (λ line. IsSome (size_of_line line)); taken = c.new-pass.ensures; floored = noted };
-        },
-        λ rest. refl,
-      ),
-      tt,
-    )
+lines-init g c = (
+  [],
+  c.new-buffer.ensures (g.R.Read.remaining c.args.reader.now),
+  refl,
+  omega arith,
+  (
+    record {
+      sizes = All-nil (λ line. IsSome (size_of_line line));
+      summed = refl;
+      taken = record { past = []; shown = refl; sizes = All-nil (λ line. IsSome (size_of_line line)); taken = c.new-pass.ensures; floored = c.floor_pass_for-reuses.ensures weight_of_line };
+    },
+    λ rest. refl,
+  ),
+  tt,
+)
 
 pub count_and_take-requires : goal.count_and_take-requires
 count_and_take-requires g c =

@@ -1,5 +1,6 @@
-use Rattle.std.proofs.Common.{sym, ◌∙◌, arith}
+use Rattle.std.proofs.Common.{◌∷◌, sym, ◌∙◌, subst, arith}
 use Rattle.clru_curve.specs.Seen.{timeless}
+use Rattle.clru_curve.specs.SizedPositionPasses.{IsSizedPositionPass}
 use Rattle.clru_text.specs.Keys.{same_line}
 use Rattle.clru_report.specs.Passes.{weight_of_key}
 use Rattle.clru_curve.proofs.Timeless.{latest_timeless, soon_timeless}
@@ -35,7 +36,8 @@ returns-clause-taken g c past is =
     record {
       noted = noted_more past noted is.noted key c.deref.result.now c.deref.ensures.value _ c.prefetch.new.map
           (omega (arith, is.counted)) (c.prefetch.ensures ∙ c.in_ok-latest.ensures.taken);
-      taken = c.in-Ok.ensures.taken weight_of_key 0 (timeless past) key 0 same_key_weights is.taken (sym c.requires.weight)
-          (latest_timeless same_line 0 past key latest at) (c.is_some.ensures ∙ soon_timeless same_line 0 past key latest at);
+      taken = subst (IsSizedPositionPass same_line weight_of_key 0 (timeless (key ∷ past))) (sym c.announce.ensures)
+          (c.in-Ok.ensures.taken weight_of_key 0 (timeless past) key 0 same_key_weights is.taken (sym c.requires.weight)
+          (latest_timeless same_line 0 past key latest at) (c.is_some.ensures ∙ soon_timeless same_line 0 past key latest at));
       counted = omega (arith, is.counted, c.in-Some.ensures);
     }

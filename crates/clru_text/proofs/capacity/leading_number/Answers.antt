@@ -4,7 +4,7 @@ use Rattle.std.proofs.lemmas.Int.Digits.{digits_value_more}
 use Rattle.std.proofs.lemmas.Str.{digit_value_digit}
 use Rattle.std.proofs.lemmas.List.Folds.{list_all_more}
 use Rattle.std.specs.Char.{is_ascii_digit}
-use Rattle.clru_text.proofs.time.leading_number.Goals as goal
+use Rattle.clru_text.proofs.capacity.leading_number.Goals as goal
 
 pub returns-then-at-eq-FEW_DIGITS-clause-below : goal.returns-then-at-eq-FEW_DIGITS-clause-below
 returns-then-at-eq-FEW_DIGITS-clause-below c =

@@ -1,0 +1,188 @@
+//! Parts of a log, each of which is counted by itself, and the report of all of them.
+//!
+//! A request that is not the first for its line in its part hits as it does in the part alone. The first ones hit as they do behind the
+//! latest requests of the parts before. So these two and a curve are all that is kept of a part.
+ghost use Rattle.std.specs.Prelude.{◌≡◌, ℕ, ◌+◌, ◌^◌, ◌<◌, List, ◌++◌, length, bytes_eq, is_some, IfOk, IfSome, OnOk, string_bytes};
+ghost use Rattle.clru_model.specs.Parts.{firsts, lasts};
+ghost use Rattle.clru_text.specs.Lines.{lines_of};
+ghost use Rattle.clru_text.specs.Whole.{ReadWhole};
+ghost use Rattle.clru_report.specs.LinePasses.{HasTakenLines};
+ghost use Rattle.clru_report.specs.Parts.{HasCurve, IsBeginning, IsPart, is_of_curve};
+ghost use Rattle.clru_report.specs.Report.{IsReport};
+
+use crate::faithful::misses_by_keys;
+use crate::line_pass::LinePass;
+use crate::pass::take_lines;
+use crate::report::{asks_for_floor, asks_for_least, text_of_all};
+use clru_curve::{MissCurve, NoMemory};
+use clru_text::{Options, ReadError, Sample};
+use std::alloc::{AllocError, Allocator};
+use std::hash::BuildHasher;
+use std::io::Read;
+use std::num::NonZeroUsize;
+
+/// What is kept of a part of a log.
+#[derive(Drop)]
+pub struct Part<A: Allocator> {
+    pub requests: usize,
+    pub bytes: usize,
+    pub curve: MissCurve<A>,
+
+    /// The first request for each distinct line, in order, as lines with their newlines.
+    pub firsts: Vec<u8, A>,
+
+    /// The latest request for each distinct line, in order.
+    pub lasts: Vec<u8, A>,
+}
+
+/// Returns what is kept of all lines of a reader.
+/// Cost: that of a report of them without its text, and two copies of the distinct lines.
+pub fn part_of<R: Read, S: BuildHasher + Drop, A: Allocator + Copy>(
+    alloc: A,
+    reader: &mut R,
+    hash_builder: S,
+) -> Result<Part<A>, ReadError>
+    ensures { IfOk result (λ part. ReadWhole (R.remaining reader.old) (R.remaining reader.new) (λ input. (part.bytes ≡ length input)
+        × IsPart (lines_of input) part.requests part.curve part.firsts.items part.lasts.items)) }
+{
+    let mut pass = LinePass::new(alloc, hash_builder);
+    let (requests, bytes) = take_all(alloc, &mut pass, reader)?;
+    let Ok(firsts) = pass.firsts(alloc) else {
+        return Err(ReadError::Memory);
+    };
+    let Ok(lasts) = pass.lasts(alloc) else {
+        return Err(ReadError::Memory);
+    };
+    Ok(Part {
+        requests,
+        bytes,
+        curve: pass.into_curve(),
+        firsts,
+        lasts,
+    })
+}
+
+/// Takes all lines of a reader, and returns how many lines and bytes there are.
+fn take_all<R: Read, S: BuildHasher, A: Allocator + Copy>(
+    alloc: A,
+    pass: &mut LinePass<S, A>,
+    reader: &mut R,
+) -> Result<(usize, usize), ReadError>
+    requires { (before : List (List ℕ)) × HasTakenLines before pass.old }
+    ensures { (before : List (List ℕ)) → HasTakenLines before pass.old → IfOk result (λ found.
+        ReadWhole (R.remaining reader.old) (R.remaining reader.new) (λ input. (found.0 ≡ length (lines_of input))
+        × (found.1 ≡ length input) × HasTakenLines (before ++ lines_of input) pass.new)) }
+{
+    take_lines(alloc, NonZeroUsize::MIN, pass, &mut None, &mut None, reader)
+}
+
+/// What is known of the lines at the beginning of a log: their curve, and the latest request for each distinct one.
+#[derive(Clone, Copy)]
+pub struct Beginning<'a> {
+    pub curve: &'a [usize],
+    pub lasts: &'a [u8],
+}
+
+/// Returns what is known of the lines of a beginning and those of a part behind it together: their curve, and the latest requests.
+/// `firsts` are the first ones of the part.
+/// Cost: three look-ups for each distinct line.
+pub fn join<S: BuildHasher + Drop, A: Allocator + Copy>(
+    alloc: A,
+    one: Beginning<'_>,
+    two: Beginning<'_>,
+    firsts: &[u8],
+    hash_builder: S,
+) -> Result<(Vec<usize, A>, Vec<u8, A>), NoMemory>
+    ensures { (lines more : List (List ℕ)) (requests others : ℕ) → IsBeginning lines requests one.entry.curve.now one.entry.lasts.now
+        → IsPart more others two.entry.curve.now firsts.now two.entry.lasts.now → requests + others < 2 ^ 64
+        → IfOk result (λ both. IsBeginning (lines ++ more) (requests + others) both.0.items both.1.items) }
+{
+    let mut pass = LinePass::new(alloc, hash_builder);
+    take_text(alloc, &mut pass, one.lasts)?;
+    take_text(alloc, &mut pass, firsts)?;
+    let between = pass.curve(alloc)?;
+    take_text(alloc, &mut pass, two.lasts)?;
+    let lasts = pass.lasts(alloc)?;
+    let curve = joined_curve(alloc, one.curve, between.as_slice(), two.curve)?;
+    Ok((curve, lasts))
+}
+
+/// Takes all lines of a text.
+fn take_text<S: BuildHasher, A: Allocator + Copy>(
+    alloc: A,
+    pass: &mut LinePass<S, A>,
+    text: &[u8],
+) -> Result<(), NoMemory>
+    requires { (before : List (List ℕ)) × HasTakenLines before pass.old }
+    ensures { (before : List (List ℕ)) → HasTakenLines before pass.old
+        → OnOk result (HasTakenLines (before ++ lines_of text.now) pass.new) }
+{
+    let mut left = text;
+    match take_all(alloc, pass, &mut left) {
+        Ok(_) => Ok(()),
+        Err(_) => Err(NoMemory),
+    }
+}
+
+/// Returns the curve of two lists of lines in a row, from those of each, and from that of the latest requests of the first with the first
+/// ones of the second behind them.
+fn joined_curve<A: Allocator>(
+    alloc: A,
+    one: &[usize],
+    between: &[usize],
+    two: &[usize],
+) -> Result<Vec<usize, A>, NoMemory>
+    ensures { (lines more : List (List ℕ)) → HasCurve lines one.now → HasCurve (lasts bytes_eq lines ++ firsts bytes_eq more) between.now
+        → HasCurve more two.now → length lines + length more < 2 ^ 64 → IfOk result (λ curve. HasCurve (lines ++ more) curve.items) }
+{
+    let mut curve = Vec::new(alloc);
+    for index in 0..between.len() {
+        let capacity = index + 1;
+        let first = misses_by_keys(one, capacity);
+        let middle = misses_by_keys(between, capacity).saturating_sub(one.len());
+        let second = misses_by_keys(two, capacity).saturating_sub(two.len());
+        let misses = first.saturating_add(middle).saturating_add(second);
+        let Ok(()) = curve.push(misses) else {
+            return Err(NoMemory);
+        };
+    }
+    Ok(curve)
+}
+
+/// Returns the report of lines from their curve, or `None` if the options ask for what it does not tell.
+/// Cost: that of the text.
+pub fn report_of_curve<A: Allocator + Copy>(
+    alloc: A,
+    options: &Options<A>,
+    requests: usize,
+    bytes: usize,
+    curve: &[usize],
+) -> Result<Option<String<A>>, AllocError>
+    ensures told { IfOk result (λ report. is_some report ≡ is_of_curve options.now) }
+    ensures report { (log : List ℕ) → requests ≡ length (lines_of log) → bytes ≡ length log → HasCurve (lines_of log) curve.now
+        → IfOk result (λ report. IfSome report (λ text. IsReport options.now log (string_bytes text))) }
+{
+    if !is_told(options) {
+        return Ok(None);
+    }
+    let Ok(curve) = MissCurve::from_slice(alloc, curve) else {
+        return Err(AllocError);
+    };
+    let text = text_of_all(alloc, options, &curve, &None, &None, requests, bytes)?;
+    Ok(Some(text))
+}
+
+fn is_told<A: Allocator>(options: &Options<A>) -> bool
+    ensures { result ≡ is_of_curve options.now }
+{
+    let is_whole = match options.sample {
+        Sample::Whole => true,
+        _ => false,
+    };
+    options.times.is_none()
+        && options.after.is_none()
+        && !options.sizes
+        && is_whole
+        && !asks_for_least(options)
+        && !asks_for_floor(options)
+}
