@@ -1,8 +1,9 @@
 // The module beside the native program: node web/check.mjs MODULE PROGRAM
 //
 // Both get the same words and the same log; status and text have to be the same, byte for byte. The last lines ask whether the
-// comparison sees a difference, whether a small block, a small text and a second call answer as they should, and whether the page's
-// worker cuts the columns of lines, and counts odd ones. Words that begin with --split are for the module's function of that name, and its help lacks their paragraph.
+// comparison sees a difference, whether a small block, a small text and a second call answer as they should, whether the page's
+// worker cuts the columns of lines, and counts odd ones, and whether logs that are counted by parts have the same reports. Words that
+// begin with --split are for the module's function of that name, and its help lacks their paragraph.
 import { spawnSync } from "node:child_process";
 import { readFileSync } from "node:fs";
 import { runInNewContext } from "node:vm";
@@ -50,31 +51,68 @@ class Instance {
         }
     }
 
-    ask(words, input, blockSize, textSize) {
-        const bytes = Buffer.from(words.map((word) => `${word}\n`).join(""));
+    // The status of a function that gets a block of this size and then numbers and arrays, which stand in the memory meanwhile: an array is
+    // its address and its length, and one in brackets its address alone.
+    call(name, blockSize, ...given) {
         let end = this.base;
         const place = (size) => {
             const at = end;
             end += Math.ceil(Math.max(size, 16) / 16) * 16;
             return at;
         };
-        const pair = place(16), written = place(8), argumentsAt = place(bytes.length), logAt = place(input.length);
-        const text = place(textSize), block = place(blockSize);
-        this.reach(end);
-        const view = new DataView(this.memory.buffer);
-        view.setBigUint64(pair, BigInt(block), true);
-        view.setBigUint64(pair + 8, BigInt(blockSize), true);
-        new Uint8Array(this.memory.buffer, argumentsAt, bytes.length).set(bytes);
-        new Uint8Array(this.memory.buffer, logAt, input.length).set(input);
-        const behind = [logAt, input.length, 5, 7, text, textSize, written];
-        const [name, ...before] = words[0] === "--split"
-            ? ["split", pair, words[1], Number(words.includes("--sizes")), words.includes("--json") ? 1 : words.includes("--svg") ? 2 : 0]
-            : ["report", pair, argumentsAt, bytes.length];
-        const status = this.exports[name](...before.map(BigInt), ...behind.map(BigInt));
-        const length = Number(new DataView(this.memory.buffer).getBigUint64(written, true));
-        return [status, Buffer.from(new Uint8Array(this.memory.buffer, text, length)).toString("latin1")];
+        const pair = new BigUint64Array([0n, BigInt(blockSize)]), arrays = [[place(16), pair]];
+        const numbers = given.flatMap((it) => {
+            if (typeof it === "number") return it;
+            const array = Array.isArray(it) ? it[0] : it, at = place(array.byteLength);
+            arrays.push([at, array]);
+            return array === it ? [at, array.length] : at;
+        });
+        pair[0] = BigInt(end);
+        this.reach(end + blockSize);
+        const inMemory = ([at, { byteLength }]) => new Uint8Array(this.memory.buffer, at, byteLength);
+        const inNode = ([, { buffer, byteOffset, byteLength }]) => new Uint8Array(buffer, byteOffset, byteLength);
+        for (const it of arrays) inMemory(it).set(inNode(it));
+        const status = this.exports[name](...[this.base, ...numbers].map(BigInt));
+        for (const it of arrays) inNode(it).set(inMemory(it));
+        return status;
+    }
+
+    // What a function writes that gets these words, and then these numbers and arrays.
+    told(name, words, behind, blockSize, textSize) {
+        const text = Buffer.alloc(textSize), written = new BigUint64Array(1);
+        const status = this.call(name, blockSize, ...words, ...behind, text, [written]);
+        return [status, text.subarray(0, Number(written[0])).toString("latin1")];
+    }
+
+    ask(words, input, blockSize, textSize) {
+        const split = [Number(words[1]), Number(words.includes("--sizes")), words.includes("--json") ? 1 : words.includes("--svg") ? 2 : 0];
+        const [name, given] = words[0] === "--split" ? ["split", split] : ["report", [linesOf(words)]];
+        return this.told(name, given, [input, 5, 7], blockSize, textSize);
+    }
+
+    // What is known of a part, and the status. Arrays have room for so many elements.
+    part(log, blockSize = 16 * MIB, [keys, first, last] = new Array(3).fill(log.length + 1)) {
+        const [curve, firsts, lasts] = [new BigUint64Array(keys), Buffer.alloc(first), Buffer.alloc(last)];
+        const numbers = new Array(4).fill().map(() => new BigUint64Array(1));
+        const status = this.call("part", blockSize, log, 5, 7, curve, firsts, lasts, ...numbers.map((it) => [it]));
+        const [requests, ...ends] = numbers.map(([it]) => Number(it));
+        const written = [curve, firsts, lasts].map((array, at) => array.subarray(0, ends[at]));
+        return { status, requests, bytes: log.length, curve: written[0], firsts: written[1], lasts: written[2] };
+    }
+
+    join(one, two, blockSize = 16 * MIB, [keys, last] = [one.curve.length + two.curve.length, one.lasts.length + two.lasts.length]) {
+        const [curve, lasts, ...ends] = [new BigUint64Array(keys), Buffer.alloc(last), new BigUint64Array(1), new BigUint64Array(1)];
+        const status = this.call("join", blockSize, one.curve, one.lasts, two.curve, two.firsts, two.lasts, 5, 7, curve, lasts, ...ends.map((it) => [it]));
+        const written = [curve, lasts].map((array, at) => array.subarray(0, Number(ends[at][0])));
+        return { status, requests: one.requests + two.requests, bytes: one.bytes + two.bytes, curve: written[0], lasts: written[1] };
+    }
+
+    askOfParts(words, { requests, bytes, curve }, blockSize = 16 * MIB, textSize = 4 * MIB) {
+        return this.told("report_of_parts", [linesOf(words)], [requests, bytes, curve], blockSize, textSize);
     }
 }
+
+const linesOf = (words) => Buffer.from(words.map((word) => `${word}\n`).join(""));
 
 function native(words, input) {
     const run = spawnSync(program, words, { input, maxBuffer: 1 << 28 });
@@ -153,5 +191,30 @@ for (let at = 0; at < odd.length;) {
 const counted = (form) => (odd.toString("latin1").match(form) ?? []).length;
 const wanted = { lines: counted(/\n/g), empty: counted(/(?<=^|\n)\n/g), returns: counted(/\r\n/g), zeros: counted(/\0/g) };
 same("odd lines", [0, JSON.stringify(passer.odd)], [0, JSON.stringify(wanted)]);
+// Logs that are cut at newlines, now and then twice at the same one, and counted by parts, which are joined from left to right.
+const cutAt = drawn(13), tellable = [[], ["--svg"], ["--all"], ["--at", "3,100"], ["--at", "0"]];
+for (const [name, input] of [["plain", plain], ["short", short], ["empty", Buffer.alloc(0)], ["odd", odd], ["no end", plain.subarray(0, -1)]]) {
+    const wanted = tellable.map((words) => native(words, input));
+    for (let count = 1; count <= 5; count++) {
+        const cuts = new Array(count - 1).fill().map(() => input.lastIndexOf("\n", cutAt(input.length + 1)) + 1).sort((a, b) => a - b);
+        const parts = [...cuts, input.length].map((to, at) => instance.part(input.subarray(cuts[at - 1] ?? 0, to)));
+        const all = parts.reduce((one, two) => instance.join(one, two));
+        tellable.forEach((words, at) => same(`${name} by ${count} parts: ${words}`, instance.askOfParts(words, all), wanted[at]));
+    }
+}
+// What a curve does not tell, and blocks and arrays that are too small.
+const part = instance.part(plain), twice = instance.join(part, part);
+for (const words of ["--least", "--floor", "--after 5", "--sizes", "--times", "--sample 2"]) {
+    same(`by parts: ${words}`, instance.askOfParts(words.split(" "), part), [7, ""]);
+}
+same("a block of no bytes for a report of parts", instance.askOfParts([], part, 0), [3, "clru_mrc: memory ran out\n"]);
+same("a text too short for a report of parts", instance.askOfParts([], part, 16 * MIB, 20), [5, "clru_mrc: standard o"]);
+const fitting = (arrays) => arrays.map(({ length }) => length);
+const shortened = (rooms) => [rooms, ...rooms.map((room, at) => rooms.with(at, room - 1))];
+const statuses = [
+    instance.part(plain, 4096), ...shortened(fitting([part.curve, part.firsts, part.lasts])).map((rooms) => instance.part(plain, 16 * MIB, rooms)),
+    instance.join(part, part, 4096), ...shortened(fitting([twice.curve, twice.lasts])).map((rooms) => instance.join(part, part, 16 * MIB, rooms)),
+].map(({ status }) => status);
+same("small blocks and arrays for parts", [0, statuses.join()], [0, "3,0,5,5,5,3,0,5,5"]);
 console.log(`${passed} passed, ${failed} failed`);
 process.exit(failed ? 1 : 0);

@@ -35,14 +35,14 @@ let stopped = false;
 
 function startWorker() {
     const module = Uint8Array.from(atob($("module").textContent.replace(/\s/g, "")), (letter) => letter.charCodeAt(0));
-    const source = URL.createObjectURL(new Blob([$("worker").textContent], { type: "text/javascript" }));
-    worker = new Worker(source);
+    const script = new Blob([$("worker").textContent], { type: "text/javascript" });
+    worker = new Worker(URL.createObjectURL(script));
     worker.onmessage = ({ data: { turn: answered = turn, ...answers } }) => {
         if (answered !== turn) return;
         for (const [name, value] of Object.entries(answers)) ANSWERS[name](value);
     };
     worker.onerror = (event) => ANSWERS.fault({ words: event.message || "the page's worker could not start" });
-    worker.postMessage({ module }, [module.buffer]);
+    worker.postMessage({ module, script }, [module.buffer]);
 }
 
 const ANSWERS = {
@@ -381,7 +381,10 @@ function showReport(answered) {
     $("copy").textContent = COPY;
     $("notes").textContent = notes(asked.cut).join("\n");
     if (!/\n./.test(report.csv)) $("notes").append("\nNo request is left to count after the first ones.");
-    $("state").textContent = `Done: read in ${answered.seconds[0]} s, counted in ${answered.seconds[1]} s.`;
+    const [first, second] = answered.seconds;
+    $("state").textContent = answered.parts
+        ? `Done: read and counted in ${first} s by ${answered.parts} parts, drawn in ${second} s.`
+        : `Done: read in ${first} s, counted in ${second} s.`;
     showRows();
     const isSplit = asked.words[0] === "--split";
     $("result-heading").textContent = isSplit ? "The split" : drawn ? "The curve" : "The table";

@@ -1,9 +1,10 @@
 "use strict";
 // Reads a log, cuts its lines, and runs the program over what it cut, beside the page, which so stays alive.
 //
-// Messages to it: {module}, first of all; {look: file}, {sample: cut} and {run: {turn, file, cut, words}}. It answers with
+// Messages to it: {module, script}, first of all; {look: file}, {sample: cut} and {run: {turn, file, cut, words}}. It answers with
 // {looked}, {sampled}, {progress}, {cut}, {nothing}, {estimate}, {report}, {marks} and {fault}, each of which the page knows by its name;
-// those of a run have its turn beside them.
+// those of a run have its turn beside them. A large log is counted by parts, each in a worker that this one starts of the script, which is
+// this one: it gets {part: {module, blob, cut, parts}}, and answers with {read}, {counted} and {fault}.
 // A cut is {split, keys, size, time, classed, heading, comments, method, status, answers, queries, fields}: columns are counted from 1, 0
 // stands for none; of JSON they are those of the fields. Where the first key is the class of a split, it is `classed`, and `words`, which
 // are the program's, begin with --split.
@@ -22,18 +23,23 @@ async function isPacked(file) {
 // What DecompressionStream says of a file that it can't unpack.
 class Packed extends Error {}
 
-// The bytes of a file piece by piece, unpacked where it is packed by gzip. `tell` is told how many of the file are read.
+// The bytes of a file or of a part of one, piece by piece, as they are. `tell` is told how many are read.
+async function* plainPiecesOf(blob, tell) {
+    // (the next piece is read while this one is cut)
+    let next = blob.slice(0, CHUNK).arrayBuffer();
+    for (let at = 0; at < blob.size; at += CHUNK) {
+        const piece = new Uint8Array(await next);
+        next = blob.slice(at + CHUNK, at + 2 * CHUNK).arrayBuffer();
+        next.catch(() => {});
+        yield piece;
+        tell(Math.min(at + CHUNK, blob.size));
+    }
+}
+
+// The same of a file that may be packed by gzip, and is unpacked then. `tell` is told how many bytes of the file are read.
 async function* piecesOf(file, tell) {
     if (!await isPacked(file)) {
-        // (the next piece is read while this one is cut)
-        let next = file.slice(0, CHUNK).arrayBuffer();
-        for (let at = 0; at < file.size; at += CHUNK) {
-            const piece = new Uint8Array(await next);
-            next = file.slice(at + CHUNK, at + 2 * CHUNK).arrayBuffer();
-            next.catch(() => {});
-            yield piece;
-            tell(Math.min(at + CHUNK, file.size));
-        }
+        yield* plainPiecesOf(file, tell);
         return;
     }
     let read = 0;
@@ -65,6 +71,16 @@ async function headOf(file) {
     }
     const end = head.length >= HEAD ? head.lastIndexOf(NEWLINE, HEAD - 1) + 1 || HEAD : head.length;
     return head.slice(0, end);
+}
+
+// Where a line begins, at this place of a file or as soon behind it as one does.
+async function lineFrom(file, place) {
+    if (place === 0) return 0;
+    for (let at = place - 1; at < file.size; at += HEAD) {
+        const newline = new Uint8Array(await file.slice(at, at + HEAD).arrayBuffer()).indexOf(NEWLINE);
+        if (newline >= 0) return at + newline + 1;
+    }
+    return file.size;
 }
 
 function joined(first, second) {
@@ -303,7 +319,7 @@ class Passer {
             const four = fours[at];
             // (a byte below a blank borrows, and so sets the highest bit)
             if (((four - 0x20202020) & ~four & 0x80808080) === 0) continue;
-            for (let byte = 4 * at; byte < 4 * at + 4; byte++) this.note(bytes, byte);
+            for (let byte = 4 * at; byte < 4 * at + 4; byte++) if (bytes[byte] < BLANK) this.note(bytes, byte);
         }
         for (let at = 4 * fours.length; at < bytes.length; at++) this.note(bytes, at);
         if (bytes.length) this.last = bytes[bytes.length - 1];
@@ -334,18 +350,19 @@ const PAGE = 65536;
 const STRIDE = 16 << 20;
 const aligned = (at) => Math.ceil(at / 16) * 16;
 
-// The module with a log in its memory: first the log, behind it words and text, and then the block that the program gets.
+// The module with a log in its memory, or the curve of a log that was counted by parts: first that, behind it words and text, and then
+// the block that the program gets.
 class Program {
     constructor(instance) {
-        const { memory, report, split, __heap_base: base } = instance.exports;
-        this.memory = memory;
-        this.report = report;
-        this.split = split;
-        this.words = aligned(Number(base.value));
-        this.log = this.words + 32;
+        this.exports = instance.exports;
+        this.memory = instance.exports.memory;
+        this.words = aligned(Number(instance.exports.__heap_base.value));
+        this.log = this.words + 48;
         this.end = this.log;
         this.text = 1 << 20;
         this.block = 0;
+        // Of a log that was counted by parts: how many, the memory that they had, and what is told of it, its requests and bytes.
+        this.counted = null;
     }
 
     // Memory up to an address. It is asked for in long strides, since each growth may move it.
@@ -367,6 +384,49 @@ class Program {
         if (!this.reach(this.end + bytes.length)) throw new NoMemory();
         new Uint8Array(this.memory.buffer, this.end, bytes.length).set(bytes);
         this.end += bytes.length;
+    }
+
+    // Appends an array, and answers where it stands and its length.
+    put(array) {
+        this.end = aligned(this.end);
+        const at = this.end;
+        this.append(new Uint8Array(array.buffer));
+        return [at, array.length];
+    }
+
+    lend(blockAt) {
+        new BigUint64Array(this.memory.buffer, this.words, 3).set([blockAt, this.block, 0].map(BigInt));
+    }
+
+    // What `part` or `join` counts of arrays in the memory: a curve and texts, each of them with room for so many elements, and behind them
+    // the requests of a part.
+    count(name, arrays, rooms) {
+        const sizes = rooms.map((room, at) => aligned(at ? room : 8 * room));
+        const places = sizes.map((_, at) => sizes.slice(0, at).reduce((sum, size) => sum + size, aligned(this.end)));
+        const blockAt = places.at(-1) + sizes.at(-1);
+        const back = places.flatMap((place, at) => [place, rooms[at]]);
+        // (`part` writes its requests before the lengths)
+        for (let at = name === "part" ? 0 : 1; at <= rooms.length; at++) back.push(this.words + 16 + 8 * at);
+        this.block = Math.max(this.block, 4 * STRIDE + 2 * (this.end - this.log));
+        for (;; this.block *= 2) {
+            if (!this.reach(blockAt + this.block)) throw new NoMemory();
+            this.lend(blockAt);
+            const [given, behind] = [[this.words, ...arrays], back].map((numbers) => numbers.map(BigInt));
+            const status = this.exports[name](...given, ...crypto.getRandomValues(new BigUint64Array(2)), ...behind);
+            if (status === 0) break;
+            if (status !== 3) throw new Error(`${name}: status ${status}`);
+        }
+        const [requests, ...lengths] = Array.from(new BigUint64Array(this.memory.buffer, this.words + 16, 1 + rooms.length), Number);
+        const written = places.map((place, at) => new (at ? Uint8Array : BigUint64Array)(this.memory.buffer, place, lengths[at]).slice());
+        return [...written, requests];
+    }
+
+    // The curve and the latest lines of the beginning of a log and of the part behind it together.
+    join(one, two) {
+        this.end = this.log;
+        const arrays = [one.curve, one.lasts, two.curve, two.firsts, two.lasts].flatMap((array) => this.put(array));
+        const [curve, lasts] = this.count("join", arrays, [one.curve.length + two.curve.length, one.lasts.length + two.lasts.length]);
+        return { curve, lasts };
     }
 
     // What the program writes for these words, and its status. A block or a text that was too small is doubled while there is memory.
@@ -395,17 +455,16 @@ class Program {
             if (this.block < PAGE) throw new NoMemory();
             this.block = Math.floor(this.block / 32) * 16;
         }
-        const words = new BigUint64Array(this.memory.buffer, this.words, 3);
-        words[0] = BigInt(blockAt);
-        words[1] = BigInt(this.block);
-        words[2] = 0n;
+        this.lend(blockAt);
         new Uint8Array(this.memory.buffer, argumentsAt, given.length).set(given);
         const seed = crypto.getRandomValues(new BigUint64Array(2));
         const [loan, log] = [[this.words], [this.log, this.end - this.log]].map((numbers) => numbers.map(BigInt));
         const back = [textAt, this.text, this.words + 16].map(BigInt);
-        const status = budget
-            ? this.split(...loan, BigInt(budget), sizes, PICTURE, ...log, ...seed, ...back)
-            : this.report(...loan, BigInt(argumentsAt), BigInt(given.length), ...log, ...seed, ...back);
+        const status = this.counted
+            ? this.exports.report_of_parts(...loan, BigInt(argumentsAt), BigInt(given.length), ...this.counted.told, log[0], log[1] / 8n, ...back)
+            : budget
+            ? this.exports.split(...loan, BigInt(budget), sizes, PICTURE, ...log, ...seed, ...back)
+            : this.exports.report(...loan, BigInt(argumentsAt), BigInt(given.length), ...log, ...seed, ...back);
         const written = Number(new BigUint64Array(this.memory.buffer, this.words + 16, 1)[0]);
         return { status, text: new TextDecoder().decode(new Uint8Array(this.memory.buffer, textAt, written)) };
     }
@@ -459,6 +518,8 @@ function marksFor(program, picture, words) {
 // --- Messages ----------------------------------------------------------------------------------------------------------------
 
 let module = null;
+// (a page that is a file has no origin, and its own address of the script is none that a worker may start)
+let script = "";
 let head = null;
 let program = null;
 let held = "";
@@ -511,23 +572,95 @@ function readerOf(cut, emit) {
     return cut.split === "json" ? new JsonCutter(cut, emit) : new Cutter(cut, emit);
 }
 
-// Takes the log into the memory of a fresh module, unless it is the one that is there already.
-async function readLog(file, cut, say) {
+// Takes lines into the memory of a fresh module, and counts what there is to tell of them.
+async function readInto(fresh, pieces, cut) {
+    const reader = readerOf(cut, (bytes) => fresh.append(bytes));
+    for await (const piece of pieces) reader.take(piece);
+    reader.end();
+    return { lines: reader.lines ?? reader.odd.lines, left: reader.left, odd: reader.odd, bytes: fresh.end - fresh.log };
+}
+
+// Takes the log into the memory of a fresh module, or its curve, unless it is the one that is there already.
+async function readLog({ file, cut, words }, say) {
     const wanted = JSON.stringify([file.name, file.size, file.lastModified, cut]);
+    if (program?.counted && !isOfCurve(words)) program = null;
     if (program && held === wanted) return;
     program = null;
-    const fresh = new Program(await WebAssembly.instantiate(module, {}));
-    const reader = readerOf(cut, (bytes) => fresh.append(bytes));
     let told = 0;
     const tell = (read) => {
-        if (Date.now() - told < 100) return;
+        if (read < file.size && Date.now() - told < 100) return;
         told = Date.now();
-        say({ progress: { read, size: file.size } });
+        say({ progress: read < file.size ? { read, size: file.size } : null });
     };
-    for await (const piece of piecesOf(file, tell)) reader.take(piece);
-    reader.end();
-    counts = { lines: reader.lines ?? reader.odd.lines, left: reader.left, odd: reader.odd, bytes: fresh.end - fresh.log };
-    [program, held] = [fresh, wanted];
+    let found = isOfCurve(words) ? await countByParts(file, cut, tell).catch(() => null) : null;
+    if (!found) {
+        const fresh = new Program(await WebAssembly.instantiate(module, {}));
+        found = [fresh, await readInto(fresh, piecesOf(file, tell), cut)];
+    }
+    [program, counts] = found;
+    held = wanted;
+}
+
+// --- Parts -------------------------------------------------------------------------------------------------------------------
+
+// The least bytes of a part, and the most parts: each takes a worker to start and a join.
+const PART = 8 << 20;
+const MOST_PARTS = 8;
+
+// Whether the curve of a log tells what these words ask for.
+const isOfCurve = (words) => words.every((word, at) => ["--at", "--all", "--progress"].includes(word) || words[at - 1] === "--at");
+
+// A part of a log, which is read and counted here. Its arrays have room for what is worth its joins: if in each of n parts more than one
+// line of n is the first for its key, one pass over the log may take no longer, and `part` refuses.
+async function countPart({ module: compiled, blob, cut, parts }) {
+    const fresh = new Program(await WebAssembly.instantiate(compiled, {}));
+    const found = await readInto(fresh, plainPiecesOf(blob, (read) => postMessage({ read })), cut);
+    const [keys, bytes] = [found.lines, found.bytes].map((most) => Math.ceil(most / parts) + 1);
+    const [curve, firsts, lasts, requests] = fresh.count("part", [fresh.log, found.bytes], [keys, bytes, bytes]);
+    const counted = { curve, firsts, lasts, requests, counts: found, memory: fresh.memory.buffer.byteLength };
+    postMessage({ counted }, [curve.buffer, firsts.buffer, lasts.buffer]);
+}
+
+function countIn(worker, part, tell) {
+    return new Promise((found, failed) => {
+        worker.onmessage = ({ data: { read, counted, fault } }) => (fault ? failed(fault) : counted ? found(counted) : tell(read));
+        worker.onerror = failed;
+        worker.postMessage({ part });
+    });
+}
+
+// Numbers, or those that two objects have by the same names, added up.
+function sumOf(one, two) {
+    if (typeof one === "number") return one + two;
+    return one && Object.fromEntries(Object.keys(one).map((name) => [name, sumOf(one[name], two[name])]));
+}
+
+// The curve of a large log in a fresh module, and what there is to tell of its lines; null of a log that is not for parts.
+async function countByParts(file, cut, tell) {
+    const parts = Math.min(MOST_PARTS, navigator.hardwareConcurrency, Math.floor(file.size / PART));
+    if (parts < 2 || await isPacked(file)) return null;
+    const [workers, read] = [[], new Array(parts).fill(0)];
+    let counted;
+    try {
+        for (let at = 0; at < parts; at++) workers.push(new Worker(script));
+        const bounds = await Promise.all(Array.from({ length: parts + 1 }, (_, at) => lineFrom(file, Math.floor(at * file.size / parts))));
+        counted = await Promise.all(workers.map((worker, at) => {
+            const part = { module, blob: file.slice(bounds[at], bounds[at + 1]), cut: { ...cut, heading: cut.heading && at === 0 }, parts };
+            return countIn(worker, part, (bytes) => {
+                read[at] = bytes;
+                tell(read.reduce(sumOf));
+            });
+        }));
+    } finally {
+        for (const worker of workers) worker.terminate();
+    }
+    const fresh = new Program(await WebAssembly.instantiate(module, {}));
+    const { curve } = counted.reduce((one, two) => fresh.join(one, two));
+    fresh.end = fresh.log;
+    fresh.put(curve);
+    const [found, requests, memory] = ["counts", "requests", "memory"].map((name) => counted.map((part) => part[name]).reduce(sumOf));
+    fresh.counted = { parts, memory, told: [requests, found.bytes].map(BigInt) };
+    return [fresh, found];
 }
 
 // How long the least takes at each capacity: the time of the others, and for each of these that of one with it, less that of one without.
@@ -545,7 +678,7 @@ function estimateFor(program, words) {
 
 async function run({ file, cut, words }, say) {
     const begun = performance.now();
-    await readLog(file, cut, say);
+    await readLog({ file, cut, words }, say);
     const read = performance.now();
     say({ cut: counts, progress: null });
     if (!counts.bytes) {
@@ -557,17 +690,19 @@ async function run({ file, cut, words }, say) {
     const drawn = !words.includes("--max-age");
     const report = program.ask([...words, ...(drawn ? ["--svg"] : [])]);
     const seconds = [read - begun, performance.now() - read].map((time) => (time / 1000).toFixed(1));
-    say({ report: { ...report, drawn, seconds, memory: program.memory.buffer.byteLength } });
+    const memory = program.memory.buffer.byteLength + (program.counted?.memory ?? 0);
+    say({ report: { ...report, drawn, seconds, memory, parts: program.counted?.parts } });
     if (report.status !== 0) return;
     // (a split has no capacities to mark, and neither has a table alone)
     say({ marks: words[0] === "--split" || !drawn ? null : marksFor(program, report.text, words) });
 }
 
 async function answer(data, say) {
-    if (data.module) module = await WebAssembly.compile(data.module);
+    if (data.module) [module, script] = [await WebAssembly.compile(data.module), URL.createObjectURL(data.script)];
     else if (data.look) say({ looked: await look(data.look) });
     else if (data.sample) say({ sampled: sampleOf(data.sample) });
     else if (data.run) await run(data.run, say);
+    else if (data.part) await countPart(data.part);
 }
 
 // One message after the other.

@@ -11,7 +11,7 @@ use Rattle.clru_text.specs.declared.options.Options.{Options}
 use Rattle.clru_text.specs.declared.options.Sample.{Sample}
 use Rattle.clru_text.specs.declared.options.Sample.TheVariants.{Whole, OneIn, Taken}
 use Rattle.clru_text.proofs.Samples.{all_kept}
-use Rattle.clru_report.specs.Parts.{HasCurve, is_of_curve, is_whole}
+use Rattle.clru_report.specs.Parts.{IsCurveOfLog, is_whole, needs_only_curve}
 use Rattle.clru_report.specs.Passes.{IsCurveOfKept, wants_floor, wants_least}
 use Rattle.clru_report.specs.Report.{IsInForm, IsReport, IsReportBy, IsReportByKeys, IsReportByKeysFrom, IsReportUnder}
 
@@ -28,13 +28,16 @@ no : (b : Bool) → not b ≡ true → b ≡ false
 no false is = refl
 no true is = absurd (cc)
 
-module _ {A : Type 0} (options : Options A) (of : is_of_curve options ≡ true) where
+module _ {A : Type 0} (options : Options A) (of : needs_only_curve options ≡ true) where
   abbrev least_and_floor : Bool
   least_and_floor = not (wants_least options) && not (wants_floor options)
+
   abbrev from_sample : Bool
   from_sample = is_whole options.sample && least_and_floor
+
   abbrev from_sizes : Bool
   from_sizes = not options.sizes && from_sample
+
   abbrev from_after : Bool
   from_after = not (is_some options.after) && from_sizes
 
@@ -57,7 +60,7 @@ module _ {A : Type 0} (options : Options A) (of : is_of_curve options ≡ true) 
   of_curve log text made =
       let times : options.times ≡ None = none options.times (and_parts (not (is_some options.times)) from_after of).0 in
       let after : options.after ≡ None =
-          none options.after (and_parts (not (is_some options.after)) from_sizes (and_parts (not (is_some options.times)) from_after of).1).0 in
+      none options.after (and_parts (not (is_some options.after)) from_sizes (and_parts (not (is_some options.times)) from_after of).1).0 in
       let sizes : options.sizes ≡ false = no options.sizes (and_parts (not options.sizes) from_sample behind_after).0 in
       let sample : options.sample ≡ Whole = whole options.sample (and_parts (is_whole options.sample) least_and_floor behind_sizes).0 in
       subst (λ t. IsReportUnder t options log text) (sym times)
@@ -66,13 +69,12 @@ module _ {A : Type 0} (options : Options A) (of : is_of_curve options ≡ true) 
       (subst (λ r. IsReportByKeys r options log text) (sym sample) made)))
 
 -- the curve of all lines is that of those which one in one keeps
-pub curve_kept : (log curve : List ℕ) (requests bytes : ℕ) → requests ≡ length (lines_of log) → bytes ≡ length log → HasCurve (lines_of log) curve
-    → IsCurveOfKept 1 log curve requests bytes
-curve_kept log curve requests bytes counted in_bytes has =
+pub curve_kept : (log curve : List ℕ) (requests bytes : ℕ) → IsCurveOfLog log requests bytes curve → IsCurveOfKept 1 log curve requests bytes
+curve_kept log curve requests bytes has =
     let kept = sym (all_kept (lines_of log)) in
     record {
-      misses = subst (λ ls. HasMissesOf bytes_eq ls curve) kept has.misses;
-      distinct_keys = subst (λ ls. length curve ≡ distinct bytes_eq (reverse ls)) kept has.distinct_lines;
-      counted = counted;
-      in_bytes = in_bytes;
+      misses = subst (λ ls. HasMissesOf bytes_eq ls curve) kept has.missed.misses;
+      distinct_keys = subst (λ ls. length curve ≡ distinct bytes_eq (reverse ls)) kept has.missed.distinct_lines;
+      counted = has.counted;
+      in_bytes = has.in_bytes;
     }

@@ -1,5 +1,6 @@
 //! What is true of each row of a table, whatever the requests are.
 ghost use Rattle.clru_report.specs.OneSizeLaws.{GreatestIsOfOne, KeysStay, NoneIsGreater, SizesAreGreatest};
+ghost use Rattle.clru_report.specs.Parts.{CutsBetweenLines};
 ghost use Rattle.clru_report.specs.RatioLaws.{ByteHitRatioIsLeast, HitRatioIsLeast, SizedHitRatioIsLeast};
 ghost use Rattle.clru_report.specs.RowLaws.{FloorIsBelowMisses, LeastIsBetween, SizedFloorsAreBelow};
 
@@ -26,4 +27,9 @@ pub fn law_one_size()
     ensures key { KeysStay }
     ensures none { NoneIsGreater }
     ensures of_one { GreatestIsOfOne }
+{}
+
+/// States that a log which is cut behind newlines has the lines of its parts in a row.
+pub fn law_cut_logs()
+    ensures { CutsBetweenLines }
 {}

@@ -30,8 +30,8 @@ mod text;
 mod timed;
 
 pub use clru_model::DefaultState;
-pub use laws::{law_hit_ratios, law_one_size, law_rows};
-pub use parts::{Beginning, Part, join, part_of, report_of_curve};
+pub use laws::{law_cut_logs, law_hit_ratios, law_one_size, law_rows};
+pub use parts::{Known, Part, join, part_of, report_of_curve};
 pub use program::run;
 pub use report::make_report;
 pub use std::num::NonZeroUsize;

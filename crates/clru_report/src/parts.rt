@@ -1,13 +1,13 @@
 //! Parts of a log, each of which is counted by itself, and the report of all of them.
 //!
 //! A request that is not the first for its line in its part hits as it does in the part alone. The first ones hit as they do behind the
-//! latest requests of the parts before. So these two and a curve are all that is kept of a part.
+//! latest requests of the parts before. So of a part it is enough to know its curve, its first and its latest requests.
 ghost use Rattle.std.specs.Prelude.{◌≡◌, ℕ, ◌+◌, ◌^◌, ◌<◌, List, ◌++◌, length, bytes_eq, is_some, IfOk, IfSome, OnOk, string_bytes};
 ghost use Rattle.clru_model.specs.Parts.{firsts, lasts};
 ghost use Rattle.clru_text.specs.Lines.{lines_of};
 ghost use Rattle.clru_text.specs.Whole.{ReadWhole};
 ghost use Rattle.clru_report.specs.LinePasses.{HasTakenLines};
-ghost use Rattle.clru_report.specs.Parts.{HasCurve, IsBeginning, IsPart, is_of_curve};
+ghost use Rattle.clru_report.specs.Parts.{AreKnown, HasCurve, IsCurveOfLog, IsPart, needs_only_curve as only_curve};
 ghost use Rattle.clru_report.specs.Report.{IsReport};
 
 use crate::faithful::misses_by_keys;
@@ -21,7 +21,7 @@ use std::hash::BuildHasher;
 use std::io::Read;
 use std::num::NonZeroUsize;
 
-/// What is kept of a part of a log.
+/// What is known of a part of a log.
 #[derive(Drop)]
 pub struct Part<A: Allocator> {
     pub requests: usize,
@@ -35,8 +35,10 @@ pub struct Part<A: Allocator> {
     pub lasts: Vec<u8, A>,
 }
 
-/// Returns what is kept of all lines of a reader.
-/// Cost: that of a report of them without its text, and two copies of the distinct lines.
+/// Returns what is known of all lines of a reader. The parts of a log are cut behind newlines, so that each line is whole in one of them.
+///
+/// Fails if memory is refused, or a read fails.
+/// Cost: that of a report of them without its text, two copies of the distinct lines, and a sort of two numbers for each.
 pub fn part_of<R: Read, S: BuildHasher + Drop, A: Allocator + Copy>(
     alloc: A,
     reader: &mut R,
@@ -76,26 +78,26 @@ fn take_all<R: Read, S: BuildHasher, A: Allocator + Copy>(
     take_lines(alloc, NonZeroUsize::MIN, pass, &mut None, &mut None, reader)
 }
 
-/// What is known of the lines at the beginning of a log: their curve, and the latest request for each distinct one.
+/// What is known of lines: their curve, and the latest request for each distinct one.
 #[derive(Clone, Copy)]
-pub struct Beginning<'a> {
+pub struct Known<'a> {
     pub curve: &'a [usize],
     pub lasts: &'a [u8],
 }
 
-/// Returns what is known of the lines of a beginning and those of a part behind it together: their curve, and the latest requests.
-/// `firsts` are the first ones of the part.
-/// Cost: three look-ups for each distinct line.
+/// Returns the curve and the latest requests of lines with those of a part behind them. `firsts` are the first requests of the part.
+/// So parts are joined from left to right, and the caller adds up how many lines and bytes they have.
+/// Cost: a look-up for each distinct line of the first, two for each of the part, and a sort of two numbers for each of both.
 pub fn join<S: BuildHasher + Drop, A: Allocator + Copy>(
     alloc: A,
-    one: Beginning<'_>,
-    two: Beginning<'_>,
+    one: Known<'_>,
+    two: Known<'_>,
     firsts: &[u8],
     hash_builder: S,
 ) -> Result<(Vec<usize, A>, Vec<u8, A>), NoMemory>
-    ensures { (lines more : List (List ℕ)) (requests others : ℕ) → IsBeginning lines requests one.entry.curve.now one.entry.lasts.now
-        → IsPart more others two.entry.curve.now firsts.now two.entry.lasts.now → requests + others < 2 ^ 64
-        → IfOk result (λ both. IsBeginning (lines ++ more) (requests + others) both.0.items both.1.items) }
+    ensures { (lines more : List (List ℕ)) (requests : ℕ) → AreKnown lines one.entry.curve.now one.entry.lasts.now
+        → IsPart more requests two.entry.curve.now firsts.now two.entry.lasts.now → length lines + length more < 2 ^ 64
+        → IfOk result (λ both. AreKnown (lines ++ more) both.0.items both.1.items) }
 {
     let mut pass = LinePass::new(alloc, hash_builder);
     take_text(alloc, &mut pass, one.lasts)?;
@@ -149,8 +151,8 @@ fn joined_curve<A: Allocator>(
     Ok(curve)
 }
 
-/// Returns the report of lines from their curve, or `None` if the options ask for what it does not tell.
-/// Cost: that of the text.
+/// Returns the report of a log from its curve, or `None` if more is needed for what the options ask.
+/// Cost: that of the text, and a copy of the curve.
 pub fn report_of_curve<A: Allocator + Copy>(
     alloc: A,
     options: &Options<A>,
@@ -158,11 +160,11 @@ pub fn report_of_curve<A: Allocator + Copy>(
     bytes: usize,
     curve: &[usize],
 ) -> Result<Option<String<A>>, AllocError>
-    ensures told { IfOk result (λ report. is_some report ≡ is_of_curve options.now) }
-    ensures report { (log : List ℕ) → requests ≡ length (lines_of log) → bytes ≡ length log → HasCurve (lines_of log) curve.now
+    ensures given { IfOk result (λ report. is_some report ≡ only_curve options.now) }
+    ensures report { (log : List ℕ) → IsCurveOfLog log requests bytes curve.now
         → IfOk result (λ report. IfSome report (λ text. IsReport options.now log (string_bytes text))) }
 {
-    if !is_told(options) {
+    if !needs_only_curve(options) {
         return Ok(None);
     }
     let Ok(curve) = MissCurve::from_slice(alloc, curve) else {
@@ -172,8 +174,8 @@ pub fn report_of_curve<A: Allocator + Copy>(
     Ok(Some(text))
 }
 
-fn is_told<A: Allocator>(options: &Options<A>) -> bool
-    ensures { result ≡ is_of_curve options.now }
+fn needs_only_curve<A: Allocator>(options: &Options<A>) -> bool
+    ensures { result ≡ only_curve options.now }
 {
     let is_whole = match options.sample {
         Sample::Whole => true,

@@ -97,6 +97,34 @@ fn announced_strings_find_the_same_values(rt: HostRuntime) {
     }
 }
 
+#[test]
+fn strings_are_told_by_their_numbers(rt: HostRuntime) {
+    let heap = Rationed::new(rt.alloc());
+    equal!(rt; (told_by_numbers(&heap), heap.blocks()), (([1000, 47], 0), 0));
+}
+
+/// Of 1,000 strings, and of 50 announced ones from the 953rd on, how many are told by their numbers with their values, and how many requests
+/// that made.
+fn told_by_numbers(heap: &Rationed<Global>) -> ([u32; 2], u64) {
+    let mut map = BytesMap::new(heap, DefaultState);
+    let _ = insert_each(&mut map, 1000, 0, 7);
+    let _ = announce_some(&mut map, 953, u32::MAX);
+    let before = heap.requests();
+    let mut held = 0u32;
+    let mut announced = 0u32;
+    for number in 0..1100u32 {
+        let (bytes, len) = bytes_of(number);
+        let value = number.wrapping_add(7);
+        if map.get_index(number as usize) == Some((&bytes[..len], value)) {
+            held = held.saturating_add(1);
+        }
+        if map.announced_value(number as usize) == Some(value.wrapping_add(953)) {
+            announced = announced.saturating_add(1);
+        }
+    }
+    ([held, announced], heap.requests().wrapping_sub(before))
+}
+
 /// Strings in the order in which they are inserted, each with the place of its latest insertion before this one.
 static ALIKE: &[(&[u8], Option<usize>)] = &[
     (b"", None),

@@ -1,5 +1,6 @@
 -- Lines as bytes, and these as lines.
-use Rattle.std.proofs.Common.{◌≡◌, ℕ, false, List, [], ◌∷◌, ◌++◌, Some, refl, sym, ap, ◌∙◌, subst, append_assoc, append-nil, arith}
+use Rattle.std.proofs.Common.{◌≡◌, ℕ, true, false, List, [], ◌∷◌, ◌++◌, Some, refl, sym, ap, ◌∙◌, subst, append_assoc, append-nil, arith}
+use Rattle.std.proofs.lemmas.Bool.Decides.{nat_tests}
 use Rattle.std.specs.Prelude.{◌==◌}
 use Rattle.std.specs.List.{AllByRecursion, onto_first, slice_split}
 use Rattle.clru_model.proofs.Cases.{split}
@@ -45,6 +46,29 @@ lines_of-bytes_of (line ∷ lines) free = lines_of-cut line (bytes_of lines) fre
 pub bytes_of-append : (xs ys : List (List ℕ)) → bytes_of (xs ++ ys) ≡ bytes_of xs ++ bytes_of ys
 bytes_of-append [] ys = refl
 bytes_of-append (x ∷ xs) ys = ap (λ l. x ++ 10 ∷ l) (bytes_of-append xs ys) ∙ sym (append_assoc x (10 ∷ bytes_of xs) (bytes_of ys))
+
+free_more : (p : List ℕ) (b : ℕ) → b == 10 ≡ false → IsFree p → IsFree (p ++ b ∷ [])
+free_more [] b other free = free-cons b [] other (omega arith)
+free_more (c ∷ p) b other free = split (c == 10)
+    (λ t. absurd (omega (arith, rw t at free)))
+    (λ f. free-cons c (p ++ b ∷ []) f (free_more p b other (omega (arith, rw f at free))))
+
+-- the bytes `p` are what was met of a line
+cut_in_line : (p one two : List ℕ) → IsFree p → lines_of (p ++ (one ++ 10 ∷ two)) ≡ lines_of (p ++ (one ++ 10 ∷ [])) ++ lines_of two
+cut_in_line p [] two free = lines_of-cut p two free ∙ sym (ap (λ l. l ++ lines_of two) (lines_of-cut p [] free))
+cut_in_line p (b ∷ one) two free = split (b == 10)
+    (λ t. let is : b ≡ 10 = grind (arith, nat_tests, t) in
+    ap (λ n. lines_of (p ++ n ∷ (one ++ 10 ∷ two))) is
+    ∙ lines_of-cut p (one ++ 10 ∷ two) free
+    ∙ ap (λ l. p ∷ l) (cut_in_line [] one two (omega arith))
+    ∙ sym (ap (λ l. l ++ lines_of two) (ap (λ n. lines_of (p ++ n ∷ (one ++ 10 ∷ []))) is ∙ lines_of-cut p (one ++ 10 ∷ []) free)))
+    (λ f. ap lines_of (sym (append_assoc p (b ∷ []) (one ++ 10 ∷ two)))
+    ∙ cut_in_line (p ++ b ∷ []) one two (free_more p b f free)
+    ∙ ap (λ l. lines_of l ++ lines_of two) (append_assoc p (b ∷ []) (one ++ 10 ∷ [])))
+
+-- a cut behind a newline is between lines
+pub cut_behind_newline : (one two : List ℕ) → lines_of ((one ++ 10 ∷ []) ++ two) ≡ lines_of (one ++ 10 ∷ []) ++ lines_of two
+cut_behind_newline one two = ap lines_of (append_assoc one (10 ∷ []) two) ∙ cut_in_line [] one two (omega arith)
 
 -- bytes that were read to their end are the input
 pub whole_read : (bytes left : List ℕ) (P : List ℕ → Type 0) → ReadWhole (Some bytes) (Some left) P → P bytes

@@ -73,8 +73,11 @@ fn run_report<S: BuildHasher + Copy, A: Allocator + Copy>(
     }
 }
 
-// What the arguments ask for.
-fn parse_args<A: Allocator + Copy>(alloc: A, arguments: &[u8]) -> Result<Command<A>, Refusal<A>>
+/// Returns what the arguments ask for.
+pub(crate) fn parse_args<A: Allocator + Copy>(
+    alloc: A,
+    arguments: &[u8],
+) -> Result<Command<A>, Refusal<A>>
     ensures command { IfOk result (λ command. IsAskedFor (reading_of arguments.now) command) }
     ensures refused { IfErr result (λ refusal. is_wrong refusal ≡ true → IsRefusedLine (reading_of arguments.now)) }
 {

@@ -5,6 +5,7 @@ mod answer;
 #[cfg(test)]
 mod asserts;
 mod exports;
+mod parts;
 mod split;
 #[cfg(test)]
 mod tests;

@@ -10,10 +10,11 @@ mod shown;
 mod words;
 
 use crate::asserts::equal;
-use crate::exports::{report, split};
+use crate::exports::{join, part, report, report_of_parts, split};
 use crate::text::tell;
 use clru_text::Fault;
 use ration::Loan;
+use std::process::Abort;
 
 const ENOUGH: usize = 1 << 20;
 
@@ -189,6 +190,10 @@ static SPLITS: &[(usize, usize, u64, u64, &str, usize, u32, &str)] = &[
     ),
 ];
 
+fn lent<R: Abort + AllocGlobal>(rt: &R, size: usize) -> Loan {
+    Loan::taken(&rt.alloc(), size).expect(rt, "a block")
+}
+
 // The first bytes of an array, as many as there is room for.
 fn first(text: &mut [u8], room: usize) -> &mut [u8] {
     let end = room.min(text.len());
@@ -198,11 +203,10 @@ fn first(text: &mut [u8], room: usize) -> &mut [u8] {
 #[test]
 fn a_call_answers_as_the_program(rt: HostRuntime) {
     for (size, words, log, room, status, wanted) in CALLS {
-        let loan = Loan::taken(&rt.alloc(), *size).expect(&rt, "a block");
         let mut text = [0; 256];
         let mut written = 0;
         let code = report(
-            loan,
+            lent(&rt, *size),
             words.as_bytes(),
             log.as_bytes(),
             1,
@@ -221,11 +225,10 @@ fn a_call_answers_as_the_program(rt: HostRuntime) {
 #[test]
 fn a_split_answers_as_the_program(rt: HostRuntime) {
     for (size, budget, sizes, form, log, room, status, wanted) in SPLITS {
-        let loan = Loan::taken(&rt.alloc(), *size).expect(&rt, "a block");
         let mut text = [0; 256];
         let mut written = 0;
         let code = split(
-            loan,
+            lent(&rt, *size),
             *budget,
             *sizes,
             *form,
@@ -255,4 +258,140 @@ fn the_longest_line_of_a_fault_is_told_whole(rt: HostRuntime) {
         (code, text.get(..written)),
         (6, Some(wanted.as_bytes())),
     );
+}
+
+// What is known of lines, in arrays that are long enough.
+#[derive(Clone, Copy)]
+struct Known {
+    curve: [usize; 8],
+    firsts: [u8; 32],
+    lasts: [u8; 32],
+    requests: usize,
+    keys: usize,
+    first_bytes: usize,
+    last_bytes: usize,
+}
+
+static NOTHING: Known = Known {
+    curve: [0; 8],
+    firsts: [0; 32],
+    lasts: [0; 32],
+    requests: 0,
+    keys: 0,
+    first_bytes: 0,
+    last_bytes: 0,
+};
+
+// What is known of lines, with memory, places of the curve and bytes for either text.
+fn known_of(loan: Loan, log: &str, places: usize, room: usize) -> (u32, Known) {
+    let mut known = NOTHING;
+    let code = part(
+        loan,
+        log.as_bytes(),
+        1,
+        2,
+        &mut known.curve[..places],
+        &mut known.firsts[..room],
+        &mut known.lasts[..room],
+        &mut known.requests,
+        &mut known.keys,
+        &mut known.first_bytes,
+        &mut known.last_bytes,
+    );
+    (code, known)
+}
+
+fn joined_of(loan: Loan, one: &Known, two: &Known, places: usize, room: usize) -> (u32, Known) {
+    let mut known = NOTHING;
+    known.requests = one.requests + two.requests;
+    let code = join(
+        loan,
+        &one.curve[..one.keys],
+        &one.lasts[..one.last_bytes],
+        &two.curve[..two.keys],
+        &two.firsts[..two.first_bytes],
+        &two.lasts[..two.last_bytes],
+        3,
+        4,
+        &mut known.curve[..places],
+        &mut known.lasts[..room],
+        &mut known.keys,
+        &mut known.last_bytes,
+    );
+    (code, known)
+}
+
+// What is told of lines of one byte each.
+fn told_of(loan: Loan, known: &Known, words: &str, text: &mut [u8]) -> (u32, usize) {
+    let mut written = text.len();
+    let requests = known.requests;
+    let curve = &known.curve[..known.keys];
+    let words = words.as_bytes();
+    let code = report_of_parts(
+        loan,
+        words,
+        requests,
+        2 * requests,
+        curve,
+        text,
+        &mut written,
+    );
+    (code, written)
+}
+
+#[test]
+fn parts_answer_as_the_whole(rt: HostRuntime) {
+    for cut in 0..11 {
+        let (one, two) = TEN.split_at(2 * cut);
+        let (_, first) = known_of(lent(&rt, ENOUGH), one, 8, 32);
+        let (_, second) = known_of(lent(&rt, ENOUGH), two, 8, 32);
+        let (_, all) = joined_of(lent(&rt, ENOUGH), &first, &second, 8, 32);
+        for words in ["", "--summary", "--at\n2,9\n--json", "--no", "--version"] {
+            let (mut text, mut wanted) = ([0; 256], [0; 256]);
+            let mut end = 0;
+            let (given, log) = (words.as_bytes(), TEN.as_bytes());
+            let status = report(lent(&rt, ENOUGH), given, log, 1, 2, &mut wanted, &mut end);
+            let (code, written) = told_of(lent(&rt, ENOUGH), &all, words, &mut text);
+            equal(
+                &rt,
+                (code, text.get(..written)),
+                (status, wanted.get(..end)),
+            );
+        }
+    }
+}
+
+// of a block, the places of a curve and the bytes of a text the status
+static ROOMS: [(usize, usize, usize, u32); 4] = [
+    (ENOUGH, 5, 10, 0),
+    (ENOUGH, 4, 10, 5),
+    (ENOUGH, 5, 9, 5),
+    (64, 5, 10, 3),
+];
+
+#[test]
+fn parts_want_room_and_do_not_tell_all(rt: HostRuntime) {
+    let (_, known) = known_of(lent(&rt, ENOUGH), TEN, 8, 32);
+    for (size, places, room, status) in ROOMS {
+        let (code, _) = known_of(lent(&rt, size), TEN, places, room);
+        let (joined, _) = joined_of(lent(&rt, size), &known, &known, places, room);
+        equal(&rt, (code, joined), (status, status));
+    }
+    let mut text = [0; 256];
+    for words in [
+        "--least",
+        "--floor",
+        "--sizes",
+        "--times",
+        "--after\n1",
+        "--sample\n2",
+    ] {
+        equal(
+            &rt,
+            told_of(lent(&rt, ENOUGH), &known, words, &mut text),
+            (7, 0),
+        );
+    }
+    let (code, _) = told_of(lent(&rt, ENOUGH), &known, "", &mut text[..9]);
+    equal(&rt, code, 5);
 }

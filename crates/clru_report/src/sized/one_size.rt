@@ -17,7 +17,6 @@ use super::line_pass::SizedLinePass;
 use super::pass::{count_and_take, curve_by_size};
 use crate::pass::floor_pass_for;
 use clru_curve::SizedCurve;
-
 use clru_text::{Fault, OwnedKey};
 use std::alloc::{AllocError, Allocator};
 use std::fmt::Write;

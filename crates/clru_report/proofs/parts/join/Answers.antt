@@ -1,4 +1,4 @@
-use Rattle.std.proofs.Common.{◌≡◌, ◌+◌, ◌<◌, ◌^◌, [], ◌++◌, List, ℕ, refl, sym, ap, ◌∙◌, subst, map, reverse, length, arith, length-append}
+use Rattle.std.proofs.Common.{◌≡◌, [], ◌++◌, refl, sym, ap, ◌∙◌, subst}
 use Rattle.std.specs.Cmp.Lexicographic.{nat_list_eq_equiv}
 use Rattle.std.specs.Prelude.{bytes_eq}
 use Rattle.clru_model.proofs.Parts.{all-append, all_firsts, all_lasts, lasts_joined}
@@ -26,30 +26,29 @@ take_text-requires-3 g c =
     (first ++ lines_of c.args.firsts.now, c.in_ok-take_text-2.ensures first begun)
 
 pub returns : goal.returns
-returns g c lines more requests others one two few =
+returns g c lines more requests one two few =
     let latest = lines_of c.args.one.lasts.now in let first = lines_of c.args.firsts.now in
     let one_taken = c.in_ok-take_text.ensures [] (record { past = []; shown = refl; taken = c.new-pass.ensures }) in
     let two_taken = c.in_ok-take_text-2.ensures latest one_taken in
     let all_taken = c.in_ok-take_text-3.ensures (latest ++ first) two_taken in
     let latest_is : latest ≡ lasts bytes_eq lines =
-        ap lines_of one.latest_lines ∙ lines_of-bytes_of (lasts bytes_eq lines) (all_lasts IsFree bytes_eq lines one.free) in
+    ap lines_of one.latest_lines ∙ lines_of-bytes_of (lasts bytes_eq lines) (all_lasts IsFree bytes_eq lines one.free) in
     let first_is : first ≡ firsts bytes_eq more =
-        ap lines_of two.first_lines ∙ lines_of-bytes_of (firsts bytes_eq more) (all_firsts IsFree bytes_eq more two.begun.free) in
+    ap lines_of two.first_lines ∙ lines_of-bytes_of (firsts bytes_eq more) (all_firsts IsFree bytes_eq more two.known.free) in
     let later_is : lines_of c.args.two.lasts.now ≡ lasts bytes_eq more =
-        ap lines_of two.begun.latest_lines ∙ lines_of-bytes_of (lasts bytes_eq more) (all_lasts IsFree bytes_eq more two.begun.free) in
+    ap lines_of two.known.latest_lines ∙ lines_of-bytes_of (lasts bytes_eq more) (all_lasts IsFree bytes_eq more two.known.free) in
     let between_is : latest ++ first ≡ lasts bytes_eq lines ++ firsts bytes_eq more = ap (λ ls. ls ++ first) latest_is ∙ ap (λ ls. lasts bytes_eq lines ++ ls) first_is in
     let all_is : (latest ++ first) ++ lines_of c.args.two.lasts.now ≡ (lasts bytes_eq lines ++ firsts bytes_eq more) ++ lasts bytes_eq more =
-        ap (λ ls. ls ++ lines_of c.args.two.lasts.now) between_is ∙ ap (λ ls. (lasts bytes_eq lines ++ firsts bytes_eq more) ++ ls) later_is in
+    ap (λ ls. ls ++ lines_of c.args.two.lasts.now) between_is ∙ ap (λ ls. (lasts bytes_eq lines ++ firsts bytes_eq more) ++ ls) later_is in
     let between = c.in_ok-between.between in
     let middle : HasCurve (latest ++ first) between = record {
-        misses = misses_taken (latest ++ first) c.take_text-2.new.pass two_taken between (λ past is. c.in_ok-between.ensures.misses past is);
-        distinct_lines = distinct_taken (latest ++ first) c.take_text-2.new.pass two_taken between (λ past is. c.in_ok-between.ensures.distinct past is);
-      } in
+      misses = misses_taken (latest ++ first) c.take_text-2.new.pass two_taken between (λ past is. c.in_ok-between.ensures.misses past is);
+      distinct_lines = distinct_taken (latest ++ first) c.take_text-2.new.pass two_taken between (λ past is. c.in_ok-between.ensures.distinct past is);
+    } in
     record {
-      free = all-append IsFree lines more one.free two.begun.free;
-      counted = omega (arith, one.counted, two.begun.counted, length-append lines more);
+      free = all-append IsFree lines more one.free two.known.free;
       missed = c.in_ok-curve.ensures lines more one.missed (subst (HasCurve (lasts bytes_eq lines ++ firsts bytes_eq more)) (sym c.as_slice.ensures) (subst (λ ls. HasCurve ls between) between_is middle))
-          two.begun.missed (omega (arith, one.counted, two.begun.counted, few));
+          two.known.missed few;
       latest_lines = c.in_ok-lasts.ensures all_taken.past all_taken.taken ∙ ap (λ ls. bytes_of (lasts bytes_eq ls)) (all_taken.shown ∙ all_is)
           ∙ ap bytes_of (lasts_joined bytes_eq nat_list_eq_equiv lines more);
     }

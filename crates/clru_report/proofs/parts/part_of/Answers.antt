@@ -20,15 +20,15 @@ returns g c =
       (
         read.3.1,
         record {
-          begun = record {
+          known = record {
             free = free_lines read.0;
-            counted = read.3.0;
             missed = record {
               misses = misses_taken lines pass taken curve (λ past is. c.into_curve.ensures.misses past is);
               distinct_lines = distinct_taken lines pass taken curve (λ past is. c.into_curve.ensures.distinct past is);
             };
             latest_lines = c.in-Ok-lasts.ensures taken.past taken.taken ∙ ap (λ ls. bytes_of (lasts bytes_eq ls)) taken.shown;
           };
+          counted = read.3.0;
           first_lines = c.in-Ok.ensures taken.past taken.taken ∙ ap (λ ls. bytes_of (firsts bytes_eq ls)) taken.shown;
         },
       ),
