@@ -25,7 +25,7 @@ impl<A: Allocator> Model for MissCurve<A> {
 }
 
 impl<A: Allocator> MissCurve<A> {
-    /// Creates a curve from its misses at the capacities 1, 2 and so on, as `as_slice` lends them: one that was kept somewhere else.
+    /// Creates a curve from its misses at the capacities 1, 2 and so on, as `as_slice` lends them. They are not checked.
     /// Cost: a copy; one request for memory, and none of an empty curve.
     pub fn from_slice(alloc: A, misses: &[usize]) -> Result<Self, NoMemory>
         ensures curve { IfOk result (λ curve. curve ≡ misses.now) }

@@ -1,11 +1,11 @@
 -- Keys with the positions of their latest requests, in the order of these.
-use Rattle.std.proofs.Common.{◌≡◌, ℕ, suc, ◌+◌, ◌<◌, ◌≤◌, Bool, true, false, cond, not, ◌||◌, ◌&&◌, nat_lt, Option, None, Some, List, [], ◌∷◌, ◌++◌, length, map, reverse, refl, sym, ap, ◌∙◌, append_assoc, append-nil, arith, subst, eq-eqb}
+use Rattle.std.proofs.Common.{◌≡◌, ℕ, suc, ◌+◌, ◌<◌, ◌≤◌, Bool, true, false, cond, not, ◌&&◌, Option, None, Some, List, [], ◌∷◌, ◌++◌, length, reverse, refl, sym, ap, ◌∙◌, arith, subst, eq-eqb}
 use Rattle.std.specs.Prelude.{◌==◌, get_or, is_some, IfSome, ⊤}
 use Rattle.std.proofs.lemmas.Bool.{and_parts}
 use Rattle.std.proofs.lemmas.Bool.Decides.{nat_tests}
 use Rattle.std.proofs.lemmas.List.{reverse-append, reverse-reverse}
 use Rattle.std.proofs.lemmas.List.Sorted.{IsPermutation-reverse, sum_by-IsPermutation}
-use Rattle.std.proofs.lemmas.List.Sums.{sum_by-cons, sum_by-append}
+use Rattle.std.proofs.lemmas.List.Sums.{sum_by-cons}
 use Rattle.std.specs.Cmp.{IsEquivalence}
 use Rattle.std.specs.List.{AllByRecursion, filter, count_by}
 use Rattle.std.specs.List.Sorted.{IsNonDecreasingBy, IsPermutation}
@@ -70,8 +70,8 @@ module _ {X : Type 0} (f : X → ℕ) where
         split (same x y)
         (λ t. let e = reflects x y t in
         let rest : (z : X) → count_by (same z) xs ≡ count_by (same z) ys =
-            λ z. let s = ap (λ (w : X). cond {A = ℕ} (same z w) 1 0) e in
-            omega (arith, count_by-cons (same z) x xs, count_by-cons (same z) y ys, counts z, s) in
+        λ z. let s = ap (λ (w : X). cond {A = ℕ} (same z w) 1 0) e in
+        omega (arith, count_by-cons (same z) x xs, count_by-cons (same z) y ys, counts z, s) in
         ap (λ w. w ∷ xs) e ∙ ap (λ l. y ∷ l) (rising_is xs ys up.1 strict.1 rest))
         (λ n. let back : same y x ≡ false = split (same y x) (λ u. cc (sym (ap (λ w. same w y) (reflects y x u)) ∙ own y, n)) (λ v. v) in
         let there : 0 < count_by (same x) ys = omega (arith, count_yes (same x) x xs (own x), count_no (same x) y ys n, counts x) in
@@ -141,15 +141,18 @@ module _ {K : Type 0} (eq : K → K → Bool) (laws : IsEquivalence eq) where
 
   earlier : (past : List K) → AllByRecursion (λ e. e.1 < length past) (firsts_at past)
   earlier [] = tt
-  earlier (x ∷ past) =
-      (omega arith, all-filter (λ e. e.1 < length (x ∷ past)) (λ e. not (eq x e.0)) (firsts_at past)
-      (all-weaker (λ e. e.1 < length past) (λ e. e.1 < length (x ∷ past)) (firsts_at past) (λ e h. omega (arith, h)) (earlier past)))
+  earlier (x ∷ past) = (
+    omega arith,
+    all-filter (λ e. e.1 < length (x ∷ past)) (λ e. not (eq x e.0)) (firsts_at past)
+        (all-weaker (λ e. e.1 < length past) (λ e. e.1 < length (x ∷ past)) (firsts_at past) (λ e h. omega (arith, h)) (earlier past)),
+  )
 
   falls : (past : List K) → FallsStrictly (λ (e : K × ℕ). e.1) (firsts_at past)
   falls [] = tt
-  falls (x ∷ past) =
-      (all-filter (λ e. e.1 < length past) (λ e. not (eq x e.0)) (firsts_at past) (earlier past),
-      falls-filter (λ (e : K × ℕ). e.1) (λ e. not (eq x e.0)) (firsts_at past) (falls past))
+  falls (x ∷ past) = (
+    all-filter (λ e. e.1 < length past) (λ e. not (eq x e.0)) (firsts_at past) (earlier past),
+    falls-filter (λ (e : K × ℕ). e.1) (λ e. not (eq x e.0)) (firsts_at past) (falls past),
+  )
 
   none_filtered : (x k : K) (v : ℕ) (es : List (K × ℕ)) → eq k x ≡ true
       → AllByRecursion (λ e. same_at (k, v) e ≡ false) (filter (λ e. not (eq x e.0)) es)
@@ -169,8 +172,8 @@ module _ {K : Type 0} (eq : K → K → Bool) (laws : IsEquivalence eq) where
       (λ t. first latest (rw t at known) (rw (since-cons eq k x past, t) at at) t)
       (λ f. let here : same_at (k, v) (x, length past) ≡ false = rw f refl in
       let kept : (e : K × ℕ) → same_at (k, v) e ≡ true → not (eq x e.0) ≡ true =
-          λ e h. let there = (and_parts (eq k e.0) (v == e.1) h).0 in
-          split (eq x e.0) (λ t. cc (sym (laws.congr x e.0 k t ∙ laws.symm e.0 k ∙ there) ∙ laws.symm x k ∙ f)) (λ n. rw n refl) in
+      λ e h. let there = (and_parts (eq k e.0) (v == e.1) h).0 in
+      split (eq x e.0) (λ t. cc (sym (laws.congr x e.0 k t ∙ laws.symm e.0 k ∙ there) ∙ laws.symm x k ∙ f)) (λ n. rw n refl) in
       count_no (same_at (k, v)) (x, length past) (filter (λ e. not (eq x e.0)) (firsts_at past)) here
       ∙ count-filter (same_at (k, v)) (λ e. not (eq x e.0)) (firsts_at past) kept
       ∙ count-firsts_at k v past latest (rw f at known) (later latest (rw (since-cons eq k x past, f) at at)))
@@ -184,6 +187,7 @@ module _ {K : Type 0} (eq : K → K → Bool) (laws : IsEquivalence eq) where
           ∙ ap (λ n. cond (eq k x && v == length past) 1 0 + n)
           (count_none (same_at (k, v)) (filter (λ e. not (eq x e.0)) (firsts_at past)) (none_filtered x k v (firsts_at past) t))
           ∙ rw (t, is) (omega arith)
+
       later : (latest : Option ℕ) → IfSome latest (λ p. p + 1 + length (x ∷ since eq k past) ≡ length (x ∷ past))
           → IfSome latest (λ p. p + 1 + length (since eq k past) ≡ length past)
       later None at = at
@@ -231,12 +235,12 @@ module _ {K : Type 0} (eq : K → K → Bool) (laws : IsEquivalence eq) where
         let backwards = reverse (firsts_at past) in
         let apart : AreApart (keys_of es) = let P : List K → Type 0 = AreApart in subst P (sym keys) (lasts_apart past) in
         let counts : (e : K × ℕ) → count_by (same_at e) sorted ≡ count_by (same_at e) backwards =
-            λ e. sum_by-IsPermutation (λ x. cond (same_at e x) 1 0) es sorted moved
-            ∙ count-lookup e.0 e.1 es apart ∙ sym (count-firsts_at e.0 e.1 past (lookup (eq e.0) es) (known e.0) (at e.0))
-            ∙ sym (sum_by-IsPermutation (λ x. cond (same_at e x) 1 0) (firsts_at past) backwards (IsPermutation-reverse (firsts_at past))) in
+        λ e. sum_by-IsPermutation (λ x. cond (same_at e x) 1 0) es sorted moved
+        ∙ count-lookup e.0 e.1 es apart ∙ sym (count-firsts_at e.0 e.1 past (lookup (eq e.0) es) (known e.0) (at e.0))
+        ∙ sym (sum_by-IsPermutation (λ x. cond (same_at e x) 1 0) (firsts_at past) backwards (IsPermutation-reverse (firsts_at past))) in
         let is : sorted ≡ backwards =
-            rising_is f same_at same_at_is (λ e. rw (laws.refl e.0) (eq-eqb e.1 e.1 refl)) sorted backwards (rises f sorted rising)
-            (rises_backwards f (firsts_at past) (falls past)) counts in
+        rising_is f same_at same_at_is (λ e. rw (laws.refl e.0) (eq-eqb e.1 e.1 refl)) sorted backwards (rises f sorted rising)
+        (rises_backwards f (firsts_at past) (falls past)) counts in
         let turned : lasts eq (reverse past) ≡ reverse (firsts eq past) =
-            sym (reverse-reverse (lasts eq (reverse past))) ∙ ap reverse (reverse-lasts eq laws (reverse past) ∙ ap (firsts eq) (reverse-reverse past)) in
+        sym (reverse-reverse (lasts eq (reverse past))) ∙ ap reverse (reverse-lasts eq laws (reverse past) ∙ ap (firsts eq) (reverse-reverse past)) in
         ap keys_of is ∙ map-reverse (λ (e : K × ℕ). e.0) (firsts_at past) ∙ ap reverse (keys-firsts_at past) ∙ sym turned

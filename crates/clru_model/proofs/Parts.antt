@@ -1,5 +1,5 @@
 -- The first and the latest requests for keys, and the misses of two lists in a row.
-use Rattle.std.proofs.Common.{◌≡◌, ℕ, suc, ◌+◌, ◌≤◌, Bool, true, false, cond, not, ◌||◌, ◌&&◌, nat_lt, List, [], ◌∷◌, ◌++◌, length, reverse, refl, sym, ap, ◌∙◌, append_assoc, append-nil, arith}
+use Rattle.std.proofs.Common.{◌≡◌, ℕ, ◌+◌, Bool, true, false, cond, not, ◌||◌, List, [], ◌∷◌, ◌++◌, length, reverse, refl, sym, ap, ◌∙◌, append-nil, arith}
 use Rattle.std.proofs.lemmas.Bool.{or_left, or_right}
 use Rattle.std.proofs.lemmas.List.{reverse-append, length-reverse, reverse-reverse}
 use Rattle.std.proofs.lemmas.List.Elements.{filter-append}
@@ -143,7 +143,7 @@ module _ {K : Type 0} (eq : K → K → Bool) (laws : IsEquivalence eq) where
     hit_alike k x c d new same =
         let new_too : holds eq x d ≡ false = sym (same x) ∙ new in
         let all : distinct eq (c ++ since eq x p) ≡ distinct eq (d ++ since eq x q) =
-            distinct_same (c ++ since eq x p) (d ++ since eq x q) (λ z. rw (holds-append eq z c (since eq x p), holds-append eq z d (since eq x q), same z, behind x z) refl) in
+        distinct_same (c ++ since eq x p) (d ++ since eq x q) (λ z. rw (holds-append eq z c (since eq x p), holds-append eq z d (since eq x q), same z, behind x z) refl) in
         rw (holds-append eq x c p, holds-append eq x d q, new, new_too, held x, since_beyond x c p new, since_beyond x d q new_too, all) refl
 
     misses_beyond : (k : ℕ) (c d rs : List K) → ((z : K) → holds eq z c ≡ holds eq z d)
@@ -154,7 +154,7 @@ module _ {K : Type 0} (eq : K → K → Bool) (laws : IsEquivalence eq) where
         rw (count_by-not-cons (hit eq k x (c ++ p)), count_by-not-cons (hit eq k x c)) (split (holds eq x c)
         (λ t. let alike : hit eq k x (c ++ p) ≡ hit eq k x c = rw (holds-append eq x c p, t, since-append eq laws x c p t) refl in
         let more : (z : K) → holds eq z (x ∷ c) ≡ holds eq z d =
-            λ z. split (eq z x) (λ u. rw u (sym (sym (same z) ∙ holds_same eq laws z x c u ∙ t))) (λ v. rw v (same z)) in
+        λ z. split (eq z x) (λ u. rw u (sym (sym (same z) ∙ holds_same eq laws z x c u ∙ t))) (λ v. rw v (same z)) in
         let ih = misses_beyond k (x ∷ c) d rs more in
         rw (alike, t) (omega (arith, ih)))
         (λ f. let alike = hit_alike k x c d f same in
@@ -168,11 +168,11 @@ module _ {K : Type 0} (eq : K → K → Bool) (laws : IsEquivalence eq) where
   misses_lasts k past [] apart = refl
   misses_lasts k past (x ∷ rs) apart =
       let more : (z : K) → holds eq z past ≡ true → holds eq z rs ≡ false =
-          λ z h. split (holds eq z rs) (λ t. cc (sym (or_right (eq z x) (holds eq z rs) t) ∙ apart z h)) (λ f. f) in
+      λ z h. split (holds eq z rs) (λ t. cc (sym (or_right (eq z x) (holds eq z rs) t) ∙ apart z h)) (λ f. f) in
       split (holds eq x rs)
       (λ t. rw t (misses_lasts k past rs more))
       (λ f. let new : holds eq x past ≡ false =
-          split (holds eq x past) (λ u. cc (sym (or_left (eq x x) (holds eq x rs) (laws.refl x)) ∙ apart x u)) (λ v. v) in
+      split (holds eq x past) (λ u. cc (sym (or_left (eq x x) (holds eq x rs) (laws.refl x)) ∙ apart x u)) (λ v. v) in
       let missed : hit eq k x past ≡ false = rw new refl in
       let ih = misses_lasts k (x ∷ past) rs (λ z h. split (eq z x) (λ u. holds_same eq laws z x rs u ∙ f) (λ v. more z (rw v at h))) in
       rw (f, count_by-not-cons (hit eq k x past), missed) (omega (arith, ih)))
@@ -193,7 +193,7 @@ module _ {K : Type 0} (eq : K → K → Bool) (laws : IsEquivalence eq) where
       let turned : q ≡ firsts eq p = reverse-lasts one in
       let held : (z : K) → holds eq z p ≡ holds eq z q = λ z. sym (ap (holds eq z) turned ∙ holds-firsts z p) in
       let behind : (x z : K) → holds eq z (since eq x p) ≡ holds eq z (since eq x q) =
-          λ x z. sym (ap (λ l. holds eq z (since eq x l)) turned ∙ holds_since-firsts x z p) in
+      λ x z. sym (ap (λ l. holds eq z (since eq x l)) turned ∙ holds_since-firsts x z p) in
       let whole = misses_beyond p q held behind k [] [] two (λ z. refl) in
       let first : firsts_beyond eq [] two ≡ firsts eq two = firsts_beyond-is [] two ∙ beyond_none (firsts eq two) in
       let parts = rw first at whole in
@@ -234,7 +234,7 @@ module _ {K : Type 0} (eq : K → K → Bool) (laws : IsEquivalence eq) where
       let a = lasts eq one in let f = firsts eq two in let b = lasts eq two in
       let beyond : List K → List K = filter (λ x. not (holds eq x b)) in
       let held : (z : K) → holds eq z (lasts eq f) ≡ true → holds eq z b ≡ true =
-          λ z h. holds-lasts z two ∙ sym (holds-firsts z two) ∙ sym (holds-lasts z f) ∙ h in
+      λ z h. holds-lasts z two ∙ sym (holds-firsts z two) ∙ sym (holds-lasts z f) ∙ h in
       lasts-append (a ++ f) b
       ∙ ap (λ l. beyond l ++ lasts eq b) (lasts-append a f)
       ∙ ap (λ l. l ++ lasts eq b) (filter-append (λ x. not (holds eq x b)) (filter (λ x. not (holds eq x f)) (lasts eq a)) (lasts eq f))

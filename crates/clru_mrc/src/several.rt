@@ -94,7 +94,7 @@ fn hash_of(key: &[u8]) -> u64 {
         hash = mixed(hash, u64::from_le_bytes(*word));
         left = behind;
     }
-    // (the last eight bytes of a long key tell more than those that are left, and are one word)
+    // (in a key of eight bytes or more the last word may overlap the one before)
     let last = match key.last_chunk::<8>() {
         Some(word) => u64::from_le_bytes(*word),
         None => short_word(left),

@@ -1,5 +1,5 @@
 -- The distinct lines that a map holds, in the order of their first or of their latest requests, as bytes.
-use Rattle.std.proofs.Common.{◌≡◌, ℕ, ◌+◌, ◌<◌, ◌≤◌, List, [], ◌∷◌, ◌++◌, Some, length, map, reverse, take, get_or, sym, ap, ◌∙◌, append_assoc, arith}
+use Rattle.std.proofs.Common.{◌≡◌, ℕ, ◌+◌, ◌≤◌, List, [], ◌∷◌, ◌++◌, Some, length, reverse, take, sym, ap, ◌∙◌, append_assoc}
 use Rattle.std.proofs.lemmas.List.{map-append, take_all, take_more}
 use Rattle.std.proofs.lemmas.Option.{get_or_from_slice_get, slice_get_within}
 use Rattle.std.specs.Cmp.Lexicographic.{nat_list_eq_equiv}
@@ -17,7 +17,7 @@ pub line_written : (es : List (List ℕ × ℕ)) (i : ℕ) (e : List ℕ × ℕ)
     → text ++ e.0 ++ 10 ∷ [] ≡ bytes_of (keys_of (take (i + 1) es))
 line_written es i e text there is =
     let more : take (i + 1) es ≡ take i es ++ e ∷ [] =
-        take_more es i e (slice_get_within es i e there) ∙ ap (λ d. take i es ++ d ∷ []) (get_or_from_slice_get es i e e there) in
+    take_more es i e (slice_get_within es i e there) ∙ ap (λ d. take i es ++ d ∷ []) (get_or_from_slice_get es i e e there) in
     ap (λ t. t ++ e.0 ++ 10 ∷ []) is
     ∙ append_assoc (bytes_of (keys_of (take i es))) e.0 (10 ∷ [])
     ∙ sym (ap (λ l. bytes_of (keys_of l)) more ∙ ap bytes_of (map-append (λ (d : List ℕ × ℕ). d.0) (take i es) (e ∷ []))

@@ -1,5 +1,5 @@
 -- The entries of a map by their places, and sorted by their values.
-use Rattle.std.proofs.Common.{◌≡◌, ℕ, suc, ◌+◌, ◌<◌, ◌≤◌, List, [], ◌∷◌, ◌++◌, Some, None, Option, length, map, reverse, take, get_or, refl, sym, ap, ◌∙◌, subst, append_assoc, arith}
+use Rattle.std.proofs.Common.{◌≡◌, ℕ, suc, ◌+◌, ◌<◌, List, [], ◌∷◌, ◌++◌, Some, length, map, reverse, take, get_or, refl, sym, ap, ◌∙◌, subst, append_assoc, arith}
 use Rattle.std.proofs.Math.ListN.{get_or-map}
 use Rattle.std.proofs.lemmas.List.{length-append, length-map, length-take-le, reverse-reverse, take_more}
 use Rattle.std.proofs.lemmas.List.{get_or-map as get_or-mapped}
@@ -32,7 +32,7 @@ pub placed_more : (es : List (List ℕ × ℕ)) (i : ℕ) (e : List ℕ × ℕ) 
 placed_more es i e there =
     let within = slice_get_within es i e there in
     let more : take (i + 1) es ≡ take i es ++ e ∷ [] =
-        take_more es i e within ∙ ap (λ d. take i es ++ d ∷ []) (get_or_from_slice_get es i e e there) in
+    take_more es i e within ∙ ap (λ d. take i es ++ d ∷ []) (get_or_from_slice_get es i e e there) in
     let long : length (take i es) + 0 ≡ i = omega (arith, length-take-le i es (omega arith)) in
     ap (placed_from 0) more ∙ placed-append 0 (take i es) e ∙ ap (λ n. placed_from 0 (take i es) ++ placed e.1 n ∷ []) long
 
@@ -80,21 +80,21 @@ module _ (es : List (List ℕ × ℕ)) where
   in_order order moved rising =
       let P : Latest → Type 0 = λ o. IsThere (pair_of o) in
       let there : (i : ℕ) (d : Latest) → i < length order → IsThere (pair_of (get_or order i d)) =
-          λ i d lt.
-          let all = All-map-IsPermutation pair_of IsThere (placed_from 0 es) order moved
-              (All-map IsThere pair_of (placed_from 0 es) (placed_there [] es refl)) in
-          subst IsThere (get_or-map pair_of order i d) (all i (pair_of d) (omega (arith, lt, length-map order pair_of))) in
+      λ i d lt.
+      let all = All-map-IsPermutation pair_of IsThere (placed_from 0 es) order moved
+      (All-map IsThere pair_of (placed_from 0 es) (placed_there [] es refl)) in
+      subst IsThere (get_or-map pair_of order i d) (all i (pair_of d) (omega (arith, lt, length-map order pair_of))) in
       let sorted = map entry_of order in
       let none : List ℕ × ℕ = ([], 0) in
       let stands : (i : ℕ) (d : Latest) → i < length order → slice_get es (get_or order i d).index ≡ slice_get sorted i =
-          λ i d lt.
-          let o = get_or order i d in let found = there i d lt in
-          let is : get_or sorted i none ≡ (found.0, o.position) =
-              get_or-mapped entry_of order i d none lt ∙ ap (λ e. unwrap_or e none) found.1 in
-          found.1 ∙ sym (slice_get-get_or sorted i none (omega (arith, lt, length-map order entry_of)) ∙ ap (λ e. Some e) is) in
+      λ i d lt.
+      let o = get_or order i d in let found = there i d lt in
+      let is : get_or sorted i none ≡ (found.0, o.position) =
+      get_or-mapped entry_of order i d none lt ∙ ap (λ e. unwrap_or e none) found.1 in
+      found.1 ∙ sym (slice_get-get_or sorted i none (omega (arith, lt, length-map order entry_of)) ∙ ap (λ e. Some e) is) in
       let value : (i : ℕ) (d : List ℕ × ℕ) (e : Latest) → i < length order → (get_or sorted i d).1 ≡ (get_or order i e).position =
-          λ i d e lt. let found = there i e lt in
-          ap (λ (x : List ℕ × ℕ). x.1) (get_or-mapped entry_of order i e d lt ∙ ap (λ x. unwrap_or x none) found.1) in
+      λ i d e lt. let found = there i e lt in
+      ap (λ (x : List ℕ × ℕ). x.1) (get_or-mapped entry_of order i e d lt ∙ ap (λ x. unwrap_or x none) found.1) in
       record {
         sorted = sorted;
         moved = IsPermutation-trans (reverse es) es sorted (IsPermutation-sym es (reverse es) (IsPermutation-reverse es))

@@ -1,5 +1,5 @@
 -- What a pass over lines knows after one more, and in which order it holds them.
-use Rattle.std.proofs.Common.{◌≡◌, ℕ, ◌+◌, Bool, cond, List, ◌∷◌, map, length, Option, None, Some, refl, sym, ap, ◌∙◌, subst, arith}
+use Rattle.std.proofs.Common.{◌≡◌, ℕ, ◌+◌, Bool, cond, List, ◌∷◌, map, length, Option, None, Some, sym, ap, ◌∙◌, subst, arith}
 use Rattle.std.proofs.lemmas.List.{length-map}
 use Rattle.std.proofs.lemmas.Map.{keys-set_value}
 use Rattle.std.proofs.lemmas.Map.Made.{is_some-lookup}
@@ -36,7 +36,7 @@ module _ {A : Type 0} (past : List (OwnedKey A)) where
         behind None h = h
         behind (Some p) h =
             let gone : length (since bytes_eq (line_of key) (map line_of past)) ≡ length (since same_line key past) =
-                ap length (since-map bytes_eq line_of key past) ∙ length-map (since same_line key past) line_of in
+            ap length (since-map bytes_eq line_of key past) ∙ length-map (since same_line key past) line_of in
             omega (arith, h, gone, length-map past line_of)
 
     -- that of one more is
@@ -58,7 +58,7 @@ pub keys_more : (past : List (List ℕ)) (es : List (List ℕ × ℕ)) (line : L
     → keys_of (with_bytes line at es) ≡ lasts bytes_eq (line ∷ past)
 keys_more past es line at keys =
     let held : is_some (lookup (bytes_eq line) es) ≡ holds bytes_eq line past =
-        is_some-lookup (bytes_eq line) es ∙ ap (list_any (bytes_eq line)) keys ∙ holds-lasts bytes_eq nat_list_eq_equiv line past in
+    is_some-lookup (bytes_eq line) es ∙ ap (list_any (bytes_eq line)) keys ∙ holds-lasts bytes_eq nat_list_eq_equiv line past in
     split (holds bytes_eq line past)
     (λ t. rw (held, t) (keys-set_value (bytes_eq line) es at ∙ keys))
     (λ f. rw (held, f) (ap (λ l. line ∷ l) keys))

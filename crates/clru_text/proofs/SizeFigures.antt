@@ -1,14 +1,13 @@
 -- A line that begins with digits and a blank: its size.
-use Rattle.std.proofs.Common.{◌≡◌, ℕ, ◌+◌, ◌^◌, ◌<◌, true, ◌==◌, List, ◌∷◌, ◌++◌, Some, length, take, drop, get_or, sym, ap, ◌∙◌, arith}
+use Rattle.std.proofs.Common.{◌≡◌, ℕ, ◌+◌, ◌^◌, ◌<◌, true, List, ◌∷◌, ◌++◌, Some, length, take, drop, get_or, ap, ◌∙◌, arith}
 use Rattle.std.proofs.Math.Seq.{take-append_seam}
 use Rattle.std.proofs.lemmas.Bool.{lt-ltb}
-use Rattle.std.proofs.lemmas.List.{length-take-le}
 use Rattle.std.specs.Char.{is_ascii_digit}
-use Rattle.std.specs.List.{list_all, position}
+use Rattle.std.specs.List.{list_all}
 use Rattle.std.specs.Str.Parse.{digits_value}
 use Rattle.clru_model.proofs.Cases.{split}
 use Rattle.clru_text.proofs.TimeFigures.{cut, whole_blank}
-use Rattle.clru_text.specs.Lines.{are_digits, digits_named, is_capacity}
+use Rattle.clru_text.specs.Lines.{are_digits, digits_named}
 use Rattle.clru_text.specs.Sizes.{size_before, size_in, size_of_line}
 
 -- digits that name a number which is not 0 and fits are a size

@@ -18,7 +18,7 @@ pub fn size_of(line: &[u8]) -> Option<NonZeroUsize>
     }
 }
 
-// In one reading, if the size has few digits and is not 0; else `None`.
+// The size, if it is not 0 and has at most 18 digits, in one reading; else `None`.
 fn short_size(line: &[u8]) -> Option<NonZeroUsize>
     ensures { IfSome result (λ size. size_of_line line.now ≡ Some (non_zero_usize_get size)) }
 {

@@ -1,5 +1,5 @@
 -- What a page knows of the parts of a log. Public clauses cite it.
-use Rattle.std.specs.Prelude.{◌≡◌, ◌⊎◌, ℕ, ◌+◌, ◌^◌, ◌<◌, Bool, false, List, ◌++◌, length}
+use Rattle.std.specs.Prelude.{◌≡◌, ◌⊎◌, ℕ, ◌+◌, ◌^◌, ◌<◌, false, List, ◌++◌, length}
 use Rattle.clru_report.specs.Parts.{AreKnown, IsCurveOfLog, IsPart, needs_only_curve}
 use Rattle.clru_report.specs.Report.{IsReport}
 use Rattle.clru_text.specs.Arguments.{GivesOptions}

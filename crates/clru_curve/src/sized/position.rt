@@ -35,7 +35,7 @@ use std::marker::{Model, PhantomData};
 /// limit, the latest first, each with its time, by `IsSizedPositionPass`. Without times each has the time 0, and each reuse comes
 /// soon enough.
 ///
-/// Takes the memory of a `SizedPass` but for its hash table.
+/// Takes the memory of a `SizedPass` but for its hash table, and a kilobyte for announced requests.
 pub struct SizedPositionPass<K: Eq, A: Allocator + Copy = Global> {
     pub(crate) latest: Sizes<A>,
     // For each request that can hit, from which capacity on it does, and its own size, which is missed below.
@@ -123,9 +123,9 @@ impl<K: Eq, A: Allocator + Copy> SizedPositionPass<K, A> {
         self.count(latest, soon, weight, likely)
     }
 
-    /// Announces a request that is to come behind those that were announced before it, and reads what it is likely to read, so that it
-    /// need not wait for that. `latest` is the position of the latest request of its key, or a guess. This only saves time: the pass stays
-    /// as it is, whatever comes instead. Of more than 128 that are to come, the first ones count.
+    /// Announces the request that follows those announced before, and reads ahead what it probably needs. `latest` is the position of the
+    /// latest request of its key, or a guess. This only saves time: the pass stays as it is, whatever comes instead. Of those to come the
+    /// first 128 are remembered.
     /// Cost: a few reads.
     pub fn announce(&mut self, latest: Option<usize>)
         ensures { self.new ≡ self.old }

@@ -98,7 +98,7 @@ impl<A: Allocator + Copy> Sizes<A> {
         }
     }
 
-    /// The same. The place may be the hint.
+    /// The hint, if the size stands there, and else what `likely` returns.
     pub(crate) fn likely_by(&self, request: usize, hint: usize) -> usize {
         if self.is_at(request, hint) {
             hint
@@ -119,7 +119,8 @@ impl<A: Allocator + Copy> Sizes<A> {
             return usize::MAX;
         }
         let first = place / BLOCK * BLOCK;
-        let (Some(start), Some(end)) = (self.sizes.get(first), self.sizes.get(first | (BLOCK - 1))) else {
+        let (Some(start), Some(end)) = (self.sizes.get(first), self.sizes.get(first | (BLOCK - 1)))
+        else {
             return usize::MAX;
         };
         if start.number <= request && request <= end.number {

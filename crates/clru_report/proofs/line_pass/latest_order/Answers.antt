@@ -1,4 +1,4 @@
-use Rattle.std.proofs.Common.{◌≡◌, ℕ, List, [], ◌∷◌, ◌++◌, map, length, reverse, take, rules, sym, ap, subst, ◌∙◌, arith}
+use Rattle.std.proofs.Common.{◌≡◌, ℕ, List, [], ◌∷◌, ◌++◌, reverse, rules, sym, ap, subst, ◌∙◌, arith}
 use Rattle.std.proofs.lemmas.List.Sorted.{IsNonDecreasingBy-from_sort_by_key}
 use Rattle.std.proofs.lemmas.List.{length-reverse, reverse-reverse, take_all}
 use Rattle.std.specs.List.Sorted.{IsPermutation}
@@ -22,7 +22,7 @@ pub returns : goal.returns
 returns g c =
     let latest = c.args.latest.now in let es = reverse latest in let order = c.sort_unstable_by_key.new.self.items in
     let all : c.loop-index.order.items ≡ placed_from 0 es =
-        c.loop-index.invariant ∙ ap (placed_from 0) (take_all c.loop-index.index es (omega (arith, c.len-index-end.ensures, length-reverse latest, c.loop-index-test.false))) in
+    c.loop-index.invariant ∙ ap (placed_from 0) (take_all c.loop-index.index es (omega (arith, c.len-index-end.ensures, length-reverse latest, c.loop-index-test.false))) in
     let rising = IsNonDecreasingBy-from_sort_by_key (λ o. o.position) order c.sort_unstable_by_key.ensures.sorted (λ a r q k. search rules) in
     subst (λ l. IsInOrder l order) (reverse-reverse latest)
     (in_order es order (subst (λ l. IsPermutation l order) all c.sort_unstable_by_key.ensures.permutation) rising)

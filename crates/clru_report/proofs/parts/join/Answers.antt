@@ -7,7 +7,6 @@ use Rattle.clru_text.proofs.Texts.{lines_of-bytes_of}
 use Rattle.clru_text.specs.Lines.{lines_of}
 use Rattle.clru_text.specs.LinesRead.{IsFree}
 use Rattle.clru_text.specs.Texts.{bytes_of}
-use Rattle.clru_report.specs.LinePasses.{HasTakenLines}
 use Rattle.clru_report.specs.Parts.{HasCurve}
 use Rattle.clru_report.proofs.TakenLines.{distinct_taken, misses_taken}
 use Rattle.clru_report.proofs.parts.join.Goals as goal

@@ -1,4 +1,4 @@
-use Rattle.std.proofs.Common.{◌≡◌, [], refl, map, reverse, ap, ◌∙◌}
+use Rattle.std.proofs.Common.{[], refl, ap, ◌∙◌}
 use Rattle.std.specs.Prelude.{bytes_eq}
 use Rattle.clru_model.specs.Parts.{firsts, lasts}
 use Rattle.clru_text.proofs.Texts.{free_lines}

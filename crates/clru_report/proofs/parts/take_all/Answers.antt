@@ -1,4 +1,4 @@
-use Rattle.std.proofs.Common.{◌≡◌, ◌++◌, false, None, subst, refl}
+use Rattle.std.proofs.Common.{◌++◌, false, None, subst, refl}
 use Rattle.clru_text.proofs.ResultLemmas.{ok_map}
 use Rattle.clru_text.proofs.Samples.{all_kept}
 use Rattle.clru_text.specs.Lines.{lines_of}
@@ -9,7 +9,7 @@ use Rattle.clru_report.proofs.parts.take_all.Goals as goal
 pub returns : goal.returns
 returns g c before has =
     let old : HasTakenFor false false before c.args.pass.now None None =
-        record { past = has.past; shown = has.shown; taken = has.taken; foreseen = refl; floored = refl } in
+    record { past = has.past; shown = has.shown; taken = has.taken; foreseen = refl; floored = refl } in
     let next = c.take_lines.new.pass in
     ok_map c.take_lines.result
     (λ found read. (

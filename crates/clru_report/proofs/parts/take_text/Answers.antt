@@ -1,4 +1,4 @@
-use Rattle.std.proofs.Common.{◌≡◌, ◌++◌, List, ℕ, length}
+use Rattle.std.proofs.Common.{◌≡◌, ◌++◌, length}
 use Rattle.clru_text.proofs.Texts.{whole_read}
 use Rattle.clru_text.specs.Lines.{lines_of}
 use Rattle.clru_report.specs.LinePasses.{HasTakenLines}

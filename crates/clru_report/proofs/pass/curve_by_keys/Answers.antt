@@ -1,6 +1,5 @@
-use Rattle.std.proofs.Common.{◌≡◌, [], refl, sym, ap, ◌∙◌, subst, false, length, reverse}
+use Rattle.std.proofs.Common.{[], refl, subst}
 use Rattle.std.specs.Int.NonZero.{non_zero_usize_get}
-use Rattle.std.specs.Prelude.{bytes_eq}
 use Rattle.clru_text.specs.Lines.{lines_of}
 use Rattle.clru_text.specs.Samples.{kept_of}
 use Rattle.clru_report.proofs.TakenLines.{distinct_taken, foreseen_for, misses_taken, taken_for}
@@ -20,7 +19,7 @@ pub returns : goal.returns
 returns g c =
     let least = c.args.least in let floored = c.args.floored in
     let begun : HasTakenFor least floored [] c.new-pass.result c.foresight_for-foresight.result c.floor_pass_for-reuses.result =
-        record { past = []; shown = refl; taken = c.new-pass.ensures; foreseen = c.foresight_for-foresight.ensures; floored = c.floor_pass_for-reuses.ensures (λ _. 0) } in
+    record { past = []; shown = refl; taken = c.new-pass.ensures; foreseen = c.foresight_for-foresight.ensures; floored = c.floor_pass_for-reuses.ensures (λ _. 0) } in
     let read = c.in_ok-requests.ensures least floored [] begun in
     let lines = kept_of (non_zero_usize_get c.args.one_in) (lines_of read.0) in
     let all = read.3.2 in

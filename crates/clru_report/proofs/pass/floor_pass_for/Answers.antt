@@ -1,4 +1,3 @@
-use Rattle.std.proofs.Common.{sym, ◌∙◌}
 use Rattle.clru_text.specs.Keys.{line_of}
 use Rattle.clru_report.proofs.pass.floor_pass_for.Goals as goal
 

@@ -1,7 +1,7 @@
 use Rattle.std.proofs.Common.{[], ◌++◌, refl, sym, ap, ◌∙◌, subst}
 use Rattle.std.specs.Int.NonZero.{non_zero_usize_get}
 use Rattle.clru_text.specs.Keys.{line_of}
-use Rattle.clru_text.specs.Samples.{is_kept, kept_of}
+use Rattle.clru_text.specs.Samples.{is_kept}
 use Rattle.clru_text.proofs.ResultLemmas.{on_ok_map}
 use Rattle.clru_text.proofs.Samples.{kept_one}
 use Rattle.clru_report.specs.LinePasses.{HasTakenFor}

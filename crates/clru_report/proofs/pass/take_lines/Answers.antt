@@ -1,8 +1,7 @@
-use Rattle.std.proofs.Common.{◌≡◌, ℕ, List, [], ◌∷◌, ◌++◌, refl, sym, ap, ◌∙◌, subst, arith, append_assoc, append-nil, length}
+use Rattle.std.proofs.Common.{[], ◌∷◌, ◌++◌, refl, sym, ap, ◌∙◌, subst, arith, append_assoc, append-nil, length}
 use Rattle.std.proofs.lemmas.List.{length-append}
 use Rattle.std.proofs.lemmas.List.Elements.{filter-append}
 use Rattle.std.specs.Int.NonZero.{non_zero_usize_get}
-use Rattle.clru_text.specs.Keys.{line_of}
 use Rattle.clru_text.specs.Samples.{is_kept, kept_of}
 use Rattle.clru_report.specs.LinePasses.{HasTakenFor}
 use Rattle.clru_report.proofs.pass.take_lines.Goals as goal

@@ -1,4 +1,4 @@
-use Rattle.std.proofs.Common.{◌≡◌, ◌∙◌, ℕ, map, string_bytes, sym, ap, subst, length}
+use Rattle.std.proofs.Common.{◌≡◌, ◌∙◌, map, string_bytes, sym, ap, subst, length}
 use Rattle.std.specs.Int.NonZero.{non_zero_usize_get}
 use Rattle.std.specs.Prelude.{bytes_eq, reverse}
 use Rattle.clru_curve.specs.Curves.{HasMissesOf}
@@ -21,9 +21,9 @@ returns g c log of foreseen floored =
     let are = AreRows bytes_eq lines (wants_least options) (wants_floor options) in
     let rows = c.in_ok-rows.rows.items in
     let found = subst (λ cs. are (capacities_asked options c.args.requests lines cs) rows) (ap (map non_zero_usize_get) c.deref.ensures.value)
-        (c.in_ok-rows.ensures lines (wants_least options) (wants_floor options) has kinds foreseen floored) in
+    (c.in_ok-rows.ensures lines (wants_least options) (wants_floor options) has kinds foreseen floored) in
     let rowed = subst (are (capacities_asked options (length lines) lines table)) (sym c.deref-2.ensures.value)
-        (subst (λ n. are (capacities_asked options n lines table) rows) of.counted found) in
+    (subst (λ n. are (capacities_asked options n lines table) rows) of.counted found) in
     ok_map c.text_by_keys.result
     (λ text made. form_of_all options log _ table c.deref-3.result.now c.deref-2.result.now (string_bytes text)
     (c.in_ok-table.ensures.table (misses_of lines) many has kinds)

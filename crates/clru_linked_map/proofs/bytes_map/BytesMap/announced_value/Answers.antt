@@ -1,4 +1,4 @@
-use Rattle.std.proofs.Common.{◌≡◌, ℕ, List, Some, reverse, subst, arith}
+use Rattle.std.proofs.Common.{◌≡◌, Some, reverse, subst, arith}
 use Rattle.std.specs.List.{slice_get}
 use Rattle.clru_linked_map.proofs.Strings.{length-entries}
 use Rattle.clru_linked_map.specs.BytesTable.{string_at}

@@ -1,4 +1,4 @@
-use Rattle.std.proofs.Common.{sym, ap, ◌∙◌, Some, arith}
+use Rattle.std.proofs.Common.{arith}
 use Rattle.clru_linked_map.proofs.Strings.{length-entries}
 use Rattle.clru_linked_map.proofs.bytes_map.BytesMap.get_index.Goals as goal
 

@@ -1,4 +1,4 @@
-use Rattle.std.proofs.Common.{◌≡◌, ℕ, Some, List, [], map, reverse, length, get_or, sym, ap, ◌∙◌, arith, subst}
+use Rattle.std.proofs.Common.{◌≡◌, ℕ, Some, List, [], map, get_or, sym, ap, ◌∙◌, arith, subst}
 use Rattle.std.proofs.lemmas.Option.{slice_get-get_or}
 use Rattle.std.specs.Cmp.Lexicographic.{nat_list_eq_equiv}
 use Rattle.std.specs.List.{slice_get}
@@ -28,6 +28,6 @@ returns g c past is =
     let order = subst (IsInOrder c.args.self.now.latest) (sym c.deref-line-items.ensures.value) c.in_ok-order.ensures in
     let es = order.sorted in
     let keys = latest_order bytes_eq nat_list_eq_equiv same_bytes (map line_of past) c.args.self.now.latest es is.keys
-        (λ line. (is.noted line).known) (λ line. (is.noted line).position) order.moved order.rising in
+    (λ line. (is.noted line).known) (λ line. (is.noted line).position) order.moved order.rising in
     c.loop-line.invariant order ∙ all_written es c.loop-line.line-index (omega (arith, order.long, c.loop-line-test.false))
     ∙ ap bytes_of (keys ∙ ap (lasts bytes_eq) (sym (map-reverse line_of past)))

@@ -8,7 +8,7 @@ use Rattle.clru_text.specs.Keys.{line_of}
 use Rattle.clru_text.specs.Samples.{kept_of}
 use Rattle.clru_text.specs.Sizes.{HaveSizes, size_of_line, weight_of_line}
 use Rattle.clru_report.specs.KeyLogs.{line_at, lines_in}
-use Rattle.clru_report.specs.Passes.{AreFloorsFor, HasFloorPass, IsOfLines, weight_of_key}
+use Rattle.clru_report.specs.Passes.{AreFloorsFor, IsOfLines}
 use Rattle.clru_report.specs.Refusals.{fault_from}
 use Rattle.clru_report.specs.Sizes.{size_of_lines}
 use Rattle.clru_report.proofs.FaultLemmas.{lines_unwritten}

@@ -11,7 +11,7 @@ use Rattle.clru_text.specs.Samples.{kept_of}
 use Rattle.clru_text.specs.Sizes.{HaveSizes, size_of_line, weight_of_line}
 use Rattle.clru_text.proofs.ResultLemmas.{no_none, no_some, none_map, of_none, some_map}
 use Rattle.clru_report.proofs.FaultLemmas.{lines_unwritten}
-use Rattle.clru_report.specs.Passes.{AreFloorsFor, HasFloorPass, IsOfLines, weight_of_key}
+use Rattle.clru_report.specs.Passes.{AreFloorsFor, IsOfLines}
 use Rattle.clru_report.specs.Refusals.{fault_from}
 use Rattle.clru_report.specs.Sizes.{size_of_lines}
 use Rattle.clru_report.proofs.SettledCurves.{settled_curve}

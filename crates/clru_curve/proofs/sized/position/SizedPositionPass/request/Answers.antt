@@ -1,4 +1,4 @@
-use Rattle.std.proofs.Common.{ℕ, Option, sym, subst}
+use Rattle.std.proofs.Common.{sym, subst}
 use Rattle.std.specs.Prelude.{IfSome}
 use Rattle.clru_curve.proofs.SizedPositionPassing.{latest_live}
 use Rattle.clru_curve.specs.LatestSizes.{IsLiveAt}
