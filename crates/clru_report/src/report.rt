@@ -132,15 +132,7 @@ fn report_of_all<R: Read, S: BuildHasher + Drop, A: Allocator + Copy>(
         reader,
         hash_builder,
     )?;
-    match text_of_all(
-        alloc,
-        options,
-        &curve,
-        &foresight,
-        &floor,
-        requests,
-        bytes,
-    ) {
+    match text_of_all(alloc, options, &curve, &foresight, &floor, requests, bytes) {
         Ok(text) => Ok(text),
         Err(_) => Err(ReadError::Memory),
     }
