@@ -194,10 +194,14 @@ fn lent<R: Abort + AllocGlobal>(rt: &R, size: usize) -> Loan {
     Loan::taken(&rt.alloc(), size).expect(rt, "a block")
 }
 
-// The first bytes of an array, as many as there is room for.
-fn first(text: &mut [u8], room: usize) -> &mut [u8] {
-    let end = room.min(text.len());
-    &mut text[..end]
+// The first items of an array, as many as there is room for.
+fn first<T>(items: &mut [T], room: usize) -> &mut [T] {
+    let end = room.min(items.len());
+    &mut items[..end]
+}
+
+fn front<T>(items: &[T], count: usize) -> &[T] {
+    items.get(..count).unwrap_or(items)
 }
 
 #[test]
@@ -283,16 +287,16 @@ static NOTHING: Known = Known {
 };
 
 // What is known of lines, with memory, places of the curve and bytes for either text.
-fn known_of(loan: Loan, log: &str, places: usize, room: usize) -> (u32, Known) {
+fn known_of(loan: Loan, log: &[u8], places: usize, room: usize) -> (u32, Known) {
     let mut known = NOTHING;
     let code = part(
         loan,
-        log.as_bytes(),
+        log,
         1,
         2,
-        &mut known.curve[..places],
-        &mut known.firsts[..room],
-        &mut known.lasts[..room],
+        first(&mut known.curve, places),
+        first(&mut known.firsts, room),
+        first(&mut known.lasts, room),
         &mut known.requests,
         &mut known.keys,
         &mut known.first_bytes,
@@ -303,18 +307,18 @@ fn known_of(loan: Loan, log: &str, places: usize, room: usize) -> (u32, Known) {
 
 fn joined_of(loan: Loan, one: &Known, two: &Known, places: usize, room: usize) -> (u32, Known) {
     let mut known = NOTHING;
-    known.requests = one.requests + two.requests;
+    known.requests = one.requests.saturating_add(two.requests);
     let code = join(
         loan,
-        &one.curve[..one.keys],
-        &one.lasts[..one.last_bytes],
-        &two.curve[..two.keys],
-        &two.firsts[..two.first_bytes],
-        &two.lasts[..two.last_bytes],
+        front(&one.curve, one.keys),
+        front(&one.lasts, one.last_bytes),
+        front(&two.curve, two.keys),
+        front(&two.firsts, two.first_bytes),
+        front(&two.lasts, two.last_bytes),
         3,
         4,
-        &mut known.curve[..places],
-        &mut known.lasts[..room],
+        first(&mut known.curve, places),
+        first(&mut known.lasts, room),
         &mut known.keys,
         &mut known.last_bytes,
     );
@@ -325,24 +329,18 @@ fn joined_of(loan: Loan, one: &Known, two: &Known, places: usize, room: usize) -
 fn told_of(loan: Loan, known: &Known, words: &str, text: &mut [u8]) -> (u32, usize) {
     let mut written = text.len();
     let requests = known.requests;
-    let curve = &known.curve[..known.keys];
+    let curve = front(&known.curve, known.keys);
     let words = words.as_bytes();
-    let code = report_of_parts(
-        loan,
-        words,
-        requests,
-        2 * requests,
-        curve,
-        text,
-        &mut written,
-    );
+    let bytes = requests.saturating_mul(2);
+    let code = report_of_parts(loan, words, requests, bytes, curve, text, &mut written);
     (code, written)
 }
 
 #[test]
 fn parts_answer_as_the_whole(rt: HostRuntime) {
     for cut in 0..11 {
-        let (one, two) = TEN.split_at(2 * cut);
+        let log = TEN.as_bytes();
+        let (one, two) = (front(log, 2 * cut), log.get(2 * cut..).unwrap_or(log));
         let (_, first) = known_of(lent(&rt, ENOUGH), one, 8, 32);
         let (_, second) = known_of(lent(&rt, ENOUGH), two, 8, 32);
         let (_, all) = joined_of(lent(&rt, ENOUGH), &first, &second, 8, 32);
@@ -371,9 +369,9 @@ static ROOMS: [(usize, usize, usize, u32); 4] = [
 
 #[test]
 fn parts_want_room_and_do_not_tell_all(rt: HostRuntime) {
-    let (_, known) = known_of(lent(&rt, ENOUGH), TEN, 8, 32);
+    let (_, known) = known_of(lent(&rt, ENOUGH), TEN.as_bytes(), 8, 32);
     for (size, places, room, status) in ROOMS {
-        let (code, _) = known_of(lent(&rt, size), TEN, places, room);
+        let (code, _) = known_of(lent(&rt, size), TEN.as_bytes(), places, room);
         let (joined, _) = joined_of(lent(&rt, size), &known, &known, places, room);
         equal(&rt, (code, joined), (status, status));
     }
@@ -392,6 +390,6 @@ fn parts_want_room_and_do_not_tell_all(rt: HostRuntime) {
             (7, 0),
         );
     }
-    let (code, _) = told_of(lent(&rt, ENOUGH), &known, "", &mut text[..9]);
+    let (code, _) = told_of(lent(&rt, ENOUGH), &known, "", first(&mut text, 9));
     equal(&rt, code, 5);
 }
