@@ -1,16 +1,13 @@
-//! The position of the first newline. Several bytes are looked at together, without a branch on each, because the processor would
+//! The position of the first newline. Eight bytes are looked at together, without a branch on each, because the processor would
 //! guess the end of most lines wrong.
-ghost use Rattle.std.specs.Prelude.{◌≡◌, ◌==◌, ◌+◌, ◌<◌, ◌≤◌, false, length, position};
-ghost use Rattle.clru_text.specs.Newlines.{IsFirstOfEight, free_from};
+ghost use Rattle.std.specs.Prelude.{◌≡◌, ◌==◌, ◌+◌, ◌<◌, ◌≤◌, length, position};
+ghost use Rattle.clru_text.specs.Newlines.{IsFirstOfEight};
 
 pub(crate) fn newline_at(bytes: &[u8]) -> Option<usize>
     ensures { result ≡ position (λ b. b == 10) bytes.now }
 {
     let mut start = 0;
-    'free: while bytes.len() - start >= 16 && !has_newline(bytes, start) {
-        start += 16;
-    }
-    'eights: while bytes.len() - start >= 8 {
+    while bytes.len() - start >= 8 {
         let at = first_of_eight(bytes, start);
         if at < 8 {
             return Some(start + at);
@@ -27,18 +24,6 @@ fn newline_in(bytes: &[u8]) -> Option<usize>
     ensures { result ≡ position (λ b. b == 10) bytes.now }
 {
     bytes.iter().position(|byte| *byte == b'\n')
-}
-
-/// Returns whether there is a newline among the sixteen bytes from `start` on.
-fn has_newline(bytes: &[u8], start: usize) -> bool
-    requires { start + 16 ≤ length bytes.now }
-    ensures { result ≡ false → free_from bytes.now start ≡ 16 + free_from bytes.now (start + 16) }
-{
-    let mut found = false;
-    for index in 0..16 {
-        found = found | (bytes[start + index] == b'\n');
-    }
-    found
 }
 
 /// Returns how many of the eight bytes from `start` on are before the first newline.
