@@ -30,13 +30,13 @@ pub record IsPart (lines : List (List ℕ)) (requests : ℕ) (curve first latest
   pub counted : requests ≡ length lines
   pub first_lines : first ≡ bytes_of (firsts bytes_eq lines)
 
--- lines, bytes and curve of a log
+-- how many lines and bytes a log has, and its curve
 pub record IsCurveOfLog (log : List ℕ) (requests bytes : ℕ) (curve : List ℕ) : Type 0 where
   pub counted : requests ≡ length (lines_of log)
   pub in_bytes : bytes ≡ length log
   pub missed : HasCurve (lines_of log) curve
 
--- a log that is cut behind a newline has the lines of both parts in a row
+-- the lines of a log that is cut behind a newline are those of one part, and then those of the other
 abbrev pub CutsBetweenLines : Type 0
 CutsBetweenLines = (one two : List ℕ) → lines_of ((one ++ 10 ∷ []) ++ two) ≡ lines_of (one ++ 10 ∷ []) ++ lines_of two
 

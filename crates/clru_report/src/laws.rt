@@ -29,7 +29,7 @@ pub fn law_one_size()
     ensures of_one { GreatestIsOfOne }
 {}
 
-/// States that a log which is cut behind newlines has the lines of its parts in a row.
+/// States that the lines of a log that is cut behind a newline are those of one part, and then those of the other.
 pub fn law_cut_logs()
     ensures { CutsBetweenLines }
 {}

@@ -35,7 +35,8 @@ pub struct Part<A: Allocator> {
     pub lasts: Vec<u8, A>,
 }
 
-/// Returns what is known of all lines of a reader. The parts of a log are cut behind newlines, so that each line is whole in one of them.
+/// Reads a part of a log to its end, and returns what is known of its lines. A log has to be cut behind newlines, or one of its lines
+/// becomes two.
 ///
 /// Fails if memory is refused, or a read fails.
 /// Cost: that of a report of them without its text, two copies of the distinct lines, and a sort of two numbers for each.
@@ -85,8 +86,8 @@ pub struct Known<'a> {
     pub lasts: &'a [u8],
 }
 
-/// Returns the curve and the latest requests of lines with those of a part behind them. `firsts` are the first requests of the part.
-/// So parts are joined from left to right, and the caller adds up how many lines and bytes they have.
+/// Returns curve and latest requests of the lines of `one` and of the part `two` behind them, taken together. `firsts` are the first
+/// requests of that part. The result may be the next `one`; the caller adds up how many lines and bytes there are.
 /// Cost: a look-up for each distinct line of the first, two for each of the part, and a sort of two numbers for each of both.
 pub fn join<S: BuildHasher + Drop, A: Allocator + Copy>(
     alloc: A,
@@ -151,7 +152,7 @@ fn joined_curve<A: Allocator>(
     Ok(curve)
 }
 
-/// Returns the report of a log from its curve, or `None` if more is needed for what the options ask.
+/// Returns the report of a log from its curve, or `None` if the options ask for what the curve does not tell.
 /// Cost: that of the text, and a copy of the curve.
 pub fn report_of_curve<A: Allocator + Copy>(
     alloc: A,

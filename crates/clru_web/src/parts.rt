@@ -1,4 +1,4 @@
-//! What a page is told of the parts of a log, and the text for all of them.
+//! Arrays and text for a page that counts a log by parts.
 ghost use Rattle.std.specs.Prelude.{◌≡◌, ◌⊎◌, ◌<◌, ◌≤◌, ℕ, List, true, false, length, take};
 ghost use Rattle.clru_report.specs.Parts.{needs_only_curve};
 ghost use Rattle.clru_text.specs.Arguments.{IsRefusedLine};
@@ -27,7 +27,7 @@ pub(crate) fn put_items<T: Copy + Drop>(items: &[T], array: &mut [T], count: &mu
     true
 }
 
-/// Writes what the arguments ask for to `text`, of a log of which this is known, and returns a status.
+/// Writes to `text` what the arguments ask for, of a log with so many lines and bytes and this curve, and returns a status.
 pub(crate) fn answer_of_parts<A: Allocator + Copy>(
     alloc: A,
     arguments: &[u8],
