@@ -1,4 +1,4 @@
--- Where a newline stands among eight bytes. No public clause cites it.
+-- Where a newline stands among sixteen bytes. No public clause cites it.
 use Rattle.std.specs.Prelude.{◌≡◌, ℕ, ◌+◌, ◌<◌, ◌≤◌, List, drop, ◌==◌}
 use Rattle.std.specs.List.{position_or_len}
 
@@ -6,8 +6,7 @@ use Rattle.std.specs.List.{position_or_len}
 abbrev pub free_from : List ℕ → ℕ → ℕ
 free_from bytes at = position_or_len (λ b. b == 10) (drop at bytes)
 
--- of the bytes from start + index on, those up to start + at are free of newlines; below 8 a newline follows, and at 8 what follows is
--- not known
-pub record IsFirstOfEight (bytes : List ℕ) (start index at : ℕ) : Type 0 where
-  pub found : at < 8 → index + free_from bytes (start + index) ≡ at
-  pub none : 8 ≤ at → index + free_from bytes (start + index) ≡ 8 + free_from bytes (start + 8)
+-- of the sixteen bytes from start on, those up to start + at are free of newlines; below 16 a newline follows
+pub record IsFirstOfSixteen (bytes : List ℕ) (start at : ℕ) : Type 0 where
+  pub found : at < 16 → free_from bytes start ≡ at
+  pub none : 16 ≤ at → free_from bytes start ≡ 16 + free_from bytes (start + 16)

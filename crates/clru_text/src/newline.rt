@@ -1,18 +1,20 @@
-//! The position of the first newline. Eight bytes are looked at together, without a branch on each, because the processor would
+//! The position of the first newline. Sixteen bytes are looked at together, without a branch on each, because the processor would
 //! guess the end of most lines wrong.
-ghost use Rattle.std.specs.Prelude.{◌≡◌, ◌==◌, ◌+◌, ◌<◌, ◌≤◌, length, position};
-ghost use Rattle.clru_text.specs.Newlines.{IsFirstOfEight};
+ghost use Rattle.std.specs.Prelude.{◌≡◌, ◌==◌, ◌+◌, ◌≤◌, length, position};
+ghost use Rattle.clru_text.specs.Newlines.{IsFirstOfSixteen};
+
+use std::simd::prelude::*;
 
 pub(crate) fn newline_at(bytes: &[u8]) -> Option<usize>
     ensures { result ≡ position (λ b. b == 10) bytes.now }
 {
     let mut start = 0;
-    while bytes.len() - start >= 8 {
-        let at = first_of_eight(bytes, start);
-        if at < 8 {
+    while bytes.len() - start >= 16 {
+        let at = first_of_sixteen(bytes, start);
+        if at < 16 {
             return Some(start + at);
         }
-        start += 8;
+        start += 16;
     }
     match newline_in(&bytes[start..]) {
         Some(at) => Some(start + at),
@@ -26,32 +28,18 @@ fn newline_in(bytes: &[u8]) -> Option<usize>
     bytes.iter().position(|byte| *byte == b'\n')
 }
 
-/// Returns how many of the eight bytes from `start` on are before the first newline.
-fn first_of_eight(bytes: &[u8], start: usize) -> usize
-    requires { start + 8 ≤ length bytes.now }
-    ensures { IsFirstOfEight bytes.now start 0 result }
-{
-    let at = first_newline_from(bytes, start, 7, 8);
-    let at = first_newline_from(bytes, start, 6, at);
-    let at = first_newline_from(bytes, start, 5, at);
-    let at = first_newline_from(bytes, start, 4, at);
-    let at = first_newline_from(bytes, start, 3, at);
-    let at = first_newline_from(bytes, start, 2, at);
-    let at = first_newline_from(bytes, start, 1, at);
-    first_newline_from(bytes, start, 0, at)
-}
-
-/// Returns the same of those from `index` on. `behind` is the result for those after it.
+/// Returns how many of the sixteen bytes from `start` on are before the first newline.
 #[inline(always)]
-fn first_newline_from(bytes: &[u8], start: usize, index: usize, behind: usize) -> usize
-    requires within { start + index < length bytes.now }
-    requires eight { index < 8 }
-    requires behind { IsFirstOfEight bytes.now start (index + 1) behind }
-    ensures { IsFirstOfEight bytes.now start index result }
+fn first_of_sixteen(bytes: &[u8], start: usize) -> usize
+    requires { start + 16 ≤ length bytes.now }
+    ensures { IsFirstOfSixteen bytes.now start result }
 {
-    if bytes[start + index] == b'\n' {
-        index
+    let newlines = u8x16::from_slice(&bytes[start..])
+        .simd_eq(u8x16::splat(b'\n'))
+        .to_bitmask();
+    if newlines == 0 {
+        16
     } else {
-        behind
+        newlines.trailing_zeros() as usize
     }
 }

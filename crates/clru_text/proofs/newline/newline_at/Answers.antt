@@ -10,11 +10,11 @@ loop-start-init c = (omega arith, omega arith)
 pub overflow_sub-bytes : goal.overflow_sub-bytes
 overflow_sub-bytes c = c.loop-start.invariant.0
 
-pub returns-then-at-lt8 : goal.returns-then-at-lt8
-returns-then-at-lt8 c =
-    let bytes = c.args.bytes.now in let i = c.loop-start.invariant in let found = c.first_of_eight-at.ensures.found c.if-at-lt8.true in
+pub returns-then-at-lt16 : goal.returns-then-at-lt16
+returns-then-at-lt16 c =
+    let bytes = c.args.bytes.now in let i = c.loop-start.invariant in let found = c.first_of_sixteen-at.ensures.found c.if-at-lt16.true in
     let same : c.loop-start.start + 0 ≡ c.loop-start.start = omega arith in
-    sym (position-is (λ b. b == 10) bytes _ (omega (arith, i.1, found, ap (free_from bytes) same)) (omega (arith, i.0, c.loop-start-test.true, c.if-at-lt8.true)))
+    sym (position-is (λ b. b == 10) bytes _ (omega (arith, i.1, found, ap (free_from bytes) same)) (omega (arith, i.0, c.loop-start-test.true, c.if-at-lt16.true)))
 
 pub loop-start-smaller : goal.loop-start-smaller
 loop-start-smaller c = omega (arith, c.loop-start-test.true)
@@ -22,7 +22,7 @@ loop-start-smaller c = omega (arith, c.loop-start-test.true)
 pub loop-start-preserved : goal.loop-start-preserved
 loop-start-preserved c =
     let i = c.loop-start.invariant in let same : c.loop-start.start + 0 ≡ c.loop-start.start = omega arith in
-    (omega (arith, i.0, c.loop-start-test.true), omega (arith, i.1, c.first_of_eight-at.ensures.none (omega (arith, c.if-at-lt8.false)), ap (free_from c.args.bytes.now) same))
+    (omega (arith, i.0, c.loop-start-test.true), omega (arith, i.1, c.first_of_sixteen-at.ensures.none (omega (arith, c.if-at-lt16.false)), ap (free_from c.args.bytes.now) same))
 
 pub returns-in-Some : goal.returns-in-Some
 returns-in-Some c =
