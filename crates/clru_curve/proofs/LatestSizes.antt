@@ -32,8 +32,8 @@ pub sizes_few : (ss : List Numbered) (j : ℕ) → sizes_from ss j ≤ sizes_fro
 sizes_few ss j = falls_far (sizes_from ss) (sizes_fall ss) 0 j (omega arith)
 
 -- nor from a block on
-pub blocks_fall : (ss : List Numbered) → Falls (λ j. sizes_from ss (16 * j))
-blocks_fall ss j = falls_far (sizes_from ss) (sizes_fall ss) (16 * j) (16 * suc j) (omega arith)
+pub blocks_fall : (ss : List Numbered) → Falls (λ j. sizes_from ss (8 * j))
+blocks_fall ss j = falls_far (sizes_from ss) (sizes_fall ss) (8 * j) (8 * suc j) (omega arith)
 
 -- one more size at the end
 pub sizes_push : (ss : List Numbered) (m v j : ℕ) → sizes_from (ss ++ numbered m v ∷ []) j ≡ sizes_from ss j + up_by v j (length ss)
@@ -67,39 +67,39 @@ sizes_take-ge (s ∷ ss) (suc i) zero ge = absurd (omega (arith, ge))
 sizes_take-ge (s ∷ ss) (suc i) (suc j) ge = sizes_take-ge ss i j (omega (arith, ge))
 
 -- the first of a block is no later than a size where the block is no later than the size's
-up_by-block : (a j n : ℕ) → up_by a (16 * j) n ≡ up_by a j (n / 16)
+up_by-block : (a j n : ℕ) → up_by a (8 * j) n ≡ up_by a j (n / 8)
 up_by-block a j n =
-    let whole = div-add-mod' n 16 in let rest = mod_below n 16 (omega arith) in
-    elim (cases_lt n (16 * j)) [
-      | inl gt ↦ omega (arith, up_by-gt a (16 * j) n gt, up_by-gt a j (n / 16) (omega (arith, whole, rest, gt)))
-      | inr le ↦ omega (arith, up_by-le a (16 * j) n le, up_by-le a j (n / 16) (omega (arith, whole, rest, le)))
+    let whole = div-add-mod' n 8 in let rest = mod_below n 8 (omega arith) in
+    elim (cases_lt n (8 * j)) [
+      | inl gt ↦ omega (arith, up_by-gt a (8 * j) n gt, up_by-gt a j (n / 8) (omega (arith, whole, rest, gt)))
+      | inr le ↦ omega (arith, up_by-le a (8 * j) n le, up_by-le a j (n / 8) (omega (arith, whole, rest, le)))
     ]
 
 -- the first sizes, with some more of one block
-module _ (ss : List Numbered) (at end more : ℕ) (order : at ≤ end) (one_block : end ≤ 16 * (at / 16 + 1)) (sum : more + sizes_from ss end ≡ sizes_from ss at) where
-  pub blocks_take : (j : ℕ) → sizes_from (take at ss) (16 * j) + up_by more j (at / 16) ≡ sizes_from (take end ss) (16 * j)
+module _ (ss : List Numbered) (at end more : ℕ) (order : at ≤ end) (one_block : end ≤ 8 * (at / 8 + 1)) (sum : more + sizes_from ss end ≡ sizes_from ss at) where
+  pub blocks_take : (j : ℕ) → sizes_from (take at ss) (8 * j) + up_by more j (at / 8) ≡ sizes_from (take end ss) (8 * j)
   blocks_take j =
-      let whole = div-add-mod' at 16 in let rest = mod_below at 16 (omega arith) in
-      elim (cases_lt at (16 * j)) [
+      let whole = div-add-mod' at 8 in let rest = mod_below at 8 (omega arith) in
+      elim (cases_lt at (8 * j)) [
         | inl gt ↦ omega (
           arith,
-          sizes_take-ge ss at (16 * j) (omega (arith, gt)),
-          sizes_take-ge ss end (16 * j) (omega (arith, one_block, whole, rest, gt)),
-          up_by-gt more j (at / 16) (omega (arith, whole, rest, gt)),
+          sizes_take-ge ss at (8 * j) (omega (arith, gt)),
+          sizes_take-ge ss end (8 * j) (omega (arith, one_block, whole, rest, gt)),
+          up_by-gt more j (at / 8) (omega (arith, whole, rest, gt)),
         )
         | inr le ↦ omega (
           arith,
-          sizes_take-le ss at (16 * j) le,
-          sizes_take-le ss end (16 * j) (omega (arith, order, le)),
-          up_by-le more j (at / 16) (omega (arith, whole, rest, le)),
+          sizes_take-le ss at (8 * j) le,
+          sizes_take-le ss end (8 * j) (omega (arith, order, le)),
+          up_by-le more j (at / 8) (omega (arith, whole, rest, le)),
           sum,
         )
       ]
 
-  pub take_fits : (j : ℕ) → sizes_from (take at ss) (16 * j) + more ≤ sizes_from ss 0
-  take_fits j = elim (cases_lt at (16 * j)) [
-    | inl gt ↦ omega (arith, sizes_take-ge ss at (16 * j) (omega (arith, gt)), sizes_few ss at, sum)
-    | inr le ↦ omega (arith, sizes_take-le ss at (16 * j) le, sizes_few ss (16 * j), sum)
+  pub take_fits : (j : ℕ) → sizes_from (take at ss) (8 * j) + more ≤ sizes_from ss 0
+  take_fits j = elim (cases_lt at (8 * j)) [
+    | inl gt ↦ omega (arith, sizes_take-ge ss at (8 * j) (omega (arith, gt)), sizes_few ss at, sum)
+    | inr le ↦ omega (arith, sizes_take-le ss at (8 * j) le, sizes_few ss (8 * j), sum)
   ]
 
 -- the same by number
@@ -258,32 +258,32 @@ IsSummed-none = record {
   rising = omega arith;
 }
 
-pub IsSummed-node : (ss : List Numbered) (nodes : List ℕ) (n : ℕ) → IsSummed ss nodes n → length nodes ≤ length ss / 16 → IsSummed ss (nodes ++ 0 ∷ []) n
+pub IsSummed-node : (ss : List Numbered) (nodes : List ℕ) (n : ℕ) → IsSummed ss nodes n → length nodes ≤ length ss / 8 → IsSummed ss (nodes ++ 0 ∷ []) n
 IsSummed-node ss nodes n kept full = record {
   counted = IsCounted-push _ nodes kept.counted;
   covers = omega (arith, length_push nodes 0, kept.covers);
-  tight = omega (arith, length_push nodes 0, full, div-add-mod' (length ss) 16);
+  tight = omega (arith, length_push nodes 0, full, div-add-mod' (length ss) 8);
   rising = kept.rising;
 }
 
 module _ (ss : List Numbered) (nodes : List ℕ) (n : ℕ) (kept : IsSummed ss nodes n) where
   -- a size's block has a node
-  pub block_inside : (p : ℕ) → p < 16 * length nodes → p / 16 < length nodes
-  block_inside p within = omega (arith, div-add-mod' p 16, within)
+  pub block_inside : (p : ℕ) → p < 8 * length nodes → p / 8 < length nodes
+  block_inside p within = omega (arith, div-add-mod' p 8, within)
 
-  pub IsSummed-push : (v k : ℕ) (nodes' : List ℕ) → k ≡ length ss → length nodes' ≡ length nodes → length ss < 16 * length nodes
-      → IsCounted (λ j. sizes_from ss (16 * j) + up_by v j (k / 16)) nodes' → IsSummed (ss ++ numbered n v ∷ []) nodes' (n + 1)
+  pub IsSummed-push : (v k : ℕ) (nodes' : List ℕ) → k ≡ length ss → length nodes' ≡ length nodes → length ss < 8 * length nodes
+      → IsCounted (λ j. sizes_from ss (8 * j) + up_by v j (k / 8)) nodes' → IsSummed (ss ++ numbered n v ∷ []) nodes' (n + 1)
   IsSummed-push v k nodes' all same room counted = record {
-    counted = IsCounted-same _ _ nodes' (λ j. let p = sizes_push ss n v (16 * j) in let b = up_by-block v j k in
-        let u = ap (λ i. up_by v (16 * j) i) all in
-        let e : sizes_from ss (16 * j) + up_by v j (k / 16) ≡ sizes_from (ss ++ numbered n v ∷ []) (16 * j) = omega (arith, p, b, u) in e) counted;
+    counted = IsCounted-same _ _ nodes' (λ j. let p = sizes_push ss n v (8 * j) in let b = up_by-block v j k in
+        let u = ap (λ i. up_by v (8 * j) i) all in
+        let e : sizes_from ss (8 * j) + up_by v j (k / 8) ≡ sizes_from (ss ++ numbered n v ∷ []) (8 * j) = omega (arith, p, b, u) in e) counted;
     covers = omega (arith, same, length_push ss (numbered n v), room);
     tight = omega (arith, same, length_push ss (numbered n v), kept.tight);
     rising = let one : suc n ≡ n + 1 = omega arith in subst (IsRising 0 (ss ++ numbered n v ∷ [])) one (rising_push 0 ss n v kept.rising);
   }
 
-  pub IsSummed-filter : (nodes' : List ℕ) → IsCounted (λ j. sizes_from (filter has_value ss) (16 * j)) nodes'
-      → length (filter has_value ss) ≤ 16 * length nodes' → 16 * length nodes' ≤ length (filter has_value ss) + 16 → IsSummed (filter has_value ss) nodes' n
+  pub IsSummed-filter : (nodes' : List ℕ) → IsCounted (λ j. sizes_from (filter has_value ss) (8 * j)) nodes'
+      → length (filter has_value ss) ≤ 8 * length nodes' → 8 * length nodes' ≤ length (filter has_value ss) + 8 → IsSummed (filter has_value ss) nodes' n
   IsSummed-filter nodes' counted covers tight = record {
     counted = counted;
     covers = covers;
@@ -294,12 +294,12 @@ module _ (ss : List Numbered) (nodes : List ℕ) (n : ℕ) (kept : IsSummed ss n
   module _ (p : ℕ) (inside : p < length ss) where
     -- the nodes as they were sum one size more
     pub clear_counted : (size : ℕ) → size ≡ value_at ss p
-        → IsCounted (λ j. sizes_from (set ss p (numbered (number_at ss p) 0)) (16 * j) + up_by size j (p / 16)) nodes
-    clear_counted size is = IsCounted-same _ _ nodes (λ j. let s = sizes_clear ss p (number_at ss p) (16 * j) inside in let b = up_by-block size j p in
-        let u = ap (λ a. up_by a (16 * j) p) is in
-        let e : sizes_from ss (16 * j) ≡ sizes_from (set ss p (numbered (number_at ss p) 0)) (16 * j) + up_by size j (p / 16) = omega (arith, s, b, u) in e) kept.counted
+        → IsCounted (λ j. sizes_from (set ss p (numbered (number_at ss p) 0)) (8 * j) + up_by size j (p / 8)) nodes
+    clear_counted size is = IsCounted-same _ _ nodes (λ j. let s = sizes_clear ss p (number_at ss p) (8 * j) inside in let b = up_by-block size j p in
+        let u = ap (λ a. up_by a (8 * j) p) is in
+        let e : sizes_from ss (8 * j) ≡ sizes_from (set ss p (numbered (number_at ss p) 0)) (8 * j) + up_by size j (p / 8) = omega (arith, s, b, u) in e) kept.counted
 
-    pub IsSummed-clear : (nodes' : List ℕ) → length nodes' ≡ length nodes → IsCounted (λ j. sizes_from (set ss p (numbered (number_at ss p) 0)) (16 * j)) nodes'
+    pub IsSummed-clear : (nodes' : List ℕ) → length nodes' ≡ length nodes → IsCounted (λ j. sizes_from (set ss p (numbered (number_at ss p) 0)) (8 * j)) nodes'
         → IsSummed (set ss p (numbered (number_at ss p) 0)) nodes' n
     IsSummed-clear nodes' same counted = record {
       counted = counted;

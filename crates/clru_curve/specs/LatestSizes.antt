@@ -1,4 +1,4 @@
--- The sizes of the latest requests of keys, by the numbers of these, and the sums of blocks of sixteen. No public clause cites it.
+-- The sizes of the latest requests of keys, by the numbers of these, and the sums of blocks of eight. No public clause cites it.
 use Rattle.std.specs.Prelude.{◌≡◌, ℕ, zero, suc, ◌+◌, ◌*◌, ◌<◌, ◌≤◌, if◌then◌else◌, List, [], ◌∷◌, length, slice_set}
 use Rattle.clru_curve.specs.declared.numbered.Numbered.{Numbered}
 use Rattle.clru_curve.specs.Rising.{has_value, numbered, number_at, value_at, IsRising}
@@ -34,7 +34,7 @@ pub record IsRemoved (ss : List Numbered) (request : ℕ) (left : List Numbered)
 
 -- what holds of the sizes of n requests and of the nodes above their blocks
 pub record IsSummed (ss : List Numbered) (nodes : List ℕ) (n : ℕ) : Type 0 where
-  pub counted : IsCounted (λ j. sizes_from ss (16 * j)) nodes
-  pub covers : length ss ≤ 16 * length nodes
-  pub tight : 16 * length nodes ≤ length ss + 16
+  pub counted : IsCounted (λ j. sizes_from ss (8 * j)) nodes
+  pub covers : length ss ≤ 8 * length nodes
+  pub tight : 8 * length nodes ≤ length ss + 8
   pub rising : IsRising 0 ss n

@@ -183,6 +183,12 @@ fn places_of<V: Copy, S: BuildHasher, A: Allocator + Copy>(
     }
     for at in 0..strings.len().min(places.len()) {
         let Hashed { start, end, .. } = strings[at];
+        if !table.is_as_long(places[at], end - start) {
+            places[at] = NOWHERE;
+        }
+    }
+    for at in 0..strings.len().min(places.len()) {
+        let Hashed { start, end, .. } = strings[at];
         if !table.begins_alike(places[at], &bytes[start..end]) {
             places[at] = NOWHERE;
         }

@@ -156,6 +156,12 @@ impl<V: Copy, S: BuildHasher, A: Allocator + Copy> BytesTable<V, S, A> {
         self.index.place(number)
     }
 
+    /// Returns whether a string at a place, which may be none, has so many bytes.
+    #[inline(always)]
+    pub(crate) fn is_as_long(&self, place: usize, length: usize) -> bool {
+        place < self.held.len() && self.held[place].end.wrapping_sub(self.start_at(place)) == length
+    }
+
     /// Returns whether a string at a place, which may be none, begins with the same byte. If that string is empty, the byte after it counts.
     #[inline(always)]
     pub(crate) fn begins_alike(&self, place: usize, bytes: &[u8]) -> bool {

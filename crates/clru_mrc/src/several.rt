@@ -1,6 +1,6 @@
 //! Which keys came with several sizes.
 
-use clru_text::Seed;
+use clru_text::{Seed, tail_of};
 use std::collections::HashMap;
 
 /// The size of each key, by a hash of its bytes: 0 once it came with another size. Of many keys a part is looked at.
@@ -36,7 +36,7 @@ impl SizesOfKeys {
         if self.is_lost {
             return;
         }
-        let key = hash_of(key_of(line));
+        let key = hash_of(tail_of(line));
         if key & self.mask != 0 {
             return;
         }
@@ -75,14 +75,6 @@ impl SizesOfKeys {
         } else {
             None
         }
-    }
-}
-
-// What stands behind the first blank.
-fn key_of(line: &[u8]) -> &[u8] {
-    match line.iter().position(|byte| *byte == b' ') {
-        Some(at) => line.get(at..).unwrap_or(line),
-        None => line,
     }
 }
 

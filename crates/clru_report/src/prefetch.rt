@@ -12,7 +12,7 @@ use std::num::NonZeroUsize;
 const FEW_LINES: usize = 4096;
 
 /// How many lines are looked up at a time.
-const AHEAD: usize = 128;
+pub(crate) const AHEAD: usize = 128;
 
 /// Only lines that end within so many bytes are looked up, so that long ones take no more memory.
 const AHEAD_BYTES: usize = 8192;

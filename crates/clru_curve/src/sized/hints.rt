@@ -1,12 +1,11 @@
 //! `Hints`: where the sizes of announced requests are likely to stand. No clause speaks of them: only the time of a request rests on them.
 
-/// How many requests may be announced before they come.
-const MOST: usize = 128;
+use crate::ahead::AHEAD;
 
 /// The likely places for the requests that are announced, in their order.
 #[derive(Drop)]
 pub(crate) struct Hints {
-    places: [usize; MOST],
+    places: [usize; AHEAD],
     announced: usize,
     // How many of these requests came.
     passed: usize,
@@ -16,27 +15,30 @@ impl Hints {
     /// No request is announced.
     pub(crate) fn new() -> Self {
         Hints {
-            places: [0; MOST],
+            places: [0; AHEAD],
             announced: 0,
             passed: 0,
         }
     }
 
-    /// Announces one more request, unless there are too many. Those that came are dropped once all have come.
-    pub(crate) fn push(&mut self, place: usize) {
+    /// Announces so many more requests, by their likely places, as long as there are not too many. Those that came are dropped once all have
+    /// come.
+    pub(crate) fn push(&mut self, places: &[usize; AHEAD], count: usize) {
         if self.passed >= self.announced {
             self.announced = 0;
             self.passed = 0;
         }
-        if self.announced < MOST {
-            self.places[self.announced] = place;
-            self.announced += 1;
+        for at in 0..count.min(AHEAD) {
+            if self.announced < AHEAD {
+                self.places[self.announced] = places[at];
+                self.announced += 1;
+            }
         }
     }
 
     /// Returns the likely place for the request that comes now, or `usize::MAX` if it was not announced.
     pub(crate) fn pass(&mut self) -> usize {
-        if self.passed >= self.announced || self.passed >= MOST {
+        if self.passed >= self.announced || self.passed >= AHEAD {
             return usize::MAX;
         }
         let place = self.places[self.passed];

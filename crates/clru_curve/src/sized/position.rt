@@ -123,18 +123,15 @@ impl<K: Eq, A: Allocator + Copy> SizedPositionPass<K, A> {
         self.count(latest, soon, weight, likely)
     }
 
-    /// Announces the request that follows those announced before, and reads ahead what it probably needs. `latest` is the position of the
-    /// latest request of its key, or a guess. This only saves time: the pass stays as it is, whatever comes instead. Of those to come the
-    /// first 128 are remembered.
-    /// Cost: a few reads.
-    pub fn announce(&mut self, latest: Option<usize>)
+    /// Announces the requests that follow those announced before, and reads ahead what they probably need. Each is given by the position of
+    /// the latest request of its key, or a guess. This only saves time: the pass stays as it is, whatever comes instead. Of those to come
+    /// the first 128 are remembered.
+    /// Cost: a few reads for each.
+    pub fn announce(&mut self, latest: &[Option<usize>])
         ensures { self.new ≡ self.old }
     {
-        let place = match latest {
-            Some(position) => self.latest.read_ahead(position),
-            None => usize::MAX,
-        };
-        self.hints.push(place);
+        let places = self.latest.read_ahead(latest);
+        self.hints.push(&places, latest.len());
     }
 
     /// Where the size of this request is likely to stand, for `count`: at the hint, if it stands there. Reads of several such places do not

@@ -4,18 +4,39 @@ ghost use Rattle.clru_curve.specs.LatestSizes.{IsRemoved, IsSummed, live_from, s
 ghost use Rattle.clru_curve.specs.Rising.{has_value, numbered, value_at};
 ghost use Rattle.clru_curve.specs.Tree.{IsCounted};
 
+use crate::ahead::AHEAD;
 use crate::numbered::{Numbered, place_near};
 use crate::sized::guide::Guide;
 use crate::tree::{add_at, count_from, subtract_at};
 use std::alloc::{AllocError, Allocator};
 
 /// How many sizes share a node.
-const BLOCK: usize = 16;
+const BLOCK: usize = 8;
+
+/// Masks that leave nothing of a size, and then masks that leave all of it.
+const MASKS: [usize; 16] = [
+    0,
+    0,
+    0,
+    0,
+    0,
+    0,
+    0,
+    0,
+    usize::MAX,
+    usize::MAX,
+    usize::MAX,
+    usize::MAX,
+    usize::MAX,
+    usize::MAX,
+    usize::MAX,
+    usize::MAX,
+];
 
 /// How many sizes there may be beyond half as many again as were not 0 when they were last looked through.
 const FEW: usize = 64;
 
-/// The sizes by the numbers of their requests, and for each sixteen of them a node of the tree above their sums.
+/// The sizes by the numbers of their requests, and for each eight of them a node of the tree above their sums.
 ///
 /// Sizes are dropped, not renumbered: a request keeps its number. So memory goes with the keys.
 #[derive(Drop)]
@@ -50,7 +71,7 @@ impl<A: Allocator + Copy> Sizes<A> {
         ensures sizes { self.new.sizes.items ≡ self.old.sizes.items }
         ensures requests { self.new.requests ≡ self.old.requests }
         ensures room { OnOk result (vec_len self.new.sizes < vec_capacity self.new.sizes) }
-        ensures node { OnOk result (length self.new.sizes.items < 16 * length self.new.nodes.items) }
+        ensures node { OnOk result (length self.new.sizes.items < 8 * length self.new.nodes.items) }
     {
         let Ok(()) = self.sizes.reserve(1) else {
             return Err(AllocError);
@@ -71,7 +92,7 @@ impl<A: Allocator + Copy> Sizes<A> {
     pub(crate) fn push(&mut self, size: usize)
         requires kept { IsSummed self.old.sizes.items self.old.nodes.items self.old.requests }
         requires room { vec_len self.old.sizes < vec_capacity self.old.sizes }
-        requires node { length self.old.sizes.items < 16 * length self.old.nodes.items }
+        requires node { length self.old.sizes.items < 8 * length self.old.nodes.items }
         requires fits { sizes_from self.old.sizes.items 0 + size < 2 ^ 64 }
         requires countable { self.old.requests + 1 < 2 ^ 64 }
         ensures kept { IsSummed self.new.sizes.items self.new.nodes.items self.new.requests }
@@ -111,23 +132,41 @@ impl<A: Allocator + Copy> Sizes<A> {
         place < self.sizes.len() && self.sizes[place].number == request
     }
 
-    /// The place where the size of a request is, or `usize::MAX` if it is not known or in the last block. It reads both ends of the block
-    /// too, since `remove` sums it up.
-    pub(crate) fn read_ahead(&self, request: usize) -> usize {
-        let place = self.guide.likely(request);
+    /// The places where the sizes of the first of these requests are, or `usize::MAX` where that is not known or in the last block. All are
+    /// guessed before the first is read, so that no read waits for another.
+    pub(crate) fn read_ahead(&self, requests: &[Option<usize>]) -> [usize; AHEAD] {
+        let mut places = [usize::MAX; AHEAD];
+        let count = requests.len().min(AHEAD);
+        for at in 0..count {
+            if let Some(request) = requests[at] {
+                places[at] = self.guide.likely(request);
+            }
+        }
+        for at in 0..count {
+            if let Some(request) = requests[at] {
+                places[at] = self.read(request, places[at]);
+            }
+        }
+        places
+    }
+
+    /// The place, if the size of the request stands there, or else `usize::MAX`. It reads the ends and the middle of the block too, since
+    /// `remove` sums it up, and it may lie in three lines of the processor's cache.
+    fn read(&self, request: usize, place: usize) -> usize {
         if !self.is_at(request, place) {
             return usize::MAX;
         }
         let first = place / BLOCK * BLOCK;
-        let (Some(start), Some(end)) = (self.sizes.get(first), self.sizes.get(first | (BLOCK - 1)))
-        else {
+        let block = (
+            self.sizes.get(first),
+            self.sizes.get(first | (BLOCK / 2)),
+            self.sizes.get(first | (BLOCK - 1)),
+        );
+        let (Some(start), Some(middle), Some(end)) = block else {
             return usize::MAX;
         };
-        if start.number <= request && request <= end.number {
-            place
-        } else {
-            usize::MAX
-        }
+        let is_rising = start.number <= middle.number && middle.number <= end.number;
+        if is_rising { place } else { usize::MAX }
     }
 
     /// The request is no longer the latest of its key. Returns its size and those of all later requests that are the latest of
@@ -202,10 +241,10 @@ impl<A: Allocator + Copy> Sizes<A> {
 
 /// Sums the sizes of each block anew.
 fn sum_anew(nodes: &mut [usize], sizes: &[Numbered])
-    requires covers { length sizes.now ≤ 16 * length nodes.old }
+    requires covers { length sizes.now ≤ 8 * length nodes.old }
     requires fits { sizes_from sizes.now 0 < 2 ^ 64 }
     ensures length { length nodes.new ≡ length nodes.old }
-    ensures counted { IsCounted (λ j. sizes_from sizes.now (16 * j)) nodes.new }
+    ensures counted { IsCounted (λ j. sizes_from sizes.now (8 * j)) nodes.new }
 {
     nodes.fill(0);
     let mut at = 0;
@@ -235,9 +274,9 @@ fn sum_between(sizes: &[Numbered], first: usize, end: usize) -> usize
 
 /// The sum of the sizes from a place up to the end of its block.
 fn sum_of_rest(sizes: &[Numbered], at: usize) -> usize
-    requires inside { 16 * (at / 16 + 1) ≤ length sizes.now }
+    requires inside { 8 * (at / 8 + 1) ≤ length sizes.now }
     requires fits { sizes_from sizes.now at < 2 ^ 64 }
-    ensures { result + sizes_from sizes.now (16 * (at / 16 + 1)) ≡ sizes_from sizes.now at }
+    ensures { result + sizes_from sizes.now (8 * (at / 8 + 1)) ≡ sizes_from sizes.now at }
 {
     let first = at / BLOCK * BLOCK;
     let mut sum = 0;
@@ -247,12 +286,15 @@ fn sum_of_rest(sizes: &[Numbered], at: usize) -> usize
     sum
 }
 
-/// The size at a place, or 0 if that is before `at`.
+/// The size at a place, or 0 if that is before `at`. Both are in one block.
+#[inline(always)]
 fn size_behind(sizes: &[Numbered], at: usize, place: usize) -> usize
-    requires { place < length sizes.now }
+    requires inside { place < length sizes.now }
+    requires from { at < place + 8 }
+    requires to { place < at + 8 }
     ensures before { place < at → result ≡ 0 }
     ensures behind { at ≤ place → result ≡ value_at sizes.now place }
 {
-    // (by a mask, since the processor would guess a branch wrong)
-    sizes[place].value & 0usize.wrapping_sub((place >= at) as usize)
+    // (by a table, since the processor would guess a branch wrong)
+    sizes[place].value & MASKS[BLOCK + place - at]
 }

@@ -8,7 +8,7 @@ ghost use Rattle.clru_text.specs.declared.lines.OwnedKey.{OwnedKey};
 ghost use Rattle.clru_report.specs.Passes.{weight_of_key};
 ghost use Rattle.clru_report.specs.SizedLinePasses.{IsSizedLinePass};
 
-use crate::prefetch::prefetch;
+use crate::prefetch::{AHEAD, prefetch};
 use clru_curve::{NoMemory, SizedCurve, SizedPositionPass};
 use clru_linked_map::BytesMap;
 use clru_text::OwnedKey;
@@ -109,7 +109,13 @@ fn announce<S: BuildHasher, A: Allocator + Copy>(
 )
     ensures { pass.new ≡ pass.old }
 {
-    for number in 0..count {
-        pass.announce(lines.announced_value(number));
+    if count == 0 {
+        return;
     }
+    let mut latest = [None; AHEAD];
+    let count = count.min(AHEAD);
+    for number in 0..count {
+        latest[number] = lines.announced_value(number);
+    }
+    pass.announce(&latest[..count]);
 }

@@ -7,7 +7,7 @@ abbrev pub invariant-loop-at : goal.invariant-loop-at
 invariant-loop-at l = record {
   within : l.at ≤ length l.sizes;
   same : length l.nodes ≡ length l.fn.nodes;
-  counted : IsCounted (λ j. sizes_from (take l.at l.sizes) (16 * j)) l.nodes;
+  counted : IsCounted (λ j. sizes_from (take l.at l.sizes) (8 * j)) l.nodes;
 }
 
 abbrev pub decreases-loop-at : goal.decreases-loop-at

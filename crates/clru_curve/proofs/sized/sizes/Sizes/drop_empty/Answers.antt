@@ -34,10 +34,10 @@ returns-clause-kept g c =
     let n = c.len-sizes.result in
     let all : n ≡ length (filter has_value ss) = omega (arith, c.len-sizes.ensures, c.retain.new.self.ok.0, ap (λ l. length l) left) in
     let fewer = length_filter ss in
-    let covers : length (filter has_value ss) ≤ 16 * length c.sum_anew.new.nodes
-    = omega (arith, nodes, c.truncate.ensures.len, all, fewer, c.requires.kept.covers, self.nodes.ok.0, div-add-mod' n 16, mod_below n 16 (omega arith)) in
-    let tight : 16 * length c.sum_anew.new.nodes ≤ length (filter has_value ss) + 16
-    = omega (arith, nodes, c.truncate.ensures.len, all, self.nodes.ok.0, div-add-mod' n 16, mod_below n 16 (omega arith)) in
+    let covers : length (filter has_value ss) ≤ 8 * length c.sum_anew.new.nodes
+    = omega (arith, nodes, c.truncate.ensures.len, all, fewer, c.requires.kept.covers, self.nodes.ok.0, div-add-mod' n 8, mod_below n 8 (omega arith)) in
+    let tight : 8 * length c.sum_anew.new.nodes ≤ length (filter has_value ss) + 8
+    = omega (arith, nodes, c.truncate.ensures.len, all, self.nodes.ok.0, div-add-mod' n 8, mod_below n 8 (omega arith)) in
     rw (written_back c.sum_anew.new.nodes c.truncate.new.self.items c.truncate.new.self.len nodes, left)
     (IsSummed-filter ss self.nodes.items self.requests c.requires.kept c.sum_anew.new.nodes
-    (subst (λ l. IsCounted (λ j. sizes_from l (16 * j)) c.sum_anew.new.nodes) (c.deref.ensures.value ∙ left) c.sum_anew.ensures.counted) covers tight)
+    (subst (λ l. IsCounted (λ j. sizes_from l (8 * j)) c.sum_anew.new.nodes) (c.deref.ensures.value ∙ left) c.sum_anew.ensures.counted) covers tight)

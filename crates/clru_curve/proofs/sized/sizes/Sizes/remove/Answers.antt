@@ -17,7 +17,7 @@ subtract_at-requires-clause-counted g c =
     let inside : i < length ss = omega (arith, c.place_near-at.ensures.inside, ap (λ l. length l) c.deref.ensures.value) in
     let word = block_read ss i i c.index.result.now refl inside c.index.ensures in
     let size = ap (λ b. b.value) word in (
-      λ j. sizes_from (set ss i (numbered (number_at ss i) 0)) (16 * j),
+      λ j. sizes_from (set ss i (numbered (number_at ss i) 0)) (8 * j),
       (
         λ j. blocks_fall (set ss i (numbered (number_at ss i) 0)) j,
         rw c.deref_mut.ensures.value (clear_counted ss ns n kept i inside c.index.result.now.value size),
@@ -40,7 +40,7 @@ returns-clause-kept g c =
     let word = block_read ss i i c.index.result.now refl inside c.index.ensures in
     let size = ap (λ b. b.value) word in
     let read = block_read ss i i c.index_mut.result.now refl inside c.index_mut.ensures.value in
-    let counted = c.subtract_at.ensures.counted (λ j. sizes_from (set ss i (numbered (number_at ss i) 0)) (16 * j))
+    let counted = c.subtract_at.ensures.counted (λ j. sizes_from (set ss i (numbered (number_at ss i) 0)) (8 * j))
     (rw c.deref_mut.ensures.value (clear_counted ss ns n kept i inside c.index.result.now.value size)) in
     rw (written_back c.subtract_at.new.nodes ns self.nodes.len (c.subtract_at.ensures.length ∙ c.deref_mut.ensures.len), read)
     (IsSummed-clear ss ns n kept i inside c.subtract_at.new.nodes

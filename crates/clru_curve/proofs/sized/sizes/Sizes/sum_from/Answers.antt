@@ -11,19 +11,19 @@ sum_of_rest-requires-clause-fits g c =
 pub count_from-requires-clause-counted : goal.count_from-requires-clause-counted
 count_from-requires-clause-counted g c =
     let self = c.args.self.now in (
-      λ j. sizes_from self.sizes.items (16 * j),
+      λ j. sizes_from self.sizes.items (8 * j),
       (
         rw c.deref-then-block-len.ensures.value c.requires.kept.counted,
-        omega (arith, sizes_few self.sizes.items (16 * (c.args.at / 16 + 1)), c.requires.fits),
+        omega (arith, sizes_few self.sizes.items (8 * (c.args.at / 8 + 1)), c.requires.fits),
       ),
     )
 
 pub returns-then-block-len : goal.returns-then-block-len
 returns-then-block-len g c =
-    let self = c.args.self.now in let block = c.args.at / 16 + 1 in
+    let self = c.args.self.now in let block = c.args.at / 8 + 1 in
     let sum = rw c.deref.ensures.value at c.sum_of_rest.ensures in
-    let rest = c.count_from.ensures (λ j. sizes_from self.sizes.items (16 * j)) (rw c.deref-then-block-len.ensures.value c.requires.kept.counted) in
-    let turn : block * 16 ≡ 16 * block = omega arith in
+    let rest = c.count_from.ensures (λ j. sizes_from self.sizes.items (8 * j)) (rw c.deref-then-block-len.ensures.value c.requires.kept.counted) in
+    let turn : block * 8 ≡ 8 * block = omega arith in
     omega (arith, sum, rest, ap (sizes_from self.sizes.items) turn)
 
 pub overflow_add-result : goal.overflow_add-result
