@@ -11,8 +11,8 @@ use std::num::NonZeroUsize;
 /// As long as fewer distinct lines are held, they fit the processor's caches, and a look ahead would save nothing.
 const FEW_LINES: usize = 4096;
 
-/// How many lines are looked up at a time.
-pub(crate) const AHEAD: usize = 128;
+/// How many lines are looked up at a time. What is read ahead for more does not fit the processor's first cache.
+pub(crate) const AHEAD: usize = 64;
 
 /// Only lines that end within so many bytes are looked up, so that long ones take no more memory.
 const AHEAD_BYTES: usize = 8192;

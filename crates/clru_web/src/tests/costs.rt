@@ -108,7 +108,7 @@ fn a_line_that_is_looked_up_ahead_is_hashed_once(rt: HostRuntime) -> Result<(), 
         }
         input.push(b'\n')?;
     }
-    for (sizes, requests, bytes) in [(false, 94, 809_873), (true, 109, 1_811_608)] {
+    for (sizes, requests, bytes) in [(false, 91, 804_753), (true, 106, 1_806_488)] {
         let costs = costs_of(
             rt.alloc(),
             &input,
