@@ -12,7 +12,7 @@ use clru_model::WeightScale;
 use std::alloc::Allocator;
 use std::hash::{BuildHasher, Hash};
 
-/// How many requests are looked up at a time.
+/// How many requests are looked up at a time, and how many announced ones are remembered.
 pub(crate) const AHEAD: usize = 128;
 
 /// What is known of a request that was looked up: the position of the latest request of its key before it, and its weight.

@@ -1,5 +1,5 @@
 -- Where the lines of an input begin and end.
-use Rattle.std.proofs.Common.{◌≡◌, ℕ, zero, suc, ◌+◌, ◌<◌, ◌≤◌, ◌-◌, Bool, true, false, cond, not, List, [], ◌∷◌, ◌++◌, None, Some, length, get_or, rules, take, drop, take-append-drop, drop-cons, length-append, length-drop, drop-drop, add-one, refl, sym, ap, ◌∙◌, arith}
+use Rattle.std.proofs.Common.{◌≡◌, ℕ, zero, suc, ◌+◌, ◌<◌, ◌≤◌, ◌-◌, Bool, true, false, cond, not, List, [], ◌∷◌, ◌++◌, None, Some, length, get_or, rules, take, drop, take-append-drop, drop-cons, length-append, length-drop, add-one, refl, sym, ap, ◌∙◌, arith}
 use Rattle.std.specs.Prelude.{◌==◌, position}
 use Rattle.std.proofs.Math.Seq.{take-append_seam, drop-append-add}
 use Rattle.std.specs.List.{slice_split, position_or_len, before_first, after_first}
@@ -10,7 +10,6 @@ use Rattle.std.proofs.lemmas.List.Sums.{fails_before_first, position_or_len_is}
 use Rattle.std.proofs.lemmas.List.Splits.{slice_split_first, slice_split_none, length-slice_split}
 use Rattle.clru_text.specs.Lines.{lines_of, lines_of_parts}
 use Rattle.clru_text.specs.LinesRead.{IsFree}
-use Rattle.clru_text.specs.Newlines.{IsFirstOfSixteen}
 
 -- a part with another one after it is a line
 lines_of_parts-cons : (part : List ℕ) (parts : List (List ℕ)) → 0 < length parts
@@ -75,12 +74,12 @@ lines_of-last bytes h some =
     ap lines_of_parts (slice_split_none p bytes (search (rules, fails))) ∙ lines_of_parts-one bytes some
 
 -- the first element that passes is among the first n, or behind them
-first-taken : {X : Type 0} (p : X → Bool) (xs : List X) (n : ℕ) → n ≤ length xs
+pub first_taken : {X : Type 0} (p : X → Bool) (xs : List X) (n : ℕ) → n ≤ length xs
     → (position_or_len p (take n xs) < n → position_or_len p xs ≡ position_or_len p (take n xs))
     × (n ≤ position_or_len p (take n xs) → position_or_len p xs ≡ n + position_or_len p (drop n xs))
-first-taken p xs zero h = (λ l. absurd (omega arith), λ l. omega arith)
-first-taken p [] (suc n) h = absurd (omega arith)
-first-taken p (x ∷ xs) (suc n) h = step (p x) (first-taken p xs n (omega arith))
+first_taken p xs zero h = (λ l. absurd (omega arith), λ l. omega arith)
+first_taken p [] (suc n) h = absurd (omega arith)
+first_taken p (x ∷ xs) (suc n) h = step (p x) (first_taken p xs n (omega arith))
   where
     step : (t : Bool)
         → ((position_or_len p (take n xs) < n → position_or_len p xs ≡ position_or_len p (take n xs))
@@ -89,17 +88,6 @@ first-taken p (x ∷ xs) (suc n) h = step (p x) (first-taken p xs n (omega arith
         × (suc n ≤ cond (not t) (1 + position_or_len p (take n xs)) 0 → cond (not t) (1 + position_or_len p xs) 0 ≡ suc n + position_or_len p (drop n xs))
     step true rest = (λ l. refl, λ l. absurd (omega arith))
     step false rest = (λ l. omega (arith, rest.0 (omega arith)), λ l. omega (arith, rest.1 (omega arith)))
-
-pub first_of_sixteen : (bytes : List ℕ) (start at : ℕ) → start + 16 ≤ length bytes
-    → at ≡ position_or_len (λ b. b == 10) (take 16 (drop start bytes)) → IsFirstOfSixteen bytes start at
-first_of_sixteen bytes start at h is =
-    let len = length-drop start bytes in
-    let found = first-taken (λ b. b == 10) (drop start bytes) 16 (omega arith) in
-    let on : drop 16 (drop start bytes) ≡ drop (start + 16) bytes = drop-drop 16 start bytes in
-    record {
-      found = λ l. omega (arith, is, found.0 (omega arith));
-      none = λ l. omega (arith, is, found.1 (omega arith), ap (position_or_len (λ b. b == 10)) on);
-    }
 
 -- the newline of bytes with none before others is that of the others
 abbrev first : List ℕ → ℕ

@@ -1,7 +1,7 @@
 //! The position of the first newline. Sixteen bytes are looked at together, without a branch on each, because the processor would
 //! guess the end of most lines wrong.
-ghost use Rattle.std.specs.Prelude.{◌≡◌, ◌==◌, ◌+◌, ◌≤◌, length, position};
-ghost use Rattle.clru_text.specs.Newlines.{IsFirstOfSixteen};
+ghost use Rattle.std.specs.Prelude.{◌≡◌, ◌==◌, ◌+◌, ◌≤◌, length, position, take, drop};
+ghost use Rattle.std.specs.List.{position_or_len};
 
 use std::simd::prelude::*;
 
@@ -32,7 +32,7 @@ fn newline_in(bytes: &[u8]) -> Option<usize>
 #[inline(always)]
 fn first_of_sixteen(bytes: &[u8], start: usize) -> usize
     requires { start + 16 ≤ length bytes.now }
-    ensures { IsFirstOfSixteen bytes.now start result }
+    ensures { result ≡ position_or_len (λ b. b == 10) (take 16 (drop start bytes.now)) }
 {
     let newlines = u8x16::from_slice(&bytes[start..])
         .simd_eq(u8x16::splat(b'\n'))

@@ -21,8 +21,7 @@ impl Hints {
         }
     }
 
-    /// Announces so many more requests, by their likely places, as long as there are not too many. Those that came are dropped once all have
-    /// come.
+    /// Announces `count` more requests, each by its likely place, up to `AHEAD` in all. Those that came are dropped once all have come.
     pub(crate) fn push(&mut self, places: &[usize; AHEAD], count: usize) {
         if self.passed >= self.announced {
             self.announced = 0;

@@ -123,9 +123,9 @@ impl<K: Eq, A: Allocator + Copy> SizedPositionPass<K, A> {
         self.count(latest, soon, weight, likely)
     }
 
-    /// Announces the requests that follow those announced before, and reads ahead what they probably need. Each is given by the position of
-    /// the latest request of its key, or a guess. This only saves time: the pass stays as it is, whatever comes instead. Of those to come
-    /// the first 128 are remembered.
+    /// Announces the requests that follow those announced before, and reads ahead what they probably need. `latest` has for each the position
+    /// of the latest request of its key, or a guess, and `None` if the key is probably new. This only saves time: the pass stays as it is,
+    /// whatever comes instead. Of those to come the first 128 are remembered.
     /// Cost: a few reads for each.
     pub fn announce(&mut self, latest: &[Option<usize>])
         ensures { self.new ≡ self.old }

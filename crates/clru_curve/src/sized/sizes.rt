@@ -132,8 +132,8 @@ impl<A: Allocator + Copy> Sizes<A> {
         place < self.sizes.len() && self.sizes[place].number == request
     }
 
-    /// The places where the sizes of the first of these requests are, or `usize::MAX` where that is not known or in the last block. All are
-    /// guessed before the first is read, so that no read waits for another.
+    /// The places where the sizes of the first of these requests are, or `usize::MAX` where that is not known or in a block that is not full.
+    /// All are guessed before the first is read, so that no read waits for another.
     pub(crate) fn read_ahead(&self, requests: &[Option<usize>]) -> [usize; AHEAD] {
         let mut places = [usize::MAX; AHEAD];
         let count = requests.len().min(AHEAD);
@@ -144,15 +144,15 @@ impl<A: Allocator + Copy> Sizes<A> {
         }
         for at in 0..count {
             if let Some(request) = requests[at] {
-                places[at] = self.read(request, places[at]);
+                places[at] = self.read_block(request, places[at]);
             }
         }
         places
     }
 
-    /// The place, if the size of the request stands there, or else `usize::MAX`. It reads the ends and the middle of the block too, since
-    /// `remove` sums it up, and it may lie in three lines of the processor's cache.
-    fn read(&self, request: usize, place: usize) -> usize {
+    /// The place, if the size of the request stands there and the block is full, or else `usize::MAX`. It reads the ends and the middle of
+    /// the block too, since `remove` sums it up, and it may lie in three lines of the processor's cache.
+    fn read_block(&self, request: usize, place: usize) -> usize {
         if !self.is_at(request, place) {
             return usize::MAX;
         }
@@ -165,6 +165,7 @@ impl<A: Allocator + Copy> Sizes<A> {
         let (Some(start), Some(middle), Some(end)) = block else {
             return usize::MAX;
         };
+        // (always so; but a value that nothing uses is not read)
         let is_rising = start.number <= middle.number && middle.number <= end.number;
         if is_rising { place } else { usize::MAX }
     }
@@ -286,7 +287,7 @@ fn sum_of_rest(sizes: &[Numbered], at: usize) -> usize
     sum
 }
 
-/// The size at a place, or 0 if that is before `at`. Both are in one block.
+/// The size at a place, or 0 if that is before `at`. They are less than eight apart.
 #[inline(always)]
 fn size_behind(sizes: &[Numbered], at: usize, place: usize) -> usize
     requires inside { place < length sizes.now }
@@ -295,6 +296,6 @@ fn size_behind(sizes: &[Numbered], at: usize, place: usize) -> usize
     ensures before { place < at → result ≡ 0 }
     ensures behind { at ≤ place → result ≡ value_at sizes.now place }
 {
-    // (by a table, since the processor would guess a branch wrong)
+    // (by a table: LLVM makes a branch of a computed mask, and the processor would guess it wrong)
     sizes[place].value & MASKS[BLOCK + place - at]
 }

@@ -109,6 +109,7 @@ fn announce<S: BuildHasher, A: Allocator + Copy>(
 )
     ensures { pass.new ≡ pass.old }
 {
+    // (mostly so, and then no array is filled)
     if count == 0 {
         return;
     }

@@ -2,7 +2,7 @@ use Rattle.std.proofs.Common.{◌≡◌, ◌-◌, ◌≤◌}
 use Rattle.clru_report.proofs.prefetch.prefetch.Given as goal
 
 abbrev pub invariant-lines : goal.invariant-lines
-invariant-lines g l = (l.map ≡ l.fn.map) × (l.count ≤ 128)
+invariant-lines g l = (l.map ≡ l.fn.map) × (l.count ≤ 64)
 
 abbrev pub decreases-lines : goal.decreases-lines
-decreases-lines g l = 128 - l.count
+decreases-lines g l = 64 - l.count

@@ -1,7 +1,7 @@
-use Rattle.std.proofs.Common.{◌≡◌, ◌+◌, ◌-◌, length, sym, ap, ◌∙◌, arith}
+use Rattle.std.proofs.Common.{◌-◌, drop, length, drop-drop, length-drop, sym, ap, ◌∙◌, arith}
 use Rattle.std.specs.Prelude.{◌==◌}
-use Rattle.clru_text.specs.Newlines.{free_from}
-use Rattle.clru_text.proofs.LineLemmas.{position_behind, position-is}
+use Rattle.std.specs.List.{position_or_len}
+use Rattle.clru_text.proofs.LineLemmas.{first_taken, position_behind, position-is}
 use Rattle.clru_text.proofs.newline.newline_at.Goals as goal
 
 pub loop-start-init : goal.loop-start-init
@@ -12,17 +12,22 @@ overflow_sub-bytes c = c.loop-start.invariant.0
 
 pub returns-then-at-lt16 : goal.returns-then-at-lt16
 returns-then-at-lt16 c =
-    let bytes = c.args.bytes.now in let i = c.loop-start.invariant in let found = c.first_of_sixteen-at.ensures.found c.if-at-lt16.true in
-    let same : c.loop-start.start + 0 ≡ c.loop-start.start = omega arith in
-    sym (position-is (λ b. b == 10) bytes _ (omega (arith, i.1, found, ap (free_from bytes) same)) (omega (arith, i.0, c.loop-start-test.true, c.if-at-lt16.true)))
+    let bytes = c.args.bytes.now in let start = c.loop-start.start in let i = c.loop-start.invariant in
+    let len = length-drop start bytes in
+    let first = first_taken (λ b. b == 10) (drop start bytes) 16 (omega (arith, c.loop-start-test.true)) in
+    let at = c.first_of_sixteen-at.ensures in let short = c.if-at-lt16.true in
+    sym (position-is (λ b. b == 10) bytes _ (omega (arith, i.1, at, first.0 (omega (arith, at, short)))) (omega (arith, i.0, c.loop-start-test.true, short)))
 
 pub loop-start-smaller : goal.loop-start-smaller
 loop-start-smaller c = omega (arith, c.loop-start-test.true)
 
 pub loop-start-preserved : goal.loop-start-preserved
 loop-start-preserved c =
-    let i = c.loop-start.invariant in let same : c.loop-start.start + 0 ≡ c.loop-start.start = omega arith in
-    (omega (arith, i.0, c.loop-start-test.true), omega (arith, i.1, c.first_of_sixteen-at.ensures.none (omega (arith, c.if-at-lt16.false)), ap (free_from c.args.bytes.now) same))
+    let bytes = c.args.bytes.now in let start = c.loop-start.start in let i = c.loop-start.invariant in
+    let len = length-drop start bytes in
+    let first = first_taken (λ b. b == 10) (drop start bytes) 16 (omega (arith, c.loop-start-test.true)) in
+    let on = ap (position_or_len (λ b. b == 10)) (drop-drop 16 start bytes) in
+    (omega (arith, i.0, c.loop-start-test.true), omega (arith, i.1, on, first.1 (omega (arith, c.first_of_sixteen-at.ensures, c.if-at-lt16.false))))
 
 pub returns-in-Some : goal.returns-in-Some
 returns-in-Some c =
