@@ -7,7 +7,6 @@ pub mod Fractions
 pub mod Keys
 pub mod Lines
 pub mod LinesRead
-pub mod Newlines
 pub mod Numbers
 pub mod Pictures
 pub mod Ratios
