@@ -17,6 +17,9 @@ use clru_text::OwnedKey;
 use std::alloc::Allocator;
 use std::hash::BuildHasher;
 
+/// How many lines are looked up at a time. What is read ahead for more does not fit the processor's first cache.
+const AHEAD: usize = 64;
+
 /// A pass over lines as keys. One table has the bytes of each distinct line and the position of its latest request, so a line costs
 /// one look-up, and a new line has no allocation of its own.
 #[derive(Drop)]
@@ -62,7 +65,7 @@ impl<S: BuildHasher, A: Allocator + Copy> LinePass<S, A> {
             return Err(NoMemory);
         };
         let latest = self.latest.insert(&key.0, self.requests)?;
-        self.ahead = prefetch(&mut self.latest, self.ahead, behind)?;
+        self.ahead = prefetch(&mut self.latest, self.ahead, behind, AHEAD)?;
         // (without times each reuse comes soon enough)
         self.pass.request(latest, latest.is_some())?;
         self.requests = requests;

@@ -11,19 +11,18 @@ use std::num::NonZeroUsize;
 /// As long as fewer distinct lines are held, they fit the processor's caches, and a look ahead would save nothing.
 const FEW_LINES: usize = 4096;
 
-/// How many lines are looked up at a time. What is read ahead for more does not fit the processor's first cache.
-pub(crate) const AHEAD: usize = 64;
-
 /// Only lines that end within so many bytes are looked up, so that long ones take no more memory.
 const AHEAD_BYTES: usize = 8192;
 
-/// Is called after each insertion, and looks up the first whole lines of `behind` if no line is left that was looked up before. `left` is
-/// how many were left before the insertion; the result is how many are left now. The map stays as it is, also if memory is refused.
+/// Is called after each insertion, and looks up the first whole lines of `behind`, at most so many, if no line is left that was looked up
+/// before. `left` is how many were left before the insertion; the result is how many are left now. The map stays as it is, also if memory
+/// is refused.
 /// Cost: for each line that of `BytesMap::announce` and `prefetch`.
 pub(crate) fn prefetch<V: Copy, S: BuildHasher, A: Allocator + Copy>(
     map: &mut BytesMap<V, S, A>,
     left: usize,
     behind: &[u8],
+    most: usize,
 ) -> Result<usize, NoMemory>
     ensures { map.new ≡ map.old }
 {
@@ -35,7 +34,7 @@ pub(crate) fn prefetch<V: Copy, S: BuildHasher, A: Allocator + Copy>(
     }
     let mut count = 0;
     let mut behind = &behind[..behind.len().min(AHEAD_BYTES)];
-    'lines: while count < AHEAD {
+    'lines: while count < most {
         let Some((line, rest)) = next_line(behind) else {
             break;
         };

@@ -8,12 +8,15 @@ ghost use Rattle.clru_text.specs.declared.lines.OwnedKey.{OwnedKey};
 ghost use Rattle.clru_report.specs.Passes.{weight_of_key};
 ghost use Rattle.clru_report.specs.SizedLinePasses.{IsSizedLinePass};
 
-use crate::prefetch::{AHEAD, prefetch};
+use crate::prefetch::prefetch;
 use clru_curve::{NoMemory, SizedCurve, SizedPositionPass};
 use clru_linked_map::BytesMap;
 use clru_text::OwnedKey;
 use std::alloc::Allocator;
 use std::hash::BuildHasher;
+
+/// How many lines are looked up at a time: fewer than without sizes, since a block of these is read for each too.
+const AHEAD: usize = 32;
 
 /// A pass over lines as objects with sizes. One table has the bytes of each distinct line and the position of its latest request, so a
 /// line costs one look-up, and a new line has no allocation of its own.
@@ -63,7 +66,7 @@ impl<S: BuildHasher, A: Allocator + Copy> SizedLinePass<S, A> {
         };
         let latest = self.latest.insert(&key.0, self.requests)?;
         let left = self.ahead;
-        self.ahead = prefetch(&mut self.latest, left, behind)?;
+        self.ahead = prefetch(&mut self.latest, left, behind, AHEAD)?;
         // (without times each reuse comes soon enough)
         let Ok(_) = self.pass.request(latest, latest.is_some(), weight) else {
             return Err(NoMemory);
