@@ -14,9 +14,9 @@ const FEW_LINES: usize = 4096;
 /// Only lines that end within so many bytes are looked up, so that long ones take no more memory.
 const AHEAD_BYTES: usize = 8192;
 
-/// Is called after each insertion, and looks up the first whole lines of `behind`, at most so many, if no line is left that was looked up
-/// before. `left` is how many were left before the insertion; the result is how many are left now. The map stays as it is, also if memory
-/// is refused.
+/// Is called after each insertion, and looks up the first whole lines of `behind`, at most `most` of them, if no line is left that was
+/// looked up before. `left` is how many were left before the insertion; the result is how many are left now. The map stays as it is, also if
+/// memory is refused.
 /// Cost: for each line that of `BytesMap::announce` and `prefetch`.
 pub(crate) fn prefetch<V: Copy, S: BuildHasher, A: Allocator + Copy>(
     map: &mut BytesMap<V, S, A>,

@@ -108,7 +108,7 @@ fn a_line_that_is_looked_up_ahead_is_hashed_once(rt: HostRuntime) -> Result<(), 
         }
         input.push(b'\n')?;
     }
-    for (sizes, requests, bytes) in [(false, 91, 804_753), (true, 106, 1_806_488)] {
+    for (sizes, requests, bytes) in [(false, 91, 804_753), (true, 103, 1_803_928)] {
         let costs = costs_of(
             rt.alloc(),
             &input,
