@@ -15,7 +15,7 @@ use clru_text::OwnedKey;
 use std::alloc::Allocator;
 use std::hash::BuildHasher;
 
-/// How many lines are looked up at a time: fewer than without sizes, since a block of these is read for each too.
+/// How many lines are looked up at a time: fewer than by keys, since for each a block of sizes is read too.
 const AHEAD: usize = 32;
 
 /// A pass over lines as objects with sizes. One table has the bytes of each distinct line and the position of its latest request, so a
