@@ -1,12 +1,13 @@
 -- What a pass over requests with times has taken, after one more request.
 use Rattle.std.proofs.Common.{◌≡◌, ℕ, suc, ◌+◌, ◌-◌, ◌<◌, ◌≤◌, Bool, true, false, cond, nat_le, List, [], ◌∷◌, ◌++◌, length, get_or, set, take, reverse, Option, Some, None, is_some, refl, sym, ap, ◌∙◌, subst, arith}
 use Rattle.std.proofs.lemmas.List.{length-map}
-use Rattle.std.proofs.lemmas.Map.{lookup-set_value, length-set_value}
+use Rattle.std.proofs.lemmas.Map.{length-set_value}
 use Rattle.std.proofs.lemmas.Map.Made.{lookup-map_values}
 use Rattle.std.specs.Cmp.{IsEquivalence}
 use Rattle.std.specs.Map.{keys_of, lookup, set_value}
 use Rattle.std.specs.Option.{option_map}
 use Rattle.std.specs.Prelude.{sum}
+use Rattle.clru_linked_map.proofs.KeyTables.{moved_again, moved_new}
 use Rattle.clru_model.specs.Ages.{is_recent}
 use Rattle.clru_model.specs.Distances.{distance}
 use Rattle.clru_model.specs.Requests.{holds, distinct, since}
@@ -63,14 +64,6 @@ module _ {K : Type 0} (eq : K → K → Bool) where
         ∙ split (eq x y)
         (λ u. let back : eq y x ≡ true = laws.symm y x ∙ u in rw (u, back) refl)
         (λ f. let back : eq y x ≡ false = laws.symm y x ∙ f in rw (f, back) (are y))
-
-  pub moved_again : IsEquivalence eq → (seen : List (K × Seen)) (x : K) (here s : Seen) → lookup (eq x) seen ≡ Some s
-      → (y : K) → lookup (eq y) (set_value (eq x) seen here) ≡ cond (eq x y) (Some here) (lookup (eq y) seen)
-  moved_again laws seen x here s found y = lookup-set_value laws (eq x) (λ z v u. laws.congr x z v u) y here seen (rw found refl)
-
-  pub moved_new : IsEquivalence eq → (seen : List (K × Seen)) (x : K) (here : Seen)
-      → (y : K) → lookup (eq y) ((x, here) ∷ seen) ≡ cond (eq x y) (Some here) (lookup (eq y) seen)
-  moved_new laws seen x here y = ap (λ b. cond b (Some here) (lookup (eq y) seen)) (laws.symm y x)
 
   -- before the first request
   pub IsIdlePass-none : {S : Type 0} {b : S} → IsEquivalence eq → (idle : ℕ) → IsIdlePass eq idle [] (timed_pass [] [] 0 [] idle b)

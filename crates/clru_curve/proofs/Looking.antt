@@ -1,14 +1,15 @@
 -- What is known of the requests that were looked up, and what a pass holds, after one more.
-use Rattle.std.proofs.Common.{◌≡◌, ℕ, zero, suc, ◌+◌, ◌-◌, ◌^◌, ◌<◌, ◌≤◌, ◌↔◌, Bool, true, false, cond, List, [], ◌∷◌, ◌++◌, length, get_or, set, drop, take, reverse, slice_get, Option, None, Some, IfSome, inl, inr, refl, sym, ap, ◌∙◌, subst, arith}
+use Rattle.std.proofs.Common.{◌≡◌, ℕ, zero, suc, ◌+◌, ◌-◌, ◌^◌, ◌<◌, ◌≤◌, ◌↔◌, Bool, true, false, List, [], ◌∷◌, ◌++◌, length, get_or, set, drop, take, reverse, slice_get, Option, None, Some, IfSome, inl, inr, refl, sym, ap, ◌∙◌, subst, arith}
 use Rattle.std.proofs.Math.Seq.{drop-cons}
 use Rattle.std.proofs.lemmas.Bool.{cases_lt}
 use Rattle.std.proofs.lemmas.List.{get_or-set_other, get_or-set_same, reverse-append, take-append-drop, take_more}
 use Rattle.std.proofs.lemmas.List.Sums.{sum_by-cons, sum_by_push}
-use Rattle.std.proofs.lemmas.Map.{length-set_value}
 use Rattle.std.proofs.lemmas.Option.{get_or_from_slice_get, slice_get_within}
 use Rattle.std.specs.Cmp.{IsEquivalence}
 use Rattle.std.specs.List.{sum_by}
 use Rattle.std.specs.Map.{lookup, set_value}
+use Rattle.clru_linked_map.specs.KeyTables.{with_key}
+use Rattle.clru_linked_map.proofs.KeyTables.{length-with_key, lookup-with_key}
 use Rattle.clru_model.proofs.Cases.{split}
 use Rattle.clru_model.specs.Requests.{distinct}
 use Rattle.clru_curve.specs.declared.numbered.Numbered.{Numbered}
@@ -24,7 +25,7 @@ use Rattle.clru_curve.specs.SizedPositionPasses.{CountedBySize, IsSizedPositionP
 use Rattle.clru_curve.specs.Tree.{up_to}
 use Rattle.clru_curve.proofs.LatestRequests.{latest_here, latest_there}
 use Rattle.clru_curve.proofs.Ranks.{IsRanked-none, distinct_measures, same_some}
-use Rattle.clru_curve.proofs.SizedPassing.{moved_again, moved_new, ranked_again, ranked_new}
+use Rattle.clru_curve.proofs.SizedPassing.{ranked_again, ranked_new}
 use Rattle.clru_curve.proofs.UpTo.{up_by-le}
 
 -- what stands at an index
@@ -117,25 +118,16 @@ module _ {K : Type 0} (eq : K → K → Bool) where
 
 module _ {K : Type 0} (eq : K → K → Bool) (laws : IsEquivalence eq) (past : List K) (x : K) where
   -- a table with one more request
-  module _ (positions moved : List (K × ℕ)) (n : ℕ) (here : n ≡ length past) (is : ArePlaced eq past positions)
-      (are : (y : K) → lookup (eq y) moved ≡ cond (eq x y) (Some n) (lookup (eq y) positions)) (few : length moved ≤ suc (length past)) where
-    placed_more : ArePlaced eq (x ∷ past) moved
-    placed_more = record {
-      latest = λ y. split (eq x y)
-          (λ t. let at : lookup (eq y) moved ≡ Some n = rw (are y, t) refl in
-          subst (IsLatestOf eq (x ∷ past) y) (sym at) (latest_here eq past x y (laws.symm y x ∙ t) n here))
-          (λ f. let at : lookup (eq y) moved ≡ lookup (eq y) positions = rw (are y, f) refl in
-          subst (IsLatestOf eq (x ∷ past) y) (sym at) (latest_there eq past x y (laws.symm y x ∙ f) (lookup (eq y) positions) (is.latest y)));
-      few = few;
-    }
-
-  module _ (positions : List (K × ℕ)) (n : ℕ) (here : n ≡ length past) (is : ArePlaced eq past positions) where
-    pub placed_new : ArePlaced eq (x ∷ past) ((x, n) ∷ positions)
-    placed_new = placed_more positions ((x, n) ∷ positions) n here is (moved_new eq laws positions n x) (omega (arith, is.few))
-
-    pub placed_again : (p : ℕ) → lookup (eq x) positions ≡ Some p → ArePlaced eq (x ∷ past) (set_value (eq x) positions n)
-    placed_again p found = placed_more positions (set_value (eq x) positions n) n here is (moved_again eq laws positions n x p found)
-        (omega (arith, is.few, length-set_value (eq x) positions n))
+  pub placed_more : (positions : List (K × ℕ)) (n : ℕ) → n ≡ length past → ArePlaced eq past positions
+      → ArePlaced eq (x ∷ past) (with_key eq x n positions)
+  placed_more positions n here is = record {
+    latest = λ y. split (eq y x)
+        (λ t. let at : lookup (eq y) (with_key eq x n positions) ≡ Some n = rw (lookup-with_key eq laws y x n positions, t) refl in
+        subst (IsLatestOf eq (x ∷ past) y) (sym at) (latest_here eq past x y t n here))
+        (λ f. let at : lookup (eq y) (with_key eq x n positions) ≡ lookup (eq y) positions = rw (lookup-with_key eq laws y x n positions, f) refl in
+        subst (IsLatestOf eq (x ∷ past) y) (sym at) (latest_there eq past x y f (lookup (eq y) positions) (is.latest y)));
+    few = omega (arith, is.few, length-with_key eq x n positions);
+  }
 
   module _ (c : CountedBySize) (is : HoldsLatest eq past c) (latest : Option ℕ) (at : IsLatestOf eq past x latest) where
     found_there : lookup (eq x) is.positions ≡ latest
@@ -161,14 +153,16 @@ module _ {K : Type 0} (eq : K → K → Bool) (laws : IsEquivalence eq) (past : 
             → ((t : ℕ) → live_from c'.sizes t + up_to_some o t ≡ live_from c.sizes t + up_to t n) → HoldsLatest eq (x ∷ past) c'
         more None absent counts = record {
           positions = (x, n) ∷ is.positions;
-          placed = placed_new is.positions n is.requests is.placed;
+          placed = let new : with_key eq x n is.positions ≡ (x, n) ∷ is.positions = rw absent refl in
+              subst (λ ps. ArePlaced eq (x ∷ past) ps) new (placed_more is.positions n is.requests is.placed);
           ranked = rw next (ranked_new eq laws is.positions n x (λ y. 1) (distinct eq) (distinct_measures eq laws) past (live_from c.sizes) (live_from c'.sizes)
               is.ranked absent (λ t. omega (arith, counts t)));
           requests = omega (arith, next, is.requests);
         }
         more (Some p) found counts = record {
           positions = set_value (eq x) is.positions n;
-          placed = placed_again is.positions n is.requests is.placed p found;
+          placed = let again : with_key eq x n is.positions ≡ set_value (eq x) is.positions n = rw found refl in
+              subst (λ ps. ArePlaced eq (x ∷ past) ps) again (placed_more is.positions n is.requests is.placed);
           ranked = rw next (ranked_again eq laws is.positions n x (λ y. 1) (distinct eq) (distinct_measures eq laws) past (live_from c.sizes) (live_from c'.sizes)
               is.ranked p found counts);
           requests = omega (arith, next, is.requests);

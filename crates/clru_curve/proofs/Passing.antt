@@ -3,7 +3,8 @@ use Rattle.std.proofs.Common.{◌≡◌, ℕ, suc, ◌+◌, ◌<◌, ◌≤◌, 
 use Rattle.std.specs.Cmp.{IsEquivalence}
 use Rattle.std.specs.Prelude.{sum}
 use Rattle.std.specs.Map.{lookup, set_value}
-use Rattle.std.proofs.lemmas.Map.{lookup-set_value, length-set_value}
+use Rattle.std.proofs.lemmas.Map.{length-set_value}
+use Rattle.clru_linked_map.proofs.KeyTables.{moved_again}
 use Rattle.clru_model.specs.Requests.{holds, distinct, since}
 use Rattle.clru_model.proofs.Cases.{split}
 use Rattle.clru_model.proofs.Distinct.{since-cons}
@@ -103,7 +104,7 @@ module _ {K S : Type 0} {b : S} (eq : K → K → Bool) (laws : IsEquivalence eq
         let one : n + 1 ≡ suc n = omega arith in
         let rank = is.ranked.rank x p found in
         let moved : (y : K) → lookup (eq y) (set_value (eq x) positions n) ≡ cond (eq x y) (Some n) (lookup (eq y) positions) =
-        λ y. lookup-set_value laws (eq x) (λ z w t. laws.congr x z w t) y n positions (rw found refl) in
+        moved_again eq laws positions x n p found in
         rw (one, rank) (record {
           ranked = IsRanked-again eq laws (λ x. 1) (distinct eq) (distinct_measures eq laws)
               past positions (set_value (eq x) positions n) n (ones_from bs) (ones_from cs) x is.ranked moved p found counts

@@ -14,7 +14,8 @@ use Rattle.clru_curve.specs.Latest.{ones_from}
 use Rattle.clru_curve.specs.PositionPasses.{IsLatestOf, IsPositionPass, counted}
 use Rattle.clru_curve.specs.Seen.{positions_of, reuse_by, seen_at}
 use Rattle.clru_curve.specs.Tree.{up_to}
-use Rattle.clru_curve.proofs.IdlePassing.{IsIdlePass-again, IsIdlePass-new, IsIdlePass-none, IsIdlePass-same, absent_key, bit_there, distance_below, distance_some, moved_again, moved_new, number_few, recent_there, seen_known}
+use Rattle.clru_linked_map.proofs.KeyTables.{moved_again, moved_new}
+use Rattle.clru_curve.proofs.IdlePassing.{IsIdlePass-again, IsIdlePass-new, IsIdlePass-none, IsIdlePass-same, absent_key, bit_there, distance_below, distance_some, number_few, recent_there, seen_known}
 use Rattle.clru_curve.proofs.IdleReuses.{reuse-new}
 use Rattle.clru_curve.proofs.Ranks.{same_some}
 

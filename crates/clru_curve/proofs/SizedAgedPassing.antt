@@ -2,12 +2,13 @@
 use Rattle.std.proofs.Common.{◌≡◌, ℕ, zero, suc, ◌+◌, ◌-◌, ◌^◌, ◌<◌, ◌≤◌, Bool, true, false, cond, ◌&&◌, nat_le, nat_lt, List, [], ◌∷◌, ◌++◌, length, map, replicate, get_or, ◌*◌, ◌/◌, Option, Some, None, is_some, inl, inr, refl, sym, ap, ◌∙◌, subst, arith}
 use Rattle.std.proofs.lemmas.List.{length-map, length-append, length-replicate, get_or_append_left}
 use Rattle.std.proofs.lemmas.List.Sums.{sum_by-cons}
-use Rattle.std.proofs.lemmas.Map.{length-set_value, lookup-set_value}
+use Rattle.std.proofs.lemmas.Map.{length-set_value}
 use Rattle.std.proofs.lemmas.Map.Made.{lookup-map_values}
 use Rattle.std.proofs.lemmas.Option.{same_Some}
 use Rattle.std.specs.Cmp.{IsEquivalence}
 use Rattle.std.specs.Map.{keys_of, lookup, set_value}
 use Rattle.std.specs.Option.{option_map}
+use Rattle.clru_linked_map.proofs.KeyTables.{moved_again, moved_new}
 use Rattle.clru_model.proofs.Cases.{split}
 use Rattle.clru_model.proofs.Lookups.{lookup-same}
 use Rattle.clru_model.specs.Ages.{is_in_limit}
@@ -55,28 +56,19 @@ module _ {K : Type 0} (eq : K → K → Bool) where
       some_either None = refl
       some_either (Some f) = refl
 
-  -- a request of x took the place of what was noted of x, or came as the first one
-  pub moved_again : IsEquivalence eq → (seen : List (K × Fetched)) (x : K) (here s : Fetched) → lookup (eq x) seen ≡ Some s
-      → (y : K) → lookup (eq y) (set_value (eq x) seen here) ≡ cond (eq x y) (Some here) (lookup (eq y) seen)
-  moved_again laws seen x here s found y = lookup-set_value laws (eq x) (λ z v u. laws.congr x z v u) y here seen (rw found refl)
-
-  pub moved_new : IsEquivalence eq → (seen : List (K × Fetched)) (x : K) (here : Fetched)
-      → (y : K) → lookup (eq y) ((x, here) ∷ seen) ≡ cond (eq x y) (Some here) (lookup (eq y) seen)
-  moved_new laws seen x here y = ap (λ b. cond b (Some here) (lookup (eq y) seen)) (laws.symm y x)
-
   pub AreAligned-new : IsEquivalence eq → (n : ℕ) (seen : List (K × Fetched)) (x : K) (here : Seen) (f : ℕ) → AreAligned eq n seen
       → f / n * n ≡ f → AreAligned eq n ((x, fetched_at here f) ∷ seen)
   AreAligned-new laws n seen x here f are fits y s at = split (eq x y)
-      (λ u. let same : Some (fetched_at here f) ≡ Some s = rw (moved_new laws seen x (fetched_at here f) y, u) at at in
+      (λ u. let same : Some (fetched_at here f) ≡ Some s = rw (moved_new eq laws seen x (fetched_at here f) y, u) at at in
       subst (λ k. k / n * n ≡ k) (ap (λ (r : Fetched). r.first) (same_Some (fetched_at here f) s same)) fits)
-      (λ v. are y s (rw (moved_new laws seen x (fetched_at here f) y, v) at at))
+      (λ v. are y s (rw (moved_new eq laws seen x (fetched_at here f) y, v) at at))
 
   pub AreAligned-again : IsEquivalence eq → (n : ℕ) (seen : List (K × Fetched)) (x : K) (here : Seen) (s : Fetched) → AreAligned eq n seen
       → lookup (eq x) seen ≡ Some s → AreAligned eq n (set_value (eq x) seen (fetched_at here s.first))
   AreAligned-again laws n seen x here s are found y t at = split (eq x y)
-      (λ u. let same : Some (fetched_at here s.first) ≡ Some t = rw (moved_again laws seen x (fetched_at here s.first) s found y, u) at at in
+      (λ u. let same : Some (fetched_at here s.first) ≡ Some t = rw (moved_again eq laws seen x (fetched_at here s.first) s found y, u) at at in
       subst (λ k. k / n * n ≡ k) (ap (λ (r : Fetched). r.first) (same_Some (fetched_at here s.first) t same)) (are x s found))
-      (λ v. are y t (rw (moved_again laws seen x (fetched_at here s.first) s found y, v) at at))
+      (λ v. are y t (rw (moved_again eq laws seen x (fetched_at here s.first) s found y, v) at at))
 
   seens_move : (seen seen' : List (K × Fetched)) (x : K) (here : Seen) (f : ℕ)
       → ((y : K) → lookup (eq y) seen' ≡ cond (eq x y) (Some (fetched_at here f)) (lookup (eq y) seen))

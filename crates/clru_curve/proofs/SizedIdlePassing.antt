@@ -12,7 +12,8 @@ use Rattle.clru_model.proofs.Cases.{split}
 use Rattle.clru_model.specs.Ages.{is_recent}
 use Rattle.clru_model.specs.Requests.{holds, distinct, since}
 use Rattle.clru_model.specs.Sizes.{SameWeights, total, span}
-use Rattle.clru_curve.proofs.IdlePassing.{position_found, same_length, seen_known, positions_move, times_move, moved_again, moved_new}
+use Rattle.clru_linked_map.proofs.KeyTables.{moved_again, moved_new}
+use Rattle.clru_curve.proofs.IdlePassing.{position_found, same_length, seen_known, positions_move, times_move}
 use Rattle.clru_curve.proofs.IdleReuses.{reuse-late, reuse-soon, keys_of-reverse}
 use Rattle.clru_curve.proofs.Ranks.{distinct_measures, IsRanked-none, IsRanked-new, IsRanked-again}
 use Rattle.clru_curve.proofs.SizedCurves.{counts_by, sizes_by}

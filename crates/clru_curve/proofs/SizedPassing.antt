@@ -2,9 +2,10 @@
 use Rattle.std.proofs.Common.{◌≡◌, ℕ, suc, ◌+◌, ◌↔◌, ◌-◌, ◌^◌, ◌<◌, ◌≤◌, Bool, true, false, cond, nat_lt, List, [], ◌∷◌, ◌++◌, Some, None, is_some, refl, sym, ap, ◌∙◌, arith}
 use Rattle.std.proofs.lemmas.List.{length_push}
 use Rattle.std.proofs.lemmas.List.Sums.{sum_by-cons, sum_by_push}
-use Rattle.std.proofs.lemmas.Map.{lookup-set_value, length-set_value}
+use Rattle.std.proofs.lemmas.Map.{length-set_value}
 use Rattle.std.specs.Cmp.{IsEquivalence}
 use Rattle.std.specs.Map.{lookup, set_value}
+use Rattle.clru_linked_map.proofs.KeyTables.{moved_again, moved_new}
 use Rattle.clru_model.specs.Requests.{holds, distinct, since}
 use Rattle.clru_model.specs.Sizes.{SameWeights, total, span}
 use Rattle.clru_curve.proofs.Ranks.{IsMeasure, distinct_measures, IsRanked-none, IsRanked-new, IsRanked-again, latest_moved}
@@ -63,26 +64,19 @@ module _ {K : Type 0} (eq : K → K → Bool) where
   }
 
 module _ {K : Type 0} (eq : K → K → Bool) (laws : IsEquivalence eq) (positions : List (K × ℕ)) (n : ℕ) (x : K) where
-  pub moved_new : (y : K) → lookup (eq y) ((x, n) ∷ positions) ≡ cond (eq x y) (Some n) (lookup (eq y) positions)
-  moved_new y = ap (λ b. cond b (Some n) (lookup (eq y) positions)) (laws.symm y x)
-
-  pub moved_again : (p : ℕ) → lookup (eq x) positions ≡ Some p
-      → (y : K) → lookup (eq y) (set_value (eq x) positions n) ≡ cond (eq x y) (Some n) (lookup (eq y) positions)
-  moved_again p found y = lookup-set_value laws (eq x) (λ z v t. laws.congr x z v t) y n positions (rw found refl)
-
   -- what is noted of one more request, by any measure
   module _ (size : K → ℕ) (measure : List K → ℕ) (sums : IsMeasure eq size measure) (past : List K) (f f' : ℕ → ℕ)
       (r : IsRanked eq size measure past positions n f) where
     pub ranked_new : lookup (eq x) positions ≡ None → ((t : ℕ) → f' t ≡ f t + up_by (size x) t n)
         → IsRanked eq size measure (x ∷ past) ((x, n) ∷ positions) (suc n) f'
     ranked_new absent counts =
-        IsRanked-new eq laws size measure sums past positions ((x, n) ∷ positions) n f f' x r moved_new (sym (r.known x) ∙ ap is_some absent) counts
+        IsRanked-new eq laws size measure sums past positions ((x, n) ∷ positions) n f f' x r (moved_new eq laws positions x n) (sym (r.known x) ∙ ap is_some absent) counts
         (omega (arith, r.few))
 
     pub ranked_again : (p : ℕ) → lookup (eq x) positions ≡ Some p → ((t : ℕ) → f' t + up_by (size x) t p ≡ f t + up_by (size x) t n)
         → IsRanked eq size measure (x ∷ past) (set_value (eq x) positions n) (suc n) f'
     ranked_again p found counts =
-        IsRanked-again eq laws size measure sums past positions (set_value (eq x) positions n) n f f' x r (moved_again p found) p found counts
+        IsRanked-again eq laws size measure sums past positions (set_value (eq x) positions n) n f f' x r (moved_again eq laws positions x n p found) p found counts
         (omega (arith, length-set_value (eq x) positions n, r.few))
 
 module _ {K S : Type 0} {b : S} (eq : K → K → Bool) (laws : IsEquivalence eq) (positions : List (K × ℕ)) (ss : List Numbered) (n : ℕ) (hs : List Step) (a g : ℕ) (x : K) where
@@ -110,7 +104,7 @@ module _ {K S : Type 0} {b : S} (eq : K → K → Bool) (laws : IsEquivalence eq
             held = rw (not_held absent) (omega (arith, sized 0, up_by-le (1 + weight x) 0 n (omega arith), is.held));
             size = omega (arith, weighs, is.size, sum_by-cons (λ y. 1 + weight y) x past);
             greatest = rw (greater, is.greatest, ← weighs) refl;
-            latest = latest_moved eq laws past positions ((x, n) ∷ positions) n x is.requests is.latest (moved_new eq laws positions n x);
+            latest = latest_moved eq laws past positions ((x, n) ∷ positions) n x is.requests is.latest (moved_new eq laws positions x n);
           })
 
       -- a key with a position was requested there
@@ -144,7 +138,7 @@ module _ {K S : Type 0} {b : S} (eq : K → K → Bool) (laws : IsEquivalence eq
               held = rw was_held (omega (arith, sized 0, up_by-le (1 + weight x) 0 n (omega arith), up_by-le (1 + weight x) 0 p (omega arith), is.held));
               size = omega (arith, is.size, sum_by-cons (λ y. 1 + weight y) x past);
               greatest = rw (greater, is.greatest, ← weighs) refl;
-              latest = latest_moved eq laws past positions (set_value (eq x) positions n) n x is.requests is.latest (moved_again eq laws positions n x p found);
+              latest = latest_moved eq laws past positions (set_value (eq x) positions n) n x is.requests is.latest (moved_again eq laws positions x n p found);
             })
 
   -- whatever the keys weigh

@@ -25,7 +25,8 @@ use Rattle.clru_curve.specs.SizedIdlePasses.{AreIdleHits, IsSizedIdleCurveOf, ti
 use Rattle.clru_curve.specs.SizedPasses.{AreHits, IsSizedPass, pass_by_size}
 use Rattle.clru_curve.specs.SizedPositionPasses.{CountedBySize, counted_by_size, IsSizedPositionPass, IsSoundCountedBySize}
 use Rattle.clru_curve.specs.Tree.{up_by}
-use Rattle.clru_curve.proofs.IdlePassing.{moved_again, moved_new, position_at, position_found, unseen}
+use Rattle.clru_linked_map.proofs.KeyTables.{moved_again, moved_new}
+use Rattle.clru_curve.proofs.IdlePassing.{position_at, position_found, unseen}
 use Rattle.clru_curve.proofs.IdleReuses.{keys_of-reverse, reuse-new}
 use Rattle.clru_curve.proofs.LatestSizes.{live_falls}
 use Rattle.clru_curve.proofs.PositionPassing.{latest_more, seen_there}

@@ -6,7 +6,6 @@ pub mod Curves
 pub mod Errors
 pub mod Fetches
 pub mod IdlePasses
-pub mod KeyTables
 pub mod Latest
 pub mod LatestSizes
 pub mod Passes

@@ -1,18 +1,17 @@
 //! Looks up requests of a whole list, many at a time, before they are counted: so no look-up waits until the request before it is
 //! counted.
-ghost use Rattle.std.specs.Prelude.{◌≡◌, ◌+◌, ◌^◌, ◌<◌, ◌≤◌, List, ◌∷◌, length, reverse, take, IfOk, IfErr, OnOk};
+ghost use Rattle.std.specs.Prelude.{◌≡◌, ◌+◌, ◌^◌, ◌<◌, ◌≤◌, length, reverse, take, IfOk, IfErr, OnOk};
 ghost use Rattle.clru_curve.specs.Ahead.{ArePlaced, AreLatest, HaveWeights};
-ghost use Rattle.clru_curve.specs.PositionPasses.{IsLatestOf};
 ghost use Rattle.clru_curve.specs.SizedCurves.{size_of_all};
 ghost use Rattle.clru_curve.specs.SizedPasses.{IsFirstRefused};
 
-use crate::key_table::KeyTable;
 use crate::sized::SizedRequestError;
+use clru_linked_map::{KeyTable, TOGETHER};
 use clru_model::WeightScale;
 use std::alloc::Allocator;
 use std::hash::{BuildHasher, Hash};
 
-/// How many requests are looked up at a time, and how many announced ones are remembered.
+/// How many announced requests are remembered.
 pub(crate) const AHEAD: usize = 128;
 
 /// What is known of a request that was looked up: the position of the latest request of its key before it, and its weight.
@@ -40,6 +39,7 @@ where
     A: Allocator + Copy,
     requires order { first ≤ end }
     requires within { end ≤ length keys.now }
+    requires few { end ≤ first + 64 }
     requires room { end ≤ first + length ahead.old }
     requires placed { ArePlaced K.eq (reverse (take first keys.now)) positions.old.entries }
     requires size { size ≡ size_of_all (λ x. W.weight scale.now x tt) (take first keys.now) }
@@ -51,6 +51,7 @@ where
     ensures fits { OnOk result (size_of_all (λ x. W.weight scale.now x tt) (take end keys.now) < 2 ^ 64) }
     ensures refused { IfErr result (λ e. IsFirstRefused (λ x. W.weight scale.now x tt) keys.now e) }
 {
+    let (hashes, places) = positions.prefetch(keys, first, end);
     let mut sum = size;
     let mut at = first;
     while at < end {
@@ -59,7 +60,7 @@ where
         if weight >= usize::MAX - sum {
             return Err(SizedRequestError::TooLarge(key));
         }
-        let latest = match place(positions, key, at) {
+        let latest = match positions.put(hashes[at - first], key, at, places[at - first]) {
             Ok(latest) => latest,
             Err(key) => return Err(SizedRequestError::NoMemory(key)),
         };
@@ -68,26 +69,4 @@ where
         at += 1;
     }
     Ok(sum)
-}
-
-/// Notes the position of a request, and returns that of the latest one of its key. If memory is refused, it returns the key.
-fn place<K: Eq + Hash + Copy, S: BuildHasher, A: Allocator + Copy>(
-    positions: &mut KeyTable<K, usize, S, A>,
-    key: K,
-    at: usize,
-) -> Result<Option<usize>, K>
-    requires { length positions.old.entries + 1 < 2 ^ 64 }
-    ensures latest { (past : List K) → ArePlaced K.eq past positions.old.entries → IfOk result (IsLatestOf K.eq past key) }
-    ensures placed { (past : List K) → ArePlaced K.eq past positions.old.entries → at ≡ length past
-        → OnOk result (ArePlaced K.eq (key ∷ past) positions.new.entries) }
-    ensures refused { IfErr result (λ back. back ≡ key) }
-{
-    let hash = positions.hash(&key);
-    match positions.replace(hash, &key, at) {
-        Some(latest) => Ok(Some(latest)),
-        None => match positions.insert(hash, key, at) {
-            Ok(()) => Ok(None),
-            Err(key) => Err(key),
-        },
-    }
 }

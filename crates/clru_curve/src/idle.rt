@@ -9,10 +9,10 @@ ghost use Rattle.clru_curve.specs.IdlePasses.{IsIdlePass, HasIdleMissesOf};
 ghost use Rattle.clru_curve.specs.Seen.{reuse_by};
 
 use crate::curve::MissCurve;
-use crate::key_table::KeyTable;
 use crate::latest::Latest;
 use crate::pass::{copied, misses_of};
 use crate::seen::{Seen, is_soon};
+use clru_linked_map::KeyTable;
 use clru_list::NoMemory;
 use clru_model::DefaultState;
 use std::alloc::{Allocator, Global};
@@ -78,7 +78,7 @@ impl<K: Eq + Hash, S: BuildHasher, A: Allocator + Copy> IdlePass<K, S, A> {
         ensures { IsIdlePass K.eq limit [] result }
     {
         IdlePass {
-            seen: KeyTable::empty(alloc, hash_builder),
+            seen: KeyTable::new(alloc, hash_builder),
             latest: Latest::new(alloc),
             histogram: Vec::new(alloc),
             limit,

@@ -20,7 +20,6 @@ mod curve;
 mod debug;
 mod fetches;
 mod idle;
-mod key_table;
 mod latest;
 mod list;
 mod numbered;

@@ -3,10 +3,10 @@ ghost use Rattle.std.specs.Prelude.{◌≡◌, [], length, reverse, IfOk, IsOk};
 ghost use Rattle.clru_model.specs.Requests.{distinct};
 ghost use Rattle.clru_curve.specs.Curves.{HasMissesOf};
 
-use crate::ahead::{AHEAD, Ahead, look_up};
+use crate::ahead::{Ahead, look_up};
 use crate::curve::MissCurve;
-use crate::key_table::KeyTable;
 use crate::position::PositionPass;
+use clru_linked_map::{KeyTable, TOGETHER};
 use clru_list::NoMemory;
 use clru_model::ZeroWeightScale;
 use std::alloc::Allocator;
@@ -37,16 +37,16 @@ pub fn miss_curve<K: Eq + Hash + Copy, S: BuildHasher + Drop, A: Allocator + Cop
     ensures distinct { IfOk result (λ c. length c ≡ distinct K.eq (reverse keys.now)) }
     ensures never_refused { keys.now ≡ [] → IsOk result }
 {
-    let mut positions = KeyTable::empty(alloc, hash_builder);
+    let mut positions = KeyTable::new(alloc, hash_builder);
     let mut pass: PositionPass<K, A> = PositionPass::new(alloc);
     let mut ahead = [Ahead {
         latest: None,
         weight: 0,
-    }; AHEAD];
+    }; TOGETHER];
     let mut first = 0;
     let mut size = 0;
     while first < keys.len() {
-        let end = first + (keys.len() - first).min(AHEAD);
+        let end = first + (keys.len() - first).min(TOGETHER);
         match look_up(
             &mut positions,
             keys,

@@ -9,8 +9,8 @@ ghost use Rattle.clru_model.specs.Distances.{distance};
 ghost use Rattle.clru_curve.specs.Passes.{IsPass};
 
 use crate::curve::MissCurve;
-use crate::key_table::KeyTable;
 use crate::latest::Latest;
+use clru_linked_map::KeyTable;
 use clru_list::NoMemory;
 use clru_model::DefaultState;
 use std::alloc::{Allocator, Global};
@@ -75,7 +75,7 @@ impl<K: Eq + Hash, S: BuildHasher, A: Allocator + Copy> DistancePass<K, S, A> {
         ensures { IsPass K.eq [] result }
     {
         DistancePass {
-            positions: KeyTable::empty(alloc, hash_builder),
+            positions: KeyTable::new(alloc, hash_builder),
             latest: Latest::new(alloc),
             histogram: Vec::new(alloc),
         }

@@ -8,6 +8,7 @@ pub mod BytesMaps
 pub mod Hints
 pub mod Indexed
 pub mod IndexedMoves
+pub mod KeyTables
 pub mod Lending
 pub mod Linking
 pub mod Numbers

@@ -6,6 +6,7 @@ pub mod BytesTable
 pub mod Chained
 pub mod Growth
 pub mod IndexedList
+pub mod KeyTables
 pub mod LinkedMap
 pub mod MapLends
 pub mod Retains

@@ -138,22 +138,10 @@ impl<V: Copy, S: BuildHasher, A: Allocator + Copy> BytesTable<V, S, A> {
         self.index.first(self.index.bucket_of(hash))
     }
 
-    /// The first place with the tag of a hash in the chain that begins with a number, or the last one if none has it. It looks at no string.
+    /// The first place with the tag of a hash in the chain that begins with a number, or one that is not far down. It looks at no string.
     #[inline(always)]
-    pub(crate) fn likely(&self, number: usize, hash: u64) -> usize
-        requires { vec_len self.now.held ≤ length self.now.index.links }
-    {
-        let mut number = number;
-        let mut bound = self.held.len();
-        'chain: while self.index.has_other_tag(number, hash) && !self.index.is_last(number) {
-            let place = self.index.place(number);
-            if place >= bound {
-                break;
-            }
-            bound = place;
-            number = self.index.next(place);
-        }
-        self.index.place(number)
+    pub(crate) fn likely(&self, number: usize, hash: u64) -> usize {
+        self.index.likely(number, hash)
     }
 
     /// Returns whether a string at a place, which may be none, has so many bytes.

@@ -158,6 +158,22 @@ impl<A: Allocator + Copy> HashIndex<A> {
         number <= low_in(&self.words)
     }
 
+    /// The first place with the tag of a hash in the chain that begins with a number, or one that is not far down. It looks at no key.
+    #[inline(always)]
+    pub(crate) fn likely(&self, number: usize, hash: u64) -> usize {
+        let mut number = number;
+        let mut left = 8usize;
+        'chain: while self.has_other_tag(number, hash) && !self.is_last(number) && left > 0 {
+            let place = self.place(number);
+            if place >= self.link_count() {
+                break;
+            }
+            number = self.next(place);
+            left -= 1;
+        }
+        self.place(number)
+    }
+
     /// The number of a place, whose key has the hash, and which is the last one of its chain.
     pub(crate) fn number_of(&self, place: usize, hash: u64) -> usize
         requires { place < self.now.bound }

@@ -71,6 +71,38 @@ impl<K: Eq + Hash, V, S: BuildHasher, A: Allocator + Copy> IndexedList<K, V, S, 
         Some(self.index.place(number))
     }
 
+    /// Returns the same. It looks first at a place where the key is likely to be.
+    #[inline(always)]
+    pub(crate) fn find_near<Q: Equivalent<K>>(
+        &self,
+        hash: u64,
+        key: Q,
+        likely: usize,
+    ) -> Option<usize>
+        requires hash { hash ≡ hash_of Q.Hash S.BuildHasher S.Hasher.Hasher self.now.hash_builder key }
+        requires indexed { IsIndexed (hash_of K.Hash S.BuildHasher S.Hasher.Hasher) self.now }
+        ensures found { IfSome result (λ p. IsAt Q.equivalent key p self.now.list.entries) }
+        ensures valid { IsValid self.now.list }
+        ensures absent { IfNone result (lookup_entry (Q.equivalent key) (pairs_of self.now.list.entries) ≡ None) }
+    {
+        if self.is_there(likely, &key) {
+            return Some(likely);
+        }
+        self.find(hash, key)
+    }
+
+    /// Returns whether the key stands at a place, where nothing may be.
+    #[inline(always)]
+    pub(crate) fn is_there<Q: Equivalent<K>>(&self, place: usize, key: &Q) -> bool
+        ensures found { result ≡ true → IsAt Q.equivalent key.now place self.now.list.entries }
+        ensures valid { IsValid self.now.list }
+    {
+        match self.list.get(place) {
+            Some(item) => key.equivalent(&item.0),
+            None => false,
+        }
+    }
+
     /// Returns whether a number names another place than that of the key, whose hash is given.
     #[inline(always)]
     fn is_other<Q: Equivalent<K>>(&self, number: usize, hash: u64, key: &Q) -> bool

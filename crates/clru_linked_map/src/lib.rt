@@ -6,7 +6,8 @@
 //! A caller hashes a key once, and hands the hash to the calls that look for it. The caller must also keep the keys distinct,
 //! because a key that is put in is not looked for.
 //!
-//! `BytesMap` is another map with such an index. It keeps strings of bytes in one buffer, each with a value, and drops none.
+//! `KeyTable` is such a map that drops nothing. `BytesMap` is another one with such an index. It keeps strings of bytes in one buffer, each with a
+//! value, and drops none.
 #![tactic(auto)]
 
 mod announced;
@@ -14,7 +15,9 @@ mod bytes_map;
 mod bytes_table;
 mod hash_index;
 mod indexed_list;
+mod key_table;
 mod map;
 
 pub use bytes_map::BytesMap;
-pub use map::LinkedHashMap;
+pub use key_table::KeyTable;
+pub use map::{LinkedHashMap, TOGETHER};

@@ -8,7 +8,7 @@ ghost use Rattle.clru_linked_map.specs.Growth.{GrowsIf, IsRefused};
 
 use crate::hash_index::HashIndex;
 use crate::indexed_list::IndexedList;
-use clru_list::{FixedSizeList, NARROW, NoMemory};
+use clru_list::{FixedSizeList, NARROW, NOWHERE, NoMemory};
 use std::alloc::Allocator;
 use std::collections::hash_map::Equivalent;
 use std::hash::{BuildHasher, Hash};
@@ -20,6 +20,9 @@ mod ends;
 mod remove;
 mod retain;
 mod walk;
+
+/// How many keys are looked up together at most.
+pub const TOGETHER: usize = 64;
 
 /// Entries in order of recency, found by the hash of their keys. A map holds no more entries than its capacity.
 pub struct LinkedHashMap<K: Eq + Hash, V, S: BuildHasher, A: Allocator + Copy> {
@@ -142,6 +145,26 @@ impl<K: Eq + Hash, V, S: BuildHasher, A: Allocator + Copy> LinkedHashMap<K, V, S
     {
         let place = self.items.find(hash, key)?;
         Some(&self.items.list.item(place).1)
+    }
+
+    /// Returns the places where these keys, whose hashes are given, are likely to be. They are looked up together, so that the processor reads
+    /// for several at once: each step is done for all keys before the next one, because it stops reading ahead where it guessed wrong.
+    pub(crate) fn prefetch(&self, hashes: &[u64], keys: &[K]) -> [usize; TOGETHER] {
+        let count = hashes.len().min(keys.len()).min(TOGETHER);
+        let mut places = [0; TOGETHER];
+        let index = &self.items.index;
+        for at in 0..count {
+            places[at] = index.first(index.bucket_of(hashes[at]));
+        }
+        for at in 0..count {
+            places[at] = index.likely(places[at], hashes[at]);
+        }
+        for at in 0..count {
+            if !self.items.is_there(places[at], &&keys[at]) {
+                places[at] = NOWHERE;
+            }
+        }
+        places
     }
 
     /// Moves the entry of the key, whose hash is given, to the front, and returns whether there is one.

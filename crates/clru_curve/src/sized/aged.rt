@@ -1,19 +1,21 @@
 //! `SizedAgedPass`, which takes requests with times of keys with sizes, and counts misses at given capacities under an age limit.
 ghost use Rattle.std.specs.Prelude.{◌≡◌, ℕ, ◌+◌, ◌^◌, ◌<◌, ◌≤◌, ◌↔◌, List, [], ◌∷◌, reverse, length, map, IfOk, IfErr, IfSome, IsErrAnd, OnOk, OnErr, IsTrue, IsNone, None, Option, is_some, true, false};
 ghost use Rattle.std.specs.List.{list_any};
-ghost use Rattle.std.specs.Map.{keys_of, lookup};
+ghost use Rattle.std.specs.Map.{keys_of, lookup, set_value};
+ghost use Rattle.clru_linked_map.specs.KeyTables.{keyed};
 ghost use Rattle.clru_linked_map.specs.LinkedMap.{hash_of};
+ghost use Rattle.clru_curve.specs.Fetches.{fetched_at};
 ghost use Rattle.clru_model.specs.Sizes.{SameWeights, total};
 ghost use Rattle.clru_curve.specs.SizedAgedPasses.{IsSizedAgedPass, aged_misses_by_size, aged_missed_size};
 ghost use Rattle.clru_curve.specs.SizedCurves.{size_of_all, greatest_of};
 ghost use Rattle.clru_curve.specs.SizedPasses.{key_of, IsTooLarge};
 
 use crate::fetches::{Fetched, Fetches, is_in_limit};
-use crate::key_table::KeyTable;
 use crate::seen::Seen;
 use crate::sized::error::SizedRequestError;
 use crate::sized::pass::greater;
 use crate::sized::sizes::Sizes;
+use clru_linked_map::KeyTable;
 use clru_list::NoMemory;
 use clru_model::DefaultState;
 use std::alloc::{Allocator, Global};
@@ -114,7 +116,7 @@ impl<K: Eq + Hash, S: BuildHasher, A: Allocator + Copy> SizedAgedPass<K, S, A> {
             return Err(NoMemory);
         };
         Ok(SizedAgedPass {
-            seen: KeyTable::empty(alloc, hash_builder),
+            seen: KeyTable::new(alloc, hash_builder),
             latest: Sizes::new(alloc),
             fetches,
             size: 0,
@@ -127,7 +129,7 @@ impl<K: Eq + Hash, S: BuildHasher, A: Allocator + Copy> SizedAgedPass<K, S, A> {
     ///
     /// If memory is refused, or the sizes of all requests with this one exceed `usize::MAX`, it returns the key, and the pass
     /// is unchanged.
-    /// Cost: that of the same call of a `SizedPass`, and a step for each capacity.
+    /// Cost: that of the same call of a `SizedPass`, a second walk along the chain, and a step for each capacity.
     pub fn request(
         &mut self,
         key: K,
@@ -161,7 +163,7 @@ impl<K: Eq + Hash, S: BuildHasher, A: Allocator + Copy> SizedAgedPass<K, S, A> {
     ///
     /// If memory is refused, or the sizes of all requests with this one exceed `usize::MAX`, it returns the form, and the pass
     /// is unchanged.
-    /// Cost: that of the same call of a `SizedPass`, and a step for each capacity.
+    /// Cost: that of the same call of a `SizedPass`, a second walk along the chain, and a step for each capacity.
     pub fn request_again<Q: Equivalent<K>>(
         &mut self,
         key: Q,
@@ -216,7 +218,7 @@ impl<K: Eq + Hash, S: BuildHasher, A: Allocator + Copy> SizedAgedPass<K, S, A> {
         };
         let position = self.latest.requests;
         let here = Seen { position, time };
-        let Some(before) = self.seen.see_again(hash, key, here) else {
+        let Some(before) = see_again(&mut self.seen, hash, key, here) else {
             return Ok(false);
         };
         let likely = self.latest.likely(before.seen.position);
@@ -322,4 +324,21 @@ impl<K: Eq + Hash, S: BuildHasher, A: Allocator + Copy> SizedAgedPass<K, S, A> {
     {
         self.greatest // 0 without requests
     }
+}
+
+/// Gives the key, whose hash is given, another latest request if it is held, and returns what was noted of it.
+fn see_again<K: Eq + Hash, Q: Equivalent<K>, S: BuildHasher, A: Allocator + Copy>(
+    seen: &mut KeyTable<K, Fetched, S, A>,
+    hash: u64,
+    key: Q,
+    here: Seen,
+) -> Option<Fetched>
+    requires hash { hash ≡ hash_of Q.Hash S.BuildHasher S.Hasher.Hasher seen.old.builder key }
+    ensures found { result ≡ lookup (Q.equivalent key) seen.old.entries }
+    ensures same { IsNone result → seen.new ≡ seen.old }
+    ensures moved { IfSome result (λ before. seen.new
+        ≡ keyed (set_value (Q.equivalent key) seen.old.entries (fetched_at here before.first)) seen.old.builder) }
+{
+    let first = seen.get(hash, key)?.first;
+    seen.replace(hash, key, Fetched { seen: here, first })
 }

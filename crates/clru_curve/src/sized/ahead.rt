@@ -33,7 +33,7 @@ pub(crate) fn count<K: Eq + Copy, A: Allocator + Copy>(
     let mut at = first;
     while at < end {
         let Ahead { latest, weight } = ahead[at - first];
-        let likely = places[at - first];
+        let likely = pass.likely(latest, places[at - first]);
         match pass.count(latest, latest.is_some(), weight, likely) {
             Ok(_) => {}
             Err(_) => return Err(keys[at]),
@@ -43,14 +43,15 @@ pub(crate) fn count<K: Eq + Copy, A: Allocator + Copy>(
     Ok(())
 }
 
-/// Where the sizes of the latest requests are likely to stand.
+/// Where the sizes of the latest requests are likely to stand, which are read ahead.
 fn places_in<K: Eq, A: Allocator + Copy>(
     pass: &SizedPositionPass<K, A>,
     ahead: &[Ahead],
 ) -> [usize; AHEAD] {
-    let mut places = [0; AHEAD];
-    for at in 0..ahead.len().min(AHEAD) {
-        places[at] = pass.likely(ahead[at].latest, usize::MAX);
+    let count = ahead.len().min(AHEAD);
+    let mut latest = [None; AHEAD];
+    for at in 0..count {
+        latest[at] = ahead[at].latest;
     }
-    places
+    pass.latest.read_ahead(&latest[..count])
 }

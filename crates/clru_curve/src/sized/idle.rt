@@ -10,7 +10,6 @@ ghost use Rattle.clru_curve.specs.SizedCurves.{step};
 ghost use Rattle.clru_curve.specs.SizedIdlePasses.{IsSizedIdlePass, IsSizedIdleCurveOf};
 ghost use Rattle.clru_curve.specs.SizedPasses.{key_of, IsTooLarge};
 
-use crate::key_table::KeyTable;
 use crate::pass::copied;
 use crate::seen::{Seen, is_soon};
 use crate::sized::curve::SizedCurve;
@@ -18,6 +17,7 @@ use crate::sized::error::SizedRequestError;
 use crate::sized::pass::greater;
 use crate::sized::sizes::Sizes;
 use crate::sized::step::Step;
+use clru_linked_map::KeyTable;
 use clru_list::NoMemory;
 use clru_model::DefaultState;
 use std::alloc::{Allocator, Global};
@@ -93,7 +93,7 @@ impl<K: Eq + Hash, S: BuildHasher, A: Allocator + Copy> SizedIdlePass<K, S, A> {
         ensures { (w : K → ℕ) → IsSizedIdlePass K.eq w limit [] result }
     {
         SizedIdlePass {
-            seen: KeyTable::empty(alloc, hash_builder),
+            seen: KeyTable::new(alloc, hash_builder),
             latest: Sizes::new(alloc),
             hits: Vec::new(alloc),
             size: 0,

@@ -4,12 +4,12 @@ ghost use Rattle.clru_model.specs.Sizes.{SameWeights};
 ghost use Rattle.clru_curve.specs.SizedCurves.{IsSizedCurveOf, size_of_all};
 ghost use Rattle.clru_curve.specs.SizedPasses.{IsNoMemory, IsFirstRefused};
 
-use crate::ahead::{AHEAD, Ahead, look_up};
-use crate::key_table::KeyTable;
+use crate::ahead::{Ahead, look_up};
 use crate::sized::ahead::count;
 use crate::sized::curve::SizedCurve;
 use crate::sized::error::SizedRequestError;
 use crate::sized::position::SizedPositionPass;
+use clru_linked_map::{KeyTable, TOGETHER};
 use clru_model::WeightScale;
 use std::alloc::Allocator;
 use std::hash::{BuildHasher, Hash};
@@ -40,16 +40,16 @@ where
     ensures given_back { IfErr result (λ e. IsFirstRefused (λ x. W.weight scale x tt) keys.now e) }
     ensures never_refused { keys.now ≡ [] → IsOk result }
 {
-    let mut positions = KeyTable::empty(alloc, hash_builder);
+    let mut positions = KeyTable::new(alloc, hash_builder);
     let mut pass: SizedPositionPass<K, A> = SizedPositionPass::new(alloc);
     let mut ahead = [Ahead {
         latest: None,
         weight: 0,
-    }; AHEAD];
+    }; TOGETHER];
     let mut first = 0;
     let mut size = 0;
     while first < keys.len() {
-        let end = first + (keys.len() - first).min(AHEAD);
+        let end = first + (keys.len() - first).min(TOGETHER);
         match look_up(&mut positions, keys, first, end, &scale, size, &mut ahead) {
             Ok(sum) => size = sum,
             Err(refusal) => return Err(refusal),

@@ -8,12 +8,12 @@ ghost use Rattle.clru_model.specs.Sizes.{SameWeights, span};
 ghost use Rattle.clru_curve.specs.SizedPasses.{IsSizedPass, key_of, IsTooLarge};
 ghost use Rattle.clru_curve.specs.SizedCurves.{IsSizedCurveOf};
 
-use crate::key_table::KeyTable;
 use crate::pass::copied;
 use crate::sized::curve::SizedCurve;
 use crate::sized::error::SizedRequestError;
 use crate::sized::sizes::Sizes;
 use crate::sized::step::Step;
+use clru_linked_map::KeyTable;
 use clru_list::NoMemory;
 use clru_model::DefaultState;
 use std::alloc::{Allocator, Global};
@@ -84,7 +84,7 @@ impl<K: Eq + Hash, S: BuildHasher, A: Allocator + Copy> SizedPass<K, S, A> {
         ensures { (w : K → ℕ) → IsSizedPass K.eq w [] result }
     {
         SizedPass {
-            positions: KeyTable::empty(alloc, hash_builder),
+            positions: KeyTable::new(alloc, hash_builder),
             latest: Sizes::new(alloc),
             hits: Vec::new(alloc),
             size: 0,

@@ -10,6 +10,7 @@ ghost use Rattle.clru_linked_map.specs.LinkedMap.{hash_of, with_entries};
 ghost use Rattle.clru_linked_map.specs.MapLends.{lends_at, lends_value};
 
 use crate::map::LinkedHashMap;
+use clru_list::NOWHERE;
 use std::alloc::Allocator;
 use std::collections::hash_map::Equivalent;
 use std::hash::{BuildHasher, Hash};
@@ -69,7 +70,23 @@ impl<K: Eq + Hash, V, S: BuildHasher, A: Allocator + Copy> LinkedHashMap<K, V, S
             A.Allocator self.entry (Q.equivalent key) result) }
         ensures value { option_copied_mut result ≡ lookup (Q.equivalent key) self.old.entries }
     {
-        let place = self.items.find(hash, key)?;
+        self.get_mut_near(hash, key, NOWHERE)
+    }
+
+    /// Returns the same. It looks first at a place where the key is likely to be.
+    pub(crate) fn get_mut_near<Q: Equivalent<K>>(
+        &mut self,
+        hash: u64,
+        key: Q,
+        likely: usize,
+    ) -> Option<&mut V>
+        requires hash { hash ≡ hash_of Q.Hash S.BuildHasher S.Hasher.Hasher self.old.builder key }
+        requires distinct { IsDistinct K.eq (keys_of self.old.entries) }
+        ensures* lends { sem 𝓛 (lends_value K.row V.row S.row A.row S.Hasher.row K.Hash S.BuildHasher S.Hasher.Hasher
+            A.Allocator self.entry (Q.equivalent key) result) }
+        ensures value { option_copied_mut result ≡ lookup (Q.equivalent key) self.old.entries }
+    {
+        let place = self.items.find_near(hash, key, likely)?;
         match self.items.list.get_mut(place) {
             Some(item) => Some(&mut item.1),
             None => unreachable!(),

@@ -2,7 +2,8 @@ use Rattle.std.proofs.Common.{◌≡◌, ◌-◌, ◌<◌, Some, length, reverse
 use Rattle.std.proofs.lemmas.List.{length-reverse, length-take-le}
 use Rattle.std.proofs.lemmas.Option.{slice_get-get_or}
 use Rattle.clru_curve.specs.Ahead.{ArePlaced}
-use Rattle.clru_curve.proofs.Looking.{latest_with, refused_here, size_more, turned_more, weights_with}
+use Rattle.clru_curve.specs.PositionPasses.{IsLatestOf}
+use Rattle.clru_curve.proofs.Looking.{latest_with, placed_more, refused_here, size_more, turned_more, weights_with}
 use Rattle.clru_curve.proofs.ahead.look_up.Goals as goal
 
 pub returns-then-weight-sum-clause-refused : goal.returns-then-weight-sum-clause-refused
@@ -20,7 +21,7 @@ returns-in-Err-clause-refused g c =
     let w = λ (x : g.row.K.Denot). g.W.WeightScale.weight c.args.scale.now x tt in
     let here : slice_get keys at ≡ Some key = slice_get-get_or keys at key (omega (arith, c.loop-at-test.true, c.requires.within))
     ∙ ap (λ k. Some k) (sym c.index-keys-at.is) in
-    refused_here keys at key here w _ c.in-Err.ensures.refused (omega (arith, c.loop-at.invariant.size, c.loop-at.auto.sum-fits))
+    refused_here keys at key here w _ c.in-Err.ensures.given_back (omega (arith, c.loop-at.invariant.size, c.loop-at.auto.sum-fits))
     (λ no. absurd no, λ large. omega (arith, large, c.if-weight-sum.false, c.loop-at.invariant.size, c.weight-weight.ensures))
 
 pub loop-at-preserved : goal.loop-at-preserved
@@ -36,8 +37,10 @@ loop-at-preserved g c =
       first = omega (arith, inv.first);
       end = omega (arith, c.loop-at-test.true);
       length = length-set c.loop-at.ahead (at - c.args.first) _ ∙ inv.length;
-      placed = subst (λ l. ArePlaced eq l c.place.new.positions.entries) (sym (turned_more keys at key here)) (c.in-Ok.ensures.placed past inv.placed many);
+      placed = subst (λ l. ArePlaced eq l c.put.new.self.entries) (sym (turned_more keys at key here))
+          (rw c.in-Ok.ensures.taken (placed_more eq g.met.K.Eq.laws past key c.loop-at.positions.entries at many inv.placed));
+      builder = ap (λ t. t.builder) c.in-Ok.ensures.taken ∙ inv.builder;
       size = omega (arith, inv.size, size_more keys at key here w, c.weight-weight.ensures);
-      latest = latest_with keys at key here c.args.first c.loop-at.ahead inv.first room _ eq (c.in-Ok.ensures.latest past inv.placed) inv.latest;
+      latest = latest_with keys at key here c.args.first c.loop-at.ahead inv.first room _ eq (subst (IsLatestOf eq past key) (sym c.in-Ok.ensures.before) (inv.placed.latest key)) inv.latest;
       weights = weights_with keys at key here c.args.first c.loop-at.ahead inv.first room _ w (sym c.weight-weight.ensures) inv.weights;
     }

@@ -9,6 +9,7 @@ invariant-loop-at g l = record {
   end : l.at ≤ l.end;
   length : length l.ahead ≡ length l.fn.ahead;
   placed : ArePlaced g.K.PartialEq.eq (reverse (take l.at l.keys)) l.positions.entries;
+  builder : l.positions.builder ≡ l.fn.positions.builder;
   size : l.sum ≡ size_of_all (λ x. g.W.WeightScale.weight l.scale x tt) (take l.at l.keys);
   latest : AreLatest g.K.PartialEq.eq l.keys l.first l.at l.ahead;
   weights : HaveWeights (λ x. g.W.WeightScale.weight l.scale x tt) l.keys l.first l.at l.ahead;

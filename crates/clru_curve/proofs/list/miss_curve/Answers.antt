@@ -12,7 +12,7 @@ use Rattle.clru_curve.proofs.list.miss_curve.Goals as goal
 pub loop-first-init : goal.loop-first-init
 loop-first-init g c = record {
   within = omega arith;
-  placed = rw c.empty-positions.ensures (placed_none g.K.PartialEq.eq);
+  placed = rw c.new-positions.ensures (placed_none g.K.PartialEq.eq);
   size = refl;
   taken = c.new-pass.ensures 0;
   room = refl;

@@ -11,7 +11,7 @@ invariant-loop-first g l = record {
   placed : ArePlaced g.K.PartialEq.eq (reverse (take l.first l.keys)) l.positions.entries;
   size : l.size ≡ size_of_all (λ x. 0) (take l.first l.keys);
   taken : IsPositionPass g.K.PartialEq.eq 0 (timeless (reverse (take l.first l.keys))) l.pass;
-  room : length l.ahead ≡ 128;
+  room : length l.ahead ≡ 64;
 }
 
 abbrev pub invariant-loop-at : goal.invariant-loop-at

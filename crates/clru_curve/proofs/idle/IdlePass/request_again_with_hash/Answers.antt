@@ -1,6 +1,6 @@
 use Rattle.std.proofs.Common.{suc, ◌∷◌, cond, Some, None, is_some, get_or, refl, sym, ap, ◌∙◌, subst, arith}
 use Rattle.std.specs.Map.{keys_of, set_value}
-use Rattle.clru_curve.specs.KeyTables.{keyed}
+use Rattle.clru_linked_map.specs.KeyTables.{keyed}
 use Rattle.clru_model.proofs.Forms.{form_is}
 use Rattle.clru_curve.specs.IdlePasses.{IsIdlePass}
 use Rattle.clru_curve.specs.Seen.{seen_at}

@@ -5,12 +5,12 @@ use Rattle.clru_curve.proofs.idle.IdlePass.with_hasher.Goals as goal
 pub invariant_of-result : goal.invariant_of-result
 invariant_of-result g c =
     record {
-      latest = c.new.ensures.kept;
+      latest = c.new-2.ensures.kept;
       past = [];
-      taken = rw (c.empty.ensures, c.new.ensures.blocks, c.new.ensures.requests, c.new-2.ensures.items)
+      taken = rw (c.new.ensures, c.new-2.ensures.blocks, c.new-2.ensures.requests, c.new-3.ensures.items)
           (IsIdlePass-none g.K.PartialEq.eq g.met.K.Eq.laws c.args.limit);
     }
 
 pub returns : goal.returns
-returns g c = rw (c.empty.ensures, c.new.ensures.blocks, c.new.ensures.requests, c.new-2.ensures.items)
+returns g c = rw (c.new.ensures, c.new-2.ensures.blocks, c.new-2.ensures.requests, c.new-3.ensures.items)
     (IsIdlePass-none g.K.PartialEq.eq g.met.K.Eq.laws c.args.limit)

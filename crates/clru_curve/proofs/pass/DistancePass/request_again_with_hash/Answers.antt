@@ -1,7 +1,7 @@
 use Rattle.std.proofs.Common.{suc, ◌<◌, ◌∷◌, Some, None, is_some, get_or, refl, sym, ap, ◌∙◌, subst, arith, length}
 use Rattle.std.specs.Map.{set_value}
 use Rattle.std.proofs.lemmas.List.{get_or_read}
-use Rattle.clru_curve.specs.KeyTables.{keyed}
+use Rattle.clru_linked_map.specs.KeyTables.{keyed}
 use Rattle.clru_model.proofs.Forms.{form_is}
 use Rattle.clru_curve.specs.Tree.{up_to}
 use Rattle.clru_curve.specs.Passes.{IsPass}

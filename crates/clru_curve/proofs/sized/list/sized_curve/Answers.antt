@@ -14,7 +14,7 @@ loop-first-init g c =
     let eq = g.K.PartialEq.eq in let w = λ (x : g.row.K.Denot). g.W.WeightScale.weight c.args.scale x tt in
     record {
       within = omega arith;
-      placed = rw c.empty-positions.ensures (placed_none eq);
+      placed = rw c.new-positions.ensures (placed_none eq);
       size = refl;
       fits = omega arith;
       held = holds_none eq w 0 c.new-pass.result (c.new-pass.ensures w 0);

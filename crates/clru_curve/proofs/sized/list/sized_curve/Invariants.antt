@@ -15,7 +15,7 @@ invariant-loop-first g l = record {
   held : HoldsLatest g.K.PartialEq.eq (reverse (take l.first l.keys)) l.pass;
   taken : SameWeights g.K.PartialEq.eq (λ x. g.W.WeightScale.weight l.scale x tt)
       → IsSizedPositionPass g.K.PartialEq.eq (λ x. g.W.WeightScale.weight l.scale x tt) 0 (timeless (reverse (take l.first l.keys))) l.pass;
-  room : length l.ahead ≡ 128;
+  room : length l.ahead ≡ 64;
 }
 
 -- proposed from the loop's first test

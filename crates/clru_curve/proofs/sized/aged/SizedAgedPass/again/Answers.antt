@@ -8,7 +8,7 @@ use Rattle.clru_curve.proofs.SizedAgedPassing.{AreAligned-again, seen_found, IsS
 use Rattle.clru_curve.proofs.SizedPassing.{not_too_large}
 use Rattle.clru_curve.proofs.FetchTables.{AreCounted-as, AreFetched-as}
 use Rattle.clru_curve.specs.Fetches.{fetch_times, fetched_at, seens_of, is_row_hit, times_by, AreFetched}
-use Rattle.clru_curve.specs.KeyTables.{keyed}
+use Rattle.clru_linked_map.specs.KeyTables.{keyed}
 use Rattle.clru_curve.specs.LatestSizes.{sizes_from, total_from, live_from, IsRemoved, IsSummed}
 use Rattle.clru_curve.specs.Rising.{numbered}
 use Rattle.clru_curve.specs.Seen.{seen_at}

@@ -1,6 +1,6 @@
 use Rattle.std.proofs.Common.{◌≡◌, ◌+◌, cond, nat_le, ◌-◌, suc, [], ◌∷◌, ◌++◌, Some, None, is_some, refl, sym, ap, ◌∙◌, subst, arith}
 use Rattle.std.specs.Map.{set_value}
-use Rattle.clru_curve.specs.KeyTables.{keyed}
+use Rattle.clru_linked_map.specs.KeyTables.{keyed}
 use Rattle.clru_model.proofs.Forms.{form_is}
 use Rattle.clru_curve.proofs.Forms.{key_at, found_as}
 use Rattle.clru_curve.proofs.IdlePassing.{position_found}

@@ -6,11 +6,11 @@ use Rattle.clru_curve.proofs.sized.idle.SizedIdlePass.with_hasher.Goals as goal
 
 pub invariant_of-result : goal.invariant_of-result
 invariant_of-result g c =
-    let ns = c.new.result.nodes.items in
-    rw (c.empty.ensures, c.new.ensures.sizes, c.new.ensures.requests, c.new-2.ensures.items)
+    let ns = c.new-2.result.nodes.items in
+    rw (c.new.ensures, c.new-2.ensures.sizes, c.new-2.ensures.requests, c.new-3.ensures.items)
     (IsSoundBySize-none g.K.PartialEq.eq ns
-    (subst (λ l. IsSummed l ns 0) c.new.ensures.sizes (subst (λ n. IsSummed c.new.result.sizes.items ns n) c.new.ensures.requests c.new.ensures.kept)))
+    (subst (λ l. IsSummed l ns 0) c.new-2.ensures.sizes (subst (λ n. IsSummed c.new-2.result.sizes.items ns n) c.new-2.ensures.requests c.new-2.ensures.kept)))
 
 pub returns : goal.returns
-returns g c = λ w. rw (c.empty.ensures, c.new.ensures.sizes, c.new.ensures.requests, c.new-2.ensures.items)
+returns g c = λ w. rw (c.new.ensures, c.new-2.ensures.sizes, c.new-2.ensures.requests, c.new-3.ensures.items)
     (IsSizedIdlePass-none g.K.PartialEq.eq g.met.K.Eq.laws w c.args.limit)

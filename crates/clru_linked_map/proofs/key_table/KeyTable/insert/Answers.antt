@@ -1,7 +1,7 @@
 use Rattle.std.proofs.Common.{◌≡◌, None, sym, subst}
 use Rattle.std.specs.Map.{lookup}
-use Rattle.clru_curve.proofs.KeyTables.{IsKeyed-insert}
-use Rattle.clru_curve.proofs.key_table.KeyTable.insert.Goals as goal
+use Rattle.clru_linked_map.proofs.KeyTables.{IsKeyed-insert}
+use Rattle.clru_linked_map.proofs.key_table.KeyTable.insert.Goals as goal
 
 pub invariant_of-self-2 : goal.invariant_of-self-2
 invariant_of-self-2 g c =

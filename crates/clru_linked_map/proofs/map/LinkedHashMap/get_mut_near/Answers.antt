@@ -4,7 +4,7 @@ use Rattle.clru_linked_map.specs.LinkedMap.{pairs_of}
 use Rattle.clru_linked_map.proofs.Lending.{ends_alike}
 use Rattle.clru_linked_map.proofs.PlacedPairs.{found_item, no_value}
 use Rattle.clru_linked_map.proofs.WrittenItems.{found_written}
-use Rattle.clru_linked_map.proofs.map.LinkedHashMap.get_mut.Goals as goal
+use Rattle.clru_linked_map.proofs.map.LinkedHashMap.get_mut_near.Goals as goal
 
 pub invariant_of-self-lent : goal.invariant_of-self-lent
 invariant_of-self-lent g c = λ w.
