@@ -80,7 +80,7 @@ impl<K: Eq + Hash, S: BuildHasher, A: Allocator + Copy> AgedPass<K, S, A> {
     /// Takes one more request, at this time.
     ///
     /// If memory is refused, or there were `usize::MAX` requests, it returns the key, and the pass is unchanged.
-    /// Cost: that of the same call of a `SizedPass`, and a step for each capacity.
+    /// Cost: that of the same call of a `SizedPass`, a second walk along the chain, and a step for each capacity.
     pub fn request(&mut self, key: K, time: usize) -> Result<(), K>
     where
         K: Drop,
@@ -100,7 +100,7 @@ impl<K: Eq + Hash, S: BuildHasher, A: Allocator + Copy> AgedPass<K, S, A> {
     /// takes nothing and returns false; then call `request`.
     ///
     /// If memory is refused, or there were `usize::MAX` requests, it returns the form, and the pass is unchanged.
-    /// Cost: that of the same call of a `SizedPass`, and a step for each capacity.
+    /// Cost: that of the same call of a `SizedPass`, a second walk along the chain, and a step for each capacity.
     pub fn request_again<Q: Equivalent<K>>(&mut self, key: Q, time: usize) -> Result<bool, Q>
         ensures taken { (cs : List ℕ) (idle : Option ℕ) (age : ℕ) (past : List (K × ℕ)) (x : K) → IsAgedPass K.eq cs idle age past self.old
             → IsTrue (Q.equivalent key x)

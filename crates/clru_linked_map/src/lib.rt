@@ -6,8 +6,8 @@
 //! A caller hashes a key once, and hands the hash to the calls that look for it. The caller must also keep the keys distinct,
 //! because a key that is put in is not looked for.
 //!
-//! `KeyTable` is such a map that drops nothing. `BytesMap` is another one with such an index. It keeps strings of bytes in one buffer, each with a
-//! value, and drops none.
+//! `KeyTable` is such a map that drops nothing. `BytesMap` has such an index too: it keeps strings of bytes in one buffer, each with a value, and
+//! drops none.
 #![tactic(auto)]
 
 mod announced;
