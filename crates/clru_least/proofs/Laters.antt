@@ -4,7 +4,6 @@ use Rattle.std.proofs.Common.{List, [], ◌∷◌, ◌++◌, length, get_or, set
 use Rattle.std.proofs.lemmas.Bool.{eqb-true, or_left, or_right, or_parts}
 use Rattle.std.proofs.lemmas.Grind.{reverse_onto}
 use Rattle.std.proofs.lemmas.List.{length-reverse, set-append_left}
-use Rattle.std.specs.Borrow.{Bor}
 use Rattle.std.specs.Cmp.{IsEquivalence}
 use Rattle.clru_list.specs.Packed.{Packed, greatest_by}
 use Rattle.clru_model.specs.Requests.{holds, since}
@@ -198,23 +197,22 @@ module _ {K : Type 0} (eq : K → K → Bool) (laws : IsEquivalence eq) where
         noted_again position pushed after here at wrote =
             wrote ∙ ap (λ l. set l p position) at ∙ ap (λ n. set (later ++ 0 ∷ []) p n) here ∙ foresight_again p held there
 
-  -- the latest request of each key, after one more of x
-  pub latest_more : (past : List K) (x : K) (i : ℕ) (find known : Bor K → Option ℕ) → i ≡ length past
-      → ((z : Bor K) → IsLatestOf eq past z.now (find z)) → ((z : Bor K) → known z ≡ cond (eq x z.now) (Some i) (find z))
-      → (z : Bor K) → IsLatestOf eq (x ∷ past) z.now (known z)
-  latest_more past x i find known here is update z = split (eq x z.now)
-      (λ t. let back : eq z.now x ≡ true = laws.symm z.now x ∙ t in
-      let found : known z ≡ Some i = rw t at (update z) in
-      let none : length (since eq z.now (x ∷ past)) ≡ 0 = rw (since-cons eq z.now x past, back) refl in
-      subst (λ o. IsLatestOf eq (x ∷ past) z.now o) (sym found)
+  -- the latest request of a key z, after one more of x
+  pub latest_more : (past : List K) (x : K) (i : ℕ) (z : K) (before after : Option ℕ) → i ≡ length past → IsLatestOf eq past z before
+      → after ≡ cond (eq x z) (Some i) before → IsLatestOf eq (x ∷ past) z after
+  latest_more past x i z before after here is update = split (eq x z)
+      (λ t. let back : eq z x ≡ true = laws.symm z x ∙ t in
+      let found : after ≡ Some i = rw t at update in
+      let none : length (since eq z (x ∷ past)) ≡ 0 = rw (since-cons eq z x past, back) refl in
+      subst (λ o. IsLatestOf eq (x ∷ past) z o) (sym found)
       (record { known = rw back refl; position = omega (arith, here, none) }))
-      (λ f. let back : eq z.now x ≡ false = laws.symm z.now x ∙ f in
-      let found : known z ≡ find z = rw f at (update z) in
-      let more : length (since eq z.now (x ∷ past)) ≡ suc (length (since eq z.now past)) = rw (since-cons eq z.now x past, back) refl in
-      subst (λ o. IsLatestOf eq (x ∷ past) z.now o) (sym found)
+      (λ f. let back : eq z x ≡ false = laws.symm z x ∙ f in
+      let found : after ≡ before = rw f at update in
+      let more : length (since eq z (x ∷ past)) ≡ suc (length (since eq z past)) = rw (since-cons eq z x past, back) refl in
+      subst (λ o. IsLatestOf eq (x ∷ past) z o) (sym found)
       (record {
-        known = (is z).known ∙ rw back refl;
-        position = some_more (find z) (λ p at. omega (arith, at, more)) (is z).position;
+        known = is.known ∙ rw back refl;
+        position = some_more before (λ p at. omega (arith, at, more)) is.position;
       }))
     where
       some_more : {P Q : ℕ → Type 0} (o : Option ℕ) → ((p : ℕ) → P p → Q p) → IfSome o P → IfSome o Q

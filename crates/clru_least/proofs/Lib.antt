@@ -1,4 +1,6 @@
 pub mod BitTrees
+pub mod Chained
+pub mod ChainWalks
 pub mod Due
 pub mod FloorOf
 pub mod Furthest

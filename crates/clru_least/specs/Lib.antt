@@ -1,3 +1,4 @@
+pub mod Chains
 pub mod FloorErrors
 pub mod FloorNumbers
 pub mod Next

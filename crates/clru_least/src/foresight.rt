@@ -4,9 +4,9 @@ ghost use Rattle.std.specs.Int.NonZero.{non_zero_usize_get};
 ghost use Rattle.clru_model.specs.Least.{IsLeast, IsNearFromAnyStart};
 ghost use Rattle.clru_model.specs.Requests.{misses};
 
+use crate::chains::next_requests;
 use crate::pass::ForesightPass;
 use std::alloc::{AllocError, Allocator};
-use std::collections::HashMap;
 use std::hash::{BuildHasher, Hash};
 use std::marker::Model;
 use std::num::NonZeroUsize;
@@ -55,15 +55,11 @@ impl<'a, K: Eq, A: Allocator + Copy> Foresight<'a, K, A> {
                 pass: ForesightPass::new(alloc),
             });
         }
-        let mut pass = ForesightPass::with_memory(alloc, keys.len())?;
-        let mut latest = HashMap::with_hasher(alloc, hash_builder);
-        for position in 0..keys.len() {
-            let Ok(before) = latest.insert(&keys[position], position) else {
-                return Err(AllocError);
-            };
-            pass.request(before)?;
-        }
-        Ok(Foresight { keys, pass })
+        let later = next_requests(alloc, keys, &hash_builder)?;
+        Ok(Foresight {
+            keys,
+            pass: ForesightPass::of_numbers(alloc, later),
+        })
     }
 
     /// Returns the fewest misses of any policy with room for so many keys, even if it knows all requests beforehand. The policy

@@ -11,6 +11,7 @@
 //! `FloorPass` (`law_floor`).
 #![tactic(auto)]
 
+mod chains;
 mod debug;
 mod floor_error;
 mod floor_keys;

@@ -1,6 +1,7 @@
 //! `ForesightPass`, which takes requests one by one and holds no key.
-ghost use Rattle.std.specs.Prelude.{◌≡◌, ℕ, List, ◌+◌, ◌-◌, ◌^◌, ◌<◌, ◌≤◌, [], ◌∷◌, length, reverse, All, IfOk, OnOk, OnErr, IsOk};
+ghost use Rattle.std.specs.Prelude.{◌≡◌, ℕ, List, ◌+◌, ◌-◌, ◌^◌, ◌<◌, ◌≤◌, [], ◌∷◌, length, reverse, true, All, IfOk, OnOk, OnErr, IsOk};
 ghost use Rattle.std.specs.Int.NonZero.{non_zero_usize_get};
+ghost use Rattle.clru_list.specs.Packed.{greatest_by};
 ghost use Rattle.clru_model.specs.Least.{IsLeast, IsNearFromAnyStart};
 ghost use Rattle.clru_model.specs.Requests.{misses};
 ghost use Rattle.clru_least.specs.Passes.{IsForesight, IsLatestOf, next_or};
@@ -60,15 +61,17 @@ impl<K: Eq, A: Allocator + Copy> ForesightPass<K, A> {
         }
     }
 
-    /// Creates a pass that has taken no request, with memory for so many.
-    pub(crate) fn with_memory(alloc: A, requests: usize) -> Result<Self, AllocError>
-        ensures { IfOk result (IsForesight K.eq []) }
+    /// Creates a pass that has taken the requests whose next ones stand at these positions.
+    pub(crate) fn of_numbers(alloc: A, later: PackedNumbers<A>) -> Self
+        requires taken { (past : List K) × IsForesight K.eq past later.numbers }
+        requires narrow { length later.numbers < 2 ^ 32 → later.greatest ≡ greatest_by true }
+        ensures { result ≡ later.numbers }
     {
-        Ok(ForesightPass {
-            later: PackedNumbers::with_memory(alloc, requests)?,
+        ForesightPass {
+            later,
             alloc,
             keys: PhantomData,
-        })
+        }
     }
 
     /// Takes one more request: `latest` is the position of the latest request of its key, which is how many came before that one,

@@ -37,8 +37,8 @@ loop-position-preserved g c =
       taken = subst (λ l. IsFloorPass eq w l c.request.new.self) (sym one)
           (c.in-Ok-request.ensures.taken w past key.now c.loop-position.invariant.taken of (sym c.weight-weight.ensures));
       known = λ z. subst (λ l. IsLatestOf eq l z.now (get same c.insert.new.self z)) (sym one)
-          (latest_more eq g.met.K.Eq.laws past key.now i (get same c.loop-position.latest) (get same c.insert.new.self) many
-          c.loop-position.invariant.known c.in-Ok.ensures.updates.0 z);
+          (latest_more eq g.met.K.Eq.laws past key.now i z.now (get same c.loop-position.latest z) (get same c.insert.new.self z) many
+          (c.loop-position.invariant.known z) (c.in-Ok.ensures.updates.0 z));
       fits = elim (cases_lt c.request.new.self.size (2 ^ 64)) [
         | inl lt ↦ lt
         | inr ge ↦ let bad = c.in-Ok-request.ensures.too_large.1 (omega (arith, ge, c.in-Ok-request.ensures.size)) in elim bad [ ]
