@@ -1,5 +1,5 @@
 -- Private: chains of positions through numbers, and what is found along them. No public clause cites it.
-use Rattle.std.specs.Prelude.{◌≡◌, ℕ, suc, ◌-◌, ◌<◌, ◌≤◌, ◌==◌, nat_le, min, bit_and, Bool, false, if◌then◌else◌, List, [], ◌∷◌, ◌++◌, length, reverse, take, set, slice_index_or, Option, Some, None}
+use Rattle.std.specs.Prelude.{◌≡◌, ℕ, suc, ◌-◌, ◌<◌, ◌≤◌, ◌==◌, nat_le, bit_and, Bool, false, if◌then◌else◌, List, [], ◌∷◌, ◌++◌, length, reverse, take, set, slice_index_or, Option, Some, None}
 use Rattle.std.specs.List.{AllByRecursion, slice_get}
 use Rattle.clru_least.specs.Passes.{IsForesight, IsLatestOf}
 use Rattle.clru_least.specs.declared.chains.Chains.{Chains}
@@ -14,7 +14,7 @@ next_in numbers p = if nat_le (number_in numbers p) p then 0 else number_in numb
 
 -- the bucket of a hash
 abbrev pub bucket_by : ℕ → ℕ → ℕ
-bucket_by mask hash = min (bit_and hash mask) mask
+bucket_by mask hash = bit_and hash mask
 
 -- from the number n links lead down along these positions, and then to 0
 abbrev pub Leads : (ℕ → ℕ) → ℕ → List ℕ → Type 0

@@ -1,8 +1,8 @@
-//! Where the key of each request is requested next, found by chains of requests.
+//! Where the key of each request is requested next, found by chains through the numbers that say it.
 //!
-//! The number of a request says where its key is requested next. As long as it is not, the number links it to an earlier request. So
-//! the latest requests of the keys of a bucket are a chain, the latest one first, and no key takes memory of its own. A number above its own position
-//! is a next request; any other is a link: the position of an earlier request and 1, or 0 at the end of the chain.
+//! A request whose key is not requested again yet has a link in its number instead: to an earlier request, of another key. So the latest
+//! requests of the keys of a bucket are a chain, the latest first, and no key takes memory of its own. A number above its own position is
+//! that of a next request; any other is a link: the position of a request and 1, or 0 at the end of a chain.
 ghost use Rattle.std.specs.Prelude.{◌≡◌, ℕ, List, ◌+◌, ◌-◌, ◌^◌, ◌<◌, ◌≤◌, ◌==◌, true, length, reverse, set, if◌then◌else◌, Some, IfOk};
 ghost use Rattle.std.specs.List.{AllByRecursion, slice_get};
 ghost use Rattle.clru_list.specs.Packed.{greatest_by};
@@ -45,15 +45,16 @@ impl<A: Allocator + Copy> Chains<A> {
     }
 
     /// The bucket of a hash.
+    #[tactic(auto, using(std::proofs::lemmas::Nat::and_le_r))]
     fn bucket_of(&self, hash: u64) -> usize
         ensures bucket { result ≡ bucket_by self.now.mask hash }
         ensures within { result ≤ self.now.mask }
     {
-        (hash as usize & self.mask).min(self.mask)
+        hash as usize & self.mask
     }
 
-    /// Looks for the key of a request along the chain that begins with a number. Returns the number of the position where an equal key stands, or 0, and
-    /// that of the position before it in the chain, or 0.
+    /// Walks along the chain that begins with a number, up to a key equal to that of a request. Returns the number that names its position, or
+    /// 0 if there is none, behind the number of the position that the walk passed last, or 0.
     #[inline(always)]
     fn find<K: Eq>(&self, keys: &[K], position: usize, first: usize) -> (usize, usize)
         requires position { position < length keys.now }
@@ -78,8 +79,7 @@ impl<A: Allocator + Copy> Chains<A> {
         (behind, number)
     }
 
-    /// The request at a position comes in front of the chain of its bucket, and the one that `find` found leaves it: its number says where its key is
-    /// requested next.
+    /// Puts a request in front of the chain of its bucket. The one that `find` found leaves the chain, and has this one as its next.
     #[inline(always)]
     fn link(&mut self, bucket: usize, position: usize, behind: usize, number: usize)
         requires room { HasRoom (length self.old.numbers.numbers) self.old }
@@ -114,8 +114,8 @@ impl<A: Allocator + Copy> Chains<A> {
     }
 }
 
-/// The number of a position says that its key is requested next at another one, and the number behind which it stood leads past it.
-/// Returns where the chain begins then.
+/// Cuts a position out of its chain: its number becomes that of its next request, and the position before it links past it. Returns where
+/// the chain begins then.
 #[inline(always)]
 fn cut<A: Allocator + Copy>(
     numbers: &mut PackedNumbers<A>,
@@ -142,7 +142,7 @@ fn cut<A: Allocator + Copy>(
     first
 }
 
-/// Leaves only next requests of the numbers, and 0 for each link.
+/// Writes 0 over each link.
 fn forget_links<A: Allocator + Copy>(numbers: &mut PackedNumbers<A>)
     ensures length { length numbers.new.numbers ≡ length numbers.old.numbers }
     ensures next { (p : ℕ) → p < length numbers.old.numbers

@@ -45,20 +45,6 @@ impl<A: Allocator + Copy> PackedNumbers<A> {
         }
     }
 
-    /// Creates a list of no numbers, with memory for so many while they take 4 bytes each.
-    /// Cost: one request for memory.
-    pub fn with_memory(alloc: A, numbers: usize) -> Result<Self, NoMemory>
-        ensures numbers { IfOk result (λ p. p.numbers ≡ []) }
-        ensures greatest { IfOk result (λ p. p.greatest ≡ greatest_by true) }
-    {
-        match Vec::with_capacity(alloc, numbers) {
-            Ok(words) => Ok(PackedNumbers {
-                form: Form::Narrow(words),
-            }),
-            Err(_) => Err(NoMemory),
-        }
-    }
-
     /// Creates a list of one 0. No other number can be written over it, because it takes no memory.
     /// Cost: no request for memory.
     pub fn one_zero(alloc: A) -> Self

@@ -11,7 +11,7 @@ const LAST: usize = 4294967295;
 #[test]
 fn numbers_widen(rt: HostRuntime) {
     let heap = Rationed::new(rt.alloc());
-    equal!(rt; widened(&heap), Ok(((12, true, 24), (2, LAST + 1, LAST), (3, usize::MAX))));
+    equal!(rt; widened(&heap), Ok(((16, true, 32), (2, LAST + 1, LAST), (3, usize::MAX))));
 }
 
 /// The bytes before and after a widening and whether it is refused at first, the length and two numbers, and the same with one
@@ -19,7 +19,7 @@ fn numbers_widen(rt: HostRuntime) {
 type Widened = ((u64, bool, u64), (usize, usize, usize), (usize, usize));
 
 fn widened(heap: &Rationed<Global>) -> Result<Widened, NoMemory> {
-    let mut numbers = PackedNumbers::with_memory(heap, 3)?;
+    let mut numbers = PackedNumbers::new(heap);
     numbers.push(7)?;
     numbers.widen_for(LAST)?;
     numbers.push(LAST)?;
