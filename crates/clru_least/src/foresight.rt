@@ -37,8 +37,9 @@ impl<'a, K: Eq, A: Allocator + Copy> Foresight<'a, K, A> {
     /// Looks up where the key of each request is requested next.
     ///
     /// Memory may be refused; without requests none is asked for.
-    /// Cost: one look-up for each request in a table of the keys, which hashes them with `hash_builder`; memory for a number
-    /// for each request, as a `ForesightPass` keeps it, and meanwhile for the table.
+    /// Cost: each request is hashed once, with `hash_builder`, and compared with those keys of its bucket that were requested since its own
+    /// key was, or with all if it is new. Two requests for memory: for a number for each request, as a `ForesightPass` keeps it, and for
+    /// the buckets, one for each two to four requests, which are dropped at the end.
     pub fn new<S: BuildHasher + Drop>(
         alloc: A,
         keys: &'a [K],
