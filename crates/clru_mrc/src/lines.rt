@@ -1,7 +1,9 @@
 //! What is noted of the lines of an input: how many there are, which one leads, and which is the first without a size or a time.
 
 use crate::several::SizesOfKeys;
-use clru_text::{Options, Sample, Seed, next_line, size_of, time_of};
+use crate::sized::split_size;
+use crate::votes::Leader;
+use clru_text::{Capacities, Options, Sample, Seed, next_line, split_time};
 use std::alloc::AllocError;
 
 /// How many bytes of a line are kept. One that is longer counts as one that is like no other.
@@ -18,23 +20,22 @@ pub(crate) struct Lines {
     pub(crate) returns: u64,
     // How many of them come first, and are not counted in the report.
     after: u64,
-    // The sizes of the counted lines together, where each is to begin with one.
+    // The sizes of the counted lines together, if a report wants them.
     pub(crate) size: u64,
+    sums_up: bool,
     // Whether each line is to begin with a size, behind its time if it has one.
     have_sizes: bool,
     // Whether each line is to begin with a time.
     have_times: bool,
+    // Whether each is to begin with one of them, and did so far.
+    have_parts: bool,
     // The sizes of keys, where a key may have several.
     sizes: Option<SizesOfKeys>,
     // What is read of a line whose end is not read yet, and its last byte.
     begun: Vec<u8>,
     last: Option<u8>,
     is_long: bool,
-    // Each line votes: for the leader where it is the same, and else against it. One without votes is succeeded by the next line.
-    leader: Vec<u8>,
-    votes: u64,
-    // How often the leader came since it leads.
-    seen: u64,
+    leader: Leader,
     // The number of the first line without a size, or without a time.
     odd_number: u64,
     odd: Vec<u8>,
@@ -52,8 +53,10 @@ impl Lines {
             empty: 0,
             returns: 0,
             size: 0,
+            sums_up: matches!(options.capacities, Capacities::ByteHitRatio(_)),
             have_sizes: options.sizes,
             have_times: options.times.is_some(),
+            have_parts: options.sizes || options.times.is_some(),
             // (of a sample no more is held than the sample)
             sizes: if options.sizes && !options.one_size && options.sample == Sample::Whole {
                 Some(SizesOfKeys::new(rt, seed))
@@ -63,9 +66,7 @@ impl Lines {
             begun: Vec::new(rt.alloc()),
             last: None,
             is_long: false,
-            leader: Vec::new(rt.alloc()),
-            votes: 0,
-            seen: 0,
+            leader: Leader::new(rt.alloc()),
             odd_number: 0,
             odd: Vec::new(rt.alloc()),
         }
@@ -73,20 +74,52 @@ impl Lines {
 
     /// Looks at more bytes.
     pub(crate) fn note(&mut self, bytes: &[u8]) {
+        if self.last.is_none() {
+            self.note_lines(bytes);
+            return;
+        }
+        if let Some((part, rest)) = next_line(bytes) {
+            self.go_on(part);
+            if part.len() < bytes.len() {
+                self.end_begun();
+                self.note_lines(rest);
+            }
+        }
+    }
+
+    // Lines that begin here.
+    fn note_lines(&mut self, bytes: &[u8]) {
+        let held = self.take_leader();
+        let mut votes = held.votes();
         let mut left = bytes;
         'lines: while let Some((line, rest)) = next_line(left) {
             if line.len() == left.len() {
                 self.go_on(line);
                 break;
             }
-            if self.last.is_none() && line.len() <= MOST {
+            if line.len() <= MOST {
                 self.note_line(line, line.last().copied());
+                votes.count(line);
             } else {
-                self.go_on(line);
-                self.end_begun();
+                self.note_long(line);
+                votes.count_against();
             }
             left = rest;
         }
+        let ended = votes.end(*self.begun.allocator());
+        self.leader = held;
+        self.leader.follow(ended);
+    }
+
+    fn note_long(&mut self, line: &[u8]) {
+        self.is_long = true;
+        self.note_kept(line.get(..MOST).unwrap_or(line), line.last().copied());
+        self.is_long = false;
+    }
+
+    fn take_leader(&mut self) -> Leader {
+        let none = Leader::new(*self.begun.allocator());
+        std::mem::replace(&mut self.leader, none)
     }
 
     /// The input ended. Its last line needs no newline.
@@ -119,80 +152,87 @@ impl Lines {
     fn end_begun(&mut self) {
         let none = Vec::new(*self.begun.allocator());
         let mut line = std::mem::replace(&mut self.begun, none);
-        self.note_line(&line, self.last);
+        self.note_kept(&line, self.last);
+        let held = self.take_leader();
+        let mut votes = held.votes();
+        if self.is_long {
+            votes.count_against();
+        } else {
+            votes.count(&line);
+        }
+        let ended = votes.end(*line.allocator());
+        self.leader = held;
+        self.leader.follow(ended);
         line.clear();
         self.begun = line;
         self.last = None;
         self.is_long = false;
     }
 
-    // One more line, or what is kept of it, and its last byte.
+    // What is kept of a line that is too long or was begun, and its last byte.
+    #[inline(never)]
+    fn note_kept(&mut self, kept: &[u8], last: Option<u8>) {
+        self.note_line(kept, last);
+    }
+
+    // One more line, and its last byte. (what most lines need is inlined here, without a call)
+    #[inline(always)]
     fn note_line(&mut self, line: &[u8], last: Option<u8>) {
-        self.count = self.count.saturating_add(1);
+        self.count = self.count.wrapping_add(1);
         match last {
             None => self.empty = self.empty.saturating_add(1),
             Some(b'\r') => self.returns = self.returns.saturating_add(1),
             Some(_) => {}
         }
-        self.note_time(line);
-        self.note_size(line);
-        self.vote(line);
-    }
-
-    // (the time stands among the bytes that are kept, or the line has none)
-    fn note_time(&mut self, line: &[u8]) {
-        if self.have_times && self.odd_number == 0 && time_of(line).is_none() {
+        if self.have_parts && !self.note_parts(line) {
             self.note_odd(line);
         }
     }
 
+    // (the report ends at this line, so no more is to be known of others)
+    #[inline(never)]
     fn note_odd(&mut self, line: &[u8]) {
+        self.have_parts = false;
         self.odd_number = self.count;
         let beginning = line.get(..SHOWN).unwrap_or(line);
         let _ = self.odd.extend_from_slice(beginning);
     }
 
-    // (the size stands among the bytes that are kept, or the line has none)
-    fn note_size(&mut self, whole: &[u8]) {
-        if !self.have_sizes {
-            return;
+    // Whether the line has a time and a size, where it is to have them. (they stand among the bytes that are kept, or it has none)
+    #[inline(always)]
+    fn note_parts(&mut self, line: &[u8]) -> bool {
+        if self.have_times {
+            self.note_timed(line)
+        } else {
+            self.note_size(line)
         }
-        let line = sized_part(whole, self.have_times);
-        let Some(size) = size_of(line) else {
-            if self.odd_number == 0 {
-                self.note_odd(whole);
-            }
-            return;
+    }
+
+    #[inline(never)]
+    fn note_timed(&mut self, line: &[u8]) -> bool {
+        match split_time(line) {
+            Some((_, rest)) => !self.have_sizes || self.note_size(rest),
+            None => false,
+        }
+    }
+
+    // Whether this begins with a size.
+    #[inline(always)]
+    fn note_size(&mut self, line: &[u8]) -> bool {
+        let Some((size, key)) = split_size(line) else {
+            return false;
         };
         if let Some(sizes) = &mut self.sizes {
-            if !self.is_long {
-                sizes.note(line, size.get());
+            if let Some(hash) = sizes.looked_at(line, key) {
+                if !self.is_long {
+                    sizes.note(hash, size.get());
+                }
             }
         }
-        if self.count > self.after {
+        if self.sums_up && self.count > self.after {
             self.size = self.size.saturating_add(size.get() as u64);
         }
-    }
-
-    fn vote(&mut self, line: &[u8]) {
-        if self.votes == 0 && !self.is_long {
-            self.succeed(line);
-        } else if !self.is_long && self.leader.as_slice() == line {
-            self.votes = self.votes.saturating_add(1);
-            self.seen = self.seen.saturating_add(1);
-        } else {
-            self.votes = self.votes.saturating_sub(1);
-        }
-    }
-
-    // (without memory for it, no line leads)
-    fn succeed(&mut self, line: &[u8]) {
-        self.leader.clear();
-        self.seen = 0;
-        if self.leader.extend_from_slice(line).is_ok() {
-            self.votes = 1;
-            self.seen = 1;
-        }
+        true
     }
 
     /// How many lines the report counts.
@@ -208,9 +248,10 @@ impl Lines {
     /// The line that more than nine tenths of all are, and how many are at least. One that is more than 19 in 20 is found in any
     /// order.
     pub(crate) fn most_of_all(&self) -> Option<(u64, &[u8])> {
-        let is_most = self.seen.saturating_mul(10) > self.count.saturating_mul(9);
+        let (seen, leader) = self.leader.seen();
+        let is_most = seen.saturating_mul(10) > self.count.saturating_mul(9);
         if is_most && self.are_many() {
-            Some((self.seen, self.leader.as_slice()))
+            Some((seen, leader))
         } else {
             None
         }

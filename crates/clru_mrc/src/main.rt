@@ -4,7 +4,9 @@
 mod lines;
 mod ratio;
 mod several;
+mod sized;
 mod split;
+mod votes;
 mod watch;
 mod written;
 

@@ -1,6 +1,6 @@
 use Rattle.std.proofs.Common.{length}
 use Rattle.std.specs.Prelude.{⊤}
-use Rattle.clru_mrc.proofs.lines.Lines.note.Given as goal
+use Rattle.clru_mrc.proofs.lines.Lines.note_lines.Given as goal
 
 abbrev pub invariant-lines : goal.invariant-lines
 invariant-lines l = ⊤
