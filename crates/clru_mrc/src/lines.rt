@@ -1,9 +1,9 @@
 //! What is noted of the lines of an input: how many there are, which one leads, and which is the first without a size or a time.
 
 use crate::several::SizesOfKeys;
-use crate::sized::split_size;
+use crate::sized::behind_size;
 use crate::votes::Leader;
-use clru_text::{Capacities, Options, Sample, Seed, next_line, split_time};
+use clru_text::{Capacities, Options, Sample, Seed, next_line, size_of, split_time};
 use std::alloc::AllocError;
 
 /// How many bytes of a line are kept. One that is longer counts as one that is like no other.
@@ -178,7 +178,7 @@ impl Lines {
     // One more line, and its last byte. (what most lines need is inlined here, without a call)
     #[inline(always)]
     fn note_line(&mut self, line: &[u8], last: Option<u8>) {
-        self.count = self.count.wrapping_add(1);
+        self.count = self.count.saturating_add(1);
         match last {
             None => self.empty = self.empty.saturating_add(1),
             Some(b'\r') => self.returns = self.returns.saturating_add(1),
@@ -216,21 +216,21 @@ impl Lines {
         }
     }
 
-    // Whether this begins with a size.
+    // Whether this begins with a size. (what it is, is mostly not asked)
     #[inline(always)]
     fn note_size(&mut self, line: &[u8]) -> bool {
-        let Some((size, key)) = split_size(line) else {
+        let Some(key) = behind_size(line) else {
             return false;
         };
         if let Some(sizes) = &mut self.sizes {
             if let Some(hash) = sizes.looked_at(line, key) {
                 if !self.is_long {
-                    sizes.note(hash, size.get());
+                    sizes.note(hash, size_at(line));
                 }
             }
         }
         if self.sums_up && self.count > self.after {
-            self.size = self.size.saturating_add(size.get() as u64);
+            self.size = self.size.saturating_add(size_at(line) as u64);
         }
         true
     }
@@ -297,6 +297,14 @@ pub(crate) fn quoted(rt: &HostRuntime, line: &[u8]) -> Result<String, AllocError
     }
     text.push('"')?;
     Ok(text)
+}
+
+// The size of a line that begins with one.
+fn size_at(line: &[u8]) -> usize {
+    match size_of(line) {
+        Some(size) => size.get(),
+        None => 0,
+    }
 }
 
 /// What is to begin with the size: the line, or what follows its time and a blank.

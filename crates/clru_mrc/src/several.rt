@@ -1,32 +1,19 @@
 //! Which keys came with several sizes.
 
 use clru_text::Seed;
-use std::alloc::Global;
+use std::collections::HashMap;
 
-/// The size of each key, by a hash of its bytes. Of many keys a part is looked at.
+/// The size of each key, by a hash of its bytes: 0 once it came with another size. Of many keys a part is looked at.
 #[derive(Drop)]
 pub(crate) struct SizesOfKeys {
-    // Each key is in the first free slot from its place on, or further behind. Without memory there are none, and nothing is told.
-    slots: Vec<Slot>,
-    // Odd and secret, so that nobody can write keys that have one place.
-    factor: u64,
-    // How many slots have a key.
-    keys: usize,
+    seen: HashMap<u64, usize, Seed>,
     // How many of these keys came with several sizes.
     several: usize,
     // Keys are looked at whose hash has none of these bits.
     mask: u64,
+    // Memory was refused, so nothing is told.
+    is_lost: bool,
 }
-
-#[derive(Clone, Copy, Drop)]
-struct Slot {
-    // 0 without a key.
-    hash: u64,
-    // 0 once the key came with another size.
-    size: usize,
-}
-
-const FREE: Slot = Slot { hash: 0, size: 0 };
 
 // More keys with several sizes than one in so many are told.
 const FEW_KEYS: usize = 100;
@@ -34,23 +21,13 @@ const FEW_KEYS: usize = 100;
 // At most so many keys are looked at: their table fits the processor's cache.
 const MOST_KEYS: usize = 4096;
 
-// Half of the slots stay free, so that searches are short.
-const SLOTS: usize = 8192;
-
-// A place is the highest 13 bits of a product.
-const BELOW_PLACE: u32 = 51;
-
-// The bit that each hash in a slot has, so that none is 0.
-const HIGHEST: u64 = 1 << 63;
-
 impl SizesOfKeys {
     pub(crate) fn new(rt: &HostRuntime, seed: Seed) -> SizesOfKeys {
         SizesOfKeys {
-            slots: free_slots(rt.alloc()),
-            factor: seed.low | 1,
-            keys: 0,
+            seen: HashMap::with_hasher(rt.alloc(), seed),
             several: 0,
             mask: 0,
+            is_lost: false,
         }
     }
 
@@ -58,7 +35,7 @@ impl SizesOfKeys {
     #[inline]
     pub(crate) fn looked_at(&self, line: &[u8], key: &[u8]) -> Option<u64> {
         let hash = hash_of(line, key);
-        if hash & self.mask == 0 {
+        if hash & self.mask == 0 && !self.is_lost {
             Some(hash)
         } else {
             None
@@ -67,77 +44,43 @@ impl SizesOfKeys {
 
     /// Looks at a key with this hash and size.
     #[inline(never)]
-    pub(crate) fn note(&mut self, hash: u64, size: usize) {
-        let hash = hash | HIGHEST;
-        let at = self.place_of(hash);
-        let Some(slot) = self.slots.get_mut(at) else {
-            return;
-        };
-        if slot.hash != hash {
-            *slot = Slot { hash, size };
-            self.keys = self.keys.saturating_add(1);
-            if self.keys > MOST_KEYS {
-                self.halve();
+    pub(crate) fn note(&mut self, key: u64, size: usize) {
+        match self.seen.get_mut(&key) {
+            None => {
+                self.is_lost = self.seen.insert(key, size).is_err();
+                if self.seen.len() > MOST_KEYS {
+                    self.halve();
+                }
             }
-        } else if slot.size != size && slot.size != 0 {
-            slot.size = 0;
-            self.several = self.several.saturating_add(1);
-        }
-    }
-
-    // The slot of this key, or the free one where it belongs. (one is free: `halve` leaves a few more keys than `MOST_KEYS` at most)
-    fn place_of(&self, hash: u64) -> usize {
-        let first = (hash.wrapping_mul(self.factor) >> BELOW_PLACE) as usize;
-        let mut at = first;
-        for _ in 0..self.slots.len() {
-            match self.slots.get(at) {
-                Some(slot) if slot.hash != hash && slot.hash != 0 => {}
-                _ => return at,
+            Some(held) => {
+                let is_other = *held != 0 && *held != size;
+                if is_other {
+                    *held = 0;
+                    self.several = self.several.saturating_add(1);
+                }
             }
-            at = at.wrapping_add(1) % SLOTS;
         }
-        first
     }
 
     // Looks at half of the keys from here on.
     fn halve(&mut self) {
-        self.mask = self.mask << 1 | 1;
-        self.keys = 0;
-        self.several = 0;
-        let free = free_slots(*self.slots.allocator());
-        for slot in &std::mem::replace(&mut self.slots, free) {
-            if slot.hash != 0 && slot.hash & self.mask == 0 {
-                self.keep(*slot);
-            }
-        }
-    }
-
-    fn keep(&mut self, kept: Slot) {
-        let at = self.place_of(kept.hash);
-        if let Some(slot) = self.slots.get_mut(at) {
-            *slot = kept;
-            self.keys = self.keys.saturating_add(1);
-            self.several = self.several.saturating_add(usize::from(kept.size == 0));
-        }
+        let mask = self.mask << 1 | 1;
+        self.mask = mask;
+        self.seen.retain(|key, _| *key & mask == 0);
+        self.several = self.seen.values().filter(|size| **size == 0).count();
     }
 
     /// How many keys came with several sizes, of how many that were looked at, and whether these were all, where it is more than one in
     /// a hundred.
     pub(crate) fn told(&self) -> Option<(usize, usize, bool)> {
-        let are_many = self.several.saturating_mul(FEW_KEYS) > self.keys;
-        if are_many {
-            Some((self.several, self.keys, self.mask == 0))
+        let keys = self.seen.len();
+        let are_many = self.several.saturating_mul(FEW_KEYS) > keys;
+        if are_many && !self.is_lost {
+            Some((self.several, keys, self.mask == 0))
         } else {
             None
         }
     }
-}
-
-// (none, if memory for them is refused)
-fn free_slots(alloc: Global) -> Vec<Slot> {
-    let mut slots = Vec::new(alloc);
-    let _ = slots.resize(SLOTS, FREE);
-    slots
 }
 
 // Keys with one hash count as one, which is rare enough for what is told.
