@@ -13,7 +13,6 @@ pub mod IdleHistograms
 pub mod IdlePassing
 pub mod IdleReuses
 pub mod LatestSizes
-pub mod LatestRequests
 pub mod Latests
 pub mod Looking
 pub mod Nodes

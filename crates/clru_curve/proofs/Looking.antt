@@ -10,20 +10,18 @@ use Rattle.std.specs.List.{sum_by}
 use Rattle.std.specs.Map.{lookup, set_value}
 use Rattle.clru_linked_map.specs.KeyTables.{with_key}
 use Rattle.clru_linked_map.proofs.KeyTables.{length-with_key, lookup-with_key}
-use Rattle.clru_model.proofs.Cases.{split}
-use Rattle.clru_model.specs.Requests.{distinct}
+use Rattle.clru_model.proofs.LatestRequests.{latest_more}
+use Rattle.clru_model.specs.Requests.{IsLatestOf, distinct}
 use Rattle.clru_curve.specs.declared.numbered.Numbered.{Numbered}
 use Rattle.clru_curve.specs.declared.ahead.Ahead.{Ahead}
 use Rattle.clru_curve.specs.declared.sized.error.SizedRequestError.{SizedRequestError}
 use Rattle.clru_curve.specs.Ahead.{ArePlaced, AreLatest, HasMoved, HaveWeights, HoldsLatest, nothing, up_to_some}
 use Rattle.clru_curve.specs.LatestSizes.{IsLiveAt, live_from, total_from}
-use Rattle.clru_curve.specs.PositionPasses.{IsLatestOf}
 use Rattle.clru_curve.specs.Rising.{has_value}
 use Rattle.clru_curve.specs.SizedCurves.{size_of_all}
 use Rattle.clru_curve.specs.SizedPasses.{IsFirstRefused, IsTooLarge, key_of}
 use Rattle.clru_curve.specs.SizedPositionPasses.{CountedBySize, IsSizedPositionPass}
 use Rattle.clru_curve.specs.Tree.{up_to}
-use Rattle.clru_curve.proofs.LatestRequests.{latest_here, latest_there}
 use Rattle.clru_curve.proofs.Ranks.{IsRanked-none, distinct_measures, same_some}
 use Rattle.clru_curve.proofs.SizedPassing.{ranked_again, ranked_new}
 use Rattle.clru_curve.proofs.UpTo.{up_by-le}
@@ -121,11 +119,8 @@ module _ {K : Type 0} (eq : K → K → Bool) (laws : IsEquivalence eq) (past : 
   pub placed_more : (positions : List (K × ℕ)) (n : ℕ) → n ≡ length past → ArePlaced eq past positions
       → ArePlaced eq (x ∷ past) (with_key eq x n positions)
   placed_more positions n here is = record {
-    latest = λ y. split (eq y x)
-        (λ t. let at : lookup (eq y) (with_key eq x n positions) ≡ Some n = rw (lookup-with_key eq laws y x n positions, t) refl in
-        subst (IsLatestOf eq (x ∷ past) y) (sym at) (latest_here eq past x y t n here))
-        (λ f. let at : lookup (eq y) (with_key eq x n positions) ≡ lookup (eq y) positions = rw (lookup-with_key eq laws y x n positions, f) refl in
-        subst (IsLatestOf eq (x ∷ past) y) (sym at) (latest_there eq past x y f (lookup (eq y) positions) (is.latest y)));
+    latest = λ y. latest_more eq past x y n here (lookup (eq y) positions) (lookup (eq y) (with_key eq x n positions)) (is.latest y)
+        (lookup-with_key eq laws y x n positions);
     few = omega (arith, is.few, length-with_key eq x n positions);
   }
 

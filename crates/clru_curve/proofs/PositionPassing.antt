@@ -5,13 +5,13 @@ use Rattle.std.specs.Cmp.{IsEquivalence}
 use Rattle.std.specs.Map.{keys_of, lookup, set_value}
 use Rattle.clru_model.specs.Ages.{is_recent}
 use Rattle.clru_model.specs.Distances.{distance}
-use Rattle.clru_model.specs.Requests.{holds, since}
+use Rattle.clru_model.specs.Requests.{IsLatestOf, holds, since}
 use Rattle.clru_model.proofs.Cases.{split}
 use Rattle.clru_model.proofs.Distinct.{since-cons}
 use Rattle.clru_curve.specs.declared.numbered.Numbered.{Numbered}
 use Rattle.clru_curve.specs.declared.seen.Seen.{Seen}
 use Rattle.clru_curve.specs.Latest.{ones_from}
-use Rattle.clru_curve.specs.PositionPasses.{IsLatestOf, IsPositionPass, counted}
+use Rattle.clru_curve.specs.PositionPasses.{IsPositionPass, counted}
 use Rattle.clru_curve.specs.Seen.{positions_of, reuse_by, seen_at}
 use Rattle.clru_curve.specs.Tree.{up_to}
 use Rattle.clru_linked_map.proofs.KeyTables.{moved_again, moved_new}

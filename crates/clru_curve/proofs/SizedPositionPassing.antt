@@ -11,13 +11,12 @@ use Rattle.std.specs.Option.{option_map}
 use Rattle.std.specs.Prelude.{⊤}
 use Rattle.clru_model.proofs.Spans.{room_misses_first}
 use Rattle.clru_model.specs.Ages.{is_recent}
-use Rattle.clru_model.specs.Requests.{distinct}
+use Rattle.clru_model.specs.Requests.{IsLatestOf, distinct}
 use Rattle.clru_model.specs.Sizes.{SameWeights, misses_by_size, missed_size, span, total}
 use Rattle.clru_curve.specs.declared.numbered.Numbered.{Numbered}
 use Rattle.clru_curve.specs.declared.seen.Seen.{Seen}
 use Rattle.clru_curve.specs.declared.sized.step.Step.{Step}
 use Rattle.clru_curve.specs.LatestSizes.{IsLiveAt, total_from, IsSummed}
-use Rattle.clru_curve.specs.PositionPasses.{IsLatestOf}
 use Rattle.clru_curve.specs.Rising.{IsRising}
 use Rattle.clru_curve.specs.Seen.{positions_of, reuse_by, seen_at}
 use Rattle.clru_curve.specs.SizedCurves.{CurveBySize, step, hits_within, IsCurveOfHits, IsSizedCurveOf}

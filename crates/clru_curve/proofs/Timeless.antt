@@ -8,7 +8,6 @@ use Rattle.std.proofs.lemmas.Bool.{le-leb}
 use Rattle.std.proofs.lemmas.List.Elements.{All-head, All-map, All-nil, All-push, All-same, All-tail}
 use Rattle.clru_curve.specs.Curves.{HasMissesOf}
 use Rattle.clru_curve.specs.IdlePasses.{HasIdleMissesOf, idle_misses}
-use Rattle.clru_curve.specs.PositionPasses.{IsLatestOf}
 use Rattle.clru_curve.specs.Seen.{timeless}
 use Rattle.clru_curve.specs.SizedIdlePasses.{idle_missed_size, idle_misses_by_size}
 use Rattle.clru_curve.proofs.IdleReuses.{keys_of-reverse, turned}
@@ -16,7 +15,7 @@ use Rattle.clru_model.proofs.Cases.{split}
 use Rattle.clru_model.proofs.IdleMarks.{recent_unlimited, unlimited_marks, unlimited_marks_by_size}
 use Rattle.clru_model.proofs.Spans.{missed_by_marks}
 use Rattle.clru_model.specs.Ages.{aged_hit, aged_marks_after, is_in_limit, is_recent}
-use Rattle.clru_model.specs.Requests.{hit, holds, misses}
+use Rattle.clru_model.specs.Requests.{IsLatestOf, hit, holds, misses}
 use Rattle.clru_model.specs.Sizes.{hit_by_size, missed_size, misses_by_size}
 use Rattle.clru_model.specs.Spans.{size_of_misses}
 

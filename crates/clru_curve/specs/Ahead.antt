@@ -1,10 +1,9 @@
 -- What a pass over a whole list looks up before it counts. No public clause cites it.
 use Rattle.std.specs.Prelude.{◌≡◌, ℕ, ◌+◌, ◌<◌, ◌≤◌, Bool, List, length, reverse, take, slice_get, slice_index_or, Option, None, Some}
 use Rattle.std.specs.Map.{lookup}
-use Rattle.clru_model.specs.Requests.{distinct}
+use Rattle.clru_model.specs.Requests.{IsLatestOf, distinct}
 use Rattle.clru_curve.specs.declared.ahead.Ahead.{Ahead}
 use Rattle.clru_curve.specs.LatestSizes.{live_from}
-use Rattle.clru_curve.specs.PositionPasses.{IsLatestOf}
 use Rattle.clru_curve.specs.Ranked.{IsRanked}
 use Rattle.clru_curve.specs.SizedPositionPasses.{CountedBySize}
 use Rattle.clru_curve.specs.Tree.{up_to}

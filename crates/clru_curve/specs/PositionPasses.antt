@@ -1,8 +1,8 @@
 -- What a pass that holds no key has taken of requests with times, one by one. Public clauses cite it.
-use Rattle.std.specs.Prelude.{◌≡◌, ℕ, ◌+◌, Bool, List, length, Option, Some, is_some, IfSome, refl, ⊤}
+use Rattle.std.specs.Prelude.{◌≡◌, ℕ, ◌+◌, Bool, List, length, Some, refl, ⊤}
 use Rattle.std.specs.Coded.{Coded, code_by, coded×, coded_list, coded_ℕ}
 use Rattle.std.specs.Map.{keys_of, lookup}
-use Rattle.clru_model.specs.Requests.{holds, since}
+use Rattle.clru_model.specs.Requests.{since}
 use Rattle.clru_curve.specs.declared.numbered.Numbered.{Numbered}
 use Rattle.clru_curve.specs.declared.seen.Seen.{Seen}
 use Rattle.clru_curve.specs.IdlePasses.{IsIdlePass, timed_pass}
@@ -24,11 +24,6 @@ counted_code =
     (λ c. (c.blocks, (c.requests, c.histogram))) (λ t. counted t.0 t.1.0 t.1.1) (λ _. refl)
 
 module _ {K : Type 0} (eq : K → K → Bool) where
-  -- the position of the latest request of the key among those of the past, the latest first, or none
-  pub record IsLatestOf (past : List K) (key : K) (latest : Option ℕ) : Type 0 where
-    pub known : is_some latest ≡ holds eq key past
-    pub position : IfSome latest (λ p. p + 1 + length (since eq key past) ≡ length past)
-
   -- a pass that has taken these requests under the idle limit, the latest first: with the latest requests of their keys, by position
   -- and time, it is one that holds keys
   pub record IsPositionPass (idle : ℕ) (past : List (K × ℕ)) (c : Counted) : Type 0 where

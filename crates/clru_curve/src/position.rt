@@ -4,10 +4,10 @@ ghost use Rattle.std.specs.List.{All};
 ghost use Rattle.std.specs.Map.{keys_of};
 ghost use Rattle.clru_model.specs.Ages.{is_recent};
 ghost use Rattle.clru_model.specs.Distances.{distance};
-ghost use Rattle.clru_model.specs.Requests.{distinct};
+ghost use Rattle.clru_model.specs.Requests.{IsLatestOf, distinct};
 ghost use Rattle.clru_curve.specs.Curves.{HasMissesOf};
 ghost use Rattle.clru_curve.specs.IdlePasses.{HasIdleMissesOf};
-ghost use Rattle.clru_curve.specs.PositionPasses.{IsLatestOf, IsPositionPass};
+ghost use Rattle.clru_curve.specs.PositionPasses.{IsPositionPass};
 ghost use Rattle.clru_curve.specs.Seen.{reuse_by};
 
 use crate::curve::MissCurve;

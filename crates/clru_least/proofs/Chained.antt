@@ -9,12 +9,14 @@ use Rattle.std.specs.Cmp.{IsEquivalence}
 use Rattle.std.specs.List.{AllByRecursion, slice_get}
 use Rattle.clru_list.specs.Places.{put}
 use Rattle.clru_list.proofs.Retaining.{some_injective}
+use Rattle.clru_model.specs.Requests.{IsLatestOf}
 use Rattle.clru_model.proofs.Cases.{split}
 use Rattle.clru_model.proofs.Distinct.{same_right}
+use Rattle.clru_model.proofs.LatestRequests.{latest_more}
 use Rattle.clru_least.specs.Chains.{AreChained, IsOf, IsSought, Leads, cut_out, first_behind, first_of, last_number, next_in, number_in, same_at}
-use Rattle.clru_least.specs.Passes.{IsForesight, IsLatestOf}
+use Rattle.clru_least.specs.Passes.{IsForesight}
 use Rattle.clru_least.proofs.ChainWalks.{all_left, all_map, all_right, all_without, first_of_cut, first_of_none, first_of_passed, last_split, leads_below, leads_cut, leads_pair, leads_same, leads_within, same_there}
-use Rattle.clru_least.proofs.Laters.{foresight_length, latest_more, noted_first, noted_again}
+use Rattle.clru_least.proofs.Laters.{foresight_length, noted_first, noted_again}
 
 -- a link tells no next request
 pub next_link : (ns : List ℕ) (p : ℕ) → number_in ns p ≤ p → next_in ns p ≡ 0
@@ -104,8 +106,8 @@ module _ {K : Type 0} (eq : K → K → Bool) (laws : IsEquivalence eq) (keys : 
           (λ f. rw f (all_map (IsOf eq keys home i g) (IsOf eq keys home (i + 1) g) (chained.chains g)
           (λ q of. record { bucket = of.bucket; before = omega (arith, of.before) }) (chained.homed g)));
       latest = λ z. subst (λ l. IsLatestOf eq l z (first_of eq keys z (chains (home z)))) (sym past_more)
-          (latest_more eq laws (reverse (take i keys)) x i z (first_of eq keys z (chained.chains (home z))) (first_of eq keys z (chains (home z)))
-          past_long (chained.latest z) (update z));
+          (latest_more eq (reverse (take i keys)) x z i past_long (first_of eq keys z (chained.chains (home z))) (first_of eq keys z (chains (home z)))
+          (chained.latest z) (update z));
       nexts = nexts;
       foresight = subst (λ l. IsForesight eq l nexts) (sym past_more) foresight;
       same = λ p before. split (eqb p i)
@@ -120,15 +122,14 @@ module _ {K : Type 0} (eq : K → K → Bool) (laws : IsEquivalence eq) (keys : 
         chains : ℕ → List ℕ
         chains = put chained.chains h (i ∷ cut)
 
-        update : (z : K) → first_of eq keys z (chains (home z)) ≡ cond (eq x z) (Some i) (first_of eq keys z (chained.chains (home z)))
-        update z = split (eq x z)
-            (λ t. let e : eqb h (home z) ≡ true = eq-eqb h (home z) (respects x z t) in
-            let back : same_at eq keys z i ≡ true = same_there eq keys z x i at ∙ laws.symm z x ∙ t in
-            rw (t, e, back) refl)
-            (λ f. let back : eq z x ≡ false = laws.symm z x ∙ f in
-            let not_here : same_at eq keys z i ≡ false = same_there eq keys z x i at ∙ back in
+        update : (z : K) → first_of eq keys z (chains (home z)) ≡ cond (eq z x) (Some i) (first_of eq keys z (chained.chains (home z)))
+        update z = split (eq z x)
+            (λ t. let e : eqb h (home z) ≡ true = eq-eqb h (home z) (respects x z (laws.symm x z ∙ t)) in
+            let here : same_at eq keys z i ≡ true = same_there eq keys z x i at ∙ t in
+            rw (t, e, here) refl)
+            (λ f. let not_here : same_at eq keys z i ≡ false = same_there eq keys z x i at ∙ f in
             split (eqb h (home z))
-            (λ e. rw (f, e, not_here) (apart z back ∙ ap (λ g. first_of eq keys z (chained.chains g)) (eqb-true h (home z) e)))
+            (λ e. rw (f, e, not_here) (apart z f ∙ ap (λ g. first_of eq keys z (chained.chains g)) (eqb-true h (home z) e)))
             (λ e. rw (f, e) refl))
 
     -- the key was not requested before

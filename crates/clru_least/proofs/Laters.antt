@@ -1,17 +1,17 @@
 -- What a pass has noted of later requests: one more request, and the positions of the next ones.
-use Rattle.std.proofs.Common.{◌≡◌, ℕ, zero, suc, ◌+◌, ◌^◌, ◌<◌, ◌≤◌, Bool, true, false, cond, eqb, ◌||◌, Option, Some, None, is_some, IfSome, map}
+use Rattle.std.proofs.Common.{◌≡◌, ℕ, zero, suc, ◌+◌, ◌^◌, ◌<◌, ◌≤◌, Bool, true, false, eqb, ◌||◌, Option, Some, None, is_some, IfSome, map}
 use Rattle.std.proofs.Common.{List, [], ◌∷◌, ◌++◌, length, get_or, set, reverse, refl, sym, ap, ◌∙◌, subst, arith}
 use Rattle.std.proofs.lemmas.Bool.{eqb-true, or_left, or_right, or_parts}
 use Rattle.std.proofs.lemmas.Grind.{reverse_onto}
 use Rattle.std.proofs.lemmas.List.{length-reverse, set-append_left}
 use Rattle.std.specs.Cmp.{IsEquivalence}
 use Rattle.clru_list.specs.Packed.{Packed, greatest_by}
-use Rattle.clru_model.specs.Requests.{holds, since}
+use Rattle.clru_model.specs.Requests.{IsLatestOf, holds, since}
 use Rattle.clru_model.proofs.Cases.{split}
 use Rattle.clru_model.proofs.Distinct.{holds-append, holds_same, since-cons}
 use Rattle.clru_model.proofs.Positions.{holds-reverse}
 use Rattle.clru_least.specs.Next.{until, next_from}
-use Rattle.clru_least.specs.Passes.{next_or, later_at, later_from, IsForesight, IsLatestOf}
+use Rattle.clru_least.specs.Passes.{next_or, later_at, later_from, IsForesight}
 use Rattle.clru_least.proofs.Until.{until_not_held}
 
 -- while there are fewer than 2^32 numbers, one more leaves them at 4 bytes each
@@ -196,25 +196,3 @@ module _ {K : Type 0} (eq : K → K → Bool) (laws : IsEquivalence eq) where
             → after ≡ set pushed p position → IsForesight eq (x ∷ past) after
         noted_again position pushed after here at wrote =
             wrote ∙ ap (λ l. set l p position) at ∙ ap (λ n. set (later ++ 0 ∷ []) p n) here ∙ foresight_again p held there
-
-  -- the latest request of a key z, after one more of x
-  pub latest_more : (past : List K) (x : K) (i : ℕ) (z : K) (before after : Option ℕ) → i ≡ length past → IsLatestOf eq past z before
-      → after ≡ cond (eq x z) (Some i) before → IsLatestOf eq (x ∷ past) z after
-  latest_more past x i z before after here is update = split (eq x z)
-      (λ t. let back : eq z x ≡ true = laws.symm z x ∙ t in
-      let found : after ≡ Some i = rw t at update in
-      let none : length (since eq z (x ∷ past)) ≡ 0 = rw (since-cons eq z x past, back) refl in
-      subst (λ o. IsLatestOf eq (x ∷ past) z o) (sym found)
-      (record { known = rw back refl; position = omega (arith, here, none) }))
-      (λ f. let back : eq z x ≡ false = laws.symm z x ∙ f in
-      let found : after ≡ before = rw f at update in
-      let more : length (since eq z (x ∷ past)) ≡ suc (length (since eq z past)) = rw (since-cons eq z x past, back) refl in
-      subst (λ o. IsLatestOf eq (x ∷ past) z o) (sym found)
-      (record {
-        known = is.known ∙ rw back refl;
-        position = some_more before (λ p at. omega (arith, at, more)) is.position;
-      }))
-    where
-      some_more : {P Q : ℕ → Type 0} (o : Option ℕ) → ((p : ℕ) → P p → Q p) → IfSome o P → IfSome o Q
-      some_more None f p = tt
-      some_more (Some x) f p = f x p

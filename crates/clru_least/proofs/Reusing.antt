@@ -8,12 +8,11 @@ use Rattle.std.specs.List.{All, AllByRecursion, sum_by}
 use Rattle.clru_model.proofs.Cases.{split}
 use Rattle.clru_model.proofs.Marks.{reverse-cons-append}
 use Rattle.clru_model.specs.Floor.{gap, gaps_after, volume, volumes_after, spared_after}
-use Rattle.clru_model.specs.Requests.{holds, distinct}
+use Rattle.clru_model.specs.Requests.{IsLatestOf, holds, distinct}
 use Rattle.clru_model.specs.Sizes.{total}
 use Rattle.clru_least.proofs.Prices.{spared}
 use Rattle.clru_least.specs.declared.reuse.Reuse.{Reuse}
 use Rattle.clru_least.specs.Reuses.{Reused, reuse, reused, reuses_after, volume_of, IsFloorPass, IsSoundFloor}
-use Rattle.clru_least.specs.Passes.{IsLatestOf}
 
 module _ {K : Type 0} (eq : K → K → Bool) (weight : K → ℕ) where
   reuses_push : (past xs : List K) (x : K) → reuses_after eq weight past (xs ++ x ∷ [])

@@ -1,7 +1,8 @@
 -- Private: chains of positions through numbers, and what is found along them. No public clause cites it.
 use Rattle.std.specs.Prelude.{◌≡◌, ℕ, suc, ◌-◌, ◌<◌, ◌≤◌, ◌==◌, nat_le, bit_and, Bool, false, if◌then◌else◌, List, [], ◌∷◌, ◌++◌, length, reverse, take, set, slice_index_or, Option, Some, None}
 use Rattle.std.specs.List.{AllByRecursion, slice_get}
-use Rattle.clru_least.specs.Passes.{IsForesight, IsLatestOf}
+use Rattle.clru_model.specs.Requests.{IsLatestOf}
+use Rattle.clru_least.specs.Passes.{IsForesight}
 use Rattle.clru_least.specs.declared.chains.Chains.{Chains}
 
 -- the number at a position, and 0 behind them all

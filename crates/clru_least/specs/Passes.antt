@@ -1,7 +1,7 @@
--- What a pass has taken, request by request, and the latest request of a key. Public clauses cite them.
-use Rattle.std.specs.Prelude.{◌≡◌, ℕ, ◌+◌, ◌^◌, ◌<◌, Bool, true, ◌==◌, if◌then◌else◌, List, [], ◌∷◌, length, reverse, Option, is_some, IfSome}
+-- What a pass has taken, request by request. Public clauses cite it.
+use Rattle.std.specs.Prelude.{◌≡◌, ℕ, ◌+◌, ◌^◌, ◌<◌, Bool, true, ◌==◌, if◌then◌else◌, List, [], ◌∷◌, length, reverse}
 use Rattle.clru_list.specs.Packed.{Packed, greatest_by}
-use Rattle.clru_model.specs.Requests.{holds, since}
+use Rattle.clru_model.specs.Requests.{holds}
 use Rattle.clru_least.specs.Next.{until}
 
 -- the position of the next request, or the end where there is none
@@ -27,8 +27,3 @@ module _ {K : Type 0} (eq : K → K → Bool) where
     pub past : List K
     pub taken : IsForesight past later.numbers
     pub narrow : length later.numbers < 2 ^ 32 → later.greatest ≡ greatest_by true
-
-  -- the position of the latest request of the key among those of the past, the latest first, or none
-  pub record IsLatestOf (past : List K) (key : K) (latest : Option ℕ) : Type 0 where
-    pub known : is_some latest ≡ holds eq key past
-    pub position : IfSome latest (λ p. p + 1 + length (since eq key past) ≡ length past)

@@ -1,8 +1,8 @@
 //! `FloorPass`, which takes requests one by one for a floor of their misses, and holds no key.
 ghost use Rattle.std.specs.Prelude.{◌≡◌, ℕ, List, ◌+◌, ◌^◌, ◌<◌, ◌≤◌, ◌↔◌, [], ◌∷◌, map, reverse, IfOk, IfSome, OnOk, OnErr, IsNone, IsOk};
 ghost use Rattle.std.specs.Result.{IsErrAnd};
+ghost use Rattle.clru_model.specs.Requests.{IsLatestOf};
 ghost use Rattle.clru_least.specs.FloorNumbers.{IsFloorOf, IsSizeFloorOf, own_step};
-ghost use Rattle.clru_least.specs.Passes.{IsLatestOf};
 ghost use Rattle.clru_least.specs.Reuses.{IsFloorPass, IsTooLarge, volume_of};
 
 use crate::floor_error::FloorRequestError;

@@ -3,8 +3,8 @@ ghost use Rattle.std.specs.Prelude.{◌≡◌, ℕ, List, ◌+◌, ◌-◌, ◌^
 ghost use Rattle.std.specs.Int.NonZero.{non_zero_usize_get};
 ghost use Rattle.clru_list.specs.Packed.{greatest_by};
 ghost use Rattle.clru_model.specs.Least.{IsLeast, IsNearFromAnyStart};
-ghost use Rattle.clru_model.specs.Requests.{misses};
-ghost use Rattle.clru_least.specs.Passes.{IsForesight, IsLatestOf, next_or};
+ghost use Rattle.clru_model.specs.Requests.{IsLatestOf, misses};
+ghost use Rattle.clru_least.specs.Passes.{IsForesight, next_or};
 
 use crate::next_uses::NextUses;
 use clru_list::PackedNumbers;

@@ -32,6 +32,7 @@ pub mod IdleMarks
 pub mod Inclusion
 pub mod KeyedRuns
 pub mod LatestOrder
+pub mod LatestRequests
 pub mod Least
 pub mod LeastIsThere
 pub mod Lookups

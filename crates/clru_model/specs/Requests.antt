@@ -1,5 +1,5 @@
 -- Requests for keys: which of them hit. No cache is in sight here. Public clauses cite them.
-use Rattle.std.specs.Prelude.{ℕ, ◌+◌, Bool, if◌then◌else◌, not, ◌&&◌, nat_lt, List, [], ◌∷◌}
+use Rattle.std.specs.Prelude.{◌≡◌, ℕ, ◌+◌, Bool, if◌then◌else◌, not, ◌&&◌, nat_lt, List, [], ◌∷◌, length, Option, is_some, IfSome}
 use Rattle.std.specs.List.{list_any, take_while, count_by}
 
 module _ {K : Type 0} (eq : K → K → Bool) where
@@ -19,6 +19,11 @@ module _ {K : Type 0} (eq : K → K → Bool) where
   -- of the requests, the latest first, those after the latest one of x
   abbrev pub since : K → List K → List K
   since x past = take_while (λ y. not (eq x y)) past
+
+  -- the position of the latest request of the key among those of the past, the latest first, or none
+  pub record IsLatestOf (past : List K) (key : K) (latest : Option ℕ) : Type 0 where
+    pub known : is_some latest ≡ holds key past
+    pub position : IfSome latest (λ p. p + 1 + length (since key past) ≡ length past)
 
   -- x was requested before, and since then fewer than k distinct keys were
   abbrev pub hit : ℕ → K → List K → Bool

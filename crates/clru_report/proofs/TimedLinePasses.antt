@@ -4,10 +4,10 @@ use Rattle.std.specs.Map.{keys_of, lookup}
 use Rattle.std.specs.Option.{option_map_or}
 use Rattle.std.specs.Prelude.{bytes_eq}
 use Rattle.std.proofs.lemmas.Map.Entries.{length-keys_of}
-use Rattle.clru_curve.proofs.LatestRequests.{latest_here, latest_there}
 use Rattle.clru_linked_map.specs.BytesMaps.{with_bytes}
 use Rattle.clru_linked_map.proofs.BytesMaps.{lookup-with_bytes}
 use Rattle.clru_model.proofs.Cases.{split}
+use Rattle.clru_model.proofs.LatestRequests.{latest_here, latest_there}
 use Rattle.clru_model.specs.Ages.{is_recent}
 use Rattle.clru_text.specs.Keys.{line_of, same_line}
 use Rattle.clru_text.specs.declared.lines.OwnedKey.{OwnedKey}

@@ -3,10 +3,11 @@ use Rattle.std.specs.Prelude.{◌≡◌, ℕ, ◌<◌, Bool, Option, slice_index
 use Rattle.std.specs.List.{slice_get}
 use Rattle.std.specs.List.Sorted.{IsNonDecreasingBy, IsPermutation}
 use Rattle.std.specs.Map.{keys_of, lookup}
-use Rattle.clru_curve.specs.PositionPasses.{IsLatestOf, IsPositionPass}
+use Rattle.clru_curve.specs.PositionPasses.{IsPositionPass}
 use Rattle.clru_curve.specs.Seen.{timeless}
 use Rattle.clru_least.specs.Reuses.{Reused}
 use Rattle.clru_model.specs.Parts.{lasts}
+use Rattle.clru_model.specs.Requests.{IsLatestOf}
 use Rattle.clru_text.specs.Keys.{line_of, same_line}
 use Rattle.clru_text.specs.declared.lines.OwnedKey.{OwnedKey}
 use Rattle.clru_report.specs.Passes.{HasFloorPass, HasForesight}

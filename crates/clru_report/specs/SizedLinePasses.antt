@@ -1,9 +1,9 @@
 -- What a pass over lines by size has taken. No public clause cites it.
 use Rattle.std.specs.Prelude.{◌≡◌, ℕ, Bool, Option, List, length, map, reverse, bytes_eq}
 use Rattle.std.specs.Map.{lookup}
-use Rattle.clru_curve.specs.PositionPasses.{IsLatestOf}
 use Rattle.clru_curve.specs.SizedPositionPasses.{IsSizedPositionPass}
 use Rattle.clru_least.specs.Reuses.{Reused}
+use Rattle.clru_model.specs.Requests.{IsLatestOf}
 use Rattle.clru_text.specs.Keys.{line_of, same_line}
 use Rattle.clru_text.specs.Samples.{kept_of}
 use Rattle.clru_text.specs.Sizes.{HaveSizes, weight_of_line}

@@ -3,8 +3,7 @@ use Rattle.std.specs.Prelude.{◌≡◌, ◌-◌, ℕ, nat_le, Bool, false, Opti
 use Rattle.std.specs.Map.{keys_of, lookup}
 use Rattle.std.specs.Option.{option_map, option_map_or}
 use Rattle.clru_curve.specs.IdlePasses.{HasIdleMissesOf}
-use Rattle.clru_curve.specs.PositionPasses.{IsLatestOf}
-use Rattle.clru_model.specs.Requests.{distinct}
+use Rattle.clru_model.specs.Requests.{IsLatestOf, distinct}
 use Rattle.clru_text.specs.Keys.{line_of, same_line}
 use Rattle.clru_text.specs.Lines.{lines_of}
 use Rattle.clru_text.specs.TakenRequests.{HasTakenRequests}

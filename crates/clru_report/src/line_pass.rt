@@ -2,9 +2,8 @@
 ghost use Rattle.std.specs.Prelude.{◌≡◌, ℕ, List, [], ◌∷◌, ◌++◌, Some, length, map, reverse, bytes_eq, IfOk, OnOk};
 ghost use Rattle.std.specs.List.{slice_get};
 ghost use Rattle.clru_curve.specs.Curves.{HasMissesOf};
-ghost use Rattle.clru_curve.specs.PositionPasses.{IsLatestOf};
 ghost use Rattle.clru_model.specs.Parts.{firsts, lasts};
-ghost use Rattle.clru_model.specs.Requests.{distinct};
+ghost use Rattle.clru_model.specs.Requests.{IsLatestOf, distinct};
 ghost use Rattle.clru_text.specs.Keys.{line_of, same_line};
 ghost use Rattle.clru_text.specs.Texts.{bytes_of};
 ghost use Rattle.clru_text.specs.declared.lines.OwnedKey.{OwnedKey};

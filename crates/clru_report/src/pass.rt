@@ -1,7 +1,7 @@
 //! The one reading of a log whose lines are keys.
 ghost use Rattle.std.specs.Prelude.{◌≡◌, ℕ, List, Bool, [], ◌∷◌, ◌++◌, length, map, reverse, IfOk, OnOk};
 ghost use Rattle.std.specs.Int.NonZero.{non_zero_usize_get};
-ghost use Rattle.clru_curve.specs.PositionPasses.{IsLatestOf};
+ghost use Rattle.clru_model.specs.Requests.{IsLatestOf};
 ghost use Rattle.clru_text.specs.Keys.{line_of, same_line};
 ghost use Rattle.clru_text.specs.Lines.{lines_of};
 ghost use Rattle.clru_text.specs.Samples.{kept_of};

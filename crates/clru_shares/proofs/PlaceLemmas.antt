@@ -1,17 +1,16 @@
 -- Where and when the latest request of each line is after one more.
-use Rattle.std.proofs.Common.{◌≡◌, ℕ, ◌-◌, Bool, true, false, cond, nat_le, List, [], ◌∷◌, ◌++◌, length, map, reverse, Option, Some, None, refl, sym, ap, ◌∙◌, subst, arith}
+use Rattle.std.proofs.Common.{◌≡◌, ℕ, ◌-◌, false, cond, nat_le, List, [], ◌∷◌, ◌++◌, length, map, reverse, Option, Some, refl, sym, ap, ◌∙◌, subst}
 use Rattle.std.specs.Prelude.{bytes_eq}
 use Rattle.std.specs.Map.{keys_of, lookup}
 use Rattle.std.specs.Option.{option_map_or}
 use Rattle.std.proofs.lemmas.Map.Entries.{length-keys_of}
-use Rattle.std.proofs.lemmas.List.{length-map, length-reverse, reverse-append, reverse-reverse}
+use Rattle.std.proofs.lemmas.List.{length-reverse, reverse-append, reverse-reverse}
 use Rattle.clru_model.specs.Ages.{is_recent}
-use Rattle.clru_model.specs.Requests.{since}
+use Rattle.clru_model.specs.Requests.{IsLatestOf}
 use Rattle.clru_model.proofs.Cases.{split}
-use Rattle.clru_model.proofs.Views.{holds-map, map-reverse, since-map}
+use Rattle.clru_model.proofs.LatestRequests.{latest_here, latest_there, latest_view}
+use Rattle.clru_model.proofs.Views.{map-reverse}
 use Rattle.clru_curve.proofs.TimedViews.{keys-view, recent-view}
-use Rattle.clru_curve.specs.PositionPasses.{IsLatestOf}
-use Rattle.clru_curve.proofs.LatestRequests.{latest_here, latest_there}
 use Rattle.clru_linked_map.proofs.BytesMaps.{lookup-with_bytes}
 use Rattle.clru_linked_map.specs.BytesMaps.{with_bytes}
 use Rattle.clru_text.specs.Keys.{line_of, same_line}
@@ -24,21 +23,6 @@ use Rattle.clru_shares.specs.Places.{AreLatest, IsAskedOf, IsLatestAt, IsNoted, 
 use Rattle.clru_shares.specs.declared.latest.Places.{Places}
 use Rattle.clru_shares.specs.declared.pass.Asked.{Asked}
 
--- a key is found among keys as its line among theirs
-pub latest_view : {A : Type 0} (past : List (OwnedKey A)) (key : OwnedKey A) (latest : Option ℕ)
-    → IsLatestOf bytes_eq (map line_of past) (line_of key) latest → IsLatestOf same_line past key latest
-latest_view past key None is = record { known = is.known ∙ holds-map bytes_eq line_of key past; position = tt }
-latest_view past key (Some p) is = record {
-  known = is.known ∙ holds-map bytes_eq line_of key past;
-  position = omega (
-    arith,
-    is.position,
-    ap length (since-map bytes_eq line_of key past),
-    length-map (since same_line key past) line_of,
-    length-map past line_of,
-  );
-}
-
 -- what is told of requests of lines is told of those of their keys
 module _ {A : Type 0} (limit : ℕ) (requests : List (List ℕ × ℕ)) (past : List (OwnedKey A × ℕ)) (request : OwnedKey A × ℕ) (asked : Asked)
     (shown : map shown_of (reverse past) ≡ requests) (is : IsAskedOf limit requests (shown_of request) asked) where
@@ -46,7 +30,7 @@ module _ {A : Type 0} (limit : ℕ) (requests : List (List ℕ × ℕ)) (past : 
   behind = ap reverse (sym shown ∙ map-reverse shown_of past) ∙ reverse-reverse (map shown_of past)
 
   pub latest_shown : IsLatestOf same_line (keys_of past) request.0 asked.latest
-  latest_shown = latest_view (keys_of past) request.0 asked.latest
+  latest_shown = latest_view bytes_eq line_of (keys_of past) request.0 asked.latest
       (subst (λ ls. IsLatestOf bytes_eq ls (line_of request.0) asked.latest) (ap keys_of behind ∙ keys-view bytes_eq line_of past) is.latest)
 
   pub soon_shown : asked.soon ≡ is_recent same_line (Some limit) request past

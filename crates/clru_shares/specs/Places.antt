@@ -2,8 +2,8 @@
 use Rattle.std.specs.Prelude.{◌≡◌, ◌-◌, ℕ, nat_le, Bool, false, List, Option, Some, reverse, bytes_eq}
 use Rattle.std.specs.Map.{keys_of, lookup}
 use Rattle.std.specs.Option.{option_map, option_map_or}
-use Rattle.clru_curve.specs.PositionPasses.{IsLatestOf}
 use Rattle.clru_model.specs.Ages.{is_recent}
+use Rattle.clru_model.specs.Requests.{IsLatestOf}
 use Rattle.clru_shares.specs.Classes.{class_in, of_class}
 use Rattle.clru_shares.specs.declared.latest.Places.{Places}
 use Rattle.clru_shares.specs.declared.pass.Asked.{Asked}

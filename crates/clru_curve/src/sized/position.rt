@@ -3,10 +3,10 @@ ghost use Rattle.std.specs.Prelude.{◌≡◌, ℕ, ◌+◌, ◌^◌, ◌≤◌,
 ghost use Rattle.std.specs.List.{All};
 ghost use Rattle.std.specs.Map.{keys_of};
 ghost use Rattle.clru_model.specs.Ages.{is_recent};
+ghost use Rattle.clru_model.specs.Requests.{IsLatestOf};
 ghost use Rattle.clru_model.specs.Sizes.{SameWeights, span};
 ghost use Rattle.clru_curve.specs.Ahead.{HasMoved};
 ghost use Rattle.clru_curve.specs.LatestSizes.{IsLiveAt};
-ghost use Rattle.clru_curve.specs.PositionPasses.{IsLatestOf};
 ghost use Rattle.clru_curve.specs.Rising.{IsRising};
 ghost use Rattle.clru_curve.specs.Seen.{reuse_by};
 ghost use Rattle.clru_curve.specs.SizedCurves.{IsSizedCurveOf};

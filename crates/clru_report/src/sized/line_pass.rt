@@ -1,7 +1,7 @@
 //! `SizedLinePass`, which takes lines with sizes one by one.
 ghost use Rattle.std.specs.Prelude.{◌≡◌, List, [], ◌∷◌, reverse, IfOk, OnOk};
-ghost use Rattle.clru_curve.specs.PositionPasses.{IsLatestOf};
 ghost use Rattle.clru_curve.specs.SizedCurves.{IsSizedCurveOf};
+ghost use Rattle.clru_model.specs.Requests.{IsLatestOf};
 ghost use Rattle.clru_text.specs.Keys.{line_of, same_line};
 ghost use Rattle.clru_text.specs.Sizes.{weight_of_line};
 ghost use Rattle.clru_text.specs.declared.lines.OwnedKey.{OwnedKey};

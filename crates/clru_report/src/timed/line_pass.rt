@@ -1,8 +1,8 @@
 //! `TimedLinePass`, which takes lines with times one by one.
 ghost use Rattle.std.specs.Prelude.{◌≡◌, ℕ, List, [], ◌∷◌, Some, IfOk, OnOk};
 ghost use Rattle.std.specs.Map.{keys_of};
-ghost use Rattle.clru_curve.specs.PositionPasses.{IsLatestOf};
 ghost use Rattle.clru_model.specs.Ages.{is_recent};
+ghost use Rattle.clru_model.specs.Requests.{IsLatestOf};
 ghost use Rattle.clru_text.specs.Keys.{same_line};
 ghost use Rattle.clru_text.specs.declared.lines.OwnedKey.{OwnedKey};
 ghost use Rattle.clru_report.specs.TimedPasses.{IsNoted, position_of as position_by, soon_of as soon_by};

@@ -1,8 +1,8 @@
 use Rattle.std.proofs.Common.{◌≡◌, ◌-◌, ◌<◌, Some, length, reverse, slice_get, take, refl, sym, ap, ◌∙◌, subst, arith, length-set}
 use Rattle.std.proofs.lemmas.List.{length-reverse, length-take-le}
 use Rattle.std.proofs.lemmas.Option.{slice_get-get_or}
+use Rattle.clru_model.specs.Requests.{IsLatestOf}
 use Rattle.clru_curve.specs.Ahead.{ArePlaced}
-use Rattle.clru_curve.specs.PositionPasses.{IsLatestOf}
 use Rattle.clru_curve.proofs.Looking.{latest_with, placed_more, refused_here, size_more, turned_more, weights_with}
 use Rattle.clru_curve.proofs.ahead.look_up.Goals as goal
 

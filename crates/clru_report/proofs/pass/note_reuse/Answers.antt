@@ -19,5 +19,5 @@ pub returns-in-Ok : goal.returns-in-Ok
 returns-in-Ok g c w floored past key latest has weighs =
     let given : HasFloorPass w floored past (Some c.in-Some.reuses) = subst (HasFloorPass w floored past) c.in-Some.is has in (
       given.0,
-      c.in-Ok.ensures.taken (λ k. w (line_of k)) past key given.1 (record { known = latest.known; position = latest.position }) (sym weighs),
+      c.in-Ok.ensures.taken (λ k. w (line_of k)) past key given.1 latest (sym weighs),
     )

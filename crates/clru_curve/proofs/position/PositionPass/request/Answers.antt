@@ -1,6 +1,7 @@
 use Rattle.std.proofs.Common.{suc, ◌∷◌, get_or, sym, ap, ◌∙◌, subst, arith}
 use Rattle.std.specs.Map.{keys_of}
-use Rattle.clru_curve.specs.PositionPasses.{IsLatestOf, IsPositionPass}
+use Rattle.clru_model.specs.Requests.{IsLatestOf}
+use Rattle.clru_curve.specs.PositionPasses.{IsPositionPass}
 use Rattle.clru_curve.specs.Tree.{up_to}
 use Rattle.clru_curve.proofs.PositionPassing.{below, few, none_reuse, some_reuse, taken_again, taken_new, taken_same, was_latest}
 use Rattle.clru_curve.proofs.position.PositionPass.request.Goals as goal

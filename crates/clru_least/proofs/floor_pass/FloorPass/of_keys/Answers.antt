@@ -1,4 +1,4 @@
-use Rattle.std.proofs.Common.{◌≡◌, ◌+◌, ◌++◌, ◌^◌, ◌∷◌, [], length, reverse, take, inl, inr, sym, ap, ◌∙◌, subst, arith, take_all, rules}
+use Rattle.std.proofs.Common.{◌≡◌, ◌+◌, ◌++◌, ◌^◌, cond, ◌∷◌, [], length, reverse, take, Some, inl, inr, sym, ap, ◌∙◌, subst, arith, take_all, rules}
 use Rattle.std.specs.Borrow.{Bor}
 use Rattle.std.specs.HashMap.{get}
 use Rattle.std.specs.List.{sum_by}
@@ -6,9 +6,9 @@ use Rattle.std.proofs.lemmas.Bool.{cases_lt}
 use Rattle.std.proofs.lemmas.List.{length-reverse, length-take-le, reverse-append, take_more}
 use Rattle.std.proofs.lemmas.List.Sorted.{IsPermutation-reverse, sum_by-IsPermutation}
 use Rattle.std.proofs.lemmas.List.Sums.{sum_by_push, sum_by-take-le}
-use Rattle.clru_least.specs.Passes.{IsLatestOf}
+use Rattle.clru_model.specs.Requests.{IsLatestOf}
+use Rattle.clru_model.proofs.LatestRequests.{latest_more}
 use Rattle.clru_least.specs.Reuses.{IsFloorPass}
-use Rattle.clru_least.proofs.Laters.{latest_more}
 use Rattle.clru_least.proofs.Reusing.{latest_before}
 use Rattle.clru_least.proofs.floor_pass.FloorPass.of_keys.Goals as goal
 
@@ -37,8 +37,8 @@ loop-position-preserved g c =
       taken = subst (λ l. IsFloorPass eq w l c.request.new.self) (sym one)
           (c.in-Ok-request.ensures.taken w past key.now c.loop-position.invariant.taken of (sym c.weight-weight.ensures));
       known = λ z. subst (λ l. IsLatestOf eq l z.now (get same c.insert.new.self z)) (sym one)
-          (latest_more eq g.met.K.Eq.laws past key.now i z.now (get same c.loop-position.latest z) (get same c.insert.new.self z) many
-          (c.loop-position.invariant.known z) (c.in-Ok.ensures.updates.0 z));
+          (latest_more eq past key.now z.now i many (get same c.loop-position.latest z) (get same c.insert.new.self z) (c.loop-position.invariant.known z)
+          (c.in-Ok.ensures.updates.0 z ∙ ap (λ b. cond b (Some i) (get same c.loop-position.latest z)) (g.met.K.Eq.laws.symm key.now z.now)));
       fits = elim (cases_lt c.request.new.self.size (2 ^ 64)) [
         | inl lt ↦ lt
         | inr ge ↦ let bad = c.in-Ok-request.ensures.too_large.1 (omega (arith, ge, c.in-Ok-request.ensures.size)) in elim bad [ ]

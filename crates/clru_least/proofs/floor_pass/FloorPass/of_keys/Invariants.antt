@@ -1,7 +1,7 @@
 use Rattle.std.proofs.Common.{◌<◌, ◌^◌, take, reverse}
 use Rattle.std.specs.Borrow.{Bor}
 use Rattle.std.specs.HashMap.{get}
-use Rattle.clru_least.specs.Passes.{IsLatestOf}
+use Rattle.clru_model.specs.Requests.{IsLatestOf}
 use Rattle.clru_least.specs.Reuses.{IsFloorPass}
 use Rattle.clru_least.proofs.floor_pass.FloorPass.of_keys.Given as goal
 

@@ -1,7 +1,7 @@
 use Rattle.std.proofs.Common.{[], refl, sym, ap, subst}
 use Rattle.std.specs.Map.{keys_of, lookup}
 use Rattle.std.specs.Prelude.{bytes_eq}
-use Rattle.clru_curve.specs.PositionPasses.{IsLatestOf}
+use Rattle.clru_model.specs.Requests.{IsLatestOf}
 use Rattle.clru_report.proofs.line_pass.LinePass.new.Goals as goal
 
 pub returns : goal.returns

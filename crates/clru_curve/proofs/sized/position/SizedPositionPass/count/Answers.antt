@@ -1,7 +1,7 @@
 use Rattle.std.proofs.Common.{◌≡◌, ◌+◌, suc, [], ◌∷◌, ◌++◌, IfSome, refl, sym, ap, ◌∙◌, subst, arith}
 use Rattle.std.specs.Map.{keys_of}
+use Rattle.clru_model.specs.Requests.{IsLatestOf}
 use Rattle.clru_curve.specs.LatestSizes.{IsLiveAt, IsRemoved, IsSummed, live_from, sizes_from, total_from}
-use Rattle.clru_curve.specs.PositionPasses.{IsLatestOf}
 use Rattle.clru_curve.specs.Rising.{numbered}
 use Rattle.clru_curve.specs.SizedPositionPasses.{IsSizedPositionPass}
 use Rattle.clru_curve.proofs.LatestSizes.{grown_less, grown_lives, grown_totals, moved_less, moved_lives, moved_totals, removed_less, total_zero}

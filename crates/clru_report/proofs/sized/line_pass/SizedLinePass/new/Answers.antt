@@ -1,7 +1,7 @@
 use Rattle.std.proofs.Common.{[], refl, sym, subst}
 use Rattle.std.specs.Map.{lookup}
 use Rattle.std.specs.Prelude.{bytes_eq}
-use Rattle.clru_curve.specs.PositionPasses.{IsLatestOf}
+use Rattle.clru_model.specs.Requests.{IsLatestOf}
 use Rattle.clru_report.specs.Passes.{weight_of_key}
 use Rattle.clru_report.proofs.sized.line_pass.SizedLinePass.new.Goals as goal
 

@@ -1,6 +1,6 @@
 use Rattle.std.proofs.Common.{sym, ap, ◌∙◌, subst, arith}
 use Rattle.std.specs.Map.{keys_of}
-use Rattle.clru_curve.specs.PositionPasses.{IsLatestOf}
+use Rattle.clru_model.specs.Requests.{IsLatestOf}
 use Rattle.clru_text.specs.Keys.{same_line}
 use Rattle.clru_report.specs.TimedPasses.{soon_of}
 use Rattle.clru_report.proofs.TimedLinePasses.{seen_more, seen_noted, soon_recent}
