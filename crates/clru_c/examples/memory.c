@@ -231,7 +231,7 @@ static void see_many(void) {
     curve_by_size(MANY);
     see_requested("misses by size", 70, 19729584);
     held_by(clru_least_by_room(keys, MANY, &room, 1, 0, 0, &least, 1));
-    see_requested("least", 59, 4876840);
+    see_requested("least", 4, 420352);
 }
 
 int main(void) {

@@ -91,7 +91,7 @@ uint32_t clru_misses_by_capacity(const uint64_t *keys, size_t keys_len, uint64_t
  *
  * Codes: CLRU_NO_CAPACITY, CLRU_WRONG_LENGTH, CLRU_NO_MEMORY.
  * Cost: a look-up for each request, once; and for each room a pass whose steps go with the logarithm of the number of requests.
- * Memory: 4 to 75 bytes for each request. */
+ * Memory: 5 to 7 bytes for each request. */
 uint32_t clru_least_by_room(const uint64_t *keys, size_t keys_len, const size_t *rooms, size_t rooms_len,
                             uint64_t seed_low, uint64_t seed_high, size_t *least, size_t least_len);
 

@@ -9,12 +9,9 @@ ghost use Rattle.clru_list.specs.Packed.{greatest_by};
 ghost use Rattle.clru_least.specs.Chains.{HasRoom, IsSought, Leads, bucket_by, cut_out, first_behind, next_in, number_in, same_at};
 ghost use Rattle.clru_least.specs.Passes.{IsForesight};
 
-use clru_list::PackedNumbers;
+use clru_list::{NARROW, PackedNumbers};
 use std::alloc::{AllocError, Allocator};
 use std::hash::{BuildHasher, Hash};
-
-/// The greatest number of 4 bytes.
-const GREATEST_NARROW: usize = 4294967295;
 
 /// The numbers of the requests, and where the chain of each bucket begins: at a position and 1, or 0 if it is empty.
 #[derive(Drop)]
@@ -33,7 +30,7 @@ impl<A: Allocator + Copy> Chains<A> {
         ensures empty { IfOk result (λ c. (h : ℕ) → number_in c.firsts.numbers h ≡ 0) }
         ensures narrow { requests < 2 ^ 32 → IfOk result (λ c. c.numbers.greatest ≡ greatest_by true) }
     {
-        let is_narrow = requests <= GREATEST_NARROW;
+        let is_narrow = requests <= NARROW;
         let buckets = (requests / 4 + 2).next_power_of_two();
         let firsts = PackedNumbers::zeros(alloc, buckets, is_narrow)?;
         let numbers = PackedNumbers::zeros(alloc, requests, is_narrow)?;
