@@ -5,7 +5,7 @@ use Rattle.std.specs.List.{AllByRecursion, slice_get}
 use Rattle.clru_list.proofs.Retaining.{some_injective}
 use Rattle.clru_model.proofs.Cases.{split}
 use Rattle.clru_model.proofs.Parts.{all-append}
-use Rattle.clru_least.specs.Chains.{IsSought, Leads, first_of, last_number, same_at}
+use Rattle.clru_least.specs.Chains.{IsWalked, LeadsAlong, first_of, last_number, same_at}
 
 -- the element that was read is the one there
 pub element_there : {X : Type 0} (xs : List X) (i : ℕ) (y : X) → i < length xs → y ≡ get_or xs i y → slice_get xs i ≡ Some y
@@ -33,54 +33,46 @@ pub all_without : {X : Type 0} (P : X → Type 0) (xs : List X) (y : X) (ys : Li
 all_without P [] y ys all = all.1
 all_without P (x ∷ xs) y ys all = (all.0, all_without P xs y ys all.1)
 
-last_some : (p : ℕ) (ps : List ℕ) → 0 < last_number (p ∷ ps)
-last_some p [] = omega arith
-last_some p (q ∷ ps) = last_some q ps
-
--- which list a last number is of
-pub last_none : (ps : List ℕ) → last_number ps ≡ 0 → ps ≡ []
-last_none [] none = refl
-last_none (p ∷ ps) none = absurd (omega (arith, none, last_some p ps))
-
+-- the last position of a list that has one
 pub last_split : (p : ℕ) (ps : List ℕ) → (b : ℕ) × (bs : List ℕ) × (p ∷ ps ≡ bs ++ b ∷ []) × (last_number (p ∷ ps) ≡ suc b)
 last_split p [] = (p, [], refl, refl)
 last_split p (q ∷ ps) = let r = last_split q ps in (r.0, p ∷ r.1, ap (λ l. p ∷ l) r.2, r.3)
 
 -- a chain of which no number changed
-pub leads_same : (f f' : ℕ → ℕ) (n : ℕ) (ps : List ℕ) → AllByRecursion (λ p. f' p ≡ f p) ps → Leads f n ps → Leads f' n ps
+pub leads_same : (f f' : ℕ → ℕ) (n : ℕ) (ps : List ℕ) → AllByRecursion (λ p. f' p ≡ f p) ps → LeadsAlong f n ps → LeadsAlong f' n ps
 leads_same f f' n [] same leads = leads
 leads_same f f' n (p ∷ ps) same leads =
     (leads.0, rw same.0 leads.1, rw same.0 (leads_same f f' (f p) ps same.1 leads.2))
 
 module _ (f : ℕ → ℕ) where
   -- a number that is not 0 names a position below i, from which a shorter chain leads on
-  pub leads_on : (i n : ℕ) (ps : List ℕ) → 0 < n → Leads f n ps → AllByRecursion (λ p. p < i) ps
-      → (n - 1 < i) × (f (n - 1) < n) × ((rest : List ℕ) × Leads f (f (n - 1)) rest × AllByRecursion (λ p. p < i) rest)
+  pub leads_on : (i n : ℕ) (ps : List ℕ) → 0 < n → LeadsAlong f n ps → AllByRecursion (λ p. p < i) ps
+      → (n - 1 < i) × (f (n - 1) < n) × ((rest : List ℕ) × LeadsAlong f (f (n - 1)) rest × AllByRecursion (λ p. p < i) rest)
   leads_on i n [] some leads below = absurd (omega (arith, some, leads))
   leads_on i n (p ∷ ps) some leads below =
       let here : n - 1 ≡ p = omega (arith, leads.0) in
       rw here (below.0, omega (arith, leads.0, leads.1), (ps, leads.2, below.1))
 
   -- a chain of positions below i begins with a number up to i
-  pub leads_within : (n i : ℕ) (ps : List ℕ) → Leads f n ps → AllByRecursion (λ p. p < i) ps → n ≤ i
+  pub leads_within : (n i : ℕ) (ps : List ℕ) → LeadsAlong f n ps → AllByRecursion (λ p. p < i) ps → n ≤ i
   leads_within n i [] leads below = omega (arith, leads)
   leads_within n i (p ∷ ps) leads below = omega (arith, leads.0, below.0)
 
   -- each position of a chain is below its number
-  pub leads_below : (n m : ℕ) (ps : List ℕ) → Leads f n ps → n ≤ m → AllByRecursion (λ p. p < m) ps
+  pub leads_below : (n m : ℕ) (ps : List ℕ) → LeadsAlong f n ps → n ≤ m → AllByRecursion (λ p. p < m) ps
   leads_below n m [] leads within = tt
   leads_below n m (p ∷ ps) leads within =
       (omega (arith, leads.0, within), leads_below (f p) m ps leads.2 (omega (arith, leads.0, leads.1, within)))
 
 -- of two positions in a row the first links to the second
-pub leads_pair : (f : ℕ → ℕ) (n b p : ℕ) (bs rest : List ℕ) → Leads f n ((bs ++ b ∷ []) ++ p ∷ rest) → (f b ≡ suc p) × (f b ≤ b) × (f p ≤ p)
+pub leads_pair : (f : ℕ → ℕ) (n b p : ℕ) (bs rest : List ℕ) → LeadsAlong f n ((bs ++ b ∷ []) ++ p ∷ rest) → (f b ≡ suc p) × (f b ≤ b) × (f p ≤ p)
 leads_pair f n b p [] rest leads = (leads.2.0, leads.1, leads.2.1)
 leads_pair f n b p (q ∷ bs) rest leads = leads_pair f (f q) b p bs rest leads.2
 
 -- a chain whose position b leads past p
 pub leads_cut : (f f' : ℕ → ℕ) (m n b p : ℕ) (bs rest : List ℕ) → f' b ≡ f p
-    → ((q : ℕ) → q < m → (q ≡ b → ⊥) → (q ≡ p → ⊥) → f' q ≡ f q) → n ≤ m → Leads f n ((bs ++ b ∷ []) ++ p ∷ rest)
-    → Leads f' n ((bs ++ b ∷ []) ++ rest)
+    → ((q : ℕ) → q < m → (q ≡ b → ⊥) → (q ≡ p → ⊥) → f' q ≡ f q) → n ≤ m → LeadsAlong f n ((bs ++ b ∷ []) ++ p ∷ rest)
+    → LeadsAlong f' n ((bs ++ b ∷ []) ++ rest)
 leads_cut f f' m n b p [] rest past others within leads =
     let on = leads.2 in
     let below = leads_below f (f p) p rest on.2 on.1 in
@@ -89,7 +81,7 @@ leads_cut f f' m n b p [] rest past others within leads =
     let low : f' b ≤ b = omega (arith, past, on.1, less) in (
       leads.0,
       low,
-      subst (λ k. Leads f' k rest) (sym past)
+      subst (λ k. LeadsAlong f' k rest) (sym past)
           (leads_same f f' (f p) rest (all_map (λ q. q < p) (λ q. f' q ≡ f q) rest
           (λ q lt. others q (omega (arith, lt, less, inside)) (λ e. omega (arith, e, lt, less)) (λ e. omega (arith, e, lt))) below) on.2),
     )
@@ -115,12 +107,12 @@ module _ {K : Type 0} (eq : K → K → Bool) (keys : List K) where
       ∙ ap (λ y. eq y b) (some_injective (sym is ∙ element_there keys i a inside a_is))
 
   -- one step of a walk
-  pub sought_more : (f : ℕ → ℕ) (x : K) (chain : List ℕ) (behind n : ℕ) → IsSought eq keys f x chain behind n → 0 < n
-      → same_at eq keys x (n - 1) ≡ false → IsSought eq keys f x chain n (f (n - 1))
+  pub sought_more : (f : ℕ → ℕ) (x : K) (chain : List ℕ) (behind n : ℕ) → IsWalked eq keys f x chain behind n → 0 < n
+      → same_at eq keys x (n - 1) ≡ false → IsWalked eq keys f x chain n (f (n - 1))
   sought_more f x chain behind n s some other = step s.before s.rest s.split s.passed s.leads
     where
       step : (before rest : List ℕ) → chain ≡ before ++ rest → AllByRecursion (λ p. same_at eq keys x p ≡ false) before
-          → Leads f n rest → IsSought eq keys f x chain n (f (n - 1))
+          → LeadsAlong f n rest → IsWalked eq keys f x chain n (f (n - 1))
       step before [] split passed leads = absurd (omega (arith, some, leads))
       step before (p ∷ rest) split passed leads =
           let here : n - 1 ≡ p = omega (arith, leads.0) in

@@ -13,7 +13,7 @@ use Rattle.clru_model.specs.Requests.{IsLatestOf}
 use Rattle.clru_model.proofs.Cases.{split}
 use Rattle.clru_model.proofs.Distinct.{same_right}
 use Rattle.clru_model.proofs.LatestRequests.{latest_more}
-use Rattle.clru_least.specs.Chains.{AreChained, IsOf, IsSought, Leads, cut_out, first_behind, first_of, last_number, next_in, number_in, same_at}
+use Rattle.clru_least.specs.Chains.{AreTaken, IsInBucket, IsWalked, LeadsAlong, cut_out, first_behind, first_of, last_number, next_in, number_in, same_at}
 use Rattle.clru_least.specs.Passes.{IsForesight}
 use Rattle.clru_least.proofs.ChainWalks.{all_left, all_map, all_right, all_without, first_of_cut, first_of_none, first_of_passed, last_split, leads_below, leads_cut, leads_pair, leads_same, leads_within, same_there}
 use Rattle.clru_least.proofs.Laters.{foresight_length, noted_first, noted_again}
@@ -61,7 +61,7 @@ module _ (ns : List ℕ) (first next behind number p : ℕ) (is : number ≡ suc
 
 module _ {K : Type 0} (eq : K → K → Bool) (laws : IsEquivalence eq) (keys : List K) (home : K → ℕ)
     (respects : (y z : K) → eq y z ≡ true → home y ≡ home z) where
-  module _ (i : ℕ) (x : K) (numbers firsts numbers' firsts' : List ℕ) (chained : AreChained eq keys home i numbers firsts)
+  module _ (i : ℕ) (x : K) (numbers firsts numbers' firsts' : List ℕ) (chained : AreTaken eq keys home i numbers firsts)
       (at : slice_get keys i ≡ Some x) (within : i < length keys) (led : home x < length firsts)
       (written : firsts' ≡ set firsts (home x) (i + 1)) where
     -- the requests up to one more
@@ -80,30 +80,30 @@ module _ {K : Type 0} (eq : K → K → Bool) (laws : IsEquivalence eq) (keys : 
     first_other g other = ap (λ l. get_or l g 0) written ∙ get_or-set_other firsts (home x) g (i + 1) 0 (λ e. other (sym e))
 
     -- the request stands in front of what is left of its chain
-    pub chained_with : (cut nexts : List ℕ) → Leads (number_in numbers') (number_in numbers' i) cut → number_in numbers' i ≤ i
-        → AllByRecursion (IsOf eq keys home i (home x)) cut
+    pub chained_with : (cut nexts : List ℕ) → LeadsAlong (number_in numbers') (number_in numbers' i) cut → number_in numbers' i ≤ i
+        → AllByRecursion (IsInBucket eq keys home i (home x)) cut
         → ((z : K) → eq z x ≡ false → first_of eq keys z cut ≡ first_of eq keys z (chained.chains (home x)))
-        → ((g q : ℕ) → (home x ≡ g → ⊥) → IsOf eq keys home i g q → number_in numbers' q ≡ number_in numbers q)
+        → ((g q : ℕ) → (home x ≡ g → ⊥) → IsInBucket eq keys home i g q → number_in numbers' q ≡ number_in numbers q)
         → IsForesight eq (x ∷ reverse (take i keys)) nexts → ((q : ℕ) → q < i → next_in numbers' q ≡ number_in nexts q)
         → number_in nexts i ≡ 0 → ((q : ℕ) → i < q → number_in numbers' q ≡ 0)
-        → AreChained eq keys home (i + 1) numbers' firsts'
+        → AreTaken eq keys home (i + 1) numbers' firsts'
     chained_with cut nexts front low homed apart others foresight same last blank = record {
       chains = chains;
       leads = λ g. split (eqb h g)
           (λ t. rw t (first_here g (eqb-true h g t), low, front))
           (λ f. let other = eqb-false h g f in
-          rw f (subst (λ n. Leads (number_in numbers') n (chained.chains g)) (sym (first_other g other))
+          rw f (subst (λ n. LeadsAlong (number_in numbers') n (chained.chains g)) (sym (first_other g other))
           (leads_same (number_in numbers) (number_in numbers') (number_in firsts g) (chained.chains g)
-          (all_map (IsOf eq keys home i g) (λ q. number_in numbers' q ≡ number_in numbers q) (chained.chains g) (λ q of. others g q other of) (chained.homed g))
+          (all_map (IsInBucket eq keys home i g) (λ q. number_in numbers' q ≡ number_in numbers q) (chained.chains g) (λ q of. others g q other of) (chained.homed g))
           (chained.leads g))));
       homed = λ g. split (eqb h g)
           (λ t. let is = eqb-true h g t in
           rw t (
             record { bucket = λ k there. ap home (some_injective (sym there ∙ at)) ∙ is; before = omega arith },
-            all_map (IsOf eq keys home i h) (IsOf eq keys home (i + 1) g) cut
+            all_map (IsInBucket eq keys home i h) (IsInBucket eq keys home (i + 1) g) cut
                 (λ q of. record { bucket = λ k there. of.bucket k there ∙ is; before = omega (arith, of.before) }) homed,
           ))
-          (λ f. rw f (all_map (IsOf eq keys home i g) (IsOf eq keys home (i + 1) g) (chained.chains g)
+          (λ f. rw f (all_map (IsInBucket eq keys home i g) (IsInBucket eq keys home (i + 1) g) (chained.chains g)
           (λ q of. record { bucket = of.bucket; before = omega (arith, of.before) }) (chained.homed g)));
       latest = λ z. subst (λ l. IsLatestOf eq l z (first_of eq keys z (chains (home z)))) (sym past_more)
           (latest_more eq (reverse (take i keys)) x z i past_long (first_of eq keys z (chained.chains (home z))) (first_of eq keys z (chains (home z)))
@@ -134,13 +134,13 @@ module _ {K : Type 0} (eq : K → K → Bool) (laws : IsEquivalence eq) (keys : 
 
     -- the key was not requested before
     pub chained_first : (first_of eq keys x (chained.chains (home x)) ≡ None) → number_in numbers' i ≡ number_in firsts (home x)
-        → ((q : ℕ) → (q ≡ i → ⊥) → number_in numbers' q ≡ number_in numbers q) → AreChained eq keys home (i + 1) numbers' firsts'
+        → ((q : ℕ) → (q ≡ i → ⊥) → number_in numbers' q ≡ number_in numbers q) → AreTaken eq keys home (i + 1) numbers' firsts'
     chained_first none here others =
         let chain = chained.chains (home x) in let f = number_in numbers in let past = reverse (take i keys) in
-        let below = all_map (IsOf eq keys home i (home x)) (λ q. q < i) chain (λ q of. of.before) (chained.homed (home x)) in
+        let below = all_map (IsInBucket eq keys home i (home x)) (λ q. q < i) chain (λ q of. of.before) (chained.homed (home x)) in
         let many : length chained.nexts ≡ i = foresight_length eq past chained.nexts chained.foresight ∙ length-reverse past ∙ sym past_long in
         chained_with chain (chained.nexts ++ 0 ∷ [])
-        (subst (λ n. Leads (number_in numbers') n chain) (sym here) (leads_same f (number_in numbers') (f' (home x)) chain
+        (subst (λ n. LeadsAlong (number_in numbers') n chain) (sym here) (leads_same f (number_in numbers') (f' (home x)) chain
         (all_map (λ q. q < i) (λ q. number_in numbers' q ≡ f q) chain (λ q lt. others q (λ e. omega (arith, e, lt))) below) (chained.leads (home x))))
         (omega (arith, here, leads_within f (f' (home x)) i chain (chained.leads (home x)) below))
         (chained.homed (home x))
@@ -158,21 +158,21 @@ module _ {K : Type 0} (eq : K → K → Bool) (laws : IsEquivalence eq) (keys : 
     -- the latest request of the key stands at p, and is cut out
     pub chained_again : (p : ℕ) (before rest : List ℕ) → chained.chains (home x) ≡ before ++ p ∷ rest
         → AllByRecursion (λ q. same_at eq keys x q ≡ false) before → same_at eq keys x p ≡ true
-        → Leads (number_in numbers') (number_in numbers' i) (before ++ rest) → number_in numbers' i ≤ i
+        → LeadsAlong (number_in numbers') (number_in numbers' i) (before ++ rest) → number_in numbers' i ≤ i
         → number_in numbers' p ≡ i → ((q : ℕ) → q < i → (q ≡ p → ⊥) → next_in numbers' q ≡ next_in numbers q)
-        → ((g q : ℕ) → (home x ≡ g → ⊥) → IsOf eq keys home i g q → number_in numbers' q ≡ number_in numbers q)
-        → ((q : ℕ) → i < q → number_in numbers' q ≡ number_in numbers q) → AreChained eq keys home (i + 1) numbers' firsts'
+        → ((g q : ℕ) → (home x ≡ g → ⊥) → IsInBucket eq keys home i g q → number_in numbers' q ≡ number_in numbers q)
+        → ((q : ℕ) → i < q → number_in numbers' q ≡ number_in numbers q) → AreTaken eq keys home (i + 1) numbers' firsts'
     chained_again p before rest parts passed same front low taken kept others behind =
         let past = reverse (take i keys) in
         let many : length chained.nexts ≡ i = foresight_length eq past chained.nexts chained.foresight ∙ length-reverse past ∙ sym past_long in
-        let homed = subst (λ l. AllByRecursion (IsOf eq keys home i (home x)) l) parts (chained.homed (home x)) in
-        let of = (all_right (IsOf eq keys home i (home x)) before (p ∷ rest) homed).0 in
+        let homed = subst (λ l. AllByRecursion (IsInBucket eq keys home i (home x)) l) parts (chained.homed (home x)) in
+        let of = (all_right (IsInBucket eq keys home i (home x)) before (p ∷ rest) homed).0 in
         let some : first_of eq keys x (chained.chains (home x)) ≡ Some p =
         ap (first_of eq keys x) parts ∙ first_of_passed eq keys x p before rest passed same in
         let pushed = chained.nexts ++ 0 ∷ [] in
         let long : length pushed ≡ i + 1 = length-append chained.nexts (0 ∷ []) ∙ ap (λ n. n + 1) many in
         chained_with (before ++ rest) (set pushed p i) front low
-        (all_without (IsOf eq keys home i (home x)) before p rest homed)
+        (all_without (IsInBucket eq keys home i (home x)) before p rest homed)
         (λ z apart. first_of_cut eq keys z p before rest (other_key z apart) ∙ ap (first_of eq keys z) (sym parts))
         others
         (noted_again eq laws past chained.nexts chained.foresight x (first_of eq keys x (chained.chains (home x))) (chained.latest x) p some i pushed (set pushed p i)
@@ -187,14 +187,14 @@ module _ {K : Type 0} (eq : K → K → Bool) (laws : IsEquivalence eq) (keys : 
       where
         other_key : (z : K) → eq z x ≡ false → same_at eq keys z p ≡ false
         other_key z apart =
-            let of = (all_right (IsOf eq keys home i (home x)) before (p ∷ rest)
-            (subst (λ l. AllByRecursion (IsOf eq keys home i (home x)) l) parts (chained.homed (home x)))).0 in
+            let of = (all_right (IsInBucket eq keys home i (home x)) before (p ∷ rest)
+            (subst (λ l. AllByRecursion (IsInBucket eq keys home i (home x)) l) parts (chained.homed (home x)))).0 in
             let there = slice_get-get_or keys p x (omega (arith, of.before, within)) in
             same_there eq keys z (get_or keys p x) p there
             ∙ sym (same_right eq laws x (get_or keys p x) z (sym (same_there eq keys x (get_or keys p x) p there) ∙ same)) ∙ apart
 
     -- positions of different buckets differ
-    apart_of : (g q p : ℕ) → (home x ≡ g → ⊥) → IsOf eq keys home i g q → IsOf eq keys home i (home x) p → q ≡ p → ⊥
+    apart_of : (g q p : ℕ) → (home x ≡ g → ⊥) → IsInBucket eq keys home i g q → IsInBucket eq keys home i (home x) p → q ≡ p → ⊥
     apart_of g q p other of of_p is =
         let there = slice_get-get_or keys p x (omega (arith, of_p.before, within)) in
         other (sym (of_p.bucket (get_or keys p x) there) ∙ of.bucket (get_or keys p x) (subst (λ k. slice_get keys k ≡ Some (get_or keys p x)) (sym is) there))
@@ -211,13 +211,13 @@ module _ {K : Type 0} (eq : K → K → Bool) (laws : IsEquivalence eq) (keys : 
 
       -- the one that is cut out was the first of its chain
       head : (p : ℕ) (rest : List ℕ) → chained.chains (home x) ≡ p ∷ rest → behind ≡ 0 → number ≡ suc p → same_at eq keys x p ≡ true
-          → AreChained eq keys home (i + 1) numbers' firsts'
+          → AreTaken eq keys home (i + 1) numbers' firsts'
       head p rest parts first is same =
-          let leads = subst (Leads f n) parts (chained.leads (home x)) in
-          let homed = subst (λ l. AllByRecursion (IsOf eq keys home i (home x)) l) parts (chained.homed (home x)) in
+          let leads = subst (LeadsAlong f n) parts (chained.leads (home x)) in
+          let homed = subst (λ l. AllByRecursion (IsInBucket eq keys home i (home x)) l) parts (chained.homed (home x)) in
           let inside : p < i = homed.0.before in
           chained_again p [] rest parts tt same
-          (subst (λ m. Leads (number_in numbers') m rest) (sym begins) (leads_same f (number_in numbers') (f p) rest
+          (subst (λ m. LeadsAlong (number_in numbers') m rest) (sym begins) (leads_same f (number_in numbers') (f p) rest
           (all_map (λ q. q < p) (λ q. number_in numbers' q ≡ f q) rest
           (λ q lt. kept q (λ e. omega (arith, e, lt, inside)) (λ e. omega (arith, e, lt))) (leads_below f (f p) p rest leads.2 leads.1)) leads.2))
           (omega (arith, begins, leads.1, inside))
@@ -238,12 +238,12 @@ module _ {K : Type 0} (eq : K → K → Bool) (laws : IsEquivalence eq) (keys : 
       -- or it stood behind b
       middle : (b p : ℕ) (bs rest : List ℕ) → chained.chains (home x) ≡ (bs ++ b ∷ []) ++ p ∷ rest
           → AllByRecursion (λ q. same_at eq keys x q ≡ false) (bs ++ b ∷ []) → behind ≡ suc b → number ≡ suc p
-          → same_at eq keys x p ≡ true → AreChained eq keys home (i + 1) numbers' firsts'
+          → same_at eq keys x p ≡ true → AreTaken eq keys home (i + 1) numbers' firsts'
       middle b p bs rest parts passed last is same =
-          let leads = subst (Leads f n) parts (chained.leads (home x)) in
-          let homed = subst (λ l. AllByRecursion (IsOf eq keys home i (home x)) l) parts (chained.homed (home x)) in
-          let of_p = (all_right (IsOf eq keys home i (home x)) (bs ++ b ∷ []) (p ∷ rest) homed).0 in
-          let of_b = (all_right (IsOf eq keys home i (home x)) bs (b ∷ []) (all_left (IsOf eq keys home i (home x)) (bs ++ b ∷ []) (p ∷ rest) homed)).0 in
+          let leads = subst (LeadsAlong f n) parts (chained.leads (home x)) in
+          let homed = subst (λ l. AllByRecursion (IsInBucket eq keys home i (home x)) l) parts (chained.homed (home x)) in
+          let of_p = (all_right (IsInBucket eq keys home i (home x)) (bs ++ b ∷ []) (p ∷ rest) homed).0 in
+          let of_b = (all_right (IsInBucket eq keys home i (home x)) bs (b ∷ []) (all_left (IsInBucket eq keys home i (home x)) (bs ++ b ∷ []) (p ∷ rest) homed)).0 in
           let inside : p < i = of_p.before in let b_inside : b < i = of_b.before in
           let pair = leads_pair f n b p bs rest leads in
           let apart : p < b = omega (arith, pair.0, pair.1) in
@@ -251,9 +251,9 @@ module _ {K : Type 0} (eq : K → K → Bool) (laws : IsEquivalence eq) (keys : 
           let past : number_in numbers' b ≡ f p =
           written_at b (λ e. omega (arith, e, b_inside)) ∙ get_or-set_same (set numbers p i) b (f p) 0 (omega (arith, b_inside, within, long, long_set)) in
           let low : n ≤ i = leads_within f n i ((bs ++ b ∷ []) ++ p ∷ rest) leads
-          (all_map (IsOf eq keys home i (home x)) (λ q. q < i) ((bs ++ b ∷ []) ++ p ∷ rest) (λ q of. of.before) homed) in
+          (all_map (IsInBucket eq keys home i (home x)) (λ q. q < i) ((bs ++ b ∷ []) ++ p ∷ rest) (λ q of. of.before) homed) in
           chained_again p (bs ++ b ∷ []) rest parts passed same
-          (subst (λ m. Leads (number_in numbers') m ((bs ++ b ∷ []) ++ rest)) (sym begins)
+          (subst (λ m. LeadsAlong (number_in numbers') m ((bs ++ b ∷ []) ++ rest)) (sym begins)
           (leads_cut f (number_in numbers') i n b p bs rest past (λ q lt nb np. kept q (λ e. omega (arith, e, lt)) nb np) low leads))
           (omega (arith, begins, low))
           (written_at p (λ e. omega (arith, e, inside)) ∙ get_or-set_other (set numbers p i) b p (f p) 0 (λ e. omega (arith, e, apart))
@@ -275,16 +275,16 @@ module _ {K : Type 0} (eq : K → K → Bool) (laws : IsEquivalence eq) (keys : 
           kept q other nb np = written_at q other ∙ get_or-set_other (set numbers p i) b q (f p) 0 nb ∙ get_or-set_other numbers p q i 0 np
 
       -- one more request, after a walk along its chain
-      pub chained_more : IsSought eq keys (number_in numbers) x (chained.chains (home x)) behind number
-          → (0 < number → same_at eq keys x (number - 1) ≡ true) → AreChained eq keys home (i + 1) numbers' firsts'
+      pub chained_more : IsWalked eq keys (number_in numbers) x (chained.chains (home x)) behind number
+          → (0 < number → same_at eq keys x (number - 1) ≡ true) → AreTaken eq keys home (i + 1) numbers' firsts'
       chained_more sought stop = by_rest sought.before sought.rest sought.split sought.passed sought.last sought.leads
         where
           stops : (p : ℕ) → number ≡ suc p → same_at eq keys x p ≡ true
           stops p is = let less : number - 1 ≡ p = omega (arith, is) in let same = stop (omega (arith, is)) in rw less at same
 
           by_rest : (before rest : List ℕ) → chained.chains (home x) ≡ before ++ rest
-              → AllByRecursion (λ q. same_at eq keys x q ≡ false) before → behind ≡ last_number before → Leads (number_in numbers) number rest
-              → AreChained eq keys home (i + 1) numbers' firsts'
+              → AllByRecursion (λ q. same_at eq keys x q ≡ false) before → behind ≡ last_number before → LeadsAlong (number_in numbers) number rest
+              → AreTaken eq keys home (i + 1) numbers' firsts'
           by_rest before [] parts passed last leads =
               let none = eq-eqb number 0 leads in
               let begins : (if eqb number 0 then n else first_behind numbers n behind number) ≡ n = rw none refl in
@@ -298,12 +298,12 @@ module _ {K : Type 0} (eq : K → K → Bool) (laws : IsEquivalence eq) (keys : 
 
   -- the same for a key whose bucket is given
   pub chained_at : (h i : ℕ) (x : K) (numbers firsts numbers' firsts' : List ℕ) (behind number : ℕ)
-      (chained : AreChained eq keys home i numbers firsts) → h ≡ home x → slice_get keys i ≡ Some x → i < length keys
+      (chained : AreTaken eq keys home i numbers firsts) → h ≡ home x → slice_get keys i ≡ Some x → i < length keys
       → length numbers ≡ length keys → h < length firsts → firsts' ≡ set firsts h (i + 1)
       → number_in numbers' i ≡ (if eqb number 0 then number_in firsts h else first_behind numbers (number_in firsts h) behind number)
       → ((q : ℕ) → (q ≡ i → ⊥) → number_in numbers' q ≡ (if eqb number 0 then number_in numbers q else number_in (cut_out numbers behind number i) q))
-      → IsSought eq keys (number_in numbers) x (chained.chains h) behind number → (0 < number → same_at eq keys x (number - 1) ≡ true)
-      → AreChained eq keys home (i + 1) numbers' firsts'
+      → IsWalked eq keys (number_in numbers) x (chained.chains h) behind number → (0 < number → same_at eq keys x (number - 1) ≡ true)
+      → AreTaken eq keys home (i + 1) numbers' firsts'
   chained_at h i x numbers firsts numbers' firsts' behind number chained is at within long led written here others sought stop =
       chained_more i x numbers firsts numbers' firsts' chained at within (rw is at led) (rw is at written) behind number long (rw is at here) others
       (rw is at sought) stop
@@ -311,7 +311,7 @@ module _ {K : Type 0} (eq : K → K → Bool) (laws : IsEquivalence eq) (keys : 
 -- what all requests leave
 module _ {K : Type 0} (eq : K → K → Bool) (keys : List K) (home : K → ℕ) where
   pub chained_none : (numbers firsts : List ℕ) → ((p : ℕ) → number_in numbers p ≡ 0) → ((h : ℕ) → number_in firsts h ≡ 0)
-      → AreChained eq keys home 0 numbers firsts
+      → AreTaken eq keys home 0 numbers firsts
   chained_none numbers firsts blank empty = record {
     chains = λ _. [];
     leads = empty;
@@ -323,7 +323,7 @@ module _ {K : Type 0} (eq : K → K → Bool) (keys : List K) (home : K → ℕ)
     blank = λ p _. blank p;
   }
 
-  pub foresight_of : (n : ℕ) (numbers firsts cleared : List ℕ) → AreChained eq keys home n numbers firsts → n ≡ length keys
+  pub foresight_of : (n : ℕ) (numbers firsts cleared : List ℕ) → AreTaken eq keys home n numbers firsts → n ≡ length keys
       → length numbers ≡ length keys → length cleared ≡ length numbers
       → ((p : ℕ) → p < length numbers → number_in cleared p ≡ next_in numbers p) → IsForesight eq (reverse keys) cleared
   foresight_of n numbers firsts cleared chained all many long is =

@@ -1,12 +1,12 @@
-//! Where the key of each request is requested next, found by chains through the numbers that say it.
+//! Finds the next request of each key by chains of requests.
 //!
-//! A request whose key is not requested again yet has a link in its number instead: to an earlier request, of another key. So the latest
-//! requests of the keys of a bucket are a chain, the latest first, and no key takes memory of its own. A number above its own position is
-//! that of a next request; any other is a link: the position of a request and 1, or 0 at the end of a chain.
+//! While a key is not requested again, the number of its latest request is free: it links to an earlier one, the latest request of another
+//! key of the same bucket. So the chain of a bucket takes no memory but where it begins. A number above its own position is that of the next
+//! request; any other is a link: a position and 1, or 0 at the end.
 ghost use Rattle.std.specs.Prelude.{◌≡◌, ℕ, List, ◌+◌, ◌-◌, ◌^◌, ◌<◌, ◌≤◌, ◌==◌, true, length, reverse, set, if◌then◌else◌, Some, IfOk};
 ghost use Rattle.std.specs.List.{AllByRecursion, slice_get};
 ghost use Rattle.clru_list.specs.Packed.{greatest_by};
-ghost use Rattle.clru_least.specs.Chains.{HasRoom, IsSought, Leads, bucket_by, cut_out, first_behind, next_in, number_in, same_at};
+ghost use Rattle.clru_least.specs.Chains.{HasRoom, IsWalked, LeadsAlong, masked_bucket, cut_out, first_behind, next_in, number_in, same_at};
 ghost use Rattle.clru_least.specs.Passes.{IsForesight};
 
 use clru_list::{NARROW, PackedNumbers};
@@ -44,23 +44,23 @@ impl<A: Allocator + Copy> Chains<A> {
     /// The bucket of a hash.
     #[tactic(auto, using(std::proofs::lemmas::Nat::and_le_r))]
     fn bucket_of(&self, hash: u64) -> usize
-        ensures bucket { result ≡ bucket_by self.now.mask hash }
+        ensures bucket { result ≡ masked_bucket self.now.mask hash }
         ensures within { result ≤ self.now.mask }
     {
         hash as usize & self.mask
     }
 
-    /// Walks along the chain that begins with a number, up to a key equal to that of a request. Returns the number that names its position, or
-    /// 0 if there is none, behind the number of the position that the walk passed last, or 0.
+    /// Walks along the chain that begins with `first` to a request for the same key as the one at `position`. Returns the number of the last
+    /// request that it passed, and of the one that it found; each is 0 if there is none.
     #[inline(always)]
     fn find<K: Eq>(&self, keys: &[K], position: usize, first: usize) -> (usize, usize)
         requires position { position < length keys.now }
         requires room { length self.now.numbers.numbers ≡ length keys.now }
-        requires chain { (chain : List ℕ) × Leads (number_in self.now.numbers.numbers) first chain
+        requires chain { (chain : List ℕ) × LeadsAlong (number_in self.now.numbers.numbers) first chain
             × AllByRecursion (λ p. p < position) chain }
-        ensures sought { (chain : List ℕ) (x : K) → Leads (number_in self.now.numbers.numbers) first chain
+        ensures sought { (chain : List ℕ) (x : K) → LeadsAlong (number_in self.now.numbers.numbers) first chain
             → AllByRecursion (λ p. p < position) chain → slice_get keys.now position ≡ Some x
-            → IsSought K.eq keys.now (number_in self.now.numbers.numbers) x chain result.0 result.1 }
+            → IsWalked K.eq keys.now (number_in self.now.numbers.numbers) x chain result.0 result.1 }
         ensures same { (x : K) → slice_get keys.now position ≡ Some x → 0 < result.1
             → same_at K.eq keys.now x (result.1 - 1) ≡ true }
         ensures behind { result.0 ≤ position }

@@ -38,8 +38,9 @@ impl<'a, K: Eq, A: Allocator + Copy> Foresight<'a, K, A> {
     ///
     /// Memory may be refused; without requests none is asked for.
     /// Cost: each request is hashed once, with `hash_builder`, and compared with those keys of its bucket that were requested since its own
-    /// key was, or with all if it is new. Two requests for memory: for a number for each request, as a `ForesightPass` keeps it, and for
-    /// the buckets, one for each two to four requests, which are dropped at the end.
+    /// key was, or with all if it is new: at most half of the square of their number, if all hashes agree. Two requests for memory: for
+    /// 4 bytes for each request (8 above 4,294,967,295 of them), and as much for each bucket, one for two to four requests, which are
+    /// dropped at the end.
     pub fn new<S: BuildHasher + Drop>(
         alloc: A,
         keys: &'a [K],

@@ -1,5 +1,5 @@
 //! `ForesightPass`, which takes requests one by one and holds no key.
-ghost use Rattle.std.specs.Prelude.{◌≡◌, ℕ, List, ◌+◌, ◌-◌, ◌^◌, ◌<◌, ◌≤◌, [], ◌∷◌, length, reverse, true, All, IfOk, OnOk, OnErr, IsOk};
+ghost use Rattle.std.specs.Prelude.{◌≡◌, ℕ, List, ◌+◌, ◌-◌, ◌^◌, ◌<◌, ◌≤◌, [], ◌∷◌, length, reverse, true, IfOk, OnOk, OnErr, IsOk};
 ghost use Rattle.std.specs.Int.NonZero.{non_zero_usize_get};
 ghost use Rattle.clru_list.specs.Packed.{greatest_by};
 ghost use Rattle.clru_model.specs.Least.{IsLeast, IsNearFromAnyStart};
@@ -61,7 +61,7 @@ impl<K: Eq, A: Allocator + Copy> ForesightPass<K, A> {
         }
     }
 
-    /// Creates a pass that has taken the requests whose next ones stand at these positions.
+    /// Creates a pass from the positions of the next requests.
     pub(crate) fn of_numbers(alloc: A, later: PackedNumbers<A>) -> Self
         requires taken { (past : List K) × IsForesight K.eq past later.numbers }
         requires narrow { length later.numbers < 2 ^ 32 → later.greatest ≡ greatest_by true }

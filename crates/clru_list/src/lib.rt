@@ -23,7 +23,7 @@ mod packed;
 pub use cursor::FixedSizeListIterMut;
 pub use error::{NoMemory, PushError};
 // A crate can name a list in a contract only if the types of its fields are exported. `NARROW` and `NOWHERE` serve the index of
-// `clru_linked_map` too.
+// `clru_linked_map`, and `NARROW` the chains of `clru_least`, too.
 #[doc(hidden)]
 pub use fingers::{Finger, Fingers};
 #[doc(hidden)]

@@ -189,13 +189,15 @@ impl Lines {
         }
     }
 
-    // (the report ends at this line, so no more is to be known of others)
+    // (the report ends at this line, so no more is to be known of others; but if memory was refused, a line may only seem odd)
     #[inline(never)]
     fn note_odd(&mut self, line: &[u8]) {
-        self.have_parts = false;
-        self.odd_number = self.count;
-        let beginning = line.get(..SHOWN).unwrap_or(line);
-        let _ = self.odd.extend_from_slice(beginning);
+        self.have_parts = self.is_long;
+        if self.odd_number == 0 {
+            self.odd_number = self.count;
+            let beginning = line.get(..SHOWN).unwrap_or(line);
+            let _ = self.odd.extend_from_slice(beginning);
+        }
     }
 
     // Whether the line has a time and a size, where it is to have them. (they stand among the bytes that are kept, or it has none)
@@ -216,7 +218,7 @@ impl Lines {
         }
     }
 
-    // Whether this begins with a size. (what it is, is mostly not asked)
+    // Whether this begins with a size. (its value is computed only where it is used)
     #[inline(always)]
     fn note_size(&mut self, line: &[u8]) -> bool {
         let Some(key) = behind_size(line) else {

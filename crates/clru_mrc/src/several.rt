@@ -31,7 +31,7 @@ impl SizesOfKeys {
         }
     }
 
-    /// A hash of a key, which ends a line, if it is looked at.
+    /// Returns the hash of the key at the end of the line, if this key is looked at.
     #[inline]
     pub(crate) fn looked_at(&self, line: &[u8], key: &[u8]) -> Option<u64> {
         let hash = hash_of(line, key);
@@ -44,10 +44,10 @@ impl SizesOfKeys {
 
     /// Looks at a key with this hash and size.
     #[inline(never)]
-    pub(crate) fn note(&mut self, key: u64, size: usize) {
-        match self.seen.get_mut(&key) {
+    pub(crate) fn note(&mut self, hash: u64, size: usize) {
+        match self.seen.get_mut(&hash) {
             None => {
-                self.is_lost = self.seen.insert(key, size).is_err();
+                self.is_lost = self.seen.insert(hash, size).is_err();
                 if self.seen.len() > MOST_KEYS {
                     self.halve();
                 }

@@ -1,12 +1,14 @@
-//! Where the size ends that a line begins with, read eight bytes at a time.
+//! Finds where the size ends that a line begins with: in its first eight bytes, or as `size_of` does.
 
 use clru_text::{size_of, tail_of};
 
-// In each byte its top bit, a digit's 0, and what makes the top bit of a number above 9.
+// The top bit of each byte.
 const TOPS: u64 = 0x8080_8080_8080_8080;
 
+// The digit 0 in each byte.
 const ZEROS: u64 = 0x3030_3030_3030_3030;
 
+// Added to a byte below 128, it sets the top bit if that is above 9.
 const ABOVE_NINE: u64 = 0x7676_7676_7676_7676;
 
 /// The line from its first blank on, as `tail_of` returns it, if `size_of` finds a size before.

@@ -1,6 +1,6 @@
 use Rattle.std.proofs.Common.{◌≡◌, ℕ, ◌+◌, ◌<◌, fold, Some, sym, ap, ◌∙◌, subst, arith}
 use Rattle.std.specs.List.{slice_get}
-use Rattle.clru_least.specs.Chains.{AreChained, HasRoom, bucket_by, number_in}
+use Rattle.clru_least.specs.Chains.{AreTaken, HasRoom, masked_bucket, number_in}
 use Rattle.clru_least.proofs.ChainWalks.{all_map, element_there, leads_within}
 use Rattle.clru_least.proofs.Chained.{chained_at, chained_none, foresight_of}
 use Rattle.clru_least.proofs.chains.next_requests.Goals as goal
@@ -34,16 +34,16 @@ loop-position-preserved g c =
     let eq = g.K.PartialEq.eq in let keys = c.args.keys.now in let i = c.loop-position.position in let x = c.index-keys-position.result in
     let mask = c.loop-position.chains.mask in let h = c.bucket_of-bucket.result in let chained = c.loop-position.invariant.chained in
     let bucket = λ (m : ℕ) (k : g.row.K.Denot).
-    bucket_by m (g.S.Hasher.Hasher.finish (fold g.S.Hasher.Hasher.write (g.S.BuildHasher.build_hasher c.args.hash_builder.now) (g.K.Hash.hash_input k))) in
+    masked_bucket m (g.S.Hasher.Hasher.finish (fold g.S.Hasher.Hasher.write (g.S.BuildHasher.build_hasher c.args.hash_builder.now) (g.K.Hash.hash_input k))) in
     let at : slice_get keys i ≡ Some x = element_there keys i x c.loop-position-test.true c.index-keys-position.is in
     let below = all_map _ (λ p. p < i) (chained.chains h) (λ q of. of.before) (chained.homed h) in
     record {
-      chained = subst (λ m. AreChained eq keys (bucket m) (i + 1) c.link.new.self.numbers.numbers c.link.new.self.firsts.numbers) (sym c.link.ensures.mask)
+      chained = subst (λ m. AreTaken eq keys (bucket m) (i + 1) c.link.new.self.numbers.numbers c.link.new.self.firsts.numbers) (sym c.link.ensures.mask)
           (chained_at eq g.met.K.Eq.laws keys (bucket mask)
-          (λ y z same. ap (λ w. bucket_by mask (g.S.Hasher.Hasher.finish (fold g.S.Hasher.Hasher.write (g.S.BuildHasher.build_hasher c.args.hash_builder.now) w)))
+          (λ y z same. ap (λ w. masked_bucket mask (g.S.Hasher.Hasher.finish (fold g.S.Hasher.Hasher.write (g.S.BuildHasher.build_hasher c.args.hash_builder.now) w)))
           (g.met.K.Hash.respects_eq y z same))
           h i x c.loop-position.chains.numbers.numbers c.loop-position.chains.firsts.numbers c.link.new.self.numbers.numbers c.link.new.self.firsts.numbers
-          c.find-behind.result.0 c.find-behind.result.1 chained (c.bucket_of-bucket.ensures.bucket ∙ ap (bucket_by mask) c.hash_one.ensures) at
+          c.find-behind.result.0 c.find-behind.result.1 chained (c.bucket_of-bucket.ensures.bucket ∙ ap (masked_bucket mask) c.hash_one.ensures) at
           c.loop-position-test.true c.loop-position.invariant.room.numbers
           (omega (arith, c.bucket_of-bucket.ensures.within, c.loop-position.invariant.room.firsts)) c.link.ensures.firsts
           (c.link.ensures.here (chained.blank i (omega arith))) c.link.ensures.others
