@@ -5,7 +5,7 @@ use Rattle.std.specs.List.{AllByRecursion, slice_get}
 use Rattle.clru_list.proofs.Retaining.{some_injective}
 use Rattle.clru_model.proofs.Cases.{split}
 use Rattle.clru_model.proofs.Parts.{all-append}
-use Rattle.clru_least.specs.Chains.{IsWalked, LeadsAlong, first_of, last_number, same_at}
+use Rattle.clru_least.specs.Chains.{IsChain, IsWalked, LeadsAlong, first_of, last_number, same_at}
 
 -- the element that was read is the one there
 pub element_there : {X : Type 0} (xs : List X) (i : ℕ) (y : X) → i < length xs → y ≡ get_or xs i y → slice_get xs i ≡ Some y
@@ -46,17 +46,24 @@ leads_same f f' n (p ∷ ps) same leads =
 
 module _ (f : ℕ → ℕ) where
   -- a number that is not 0 names a position below i, from which a shorter chain leads on
-  pub leads_on : (i n : ℕ) (ps : List ℕ) → 0 < n → LeadsAlong f n ps → AllByRecursion (λ p. p < i) ps
-      → (n - 1 < i) × (f (n - 1) < n) × ((rest : List ℕ) × LeadsAlong f (f (n - 1)) rest × AllByRecursion (λ p. p < i) rest)
-  leads_on i n [] some leads below = absurd (omega (arith, some, leads))
-  leads_on i n (p ∷ ps) some leads below =
-      let here : n - 1 ≡ p = omega (arith, leads.0) in
-      rw here (below.0, omega (arith, leads.0, leads.1), (ps, leads.2, below.1))
+  pub leads_on : (n i : ℕ) → ((chain : List ℕ) × IsChain f n i chain) → 0 < n
+      → (n - 1 < i) × (f (n - 1) < n) × ((rest : List ℕ) × IsChain f (f (n - 1)) i rest)
+  leads_on n i ahead some = step ahead.0 ahead.1.leads ahead.1.below
+    where
+      step : (ps : List ℕ) → LeadsAlong f n ps → AllByRecursion (λ p. p < i) ps
+          → (n - 1 < i) × (f (n - 1) < n) × ((rest : List ℕ) × IsChain f (f (n - 1)) i rest)
+      step [] leads below = absurd (omega (arith, some, leads))
+      step (p ∷ ps) leads below =
+          let here : n - 1 ≡ p = omega (arith, leads.0) in
+          rw here (below.0, omega (arith, leads.0, leads.1), (ps, record { leads = leads.2; below = below.1 }))
 
   -- a chain of positions below i begins with a number up to i
-  pub leads_within : (n i : ℕ) (ps : List ℕ) → LeadsAlong f n ps → AllByRecursion (λ p. p < i) ps → n ≤ i
-  leads_within n i [] leads below = omega (arith, leads)
-  leads_within n i (p ∷ ps) leads below = omega (arith, leads.0, below.0)
+  pub leads_within : (n i : ℕ) → ((chain : List ℕ) × IsChain f n i chain) → n ≤ i
+  leads_within n i ahead = first ahead.0 ahead.1.leads ahead.1.below
+    where
+      first : (ps : List ℕ) → LeadsAlong f n ps → AllByRecursion (λ p. p < i) ps → n ≤ i
+      first [] leads below = omega (arith, leads)
+      first (p ∷ ps) leads below = omega (arith, leads.0, below.0)
 
   -- each position of a chain is below its number
   pub leads_below : (n m : ℕ) (ps : List ℕ) → LeadsAlong f n ps → n ≤ m → AllByRecursion (λ p. p < m) ps
@@ -106,10 +113,21 @@ module _ {K : Type 0} (eq : K → K → Bool) (keys : List K) where
       same_there x b p (element_there keys p b within b_is)
       ∙ ap (λ y. eq y b) (some_injective (sym is ∙ element_there keys i a inside a_is))
 
+  -- the start of a walk
+  pub walked_none : (f : ℕ → ℕ) (x : K) (chain : List ℕ) (n : ℕ) → LeadsAlong f n chain → IsWalked eq keys f x chain 0 n
+  walked_none f x chain n leads = record {
+    before = [];
+    rest = chain;
+    split = refl;
+    passed = tt;
+    last = refl;
+    leads = leads;
+  }
+
   -- one step of a walk
-  pub sought_more : (f : ℕ → ℕ) (x : K) (chain : List ℕ) (behind n : ℕ) → IsWalked eq keys f x chain behind n → 0 < n
+  pub walked_more : (f : ℕ → ℕ) (x : K) (chain : List ℕ) (behind n : ℕ) → IsWalked eq keys f x chain behind n → 0 < n
       → same_at eq keys x (n - 1) ≡ false → IsWalked eq keys f x chain n (f (n - 1))
-  sought_more f x chain behind n s some other = step s.before s.rest s.split s.passed s.leads
+  walked_more f x chain behind n s some other = step s.before s.rest s.split s.passed s.leads
     where
       step : (before rest : List ℕ) → chain ≡ before ++ rest → AllByRecursion (λ p. same_at eq keys x p ≡ false) before
           → LeadsAlong f n rest → IsWalked eq keys f x chain n (f (n - 1))

@@ -13,7 +13,7 @@ use Rattle.clru_model.specs.Requests.{IsLatestOf}
 use Rattle.clru_model.proofs.Cases.{split}
 use Rattle.clru_model.proofs.Distinct.{same_right}
 use Rattle.clru_model.proofs.LatestRequests.{latest_more}
-use Rattle.clru_least.specs.Chains.{AreTaken, IsInBucket, IsWalked, LeadsAlong, cut_out, first_behind, first_of, last_number, next_in, number_in, same_at}
+use Rattle.clru_least.specs.Chains.{AreTaken, IsChain, IsInBucket, IsWalked, LeadsAlong, cut_out, first_behind, first_of, last_number, next_in, number_in, same_at}
 use Rattle.clru_least.specs.Passes.{IsForesight}
 use Rattle.clru_least.proofs.ChainWalks.{all_left, all_map, all_right, all_without, first_of_cut, first_of_none, first_of_passed, last_split, leads_below, leads_cut, leads_pair, leads_same, leads_within, same_there}
 use Rattle.clru_least.proofs.Laters.{foresight_length, noted_first, noted_again}
@@ -58,6 +58,14 @@ module _ (ns : List ℕ) (first next behind number p : ℕ) (is : number ≡ suc
 
     first_middle : (if eqb number 0 then first else first_behind ns first behind number) ≡ first
     first_middle = rw (some_test, later_test) refl
+
+-- the chain of a bucket
+pub chain_of : {K : Type 0} (eq : K → K → Bool) (keys : List K) (home : K → ℕ) (i : ℕ) (numbers firsts : List ℕ)
+    (chained : AreTaken eq keys home i numbers firsts) (h : ℕ) → IsChain (number_in numbers) (number_in firsts h) i (chained.chains h)
+chain_of eq keys home i numbers firsts chained h = record {
+  leads = chained.leads h;
+  below = all_map (IsInBucket eq keys home i h) (λ q. q < i) (chained.chains h) (λ q of. of.before) (chained.homed h);
+}
 
 module _ {K : Type 0} (eq : K → K → Bool) (laws : IsEquivalence eq) (keys : List K) (home : K → ℕ)
     (respects : (y z : K) → eq y z ≡ true → home y ≡ home z) where
@@ -137,12 +145,12 @@ module _ {K : Type 0} (eq : K → K → Bool) (laws : IsEquivalence eq) (keys : 
         → ((q : ℕ) → (q ≡ i → ⊥) → number_in numbers' q ≡ number_in numbers q) → AreTaken eq keys home (i + 1) numbers' firsts'
     chained_first none here others =
         let chain = chained.chains (home x) in let f = number_in numbers in let past = reverse (take i keys) in
-        let below = all_map (IsInBucket eq keys home i (home x)) (λ q. q < i) chain (λ q of. of.before) (chained.homed (home x)) in
+        let is = chain_of eq keys home i numbers firsts chained (home x) in
         let many : length chained.nexts ≡ i = foresight_length eq past chained.nexts chained.foresight ∙ length-reverse past ∙ sym past_long in
         chained_with chain (chained.nexts ++ 0 ∷ [])
         (subst (λ n. LeadsAlong (number_in numbers') n chain) (sym here) (leads_same f (number_in numbers') (f' (home x)) chain
-        (all_map (λ q. q < i) (λ q. number_in numbers' q ≡ f q) chain (λ q lt. others q (λ e. omega (arith, e, lt))) below) (chained.leads (home x))))
-        (omega (arith, here, leads_within f (f' (home x)) i chain (chained.leads (home x)) below))
+        (all_map (λ q. q < i) (λ q. number_in numbers' q ≡ f q) chain (λ q lt. others q (λ e. omega (arith, e, lt))) is.below) is.leads))
+        (omega (arith, here, leads_within f (f' (home x)) i (chain, is)))
         (chained.homed (home x))
         (λ z _. refl)
         (λ g q _ of. others q (λ e. omega (arith, e, of.before)))
@@ -250,8 +258,7 @@ module _ {K : Type 0} (eq : K → K → Bool) (laws : IsEquivalence eq) (keys : 
           let long_set = length-set numbers p i in
           let past : number_in numbers' b ≡ f p =
           written_at b (λ e. omega (arith, e, b_inside)) ∙ get_or-set_same (set numbers p i) b (f p) 0 (omega (arith, b_inside, within, long, long_set)) in
-          let low : n ≤ i = leads_within f n i ((bs ++ b ∷ []) ++ p ∷ rest) leads
-          (all_map (IsInBucket eq keys home i (home x)) (λ q. q < i) ((bs ++ b ∷ []) ++ p ∷ rest) (λ q of. of.before) homed) in
+          let low : n ≤ i = leads_within f n i (chained.chains (home x), chain_of eq keys home i numbers firsts chained (home x)) in
           chained_again p (bs ++ b ∷ []) rest parts passed same
           (subst (λ m. LeadsAlong (number_in numbers') m ((bs ++ b ∷ []) ++ rest)) (sym begins)
           (leads_cut f (number_in numbers') i n b p bs rest past (λ q lt nb np. kept q (λ e. omega (arith, e, lt)) nb np) low leads))

@@ -22,6 +22,11 @@ abbrev pub LeadsAlong : (ℕ → ℕ) → ℕ → List ℕ → Type 0
 LeadsAlong f n [] = n ≡ 0
 LeadsAlong f n (p ∷ ps) = (n ≡ suc p) × (f p ≤ p) × LeadsAlong f (f p) ps
 
+-- the same along positions below i
+pub record IsChain (f : ℕ → ℕ) (n i : ℕ) (chain : List ℕ) : Type 0 where
+  pub leads : LeadsAlong f n chain
+  pub below : AllByRecursion (λ p. p < i) chain
+
 -- the position and 1 of the last one, and 0 without any
 abbrev pub last_number : List ℕ → ℕ
 last_number [] = 0

@@ -4,9 +4,9 @@
 //! key of the same bucket. So the chain of a bucket takes no memory but where it begins. A number above its own position is that of the next
 //! request; any other is a link: a position and 1, or 0 at the end.
 ghost use Rattle.std.specs.Prelude.{◌≡◌, ℕ, List, ◌+◌, ◌-◌, ◌^◌, ◌<◌, ◌≤◌, ◌==◌, true, length, reverse, set, if◌then◌else◌, Some, IfOk};
-ghost use Rattle.std.specs.List.{AllByRecursion, slice_get};
+ghost use Rattle.std.specs.List.{slice_get};
 ghost use Rattle.clru_list.specs.Packed.{greatest_by};
-ghost use Rattle.clru_least.specs.Chains.{HasRoom, IsWalked, LeadsAlong, masked_bucket, cut_out, first_behind, next_in, number_in, same_at};
+ghost use Rattle.clru_least.specs.Chains.{HasRoom, IsChain, IsWalked, masked_bucket, cut_out, first_behind, next_in, number_in, same_at};
 ghost use Rattle.clru_least.specs.Passes.{IsForesight};
 
 use clru_list::{NARROW, PackedNumbers};
@@ -56,10 +56,9 @@ impl<A: Allocator + Copy> Chains<A> {
     fn find<K: Eq>(&self, keys: &[K], position: usize, first: usize) -> (usize, usize)
         requires position { position < length keys.now }
         requires room { length self.now.numbers.numbers ≡ length keys.now }
-        requires chain { (chain : List ℕ) × LeadsAlong (number_in self.now.numbers.numbers) first chain
-            × AllByRecursion (λ p. p < position) chain }
-        ensures sought { (chain : List ℕ) (x : K) → LeadsAlong (number_in self.now.numbers.numbers) first chain
-            → AllByRecursion (λ p. p < position) chain → slice_get keys.now position ≡ Some x
+        requires chain { (chain : List ℕ) × IsChain (number_in self.now.numbers.numbers) first position chain }
+        ensures sought { (chain : List ℕ) (x : K) → IsChain (number_in self.now.numbers.numbers) first position chain
+            → slice_get keys.now position ≡ Some x
             → IsWalked K.eq keys.now (number_in self.now.numbers.numbers) x chain result.0 result.1 }
         ensures same { (x : K) → slice_get keys.now position ≡ Some x → 0 < result.1
             → same_at K.eq keys.now x (result.1 - 1) ≡ true }

@@ -1,8 +1,8 @@
-use Rattle.std.proofs.Common.{◌≡◌, ℕ, ◌+◌, ◌<◌, fold, Some, sym, ap, ◌∙◌, subst, arith}
+use Rattle.std.proofs.Common.{◌≡◌, ℕ, ◌+◌, fold, Some, sym, ap, ◌∙◌, subst, arith}
 use Rattle.std.specs.List.{slice_get}
 use Rattle.clru_least.specs.Chains.{AreTaken, HasRoom, masked_bucket, number_in}
-use Rattle.clru_least.proofs.ChainWalks.{all_map, element_there, leads_within}
-use Rattle.clru_least.proofs.Chained.{chained_at, chained_none, foresight_of}
+use Rattle.clru_least.proofs.ChainWalks.{element_there, leads_within}
+use Rattle.clru_least.proofs.Chained.{chain_of, chained_at, chained_none, foresight_of}
 use Rattle.clru_least.proofs.chains.next_requests.Goals as goal
 
 pub get-first-requires : goal.get-first-requires
@@ -17,17 +17,13 @@ loop-position-init g c = record {
 
 pub find-behind-requires-clause-chain : goal.find-behind-requires-clause-chain
 find-behind-requires-clause-chain g c =
-    let chained = c.loop-position.invariant.chained in let h = c.bucket_of-bucket.result in (
-      chained.chains h,
-      rw c.get-first.ensures.number (chained.leads h),
-      all_map _ (λ p. p < c.loop-position.position) (chained.chains h) (λ q of. of.before) (chained.homed h),
-    )
+    let chained = c.loop-position.invariant.chained in let h = c.bucket_of-bucket.result in
+    (chained.chains h, rw c.get-first.ensures.number (chain_of _ _ _ _ _ _ chained h))
 
 pub link-requires-clause-first : goal.link-requires-clause-first
 link-requires-clause-first g c =
     let chained = c.loop-position.invariant.chained in let h = c.bucket_of-bucket.result in
-    leads_within (number_in c.loop-position.chains.numbers.numbers) _ c.loop-position.position (chained.chains h) (chained.leads h)
-    (all_map _ (λ p. p < c.loop-position.position) (chained.chains h) (λ q of. of.before) (chained.homed h))
+    leads_within (number_in c.loop-position.chains.numbers.numbers) _ c.loop-position.position (chained.chains h, chain_of _ _ _ _ _ _ chained h)
 
 pub loop-position-preserved : goal.loop-position-preserved
 loop-position-preserved g c =
@@ -36,7 +32,6 @@ loop-position-preserved g c =
     let bucket = λ (m : ℕ) (k : g.row.K.Denot).
     masked_bucket m (g.S.Hasher.Hasher.finish (fold g.S.Hasher.Hasher.write (g.S.BuildHasher.build_hasher c.args.hash_builder.now) (g.K.Hash.hash_input k))) in
     let at : slice_get keys i ≡ Some x = element_there keys i x c.loop-position-test.true c.index-keys-position.is in
-    let below = all_map _ (λ p. p < i) (chained.chains h) (λ q of. of.before) (chained.homed h) in
     record {
       chained = subst (λ m. AreTaken eq keys (bucket m) (i + 1) c.link.new.self.numbers.numbers c.link.new.self.firsts.numbers) (sym c.link.ensures.mask)
           (chained_at eq g.met.K.Eq.laws keys (bucket mask)
@@ -47,7 +42,7 @@ loop-position-preserved g c =
           c.loop-position-test.true c.loop-position.invariant.room.numbers
           (omega (arith, c.bucket_of-bucket.ensures.within, c.loop-position.invariant.room.firsts)) c.link.ensures.firsts
           (c.link.ensures.here (chained.blank i (omega arith))) c.link.ensures.others
-          (c.find-behind.ensures.sought (chained.chains h) x (rw c.get-first.ensures.number (chained.leads h)) below at) (c.find-behind.ensures.same x at));
+          (c.find-behind.ensures.sought (chained.chains h) x (rw c.get-first.ensures.number (chain_of _ _ _ _ _ _ chained h)) at) (c.find-behind.ensures.same x at));
       room = subst (λ n. HasRoom n c.link.new.self) c.loop-position.invariant.room.numbers c.link.ensures.room;
       narrow = λ few. c.link.ensures.greatest ∙ c.loop-position.invariant.narrow few;
     }

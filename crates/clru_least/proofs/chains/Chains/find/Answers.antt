@@ -1,62 +1,42 @@
 use Rattle.std.proofs.Common.{◌-◌, ◌<◌, sym, ◌∙◌, arith}
 use Rattle.std.proofs.lemmas.Bool.{not-false, not-true}
 use Rattle.clru_least.specs.Chains.{number_in}
-use Rattle.clru_least.proofs.ChainWalks.{leads_on, leads_within, same_read, sought_more}
+use Rattle.clru_least.proofs.ChainWalks.{leads_on, leads_within, same_read, walked_more, walked_none}
 use Rattle.clru_least.proofs.chains.Chains.find.Goals as goal
 
-pub offset_bounds-keys-number : goal.offset_bounds-keys-number
-offset_bounds-keys-number g c =
-    let ahead = c.chain.invariant.ahead in
-    let on = leads_on (number_in c.args.self.now.numbers.numbers) c.args.position c.chain.number ahead.0 (omega (arith, c.chain-test.true)) ahead.1 ahead.2 in
-    omega (arith, on.0, c.requires.position)
-
-pub bounds-keys-number : goal.bounds-keys-number
-bounds-keys-number g c =
-    let ahead = c.chain.invariant.ahead in
-    let on = leads_on (number_in c.args.self.now.numbers.numbers) c.args.position c.chain.number ahead.0 (omega (arith, c.chain-test.true)) ahead.1 ahead.2 in
-    omega (arith, on.0, c.requires.position)
-
-pub get-number-requires : goal.get-number-requires
-get-number-requires g c =
-    let ahead = c.chain.invariant.ahead in
-    let on = leads_on (number_in c.args.self.now.numbers.numbers) c.args.position c.chain.number ahead.0 (omega (arith, c.chain-test.true)) ahead.1 ahead.2 in
-    omega (arith, on.0, c.requires.position, c.requires.room)
-
-pub chain-smaller : goal.chain-smaller
-chain-smaller g c =
-    let ahead = c.chain.invariant.ahead in
-    let on = leads_on (number_in c.args.self.now.numbers.numbers) c.args.position c.chain.number ahead.0 (omega (arith, c.chain-test.true)) ahead.1 ahead.2 in
-    omega (arith, on.1, c.get-number.ensures.number)
+pub chain-init : goal.chain-init
+chain-init g c =
+    let f = number_in c.args.self.now.numbers.numbers in let ahead = c.requires.chain in
+    record {
+      sought = λ chain x is _. walked_none g.K.PartialEq.eq c.args.keys.now f x chain c.args.first is.leads;
+      behind = omega arith;
+      found = leads_within f c.args.first c.args.position ahead;
+      link = λ some. (leads_on f c.args.first c.args.position ahead some).1;
+      ahead = ahead;
+    }
 
 pub chain-preserved : goal.chain-preserved
 chain-preserved g c =
-    let ahead = c.chain.invariant.ahead in let eq = g.K.PartialEq.eq in let keys = c.args.keys.now in
+    let eq = g.K.PartialEq.eq in let keys = c.args.keys.now in let i = c.args.position in
     let f = number_in c.args.self.now.numbers.numbers in let n = c.chain.number in
     let some : 0 < n = omega (arith, c.chain-test.true) in
-    let on = leads_on f c.args.position n ahead.0 some ahead.1 ahead.2 in
+    let on = leads_on f n i c.chain.invariant.ahead some in
     rw c.get-number.ensures.number
     record {
-      sought = λ chain x leads below is.
-          sought_more eq keys f x chain c.chain.behind n (c.chain.invariant.sought chain x leads below is) some
-          (same_read eq keys x c.index-keys-position.result c.index-keys-number.result c.args.position (n - 1) is c.requires.position
+      sought = λ chain x leads is.
+          walked_more eq keys f x chain c.chain.behind n (c.chain.invariant.sought chain x leads is) some
+          (same_read eq keys x c.index-keys-position.result c.index-keys-number.result i (n - 1) is c.requires.position
           c.index-keys-position.is (omega (arith, on.0, c.requires.position)) c.index-keys-number.is
           ∙ not-true (eq c.index-keys-position.result c.index-keys-number.result) (sym c.ne.ensures ∙ c.if-ne.true));
-      behind = leads_within f n c.args.position ahead.0 ahead.1 ahead.2;
+      behind = c.chain.invariant.found;
+      found = leads_within f (f (n - 1)) i on.2;
+      link = λ more. (leads_on f (f (n - 1)) i on.2 more).1;
       ahead = on.2;
     }
 
 pub returns-else-ne-clause-same : goal.returns-else-ne-clause-same
 returns-else-ne-clause-same g c x is some =
-    let ahead = c.chain.invariant.ahead in let eq = g.K.PartialEq.eq in let n = c.chain.number in
-    let on = leads_on (number_in c.args.self.now.numbers.numbers) c.args.position n ahead.0 some ahead.1 ahead.2 in
+    let eq = g.K.PartialEq.eq in let n = c.chain.number in
     same_read eq c.args.keys.now x c.index-keys-position.result c.index-keys-number.result c.args.position (n - 1) is c.requires.position
-    c.index-keys-position.is (omega (arith, on.0, c.requires.position)) c.index-keys-number.is
+    c.index-keys-position.is (omega (arith, some, c.chain.invariant.found, c.requires.position)) c.index-keys-number.is
     ∙ not-false (eq c.index-keys-position.result c.index-keys-number.result) (sym c.ne.ensures ∙ c.if-ne.false)
-
-pub returns-else-ne-clause-found : goal.returns-else-ne-clause-found
-returns-else-ne-clause-found g c =
-    let ahead = c.chain.invariant.ahead in leads_within (number_in c.args.self.now.numbers.numbers) c.chain.number c.args.position ahead.0 ahead.1 ahead.2
-
-pub returns-else-ne-clause-link : goal.returns-else-ne-clause-link
-returns-else-ne-clause-link g c some =
-    let ahead = c.chain.invariant.ahead in (leads_on (number_in c.args.self.now.numbers.numbers) c.args.position c.chain.number ahead.0 some ahead.1 ahead.2).1
