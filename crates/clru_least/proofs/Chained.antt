@@ -81,6 +81,10 @@ module _ {K : Type 0} (eq : K → K → Bool) (laws : IsEquivalence eq) (keys : 
     pub past_long : i ≡ length (reverse (take i keys))
     past_long = omega (arith, length-reverse (take i keys), length-take-le i keys (omega (arith, within)))
 
+    nexts_long : length chained.nexts ≡ i
+    nexts_long =
+        foresight_length eq (reverse (take i keys)) chained.nexts chained.foresight ∙ length-reverse (reverse (take i keys)) ∙ sym past_long
+
     first_here : (g : ℕ) → home x ≡ g → number_in firsts' g ≡ suc i
     first_here g is = let e = ap (λ l. get_or l g 0) written ∙ get_or-set_at firsts (home x) g (i + 1) 0 (sym is) led in omega (arith, e)
 
@@ -146,7 +150,6 @@ module _ {K : Type 0} (eq : K → K → Bool) (laws : IsEquivalence eq) (keys : 
     chained_first none here others =
         let chain = chained.chains (home x) in let f = number_in numbers in let past = reverse (take i keys) in
         let is = chain_of eq keys home i numbers firsts chained (home x) in
-        let many : length chained.nexts ≡ i = foresight_length eq past chained.nexts chained.foresight ∙ length-reverse past ∙ sym past_long in
         chained_with chain (chained.nexts ++ 0 ∷ [])
         (subst (λ n. LeadsAlong (number_in numbers') n chain) (sym here) (leads_same f (number_in numbers') (f' (home x)) chain
         (all_map (λ q. q < i) (λ q. number_in numbers' q ≡ f q) chain (λ q lt. others q (λ e. omega (arith, e, lt))) is.below) is.leads))
@@ -156,8 +159,8 @@ module _ {K : Type 0} (eq : K → K → Bool) (laws : IsEquivalence eq) (keys : 
         (λ g q _ of. others q (λ e. omega (arith, e, of.before)))
         (noted_first eq laws past chained.nexts chained.foresight x (first_of eq keys x chain) (chained.latest x) (chained.nexts ++ 0 ∷ []) none refl)
         (λ q lt. next_same numbers numbers' q (others q (λ e. omega (arith, e, lt))) ∙ chained.same q lt
-        ∙ sym (get_or-append chained.nexts (0 ∷ []) 0 q (omega (arith, lt, many))))
-        (get_or_push chained.nexts 0 0 i many)
+        ∙ sym (get_or-append chained.nexts (0 ∷ []) 0 q (omega (arith, lt, nexts_long))))
+        (get_or_push chained.nexts 0 0 i nexts_long)
         (λ q lt. others q (λ e. omega (arith, e, lt)) ∙ chained.blank q (omega (arith, lt)))
       where
         f' : ℕ → ℕ
@@ -172,25 +175,24 @@ module _ {K : Type 0} (eq : K → K → Bool) (laws : IsEquivalence eq) (keys : 
         → ((q : ℕ) → i < q → number_in numbers' q ≡ number_in numbers q) → AreTaken eq keys home (i + 1) numbers' firsts'
     chained_again p before rest parts passed same front low taken kept others behind =
         let past = reverse (take i keys) in
-        let many : length chained.nexts ≡ i = foresight_length eq past chained.nexts chained.foresight ∙ length-reverse past ∙ sym past_long in
         let homed = subst (λ l. AllByRecursion (IsInBucket eq keys home i (home x)) l) parts (chained.homed (home x)) in
         let of = (all_right (IsInBucket eq keys home i (home x)) before (p ∷ rest) homed).0 in
         let some : first_of eq keys x (chained.chains (home x)) ≡ Some p =
         ap (first_of eq keys x) parts ∙ first_of_passed eq keys x p before rest passed same in
         let pushed = chained.nexts ++ 0 ∷ [] in
-        let long : length pushed ≡ i + 1 = length-append chained.nexts (0 ∷ []) ∙ ap (λ n. n + 1) many in
+        let long : length pushed ≡ i + 1 = length-append chained.nexts (0 ∷ []) ∙ ap (λ n. n + 1) nexts_long in
         chained_with (before ++ rest) (set pushed p i) front low
         (all_without (IsInBucket eq keys home i (home x)) before p rest homed)
         (λ z apart. first_of_cut eq keys z p before rest (other_key z apart) ∙ ap (first_of eq keys z) (sym parts))
         others
         (noted_again eq laws past chained.nexts chained.foresight x (first_of eq keys x (chained.chains (home x))) (chained.latest x) p some i pushed (set pushed p i)
-        (sym many) refl refl)
+        (sym nexts_long) refl refl)
         (λ q lt. split (eqb q p)
         (λ t. subst (λ k. next_in numbers' k ≡ number_in (set pushed p i) k) (sym (eqb-true q p t))
         (next_above numbers' p i taken of.before ∙ sym (get_or-set_same pushed p i 0 (omega (arith, of.before, long)))))
-        (λ e. let not_p = eqb-false q p e in kept q lt not_p ∙ chained.same q lt ∙ sym (get_or-append chained.nexts (0 ∷ []) 0 q (omega (arith, lt, many)))
+        (λ e. let not_p = eqb-false q p e in kept q lt not_p ∙ chained.same q lt ∙ sym (get_or-append chained.nexts (0 ∷ []) 0 q (omega (arith, lt, nexts_long)))
         ∙ sym (get_or-set_other pushed p q i 0 not_p)))
-        (get_or-set_other pushed p i i 0 (λ e. omega (arith, e, of.before)) ∙ get_or_push chained.nexts 0 0 i many)
+        (get_or-set_other pushed p i i 0 (λ e. omega (arith, e, of.before)) ∙ get_or_push chained.nexts 0 0 i nexts_long)
         (λ q lt. behind q lt ∙ chained.blank q (omega (arith, lt)))
       where
         other_key : (z : K) → eq z x ≡ false → same_at eq keys z p ≡ false
