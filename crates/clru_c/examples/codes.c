@@ -181,7 +181,7 @@ static const struct {
     size_t requests, bytes;
 } needs[9] = {{"hits", 3, 644}, {"misses", 20, 24752}, {"misses by size", 36, 67760}, {"floors", 33, 39176}, {"floors by size", 35, 56920},
               {"parts", 39, 44768}, {"greatest sizes", 24, 17960}, {"another size", 24, 17960},
-              {"least", 28, 20120}};
+              {"least", 5, 2672}};
 
 /* Refuses each request for memory in turn with all behind it, until the call meets no refusal. */
 static void code_of_refused_memory(uint64_t low) {

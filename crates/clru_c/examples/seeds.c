@@ -9,7 +9,7 @@
 /* Of a call with such keys: more than so many times as long as with others. */
 #define SLOWER 5
 
-/* From the fourth on a call has a table of std. */
+/* From the fifth on a call has a table of std. */
 enum { HITS, CURVE, BY_SIZE, LEAST, FLOOR, FLOOR_BY_SIZE, GREATEST, OTHER };
 
 typedef struct {
@@ -75,13 +75,13 @@ static uint64_t fixed(const uint64_t *words, size_t count) {
 }
 
 /* Whether a key shares its place in the table of a call with each other one of which that is so. A cache takes the lowest bits of
- * the hash of a key for its buckets, which are fewer than these, and by size those of an object. Std's table takes both halves
- * joined, of these the lowest bits for a group, and the highest for a tag. */
+ * the hash of a key for its buckets, which are fewer than these, as the least does, and by size those of an object. Std's table takes
+ * both halves joined, of these the lowest bits for a group, and the highest for a tag. */
 static bool shares_place(int which, Seed seed, uint64_t key) {
     const uint64_t words[2] = {key, 1};
     size_t count = which == BY_SIZE || which == FLOOR_BY_SIZE ? 2 : 1;
     uint64_t hash = seed.low || seed.high ? sip(seed, words, count) : fixed(words, count);
-    return which >= LEAST ? ((hash ^ hash >> 32) & 0xff00007fu) == 0x35000000u : hash % 4096 == 0;
+    return which >= FLOOR ? ((hash ^ hash >> 32) & 0xff00007fu) == 0x35000000u : hash % 4096 == 0;
 }
 
 static void find(int which, Seed seed, uint64_t keys[KEYS]) {
