@@ -1,7 +1,7 @@
 -- A tree of nodes above counts: the same counts, and one more node.
-use Rattle.std.proofs.Common.{◌≡◌, ℕ, zero, suc, ◌+◌, List, [], ◌∷◌, ◌++◌, length, get_or, replicate, inl, inr, refl, sym, ap, ◌∙◌, arith}
+use Rattle.std.proofs.Common.{◌≡◌, ℕ, zero, suc, ◌+◌, List, [], ◌∷◌, ◌++◌, length, get_or, set, replicate, inl, inr, refl, sym, ap, ◌∙◌, arith, length-set}
 use Rattle.std.proofs.lemmas.Bool.{cases_lt}
-use Rattle.std.proofs.lemmas.List.{get_or_past, length_push}
+use Rattle.std.proofs.lemmas.List.{get_or_past, get_or-set_other, length_push}
 use Rattle.clru_curve.specs.Tree.{node_after, IsCounted}
 use Rattle.clru_curve.proofs.Nodes.{node_after-greater}
 
@@ -16,6 +16,15 @@ pub IsCounted-same : (f g : ℕ → ℕ) (nodes : List ℕ) → ((j : ℕ) → f
 IsCounted-same f g nodes same is = record {
   node = λ j some within. ap (λ n. get_or nodes j 0 + n) (sym (same (node_after j))) ∙ is.node j some within ∙ same j;
   none = λ j far. sym (same j) ∙ is.none j far;
+}
+
+-- the first node is above no count
+pub IsCounted-first : (f : ℕ → ℕ) (nodes : List ℕ) (n : ℕ) → IsCounted f nodes → IsCounted f (set nodes 0 n)
+IsCounted-first f nodes n is = record {
+  node = λ j some within.
+      ap (λ k. k + f (node_after j)) (get_or-set_other nodes 0 j n 0 (λ same. omega (arith, same, some)))
+      ∙ is.node j some (omega (arith, within, length-set nodes 0 n));
+  none = λ j far. is.none j (omega (arith, far, length-set nodes 0 n));
 }
 
 -- one more node, above nothing yet

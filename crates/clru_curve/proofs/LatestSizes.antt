@@ -1,15 +1,15 @@
 -- Sums of sizes, by index and by number, and what one more size and one less keep of them and of the nodes.
-use Rattle.std.proofs.Common.{◌≡◌, ℕ, zero, suc, ◌+◌, ◌*◌, ◌/◌, ◌<◌, ◌≤◌, true, false, cond, List, [], ◌∷◌, ◌++◌, length, set, take, inl, inr, refl, sym, ap, ◌∙◌, subst, arith, length-set}
+use Rattle.std.proofs.Common.{◌≡◌, ℕ, zero, suc, ◌+◌, ◌*◌, ◌/◌, ◌%◌, ◌<◌, ◌≤◌, true, false, cond, List, [], ◌∷◌, ◌++◌, length, set, take, inl, inr, refl, sym, ap, ◌∙◌, subst, arith, length-set}
 use Rattle.std.proofs.lemmas.Bool.{cases_lt}
 use Rattle.std.proofs.lemmas.Nat.{mod_below, div-add-mod'}
 use Rattle.std.proofs.lemmas.List.{length_push}
 use Rattle.std.specs.List.{filter}
 use Rattle.clru_model.proofs.Cases.{split}
 use Rattle.clru_curve.specs.declared.numbered.Numbered.{Numbered}
-use Rattle.clru_curve.specs.LatestSizes.{sizes_from, total_from, live_from, IsSummed, IsRemoved}
+use Rattle.clru_curve.specs.LatestSizes.{sizes_from, total_from, live_from, full_from, open_in, AreSums, IsSummed, IsRemoved}
 use Rattle.clru_curve.specs.Rising.{numbered, has_value, number_at, value_at, IsRising}
-use Rattle.clru_curve.specs.Tree.{up_by, up_to, Falls, IsCounted}
-use Rattle.clru_curve.proofs.Counted.{IsCounted-same, IsCounted-push}
+use Rattle.clru_curve.specs.Tree.{up_by, up_to, Falls}
+use Rattle.clru_curve.proofs.Counted.{IsCounted-push, get_or_push}
 use Rattle.clru_curve.proofs.Nodes.{falls_far}
 use Rattle.clru_curve.proofs.Rising.{rising_at, rising_order, rising_push, rising_set, rising_filter}
 use Rattle.clru_curve.proofs.UpTo.{up_by-le, up_by-gt}
@@ -100,6 +100,136 @@ module _ (ss : List Numbered) (at end more : ℕ) (order : at ≤ end) (one_bloc
   take_fits j = elim (cases_lt at (8 * j)) [
     | inl gt ↦ omega (arith, sizes_take-ge ss at (8 * j) (omega (arith, gt)), sizes_few ss at, sum)
     | inr le ↦ omega (arith, sizes_take-le ss at (8 * j) le, sizes_few ss (8 * j), sum)
+  ]
+
+-- the full blocks and the one that is not
+pub full_fall : (ss : List Numbered) → Falls (full_from ss)
+full_fall ss j = omega (arith, blocks_fall ss j)
+
+pub full_few : (ss : List Numbered) (j : ℕ) → full_from ss j + open_in ss ≤ sizes_from ss 0
+full_few ss j = omega (arith, sizes_few ss (8 * j), sizes_few ss (8 * (length ss / 8)))
+
+pub full_open : (ss : List Numbered) (j : ℕ) → j ≤ length ss / 8 → full_from ss j + open_in ss ≡ sizes_from ss (8 * j)
+full_open ss j le = omega (arith, falls_far (sizes_from ss) (sizes_fall ss) (8 * j) (8 * (length ss / 8)) (omega (arith, le)))
+
+pub full_past : (ss : List Numbered) (j : ℕ) → length ss / 8 ≤ j → full_from ss j ≡ 0
+full_past ss j past = omega (arith, falls_far (sizes_from ss) (sizes_fall ss) (8 * (length ss / 8)) (8 * j) (omega (arith, past)))
+
+-- from the first sizes, as many as the full blocks have
+pub full_take : (ss : List Numbered) (j : ℕ) → sizes_from (take (8 * (length ss / 8)) ss) (8 * j) ≡ full_from ss j
+full_take ss j = elim (cases_lt (length ss / 8) j) [
+  | inl past ↦ omega (
+    arith,
+    sizes_take-ge ss (8 * (length ss / 8)) (8 * j) (omega (arith, past)),
+    full_past ss j (omega (arith, past)),
+  )
+  | inr le ↦ omega (arith, sizes_take-le ss (8 * (length ss / 8)) (8 * j) (omega (arith, le)))
+]
+
+-- one more size at the end
+module _ (ss : List Numbered) (m v : ℕ) where
+  long : length (ss ++ numbered m v ∷ []) ≡ length ss + 1
+  long = omega (arith, length_push ss (numbered m v))
+
+  same_block : length ss % 8 < 7 → length (ss ++ numbered m v ∷ []) / 8 ≡ length ss / 8
+  same_block few =
+      let n = length (ss ++ numbered m v ∷ []) in
+      omega (arith, long, few, div-add-mod' (length ss) 8, div-add-mod' n 8, mod_below n 8 (omega arith))
+
+  next_block : length ss % 8 ≡ 7 → length (ss ++ numbered m v ∷ []) / 8 ≡ suc (length ss / 8)
+  next_block last =
+      let n = length (ss ++ numbered m v ∷ []) in
+      omega (arith, long, last, div-add-mod' (length ss) 8, div-add-mod' n 8, mod_below n 8 (omega arith))
+
+  before_end : 8 * (length ss / 8) ≤ length ss
+  before_end = omega (arith, div-add-mod' (length ss) 8)
+
+  pub open_push : length ss % 8 < 7 → open_in (ss ++ numbered m v ∷ []) ≡ open_in ss + v
+  open_push few = omega (
+    arith,
+    ap (λ b. sizes_from (ss ++ numbered m v ∷ []) (8 * b)) (same_block few),
+    sizes_push ss m v (8 * (length ss / 8)),
+    up_by-le v (8 * (length ss / 8)) (length ss) before_end,
+  )
+
+  pub full_push : length ss % 8 < 7 → (j : ℕ) → full_from (ss ++ numbered m v ∷ []) j ≡ full_from ss j
+  full_push few j = elim (cases_lt (length ss) (8 * j)) [
+    | inl gt ↦ omega (arith, open_push few, sizes_push ss m v (8 * j), up_by-gt v (8 * j) (length ss) gt, sizes_none ss (8 * j) (omega (arith, gt)))
+    | inr le ↦ omega (arith, open_push few, sizes_push ss m v (8 * j), up_by-le v (8 * j) (length ss) le)
+  ]
+
+  -- which fills a block
+  pub open_fill : length ss % 8 ≡ 7 → open_in (ss ++ numbered m v ∷ []) ≡ 0
+  open_fill last = sizes_none (ss ++ numbered m v ∷ []) (8 * (length (ss ++ numbered m v ∷ []) / 8))
+      (omega (arith, long, last, next_block last, div-add-mod' (length ss) 8))
+
+  pub full_fill : length ss % 8 ≡ 7 → (j : ℕ)
+      → full_from (ss ++ numbered m v ∷ []) j ≡ full_from ss j + up_by (open_in ss + v) j (length ss / 8)
+  full_fill last j = elim (cases_lt (length ss / 8) j) [
+    | inl gt ↦ omega (
+      arith,
+      full_past ss j (omega (arith, gt)),
+      full_past (ss ++ numbered m v ∷ []) j (omega (arith, gt, next_block last)),
+      up_by-gt (open_in ss + v) j (length ss / 8) gt,
+    )
+    | inr le ↦ omega (
+      arith,
+      full_open ss j le,
+      open_fill last,
+      sizes_push ss m v (8 * j),
+      up_by-le v (8 * j) (length ss) (omega (arith, le, before_end)),
+      up_by-le (open_in ss + v) j (length ss / 8) le,
+    )
+  ]
+
+-- one size less
+module _ (ss : List Numbered) (i m : ℕ) (inside : i < length ss) where
+  same_end : open_in (set ss i (numbered m 0)) ≡ sizes_from (set ss i (numbered m 0)) (8 * (length ss / 8))
+  same_end = ap (λ n. sizes_from (set ss i (numbered m 0)) (8 * (n / 8))) (length-set ss i (numbered m 0))
+
+  at_end : open_in ss ≡ open_in (set ss i (numbered m 0)) + up_by (value_at ss i) (length ss / 8) (i / 8)
+  at_end = omega (
+    arith,
+    same_end,
+    sizes_clear ss i m (8 * (length ss / 8)) inside,
+    up_by-block (value_at ss i) (length ss / 8) i,
+  )
+
+  at_block : (j : ℕ) → sizes_from ss (8 * j) ≡ sizes_from (set ss i (numbered m 0)) (8 * j) + up_by (value_at ss i) j (i / 8)
+  at_block j = omega (arith, sizes_clear ss i m (8 * j) inside, up_by-block (value_at ss i) j i)
+
+  cleared_past : (j : ℕ) → length ss / 8 ≤ j → full_from (set ss i (numbered m 0)) j ≡ 0
+  cleared_past j past = full_past (set ss i (numbered m 0)) j
+      (subst (λ n. n / 8 ≤ j) (sym (length-set ss i (numbered m 0))) past)
+
+  -- of a full block
+  pub open_kept : i / 8 < length ss / 8 → open_in (set ss i (numbered m 0)) ≡ open_in ss
+  open_kept full = omega (arith, at_end, up_by-gt (value_at ss i) (length ss / 8) (i / 8) full)
+
+  pub full_clear : i / 8 < length ss / 8 → (j : ℕ) → full_from ss j ≡ full_from (set ss i (numbered m 0)) j + up_by (value_at ss i) j (i / 8)
+  full_clear full j = elim (cases_lt (length ss / 8) j) [
+    | inl gt ↦ omega (
+      arith,
+      full_past ss j (omega (arith, gt)),
+      cleared_past j (omega (arith, gt)),
+      up_by-gt (value_at ss i) j (i / 8) (omega (arith, gt, full)),
+    )
+    | inr le ↦ omega (
+      arith,
+      open_kept full,
+      at_block j,
+      full_open (set ss i (numbered m 0)) j (subst (λ n. j ≤ n / 8) (sym (length-set ss i (numbered m 0))) le),
+    )
+  ]
+
+  -- of the other one
+  pub open_clear : length ss / 8 ≤ i / 8 → open_in ss ≡ open_in (set ss i (numbered m 0)) + value_at ss i
+  open_clear behind = omega (arith, at_end, up_by-le (value_at ss i) (length ss / 8) (i / 8) behind)
+
+  pub full_kept : length ss / 8 ≤ i / 8 → (j : ℕ) → full_from ss j ≡ full_from (set ss i (numbered m 0)) j
+  full_kept behind j = elim (cases_lt (length ss / 8) j) [
+    | inl gt ↦ omega (arith, full_past ss j (omega (arith, gt)), cleared_past j (omega (arith, gt)))
+    | inr le ↦ omega (arith, open_clear behind, at_block j, up_by-le (value_at ss i) j (i / 8) (omega (arith, le, behind)))
   ]
 
 -- the same by number
@@ -252,7 +382,7 @@ same_place ss high i j is in_i in_j same = elim (cases_lt i j) [
 
 pub IsSummed-none : IsSummed [] [] 0
 IsSummed-none = record {
-  counted = record { node = λ j some within. omega (arith, within); none = λ j far. refl };
+  sums = record { counted = record { node = λ j some within. omega (arith, within); none = λ j far. refl }; last = refl };
   covers = omega arith;
   tight = omega arith;
   rising = omega arith;
@@ -260,53 +390,39 @@ IsSummed-none = record {
 
 pub IsSummed-node : (ss : List Numbered) (nodes : List ℕ) (n : ℕ) → IsSummed ss nodes n → length nodes ≤ length ss / 8 → IsSummed ss (nodes ++ 0 ∷ []) n
 IsSummed-node ss nodes n kept full = record {
-  counted = IsCounted-push _ nodes kept.counted;
+  sums = record { counted = IsCounted-push _ nodes kept.sums.counted; last = get_or_push nodes 0 ∙ kept.sums.last };
   covers = omega (arith, length_push nodes 0, kept.covers);
   tight = omega (arith, length_push nodes 0, full, div-add-mod' (length ss) 8);
   rising = kept.rising;
 }
 
 module _ (ss : List Numbered) (nodes : List ℕ) (n : ℕ) (kept : IsSummed ss nodes n) where
-  -- a size's block has a node
-  pub block_inside : (p : ℕ) → p < 8 * length nodes → p / 8 < length nodes
-  block_inside p within = omega (arith, div-add-mod' p 8, within)
-
-  pub IsSummed-push : (v k : ℕ) (nodes' : List ℕ) → k ≡ length ss → length nodes' ≡ length nodes → length ss < 8 * length nodes
-      → IsCounted (λ j. sizes_from ss (8 * j) + up_by v j (k / 8)) nodes' → IsSummed (ss ++ numbered n v ∷ []) nodes' (n + 1)
-  IsSummed-push v k nodes' all same room counted = record {
-    counted = IsCounted-same _ _ nodes' (λ j. let p = sizes_push ss n v (8 * j) in let b = up_by-block v j k in
-        let u = ap (λ i. up_by v (8 * j) i) all in
-        let e : sizes_from ss (8 * j) + up_by v j (k / 8) ≡ sizes_from (ss ++ numbered n v ∷ []) (8 * j) = omega (arith, p, b, u) in e) counted;
+  pub IsSummed-push : (v : ℕ) (nodes' : List ℕ) → length nodes' ≡ length nodes → length ss < 8 * length nodes
+      → AreSums (ss ++ numbered n v ∷ []) nodes' → IsSummed (ss ++ numbered n v ∷ []) nodes' (n + 1)
+  IsSummed-push v nodes' same room sums = record {
+    sums = sums;
     covers = omega (arith, same, length_push ss (numbered n v), room);
     tight = omega (arith, same, length_push ss (numbered n v), kept.tight);
     rising = let one : suc n ≡ n + 1 = omega arith in subst (IsRising 0 (ss ++ numbered n v ∷ [])) one (rising_push 0 ss n v kept.rising);
   }
 
-  pub IsSummed-filter : (nodes' : List ℕ) → IsCounted (λ j. sizes_from (filter has_value ss) (8 * j)) nodes'
+  pub IsSummed-filter : (nodes' : List ℕ) → AreSums (filter has_value ss) nodes'
       → length (filter has_value ss) ≤ 8 * length nodes' → 8 * length nodes' ≤ length (filter has_value ss) + 8 → IsSummed (filter has_value ss) nodes' n
-  IsSummed-filter nodes' counted covers tight = record {
-    counted = counted;
+  IsSummed-filter nodes' sums covers tight = record {
+    sums = sums;
     covers = covers;
     tight = tight;
     rising = rising_filter 0 ss n kept.rising;
   }
 
-  module _ (p : ℕ) (inside : p < length ss) where
-    -- the nodes as they were sum one size more
-    pub clear_counted : (size : ℕ) → size ≡ value_at ss p
-        → IsCounted (λ j. sizes_from (set ss p (numbered (number_at ss p) 0)) (8 * j) + up_by size j (p / 8)) nodes
-    clear_counted size is = IsCounted-same _ _ nodes (λ j. let s = sizes_clear ss p (number_at ss p) (8 * j) inside in let b = up_by-block size j p in
-        let u = ap (λ a. up_by a (8 * j) p) is in
-        let e : sizes_from ss (8 * j) ≡ sizes_from (set ss p (numbered (number_at ss p) 0)) (8 * j) + up_by size j (p / 8) = omega (arith, s, b, u) in e) kept.counted
-
-    pub IsSummed-clear : (nodes' : List ℕ) → length nodes' ≡ length nodes → IsCounted (λ j. sizes_from (set ss p (numbered (number_at ss p) 0)) (8 * j)) nodes'
-        → IsSummed (set ss p (numbered (number_at ss p) 0)) nodes' n
-    IsSummed-clear nodes' same counted = record {
-      counted = counted;
-      covers = omega (arith, same, length-set ss p (numbered (number_at ss p) 0), kept.covers);
-      tight = omega (arith, same, length-set ss p (numbered (number_at ss p) 0), kept.tight);
-      rising = rising_set 0 ss n p 0 kept.rising;
-    }
+  pub IsSummed-clear : (p : ℕ) (nodes' : List ℕ) → length nodes' ≡ length nodes → AreSums (set ss p (numbered (number_at ss p) 0)) nodes'
+      → IsSummed (set ss p (numbered (number_at ss p) 0)) nodes' n
+  IsSummed-clear p nodes' same sums = record {
+    sums = sums;
+    covers = omega (arith, same, length-set ss p (numbered (number_at ss p) 0), kept.covers);
+    tight = omega (arith, same, length-set ss p (numbered (number_at ss p) 0), kept.tight);
+    rising = rising_set 0 ss n p 0 kept.rising;
+  }
 
 -- a request whose size became 0
 module _ (ss left : List Numbered) (p : ℕ) (r : IsRemoved ss p left) where

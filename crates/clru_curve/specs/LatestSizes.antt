@@ -1,5 +1,5 @@
 -- The sizes of the latest requests of keys, by the numbers of these, and the sums of blocks of eight. No public clause cites it.
-use Rattle.std.specs.Prelude.{◌≡◌, ℕ, zero, suc, ◌+◌, ◌*◌, ◌<◌, ◌≤◌, if◌then◌else◌, List, [], ◌∷◌, length, slice_set}
+use Rattle.std.specs.Prelude.{◌≡◌, ℕ, zero, suc, ◌+◌, ◌-◌, ◌*◌, ◌/◌, ◌<◌, ◌≤◌, if◌then◌else◌, List, [], ◌∷◌, length, slice_index, slice_set}
 use Rattle.clru_curve.specs.declared.numbered.Numbered.{Numbered}
 use Rattle.clru_curve.specs.Rising.{has_value, numbered, number_at, value_at, IsRising}
 use Rattle.clru_curve.specs.Tree.{up_by, up_to, IsCounted}
@@ -32,9 +32,22 @@ pub record IsRemoved (ss : List Numbered) (request : ℕ) (left : List Numbered)
   pub some : 0 < value_at ss at
   pub is : left ≡ slice_set ss at (numbered (number_at ss at) 0)
 
+-- the sum of the block that is not full
+abbrev pub open_in : List Numbered → ℕ
+open_in ss = sizes_from ss (8 * (length ss / 8))
+
+-- and of the full ones from the j-th on
+abbrev pub full_from : List Numbered → ℕ → ℕ
+full_from ss j = sizes_from ss (8 * j) - open_in ss
+
+-- the nodes above the full blocks; the first of them, which is above none, has the other sum
+pub record AreSums (ss : List Numbered) (nodes : List ℕ) : Type 0 where
+  pub counted : IsCounted (full_from ss) nodes
+  pub last : slice_index nodes 0 ≡ open_in ss
+
 -- what holds of the sizes of n requests and of the nodes above their blocks
 pub record IsSummed (ss : List Numbered) (nodes : List ℕ) (n : ℕ) : Type 0 where
-  pub counted : IsCounted (λ j. sizes_from ss (8 * j)) nodes
+  pub sums : AreSums ss nodes
   pub covers : length ss ≤ 8 * length nodes
   pub tight : 8 * length nodes ≤ length ss + 8
   pub rising : IsRising 0 ss n

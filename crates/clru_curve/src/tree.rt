@@ -1,6 +1,6 @@
 //! A Fenwick tree of nodes above counts. Node j holds the sum of the counts from j up to the next number that has fewer binary
 //! digits below its lowest 1, so a sum from a count on takes a node for each digit at most, and a change of a count writes as many.
-ghost use Rattle.std.specs.Prelude.{◌≡◌, ℕ, ◌+◌, ◌-◌, ◌^◌, ◌<◌, ◌≤◌, length};
+ghost use Rattle.std.specs.Prelude.{◌≡◌, ℕ, ◌+◌, ◌-◌, ◌^◌, ◌<◌, ◌≤◌, length, slice_index};
 ghost use Rattle.clru_curve.specs.Tree.{up_by, IsCounted, Falls};
 
 /// The sum of the counts from `first` on.
@@ -38,6 +38,7 @@ pub(crate) fn subtract_at(nodes: &mut [usize], position: usize, amount: usize)
     requires inside { position < length nodes.old }
     requires counted { (f : ℕ → ℕ) × (Falls f × IsCounted (λ j. f j + up_by amount j position) nodes.old) }
     ensures length { length nodes.new ≡ length nodes.old }
+    ensures first { slice_index nodes.new 0 ≡ slice_index nodes.old 0 }
     ensures counted { (f : ℕ → ℕ) → IsCounted (λ j. f j + up_by amount j position) nodes.old → IsCounted f nodes.new }
 {
     let mut node = position;

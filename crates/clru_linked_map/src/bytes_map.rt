@@ -189,7 +189,7 @@ fn places_of<V: Copy, S: BuildHasher, A: Allocator + Copy>(
     }
     for at in 0..strings.len().min(places.len()) {
         let Hashed { start, end, .. } = strings[at];
-        if !table.begins_alike(places[at], &bytes[start..end]) {
+        if !table.has_ends_of(places[at], &bytes[start..end]) {
             places[at] = NOWHERE;
         }
     }

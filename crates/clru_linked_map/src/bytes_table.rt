@@ -150,14 +150,19 @@ impl<V: Copy, S: BuildHasher, A: Allocator + Copy> BytesTable<V, S, A> {
         place < self.held.len() && self.held[place].end.wrapping_sub(self.start_at(place)) == length
     }
 
-    /// Returns whether a string at a place, which may be none, begins with the same byte. If that string is empty, the byte after it counts.
+    /// Returns whether a string at a place, which may be none, has the same first and last bytes. It reads both, since the string may lie in
+    /// two lines of the processor's cache.
     #[inline(always)]
-    pub(crate) fn begins_alike(&self, place: usize, bytes: &[u8]) -> bool {
+    pub(crate) fn has_ends_of(&self, place: usize, bytes: &[u8]) -> bool {
         if place >= self.held.len() || bytes.is_empty() {
             return false;
         }
-        let start = self.start_at(place);
-        start < self.buffer.len() && self.buffer[start] == bytes[0]
+        let first = self.start_at(place);
+        let last = first.wrapping_add(bytes.len() - 1);
+        if first >= self.buffer.len() || last >= self.buffer.len() {
+            return false;
+        }
+        (self.buffer[first] ^ bytes[0]) | (self.buffer[last] ^ bytes[bytes.len() - 1]) == 0
     }
 
     /// Returns whether the string stands at a place, which may be none.

@@ -1,8 +1,8 @@
 //! For each key the number of its latest request and its size. Sizes of earlier requests are 0, and are dropped now and then.
-ghost use Rattle.std.specs.Prelude.{◌≡◌, ℕ, suc, ◌+◌, ◌*◌, ◌/◌, ◌^◌, ◌<◌, ◌≤◌, [], ◌∷◌, ◌++◌, length, vec_len, vec_capacity, OnOk};
-ghost use Rattle.clru_curve.specs.LatestSizes.{IsRemoved, IsSummed, live_from, sizes_from, total_from};
+ghost use Rattle.std.specs.Prelude.{◌≡◌, ℕ, suc, ◌+◌, ◌*◌, ◌/◌, ◌^◌, ◌<◌, ◌≤◌, List, [], ◌∷◌, ◌++◌, length, slice_set, vec_len, vec_capacity, OnOk};
+ghost use Rattle.clru_curve.specs.LatestSizes.{AreSums, IsRemoved, IsSummed, live_from, sizes_from, total_from};
+ghost use Rattle.clru_curve.specs.declared.numbered.Numbered.{Numbered};
 ghost use Rattle.clru_curve.specs.Rising.{has_value, numbered, value_at};
-ghost use Rattle.clru_curve.specs.Tree.{IsCounted};
 
 use crate::ahead::AHEAD;
 use crate::numbered::{Numbered, place_near};
@@ -38,6 +38,7 @@ const FEW: usize = 64;
 
 /// The sizes by the numbers of their requests, and for each eight of them a node of the tree above their sums.
 ///
+/// A block comes into the tree when it is full. The first node is above none, so until then it holds the sum of that block.
 /// Sizes are dropped, not renumbered: a request keeps its number. So memory goes with the keys.
 #[derive(Drop)]
 pub(crate) struct Sizes<A: Allocator> {
@@ -99,12 +100,12 @@ impl<A: Allocator + Copy> Sizes<A> {
         ensures sizes { self.new.sizes.items ≡ self.old.sizes.items ++ numbered self.old.requests size ∷ [] }
         ensures requests { self.new.requests ≡ self.old.requests + 1 }
     {
-        let block = self.sizes.len() / BLOCK;
+        let at = self.sizes.len();
         self.sizes.push_reserved(Numbered {
             number: self.requests,
             value: size,
         });
-        add_at(&mut self.nodes, block, size);
+        add_size(&mut self.nodes, at, size);
         self.requests += 1;
     }
 
@@ -188,7 +189,7 @@ impl<A: Allocator + Copy> Sizes<A> {
         let total = self.sum_from(at);
         let size = self.sizes[at].value;
         self.sizes[at].value = 0;
-        subtract_at(&mut self.nodes, at / BLOCK, size);
+        subtract_size(&mut self.nodes, self.sizes.len(), at, size);
         total
     }
 
@@ -199,9 +200,9 @@ impl<A: Allocator + Copy> Sizes<A> {
         requires fits { sizes_from self.now.sizes.items 0 < 2 ^ 64 }
         ensures { result ≡ sizes_from self.now.sizes.items at }
     {
-        let block = at / BLOCK + 1;
-        if block < self.nodes.len() {
-            sum_of_rest(&self.sizes, at) + count_from(&self.nodes, block)
+        let block = at / BLOCK;
+        if block < self.sizes.len() / BLOCK {
+            sum_of_rest(&self.sizes, at) + count_from(&self.nodes, block + 1) + self.nodes[0]
         } else {
             sum_between(&self.sizes, at, self.sizes.len())
         }
@@ -216,7 +217,7 @@ impl<A: Allocator + Copy> Sizes<A> {
         ensures live { (t : ℕ) → live_from self.new.sizes.items t ≡ live_from self.old.sizes.items t }
         ensures requests { self.new.requests ≡ self.old.requests }
     {
-        if self.sizes.len() < self.limit {
+        if self.sizes.is_empty() || self.sizes.len() < self.limit {
             return;
         }
         self.sizes.retain(
@@ -240,21 +241,57 @@ impl<A: Allocator + Copy> Sizes<A> {
     }
 }
 
+/// One more size at the end, at this place.
+fn add_size(nodes: &mut [usize], at: usize, size: usize)
+    requires inside { at < 8 * length nodes.old }
+    requires sums { (ss : List Numbered) × (length ss ≡ at) × (sizes_from ss 0 + size < 2 ^ 64) × AreSums ss nodes.old }
+    ensures length { length nodes.new ≡ length nodes.old }
+    ensures sums { (ss : List Numbered) (m : ℕ) → length ss ≡ at → AreSums ss nodes.old
+        → AreSums (ss ++ numbered m size ∷ []) nodes.new }
+{
+    let sum = nodes[0] + size;
+    if at % BLOCK < BLOCK - 1 {
+        nodes[0] = sum;
+    } else {
+        add_at(nodes, at / BLOCK, sum);
+        nodes[0] = 0;
+    }
+}
+
+/// Of so many sizes the one at this place is 0 now.
+fn subtract_size(nodes: &mut [usize], count: usize, at: usize, size: usize)
+    requires inside { at < count }
+    requires covers { count ≤ 8 * length nodes.old }
+    requires sums { (ss : List Numbered) × (length ss ≡ count) × (value_at ss at ≡ size) × AreSums ss nodes.old }
+    ensures length { length nodes.new ≡ length nodes.old }
+    ensures sums { (ss : List Numbered) (m : ℕ) → length ss ≡ count → value_at ss at ≡ size → AreSums ss nodes.old
+        → AreSums (slice_set ss at (numbered m 0)) nodes.new }
+{
+    if at / BLOCK < count / BLOCK {
+        subtract_at(nodes, at / BLOCK, size);
+    } else {
+        nodes[0] -= size;
+    }
+}
+
 /// Sums the sizes of each block anew.
 fn sum_anew(nodes: &mut [usize], sizes: &[Numbered])
     requires covers { length sizes.now ≤ 8 * length nodes.old }
+    requires some { 0 < length nodes.old }
     requires fits { sizes_from sizes.now 0 < 2 ^ 64 }
     ensures length { length nodes.new ≡ length nodes.old }
-    ensures counted { IsCounted (λ j. sizes_from sizes.now (8 * j)) nodes.new }
+    ensures sums { AreSums sizes.now nodes.new }
 {
     nodes.fill(0);
+    let full = sizes.len() / BLOCK * BLOCK;
     let mut at = 0;
-    while at < sizes.len() {
+    while at < full {
         let block = at / BLOCK;
-        let end = ((block + 1) * BLOCK).min(sizes.len());
+        let end = ((block + 1) * BLOCK).min(full);
         add_at(nodes, block, sum_between(sizes, at, end));
         at = end;
     }
+    nodes[0] = sum_between(sizes, full, sizes.len());
 }
 
 /// The sum of the sizes from `first` up to `end`.

@@ -1,4 +1,5 @@
-use Rattle.std.proofs.Common.{◌≡◌, ◌+◌, ◌-◌, ◌≤◌, get_or, arith, length-set}
+use Rattle.std.proofs.Common.{◌≡◌, ◌+◌, ◌-◌, ◌≤◌, get_or, ◌∙◌, arith, length-set}
+use Rattle.std.proofs.lemmas.List.{get_or-set_other}
 use Rattle.clru_curve.proofs.Nodes.{subtracts_step, node_before-less, node_after-greater, falls_far}
 use Rattle.clru_curve.proofs.UpTo.{up_by-le, up_by-gt}
 use Rattle.clru_curve.specs.Tree.{node_after}
@@ -18,11 +19,15 @@ loop-node-preserved c =
     let some : c.args.amount ≤ get_or c.loop-node.nodes at 0 = omega (arith, overflow_sub-nodes c) in
     record {
       inside = omega (arith, node_before-less at c.loop-node-test.true);
+      first = get_or-set_other c.loop-node.nodes at 0 _ 0 (λ same. omega (arith, same, c.loop-node-test.true)) ∙ c.loop-node.invariant.first;
       none = λ f is j far. c.loop-node.invariant.none f is j (omega (arith, far, len));
       node = λ f is j some_j within.
           subtracts_step c.args.amount f c.loop-node.nodes at j (omega arith) c.loop-node-test.true some_j some
           (c.loop-node.invariant.node f is j some_j (omega (arith, within, len)));
     }
+
+pub returns-clause-first : goal.returns-clause-first
+returns-clause-first c = c.loop-node.invariant.first
 
 pub returns-clause-counted : goal.returns-clause-counted
 returns-clause-counted c f is =

@@ -1,9 +1,8 @@
-use Rattle.std.proofs.Common.{◌≡◌, ◌*◌, take, ◌∙◌, subst, arith}
-use Rattle.std.proofs.lemmas.List.{take_all}
-use Rattle.clru_curve.specs.LatestSizes.{sizes_from}
-use Rattle.clru_curve.specs.Tree.{IsCounted}
-use Rattle.clru_curve.proofs.Counted.{IsCounted-same}
-use Rattle.clru_curve.proofs.LatestSizes.{sizes_few, blocks_take, take_fits}
+use Rattle.std.proofs.Common.{◌≡◌, ◌*◌, ◌/◌, length, take, ap, ◌∙◌, arith}
+use Rattle.std.proofs.lemmas.List.{get_or-set_same}
+use Rattle.clru_curve.specs.LatestSizes.{sizes_from, full_from}
+use Rattle.clru_curve.proofs.Counted.{IsCounted-first, IsCounted-same}
+use Rattle.clru_curve.proofs.LatestSizes.{sizes_few, sizes_none, blocks_take, full_take, take_fits}
 use Rattle.clru_curve.proofs.sized.sizes.sum_anew.Goals as goal
 
 pub sum_between-requires-clause-fits : goal.sum_between-requires-clause-fits
@@ -30,8 +29,17 @@ loop-at-preserved c =
           (c.add_at.ensures.counted (λ j. sizes_from (take at ss) (8 * j)) c.loop-at.invariant.counted);
     }
 
-pub returns-clause-counted : goal.returns-clause-counted
-returns-clause-counted c =
-    let ss = c.args.sizes.now in
-    let all : take c.loop-at.at ss ≡ ss = take_all c.loop-at.at ss (omega (arith, c.loop-at-test.false)) in
-    subst (λ l. IsCounted (λ j. sizes_from l (8 * j)) c.loop-at.nodes) all c.loop-at.invariant.counted
+pub sum_between-requires-2-clause-fits : goal.sum_between-requires-2-clause-fits
+sum_between-requires-2-clause-fits c = omega (arith, sizes_few c.args.sizes.now (length c.args.sizes.now / 8 * 8), c.requires.fits)
+
+pub returns-clause-sums : goal.returns-clause-sums
+returns-clause-sums c =
+    let ss = c.args.sizes.now in let nodes = c.loop-at.nodes in let sum = c.sum_between-2.result in
+    let full : c.loop-at.at ≡ 8 * (length ss / 8) = omega (arith, c.loop-at-test.false, c.loop-at.invariant.within) in
+    let turn : length ss / 8 * 8 ≡ 8 * (length ss / 8) = omega arith in
+    record {
+      counted = IsCounted-first (full_from ss) nodes sum (IsCounted-same _ _ nodes
+          (λ j. ap (λ at. sizes_from (take at ss) (8 * j)) full ∙ full_take ss j) c.loop-at.invariant.counted);
+      last = get_or-set_same nodes 0 sum 0 (omega (arith, c.requires.some, c.loop-at.invariant.same, c.fill.ensures.len))
+          ∙ omega (arith, c.sum_between-2.ensures, sizes_none ss (length ss) (omega arith), ap (sizes_from ss) turn);
+    }

@@ -2,9 +2,8 @@ use Rattle.std.proofs.Common.{◌≡◌, ◌+◌, ◌*◌, ◌≤◌, length, ap
 use Rattle.std.proofs.lemmas.Fn.{filter_same}
 use Rattle.std.proofs.lemmas.Nat.{mod_below, div-add-mod'}
 use Rattle.std.specs.List.{filter}
-use Rattle.clru_curve.specs.LatestSizes.{sizes_from, total_from, live_from}
+use Rattle.clru_curve.specs.LatestSizes.{sizes_from, total_from, live_from, AreSums}
 use Rattle.clru_curve.specs.Rising.{has_value}
-use Rattle.clru_curve.specs.Tree.{IsCounted}
 use Rattle.clru_curve.proofs.Latests.{written_back}
 use Rattle.clru_curve.proofs.LatestSizes.{total_zero, total_filter, live_filter, IsSummed-filter}
 use Rattle.clru_curve.proofs.Rising.{length_filter}
@@ -40,4 +39,4 @@ returns-clause-kept g c =
     = omega (arith, nodes, c.truncate.ensures.len, all, self.nodes.ok.0, div-add-mod' n 8, mod_below n 8 (omega arith)) in
     rw (written_back c.sum_anew.new.nodes c.truncate.new.self.items c.truncate.new.self.len nodes, left)
     (IsSummed-filter ss self.nodes.items self.requests c.requires.kept c.sum_anew.new.nodes
-    (subst (λ l. IsCounted (λ j. sizes_from l (8 * j)) c.sum_anew.new.nodes) (c.deref.ensures.value ∙ left) c.sum_anew.ensures.counted) covers tight)
+    (subst (λ l. AreSums l c.sum_anew.new.nodes) (c.deref.ensures.value ∙ left) c.sum_anew.ensures.sums) covers tight)

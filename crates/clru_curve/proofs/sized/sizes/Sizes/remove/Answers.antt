@@ -1,8 +1,8 @@
-use Rattle.std.proofs.Common.{◌≡◌, ◌*◌, ◌<◌, length, set, refl, sym, ap, ◌∙◌, subst, arith}
-use Rattle.clru_curve.specs.LatestSizes.{sizes_from, total_from}
-use Rattle.clru_curve.specs.Rising.{numbered, number_at, value_at, HasNumber}
+use Rattle.std.proofs.Common.{◌≡◌, ◌<◌, length, refl, sym, ap, ◌∙◌, subst, arith}
+use Rattle.clru_curve.specs.LatestSizes.{total_from}
+use Rattle.clru_curve.specs.Rising.{number_at, value_at, HasNumber}
 use Rattle.clru_curve.proofs.Latests.{written_back, block_read}
-use Rattle.clru_curve.proofs.LatestSizes.{is_live, blocks_fall, clear_counted, same_place, total_at, IsSummed-clear}
+use Rattle.clru_curve.proofs.LatestSizes.{is_live, same_place, total_at, IsSummed-clear}
 use Rattle.clru_curve.proofs.sized.sizes.Sizes.remove.Goals as goal
 
 pub place_near-at-requires-clause-there : goal.place_near-at-requires-clause-there
@@ -10,19 +10,12 @@ place_near-at-requires-clause-there g c =
     let ss = c.args.self.now.sizes.items in let p = c.args.request in let l = is_live ss p c.requires.live in
     subst (λ s. HasNumber s p) (sym c.deref.ensures.value) (l.at, l.inside, l.number)
 
-pub subtract_at-requires-clause-counted : goal.subtract_at-requires-clause-counted
-subtract_at-requires-clause-counted g c =
-    let self = c.args.self.now in let ss = self.sizes.items in let ns = self.nodes.items in let n = self.requests in
-    let p = c.args.request in let i = c.place_near-at.result in let kept = c.requires.kept in
+pub subtract_size-requires-clause-sums : goal.subtract_size-requires-clause-sums
+subtract_size-requires-clause-sums g c =
+    let self = c.args.self.now in let ss = self.sizes.items in let i = c.place_near-at.result in
     let inside : i < length ss = omega (arith, c.place_near-at.ensures.inside, ap (λ l. length l) c.deref.ensures.value) in
     let word = block_read ss i i c.index.result.now refl inside c.index.ensures in
-    let size = ap (λ b. b.value) word in (
-      λ j. sizes_from (set ss i (numbered (number_at ss i) 0)) (8 * j),
-      (
-        λ j. blocks_fall (set ss i (numbered (number_at ss i) 0)) j,
-        rw c.deref_mut.ensures.value (clear_counted ss ns n kept i inside c.index.result.now.value size),
-      ),
-    )
+    (ss, omega (arith, c.len.ensures, self.sizes.ok.0), sym (ap (λ b. b.value) word), rw c.deref_mut.ensures.value c.requires.kept.sums)
 
 pub returns-clause-total : goal.returns-clause-total
 returns-clause-total g c =
@@ -40,11 +33,11 @@ returns-clause-kept g c =
     let word = block_read ss i i c.index.result.now refl inside c.index.ensures in
     let size = ap (λ b. b.value) word in
     let read = block_read ss i i c.index_mut.result.now refl inside c.index_mut.ensures.value in
-    let counted = c.subtract_at.ensures.counted (λ j. sizes_from (set ss i (numbered (number_at ss i) 0)) (8 * j))
-    (rw c.deref_mut.ensures.value (clear_counted ss ns n kept i inside c.index.result.now.value size)) in
-    rw (written_back c.subtract_at.new.nodes ns self.nodes.len (c.subtract_at.ensures.length ∙ c.deref_mut.ensures.len), read)
-    (IsSummed-clear ss ns n kept i inside c.subtract_at.new.nodes
-    (c.subtract_at.ensures.length ∙ ap (λ l. length l) c.deref_mut.ensures.value) counted)
+    let sums = c.subtract_size.ensures.sums ss (number_at ss i) (omega (arith, c.len.ensures, self.sizes.ok.0)) (sym size)
+    (rw c.deref_mut.ensures.value kept.sums) in
+    rw (written_back c.subtract_size.new.nodes ns self.nodes.len (c.subtract_size.ensures.length ∙ c.deref_mut.ensures.len), read)
+    (IsSummed-clear ss ns n kept i c.subtract_size.new.nodes
+    (c.subtract_size.ensures.length ∙ ap (λ l. length l) c.deref_mut.ensures.value) sums)
 
 pub returns-clause-removed : goal.returns-clause-removed
 returns-clause-removed g c =
