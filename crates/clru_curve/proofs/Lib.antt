@@ -37,6 +37,7 @@ pub mod Merged
 pub mod Rows
 pub mod SizedCaches
 pub mod GreatestWeights
+pub mod SizeLists
 pub mod SizeViews
 pub mod SizedIdleViews
 pub mod TimedViews

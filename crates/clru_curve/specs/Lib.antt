@@ -19,5 +19,6 @@ pub mod SizedCurves
 pub mod SizedIdlePasses
 pub mod SizedPasses
 pub mod SizedPositionPasses
+pub mod SizeLists
 pub mod Splits
 pub mod Tree

@@ -10,6 +10,7 @@ mod idle;
 mod list;
 mod pass;
 mod position;
+mod size_list;
 mod sizes;
 mod step;
 

@@ -1,0 +1,14 @@
+use Rattle.std.proofs.Common.{◌≡◌, ℕ, ◌+◌, ◌<◌, ◌≤◌, length, map}
+use Rattle.clru_curve.specs.Rising.{number_at, IsRising}
+use Rattle.clru_curve.proofs.sized.size_list.last_up_to.Given as goal
+
+abbrev pub invariant-loop-count : goal.invariant-loop-count
+invariant-loop-count g l = record {
+  some : 0 < l.count;
+  within : l.first + l.count ≤ length l.sizes;
+  there : (i high : ℕ) → IsRising 0 (map g.T.Entry.seen l.sizes) high → number_at (map g.T.Entry.seen l.sizes) i ≡ l.number → i < length l.sizes
+      → (l.first ≤ i) × (i < l.first + l.count);
+}
+
+abbrev pub decreases-loop-count : goal.decreases-loop-count
+decreases-loop-count g l = l.count
