@@ -16,7 +16,7 @@ pub record SizeItems : Type 0 where
 abbrev pub size_items_code : Coded SizeItems
 size_items_code =
     code_by (List Numbered × (ℕ × ℕ)) (coded× (coded_list numbered_code) (coded× coded_ℕ coded_ℕ)) (λ s. (s.items, (s.capacity, s.greatest)))
-      (λ t. record { items = t.0; capacity = t.1.0; greatest = t.1.1 }) (λ _. refl)
+    (λ t. record { items = t.0; capacity = t.1.0; greatest = t.1.1 }) (λ _. refl)
 
 -- what a small size stands for
 abbrev pub widened : Small → Numbered
