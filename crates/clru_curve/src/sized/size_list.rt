@@ -106,6 +106,7 @@ impl<A: Allocator> Model for SizeList<A> {
 }
 
 impl<A: Allocator + Copy> SizeList<A> {
+    /// A list of no sizes.
     /// Cost: no request for memory.
     pub(crate) fn new(alloc: A) -> Self
         ensures { result.items ≡ [] }
@@ -149,7 +150,8 @@ impl<A: Allocator + Copy> SizeList<A> {
         }
     }
 
-    /// Makes room for one more size, and for a number and a size up to `greatest`.
+    /// Makes room for one more size, and makes numbers and sizes up to `greatest` fit. If memory is refused, the sizes stay.
+    /// Cost: a request for memory only if there is no room, or if `greatest` does not fit yet; then also a copy of each size.
     #[inline]
     pub(crate) fn make_room(&mut self, greatest: usize) -> Result<(), AllocError>
         ensures items { self.new.items ≡ self.old.items }
@@ -177,7 +179,7 @@ impl<A: Allocator + Copy> SizeList<A> {
     {
         match &mut self.form {
             Form::Narrow(sizes) => {
-                let Ok(wide) = widened(sizes) else {
+                let Ok(wide) = all_widened(sizes) else {
                     return Err(AllocError);
                 };
                 self.form = Form::Wide(wide);
@@ -223,6 +225,7 @@ impl<A: Allocator + Copy> SizeList<A> {
     /// Drops the sizes that are 0.
     pub(crate) fn drop_empty(&mut self)
         ensures items { self.new.items ≡ filter has_value self.old.items }
+        ensures capacity { self.new.capacity ≡ self.old.capacity }
         ensures greatest { self.new.greatest ≡ self.old.greatest }
     {
         match &mut self.form {
@@ -307,8 +310,9 @@ impl<A: Allocator + Copy> SizeList<A> {
     }
 }
 
-/// Returns the same sizes in 16 bytes each, with room for more.
-fn widened<A: Allocator + Copy>(sizes: &Vec<Small, A>) -> Result<Vec<Numbered, A>, AllocError>
+/// Returns the same sizes in 16 bytes each, with room for as many again.
+/// Cost: one request for memory.
+fn all_widened<A: Allocator + Copy>(sizes: &Vec<Small, A>) -> Result<Vec<Numbered, A>, AllocError>
     ensures items { IfOk result (λ w. w.items ≡ map widened sizes.now.items) }
     ensures room { IfOk result (λ w. vec_len w < vec_capacity w) }
 {

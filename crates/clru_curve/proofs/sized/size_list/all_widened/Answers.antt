@@ -1,7 +1,7 @@
 use Rattle.std.proofs.Common.{◌≡◌, ◌+◌, ◌<◌, ◌∷◌, [], ◌++◌, length, map, take, sym, ap, ◌∙◌, arith}
 use Rattle.std.proofs.lemmas.List.{map-append, take_more}
 use Rattle.clru_curve.specs.SizeLists.{widened}
-use Rattle.clru_curve.proofs.sized.size_list.widened.Goals as goal
+use Rattle.clru_curve.proofs.sized.size_list.all_widened.Goals as goal
 
 pub loop-at-preserved : goal.loop-at-preserved
 loop-at-preserved g c =
