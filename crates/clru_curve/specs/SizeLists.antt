@@ -1,5 +1,5 @@
 -- What contracts see of a list of sizes. No public clause cites it.
-use Rattle.std.specs.Prelude.{ℕ, List, map, vec_capacity, refl}
+use Rattle.std.specs.Prelude.{ℕ, ◌<◌, ◌≤◌, List, length, map, vec_capacity, refl}
 use Rattle.std.specs.Coded.{Coded, code_by, coded×, coded_list, coded_ℕ}
 use Rattle.clru_curve.specs.declared.numbered.Numbered.{Numbered}
 use Rattle.clru_curve.specs.declared.sized.size_list.Small.{Small}
@@ -27,3 +27,9 @@ module _ {A : Type 0} where
   abbrev pub size_items : Form A → SizeItems
   size_items (Narrow sizes) = record { items = map widened sizes.items; capacity = vec_capacity sizes; greatest = 4294967295 }
   size_items (Wide sizes) = record { items = sizes.items; capacity = vec_capacity sizes; greatest = 18446744073709551615 }
+
+-- there is room for a size with its number, and both fit
+pub record HasRoom (sizes : SizeItems) (number size : ℕ) : Type 0 where
+  pub room : length sizes.items < sizes.capacity
+  pub number_fits : number ≤ sizes.greatest
+  pub size_fits : size ≤ sizes.greatest

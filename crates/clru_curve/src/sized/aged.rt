@@ -210,7 +210,7 @@ impl<K: Eq + Hash, S: BuildHasher, A: Allocator + Copy> SizedAgedPass<K, S, A> {
         }
         let size = weight + 1;
         let greatest = greater(self.greatest, weight);
-        let Ok(()) = self.latest.make_ready() else {
+        let Ok(()) = self.latest.make_ready(size) else {
             return Err(SizedRequestError::NoMemory(key));
         };
         let Ok(()) = self.fetches.make_room() else {
@@ -248,7 +248,7 @@ impl<K: Eq + Hash, S: BuildHasher, A: Allocator + Copy> SizedAgedPass<K, S, A> {
     {
         let size = weight + 1;
         let greatest = greater(self.greatest, weight);
-        let Ok(()) = self.latest.make_ready() else {
+        let Ok(()) = self.latest.make_ready(size) else {
             return Err(key);
         };
         let Ok(first) = self.fetches.make_ready() else {

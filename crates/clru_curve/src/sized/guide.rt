@@ -1,5 +1,5 @@
 //! Where the sizes of requests are likely to stand. Only the time of a search rests on it, and no result.
-use crate::numbered::Numbered;
+use crate::sized::size_list::SizeList;
 use std::alloc::{AllocError, Allocator};
 
 /// How many requests share a word.
@@ -65,13 +65,13 @@ impl<A: Allocator + Copy> Guide<A> {
     }
 
     /// Looks where the sizes of so many requests stand now.
-    pub(crate) fn learn(&mut self, sizes: &[Numbered], requests: usize) {
+    pub(crate) fn learn(&mut self, sizes: &SizeList<A>, requests: usize) {
         self.requests = requests;
         self.sizes = sizes.len();
         self.first = (requests / BITS + 1).saturating_sub(self.words.len());
         self.words.fill(Word { bits: 0, end: 0 });
         for place in 0..sizes.len() {
-            let number = sizes[place].number;
+            let number = sizes.number(place);
             let at = (number / BITS).wrapping_sub(self.first);
             if at < self.words.len() {
                 self.words[at] = Word {

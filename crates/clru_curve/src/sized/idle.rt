@@ -266,7 +266,7 @@ impl<K: Eq + Hash, S: BuildHasher, A: Allocator + Copy> SizedIdlePass<K, S, A> {
         }
         let size = weight + 1;
         let greatest = greater(self.greatest, weight);
-        let Ok(()) = self.latest.make_ready() else {
+        let Ok(()) = self.latest.make_ready(size) else {
             return Err(SizedRequestError::NoMemory(key));
         };
         let Ok(()) = self.hits.reserve(1) else {
@@ -301,8 +301,9 @@ impl<K: Eq + Hash, S: BuildHasher, A: Allocator + Copy> SizedIdlePass<K, S, A> {
         ensures refused { OnErr result (self.new ≡ self.old) }
         ensures given_back { IfErr result (λ back. back ≡ key) }
     {
+        let size = weight + 1;
         let greatest = greater(self.greatest, weight);
-        let Ok(()) = self.latest.make_ready() else {
+        let Ok(()) = self.latest.make_ready(size) else {
             return Err(key);
         };
         let position = self.latest.requests;
@@ -310,8 +311,8 @@ impl<K: Eq + Hash, S: BuildHasher, A: Allocator + Copy> SizedIdlePass<K, S, A> {
         if let Err(key) = self.seen.insert(hash, key, here) {
             return Err(key);
         }
-        self.latest.push(weight + 1);
-        self.size += weight + 1;
+        self.latest.push(size);
+        self.size += size;
         self.greatest = greatest;
         Ok(())
     }

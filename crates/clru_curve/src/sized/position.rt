@@ -172,7 +172,7 @@ impl<K: Eq, A: Allocator + Copy> SizedPositionPass<K, A> {
         }
         let size = weight + 1;
         let greatest = greater(self.greatest, weight);
-        let Ok(()) = self.latest.make_ready() else {
+        let Ok(()) = self.latest.make_ready(size) else {
             return Err(SizedRequestError::NoMemory(()));
         };
         match latest {

@@ -10,7 +10,7 @@ use std::alloc::{AllocError, Allocator};
 use std::marker::Model;
 
 /// How many sizes are summed up together.
-const BLOCK: usize = 8;
+pub(crate) const BLOCK: usize = 8;
 
 /// Masks that leave nothing of a size, and then masks that leave all of it.
 const MASKS: [usize; 16] = [

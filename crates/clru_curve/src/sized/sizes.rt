@@ -1,37 +1,15 @@
 //! For each key the number of its latest request and its size. Sizes of earlier requests are 0, and are dropped now and then.
-ghost use Rattle.std.specs.Prelude.{◌≡◌, ℕ, suc, ◌+◌, ◌*◌, ◌/◌, ◌^◌, ◌<◌, ◌≤◌, List, [], ◌∷◌, ◌++◌, length, slice_set, vec_len, vec_capacity, OnOk};
+ghost use Rattle.std.specs.Prelude.{◌≡◌, ℕ, suc, ◌+◌, ◌*◌, ◌/◌, ◌^◌, ◌<◌, ◌≤◌, List, [], ◌∷◌, ◌++◌, length, slice_set, OnOk};
 ghost use Rattle.clru_curve.specs.LatestSizes.{AreSums, IsRemoved, IsSummed, live_from, sizes_from, total_from};
 ghost use Rattle.clru_curve.specs.declared.numbered.Numbered.{Numbered};
-ghost use Rattle.clru_curve.specs.Rising.{has_value, numbered, value_at};
+ghost use Rattle.clru_curve.specs.Rising.{numbered, value_at};
+ghost use Rattle.clru_curve.specs.SizeLists.{HasRoom};
 
 use crate::ahead::AHEAD;
-use crate::numbered::{Numbered, place_near};
 use crate::sized::guide::Guide;
+use crate::sized::size_list::{BLOCK, SizeList};
 use crate::tree::{add_at, count_from, subtract_at};
 use std::alloc::{AllocError, Allocator};
-
-/// How many sizes share a node.
-const BLOCK: usize = 8;
-
-/// Masks that leave nothing of a size, and then masks that leave all of it.
-const MASKS: [usize; 16] = [
-    0,
-    0,
-    0,
-    0,
-    0,
-    0,
-    0,
-    0,
-    usize::MAX,
-    usize::MAX,
-    usize::MAX,
-    usize::MAX,
-    usize::MAX,
-    usize::MAX,
-    usize::MAX,
-    usize::MAX,
-];
 
 /// How many sizes there may be beyond half as many again as were not 0 when they were last looked through.
 const FEW: usize = 64;
@@ -42,7 +20,7 @@ const FEW: usize = 64;
 /// Sizes are dropped, not renumbered: a request keeps its number. So memory goes with the keys.
 #[derive(Drop)]
 pub(crate) struct Sizes<A: Allocator> {
-    pub(crate) sizes: Vec<Numbered, A>,
+    pub(crate) sizes: SizeList<A>,
     pub(crate) nodes: Vec<usize, A>,
     pub(crate) requests: usize,
     // From so many sizes on, those that are 0 are dropped.
@@ -57,7 +35,7 @@ impl<A: Allocator + Copy> Sizes<A> {
         ensures requests { result.requests ≡ 0 }
     {
         Sizes {
-            sizes: Vec::new(alloc),
+            sizes: SizeList::new(alloc),
             nodes: Vec::new(alloc),
             requests: 0,
             limit: FEW,
@@ -65,16 +43,16 @@ impl<A: Allocator + Copy> Sizes<A> {
         }
     }
 
-    /// Makes room for one more request.
-    pub(crate) fn make_ready(&mut self) -> Result<(), AllocError>
+    /// Makes room for one more request, of a key of this size.
+    pub(crate) fn make_ready(&mut self, size: usize) -> Result<(), AllocError>
         requires kept { IsSummed self.old.sizes.items self.old.nodes.items self.old.requests }
         ensures kept { IsSummed self.new.sizes.items self.new.nodes.items self.new.requests }
         ensures sizes { self.new.sizes.items ≡ self.old.sizes.items }
         ensures requests { self.new.requests ≡ self.old.requests }
-        ensures room { OnOk result (vec_len self.new.sizes < vec_capacity self.new.sizes) }
+        ensures room { OnOk result (HasRoom self.new.sizes self.new.requests size) }
         ensures node { OnOk result (length self.new.sizes.items < 8 * length self.new.nodes.items) }
     {
-        let Ok(()) = self.sizes.reserve(1) else {
+        let Ok(()) = self.sizes.make_room(self.requests.max(size)) else {
             return Err(AllocError);
         };
         if self.sizes.len() / BLOCK < self.nodes.len() {
@@ -92,7 +70,7 @@ impl<A: Allocator + Copy> Sizes<A> {
     /// One more request, the latest of a key of this size.
     pub(crate) fn push(&mut self, size: usize)
         requires kept { IsSummed self.old.sizes.items self.old.nodes.items self.old.requests }
-        requires room { vec_len self.old.sizes < vec_capacity self.old.sizes }
+        requires room { HasRoom self.old.sizes self.old.requests size }
         requires node { length self.old.sizes.items < 8 * length self.old.nodes.items }
         requires fits { sizes_from self.old.sizes.items 0 + size < 2 ^ 64 }
         requires countable { self.old.requests + 1 < 2 ^ 64 }
@@ -101,10 +79,7 @@ impl<A: Allocator + Copy> Sizes<A> {
         ensures requests { self.new.requests ≡ self.old.requests + 1 }
     {
         let at = self.sizes.len();
-        self.sizes.push_reserved(Numbered {
-            number: self.requests,
-            value: size,
-        });
+        self.sizes.push_reserved(self.requests, size);
         add_size(&mut self.nodes, at, size);
         self.requests += 1;
     }
@@ -113,7 +88,7 @@ impl<A: Allocator + Copy> Sizes<A> {
     /// wait for one another.
     pub(crate) fn likely(&self, request: usize) -> usize {
         let place = self.guide.likely(request);
-        if self.is_at(request, place) {
+        if self.sizes.is_at(request, place) {
             place
         } else {
             usize::MAX
@@ -122,15 +97,11 @@ impl<A: Allocator + Copy> Sizes<A> {
 
     /// The hint, if the size stands there, and else what `likely` returns.
     pub(crate) fn likely_by(&self, request: usize, hint: usize) -> usize {
-        if self.is_at(request, hint) {
+        if self.sizes.is_at(request, hint) {
             hint
         } else {
             self.likely(request)
         }
-    }
-
-    fn is_at(&self, request: usize, place: usize) -> bool {
-        place < self.sizes.len() && self.sizes[place].number == request
     }
 
     /// The places where the sizes of the first of these requests are, or `usize::MAX` where that is not known or in a block that is not full.
@@ -145,30 +116,10 @@ impl<A: Allocator + Copy> Sizes<A> {
         }
         for at in 0..count {
             if let Some(request) = requests[at] {
-                places[at] = self.read_block(request, places[at]);
+                places[at] = self.sizes.read_block(request, places[at]);
             }
         }
         places
-    }
-
-    /// The place, if the size of the request stands there and the block is full, or else `usize::MAX`. It reads the ends and the middle of
-    /// the block too, since `remove` sums it up, and it may lie in three lines of the processor's cache.
-    fn read_block(&self, request: usize, place: usize) -> usize {
-        if !self.is_at(request, place) {
-            return usize::MAX;
-        }
-        let first = place / BLOCK * BLOCK;
-        let block = (
-            self.sizes.get(first),
-            self.sizes.get(first | (BLOCK / 2)),
-            self.sizes.get(first | (BLOCK - 1)),
-        );
-        let (Some(start), Some(middle), Some(end)) = block else {
-            return usize::MAX;
-        };
-        // (always so; but a value that nothing uses is not read)
-        let is_rising = start.number <= middle.number && middle.number <= end.number;
-        if is_rising { place } else { usize::MAX }
     }
 
     /// The request is no longer the latest of its key. Returns its size and those of all later requests that are the latest of
@@ -181,14 +132,13 @@ impl<A: Allocator + Copy> Sizes<A> {
         ensures kept { IsSummed self.new.sizes.items self.new.nodes.items self.new.requests }
         ensures removed { IsRemoved self.old.sizes.items request self.new.sizes.items }
         ensures requests { self.new.requests ≡ self.old.requests }
-        ensures room { vec_len self.new.sizes ≡ vec_len self.old.sizes }
-        ensures capacity { vec_capacity self.new.sizes ≡ vec_capacity self.old.sizes }
+        ensures room { (number size : ℕ) → HasRoom self.old.sizes number size → HasRoom self.new.sizes number size }
         ensures nodes { length self.new.nodes.items ≡ length self.old.nodes.items }
     {
-        let at = place_near(&self.sizes, request, likely);
+        let at = self.sizes.place_near(request, likely);
         let total = self.sum_from(at);
-        let size = self.sizes[at].value;
-        self.sizes[at].value = 0;
+        let size = self.sizes.value(at);
+        self.sizes.empty(at);
         subtract_size(&mut self.nodes, self.sizes.len(), at, size);
         total
     }
@@ -202,9 +152,9 @@ impl<A: Allocator + Copy> Sizes<A> {
     {
         let block = at / BLOCK;
         if block < self.sizes.len() / BLOCK {
-            sum_of_rest(&self.sizes, at) + count_from(&self.nodes, block + 1) + self.nodes[0]
+            self.sizes.sum_of_rest(at) + count_from(&self.nodes, block + 1) + self.nodes[0]
         } else {
-            sum_between(&self.sizes, at, self.sizes.len())
+            self.sizes.sum_between(at, self.sizes.len())
         }
     }
 
@@ -217,14 +167,11 @@ impl<A: Allocator + Copy> Sizes<A> {
         ensures live { (t : ℕ) → live_from self.new.sizes.items t ≡ live_from self.old.sizes.items t }
         ensures requests { self.new.requests ≡ self.old.requests }
     {
-        if self.sizes.is_empty() || self.sizes.len() < self.limit {
+        let sizes = self.sizes.len();
+        if sizes == 0 || sizes < self.limit {
             return;
         }
-        self.sizes.retain(
-            |size: &Numbered| -> bool
-                ensures { result ≡ has_value size.now }
-            { size.value != 0 },
-        );
+        self.sizes.drop_empty();
         let sizes = self.sizes.len();
         self.nodes.truncate(sizes / BLOCK + 1);
         sum_anew(&mut self.nodes, &self.sizes);
@@ -237,7 +184,7 @@ impl<A: Allocator + Copy> Sizes<A> {
         requires fits { sizes_from self.now.sizes.items 0 < 2 ^ 64 }
         ensures { result ≡ sizes_from self.now.sizes.items 0 }
     {
-        sum_between(&self.sizes, 0, self.sizes.len())
+        self.sizes.sum_between(0, self.sizes.len())
     }
 }
 
@@ -275,12 +222,12 @@ fn subtract_size(nodes: &mut [usize], count: usize, at: usize, size: usize)
 }
 
 /// Sums the sizes of each block anew.
-fn sum_anew(nodes: &mut [usize], sizes: &[Numbered])
-    requires covers { length sizes.now ≤ 8 * length nodes.old }
+fn sum_anew<A: Allocator + Copy>(nodes: &mut [usize], sizes: &SizeList<A>)
+    requires covers { length sizes.now.items ≤ 8 * length nodes.old }
     requires some { 0 < length nodes.old }
-    requires fits { sizes_from sizes.now 0 < 2 ^ 64 }
+    requires fits { sizes_from sizes.now.items 0 < 2 ^ 64 }
     ensures length { length nodes.new ≡ length nodes.old }
-    ensures sums { AreSums sizes.now nodes.new }
+    ensures sums { AreSums sizes.now.items nodes.new }
 {
     nodes.fill(0);
     let full = sizes.len() / BLOCK * BLOCK;
@@ -288,51 +235,8 @@ fn sum_anew(nodes: &mut [usize], sizes: &[Numbered])
     while at < full {
         let block = at / BLOCK;
         let end = ((block + 1) * BLOCK).min(full);
-        add_at(nodes, block, sum_between(sizes, at, end));
+        add_at(nodes, block, sizes.sum_between(at, end));
         at = end;
     }
-    nodes[0] = sum_between(sizes, full, sizes.len());
-}
-
-/// The sum of the sizes from `first` up to `end`.
-fn sum_between(sizes: &[Numbered], first: usize, end: usize) -> usize
-    requires order { first ≤ end }
-    requires inside { end ≤ length sizes.now }
-    requires fits { sizes_from sizes.now first < 2 ^ 64 }
-    ensures { result + sizes_from sizes.now end ≡ sizes_from sizes.now first }
-{
-    let mut sum = 0;
-    let mut at = first;
-    while at < end {
-        sum += sizes[at].value;
-        at += 1;
-    }
-    sum
-}
-
-/// The sum of the sizes from a place up to the end of its block.
-fn sum_of_rest(sizes: &[Numbered], at: usize) -> usize
-    requires inside { 8 * (at / 8 + 1) ≤ length sizes.now }
-    requires fits { sizes_from sizes.now at < 2 ^ 64 }
-    ensures { result + sizes_from sizes.now (8 * (at / 8 + 1)) ≡ sizes_from sizes.now at }
-{
-    let first = at / BLOCK * BLOCK;
-    let mut sum = 0;
-    for place in first..first + BLOCK {
-        sum += size_behind(sizes, at, place);
-    }
-    sum
-}
-
-/// The size at a place, or 0 if that is before `at`. They are less than eight apart.
-#[inline(always)]
-fn size_behind(sizes: &[Numbered], at: usize, place: usize) -> usize
-    requires inside { place < length sizes.now }
-    requires from { at < place + 8 }
-    requires to { place < at + 8 }
-    ensures before { place < at → result ≡ 0 }
-    ensures behind { at ≤ place → result ≡ value_at sizes.now place }
-{
-    // (by a table: LLVM makes a branch of a computed mask, and the processor would guess it wrong)
-    sizes[place].value & MASKS[BLOCK + place - at]
+    nodes[0] = sizes.sum_between(full, sizes.len());
 }

@@ -6,11 +6,11 @@ use Rattle.clru_curve.proofs.LatestSizes.{sizes_few, sizes_none, blocks_take, fu
 use Rattle.clru_curve.proofs.sized.sizes.sum_anew.Goals as goal
 
 pub sum_between-requires-clause-fits : goal.sum_between-requires-clause-fits
-sum_between-requires-clause-fits c = omega (arith, sizes_few c.args.sizes.now c.loop-at.at, c.requires.fits)
+sum_between-requires-clause-fits g c = omega (arith, sizes_few c.args.sizes.now.items c.loop-at.at, c.requires.fits)
 
 pub add_at-requires-clause-counted : goal.add_at-requires-clause-counted
-add_at-requires-clause-counted c =
-    let ss = c.args.sizes.now in let at = c.loop-at.at in let end = c.min-end.result in (
+add_at-requires-clause-counted g c =
+    let ss = c.args.sizes.now.items in let at = c.loop-at.at in let end = c.min-end.result in (
       λ j. sizes_from (take at ss) (8 * j),
       (
         c.loop-at.invariant.counted,
@@ -19,8 +19,8 @@ add_at-requires-clause-counted c =
     )
 
 pub loop-at-preserved : goal.loop-at-preserved
-loop-at-preserved c =
-    let ss = c.args.sizes.now in let at = c.loop-at.at in let end = c.min-end.result in
+loop-at-preserved g c =
+    let ss = c.args.sizes.now.items in let at = c.loop-at.at in let end = c.min-end.result in
     record {
       within = omega arith;
       same = c.add_at.ensures.length ∙ c.loop-at.invariant.same;
@@ -30,16 +30,16 @@ loop-at-preserved c =
     }
 
 pub sum_between-requires-2-clause-fits : goal.sum_between-requires-2-clause-fits
-sum_between-requires-2-clause-fits c = omega (arith, sizes_few c.args.sizes.now (length c.args.sizes.now / 8 * 8), c.requires.fits)
+sum_between-requires-2-clause-fits g c = omega (arith, sizes_few c.args.sizes.now.items (c.len.result / 8 * 8), c.requires.fits)
 
 pub returns-clause-sums : goal.returns-clause-sums
-returns-clause-sums c =
-    let ss = c.args.sizes.now in let nodes = c.loop-at.nodes in let sum = c.sum_between-2.result in
-    let full : c.loop-at.at ≡ 8 * (length ss / 8) = omega (arith, c.loop-at-test.false, c.loop-at.invariant.within) in
-    let turn : length ss / 8 * 8 ≡ 8 * (length ss / 8) = omega arith in
+returns-clause-sums g c =
+    let ss = c.args.sizes.now.items in let nodes = c.loop-at.nodes in let sum = c.sum_between-2.result in
+    let turn : c.len.result / 8 * 8 ≡ 8 * (length ss / 8) = omega (arith, ap (λ n. n / 8) c.len.ensures) in
+    let full : c.loop-at.at ≡ 8 * (length ss / 8) = omega (arith, c.loop-at-test.false, c.loop-at.invariant.within, turn) in
     record {
       counted = IsCounted-first (full_from ss) nodes sum (IsCounted-same _ _ nodes
           (λ j. ap (λ at. sizes_from (take at ss) (8 * j)) full ∙ full_take ss j) c.loop-at.invariant.counted);
       last = get_or-set_same nodes 0 sum 0 (omega (arith, c.requires.some, c.loop-at.invariant.same, c.fill.ensures.len))
-          ∙ omega (arith, c.sum_between-2.ensures, sizes_none ss (length ss) (omega arith), ap (sizes_from ss) turn);
+          ∙ omega (arith, c.sum_between-2.ensures, sizes_none ss c.len-2.result (omega (arith, c.len-2.ensures)), ap (sizes_from ss) turn);
     }
