@@ -5,7 +5,7 @@ ghost use Rattle.clru_curve.specs.LatestSizes.{sizes_from};
 ghost use Rattle.clru_curve.specs.Rising.{has_value, numbered, number_at, value_at, HasNumber, IsRising};
 ghost use Rattle.clru_curve.specs.SizeLists.{widened};
 
-use crate::numbered::Numbered;
+use crate::numbered::{Entry, Numbered, place_near};
 use std::alloc::{AllocError, Allocator};
 use std::marker::Model;
 
@@ -41,19 +41,6 @@ pub(crate) struct Small {
     value: u32,
 }
 
-/// What both forms of a size have.
-trait Entry: Copy {
-    ghost use Rattle.clru_curve.specs.declared.numbered.Numbered.{Numbered};
-
-    ghost seen: { Self → Numbered };
-
-    fn number(&self) -> usize
-        ensures { result ≡ (seen self.now).number };
-
-    fn value(&self) -> usize
-        ensures { result ≡ (seen self.now).value };
-}
-
 impl Entry for Small {
     ghost seen = { widened };
 
@@ -65,20 +52,6 @@ impl Entry for Small {
     #[inline]
     fn value(&self) -> usize {
         self.value as usize
-    }
-}
-
-impl Entry for Numbered {
-    ghost seen = { λ s. s };
-
-    #[inline]
-    fn number(&self) -> usize {
-        self.number
-    }
-
-    #[inline]
-    fn value(&self) -> usize {
-        self.value
     }
 }
 
@@ -346,39 +319,6 @@ fn rises<T: Entry>(sizes: &[T], first: usize, last: usize) -> bool {
         (Some(start), Some(end)) => start.number() <= end.number(),
         _ => false,
     }
-}
-
-/// Returns the place of the size with this number, which there is. It looks first at the place where that is likely to be.
-#[inline]
-fn place_near<T: Entry>(sizes: &[T], number: usize, guess: usize) -> usize
-    requires there { HasNumber (map T.seen sizes.now) number }
-    requires rising { (high : ℕ) × IsRising 0 (map T.seen sizes.now) high }
-    ensures inside { result < length sizes.now }
-    ensures number { number_at (map T.seen sizes.now) result ≡ number }
-{
-    if guess < sizes.len() && sizes[guess].number() == number {
-        return guess;
-    }
-    last_up_to(sizes, number)
-}
-
-/// Returns the last place whose number is not greater, or the first of all.
-fn last_up_to<T: Entry>(sizes: &[T], number: usize) -> usize
-    requires { 0 < length sizes.now }
-    ensures inside { result < length sizes.now }
-    ensures there { (i high : ℕ) → IsRising 0 (map T.seen sizes.now) high → number_at (map T.seen sizes.now) i ≡ number
-        → i < length sizes.now → result ≡ i }
-{
-    let mut first = 0;
-    let mut count = sizes.len();
-    while count > 1 {
-        let half = count / 2;
-        count -= half;
-        if sizes[first + half].number() <= number {
-            first += half;
-        }
-    }
-    first
 }
 
 /// The sum of the sizes from `first` up to `end`.
