@@ -301,9 +301,8 @@ impl<K: Eq + Hash, S: BuildHasher, A: Allocator + Copy> SizedIdlePass<K, S, A> {
         ensures refused { OnErr result (self.new ≡ self.old) }
         ensures given_back { IfErr result (λ back. back ≡ key) }
     {
-        let size = weight + 1;
         let greatest = greater(self.greatest, weight);
-        let Ok(()) = self.latest.make_ready(size) else {
+        let Ok(()) = self.latest.make_ready(weight + 1) else {
             return Err(key);
         };
         let position = self.latest.requests;
@@ -311,8 +310,8 @@ impl<K: Eq + Hash, S: BuildHasher, A: Allocator + Copy> SizedIdlePass<K, S, A> {
         if let Err(key) = self.seen.insert(hash, key, here) {
             return Err(key);
         }
-        self.latest.push(size);
-        self.size += size;
+        self.latest.push(weight + 1);
+        self.size += weight + 1;
         self.greatest = greatest;
         Ok(())
     }
