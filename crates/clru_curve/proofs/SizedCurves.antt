@@ -10,10 +10,14 @@ use Rattle.clru_model.proofs.Cases.{split}
 use Rattle.clru_model.specs.Requests.{distinct}
 use Rattle.clru_model.specs.Sizes.{total}
 use Rattle.clru_curve.specs.declared.sized.step.Step.{Step}
-use Rattle.clru_curve.specs.SizedCurves.{CurveBySize, step, hits_within, size_after, greatest_of, IsMissed, IsCurveOfHits, IsSizedCurveOf}
+use Rattle.clru_curve.specs.SizedCurves.{CurveBySize, step, hits_within, size_after, greatest_of, IsFalling, IsMissed, IsCurveOfHits, IsSizedCurveOf}
 use Rattle.clru_curve.specs.SizedPasses.{PassBySize, hit_size, IsSizedPass}
 use Rattle.clru_curve.specs.LatestSizes.{total_from}
 use Rattle.clru_curve.proofs.SizedHits.{count_by-cons}
+
+one_at_most : (b : Bool) → cond b 1 0 ≤ 1
+one_at_most true = omega arith
+one_at_most false = omega arith
 
 count_by-yes : {X : Type 0} (p : X → Bool) (x : X) (xs : List X) → p x ≡ true → count_by p (x ∷ xs) ≡ suc (count_by p xs)
 count_by-yes p x xs t =
@@ -23,18 +27,30 @@ count_by-no : {X : Type 0} (p : X → Bool) (x : X) (xs : List X) → p x ≡ fa
 count_by-no p x xs f =
     let e : cond (p x) 1 0 + count_by p xs ≡ count_by p xs = rw f (omega arith) in count_by-cons p x xs ∙ e
 
+-- where the first ones pass, at least so many do
+pub counts_from : {X : Type 0} (p : X → Bool) (xs : List X) (i : ℕ) → i ≤ length xs → ((k : ℕ) (d : X) → k < i → p (get_or xs k d) ≡ true)
+    → i ≤ count_by p xs
+counts_from p xs zero inside passes = omega arith
+counts_from p [] (suc i) inside passes = omega (arith, inside)
+counts_from p (x ∷ xs) (suc i) inside passes =
+    let ih = counts_from p xs i (omega (arith, inside)) (λ k d low. passes (suc k) d (omega (arith, low))) in
+    omega (arith, ih, count_by-yes p x xs (passes 0 x (omega arith)))
+
+-- where the others do not, at most so many do
+pub counts_to : {X : Type 0} (p : X → Bool) (xs : List X) (i : ℕ) → ((k : ℕ) (d : X) → i ≤ k → k < length xs → p (get_or xs k d) ≡ false)
+    → count_by p xs ≤ i
+counts_to p [] i fails = omega arith
+counts_to p (x ∷ xs) zero fails =
+    let ih = counts_to p xs zero (λ k d le lt. fails (suc k) d (omega arith) (omega (arith, lt))) in
+    omega (arith, ih, count_by-no p x xs (fails 0 x (omega arith) (omega arith)))
+counts_to p (x ∷ xs) (suc i) fails =
+    let ih = counts_to p xs i (λ k d le lt. fails (suc k) d (omega (arith, le)) (omega (arith, lt))) in
+    omega (arith, ih, count_by-cons p x xs, one_at_most (p x))
+
 -- up to the point of a partition stand those that pass
 pub point_counts : {X : Type 0} (p : X → Bool) (xs : List X) (i : ℕ) → i ≤ length xs → ((k : ℕ) (d : X) → k < i → p (get_or xs k d) ≡ true)
     → ((k : ℕ) (d : X) → i ≤ k → k < length xs → p (get_or xs k d) ≡ false) → i ≡ count_by p xs
-point_counts p [] zero inside passes fails = refl
-point_counts p [] (suc i) inside passes fails = omega (arith, inside)
-point_counts p (x ∷ xs) zero inside passes fails =
-    let ih = point_counts p xs zero (omega arith) (λ k d low. let bad : ⊥ = omega (arith, low) in elim bad [ ]) (λ k d le lt. fails (suc k) d (omega arith) (omega (arith, lt))) in
-    ih ∙ sym (count_by-no p x xs (fails 0 x (omega arith) (omega arith)))
-point_counts p (x ∷ xs) (suc i) inside passes fails =
-    let ih = point_counts p xs i (omega (arith, inside)) (λ k d low. passes (suc k) d (omega (arith, low)))
-    (λ k d le lt. fails (suc k) d (omega (arith, le)) (omega (arith, lt))) in
-    ap suc ih ∙ sym (count_by-yes p x xs (passes 0 x (omega arith)))
+point_counts p xs i inside passes fails = omega (arith, counts_from p xs i inside passes, counts_to p xs i fails)
 
 module _ (c : ℕ) where
   -- steps with the same spans are as many
@@ -87,6 +103,14 @@ sum_by-take-suc f [] i d inside = omega (arith, inside)
 sum_by-take-suc f (x ∷ xs) zero d inside = omega (arith, sum_by-cons f x [])
 sum_by-take-suc f (x ∷ xs) (suc i) d inside =
     omega (arith, sum_by-take-suc f xs i d (omega (arith, inside)), sum_by-cons f x (take (suc i) xs), sum_by-cons f x (take i xs))
+
+-- the sum of more is no less
+sum_by-take-grows : {X : Type 0} (f : X → ℕ) (xs : List X) (i j : ℕ) → i ≤ j → sum_by f (take i xs) ≤ sum_by f (take j xs)
+sum_by-take-grows f xs zero j le = omega arith
+sum_by-take-grows f xs (suc i) zero le = omega (arith, le)
+sum_by-take-grows f [] (suc i) (suc j) le = omega arith
+sum_by-take-grows f (x ∷ xs) (suc i) (suc j) le =
+    omega (arith, sum_by-take-grows f xs i j (omega (arith, le)), sum_by-cons f x (take i xs), sum_by-cons f x (take j xs))
 
 -- one more step of hits, of which the first i are steps already
 pub record IsMissedAt (size : ℕ) (old hits : List Step) (missed i : ℕ) : Type 0 where
@@ -150,6 +174,12 @@ module _ (size : ℕ) (hs ss : List Step) (missed : IsMissed size hs ss) where
   size_left : (k : ℕ) → k ≤ length hs → size_after size ss k + sum_by (λ h. h.missed_size) (take k hs) ≡ size
   size_left zero inside = omega arith
   size_left (suc k) inside = missed.missed k (omega (arith, inside))
+
+  pub missed_falls : IsFalling size ss
+  missed_falls i j le lt =
+      let low : j ≤ length hs = omega (arith, lt, missed.same_length) in
+      let more = sum_by-take-grows (λ h. h.missed_size) hs i j le in
+      omega (arith, size_left i (omega (arith, le, low)), size_left j low, more)
 
   pub size_left_within : (c : ℕ) → IsNonDecreasingBy (λ h. h.capacity) hs → size_after size ss (hits_within c ss) + hit_size c hs ≡ size
   size_left_within c rising =

@@ -1,5 +1,5 @@
 -- What a curve of keys with sizes is seen as, and its numbers at a capacity. Public clauses cite it.
-use Rattle.std.specs.Prelude.{◌≡◌, ℕ, zero, suc, ◌+◌, ◌-◌, ◌<◌, nat_le, nat_lt, Bool, if◌then◌else◌, List, [], ◌∷◌, length, reverse, take, slice_index_or, refl}
+use Rattle.std.specs.Prelude.{◌≡◌, ℕ, zero, suc, ◌+◌, ◌-◌, ◌<◌, ◌≤◌, nat_le, nat_lt, Bool, if◌then◌else◌, List, [], ◌∷◌, length, reverse, take, slice_index_or, refl}
 use Rattle.std.specs.Coded.{Coded, code_by, coded×, coded_list, coded_ℕ}
 use Rattle.std.specs.List.{count_by, sum_by}
 use Rattle.std.specs.List.Sorted.{IsPermutation, IsNonDecreasingBy}
@@ -40,6 +40,10 @@ hits_within c steps = count_by (λ s. nat_le s.capacity c) steps
 abbrev pub size_after : ℕ → List Step → ℕ → ℕ
 size_after size steps zero = size
 size_after size steps (suc k) = (slice_index_or steps k (step 0 0)).missed_size
+
+-- after more steps no more misses
+abbrev pub IsFalling : ℕ → List Step → Type 0
+IsFalling size steps = (i j : ℕ) → i ≤ j → j ≤ length steps → size_after size steps j ≤ size_after size steps i
 
 -- the requests that miss at the capacity c
 abbrev pub misses_within : CurveBySize → ℕ → ℕ

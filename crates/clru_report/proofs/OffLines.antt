@@ -1,8 +1,8 @@
 -- How far points lie off a straight line, and which of the capacities that were looked at lies furthest off.
-use Rattle.std.proofs.Common.{◌≡◌, ℕ, ◌+◌, ◌-◌, ◌*◌, ◌/◌, ◌<◌, ◌≤◌, inl, inr, refl, sym, ap, subst, ◌∙◌, arith}
+use Rattle.std.proofs.Common.{◌≡◌, ℕ, ◌+◌, ◌-◌, ◌*◌, ◌/◌, ◌<◌, ◌≤◌, ◌⊎◌, inl, inr, refl, sym, ap, subst, ◌∙◌, arith}
 use Rattle.std.proofs.Math.Nat.{mul-le-mul_right, sub_self}
 use Rattle.std.proofs.lemmas.Bool.{cases_lt}
-use Rattle.clru_report.specs.Faithful.{IsFurthest, IsNearLine, apart, off_at}
+use Rattle.clru_report.specs.Faithful.{IsFurthest, IsNearLine, apart, off, off_at, point, point_at}
 use Rattle.clru_report.specs.Scans.{IsGreatestOf}
 
 apart_self : (x y : ℕ) → y ≡ 0 → apart x (x + y) ≡ 0
@@ -58,6 +58,45 @@ off_piece m a b first y last low from below high left middle further =
     (apart_line (m a) (m b) w e i j u (omega (arith, below))
     (subst (λ n. n < apart w (m a * (u + j) + m b * (e + i))) one (subst (λ n. off_at m a b first < n) two further))))
 
+-- a number between two others lies no further off than one of them
+apart_between : (w x p q n : ℕ) → ((p ≤ x) × (x ≤ q)) ⊎ ((q ≤ x) × (x ≤ p)) → apart w p ≤ n → apart w q ≤ n → apart w x ≤ n
+apart_between w x p q n (inl between) left right = omega (arith, between.0, between.1, left, right)
+apart_between w x p q n (inr between) left right = omega (arith, between.0, between.1, left, right)
+
+-- a line falls or rises
+line_between : (A B e i j u : ℕ) → let p : ℕ = A * (u + j + i) + B * e in let x : ℕ = A * (u + j) + B * (e + i) in let q : ℕ = A * u + B * (e + i + j) in
+    ((p ≤ x) × (x ≤ q)) ⊎ ((q ≤ x) × (x ≤ p))
+line_between A B e i j u = elim (cases_lt A B) [
+  | inl less ↦
+      let at_i = mul-le-mul_right i less in let at_j = mul-le-mul_right j less in
+      inl (omega (arith, at_i), omega (arith, at_j))
+  | inr more ↦
+      let at_i = mul-le-mul_right i more in let at_j = mul-le-mul_right j more in
+      inr (omega (arith, at_j), omega (arith, at_i))
+]
+
+-- within a rectangle none lies further off than a corner
+pub off_within : (m : ℕ → ℕ) (a b low high greatest least y n : ℕ) → a ≤ low → high ≤ b → low ≤ y → y < high → least ≤ m y → m y ≤ greatest
+    → off (point_at m a) (point_at m b) (point low greatest) ≤ n → off (point_at m a) (point_at m b) (point high greatest) ≤ n
+    → off (point_at m a) (point_at m b) (point low least) ≤ n → off (point_at m a) (point_at m b) (point high least) ≤ n
+    → off_at m a b y ≤ n
+off_within m a b low high greatest least y n left right from below up down one two three four =
+    let e : ℕ = low - a in let i : ℕ = y - low in let j : ℕ = high - y in let u : ℕ = b - high in
+    let L : ℕ = b - a in
+    let line : (x p q : ℕ) → b - x ≡ p → x - a ≡ q → m a * (b - x) + m b * (x - a) ≡ m a * p + m b * q =
+    λ x p q to of. ap (λ k. m a * k + m b * (x - a)) to ∙ ap (λ k. m a * p + m b * k) of in
+    let at_low = line low (u + j + i) e (omega (arith, left, right, from, below)) refl in
+    let at_y = line y (u + j) (e + i) (omega (arith, right, below)) (omega (arith, left, from)) in
+    let at_high = line high u (e + i + j) refl (omega (arith, left, from, below)) in
+    let between = line_between (m a) (m b) e i j u in
+    let w : ℕ = m y * L in
+    let p : ℕ = m a * (u + j + i) + m b * e in let x : ℕ = m a * (u + j) + m b * (e + i) in let q : ℕ = m a * u + m b * (e + i + j) in
+    let high_w : w ≤ greatest * L = mul-le-mul_right L down in
+    let low_w : least * L ≤ w = mul-le-mul_right L up in
+    let left_is : apart w p ≤ n = omega (arith, high_w, low_w, subst (λ k. apart (greatest * L) k ≤ n) at_low one, subst (λ k. apart (least * L) k ≤ n) at_low three) in
+    let right_is : apart w q ≤ n = omega (arith, high_w, low_w, subst (λ k. apart (greatest * L) k ≤ n) at_high two, subst (λ k. apart (least * L) k ≤ n) at_high four) in
+    subst (λ k. apart w k ≤ n) (sym at_y) (apart_between w x p q n between left_is right_is)
+
 -- one more is looked at
 module _ (f : ℕ → ℕ) (a b k best most c : ℕ) (is : IsGreatestOf f a b k best most) (low : a ≤ c) (high : c < b) (reach : k ≤ c + 1)
     (gap : (y : ℕ) → k ≤ y → y < c → most < f y → f y < f c) where
@@ -98,6 +137,69 @@ module _ (f : ℕ → ℕ) (a b k best most c : ℕ) (is : IsGreatestOf f a b k 
     covered = before most (omega arith) less;
     first = is.first;
   }
+
+-- what lies no further off need not be looked at
+pub greatest_on : (f : ℕ → ℕ) (a b k n best most : ℕ) → IsGreatestOf f a b k best most → ((y : ℕ) → k ≤ y → y < n → f y ≤ most)
+    → IsGreatestOf f a b n best most
+greatest_on f a b k n best most is near = record {
+  is = is.is;
+  low = is.low;
+  high = is.high;
+  covered = λ y from below. elim (cases_lt y k) [
+    | inl early ↦ is.covered y from early
+    | inr late ↦ near y late below
+  ];
+  first = is.first;
+}
+
+-- f, but for a, to which c is added
+abbrev pub raised_at : ℕ → ℕ → (ℕ → ℕ) → ℕ → ℕ
+raised_at a c f y = f y + c * (a + 1 - y)
+
+pub raised_above : (a c : ℕ) (f : ℕ → ℕ) (y : ℕ) → a < y → raised_at a c f y ≡ f y
+raised_above a c f y above =
+    let none : a + 1 - y ≡ 0 = omega (arith, above) in
+    let all : c * (a + 1 - y) ≡ 0 = ap (λ n. c * n) none ∙ omega arith in
+    omega (arith, all)
+
+raised_here : (a c : ℕ) (f : ℕ → ℕ) → f a ≡ 0 → raised_at a c f a ≡ c
+raised_here a c f none =
+    let one : a + 1 - a ≡ 1 = omega arith in
+    let all : c * (a + 1 - a) ≡ c = ap (λ n. c * n) one ∙ omega arith in
+    omega (arith, all, none)
+
+-- where a counts as that far off, it is the first
+pub raised_start : (f : ℕ → ℕ) (a b c : ℕ) → a < b → f a ≡ 0 → IsGreatestOf (raised_at a c f) a b (a + 1) a c
+raised_start f a b c some none = record {
+  is = sym (raised_here a c f none);
+  low = omega arith;
+  high = some;
+  covered = λ y from below. let same : y ≡ a = omega (arith, from, below) in omega (arith, ap (raised_at a c f) same, raised_here a c f none);
+  first = λ y from below. omega (arith, from, below);
+}
+
+-- and where the greatest is more than that, it is the greatest of f
+pub raised_is : (f : ℕ → ℕ) (a b c best most : ℕ) → f a ≡ 0 → c < most → IsGreatestOf (raised_at a c f) a b b best most
+    → IsGreatestOf f a b b best most
+raised_is f a b c best most none more is = record {
+  is = elim (cases_lt a best) [
+    | inl above ↦ is.is ∙ raised_above a c f best above
+    | inr same ↦
+        let equal : best ≡ a = omega (arith, is.low, same) in
+        absurd (omega (arith, is.is, ap (raised_at a c f) equal, raised_here a c f none, more))
+  ];
+  low = is.low;
+  high = is.high;
+  covered = λ y from below. omega (arith, is.covered y from below);
+  first = λ y from below. omega (arith, is.first y from below);
+}
+
+-- what some p has it is no less than
+pub raised_most : (f : ℕ → ℕ) (a b c p best most : ℕ) → f a ≡ 0 → a ≤ p → p < b → c < f p → IsGreatestOf (raised_at a c f) a b b best most → c < most
+raised_most f a b c p best most none low high more is = elim (cases_lt a p) [
+  | inl above ↦ omega (arith, is.covered p low high, raised_above a c f p above, more)
+  | inr same ↦ let equal : p ≡ a = omega (arith, low, same) in omega (arith, ap f equal, none, more)
+]
 
 pub greatest_start : (m : ℕ → ℕ) (a b : ℕ) → a < b → IsGreatestOf (off_at m a b) a b a a 0
 greatest_start m a b some = record {

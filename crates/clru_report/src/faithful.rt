@@ -107,8 +107,8 @@ pub(crate) fn further(
     }
 }
 
-// How far a point lies off the straight line between two others, times its length. It is below 2^128.
-fn off(start: Point, end: Point, here: Point) -> u128
+/// Returns how far a point lies off the straight line between two others, times its length. It is below 2^128.
+pub(crate) fn off(start: Point, end: Point, here: Point) -> u128
     ensures { result ≡ off_line start end here }
 {
     let length = end.capacity.saturating_sub(start.capacity);

@@ -3,7 +3,7 @@ ghost use Rattle.std.specs.Prelude.{◌≡◌, ◌<◌, ◌≤◌, nat_le, lengt
 ghost use Rattle.std.specs.Int.NonZero.{non_zero_usize_get};
 ghost use Rattle.std.specs.List.{sum_by};
 ghost use Rattle.std.specs.List.Sorted.{IsNonDecreasingBy};
-ghost use Rattle.clru_curve.specs.SizedCurves.{misses_within, missed_size_within, hits_within, IsCurveOfHits, IsMissed};
+ghost use Rattle.clru_curve.specs.SizedCurves.{misses_within, missed_size_within, hits_within, IsCurveOfHits, IsFalling, IsMissed};
 
 use crate::sized::step::Step;
 use std::alloc::{Allocator, Global};
@@ -27,7 +27,7 @@ pub struct SizedCurve<A: Allocator = Global> {
 impl<A: Allocator> Model for SizedCurve<A> {
     ghost use Rattle.std.specs.Prelude.{ℕ, List, length, ◌≤◌};
     ghost use Rattle.std.specs.List.Sorted.{IsNonDecreasingBy};
-    ghost use Rattle.clru_curve.specs.SizedCurves.{CurveBySize, curve_by_size, curve_by_size_code};
+    ghost use Rattle.clru_curve.specs.SizedCurves.{CurveBySize, IsFalling, curve_by_size, curve_by_size_code};
 
     ghost Value = { CurveBySize };
 
@@ -35,7 +35,8 @@ impl<A: Allocator> Model for SizedCurve<A> {
 
     ghost view = { λ c. curve_by_size c.steps.items c.requests c.size c.distinct_size c.greatest_weight };
 
-    ghost invariant = { λ c. IsNonDecreasingBy (λ s. s.capacity) c.steps.items × (length c.steps.items ≤ c.requests) };
+    ghost invariant = { λ c. IsNonDecreasingBy (λ s. s.capacity) c.steps.items × (length c.steps.items ≤ c.requests)
+        × IsFalling c.size c.steps.items };
 }
 
 impl<A: Allocator> SizedCurve<A> {
@@ -102,10 +103,12 @@ impl<A: Allocator> SizedCurve<A> {
 
     /// Returns the steps, the least capacity first. There is one for each request that can hit at all; if a capacity comes
     /// several times, its last one counts. A step that is not above the greatest weight says nothing: there a cache refuses puts.
+    /// What misses after a step is never more than after the one before.
     /// Cost: a read.
     pub fn as_slice(&self) -> &[Step]
         ensures steps { result.now ≡ self.now.steps }
         ensures rising { IsNonDecreasingBy (λ s. s.capacity) result.now }
+        ensures falling { IsFalling self.now.size result.now }
         ensures few { length result.now ≤ self.now.requests }
     {
         self.steps.as_slice()

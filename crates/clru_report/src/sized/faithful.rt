@@ -1,11 +1,11 @@
 //! The curve of missed sizes, as one that a faithful table is made of.
-ghost use Rattle.std.specs.Prelude.{◌≡◌, ℕ, ◌+◌, ◌≤◌, ◌<◌, nat_le, length, IfNone, IfSome};
+ghost use Rattle.std.specs.Prelude.{◌≡◌, ℕ, ◌+◌, ◌-◌, ◌≤◌, ◌<◌, nat_le, length, slice_index_or, IfNone, IfSome};
 ghost use Rattle.std.specs.List.Sorted.{IsNonDecreasingBy, IsPartitionPoint};
-ghost use Rattle.clru_curve.specs.SizedCurves.{hits_within, missed_size_within, size_after};
+ghost use Rattle.clru_curve.specs.SizedCurves.{hits_within, missed_size_within, size_after, step};
 ghost use Rattle.clru_report.specs.Faithful.{IsFurthest, IsNearLine, off_at, point_at};
 ghost use Rattle.clru_report.specs.Scans.{IsGreatestOf};
 
-use crate::faithful::{Curve, Point, further, if_far};
+use crate::faithful::{Curve, Point, further, off, product};
 use clru_curve::{SizedCurve, Step};
 use std::alloc::Allocator;
 
@@ -47,7 +47,6 @@ pub(super) fn missed_after<A: Allocator>(curve: &SizedCurve<A>, hits: usize) -> 
     }
 }
 
-// From one step up to the next the misses stay the same, so none but the ends of such a piece can lie furthest off.
 fn furthest_by_size<A: Allocator>(
     curve: &SizedCurve<A>,
     whole: usize,
@@ -57,36 +56,121 @@ fn furthest_by_size<A: Allocator>(
     ensures found { IfSome result (λ x. IsFurthest (missed_size_within curve.now) whole a b x) }
     ensures none { IfNone result (IsNearLine (missed_size_within curve.now) whole a b) }
 {
-    if b <= a {
+    if b.saturating_sub(a) <= 1 {
         return None;
     }
+    let near = product(whole, b - a) / 50;
+    let found = greatest_by_size(curve, a, b, near);
+    if found.1 > near { Some(found.0) } else { None }
+}
+
+// From one step up to the next the misses stay the same, so none but the ends of such a piece can lie furthest off. Only what
+// lies further off than `near` is looked for: where that is, something lies further off than `found` says at first, so that
+// `a` does not stay. Behind a block that was skipped one twice as long is tried.
+fn greatest_by_size<A: Allocator>(
+    curve: &SizedCurve<A>,
+    a: usize,
+    b: usize,
+    near: u128,
+) -> (usize, u128)
+    requires { a + 1 < b }
+    ensures covered { (y : ℕ) → a ≤ y → y < b → off_at (missed_size_within curve.now) a b y ≤ result.1 }
+    ensures far { near < result.1 → IsGreatestOf (off_at (missed_size_within curve.now) a b) a b b result.0 result.1 }
+{
     let start = point_by_size(curve, a);
     let end = point_by_size(curve, b);
     let steps = curve.as_slice();
-    let from = steps_up_to(steps, a);
     let to = steps_up_to(steps, b - 1);
-    let mut last = a;
-    let mut best = a;
-    let mut most = 0;
-    for index in from..to {
+    let mut index = steps_up_to(steps, a);
+    let mut last = a + 1;
+    let mut found = (a, far_somewhere(curve, a, b).saturating_sub(1).max(near));
+    let mut count = 64;
+    while index < to {
+        let after = index.saturating_add(count).min(to);
+        if index % 64 == 0 && most_of_block(curve, start, end, index, after, last) <= found.1 {
+            last = last.max(steps[after - 1].capacity);
+            index = after;
+            count = count.saturating_mul(2);
+            continue;
+        }
         let next = steps[index].capacity;
         if next > last {
-            let found = further_on(
-                start,
-                end,
-                last,
-                next,
-                missed_after(curve, index),
-                best,
-                most,
-            );
+            let misses = missed_after(curve, index);
+            found = further_on(start, end, last, next, misses, found.0, found.1);
             last = next;
-            best = found.0;
-            most = found.1;
         }
+        index += 1;
+        count = 64;
     }
-    let found = further_on(start, end, last, b, missed_after(curve, to), best, most);
-    if_far(whole, a, b, found.0, found.1)
+    let misses = missed_after(curve, to);
+    further_on(start, end, last, b, misses, found.0, found.1)
+}
+
+// How far off some capacity lies: of some 64 steps that are looked at, the furthest. So the furthest of all lies no nearer.
+fn far_somewhere<A: Allocator>(curve: &SizedCurve<A>, a: usize, b: usize) -> u128
+    requires { a < b }
+    ensures { (p : ℕ) × (a ≤ p) × (p < b) × (result ≡ off_at (missed_size_within curve.now) a b p) }
+{
+    let start = point_by_size(curve, a);
+    let end = point_by_size(curve, b);
+    let steps = curve.as_slice();
+    let to = steps_up_to(steps, b - 1);
+    let mut index = steps_up_to(steps, a);
+    let stride = to.saturating_sub(index) / 64 + 1;
+    let mut far = 0;
+    while index < to {
+        let here = point_by_size(curve, steps[index].capacity);
+        far = off(start, end, here).max(far);
+        index = index.saturating_add(stride);
+    }
+    far
+}
+
+// Nothing from `last` up to the last step before `after` lies further off than that.
+fn most_of_block<A: Allocator>(
+    curve: &SizedCurve<A>,
+    start: Point,
+    end: Point,
+    index: usize,
+    after: usize,
+    last: usize,
+) -> u128
+    requires order { index < after }
+    requires inside { after ≤ length curve.now.steps }
+    ensures { (a b : ℕ) → start ≡ point_at (missed_size_within curve.now) a → end ≡ point_at (missed_size_within curve.now) b
+        → a ≤ last → (slice_index_or curve.now.steps (after - 1) (step 0 0)).capacity ≤ b
+        → ((j : ℕ) → j < index → (slice_index_or curve.now.steps j (step 0 0)).capacity ≤ last)
+        → (y : ℕ) → last ≤ y → y < (slice_index_or curve.now.steps (after - 1) (step 0 0)).capacity
+        → off_at (missed_size_within curve.now) a b y ≤ result }
+{
+    let left = Point {
+        capacity: last,
+        misses: missed_after(curve, index),
+    };
+    let right = Point {
+        capacity: curve.as_slice()[after - 1].capacity,
+        misses: missed_after(curve, after - 1),
+    };
+    most_between(start, end, left, right)
+}
+
+// A curve that falls from one point to another lies within their rectangle, of which a corner lies furthest off.
+fn most_between(start: Point, end: Point, left: Point, right: Point) -> u128
+    ensures { (m : ℕ → ℕ) (a b : ℕ) → start ≡ point_at m a → end ≡ point_at m b → a ≤ left.capacity → right.capacity ≤ b
+        → (y : ℕ) → left.capacity ≤ y → y < right.capacity → right.misses ≤ m y → m y ≤ left.misses → off_at m a b y ≤ result }
+{
+    let above = Point {
+        capacity: right.capacity,
+        misses: left.misses,
+    };
+    let below = Point {
+        capacity: left.capacity,
+        misses: right.misses,
+    };
+    let at_ends = off(start, end, left).max(off(start, end, right));
+    at_ends
+        .max(off(start, end, above))
+        .max(off(start, end, below))
 }
 
 // Looks at a piece of the curve, from `first` up to the capacity before `next`.
@@ -100,9 +184,9 @@ pub(super) fn further_on(
     most: u128,
 ) -> (usize, u128)
     requires { first < next }
-    ensures { (m : ℕ → ℕ) (a b : ℕ) → start ≡ point_at m a → end ≡ point_at m b → a ≤ first → next ≤ b
-        → ((y : ℕ) → first ≤ y → y < next → m y ≡ misses) → IsGreatestOf (off_at m a b) a b first best most
-        → IsGreatestOf (off_at m a b) a b next result.0 result.1 }
+    ensures { (m f : ℕ → ℕ) (a b : ℕ) → start ≡ point_at m a → end ≡ point_at m b → a ≤ first → next ≤ b
+        → ((y : ℕ) → first ≤ y → y < next → m y ≡ misses) → ((y : ℕ) → first ≤ y → y < next → f y ≡ off_at m a b y)
+        → IsGreatestOf f a b first best most → IsGreatestOf f a b next result.0 result.1 }
 {
     let left = Point {
         capacity: first,

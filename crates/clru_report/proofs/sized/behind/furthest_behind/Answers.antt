@@ -1,4 +1,4 @@
-use Rattle.std.proofs.Common.{◌≡◌, ◌<◌, ◌≤◌, ℕ, List, length, get_or, inl, inr, sym, ap, subst, ◌∙◌, arith}
+use Rattle.std.proofs.Common.{◌≡◌, ◌<◌, ◌≤◌, ℕ, List, length, get_or, inl, inr, refl, sym, ap, subst, ◌∙◌, arith}
 use Rattle.std.proofs.lemmas.Bool.{cases_lt}
 use Rattle.std.specs.List.Sorted.{IsNonDecreasingBy}
 use Rattle.clru_curve.specs.SizedCurves.{step}
@@ -31,8 +31,8 @@ loop-index-preserved g c =
           let stays = λ (y : ℕ) (from : last ≤ y) (low : y < (get_or c.as_slice-steps.result.now i (step 0 0)).capacity).
           left_stays curve head c.requires i last y (omega (arith, inside)) from (λ j early. before.3 j early)
           (λ j late in_steps. omega (arith, rising i j (step 0 0) late in_steps, low, at)) ∙ sym w.missed_behind-misses.ensures in
-          let is = w.further_on-found.ensures m a b c.point_behind-start.ensures c.point_behind-end.ensures
-          before.1 (omega (arith, below, at)) stays before.0 in
+          let is = w.further_on-found.ensures m f a b c.point_behind-start.ensures c.point_behind-end.ensures
+          before.1 (omega (arith, below, at)) stays (λ y from low. refl) before.0 in
           let here = w.last-is ∙ at in (
             subst (λ n. IsGreatestOf f a b n next.best next.most) (sym w.last-is)
                 (subst (λ n. IsGreatestOf f a b _ n next.most) (sym w.best-is)
@@ -66,8 +66,8 @@ returns-clause-found g c =
     (λ j late in_steps.
     let high = c.steps_up_to-to.ensures.point.1 j (step 0 0) late (subst (λ ss. j < length ss) (sym steps) in_steps) in
     omega (arith, high, ap (λ (ss : List Step). (get_or ss j (step 0 0)).capacity) steps, low)) ∙ sym c.missed_behind-misses-2.ensures in
-    let is = c.further_on-found-2.ensures m a b c.point_behind-start.ensures c.point_behind-end.ensures
-    before.1 (omega arith) stays before.0 in
+    let is = c.further_on-found-2.ensures m (off_at m a b) a b c.point_behind-start.ensures c.point_behind-end.ensures
+    before.1 (omega arith) stays (λ y from low. refl) before.0 in
     c.if_far.ensures.found m is
 
 pub returns-clause-none : goal.returns-clause-none
@@ -81,6 +81,6 @@ returns-clause-none g c =
     (λ j late in_steps.
     let high = c.steps_up_to-to.ensures.point.1 j (step 0 0) late (subst (λ ss. j < length ss) (sym steps) in_steps) in
     omega (arith, high, ap (λ (ss : List Step). (get_or ss j (step 0 0)).capacity) steps, low)) ∙ sym c.missed_behind-misses-2.ensures in
-    let is = c.further_on-found-2.ensures m a b c.point_behind-start.ensures c.point_behind-end.ensures
-    before.1 (omega arith) stays before.0 in
+    let is = c.further_on-found-2.ensures m (off_at m a b) a b c.point_behind-start.ensures c.point_behind-end.ensures
+    before.1 (omega arith) stays (λ y from low. refl) before.0 in
     c.if_far.ensures.none m is

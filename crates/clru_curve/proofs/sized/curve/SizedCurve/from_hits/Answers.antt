@@ -2,7 +2,7 @@ use Rattle.std.proofs.Common.{refl, sym, ap, length, ◌∙◌, subst, arith, ru
 use Rattle.std.proofs.lemmas.List.Sorted.{IsNonDecreasingBy-from_sort_by_key, length_permutation}
 use Rattle.std.specs.List.Sorted.{IsNonDecreasingBy}
 use Rattle.clru_curve.proofs.Latests.{written_back}
-use Rattle.clru_curve.proofs.SizedCurves.{steps_rise}
+use Rattle.clru_curve.proofs.SizedCurves.{missed_falls, steps_rise}
 use Rattle.clru_curve.specs.SizedCurves.{IsMissed}
 use Rattle.clru_curve.proofs.sized.curve.SizedCurve.from_hits.Goals as goal
 
@@ -15,6 +15,7 @@ invariant_of-result g c =
       steps_rise c.args.size c.deref_mut.result.now c.miss_sizes.new.hits c.miss_sizes.ensures
           (subst (λ l. IsNonDecreasingBy (λ h. h.capacity) l) (sym c.deref_mut.ensures.value) rising),
       omega (arith, c.miss_sizes.ensures.same_length, ap (λ l. length l) c.deref_mut.ensures.value, same, c.requires.few),
+      missed_falls c.args.size c.deref_mut.result.now c.miss_sizes.new.hits c.miss_sizes.ensures,
     )
 
 pub returns : goal.returns
