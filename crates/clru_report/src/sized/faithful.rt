@@ -9,6 +9,9 @@ use crate::faithful::{Curve, Point, further, off, product};
 use clru_curve::{SizedCurve, Step};
 use std::alloc::Allocator;
 
+/// How many steps a block has at least, and how many of all are looked at first.
+const FEW: usize = 64;
+
 /// A curve by size.
 #[derive(Drop)]
 pub(crate) struct BySize<'a, A: Allocator>(pub(crate) &'a SizedCurve<A>);
@@ -84,10 +87,10 @@ fn greatest_by_size<A: Allocator>(
     let mut index = steps_up_to(steps, a);
     let mut last = a + 1;
     let mut found = (a, far_somewhere(curve, a, b).saturating_sub(1).max(near));
-    let mut count = 64;
+    let mut count = FEW;
     while index < to {
         let after = index.saturating_add(count).min(to);
-        if index % 64 == 0 && most_of_block(curve, start, end, index, after, last) <= found.1 {
+        if index % FEW == 0 && most_of_block(curve, start, end, index, after, last) <= found.1 {
             last = last.max(steps[after - 1].capacity);
             index = after;
             count = count.saturating_mul(2);
@@ -100,13 +103,13 @@ fn greatest_by_size<A: Allocator>(
             last = next;
         }
         index += 1;
-        count = 64;
+        count = FEW;
     }
     let misses = missed_after(curve, to);
     further_on(start, end, last, b, misses, found.0, found.1)
 }
 
-// How far off some capacity lies: of some 64 steps that are looked at, the furthest. So the furthest of all lies no nearer.
+// How far off some capacity lies: of a few steps that are looked at, the furthest. So the furthest of all lies no nearer.
 fn far_somewhere<A: Allocator>(curve: &SizedCurve<A>, a: usize, b: usize) -> u128
     requires { a < b }
     ensures { (p : ℕ) × (a ≤ p) × (p < b) × (result ≡ off_at (missed_size_within curve.now) a b p) }
@@ -116,7 +119,7 @@ fn far_somewhere<A: Allocator>(curve: &SizedCurve<A>, a: usize, b: usize) -> u12
     let steps = curve.as_slice();
     let to = steps_up_to(steps, b - 1);
     let mut index = steps_up_to(steps, a);
-    let stride = to.saturating_sub(index) / 64 + 1;
+    let stride = to.saturating_sub(index) / FEW + 1;
     let mut far = 0;
     while index < to {
         let here = point_by_size(curve, steps[index].capacity);
