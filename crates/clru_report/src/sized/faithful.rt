@@ -10,7 +10,7 @@ use clru_curve::{SizedCurve, Step};
 use std::alloc::Allocator;
 
 /// How many steps a block has at least, and how many of all are looked at first.
-const FEW: usize = 64;
+const FEW_STEPS: usize = 64;
 
 /// A curve by size.
 #[derive(Drop)]
@@ -87,10 +87,12 @@ fn greatest_by_size<A: Allocator>(
     let mut index = steps_up_to(steps, a);
     let mut last = a + 1;
     let mut found = (a, far_somewhere(curve, a, b).saturating_sub(1).max(near));
-    let mut count = FEW;
+    let mut count = FEW_STEPS;
     while index < to {
         let after = index.saturating_add(count).min(to);
-        if index % FEW == 0 && most_of_block(curve, start, end, index, after, last) <= found.1 {
+        if index % FEW_STEPS == 0
+            && most_of_block(curve, start, end, index, after, last) <= found.1
+        {
             last = last.max(steps[after - 1].capacity);
             index = after;
             count = count.saturating_mul(2);
@@ -103,7 +105,7 @@ fn greatest_by_size<A: Allocator>(
             last = next;
         }
         index += 1;
-        count = FEW;
+        count = FEW_STEPS;
     }
     let misses = missed_after(curve, to);
     further_on(start, end, last, b, misses, found.0, found.1)
@@ -119,7 +121,7 @@ fn far_somewhere<A: Allocator>(curve: &SizedCurve<A>, a: usize, b: usize) -> u12
     let steps = curve.as_slice();
     let to = steps_up_to(steps, b - 1);
     let mut index = steps_up_to(steps, a);
-    let stride = to.saturating_sub(index) / FEW + 1;
+    let stride = to.saturating_sub(index) / FEW_STEPS + 1;
     let mut far = 0;
     while index < to {
         let here = point_by_size(curve, steps[index].capacity);
