@@ -382,7 +382,7 @@ same_place ss high i j is in_i in_j same = elim (cases_lt i j) [
 
 pub IsSummed-none : IsSummed [] [] 0
 IsSummed-none = record {
-  sums = record { counted = record { node = λ j some within. omega (arith, within); none = λ j far. refl }; last = refl };
+  sums = record { counted = record { node = λ j some within. omega (arith, within); none = λ j far. refl }; first = refl };
   covers = omega arith;
   tight = omega arith;
   rising = omega arith;
@@ -390,7 +390,7 @@ IsSummed-none = record {
 
 pub IsSummed-node : (ss : List Numbered) (nodes : List ℕ) (n : ℕ) → IsSummed ss nodes n → length nodes ≤ length ss / 8 → IsSummed ss (nodes ++ 0 ∷ []) n
 IsSummed-node ss nodes n kept full = record {
-  sums = record { counted = IsCounted-push _ nodes kept.sums.counted; last = get_or_push nodes 0 ∙ kept.sums.last };
+  sums = record { counted = IsCounted-push _ nodes kept.sums.counted; first = get_or_push nodes 0 ∙ kept.sums.first };
   covers = omega (arith, length_push nodes 0, kept.covers);
   tight = omega (arith, length_push nodes 0, full, div-add-mod' (length ss) 8);
   rising = kept.rising;

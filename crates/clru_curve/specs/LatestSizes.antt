@@ -40,10 +40,10 @@ open_in ss = sizes_from ss (8 * (length ss / 8))
 abbrev pub full_from : List Numbered → ℕ → ℕ
 full_from ss j = sizes_from ss (8 * j) - open_in ss
 
--- the nodes above the full blocks; the first of them, which is above none, has the other sum
+-- the nodes above the full blocks; node 0, which is above none, has the sum of the block that is not full
 pub record AreSums (ss : List Numbered) (nodes : List ℕ) : Type 0 where
   pub counted : IsCounted (full_from ss) nodes
-  pub last : slice_index nodes 0 ≡ open_in ss
+  pub first : slice_index nodes 0 ≡ open_in ss
 
 -- what holds of the sizes of n requests and of the nodes above their blocks
 pub record IsSummed (ss : List Numbered) (nodes : List ℕ) (n : ℕ) : Type 0 where

@@ -2,7 +2,7 @@
 use Rattle.std.specs.Prelude.{ℕ, ◌<◌, ◌≤◌, List, length, map, vec_capacity, refl}
 use Rattle.std.specs.Coded.{Coded, code_by, coded×, coded_list, coded_ℕ}
 use Rattle.clru_curve.specs.declared.numbered.Numbered.{Numbered}
-use Rattle.clru_curve.specs.declared.sized.size_list.Small.{Small}
+use Rattle.clru_curve.specs.declared.sized.size_list.NarrowSize.{NarrowSize}
 use Rattle.clru_curve.specs.declared.sized.size_list.Form.{Form}
 use Rattle.clru_curve.specs.declared.sized.size_list.Form.TheVariants.{Narrow, Wide}
 use Rattle.clru_curve.specs.Rising.{numbered, numbered_code}
@@ -19,7 +19,7 @@ size_items_code =
     (λ t. record { items = t.0; capacity = t.1.0; greatest = t.1.1 }) (λ _. refl)
 
 -- what a small size stands for
-abbrev pub widened : Small → Numbered
+abbrev pub widened : NarrowSize → Numbered
 widened s = numbered s.number s.value
 
 module _ {A : Type 0} where

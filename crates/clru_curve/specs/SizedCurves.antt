@@ -41,7 +41,7 @@ abbrev pub size_after : ℕ → List Step → ℕ → ℕ
 size_after size steps zero = size
 size_after size steps (suc k) = (slice_index_or steps k (step 0 0)).missed_size
 
--- after more steps no more misses
+-- after more steps no more is missed
 abbrev pub IsFalling : ℕ → List Step → Type 0
 IsFalling size steps = (i j : ℕ) → i ≤ j → j ≤ length steps → size_after size steps j ≤ size_after size steps i
 

@@ -10,7 +10,7 @@ pub(crate) struct Numbered {
 }
 
 /// What has a number and a value, in whatever form.
-pub(crate) trait Entry: Copy {
+pub(crate) trait NumberedValue: Copy {
     ghost use Rattle.clru_curve.specs.declared.numbered.Numbered.{Numbered};
 
     ghost seen: { Self → Numbered };
@@ -22,7 +22,7 @@ pub(crate) trait Entry: Copy {
         ensures { result ≡ (seen self.now).value };
 }
 
-impl Entry for Numbered {
+impl NumberedValue for Numbered {
     ghost seen = { λ s. s };
 
     #[inline]
@@ -51,7 +51,7 @@ pub(crate) fn place_of(values: &[Numbered], number: usize) -> usize
 
 /// Returns the same. It looks first at the place where the value is likely to be.
 #[inline]
-pub(crate) fn place_near<T: Entry>(values: &[T], number: usize, guess: usize) -> usize
+pub(crate) fn place_near<T: NumberedValue>(values: &[T], number: usize, guess: usize) -> usize
     requires there { HasNumber (map T.seen values.now) number }
     requires rising { (high : ℕ) × IsRising 0 (map T.seen values.now) high }
     ensures inside { result < length values.now }
@@ -64,7 +64,7 @@ pub(crate) fn place_near<T: Entry>(values: &[T], number: usize, guess: usize) ->
 }
 
 /// Returns the last place whose number is not greater, or the first of all.
-fn last_up_to<T: Entry>(values: &[T], number: usize) -> usize
+fn last_up_to<T: NumberedValue>(values: &[T], number: usize) -> usize
     requires { 0 < length values.now }
     ensures inside { result < length values.now }
     ensures there { (i high : ℕ) → IsRising 0 (map T.seen values.now) high → number_at (map T.seen values.now) i ≡ number

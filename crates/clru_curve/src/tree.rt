@@ -1,5 +1,6 @@
 //! A Fenwick tree of nodes above counts. Node j holds the sum of the counts from j up to the next number that has fewer binary
-//! digits below its lowest 1, so a sum from a count on takes a node for each digit at most, and a change of a count writes as many.
+//! digits below its lowest 1, so a sum from a count on takes a node for each digit at most, and a change of a count writes as many. Node 0
+//! is above no count, so a caller may keep a number there.
 ghost use Rattle.std.specs.Prelude.{◌≡◌, ℕ, ◌+◌, ◌-◌, ◌^◌, ◌<◌, ◌≤◌, length, slice_index};
 ghost use Rattle.clru_curve.specs.Tree.{up_by, IsCounted, Falls};
 

@@ -150,8 +150,8 @@ impl<V: Copy, S: BuildHasher, A: Allocator + Copy> BytesTable<V, S, A> {
         place < self.held.len() && self.held[place].end.wrapping_sub(self.start_at(place)) == length
     }
 
-    /// Returns whether a string at a place, which may be none, has the same first and last bytes. It reads both, since the string may lie in
-    /// two lines of the processor's cache.
+    /// Returns whether the string at a place, which may be none, has the first and the last byte of `bytes`, if it is as long; of no bytes
+    /// never. It reads both, since a string may lie in two lines of the processor's cache.
     #[inline(always)]
     pub(crate) fn has_ends_of(&self, place: usize, bytes: &[u8]) -> bool {
         if place >= self.held.len() || bytes.is_empty() {

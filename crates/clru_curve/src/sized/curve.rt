@@ -103,7 +103,7 @@ impl<A: Allocator> SizedCurve<A> {
 
     /// Returns the steps, the least capacity first. There is one for each request that can hit at all; if a capacity comes
     /// several times, its last one counts. A step that is not above the greatest weight says nothing: there a cache refuses puts.
-    /// What misses after a step is never more than after the one before.
+    /// What misses after a step is never more than after the one before, nor than the size of all requests.
     /// Cost: a read.
     pub fn as_slice(&self) -> &[Step]
         ensures steps { result.now ≡ self.now.steps }

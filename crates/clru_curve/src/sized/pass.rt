@@ -29,7 +29,8 @@ use std::marker::Model;
 /// requests, the latest first, by `IsSizedPass`. It returns a curve at any time.
 ///
 /// Takes memory for a position in a hash table and a size for each distinct key, for half as many sizes more, and 16 bytes for each
-/// request whose key came before.
+/// request whose key came before. A size takes 8 bytes as long as all sizes and the number of requests fit 4, and else 16; when one first
+/// does not, all are copied.
 pub struct SizedPass<K: Eq + Hash, S: BuildHasher = DefaultState, A: Allocator + Copy = Global> {
     pub(crate) positions: KeyTable<K, usize, S, A>,
     pub(crate) latest: Sizes<A>,

@@ -5,7 +5,7 @@ ghost use Rattle.clru_curve.specs.LatestSizes.{sizes_from};
 ghost use Rattle.clru_curve.specs.Rising.{has_value, numbered, number_at, value_at, HasNumber, IsRising};
 ghost use Rattle.clru_curve.specs.SizeLists.{widened};
 
-use crate::numbered::{Entry, Numbered, place_near};
+use crate::numbered::{Numbered, NumberedValue, place_near};
 use std::alloc::{AllocError, Allocator};
 use std::marker::Model;
 
@@ -32,16 +32,17 @@ const MASKS: [usize; 16] = [
     usize::MAX,
 ];
 
+/// The greatest number of 4 bytes.
 const GREATEST_NARROW: usize = 4294967295;
 
 /// A size and the number of its request, in half of the memory.
 #[derive(Clone, Copy)]
-pub(crate) struct Small {
+pub(crate) struct NarrowSize {
     number: u32,
     value: u32,
 }
 
-impl Entry for Small {
+impl NumberedValue for NarrowSize {
     ghost seen = { widened };
 
     #[inline]
@@ -57,7 +58,7 @@ impl Entry for Small {
 
 #[derive(Drop)]
 enum Form<A: Allocator> {
-    Narrow(Vec<Small, A>),
+    Narrow(Vec<NarrowSize, A>),
     Wide(Vec<Numbered, A>),
 }
 
@@ -142,7 +143,7 @@ impl<A: Allocator + Copy> SizeList<A> {
         self.widen()
     }
 
-    // Out of line, because it is called at most once.
+    // Out of line, because it succeeds at most once. (the second arm is never reached)
     #[cold]
     #[inline(never)]
     fn widen(&mut self) -> Result<(), AllocError>
@@ -173,7 +174,7 @@ impl<A: Allocator + Copy> SizeList<A> {
         ensures greatest { self.new.greatest ≡ self.old.greatest }
     {
         match &mut self.form {
-            Form::Narrow(sizes) => sizes.push_reserved(Small {
+            Form::Narrow(sizes) => sizes.push_reserved(NarrowSize {
                 number: number as u32,
                 value: value as u32,
             }),
@@ -196,6 +197,7 @@ impl<A: Allocator + Copy> SizeList<A> {
     }
 
     /// Drops the sizes that are 0.
+    /// Cost: a step for each size.
     pub(crate) fn drop_empty(&mut self)
         ensures items { self.new.items ≡ filter has_value self.old.items }
         ensures capacity { self.new.capacity ≡ self.old.capacity }
@@ -203,7 +205,7 @@ impl<A: Allocator + Copy> SizeList<A> {
     {
         match &mut self.form {
             Form::Narrow(sizes) => sizes.retain(
-                |size: &Small| -> bool
+                |size: &NarrowSize| -> bool
                     ensures { result ≡ has_value (widened size.now) }
                 { size.value != 0 },
             ),
@@ -265,8 +267,9 @@ impl<A: Allocator + Copy> SizeList<A> {
         }
     }
 
-    /// The place, if the size of the request stands there and the block is full, or else `usize::MAX`. It reads the ends of the block too,
-    /// since its sizes may be summed up next: it may lie in two lines of the processor's cache, or if it is wide in three.
+    /// The place, if the size of the request stands there and the block is full, or else `usize::MAX`. It reads both ends of the block too,
+    /// and the middle of a wide one, since its sizes may be summed up next: a block may lie in two lines of the processor's cache, a wide
+    /// one in three.
     #[inline]
     pub(crate) fn read_block(&self, request: usize, place: usize) -> usize {
         let first = place / BLOCK * BLOCK;
@@ -285,7 +288,9 @@ impl<A: Allocator + Copy> SizeList<A> {
 
 /// Returns the same sizes in 16 bytes each, with room for as many again.
 /// Cost: one request for memory.
-fn all_widened<A: Allocator + Copy>(sizes: &Vec<Small, A>) -> Result<Vec<Numbered, A>, AllocError>
+fn all_widened<A: Allocator + Copy>(
+    sizes: &Vec<NarrowSize, A>,
+) -> Result<Vec<Numbered, A>, AllocError>
     ensures items { IfOk result (λ w. w.items ≡ map widened sizes.now.items) }
     ensures room { IfOk result (λ w. vec_len w < vec_capacity w) }
 {
@@ -305,16 +310,17 @@ fn all_widened<A: Allocator + Copy>(sizes: &Vec<Small, A>) -> Result<Vec<Numbere
 }
 
 #[inline]
-fn is_at<T: Entry>(sizes: &[T], request: usize, place: usize) -> bool {
+fn is_at<T: NumberedValue>(sizes: &[T], request: usize, place: usize) -> bool {
     match sizes.get(place) {
         Some(size) => size.number() == request,
         None => false,
     }
 }
 
-/// Whether the numbers at two places rise: always, if both are there. (But a value that nothing uses is not read.)
+/// Whether the numbers at two places rise: always, if both are there. It is asked so that both are read, since the compiler leaves out a
+/// read that nothing uses.
 #[inline]
-fn rises<T: Entry>(sizes: &[T], first: usize, last: usize) -> bool {
+fn rises<T: NumberedValue>(sizes: &[T], first: usize, last: usize) -> bool {
     match (sizes.get(first), sizes.get(last)) {
         (Some(start), Some(end)) => start.number() <= end.number(),
         _ => false,
@@ -322,7 +328,7 @@ fn rises<T: Entry>(sizes: &[T], first: usize, last: usize) -> bool {
 }
 
 /// The sum of the sizes from `first` up to `end`.
-fn sum_between<T: Entry>(sizes: &[T], first: usize, end: usize) -> usize
+fn sum_between<T: NumberedValue>(sizes: &[T], first: usize, end: usize) -> usize
     requires order { first ≤ end }
     requires inside { end ≤ length sizes.now }
     requires fits { sizes_from (map T.seen sizes.now) first < 2 ^ 64 }
@@ -339,7 +345,7 @@ fn sum_between<T: Entry>(sizes: &[T], first: usize, end: usize) -> usize
 
 /// The sum of the sizes from a place up to the end of its block.
 #[inline]
-fn sum_of_rest<T: Entry>(sizes: &[T], at: usize) -> usize
+fn sum_of_rest<T: NumberedValue>(sizes: &[T], at: usize) -> usize
     requires inside { 8 * (at / 8 + 1) ≤ length sizes.now }
     requires fits { sizes_from (map T.seen sizes.now) at < 2 ^ 64 }
     ensures { result + sizes_from (map T.seen sizes.now) (8 * (at / 8 + 1)) ≡ sizes_from (map T.seen sizes.now) at }
@@ -354,7 +360,7 @@ fn sum_of_rest<T: Entry>(sizes: &[T], at: usize) -> usize
 
 /// The size at a place, or 0 if that is before `at`, which is in the same block.
 #[inline(always)]
-fn size_behind<T: Entry>(sizes: &[T], at: usize, place: usize) -> usize
+fn size_behind<T: NumberedValue>(sizes: &[T], at: usize, place: usize) -> usize
     requires inside { place < length sizes.now }
     requires block { place / 8 ≡ at / 8 }
     ensures before { place < at → result ≡ 0 }

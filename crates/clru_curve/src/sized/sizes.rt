@@ -1,5 +1,5 @@
 //! For each key the number of its latest request and its size. Sizes of earlier requests are 0, and are dropped now and then.
-ghost use Rattle.std.specs.Prelude.{◌≡◌, ℕ, suc, ◌+◌, ◌*◌, ◌/◌, ◌^◌, ◌<◌, ◌≤◌, List, [], ◌∷◌, ◌++◌, length, slice_set, OnOk};
+ghost use Rattle.std.specs.Prelude.{◌≡◌, ℕ, suc, ◌+◌, ◌*◌, ◌^◌, ◌<◌, ◌≤◌, List, [], ◌∷◌, ◌++◌, length, slice_set, OnOk};
 ghost use Rattle.clru_curve.specs.LatestSizes.{AreSums, IsRemoved, IsSummed, live_from, sizes_from, total_from};
 ghost use Rattle.clru_curve.specs.declared.numbered.Numbered.{Numbered};
 ghost use Rattle.clru_curve.specs.Rising.{numbered, value_at};
@@ -43,7 +43,7 @@ impl<A: Allocator + Copy> Sizes<A> {
         }
     }
 
-    /// Makes room for one more request, of a key of this size.
+    /// Makes room for one more request, of a key of this size. If memory is refused, the sizes stay.
     pub(crate) fn make_ready(&mut self, size: usize) -> Result<(), AllocError>
         requires kept { IsSummed self.old.sizes.items self.old.nodes.items self.old.requests }
         ensures kept { IsSummed self.new.sizes.items self.new.nodes.items self.new.requests }
@@ -168,6 +168,7 @@ impl<A: Allocator + Copy> Sizes<A> {
         ensures requests { self.new.requests ≡ self.old.requests }
     {
         let sizes = self.sizes.len();
+        // (the limit is never 0, but no clause says so)
         if sizes == 0 || sizes < self.limit {
             return;
         }

@@ -9,7 +9,7 @@ use crate::faithful::{Curve, Point, further, off, product};
 use clru_curve::{SizedCurve, Step};
 use std::alloc::Allocator;
 
-/// How many steps a block has at least, and how many of all are looked at first.
+/// How many steps the first block has that is tried, and at most how many of all are looked at first.
 const FEW_STEPS: usize = 64;
 
 /// A curve by size.
@@ -67,8 +67,9 @@ fn furthest_by_size<A: Allocator>(
     if found.1 > near { Some(found.0) } else { None }
 }
 
-// From one step up to the next the misses stay the same, so none but the ends of such a piece can lie furthest off. Only what
-// lies further off than `near` is looked for: where that is, something lies further off than `found` says at first, so that
+// Returns the capacity that lies furthest off, and how far that is, if it is more than `near`; else that nothing lies further off than
+// some number up to it. From one step up to the next the misses stay the same, so none but the ends of such a piece can lie furthest
+// off. Where anything lies further off than `near`, something lies further off than `found` says at first, so that
 // `a` does not stay. Behind a block that was skipped one twice as long is tried.
 fn greatest_by_size<A: Allocator>(
     curve: &SizedCurve<A>,
@@ -131,7 +132,7 @@ fn far_somewhere<A: Allocator>(curve: &SizedCurve<A>, a: usize, b: usize) -> u12
     far
 }
 
-// Nothing from `last` up to the last step before `after` lies further off than that.
+// Returns a number; nothing from `last` up to the last step before `after` lies further off than it.
 fn most_of_block<A: Allocator>(
     curve: &SizedCurve<A>,
     start: Point,
@@ -178,7 +179,7 @@ fn most_between(start: Point, end: Point, left: Point, right: Point) -> u128
         .max(off(start, end, below))
 }
 
-// Looks at a piece of the curve, from `first` up to the capacity before `next`.
+// Looks at a piece of the curve, from `first` up to the capacity before `next`. `f` is how far each capacity of the piece lies off.
 pub(super) fn further_on(
     start: Point,
     end: Point,

@@ -9,12 +9,12 @@ use Rattle.clru_curve.proofs.numbered.last_up_to.Goals as goal
 
 pub loop-count-preserved-then-number : goal.loop-count-preserved-then-number
 loop-count-preserved-then-number g c =
-    let sizes = c.args.values.now in let ss = map g.T.Entry.seen sizes in let all = length-map sizes g.T.Entry.seen in
+    let sizes = c.args.values.now in let ss = map g.T.NumberedValue.seen sizes in let all = length-map sizes g.T.NumberedValue.seen in
     let n = c.loop-count.count in let m = c.loop-count.first + n / 2 in
     let whole = div-add-mod' n 2 in let low = mod_below n 2 (omega arith) in
     let before : m < c.loop-count.first + n = omega (arith, whole, low, c.loop-count-test.true) in
     let inside : m < length sizes = omega (arith, before, c.loop-count.invariant.within) in
-    let here = number_seen g.T.Entry.seen sizes m _ inside c.index-values-first.is in
+    let here = number_seen g.T.NumberedValue.seen sizes m _ inside c.index-values-first.is in
     record {
       some = omega (arith, whole, low, c.loop-count-test.true);
       within = omega (arith, whole, low, c.loop-count.invariant.within);
@@ -32,11 +32,11 @@ loop-count-preserved-then-number g c =
 
 pub loop-count-preserved : goal.loop-count-preserved
 loop-count-preserved g c =
-    let sizes = c.args.values.now in let ss = map g.T.Entry.seen sizes in let all = length-map sizes g.T.Entry.seen in
+    let sizes = c.args.values.now in let ss = map g.T.NumberedValue.seen sizes in let all = length-map sizes g.T.NumberedValue.seen in
     let n = c.loop-count.count in let m = c.loop-count.first + n / 2 in
     let whole = div-add-mod' n 2 in let low = mod_below n 2 (omega arith) in
     let inside : m < length sizes = omega (arith, whole, low, c.loop-count-test.true, c.loop-count.invariant.within) in
-    let here = number_seen g.T.Entry.seen sizes m _ inside c.index-values-first.is in
+    let here = number_seen g.T.NumberedValue.seen sizes m _ inside c.index-values-first.is in
     record {
       some = omega (arith, whole, low, c.loop-count-test.true);
       within = omega (arith, whole, low, c.loop-count.invariant.within);

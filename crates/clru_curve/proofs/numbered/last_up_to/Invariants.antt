@@ -6,7 +6,7 @@ abbrev pub invariant-loop-count : goal.invariant-loop-count
 invariant-loop-count g l = record {
   some : 0 < l.count;
   within : l.first + l.count ≤ length l.values;
-  there : (i high : ℕ) → IsRising 0 (map g.T.Entry.seen l.values) high → number_at (map g.T.Entry.seen l.values) i ≡ l.number → i < length l.values
+  there : (i high : ℕ) → IsRising 0 (map g.T.NumberedValue.seen l.values) high → number_at (map g.T.NumberedValue.seen l.values) i ≡ l.number → i < length l.values
       → (l.first ≤ i) × (i < l.first + l.count);
 }
 

@@ -29,4 +29,4 @@ returns-clause-behind g c le =
     let near : behind < 8 = omega (arith, le, c.requires.block, div-add-mod' at 8, div-add-mod' place 8, rest') in
     let mask = eqb-true _ _ (agree_below_at (λ i. eqb (slice_index_or masks (8 + i) 0) all) (λ _. true) 8 behind refl near) in
     ap (λ m. bit_and size m) (ap (λ i. slice_index_or masks i 0) same ∙ mask) ∙ and_mask size 64 ∙ mod-eq_of_lt c.value.type_inv
-    ∙ c.value.ensures ∙ value_seen g.T.Entry.seen c.args.sizes.now place _ c.requires.inside c.index-sizes-place.is
+    ∙ c.value.ensures ∙ value_seen g.T.NumberedValue.seen c.args.sizes.now place _ c.requires.inside c.index-sizes-place.is

@@ -7,7 +7,7 @@ use Rattle.clru_curve.proofs.sized.size_list.sum_of_rest.Goals as goal
 pub overflow_add-sum : goal.overflow_add-sum
 overflow_add-sum g c =
     let at = c.args.at in let place = c.loop-place.place in
-    let all = sizes_step (map g.T.Entry.seen c.args.sizes.now) place in
+    let all = sizes_step (map g.T.NumberedValue.seen c.args.sizes.now) place in
     elim (cases_lt place at) [
       | inl lt ↦ omega (arith, c.size_behind-sum.ensures.before lt, c.loop-place.invariant.before (omega (arith, lt)))
       | inr ge ↦ omega (arith, c.size_behind-sum.ensures.behind ge, c.loop-place.invariant.behind ge, all, c.requires.fits)
@@ -15,7 +15,7 @@ overflow_add-sum g c =
 
 pub loop-place-preserved : goal.loop-place-preserved
 loop-place-preserved g c =
-    let ss = map g.T.Entry.seen c.args.sizes.now in let at = c.args.at in let place = c.loop-place.place in let next : place + 1 ≡ suc place = omega arith in
+    let ss = map g.T.NumberedValue.seen c.args.sizes.now in let at = c.args.at in let place = c.loop-place.place in let next : place + 1 ≡ suc place = omega arith in
     record {
       before = λ le. omega (arith, c.size_behind-sum.ensures.before (omega (arith, le)), c.loop-place.invariant.before (omega (arith, le)));
       behind = λ ge. elim (cases_lt place at) [

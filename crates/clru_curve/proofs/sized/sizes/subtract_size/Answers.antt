@@ -25,7 +25,7 @@ pub overflow_sub-nodes : goal.overflow_sub-nodes
 overflow_sub-nodes c =
     let ss = c.requires.sums.0 in let at = c.args.at in let is = c.requires.sums.1 in
     let behind : length ss / 8 ≤ at / 8 = omega (arith, c.if-at-count.false, ap (λ n. n / 8) is) in
-    omega (arith, open_clear ss at 0 (omega (arith, c.requires.inside, is)) behind, c.requires.sums.2, c.requires.sums.3.last)
+    omega (arith, open_clear ss at 0 (omega (arith, c.requires.inside, is)) behind, c.requires.sums.2, c.requires.sums.3.first)
 
 pub returns-then-at-count-clause-sums : goal.returns-then-at-count-clause-sums
 returns-then-at-count-clause-sums c ss m is value sums =
@@ -35,7 +35,7 @@ returns-then-at-count-clause-sums c ss m is value sums =
     record {
       counted = c.subtract_at.ensures.counted (full_from left) (IsCounted-same _ _ c.args.nodes.now
           (λ j. full_clear ss at m inside full j ∙ ap (λ a. full_from left j + up_by a j (at / 8)) value) sums.counted);
-      last = c.subtract_at.ensures.first ∙ sums.last ∙ sym (open_kept ss at m inside full);
+      first = c.subtract_at.ensures.first ∙ sums.first ∙ sym (open_kept ss at m inside full);
     }
 
 pub returns-else-at-count-clause-sums : goal.returns-else-at-count-clause-sums
@@ -45,6 +45,6 @@ returns-else-at-count-clause-sums c ss m is value sums =
     let behind : length ss / 8 ≤ at / 8 = omega (arith, c.if-at-count.false, ap (λ n. n / 8) is) in
     record {
       counted = IsCounted-first _ nodes _ (IsCounted-same _ _ nodes (λ j. full_kept ss at m inside behind j) sums.counted);
-      last = get_or-set_same nodes 0 _ 0 (omega (arith, c.requires.inside, c.requires.covers))
-          ∙ omega (arith, sums.last, open_clear ss at m inside behind, value);
+      first = get_or-set_same nodes 0 _ 0 (omega (arith, c.requires.inside, c.requires.covers))
+          ∙ omega (arith, sums.first, open_clear ss at m inside behind, value);
     }

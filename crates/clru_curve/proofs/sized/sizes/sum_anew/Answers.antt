@@ -40,6 +40,6 @@ returns-clause-sums g c =
     record {
       counted = IsCounted-first (full_from ss) nodes sum (IsCounted-same _ _ nodes
           (λ j. ap (λ at. sizes_from (take at ss) (8 * j)) full ∙ full_take ss j) c.loop-at.invariant.counted);
-      last = get_or-set_same nodes 0 sum 0 (omega (arith, c.requires.some, c.loop-at.invariant.same, c.fill.ensures.len))
+      first = get_or-set_same nodes 0 sum 0 (omega (arith, c.requires.some, c.loop-at.invariant.same, c.fill.ensures.len))
           ∙ omega (arith, c.sum_between-2.ensures, sizes_none ss c.len-2.result (omega (arith, c.len-2.ensures)), ap (sizes_from ss) turn);
     }

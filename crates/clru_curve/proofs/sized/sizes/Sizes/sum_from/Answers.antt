@@ -31,7 +31,7 @@ returns-then-block-len g c =
     let within : block ≤ length ss / 8 = omega (arith, c.if-block-len.true, c.len.ensures) in
     let some : 0 < length self.nodes.items = omega (arith, c.requires.kept.covers, c.requires.before) in
     let last = get_or_read self.nodes.items 0 c.index.result.now some c.index.ensures 0 in
-    omega (arith, c.sum_of_rest.ensures, rest, full_open ss block within, last, c.requires.kept.sums.last)
+    omega (arith, c.sum_of_rest.ensures, rest, full_open ss block within, last, c.requires.kept.sums.first)
 
 pub overflow_add-result-then-block-len : goal.overflow_add-result-then-block-len
 overflow_add-result-then-block-len g c =
