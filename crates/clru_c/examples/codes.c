@@ -179,7 +179,7 @@ static uint32_t call(int which, uint64_t low) {
 static const struct {
     const char *name;
     size_t requests, bytes;
-} needs[9] = {{"hits", 3, 644}, {"misses", 20, 24752}, {"misses by size", 36, 67760}, {"floors", 33, 39176}, {"floors by size", 35, 56920},
+} needs[9] = {{"hits", 3, 644}, {"misses", 20, 24752}, {"misses by size", 36, 59600}, {"floors", 33, 39176}, {"floors by size", 35, 56920},
               {"parts", 39, 44768}, {"greatest sizes", 24, 17960}, {"another size", 24, 17960},
               {"least", 5, 2672}};
 

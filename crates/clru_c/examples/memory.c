@@ -229,7 +229,7 @@ static void see_many(void) {
     curve(MANY);
     see_requested("misses", 63, 13727536);
     curve_by_size(MANY);
-    see_requested("misses by size", 70, 19729584);
+    see_requested("misses by size", 70, 17632464);
     held_by(clru_least_by_room(keys, MANY, &room, 1, 0, 0, &least, 1));
     see_requested("least", 4, 420352);
 }

@@ -131,7 +131,8 @@ uint32_t clru_floor_by_room(const uint64_t *keys, size_t keys_len, const size_t 
  * CLRU_TOO_LARGE only if the sizes (0 as 1) exceed 2^64 - 1 together, CLRU_TOO_SMALL only if they don't and a capacity is less than
  * the greatest size, and CLRU_OK in neither case.
  * Cost: for each request a look-up, and steps that go with the logarithm of their number; then two searches for each capacity.
- * Memory: 97 to 192 bytes for each request of another object, and 40 to 65 bytes for each of one that was requested before. */
+ * Memory: 93 to 171 bytes for each request of another object (up to 192 from the first size above 2^32 - 1 on), and 40 to 64 bytes
+ * for each of one that was requested before. */
 uint32_t clru_misses_by_size(const uint64_t *keys, size_t keys_len, const size_t *sizes, size_t sizes_len,
                              const size_t *capacities, size_t capacities_len, uint64_t seed_low, uint64_t seed_high,
                              size_t *misses, size_t misses_len, size_t *missed_sizes, size_t missed_sizes_len,
