@@ -21,17 +21,17 @@ module _ {K : Type 0} (eq : K → K → Bool) where
   recent_unlimited r [] = refl
   recent_unlimited r (q ∷ rs) = split (eq r.0 q.0) (λ t. rw t refl) (λ f. rw f (recent_unlimited r rs))
 
-  recent_holds : (limit : Option ℕ) (r : K × ℕ) (rs : List (K × ℕ)) → is_recent eq limit r rs ≡ true → holds eq r.0 (keys_of rs) ≡ true
+  pub recent_holds : (limit : Option ℕ) (r : K × ℕ) (rs : List (K × ℕ)) → is_recent eq limit r rs ≡ true → holds eq r.0 (keys_of rs) ≡ true
   recent_holds limit r rs recent = sym (recent_unlimited r rs) ∙ recent_grows eq limit None (λ n within. refl) r rs recent
 
 module _ {K : Type 0} (eq : K → K → Bool) (laws : IsEquivalence eq) where
   -- each key that was requested was fetched
-  abbrev AreFetched : (past fetches : List (K × ℕ)) → Type 0
+  abbrev pub AreFetched : (past fetches : List (K × ℕ)) → Type 0
   AreFetched past fetches = (x : K) → holds eq x (keys_of past) ≡ true → holds eq x (keys_of fetches) ≡ true
 
   module _ (hits : K → List K → Bool) (idle : Option ℕ) where
     -- with an idle limit alone
-    idle_hit : (r : K × ℕ) (past fetches : List (K × ℕ)) → AreFetched past fetches
+    pub idle_hit : (r : K × ℕ) (past fetches : List (K × ℕ)) → AreFetched past fetches
         → aged_hit eq hits idle None r past fetches ≡ (hits r.0 (keys_of past) && is_recent eq idle r past)
     idle_hit r past fetches all = split (is_recent eq idle r past)
         (λ t. let young : is_recent eq None r fetches ≡ true = recent_unlimited eq r fetches ∙ all r.0 (recent_holds eq idle r past t) in

@@ -30,6 +30,7 @@ pub mod GrowingRuns
 pub mod Hits
 pub mod IdleMarks
 pub mod Inclusion
+pub mod Joins
 pub mod KeyedRuns
 pub mod LatestOrder
 pub mod LatestRequests
@@ -39,6 +40,7 @@ pub mod Lookups
 pub mod Marks
 pub mod Optimum
 pub mod Orders
+pub mod PartKinds
 pub mod Parts
 pub mod Positions
 pub mod PutRuns
@@ -57,6 +59,7 @@ pub mod SpansByPosition
 pub mod Sublists
 pub mod Summing
 pub mod Taking
+pub mod TestedParts
 pub mod Versions
 pub mod Views
 pub mod Wanted

@@ -1,15 +1,14 @@
--- The first and the latest requests for keys, and the misses of two lists in a row.
-use Rattle.std.proofs.Common.{◌≡◌, ℕ, ◌+◌, Bool, true, false, cond, not, ◌||◌, List, [], ◌∷◌, ◌++◌, length, reverse, refl, sym, ap, ◌∙◌, append-nil, arith}
+-- The first and the latest requests for keys, of one list and of two in a row.
+use Rattle.std.proofs.Common.{◌≡◌, Bool, true, false, cond, not, ◌||◌, List, [], ◌∷◌, ◌++◌, length, reverse, refl, sym, ap, ◌∙◌, append-nil, arith}
 use Rattle.std.proofs.lemmas.Bool.{or_left, or_right}
 use Rattle.std.proofs.lemmas.List.{reverse-append, length-reverse, reverse-reverse}
 use Rattle.std.proofs.lemmas.List.Elements.{filter-append}
 use Rattle.std.specs.Cmp.{IsEquivalence}
-use Rattle.std.specs.List.{AllByRecursion, filter, count_by}
-use Rattle.clru_model.specs.Parts.{firsts, lasts, PartsMiss}
-use Rattle.clru_model.specs.Requests.{holds, distinct, since, hit, marks_after, misses}
+use Rattle.std.specs.List.{AllByRecursion, filter}
+use Rattle.clru_model.specs.Parts.{firsts, lasts}
+use Rattle.clru_model.specs.Requests.{holds, distinct, since}
 use Rattle.clru_model.proofs.Cases.{split}
-use Rattle.clru_model.proofs.Distinct.{others, holds-append, holds_same, same_right, holds-others, since-append, since-cons, distinct_mono}
-use Rattle.clru_model.proofs.Marks.{count_by-not-cons, count_by-not-append, marks_after-append}
+use Rattle.clru_model.proofs.Distinct.{others, holds-append, holds_same, same_right, holds-others, since-cons, distinct_mono}
 use Rattle.clru_model.proofs.Positions.{holds-reverse}
 
 pub all-filter : {X : Type 0} (P : X → Type 0) (q : X → Bool) (xs : List X) → AllByRecursion P xs → AllByRecursion P (filter q xs)
@@ -32,7 +31,7 @@ all_lasts P eq (x ∷ rs) all =
 
 module _ {K : Type 0} (eq : K → K → Bool) where
   -- of the requests, in order, the first one for each key that none of the past has
-  abbrev firsts_beyond : List K → List K → List K
+  abbrev pub firsts_beyond : List K → List K → List K
   firsts_beyond past [] = []
   firsts_beyond past (x ∷ rs) = cond (holds eq x past) (firsts_beyond (x ∷ past) rs) (x ∷ firsts_beyond (x ∷ past) rs)
 
@@ -69,7 +68,7 @@ module _ {K : Type 0} (eq : K → K → Bool) (laws : IsEquivalence eq) where
       (λ f. rw f (ap (λ b. eq z x || b) ih))
 
   -- also since x
-  holds_since-firsts : (x z : K) (past : List K) → holds eq z (since eq x (firsts eq past)) ≡ holds eq z (since eq x past)
+  pub holds_since-firsts : (x z : K) (past : List K) → holds eq z (since eq x (firsts eq past)) ≡ holds eq z (since eq x past)
   holds_since-firsts x z [] = refl
   holds_since-firsts x z (y ∷ past) =
       let ih = holds_since-firsts x z past in
@@ -128,81 +127,22 @@ module _ {K : Type 0} (eq : K → K → Bool) (laws : IsEquivalence eq) where
       split (holds eq x past) (λ t. rw t ih) (λ f. rw f (ap (λ l. x ∷ l) ih))
 
   -- all requests of the past are since a key that none of them asks for
-  since_beyond : (x : K) (past older : List K) → holds eq x past ≡ false → since eq x (past ++ older) ≡ past ++ since eq x older
+  pub since_beyond : (x : K) (past older : List K) → holds eq x past ≡ false → since eq x (past ++ older) ≡ past ++ since eq x older
   since_beyond x [] older new = refl
   since_beyond x (y ∷ past) older new =
       rw (since-cons eq x y (past ++ older)) (split (eq x y)
       (λ t. cc (rw t at new))
       (λ f. rw f (ap (λ l. y ∷ l) (since_beyond x past older (rw f at new)))))
 
-  module _ (p q : List K) (held : (z : K) → holds eq z p ≡ holds eq z q)
-      (behind : (x z : K) → holds eq z (since eq x p) ≡ holds eq z (since eq x q)) where
-    -- a key that is new since the past hits alike behind pasts that hold the same keys since each
-    hit_alike : (k : ℕ) (x : K) (c d : List K) → holds eq x c ≡ false → ((z : K) → holds eq z c ≡ holds eq z d)
-        → hit eq k x (c ++ p) ≡ hit eq k x (d ++ q)
-    hit_alike k x c d new same =
-        let new_too : holds eq x d ≡ false = sym (same x) ∙ new in
-        let all : distinct eq (c ++ since eq x p) ≡ distinct eq (d ++ since eq x q) =
-        distinct_same (c ++ since eq x p) (d ++ since eq x q) (λ z. rw (holds-append eq z c (since eq x p), holds-append eq z d (since eq x q), same z, behind x z) refl) in
-        rw (holds-append eq x c p, holds-append eq x d q, new, new_too, held x, since_beyond x c p new, since_beyond x d q new_too, all) refl
-
-    misses_beyond : (k : ℕ) (c d rs : List K) → ((z : K) → holds eq z c ≡ holds eq z d)
-        → count_by not (marks_after eq k (c ++ p) rs) + length (firsts_beyond eq c rs)
-        ≡ count_by not (marks_after eq k c rs) + count_by not (marks_after eq k (d ++ q) (firsts_beyond eq c rs))
-    misses_beyond k c d [] same = refl
-    misses_beyond k c d (x ∷ rs) same =
-        rw (count_by-not-cons (hit eq k x (c ++ p)), count_by-not-cons (hit eq k x c)) (split (holds eq x c)
-        (λ t. let alike : hit eq k x (c ++ p) ≡ hit eq k x c = rw (holds-append eq x c p, t, since-append eq laws x c p t) refl in
-        let more : (z : K) → holds eq z (x ∷ c) ≡ holds eq z d =
-        λ z. split (eq z x) (λ u. rw u (sym (sym (same z) ∙ holds_same eq laws z x c u ∙ t))) (λ v. rw v (same z)) in
-        let ih = misses_beyond k (x ∷ c) d rs more in
-        rw (alike, t) (omega (arith, ih)))
-        (λ f. let alike = hit_alike k x c d f same in
-        let ih = misses_beyond k (x ∷ c) (x ∷ d) rs (λ z. ap (λ b. eq z x || b) (same z)) in
-        let missed : hit eq k x c ≡ false = rw f refl in
-        rw (alike, missed, f, count_by-not-cons (hit eq k x (d ++ q))) (omega (arith, ih))))
-
-  -- requests that differ all miss
-  misses_lasts : (k : ℕ) (past rs : List K) → ((z : K) → holds eq z past ≡ true → holds eq z rs ≡ false)
-      → count_by not (marks_after eq k past (lasts eq rs)) ≡ length (lasts eq rs)
-  misses_lasts k past [] apart = refl
-  misses_lasts k past (x ∷ rs) apart =
-      let more : (z : K) → holds eq z past ≡ true → holds eq z rs ≡ false =
-      λ z h. split (holds eq z rs) (λ t. cc (sym (or_right (eq z x) (holds eq z rs) t) ∙ apart z h)) (λ f. f) in
-      split (holds eq x rs)
-      (λ t. rw t (misses_lasts k past rs more))
-      (λ f. let new : holds eq x past ≡ false =
-      split (holds eq x past) (λ u. cc (sym (or_left (eq x x) (holds eq x rs) (laws.refl x)) ∙ apart x u)) (λ v. v) in
-      let missed : hit eq k x past ≡ false = rw new refl in
-      let ih = misses_lasts k (x ∷ past) rs (λ z h. split (eq z x) (λ u. holds_same eq laws z x rs u ∙ f) (λ v. more z (rw v at h))) in
-      rw (f, count_by-not-cons (hit eq k x past), missed) (omega (arith, ih)))
-
   beyond_none : (ks : List K) → filter (λ y. not (holds eq y [])) ks ≡ ks
   beyond_none [] = refl
   beyond_none (k ∷ ks) = ap (λ l. k ∷ l) (beyond_none ks)
 
-  -- the misses of two lists in a row
-  misses-append : (k : ℕ) (one two : List K) → misses eq k (one ++ two) ≡ misses eq k one + count_by not (marks_after eq k (reverse one) two)
-  misses-append k one two =
-      rw (marks_after-append eq [] k one two, count_by-not-append (marks_after eq k [] one), append-nil (reverse one)) refl
-
-  pub parts_miss : PartsMiss eq
-  parts_miss k one two =
-      let p = reverse one in
-      let q = reverse (lasts eq one) in
-      let turned : q ≡ firsts eq p = reverse-lasts one in
-      let held : (z : K) → holds eq z p ≡ holds eq z q = λ z. sym (ap (holds eq z) turned ∙ holds-firsts z p) in
-      let behind : (x z : K) → holds eq z (since eq x p) ≡ holds eq z (since eq x q) =
-      λ x z. sym (ap (λ l. holds eq z (since eq x l)) turned ∙ holds_since-firsts x z p) in
-      let whole = misses_beyond p q held behind k [] [] two (λ z. refl) in
-      let first : firsts_beyond eq [] two ≡ firsts eq two = firsts_beyond-is [] two ∙ beyond_none (firsts eq two) in
-      let parts = rw first at whole in
-      let ends = misses_lasts k [] one (λ z h. cc) in
-      let keys : length (lasts eq one) ≡ distinct eq p = length-lasts eq one ∙ distinct_same one p (λ z. sym (holds-reverse eq z one)) in
-      rw (misses-append k one two, misses-append k (lasts eq one) (firsts eq two)) (omega (arith, parts, ends, keys, length-firsts two))
+  pub firsts_beyond-none : (rs : List K) → firsts_beyond eq [] rs ≡ firsts eq rs
+  firsts_beyond-none rs = firsts_beyond-is [] rs ∙ beyond_none (firsts eq rs)
 
   -- the latest requests of two lists in a row
-  lasts-append : (xs ys : List K) → lasts eq (xs ++ ys) ≡ filter (λ x. not (holds eq x ys)) (lasts eq xs) ++ lasts eq ys
+  pub lasts-append : (xs ys : List K) → lasts eq (xs ++ ys) ≡ filter (λ x. not (holds eq x ys)) (lasts eq xs) ++ lasts eq ys
   lasts-append [] ys = refl
   lasts-append (x ∷ xs) ys =
       let ih = lasts-append xs ys in
@@ -210,7 +150,7 @@ module _ {K : Type 0} (eq : K → K → Bool) (laws : IsEquivalence eq) where
       (λ t. rw t ih)
       (λ f. rw f (split (holds eq x ys) (λ u. rw u ih) (λ v. rw v (ap (λ l. x ∷ l) ih)))))
 
-  lasts-lasts : (rs : List K) → lasts eq (lasts eq rs) ≡ lasts eq rs
+  pub lasts-lasts : (rs : List K) → lasts eq (lasts eq rs) ≡ lasts eq rs
   lasts-lasts [] = refl
   lasts-lasts (x ∷ rs) =
       let ih = lasts-lasts rs in

@@ -7,6 +7,7 @@ pub mod Distances
 pub mod Entries
 pub mod Errors
 pub mod Floor
+pub mod Joins
 pub mod Laws
 pub mod Least
 pub mod Parts

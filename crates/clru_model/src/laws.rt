@@ -20,7 +20,9 @@ ghost use Rattle.clru_model.specs.Spans.{HitsAreWithin, MarksAreWithin, MissedSi
 ghost use Rattle.clru_model.specs.Spans.{HitsBySizeGrow, MissesBySizeFall, MissedSizeFalls};
 ghost use Rattle.clru_model.specs.Spans.{WeightlessTotalIsDistinct, WeightlessMarksAreMarks, WeightlessMissedSizeIsMisses};
 ghost use Rattle.clru_model.specs.Spans.{WeightlessSpanIsDistance};
-ghost use Rattle.clru_model.specs.Parts.{PartsMiss};
+ghost use Rattle.clru_model.specs.Joins.{JoinIsOfBoth, JoinsAssociate};
+ghost use Rattle.clru_model.specs.Parts.{PartsMiss, PartsMissBySize, PartsMissSize, SamplesKeepParts, TestedPartsMiss};
+ghost use Rattle.clru_model.specs.Parts.{IdlePartsMiss, IdlePartsMissBySize, IdlePartsMissSize};
 ghost use Rattle.clru_model.specs.SpansByPosition.{SpansAreByPosition, OneSpanForEach, TotalSumsFirst};
 ghost use Rattle.clru_model.specs.Least.{LeastIsThere, LeastIsOne, LeastFalls, RoomForAllHasDistinct, LeastIsNearFromAnyStart};
 ghost use Rattle.clru_model.specs.Least.{ReplayIsSchedule, LeastIsBelowReplay, ReplayIsNearLeast};
@@ -177,8 +179,22 @@ pub fn law_floor<K: Eq>()
 /// States that two parts of a list, each counted from an empty cache, have at least the misses of the whole, and at most the capacity
 /// more. The misses of the whole follow from those of each part, and those of the first part's latest requests for its keys with the
 /// second's first ones behind them. The requests for some of the keys, as a sample has them, have no more misses than all requests.
+///
+/// Clause `tested` is the general law: it holds for any test of hits that looks only at the latest request of a key and at which keys
+/// were requested since then, and at any cost of a miss. So it also holds by size, if equal keys have equal weights, and under an idle
+/// limit. It does not hold under an age limit, where a hit depends on the latest fetch. What is known of a part, by that law, can be
+/// joined to what is known of the next one, in any tree.
 pub fn law_parts<K: Eq>()
     ensures parts { PartsMiss K.eq }
+    ensures by_size { PartsMissBySize K.eq }
+    ensures size { PartsMissSize K.eq }
+    ensures idle { IdlePartsMiss K.eq }
+    ensures idle_by_size { IdlePartsMissBySize K.eq }
+    ensures idle_size { IdlePartsMissSize K.eq }
+    ensures tested { TestedPartsMiss K.eq }
+    ensures kept { SamplesKeepParts K.eq }
+    ensures joined { JoinIsOfBoth K.eq }
+    ensures associative { JoinsAssociate K.eq }
     ensures cut { CutsMissMore K.eq }
     ensures cut_few { CutsMissFewMore K.eq }
     ensures some_keys { SomeKeysMissLess K.eq }

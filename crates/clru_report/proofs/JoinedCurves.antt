@@ -7,7 +7,8 @@ use Rattle.std.specs.Cmp.Lexicographic.{nat_list_eq_equiv}
 use Rattle.std.specs.Prelude.{bytes_eq}
 use Rattle.clru_model.proofs.Bounds.{distinct_miss, no_more_miss}
 use Rattle.clru_model.proofs.Distances.{misses-room}
-use Rattle.clru_model.proofs.Parts.{distinct_joined, parts_miss}
+use Rattle.clru_model.proofs.PartKinds.{parts_miss}
+use Rattle.clru_model.proofs.Parts.{distinct_joined}
 use Rattle.clru_model.proofs.Distinct.{distinct_mono, holds-append}
 use Rattle.clru_model.proofs.Positions.{holds-reverse}
 use Rattle.clru_model.specs.Parts.{firsts, lasts}
