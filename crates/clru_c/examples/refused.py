@@ -38,6 +38,15 @@ def answered():
     return list(hits), misses, list(curve), distinct, *by_room, list(missed[0]), list(missed[1]), missed[2], list(floors[0]), list(floors[1])
 
 
+def printed():
+    """What a call returns without numpy, as it prints, and a quotient of its numbers."""
+    installed, clru.numpy = clru.numpy, None
+    misses, distinct = clru.misses_by_capacity(clru.numbered(["a", "b", "a"]), 3)
+    shown = f"{clru.hits_at([1, 2, 1], 2)[0]} {misses} {misses[2] / distinct} {clru.one_size([1, 1], [2, 3])} {clru.numbered(['a'])}"
+    clru.numpy = installed
+    return shown
+
+
 def sized():
     """Keys with several sizes: two objects, one of the greatest size, or refused."""
     keys, sizes = [1, 2, 1, 2, 1], [5, 6, 9, 6, 7]
@@ -93,6 +102,8 @@ def main():
     wanted = [False, False, True], 2, [3, 2, 2], 2, [3], [2], [3, 2], [16, 11], 11, [3, 2], [15, 11]
     if answered() != wanted:
         sys.exit(f"refused: {answered()}, and not {wanted}")
+    if printed() != "[False, False, True] [3, 2, 2] 1.0 [3, 3] [0]":
+        sys.exit(f"refused: without numpy results print as {printed()}")
     if list(clru.hits_at([], 1)[0]) or clru.misses_by_capacity([], 0)[1]:
         sys.exit("refused: an answer for no keys")
 

@@ -3,12 +3,12 @@
     import clru
     misses, distinct = clru.misses_by_capacity(clru.numbered(open("keys")), 1000)
 
-Keys, sizes and capacities are integers from 0 to 2^64 - 1, in a list or an array; keys that are none get numbers by `numbered`. What is
-answered is an array of numpy, where that is installed, and else of ctypes. Its numbers are unsigned: before you subtract take
-`misses.astype(numpy.int64)`. clru.h says at length what each call answers. A seed (0, 0) is the fastest; where strangers pick the keys
-take (secrets.randbits(64), secrets.randbits(64)), or they can make a call slow. The answers are the same.
+Keys, sizes and capacities are integers from 0 to 2^64 - 1, in a list or an array; keys that are none get numbers by `numbered`. Each call
+returns lists, or numpy arrays if numpy is installed. Their numbers are unsigned: before you subtract, convert them by
+`misses.astype(numpy.int64)`. clru.h says at length what each call returns. A seed (0, 0) is the fastest; if strangers pick the keys, pass
+(secrets.randbits(64), secrets.randbits(64)), or they can make a call slow. The results are the same.
 
-The library is `lib/libclru.so` of the package, or of the folder below which it was installed, or what `load` is given.
+The library is that of the wheel, or `lib/libclru.so` of the package or of the folder below which it was installed, or what `load` is given.
 """
 import ctypes
 import operator
@@ -43,14 +43,14 @@ def hits_at(keys, capacity, seed=SEED):
     keys, misses = _numbers(keys), ctypes.c_size_t()
     hits = _zeros(len(keys), ctypes.c_bool)
     _call("clru_hits_at", keys, _whole(capacity), *_words(seed), hits, misses)
-    return hits, misses.value
+    return _result(hits), misses.value
 
 
 def misses_by_capacity(keys, count, seed=SEED):
     """The misses at the capacities 1, 2 and so on up to `count`, in keys, and the number of distinct keys."""
     keys, misses, distinct = _numbers(keys), _zeros(_whole(count)), ctypes.c_size_t()
     _call("clru_misses_by_capacity", keys, *_words(seed), misses, distinct)
-    return misses, distinct.value
+    return _result(misses), distinct.value
 
 
 def least_by_room(keys, rooms, seed=SEED):
@@ -58,7 +58,7 @@ def least_by_room(keys, rooms, seed=SEED):
     keys, rooms = _numbers(keys), _numbers(rooms)
     least = _zeros(len(rooms))
     _call("clru_least_by_room", keys, rooms, *_words(seed), least)
-    return least
+    return _result(least)
 
 
 def misses_by_size(keys, sizes, capacities, seed=SEED):
@@ -67,7 +67,7 @@ def misses_by_size(keys, sizes, capacities, seed=SEED):
     keys, sizes, capacities = _numbers(keys), _numbers(sizes), _numbers(capacities)
     misses, missed_sizes, distinct_size = _zeros(len(capacities)), _zeros(len(capacities)), ctypes.c_size_t()
     _call("clru_misses_by_size", keys, sizes, capacities, *_words(seed), misses, missed_sizes, distinct_size)
-    return misses, missed_sizes, distinct_size.value
+    return _result(misses), _result(missed_sizes), distinct_size.value
 
 
 def floor_by_room(keys, rooms, seed=SEED):
@@ -75,7 +75,7 @@ def floor_by_room(keys, rooms, seed=SEED):
     keys, rooms = _numbers(keys), _numbers(rooms)
     floors = _zeros(len(rooms))
     _call("clru_floor_by_room", keys, rooms, *_words(seed), floors)
-    return floors
+    return _result(floors)
 
 
 def floor_by_size(keys, sizes, rooms, seed=SEED):
@@ -83,7 +83,7 @@ def floor_by_size(keys, sizes, rooms, seed=SEED):
     keys, sizes, rooms = _numbers(keys), _numbers(sizes), _numbers(rooms)
     misses, missed_sizes = _zeros(len(rooms)), _zeros(len(rooms))
     _call("clru_floor_by_size", keys, sizes, rooms, *_words(seed), misses, missed_sizes)
-    return misses, missed_sizes
+    return _result(misses), _result(missed_sizes)
 
 
 def split(missed, budget):
@@ -93,15 +93,15 @@ def split(missed, budget):
     if any(len(row) != _whole(budget) + 1 for row in rows):
         raise ValueError(CODES[2])
     _call("clru_split", _numbers([number for row in rows for number in row]), budget, parts)
-    return parts
+    return _result(parts)
 
 
 def numbered(names):
-    """An array that has a number for each of the names, the same one for equal names. A file gives its lines."""
+    """A number for each of the names, the same one for equal names. A file gives its lines."""
     if isinstance(names, TEXTS):
         raise TypeError("a text is one name: give its lines, as in clru.numbered(text.splitlines())")
     numbers = {}
-    return _numbers([numbers.setdefault(name, len(numbers)) for name in names])
+    return _result(_numbers([numbers.setdefault(name, len(numbers)) for name in names]))
 
 
 def one_size(keys, sizes, refuse=False, seed=SEED):
@@ -114,7 +114,7 @@ def one_size(keys, sizes, refuse=False, seed=SEED):
         key, size = keys[other], sizes[other]
         held = next(size for before, size in zip(keys, sizes) if before == key)
         raise ValueError(f"the key {key} has the sizes {held} and {size}: clru.one_size(keys, sizes) takes the greatest")
-    return sizes
+    return _result(sizes)
 
 
 def other_size(keys, sizes, seed=SEED):
@@ -189,6 +189,11 @@ def _numbers(values):
 def _copied(values):
     values = _numbers(values)
     return values.copy() if numpy is not None else type(values)(*values)
+
+
+def _result(array):
+    # an array of ctypes prints as an address
+    return array if numpy is not None else list(array)
 
 
 def _zeros(count, kind=ctypes.c_uint64):
