@@ -73,9 +73,30 @@ function enter(state) {
 
 // --- The log and the form of its lines -------------------------------------------------------------------------------------------
 
-function takeFile(taken) {
+// Several files as one log: what a server puts aside last was changed last.
+function logOf(given) {
+    const files = [...given].sort((one, two) => one.lastModified - two.lastModified);
+    const name = files[0].name + (files.length > 1 ? ` and ${files.length - 1} more` : "");
+    const lastModified = files.map((it) => [it.name, it.lastModified]);
+    return { files, name, size: files.reduce((sum, { size }) => sum + size, 0), lastModified };
+}
+
+// The log of the README of clru_mrc, as nginx writes it: one request in five goes round 1,000 feeds, the others ask for pages.
+function exampleLog() {
+    const lines = [];
+    for (let at = 0, drawn = 1; at < 60000; at++) {
+        drawn = drawn * 16807 % 2147483647;
+        const key = at % 5 ? Math.trunc(20000 * (drawn / 2147483647) ** 3) : at / 5 % 1000;
+        const second = String(at % 60).padStart(2, "0");
+        lines.push(`192.0.2.1 - - [01/Dec/2026:10:00:${second} +0000] "GET ${at % 5 ? "/page/" : "/feed/"}${key} HTTP/1.1" 200 ${900 + key % 7000} "-" "-"\n`);
+    }
+    return new File(lines, "example.log", { lastModified: 0 });
+}
+
+function takeFiles(given, isExample = false) {
     if (isBusy()) stop();
-    file = taken;
+    file = { ...logOf(given), isExample };
+    if (isExample) $("settings").reset();
     clear();
     show("settings", false);
     enter("empty");
@@ -100,10 +121,14 @@ function showHead(head) {
     }
     const guessed = guess();
     $("form").value = guessed;
-    $("seen").textContent = `${file.name}, ${bytesOf(file.size)}${head.packed ? ", packed by gzip" : ""}. ${looksLike(guessed)}`;
+    const [{ name }, ...more] = file.files;
+    const named = more.length ? `${1 + more.length} files, read as one log, the oldest first: ${file.files.map((it) => it.name).join(", ")};`
+        : file.isExample ? "A made-up log of 60,000 requests: one in five goes round 1,000 feeds, the others ask for pages;" : `${name},`;
+    $("seen").textContent = `${named} ${bytesOf(file.size)}${head.packed ? ", packed by gzip" : ""}. ${looksLike(guessed)}`;
     show("settings", true);
     takeForm(guessed);
     enter("ready");
+    if (file.isExample) $("settings").requestSubmit();
 }
 
 // What the first lines look like, in words.
@@ -161,6 +186,7 @@ function takeForm(name) {
     $("answered").checked = form.method > 0;
     $("queries").checked = false;
     for (const id of ["keys-label", "keys-hint", "queries-label"]) show(id, form.split !== null);
+    $("next-words").textContent = form.split ? "Is the key in the marked column? Then" : "Is each line a key? Then";
     show("answered-label", form.method > 0);
     show("heading-label", isColumns && name !== "json");
     showColumns();
@@ -388,13 +414,18 @@ function showReport(answered) {
     showRows();
     const isSplit = asked.words[0] === "--split";
     $("result-heading").textContent = isSplit ? "The split" : drawn ? "The curve" : "The table";
-    show("curve-advice", !isSplit && drawn);
+    show("curve-advice", !isSplit);
     show("split-advice", isSplit);
+    show("choose-capacity", !isSplit);
+    show("choose-part", isSplit);
+    // (nobody else has the example)
+    show("terminal", !file.isExample);
     for (const id of ["mark", "slide", "mark-hint"]) show(id, false);
     $("says").textContent = "";
     show("result", true);
     markStale();
     enter("drawn");
+    $("result").scrollIntoView();
 }
 
 const MOST_ROWS = 1000;
@@ -497,15 +528,19 @@ async function copy() {
 const quoted = (word) => (/^[\w./,:+-]+$/.test(word) && !word.startsWith("-") ? word : `'${word.replace(/'/g, "'\\''")}'`);
 
 function commandOf(cut, words) {
-    const name = quoted(file.name);
+    const names = file.files.map(({ name }) => quoted(name));
+    const paths = names.map((name) => (name.startsWith("-") || name.startsWith("'-") || name.includes("=") ? `./${name}` : name)).join(" ");
+    const isOne = names.length === 1;
+    // (awk reads unpacked files itself; `awk 1` ends each with a newline)
+    const unpacks = looked.packed && (isOne ? `zcat < ${names[0]} | ` : `zcat -f ${paths} | `);
+    const [before, behind] = unpacks ? [unpacks, ""] : isOne ? ["", ` < ${names[0]}`] : [`awk 1 ${paths} | `, ""];
     const asks = ["clru_mrc", ...words.map((word) => (word.startsWith("--") ? word : quoted(word)))].join(" ");
-    if (!cut.split) return looked.packed ? `zcat < ${name} | ${asks}` : `${asks} < ${name}`;
-    if (cut.split === "json") return (looked.packed ? `zcat < ${name} | ` : "") + `jq -Rr '${jqOf(cut)}'${looked.packed ? "" : ` < ${name}`} | ${asks}`;
+    if (!cut.split) return `${before}${asks}${behind}`;
+    if (cut.split === "json") return `${before}jq -Rr '${jqOf(cut)}'${behind} | ${asks}`;
     const hasQuotes = cut.split === "commas" && looked.lines.some(({ text }) => text.includes('"'));
     const unknown = hasQuotes ? "\n# (awk takes a comma in quotes for the end of a column)" : "";
     const awk = `awk ${{ blanks: "", tabs: "-F'\\t' ", commas: "-F, " }[cut.split]}'${awkOf(cut)}'`;
-    const path = name.startsWith("-") || name.includes("=") ? `./${name}` : name;
-    return (looked.packed ? `zcat < ${name} | ${awk} | ${asks}` : `${awk} ${path} | ${asks}`) + unknown;
+    return `${unpacks || ""}${awk}${unpacks ? "" : ` ${paths}`} | ${asks}${unknown}`;
 }
 
 // What a request has, in its order, as worker.js has it.
@@ -565,6 +600,8 @@ function showMarks(found) {
     const last = found.last > found.first ? found.last : found.first * 2;
     const [begin, length] = [logarithm(found.first), logarithm(last) - logarithm(found.first)];
     marks.across = found.rows.map(([capacity]) => LEFT + WIDTH * (logarithm(Math.min(capacity, last)) - begin) / length);
+    const knees = new Set(report.csv.trimEnd().split("\n").filter((row) => row.endsWith(",1")).map((row) => Number(row.split(",")[0])));
+    marks.knees = found.rows.keys().filter((at) => knees.has(found.rows[at][0])).toArray();
     moveTo(beginning(found));
 }
 
@@ -572,11 +609,7 @@ function showMarks(found) {
 function beginning(found) {
     const bySize = found.bytes !== undefined;
     const savedAt = ([capacity, misses, , missedBytes]) => (bySize ? found.bytes - missedBytes : found.requests - misses) / capacity;
-    const rows = report.csv.trimEnd().split("\n").slice(1).map((row) => row.split(","));
-    const knees = rows.filter((row) => row.at(-1) === "1").map(([capacity]) => Number(capacity));
-    // (the misses at a knee are those of the last fall up to it)
-    const falls = knees.map((knee) => found.rows.findLastIndex(([capacity]) => capacity <= knee)).filter((index) => index >= 0);
-    if (falls.length) return falls.reduce((best, index) => savedAt(found.rows[index]) > savedAt(found.rows[best]) ? index : best);
+    if (found.knees.length) return found.knees.reduce((best, at) => savedAt(found.rows[at]) > savedAt(found.rows[best]) ? at : best);
     const most = found.requests - found.rows.at(-1)[1];
     return Math.max(0, found.rows.findIndex(([, misses]) => found.requests - misses >= 0.9 * most));
 }
@@ -610,7 +643,8 @@ function say(capacity, misses, missedBytes) {
     const byBytes = missedBytes !== undefined;
     const unit = byBytes ? "bytes" : capacity === 1 ? "key" : "keys";
     const rounded = byBytes && capacity >= 1000 ? ` (${bytesOf(capacity)})` : "";
-    const parts = [bold(`${number(capacity)} ${unit}${rounded}`), ": hit ratio ", bold(percent(hits, requests)), ", "];
+    const knee = marks.knees.includes(marks.index) ? ", a knee" : "";
+    const parts = [bold(`${number(capacity)} ${unit}${rounded}`), `${knee}: hit ratio `, bold(percent(hits, requests)), ", "];
     parts.push(bold(number(hits)), ` ${hits === 1 ? "miss" : "misses"} saved of ${number(requests)}`);
     if (byBytes) {
         const saved = bytes - missedBytes;
@@ -620,8 +654,10 @@ function say(capacity, misses, missedBytes) {
     $("slider").setAttribute("aria-valuetext", $("says").textContent);
 }
 
-// The mark nearest to a place of the picture.
+// The mark nearest to a place of the picture; a knee a few pixels away goes first, because just before it is the worst capacity.
 function nearest(x) {
+    const knee = marks.knees.find((at) => Math.abs(marks.across[at] - x) < 60);
+    if (knee !== undefined) return knee;
     let [low, high] = [0, marks.across.length - 1];
     while (low < high) {
         const middle = (low + high) >> 1;
@@ -687,7 +723,8 @@ function begin() {
     startWorker();
     // (or a file that is chosen once more would be no change)
     $("file").onclick = () => { $("file").value = ""; };
-    $("file").onchange = () => $("file").files.length && takeFile($("file").files[0]);
+    $("file").onchange = () => $("file").files.length && takeFiles($("file").files);
+    $("example").onclick = () => takeFiles([exampleLog()], true);
     document.ondragover = (event) => {
         event.preventDefault();
         $("drop").classList.add("over");
@@ -698,7 +735,7 @@ function begin() {
         $("drop").classList.remove("over");
         if (event.dataTransfer.files.length) {
             $("file").files = event.dataTransfer.files;
-            takeFile(event.dataTransfer.files[0]);
+            takeFiles(event.dataTransfer.files);
         }
     };
     $("form").onchange = () => takeForm($("form").value);
@@ -706,6 +743,7 @@ function begin() {
     for (const id of ["at", "after", "idle", "age", "all", "least", "floor"]) $(id).oninput = markStale;
     $("budget").oninput = showColumns;
     $("copy").onclick = copy;
+    for (const link of document.querySelectorAll("a[href^='#choose']")) link.onclick = () => { $("choose").open = true; };
     $("settings").onsubmit = run;
     $("stop").onclick = stop;
     $("plot").onpointermove = follow;

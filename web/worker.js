@@ -1,7 +1,8 @@
 "use strict";
 // Reads a log, cuts its lines, and runs the program over what it cut, beside the page, which so stays alive.
 //
-// Messages to it: {module, script}, first of all; {look: file}, {sample: cut} and {run: {turn, file, cut, words}}. It answers with
+// Messages to it: {module, script}, first of all; {look: file}, {sample: cut} and {run: {turn, file, cut, words}}, where a file is a log as
+// page.js has it, {files, name, size, lastModified}. It answers with
 // {looked}, {sampled}, {progress}, {cut}, {nothing}, {estimate}, {report}, {marks} and {fault}, each of which the page knows by its name;
 // those of a run have its turn beside them. A large log is counted by parts, each in a worker that this one starts of the script, which is
 // this one: it gets {part: {module, blob, cut, parts}}, and answers with {read}, {counted} and {fault}.
@@ -37,7 +38,7 @@ async function* plainPiecesOf(blob, tell) {
 }
 
 // The same of a file that may be packed by gzip, and is unpacked then. `tell` is told how many bytes of the file are read.
-async function* piecesOf(file, tell) {
+async function* unpackedPiecesOf(file, tell) {
     if (!await isPacked(file)) {
         yield* plainPiecesOf(file, tell);
         return;
@@ -62,7 +63,21 @@ async function* piecesOf(file, tell) {
     }
 }
 
-// The first lines of a file, as bytes that end with a line's end or with the file.
+// The same of all files of a log, one after the other. A newline parts them where a file does not end with one.
+async function* piecesOf({ files }, tell) {
+    let [before, last] = [0, NEWLINE];
+    for (const file of files) {
+        if (last !== NEWLINE) yield Uint8Array.of(last = NEWLINE);
+        const begins = before;
+        for await (const piece of unpackedPiecesOf(file, (read) => tell(begins + read))) {
+            if (piece.length) last = piece[piece.length - 1];
+            yield piece;
+        }
+        before += file.size;
+    }
+}
+
+// The first lines of a log, as bytes that end with a line's end or with the log.
 async function headOf(file) {
     let head = new Uint8Array(0);
     for await (const piece of piecesOf(file, () => {})) {
@@ -512,7 +527,10 @@ function marksFor(program, picture, words) {
     whole.last = Math.max(whole.last, rows.at(-1)[0]);
     if (whole.last > Number.MAX_SAFE_INTEGER || whole.bytes > Number.MAX_SAFE_INTEGER) return null;
     const marks = program.ask(["--at", markedBetween(whole.first, whole.last).join(","), ...sizes, ...after, ...times]);
-    return marks.status === 0 ? { ...whole, rows: rowsOf(marks.text) } : null;
+    if (marks.status !== 0) return null;
+    // (the mark stops at each row of the table as well, or it would skip the knees)
+    const all = new Map([...rowsOf(marks.text), ...rows].map((row) => [row[0], row]));
+    return { ...whole, rows: [...all.values()].sort(([one], [two]) => one - two) };
 }
 
 // --- Messages ----------------------------------------------------------------------------------------------------------------
@@ -553,7 +571,7 @@ async function look(file) {
     }
     const fields = [...new Set(lines.flatMap((line) => [...line.fields.keys()]))];
     for (const line of lines) line.columns.json = line.fields.size ? fields.map((name) => line.fields.get(name) ?? "") : [];
-    return { lines, fields, packed: await isPacked(file) };
+    return { lines, fields, packed: (await Promise.all(file.files.map(isPacked))).includes(true) };
 }
 
 // What is read of the first lines, cut as it is to be.
@@ -636,7 +654,8 @@ function sumOf(one, two) {
 }
 
 // The curve of a large log in a fresh module, and what there is to tell of its lines; null of a log that is not for parts.
-async function countByParts(file, cut, tell) {
+async function countByParts({ files: [file, ...more] }, cut, tell) {
+    if (more.length) return null;
     const parts = Math.min(MOST_PARTS, navigator.hardwareConcurrency, Math.floor(file.size / PART));
     if (parts < 2 || await isPacked(file)) return null;
     const [workers, read] = [[], new Array(parts).fill(0)];
