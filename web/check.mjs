@@ -3,7 +3,7 @@
 // Both get the same words and the same log; status and text have to be the same, byte for byte. The last lines ask whether the
 // comparison sees a difference, whether a small block, a small text and a second call answer as they should, whether the page's
 // worker cuts the columns of lines, and counts odd ones, and whether logs that are counted by parts have the same reports. Words that
-// begin with --split are for the module's function of that name, and its help lacks their paragraph.
+// begin with --split are for the module's function of that name.
 import { spawnSync } from "node:child_process";
 import { readFileSync } from "node:fs";
 import { runInNewContext } from "node:vm";
@@ -144,7 +144,7 @@ const cases = [
     ["sizes", ["--sizes"], sized], ["all sizes", ["--sizes", "--all", "--svg"], sized], ["sizes at", ["--sizes", "--at=2KiB"], sized],
     ["a floor", ["--floor", "--least", "--svg"], plain], ["requests after the first ones", ["--after", "100", "--svg"], plain], ["floors by size", ["--floor", "--sizes", "--svg"], sized],
     ["an empty log", [], Buffer.alloc(0)], ["bytes of any kind", [], Buffer.from([0, 255, 10, 195, 10, 0, 255, 10, 13])],
-    ["the version", ["-V"], short],
+    ["the version", ["-V"], short], ["the help", ["--help"], short],
     ["no such word", ["--no"], short], ["no capacity", ["--at", "0"], short], ["words that do not go together", ["--all", "--at=1"], short],
     ["no size", ["--sizes"], Buffer.from("5 a\nb\n")], ["too large", ["--sizes"], Buffer.from("18446744073709551615 a\n1 b\n")],
     ["below the greatest size", ["--sizes", "--at=2"], Buffer.from("5 a\n")],
@@ -166,8 +166,6 @@ for (const [name, words, input] of cases) {
 same("a block that is too small", instance.ask([], plain, 4096, MIB), [3, "clru_mrc: memory ran out\n"]);
 same("a text that is too short", instance.ask([], plain, 16 * MIB, 20), [5, "clru_mrc: standard o"]);
 same("a block of no bytes", instance.ask(["--svg"], plain, 0, MIB), [3, "clru_mrc: memory ran out\n"]);
-const help = native(["--help"], short)[1];
-same("help", instance.ask(["--help"], short, MIB, MIB), [0, help.slice(0, help.indexOf("\n    --split"))]);
 same("no budget", instance.ask(["--split", "0"], classed, MIB, MIB), [2, "clru_mrc: a budget is at least 1\n"]);
 const other = Buffer.concat([short, Buffer.from("\nf\n")]);
 const [, one] = instance.ask([], short, MIB, MIB), [, two] = instance.ask([], other, MIB, MIB);

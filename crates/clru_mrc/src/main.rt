@@ -15,7 +15,7 @@ use clru_shares::{SplitOptions, split_options_of};
 use clru_text::{
     Command, Fault, HELP, Options, Refusal, Seed, VERSION, command_of, exit_status, write_report,
 };
-use split::{Budget, SPLIT_HELP, split_budget};
+use split::{Budget, split_budget};
 use std::env;
 use std::io::{ErrorKind, IsTerminal};
 use std::num::NonZeroUsize;
@@ -105,7 +105,7 @@ fn wrong(rt: &HostRuntime, line: &str) -> Refusal {
 // Does it, and gives the exit status.
 fn run_command(rt: &HostRuntime, command: &Command, progress: bool) -> u8 {
     let outcome = match command {
-        Command::Help => write_help(rt),
+        Command::Help => write_report(&mut rt.stdout(), HELP.as_bytes()),
         Command::Version => write_report(&mut rt.stdout(), VERSION.as_bytes()),
         Command::Report(options) => match seed_of(rt) {
             Some(seed) => return run_report(rt, options, progress, seed),
@@ -113,12 +113,6 @@ fn run_command(rt: &HostRuntime, command: &Command, progress: bool) -> u8 {
         },
     };
     report_outcome(rt, &outcome, "")
-}
-
-// The help of reports, and behind it that of splits.
-fn write_help(rt: &HostRuntime) -> Result<(), Fault> {
-    write_report(&mut rt.stdout(), HELP.as_bytes())?;
-    write_report(&mut rt.stdout(), SPLIT_HELP.as_bytes())
 }
 
 // The seed for hashes, or else a line that says that there is none.

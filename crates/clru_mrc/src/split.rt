@@ -6,19 +6,6 @@ use clru_shares::{SplitFault, SplitOptions, run_split, split_status};
 use clru_text::{Fault, Refusal, Seed, number_of_word};
 use std::num::NonZeroUsize;
 
-/// What `--help` prints of splits.
-pub(crate) const SPLIT_HELP: &str = "
-    --split N    divides a budget of N keys, or with --sizes of N bytes, among
-                 the classes of the log: each line begins with its class and a
-                 blank, with --sizes then its size and a blank, and is the key
-                 as a whole, but for the time that --times has before the class;
-                 the table has a row for each class, with its part, and one each
-                 for this best split, equal parts, and one cache for all; with
-                 --sizes, --times, --max-idle, --sample, --json and --svg only;
-                 status 6 is then also a line without a class, too many classes,
-                 or with --sizes a budget below the largest object
-";
-
 /// The budget that the arguments name: the word after `--split`.
 #[derive(Clone, Copy)]
 pub(crate) struct Budget {
@@ -39,7 +26,7 @@ impl Budget {
     pub(crate) fn take(&mut self, rt: &HostRuntime, word: &str) -> Result<bool, Refusal> {
         if self.is_next {
             let Some(budget) = number_of_word(word) else {
-                return Err(no_budget(rt));
+                return Err(no_budget(rt, word));
             };
             self.named = Some(budget);
             self.is_next = false;
@@ -52,18 +39,26 @@ impl Budget {
     /// The words ended. Returns the budget, if there is one.
     pub(crate) fn end(&self, rt: &HostRuntime) -> Result<Option<NonZeroUsize>, Refusal> {
         if self.is_next {
-            Err(no_budget(rt))
+            Err(no_budget(rt, ""))
         } else {
             Ok(self.named)
         }
     }
 }
 
-fn no_budget(rt: &HostRuntime) -> Refusal {
-    wrong(
-        rt,
-        "--split wants a budget: write --split 10000, or with --sizes --split 2GB",
-    )
+// The word after `--split` names no budget, often because of a comma.
+fn no_budget(rt: &HostRuntime, word: &str) -> Refusal {
+    if word.contains(',') {
+        wrong(
+            rt,
+            "--split does not understand the comma in its budget: write --split 10000, or with --sizes --split 2GB",
+        )
+    } else {
+        wrong(
+            rt,
+            "--split wants a budget: write --split 10000, or with --sizes --split 2GB",
+        )
+    }
 }
 
 /// Writes how the budget is split, and gives the exit status.
