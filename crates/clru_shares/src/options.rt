@@ -12,17 +12,17 @@ use std::num::NonZeroUsize;
 /// How a budget is split.
 #[derive(Clone, Copy, Debug, PartialEq, Eq)]
 pub struct SplitOptions {
-    /// How many keys all caches together have room for, or by size which size.
+    /// The keys that all caches together have room for, or by size their total size.
     pub budget: NonZeroUsize,
 
     /// Whether a size and a blank follow the class of each line, and capacities are sums of sizes.
     pub sizes: bool,
 
-    /// If each line begins with a time, which its class follows: a reuse after more than this, in millionths of the log's unit, counts as
-    /// a first request.
+    /// If each line begins with a time, before its class: the greatest idle time, in millionths of the log's unit. A later request counts
+    /// as a first one.
     pub idle: Option<usize>,
 
-    /// One key in so many is read, if not all are: those whose hash by FNV-1a is a multiple of it. What is written is told of all.
+    /// If not all keys are read: those whose hash by FNV-1a is a multiple of this number. What is written is an estimate for all.
     pub sample: Option<NonZeroUsize>,
 
     /// What is written.

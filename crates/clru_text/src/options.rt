@@ -10,16 +10,15 @@ use std::num::NonZeroUsize;
 /// The capacities of a table.
 #[derive(Debug, Drop)]
 pub enum Capacities<A: Allocator = Global> {
-    /// 1, 2, 5, 10, 20, 50 and so on up to the number of distinct keys, that number, and as many more that the misses between two lie
-    /// near the straight line. By size: those from the greatest size up to the size of the distinct keys together, that size, and such
-    /// ones.
+    /// 1, 2, 5, 10, 20, 50 and so on up to the number of distinct keys, that number, and more, until misses between two rows lie near the
+    /// straight line. By size: those from the greatest size up to the total size of the distinct keys, that total, and more likewise.
     Usual,
     /// 1, or the greatest size, and each from there on at which there are fewer misses than at the one before.
     Each,
-    /// These, each greater than the one before. By size none is to be below the greatest size; of a sample those below the greatest size that is
-    /// kept have no row.
+    /// These, each greater than the one before. By size none may be below the greatest size; of a sample those below its greatest size
+    /// have no row.
     Named(Vec<NonZeroUsize, A>),
-    /// The least at which that part of the requests hits. If none is such, the least with the fewest misses.
+    /// The least at which that part of the requests hits. If it is not reached, the least with the fewest misses.
     HitRatio(Billionths),
     /// The same of their size. By keys each has the size 1.
     ByteHitRatio(Billionths),
@@ -98,8 +97,8 @@ pub struct Options<A: Allocator = Global> {
     /// that bypasses keys.
     pub floor: bool,
 
-    /// Capacities are those of the sample; what is written is of all requests: capacities, misses and keys so many times as
-    /// many, of misses no more than requests, and of their size no more than that of all.
+    /// Capacities are those of the sample. In what is written capacities, misses and keys are multiplied by the number of keys of which
+    /// one is read, misses up to all requests, and missed sizes up to the size of all.
     pub sample: Sample,
 
     /// The number of first requests that fill the cache and are not counted; rows count the later ones. It goes with neither the

@@ -9,7 +9,7 @@ use crate::faithful::{Curve, Point, further, off, product};
 use clru_curve::{SizedCurve, Step};
 use std::alloc::Allocator;
 
-/// How many steps the first block has that is tried, and at most how many of all are looked at first.
+/// The steps of the first block, and the most steps that are looked at before any block.
 const FEW_STEPS: usize = 64;
 
 /// A curve by size.
@@ -67,10 +67,9 @@ fn furthest_by_size<A: Allocator>(
     if found.1 > near { Some(found.0) } else { None }
 }
 
-// Returns the capacity that lies furthest off, and how far that is, if it is more than `near`; else that nothing lies further off than
-// some number up to it. From one step up to the next the misses stay the same, so none but the ends of such a piece can lie furthest
-// off. Where anything lies further off than `near`, something lies further off than `found` says at first, so that
-// `a` does not stay. Behind a block that was skipped one twice as long is tried.
+// Returns the capacity that lies furthest off the line, and how far, if that is more than `near`; else a bound up to `near`. Misses are
+// constant between two steps, so only the ends of such a piece can lie furthest off. If anything lies further off than `near`, it also
+// lies further off than `found` says at first, so `a` is replaced. After a skipped block the next one is twice as long.
 fn greatest_by_size<A: Allocator>(
     curve: &SizedCurve<A>,
     a: usize,
@@ -112,7 +111,7 @@ fn greatest_by_size<A: Allocator>(
     further_on(start, end, last, b, misses, found.0, found.1)
 }
 
-// How far off some capacity lies: of a few steps that are looked at, the furthest. So the furthest of all lies no nearer.
+// The greatest distance of a few steps, which is a lower bound of that of all.
 fn far_somewhere<A: Allocator>(curve: &SizedCurve<A>, a: usize, b: usize) -> u128
     requires { a < b }
     ensures { (p : ℕ) × (a ≤ p) × (p < b) × (result ≡ off_at (missed_size_within curve.now) a b p) }
@@ -132,7 +131,7 @@ fn far_somewhere<A: Allocator>(curve: &SizedCurve<A>, a: usize, b: usize) -> u12
     far
 }
 
-// Returns a number; nothing from `last` up to the last step before `after` lies further off than it.
+// Returns a bound of how far off a capacity lies, from `last` up to the last step before `after`.
 fn most_of_block<A: Allocator>(
     curve: &SizedCurve<A>,
     start: Point,
@@ -160,7 +159,7 @@ fn most_of_block<A: Allocator>(
     most_between(start, end, left, right)
 }
 
-// A curve that falls from one point to another lies within their rectangle, of which a corner lies furthest off.
+// A falling curve between two points lies within their rectangle, so nothing lies further off than a corner.
 fn most_between(start: Point, end: Point, left: Point, right: Point) -> u128
     ensures { (m : ℕ → ℕ) (a b : ℕ) → start ≡ point_at m a → end ≡ point_at m b → a ≤ left.capacity → right.capacity ≤ b
         → (y : ℕ) → left.capacity ≤ y → y < right.capacity → right.misses ≤ m y → m y ≤ left.misses → off_at m a b y ≤ result }
