@@ -450,6 +450,7 @@ function showRows() {
     for (const row of rows.slice(0, MOST_ROWS)) {
         const made = body.insertRow();
         row.forEach((word, i) => made.append(element("td", shown(names[i], word))));
+        made.classList.toggle("knee", names.at(-1) === "knee" && row.at(-1) === "1");
     }
     $("rows").replaceChildren(top, body);
     $("rows").classList.toggle("classed", names[0] === "class");
