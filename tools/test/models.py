@@ -655,6 +655,14 @@ def with_one_size(requests):
     return [(key, greatest[key]) for key, _ in requests]
 
 
+def hashed(line):
+    """FNV-1a of 64 bits, by which one line in so many is kept."""
+    code = 14695981039346656037
+    for byte in line.encode():
+        code = (code ^ byte) * 1099511628211 % 2 ** 64
+    return code
+
+
 def six_digits(part, whole):
     whole = max(whole, 1)
     number = (2 * 10 ** 6 * part + whole) // (2 * whole)
