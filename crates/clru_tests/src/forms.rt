@@ -7,7 +7,7 @@ use ration::{Rationed, equal};
 use std::alloc::{Allocator, Global};
 
 /// A cache of texts over any memory, as their keys: what calls it is proved with no look at how that counts.
-type Texts<A> = CLruCache<String<A>, u64, DefaultState, ZeroWeightScale, A>;
+type Texts<A> = CLruCache<String<A>, &'static str, DefaultState, ZeroWeightScale, A>;
 
 type Heap<'a> = &'a Rationed<Global>;
 
@@ -34,7 +34,7 @@ fn requests_of<'a>(
     cache: &mut Texts<Heap<'a>>,
     key: String<Heap<'a>>,
 ) -> Option<u64> {
-    let _ = cache.put(key, 3);
+    let _ = cache.put(key, "red");
     let before = heap.requests();
     if looks(cache, "apple") {
         Some(heap.requests().wrapping_sub(before))
@@ -44,17 +44,20 @@ fn requests_of<'a>(
 }
 
 fn looks<A: Allocator + Copy>(cache: &mut Texts<A>, text: &str) -> bool {
-    finds(cache, text) && writes(cache, text) && cache.pop(text) == Some(3) && !cache.contains(text)
+    finds(cache, text)
+        && writes(cache, text)
+        && cache.pop(text) == Some("red")
+        && !cache.contains(text)
 }
 
 fn finds<A: Allocator + Copy>(cache: &Texts<A>, text: &str) -> bool {
-    cache.contains(text) && cache.peek(text).copied() == Some(3)
+    cache.contains(text) && cache.peek(text).copied() == Some("red")
 }
 
 fn writes<A: Allocator + Copy>(cache: &mut Texts<A>, text: &str) -> bool {
-    cache.get(text).copied() == Some(3)
-        && cache.peek_mut(text).copied() == Some(3)
-        && cache.get_mut(text).copied() == Some(3)
+    cache.get(text).copied() == Some("red")
+        && cache.peek_mut(text).copied() == Some("red")
+        && cache.get_mut(text).copied() == Some("red")
 }
 
 #[test]

@@ -54,4 +54,6 @@ mod stores;
 #[cfg(test)]
 mod strings;
 #[cfg(test)]
+mod units;
+#[cfg(test)]
 mod walks;
