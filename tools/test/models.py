@@ -120,12 +120,13 @@ def listed(pairs):
 
 def kept(which, number):
     """Whether a retain of this form keeps a number."""
-    return which[0] == "all" or which[0] == "even" and number % 2 == 0 or which[0] == "below" and number < int(which[1])
+    form, bound = which[0], int(which[1]) if len(which) > 1 and which[1].isdigit() else 0
+    return {"all": True, "none": False, "even": number % 2 == 0, "odd": number % 2 == 1, "below": number < bound, "above": number > bound}[form]
 
 
 def walked(pairs, steps):
     """The answers of steps of one iterator."""
-    left, said, steps = list(pairs), [], iter(steps)
+    left, other, said, steps = list(pairs), None, [], iter(steps)
     for step in steps:
         if step in ("nth", "nth_back"):
             index = int(next(steps))
@@ -137,7 +138,11 @@ def walked(pairs, steps):
         elif step == "size_hint":
             said.append(f"({len(left)}, Some({len(left)}))")
         elif step == "clone":
+            left, other = list(left), left
             said.append("done")
+        elif step == "other":
+            said.append("none" if other is None else "done")
+            left, other = (left, None) if other is None else (other, left)
         else:
             said.append(shown(left.pop(0 if step == "next" else -1) if left else None))
     return "; ".join(said)
@@ -251,19 +256,20 @@ class Cache:
                 return f"no memory, back {key} {value}"
         return "done"
 
-    def call_put_or_modify(self, key, data, form="store"):
+    def call_put_or_modify(self, key, data, form="store", error=None):
         fails = form in ("fails", "write-fails") or form == "odd-fails" and int(data) % 2 == 1
+        failed = " ".join(["failed"] + [data] * (form == "odd-fails") + [error] * (error is not None))
         held = self.find(key)
         if held is not None:
             self.to_front(held)
             if not fails or form == "write-fails":
                 held[1] = modified(form, key, held[1], data)
-            return "failed" if fails else held[1]
+            return failed if fails else held[1]
         # A closure is called once there is a place, and before the last pair goes.
         if len(self.pairs) < self.capacity and not self.places.ready(len(self.pairs)):
             return f"no memory, back {key} {data}"
         if fails:
-            return "failed"
+            return failed
         self.stores(key, data, lambda data: str(int(data) + len(key)) if form == "length" else data)
         return self.pairs[0][1]
 

@@ -11,6 +11,7 @@ use crate::world::World;
 use clru::{CLruCacheIntoIter, CLruCacheIter, PutError, WeightScale};
 use std::alloc::Allocator;
 use std::hash::BuildHasher;
+use std::mem;
 
 /// A walk over pairs that a cache is given up for.
 type Owned<S, W, A> = CLruCacheIntoIter<Key, Value, S, W, A>;
@@ -21,7 +22,7 @@ type Walk<'c, A> = CLruCacheIter<'c, Key, Value, A>;
 /// Says a value, or that there is none.
 pub fn say_value(value: Option<&Value>, out: &mut Out) {
     match value {
-        Some(value) => out.say(&value.text),
+        Some(value) => value.say(out),
         None => out.say("none"),
     }
 }
@@ -35,7 +36,7 @@ pub fn say_popped(value: Option<Value>, out: &mut Out) {
 pub(crate) fn say_pair(key: &Key, value: &Value, out: &mut Out) {
     out.say(&key.text);
     out.say(" ");
-    out.say(&value.text);
+    value.say(out);
 }
 
 /// Says a pair, or that there is none.
@@ -93,18 +94,41 @@ pub fn say_list<A: Allocator + Copy>(walk: Walk<'_, A>, out: &mut Out) {
     out.or("nothing");
 }
 
-/// Steps of one iterator, in turn: `next`, `next_back`, `nth N`, `len`, `size_hint`, `count`, and `clone`, which goes on with a
-/// copy.
+/// Steps of one iterator, in turn: `next`, `next_back`, `nth N`, `len`, `size_hint`, `count`; `clone`, which goes on with a copy, and
+/// `other`, with the one of both that stands still.
 fn walk<A: Allocator + Copy>(mut walk: Walk<'_, A>, words: &mut Words, out: &mut Out) {
+    let mut other = None;
     for _ in 0..usize::MAX {
         let Some(step) = words.next() else {
             break;
         };
         out.part("; ");
-        if !step_of(&mut walk, step, words, out) {
+        if !turned(&mut walk, &mut other, step, out) && !step_of(&mut walk, step, words, out) {
             words.note(Wrong::NoSuchWord);
         }
     }
+}
+
+/// Goes on with a copy, or with the iterator that stands still. Answers `false` where the name is neither.
+fn turned<'c, A: Allocator + Copy>(
+    walk: &mut Walk<'c, A>,
+    other: &mut Option<Walk<'c, A>>,
+    name: &str,
+    out: &mut Out,
+) -> bool {
+    let next = match name {
+        "clone" => walk.clone().ok(),
+        "other" => other.take(),
+        _ => return false,
+    };
+    match next {
+        Some(next) => {
+            *other = Some(mem::replace(walk, next));
+            out.say("done");
+        }
+        None => out.say("none"),
+    }
+    true
 }
 
 /// One step of such an iterator. Answers `false` where the name is none.
@@ -130,25 +154,17 @@ fn count_of<A: Allocator + Copy>(walk: &mut Walk<'_, A>, name: &str, out: &mut O
     match name {
         "len" => out.number(walk.len()),
         "size_hint" => say_hint(walk.size_hint(), out),
-        _ => return copy_of(walk, name, out),
+        "count" => count_copy(walk, out),
+        _ => return false,
     }
     true
 }
 
-/// What a copy counts, or going on with it. Answers `false` where the name is neither.
-fn copy_of<A: Allocator + Copy>(walk: &mut Walk<'_, A>, name: &str, out: &mut Out) -> bool {
-    let Ok(copy) = walk.clone() else {
-        return false;
-    };
-    match name {
-        "count" => out.number(copy.count()),
-        "clone" => {
-            *walk = copy;
-            out.say("done");
-        }
-        _ => return false,
+/// Counts what a copy gives.
+fn count_copy<A: Allocator + Copy>(walk: &Walk<'_, A>, out: &mut Out) {
+    if let Ok(copy) = walk.clone() {
+        out.number(copy.count());
     }
-    true
 }
 
 /// Says how many steps are left at least and at most.
@@ -238,12 +254,21 @@ fn change<S: BuildHasher, W: WeightScale<Key, Value>, A: Allocator + Copy>(
     true
 }
 
-/// Keeps the entries of a form.
+/// Keeps the entries of a form; of `odd-calls` those of the first, third, .. call, as the closure counts them.
 fn retain<S: BuildHasher, W: WeightScale<Key, Value>, A: Allocator + Copy>(
     cache: &mut Any<S, W, A>,
     world: &World,
     words: &mut Words,
 ) {
+    if words.passes("odd-calls") {
+        let mut calls = 0usize;
+        cache.retain(|key, _value| {
+            world.note("keep", &key.text);
+            calls = calls.wrapping_add(1);
+            calls % 2 == 1
+        });
+        return;
+    }
     let keep = Keep::read(words);
     cache.retain(|key, value| keep.keeps_entry(world, key, value));
 }
@@ -290,7 +315,7 @@ pub(crate) fn say_stored(replaced: Option<&Value>, out: &mut Out) {
     out.say("stored");
     if let Some(value) = replaced {
         out.say(", replaced ");
-        out.say(&value.text);
+        value.say(out);
     }
 }
 

@@ -1,5 +1,6 @@
 //! The closures that a line can name. Each notes its calls in the world.
 
+use crate::out::Out;
 use crate::pairs::{Key, Value};
 use crate::words::{Words, Wrong};
 use crate::world::World;
@@ -11,8 +12,12 @@ pub enum Keep {
     None,
     /// Those whose value is an even number,
     Even,
-    /// or one below that.
+    /// an odd one,
+    Odd,
+    /// one below that,
     Below(usize),
+    /// or one above it.
+    Above(usize),
 }
 
 impl Keep {
@@ -21,7 +26,9 @@ impl Keep {
             "all" => Keep::All,
             "none" => Keep::None,
             "even" => Keep::Even,
+            "odd" => Keep::Odd,
             "below" => Keep::Below(words.number()),
+            "above" => Keep::Above(words.number()),
             _ => {
                 words.note(Wrong::NoSuchWord);
                 Keep::All
@@ -41,7 +48,9 @@ impl Keep {
             Keep::All => true,
             Keep::None => false,
             Keep::Even => number % 2 == 0,
+            Keep::Odd => number % 2 == 1,
             Keep::Below(most) => number < most,
+            Keep::Above(least) => number > least,
         }
     }
 }
@@ -55,11 +64,11 @@ pub(crate) enum Form {
     Add,
     /// The length of the key is added to them. A held value that is that length is doubled, another halved, and they are added.
     Length,
-    /// Both fail,
-    Fails,
+    /// Both fail, with the error that is named,
+    Fails(Failed),
     /// that of a held key once it has written the data,
-    WriteFails,
-    /// or where the data are an odd number.
+    WriteFails(Failed),
+    /// or where the data are an odd number, which is the error.
     OddFails,
 }
 
@@ -69,8 +78,8 @@ impl Form {
             "store" => Form::Store,
             "add" => Form::Add,
             "length" => Form::Length,
-            "fails" => Form::Fails,
-            "write-fails" => Form::WriteFails,
+            "fails" => Form::Fails(Failed::read(words)),
+            "write-fails" => Form::WriteFails(Failed::read(words)),
             "odd-fails" => Form::OddFails,
             _ => {
                 words.note(Wrong::NoSuchWord);
@@ -109,9 +118,9 @@ impl Form {
 
     /// The value of a new key, where the closure does not fail.
     pub(crate) fn try_put(self, world: &World, key: &Key, data: Value) -> Result<Value, Failed> {
-        if self.fails(&data) {
+        if let Some(failed) = self.failed(&data) {
             world.note("put_op", &key.text);
-            return Err(Failed);
+            return Err(failed);
         }
         Ok(self.put(world, key, data))
     }
@@ -125,27 +134,51 @@ impl Form {
         data: &Value,
     ) -> Result<(), Failed> {
         world.note("modify_op", &key.text);
-        let fails = self.fails(data);
-        if !fails {
+        let Some(failed) = self.failed(data) else {
             self.write(key, held, data);
             return Ok(());
-        }
-        if let Form::WriteFails = self {
+        };
+        if let Form::WriteFails(_) = self {
             held.copy(data);
         }
-        Err(Failed)
+        Err(failed)
     }
 
-    /// Whether the closures fail at these data.
-    fn fails(self, data: &Value) -> bool {
+    /// The error with which the closures fail at these data, where they do.
+    fn failed(self, data: &Value) -> Option<Failed> {
+        let number = data.number();
         match self {
-            Form::Fails | Form::WriteFails => true,
-            Form::OddFails => data.number() % 2 == 1,
-            Form::Store | Form::Add | Form::Length => false,
+            Form::Fails(failed) | Form::WriteFails(failed) => Some(failed),
+            Form::OddFails if number % 2 == 1 => Some(Failed {
+                error: Some(number),
+            }),
+            Form::OddFails | Form::Store | Form::Add | Form::Length => None,
         }
     }
 }
 
-/// The error of a closure that fails.
+/// The error of a closure or a fetch that fails: a number, where a line names one.
 #[derive(Clone, Copy)]
-pub(crate) struct Failed;
+pub struct Failed {
+    pub error: Option<usize>,
+}
+
+impl Failed {
+    /// The number that is left, where one is.
+    pub fn read(words: &mut Words) -> Failed {
+        Failed {
+            error: if words.is_empty() {
+                None
+            } else {
+                Some(words.number())
+            },
+        }
+    }
+
+    pub fn say(self, out: &mut Out) {
+        out.say("failed");
+        if let Some(error) = self.error {
+            out.count(" ", error);
+        }
+    }
+}

@@ -38,7 +38,7 @@ pub fn cost_of<T: Subject + Drop>(
     };
     let mut out = Out::new(world.alloc);
     let before = world.cost();
-    make(&mut on, line, &mut out);
+    make(world, &mut on, line, &mut out);
     let cost = world.cost().since(before);
     if !out.text.starts_with("? ") {
         out.clear();

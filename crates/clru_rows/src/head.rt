@@ -61,7 +61,7 @@ impl Head {
     }
 
     /// Reads what follows the name, in any order. A word `from_iter` is the last one: behind it stand the items. A block of
-    /// requests says nothing but its hash.
+    /// requests says nothing but its hash, and a replay whether its keys fold.
     pub fn read(words: &mut Words, name: &str) -> Head {
         let mut head = Head::empty();
         let asks = ["cache", "costs", "list", "store", "store_costs", "runs"].contains(&name);
@@ -70,6 +70,7 @@ impl Head {
                 Some("from_iter") | None => break,
                 Some("hash") => head.hash = hash_of(words),
                 Some(word) if asks => head.take(word, words),
+                Some("fold") if name == "replay" => head.folded = true,
                 Some(_) => {}
             }
         }

@@ -14,6 +14,9 @@ use clru::{CLruCache, CLruCacheConfig, WeightScale};
 use std::alloc::Allocator;
 use std::hash::BuildHasher;
 
+/// A configuration of what is counted.
+type Config = CLruCacheConfig<Key, Value, Hashing, Scale>;
+
 /// Runs a block, which begins with `makers of caches`.
 pub(crate) fn run(world: &'static World, lines: &[Line], answers: &mut Answers) {
     answers.say("");
@@ -30,7 +33,8 @@ pub(crate) fn run(world: &'static World, lines: &[Line], answers: &mut Answers) 
     }
 }
 
-/// Calls the maker of that name, with a capacity and, where it takes one, a reserve.
+/// Calls the maker of that name, with a capacity and, where it takes one, a reserve; behind `then` stands one that a configuration
+/// takes in its place, and behind `again` one with which a refused configuration is given once more.
 fn make(world: &'static World, name: &str, words: &mut Words, out: &mut Out) {
     let (heap, before, capacity) = (&world.heap, world.cost(), words.capacity());
     heap.refuse_none();
@@ -49,29 +53,42 @@ fn make(world: &'static World, name: &str, words: &mut Words, out: &mut Out) {
             Err(_) => out.say("no memory"),
         },
         "with_config" | "config" => {
-            let config = CLruCacheConfig::new(capacity)
+            let mut config = CLruCacheConfig::new(capacity)
                 .with_hasher(world.hashing())
                 .with_scale(Scale { world })
                 .with_memory(words.number());
+            if words.passes("then") {
+                config = config.with_memory(words.number());
+            }
             if name == "config" {
                 say_cost(world.cost().since(before), out);
             } else {
-                with_config(world, config, before, out);
+                with_config(world, config, words, out);
             }
         }
         _ => words.note(Wrong::NoSuchCall),
     }
 }
 
-fn with_config(
-    world: &'static World,
-    config: CLruCacheConfig<Key, Value, Hashing, Scale>,
-    before: Cost,
-    out: &mut Out,
-) {
+fn with_config(world: &'static World, config: Config, words: &mut Words, out: &mut Out) {
+    if let Some(config) = refused_of(world, config, out) {
+        out.say("no memory");
+        if words.passes("again") {
+            out.say("; again ");
+            let _ = refused_of(world, config.with_memory(words.number()), out);
+        }
+    }
+}
+
+/// Says what the cache of a configuration asked for, or answers the configuration that came back.
+fn refused_of(world: &'static World, config: Config, out: &mut Out) -> Option<Config> {
+    let before = world.cost();
     match CLruCache::with_config(&world.heap, config) {
-        Ok(mut cache) => filled(world, &mut cache, before, out),
-        Err(_) => out.say("no memory"),
+        Ok(mut cache) => {
+            filled(world, &mut cache, before, out);
+            None
+        }
+        Err(config) => Some(config),
     }
 }
 

@@ -102,6 +102,9 @@ impl Hash for Key {
     }
 }
 
+/// The word of an empty value.
+const EMPTY: &str = "''";
+
 /// A word as a value. Contracts see its weight alone.
 pub struct Value {
     pub text: Owned,
@@ -112,15 +115,20 @@ pub struct Value {
 impl Value {
     /// The value of a word. What should be a number and is none weighs 0.
     pub fn new(world: &'static World, word: &str) -> Value {
+        let mut text = owned(world, word);
+        if word == EMPTY {
+            // It owns a block as the others do.
+            text.clear();
+        }
         let weight = if !world.head.weighs {
             0
         } else if world.head.by_number {
             number_of(word).unwrap_or(0)
         } else {
-            word.len()
+            text.len()
         };
         Value {
-            text: owned(world, word),
+            text,
             weight,
             world,
         }
@@ -152,7 +160,11 @@ impl Value {
     }
 
     pub fn say(&self, out: &mut Out) {
-        out.say(&self.text);
+        if self.text.is_empty() {
+            out.say(EMPTY);
+        } else {
+            out.say(&self.text);
+        }
     }
 
     /// Another number in its place. Where there is no memory for it, it stays cut short.

@@ -2,7 +2,7 @@
 
 use crate::cache::Any;
 use crate::calls::{called, say_back, say_pair, say_stored, say_value};
-use crate::closures::{Failed, Form, Keep};
+use crate::closures::{Form, Keep};
 use crate::out::Out;
 use crate::pairs::{Key, Value};
 use crate::words::{Words, Wrong};
@@ -127,7 +127,7 @@ fn try_put_or_modify<S: BuildHasher, A: Allocator + Copy>(
     );
     match lent {
         Ok(lent) => lent.say(out),
-        Err(TryPutError::Failed(Failed)) => out.say("failed"),
+        Err(TryPutError::Failed(failed)) => failed.say(out),
         Err(TryPutError::NoMemory(key, data)) => say_back(&key, &data, out),
     }
 }
@@ -189,7 +189,7 @@ fn lend_end<S: BuildHasher, A: Allocator + Copy>(
     };
     match what {
         "key" => out.say(&entry.key().text),
-        "deref" => out.say(&entry.text),
+        "deref" => entry.say(out),
         "deref_mut" => swap(Some(&mut *entry), world, words, out),
         "into_mut" => swap(Some(entry.into_mut()), world, words, out),
         _ => words.note(Wrong::NoSuchWord),
@@ -251,7 +251,7 @@ fn swap(lent: Option<&mut Value>, world: &'static World, words: &mut Words, out:
     match lent {
         Some(held) => {
             let old = mem::replace(held, value);
-            out.say(&old.text);
+            old.say(out);
         }
         None => out.say("none"),
     }

@@ -35,10 +35,11 @@ impl Subject for Replays {
     }
 }
 
-/// `replay CAPACITY KEYS`: M for each miss and H for each hit, and the number of misses; or the keys that came back for want of
+/// `replay CAPACITY KEYS`, or `replay CAPACITY fold KEYS`: M for each miss and H for each hit, and the number of misses; or the keys that came back for want of
 /// memory, or how many.
 fn replayed(world: &'static World, words: &mut Words, out: &mut Out) {
     let capacity = words.capacity();
+    let _folds = words.passes("fold");
     let list = read_keys(world, words);
     let mut keys = Vec::new(&world.owned);
     for key in &list {

@@ -63,7 +63,7 @@ fn answer_to<T: Subject>(
 ) {
     let (before, refused) = (world.cost(), world.heap.refused());
     let _ = world.notes();
-    make(subject, line, out);
+    make(world, subject, line, out);
     *cost = world.cost().since(before);
     if answers.refused.is_some() && world.heap.refused() != refused {
         answers.meet(line.call);
@@ -71,7 +71,7 @@ fn answer_to<T: Subject>(
         answers.met.say(&out.text);
         if is_refusal(&out.text) {
             out.clear();
-            make(subject, line, out);
+            make(world, subject, line, out);
             answers.met.say("; again -> ");
             answers.met.say(&out.text);
         }
@@ -84,19 +84,86 @@ fn is_refusal(answer: &str) -> bool {
     answer.contains("no memory") || answer.starts_with("passed")
 }
 
-/// Makes the call of a line. `times N` before it makes it so often, with the last answer as the answer.
-pub fn make<T: Subject>(subject: &mut T, line: &Line, out: &mut Out) {
+/// Makes the call of a line. `times N` before it makes it so often, with the last answer as the answer; `each M N` once for each
+/// number from M to N, up or down, which stands for `*` in it, with all answers.
+pub fn make<T: Subject>(world: &World, subject: &mut T, line: &Line, out: &mut Out) {
     let mut words = Words::new(line.call);
+    if words.passes("each") {
+        each(world, subject, &mut words, out);
+        return;
+    }
     let mut count = 1;
     if words.passes("times") {
         count = words.number();
     }
-    let name = words.word();
     for _ in 0..count {
-        out.clear();
-        let mut rest = words;
-        subject.call(name, &mut rest, out);
-        rest.end(out);
+        call_of(subject, words, out);
+    }
+}
+
+/// Makes the call of these words.
+fn call_of<T: Subject>(subject: &mut T, mut words: Words, out: &mut Out) {
+    out.clear();
+    let name = words.word();
+    subject.call(name, &mut words, out);
+    words.end(out);
+}
+
+/// Makes the call of the words behind two numbers for each number from the first to the second, and says all answers.
+fn each<T: Subject>(world: &World, subject: &mut T, words: &mut Words, out: &mut Out) {
+    let (first, last) = words.numbers(2);
+    let mut run = Run::new(world);
+    for step in 0..=first.abs_diff(last) {
+        let number = if first < last {
+            first.saturating_add(step)
+        } else {
+            first.saturating_sub(step)
+        };
+        call_of(subject, words.with_number(world.alloc, number), out);
+        run.add(out);
+    }
+    run.end();
+    out.clear();
+    out.say(&run.said.text);
+}
+
+/// Answers one after the other, where those that are the same are said once.
+#[derive(Drop)]
+struct Run {
+    said: Out,
+    latest: Out,
+    times: usize,
+}
+
+impl Run {
+    fn new(world: &World) -> Run {
+        Run {
+            said: Out::new(world.alloc),
+            latest: Out::new(world.alloc),
+            times: 0,
+        }
+    }
+
+    fn add(&mut self, answer: &Out) {
+        if self.latest.text.as_str() != answer.text.as_str() {
+            self.end();
+            self.latest.clear();
+            self.latest.say(&answer.text);
+        }
+        self.times = self.times.saturating_add(1);
+    }
+
+    /// Says the latest answer, and how often it came.
+    fn end(&mut self) {
+        if self.times > 0 {
+            self.said.part("; ");
+            self.said.say(&self.latest.text);
+        }
+        if self.times > 1 {
+            self.said.count(", ", self.times);
+            self.said.say(" times");
+        }
+        self.times = 0;
     }
 }
 

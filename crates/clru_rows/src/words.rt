@@ -1,6 +1,7 @@
 //! The words of a line: keys, values, numbers and forms.
 
 use crate::out::Out;
+use std::alloc::Global;
 use std::num::NonZeroUsize;
 
 /// Why a line is no call.
@@ -59,6 +60,23 @@ impl Words {
         let (word, rest) = text.split_once(' ').unwrap_or((text, ""));
         self.rest = rest;
         if word.is_empty() { None } else { Some(word) }
+    }
+
+    /// The words that are left, with a number in place of the first `*`. Their text stays as long as the program.
+    pub(crate) fn with_number(&self, alloc: Global, number: usize) -> Words {
+        let Some((before, after)) = self.rest.split_once("*") else {
+            return *self;
+        };
+        let mut out = Out::new(alloc);
+        out.say(before);
+        out.number(number);
+        out.say(after);
+        let Out { text, is_short: _ } = out;
+        let text: &'static [u8] = text.into_bytes().leak();
+        Words {
+            rest: str::from_utf8(text).unwrap_or(""),
+            wrong: self.wrong,
+        }
     }
 
     /// Whether none is left.

@@ -1,6 +1,7 @@
 //! What a script's caches stand on: memory that is counted and can be refused, and what was done so far. A world stays as long
 //! as the program, as each text of the script does: code that borrows a cache whose type has a lifetime is dear to prove.
 
+use crate::closures::Failed;
 use crate::head::Head;
 use crate::pairs::Hashing;
 use ration::Rationed;
@@ -22,6 +23,8 @@ pub struct World {
     /// The fetches from the first of these numbers to below the second one fail, counted from the start of the block.
     pub fails_from: Cell<u64>,
     pub fails_below: Cell<u64>,
+    /// The error with which they do.
+    pub failed: Cell<Failed>,
     /// The memory of caches, and
     pub heap: Rationed<Global>,
     /// that of keys and values.
@@ -79,6 +82,7 @@ impl World {
             fetched: Cell::new(0),
             fails_from: Cell::new(0),
             fails_below: Cell::new(0),
+            failed: Cell::new(Failed { error: None }),
             heap: Rationed::new(alloc),
             owned: Rationed::new(alloc),
             is_short: Cell::new(false),

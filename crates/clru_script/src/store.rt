@@ -6,7 +6,7 @@ ghost use Rattle.std.proofs.Common.{rules};
 use clru_rows::answers::Answers;
 use clru_rows::cache::made;
 use clru_rows::calls::{read, say_found, say_list, say_popped, say_value};
-use clru_rows::closures::Keep;
+use clru_rows::closures::{Failed, Keep};
 use clru_rows::costs::cost_of;
 use clru_rows::fault::Fault;
 use clru_rows::lines::Line;
@@ -21,10 +21,6 @@ use clru_through::{Answer, ByPromise, Fetch, Loaded, Through};
 use ration::Rationed;
 use std::alloc::{Allocator, Global};
 use std::hash::BuildHasher;
-
-/// A fetch fails where the line `fail` asked for it.
-#[derive(Clone, Copy)]
-struct Failed;
 
 /// Gives each key so many times.
 #[derive(Drop)]
@@ -54,7 +50,7 @@ impl Fetch<Key, Value, Failed, ByPromise> for Origin {
         let number = self.world.fetched.get();
         add(&self.world.fetched);
         if self.world.fails_from.get() <= number && number < self.world.fails_below.get() {
-            return Err(Failed);
+            return Err(self.world.failed.get());
         }
         Ok(self.value(key))
     }
@@ -161,7 +157,7 @@ impl Subject for Store {
     }
 }
 
-/// `fail N`: each fetch after the next N ones; `fail one N`: the one after them alone; `fail none`.
+/// `fail N`: each fetch after the next N ones; `fail one N`: the one after them alone; `fail none`. A number behind it is the error.
 fn fail(world: &'static World, words: &mut Words) {
     if words.passes("none") {
         world.fails_below.set(0);
@@ -175,6 +171,7 @@ fn fail(world: &'static World, words: &mut Words) {
     } else {
         u64::MAX
     });
+    world.failed.set(Failed::read(words));
 }
 
 /// Takes a store apart, and says what it held and how often it fetched.
@@ -200,10 +197,10 @@ fn got<S: BuildHasher, A: Allocator + Copy>(
             *passed = 0;
             say_popped(store.take_passed(), out);
         }
-        "take_error" => out.say(match store.take_error() {
-            Some(Failed) => "failed",
-            None => "none",
-        }),
+        "take_error" => match store.take_error() {
+            Some(failed) => failed.say(out),
+            None => out.say("none"),
+        },
         _ => return false,
     }
     true
@@ -298,7 +295,7 @@ fn say_loaded(loaded: Result<Loaded<Value>, Failed>, out: &mut Out) {
         Ok(Loaded::Held { fetched: true }) => out.say("fetched"),
         Ok(Loaded::Held { fetched: false }) => out.say("held"),
         Ok(Loaded::Passed(value)) => say_of("passed ", value, out),
-        Err(Failed) => out.say("failed"),
+        Err(failed) => failed.say(out),
     }
 }
 
@@ -310,7 +307,7 @@ fn say_answer(answer: Result<Answer<'_, Value>, &Failed>, out: &mut Out) -> u64 
             say_of("passed ", value, out);
             return 1;
         }
-        Err(Failed) => out.say("failed"),
+        Err(failed) => failed.say(out),
     }
     0
 }
@@ -326,7 +323,7 @@ fn say_put(put: Result<(), Value>, out: &mut Out) {
 /// Says what became of a value.
 fn say_of(what: &str, value: &Value, out: &mut Out) {
     out.say(what);
-    out.say(&value.text);
+    value.say(out);
 }
 
 /// Makes a call of the whole store. Answers `false` where the name is none of these.

@@ -59,7 +59,7 @@ impl Block {
     /// A call that was refused memory has changed nothing, but where it is of several puts.
     fn leave_out(&mut self, name: &str) {
         self.made = false;
-        if ["extend", "times"].contains(&name) {
+        if ["extend", "times", "each"].contains(&name) {
             self.cache = Cache::Unknown;
         }
     }
@@ -86,12 +86,41 @@ impl Cache {
             (_, ["times", count, call @ ..]) => {
                 (0..number(count)?).map(|_| self.call(call)).last()?
             }
+            (_, ["each", first, last, call @ ..]) => self.each(number(first)?, number(last)?, call),
             (Cache::Plain(of, cache), _) => {
                 answer(cache, *of, call).or_else(|| plain(cache, *of, call))
             }
             (Cache::Weighted(of, cache), _) => answer(cache, *of, call),
         }
     }
+
+    /// The call for each number from the first to the last one, up or down, which stands for `*` in it.
+    fn each(&mut self, first: usize, last: usize, call: &[&str]) -> Option<String> {
+        let mut numbers: Vec<_> = (first.min(last)..=first.max(last)).collect();
+        if first > last {
+            numbers.reverse();
+        }
+        let mut answers = Vec::new();
+        for number in numbers {
+            let number = number.to_string();
+            let words: Vec<_> = call
+                .iter()
+                .map(|word| if *word == "*" { &number[..] } else { word })
+                .collect();
+            answers.push(self.call(&words)?);
+        }
+        Some(joined(&answers))
+    }
+}
+
+/// Answers one after the other, where those that are the same are said once.
+fn joined(answers: &[String]) -> String {
+    let runs = answers.chunk_by(|answer, next| answer == next);
+    let said = runs.map(|run| match run {
+        [answer] => answer.clone(),
+        _ => format!("{}, {} times", run[0], run.len()),
+    });
+    said.collect::<Vec<_>>().join("; ")
 }
 
 /// What a first line makes, and what it answers.

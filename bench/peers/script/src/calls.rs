@@ -72,6 +72,14 @@ pub fn answer<W: WeightScale<Key, Value> + Default>(
         ["pop_back"] => shown_pair(cache.pop_back().as_ref().map(|(key, value)| (key, value))),
         ["clear"] => done(cache.clear()),
         ["resize", capacity] => done(cache.resize(NonZeroUsize::new(number(capacity)?)?)),
+        ["retain", "odd-calls"] => {
+            let mut calls = 0;
+            done(cache.retain(|key, _| {
+                note("keep", &key.text);
+                calls += 1;
+                calls % 2 == 1
+            }))
+        }
         ["retain", ref keep @ ..] => {
             let keep = Keep::read(keep)?;
             done(cache.retain(|key, value| keep.keeps(key, value)))
@@ -89,11 +97,11 @@ fn yes(is: bool) -> String {
 }
 
 pub fn shown(value: Option<&Value>) -> String {
-    value.map_or("none".into(), |value| value.text.clone())
+    value.map_or("none".into(), Value::shown)
 }
 
 fn text_of(key: &Key, value: &Value) -> String {
-    format!("{} {}", key.text, value.text)
+    format!("{} {}", key.text, value.shown())
 }
 
 fn shown_pair(pair: Option<(&Key, &Value)>) -> String {
@@ -122,7 +130,7 @@ pub fn stored<W: WeightScale<Key, Value>>(
     note("answered", "");
     let mut said = match &put {
         Ok(None) => String::from("stored"),
-        Ok(Some(value)) => format!("stored, replaced {}", value.text),
+        Ok(Some(value)) => format!("stored, replaced {}", value.shown()),
         Err((key, value)) => format!("too heavy, back {}", text_of(key, value)),
     };
     let held: HashSet<_> = cache.iter().map(|(key, _)| &key.letters).collect();
@@ -137,7 +145,7 @@ pub fn stored<W: WeightScale<Key, Value>>(
 /// Steps of one iterator, in turn.
 fn walk(mut walk: CLruCacheIter<Key, Value>, steps: &[&str]) -> Option<String> {
     let mut steps = steps.iter();
-    let mut said = Vec::new();
+    let (mut said, mut other) = (Vec::new(), None);
     while let Some(step) = steps.next() {
         said.push(match *step {
             "next" => shown_pair(walk.next()),
@@ -148,9 +156,17 @@ fn walk(mut walk: CLruCacheIter<Key, Value>, steps: &[&str]) -> Option<String> {
             "count" => walk.clone().count().to_string(),
             "size_hint" => format!("{:?}", walk.size_hint()),
             "clone" => {
-                walk = walk.clone();
+                let copy = walk.clone();
+                other = Some(mem::replace(&mut walk, copy));
                 done(())
             }
+            "other" => match other.take() {
+                Some(next) => {
+                    other = Some(mem::replace(&mut walk, next));
+                    done(())
+                }
+                None => "none".into(),
+            },
             _ => return None,
         });
     }

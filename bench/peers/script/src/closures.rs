@@ -8,7 +8,9 @@ pub enum Keep {
     All,
     None,
     Even,
+    Odd,
     Below(usize),
+    Above(usize),
 }
 
 impl Keep {
@@ -17,7 +19,9 @@ impl Keep {
             ["all"] => Some(Keep::All),
             ["none"] => Some(Keep::None),
             ["even"] => Some(Keep::Even),
+            ["odd"] => Some(Keep::Odd),
             ["below", most] => Some(Keep::Below(number(most)?)),
+            ["above", least] => Some(Keep::Above(number(least)?)),
             _ => None,
         }
     }
@@ -28,7 +32,9 @@ impl Keep {
             Keep::All => true,
             Keep::None => false,
             Keep::Even => value.number() % 2 == 0,
+            Keep::Odd => value.number() % 2 == 1,
             Keep::Below(most) => value.number() < most,
+            Keep::Above(least) => value.number() > least,
         }
     }
 }
@@ -39,8 +45,8 @@ pub enum Form {
     Store,
     Add,
     Length,
-    Fails,
-    WriteFails,
+    Fails(Option<usize>),
+    WriteFails(Option<usize>),
     OddFails,
 }
 
@@ -50,26 +56,29 @@ impl Form {
             [] | ["store"] => Some(Form::Store),
             ["add"] => Some(Form::Add),
             ["length"] => Some(Form::Length),
-            ["fails"] => Some(Form::Fails),
-            ["write-fails"] => Some(Form::WriteFails),
+            ["fails"] => Some(Form::Fails(None)),
+            ["fails", error] => Some(Form::Fails(Some(number(error)?))),
+            ["write-fails"] => Some(Form::WriteFails(None)),
+            ["write-fails", error] => Some(Form::WriteFails(Some(number(error)?))),
             ["odd-fails"] => Some(Form::OddFails),
             _ => None,
         }
     }
 
-    fn fails(self, data: &Value) -> bool {
+    /// The error with which the closures fail at these data, where they do: a number, where one is named.
+    fn failed(self, data: &Value) -> Option<Option<usize>> {
         match self {
-            Form::Fails | Form::WriteFails => true,
-            Form::OddFails => data.number() % 2 == 1,
-            _ => false,
+            Form::Fails(error) | Form::WriteFails(error) => Some(error),
+            Form::OddFails if data.number() % 2 == 1 => Some(Some(data.number())),
+            _ => None,
         }
     }
 
     /// The value of a new key.
-    pub fn put(self, key: &Key, mut data: Value) -> Result<Value, ()> {
+    pub fn put(self, key: &Key, mut data: Value) -> Result<Value, Option<usize>> {
         note("put_op", &key.text);
-        if self.fails(&data) {
-            return Err(());
+        if let Some(error) = self.failed(&data) {
+            return Err(error);
         }
         if self == Form::Length {
             data.text = (data.number() + key.text.len()).to_string();
@@ -78,16 +87,13 @@ impl Form {
     }
 
     /// What becomes of the value of a held one.
-    pub fn modify(self, key: &Key, held: &mut Value, data: Value) -> Result<(), ()> {
+    pub fn modify(self, key: &Key, held: &mut Value, data: Value) -> Result<(), Option<usize>> {
         note("modify_op", &key.text);
-        let fails = self.fails(&data);
-        if !fails || self == Form::WriteFails {
+        let failed = self.failed(&data);
+        if failed.is_none() || matches!(self, Form::WriteFails(_)) {
             held.text = self.changed(key, held.number(), &data);
         }
-        if fails {
-            return Err(());
-        }
-        Ok(())
+        failed.map_or(Ok(()), Err)
     }
 
     fn changed(self, key: &Key, old: usize, data: &Value) -> String {

@@ -54,6 +54,9 @@ impl Drop for Key {
     }
 }
 
+/// The word of an empty value.
+const EMPTY: &str = "''";
+
 /// A word as a value.
 #[derive(Clone)]
 pub struct Value {
@@ -62,6 +65,15 @@ pub struct Value {
 }
 
 impl Value {
+    /// The word for it: an empty one has two quotes.
+    pub fn shown(&self) -> String {
+        if self.text.is_empty() {
+            EMPTY.into()
+        } else {
+            self.text.clone()
+        }
+    }
+
     /// The number that it is, or 0 where it is none.
     pub fn number(&self) -> usize {
         number(&self.text).unwrap_or(0)
@@ -124,6 +136,7 @@ impl Of {
     }
 
     pub fn value(self, word: &str) -> Option<Value> {
+        let word = if word == EMPTY { "" } else { word };
         let weight = match self.weigh {
             Weigh::Nothing => 0,
             Weigh::Length => word.len(),

@@ -28,7 +28,11 @@ pub fn plain(cache: &mut Made<ZeroWeightScale>, of: Of, call: &[&str]) -> Option
             let put = |key: &Key, data| form.put(key, data);
             let modify = |key: &Key, held: &mut Value, data| form.modify(key, held, data);
             let lent = cache.try_put_or_modify(of.key(key), put, modify, of.value(data)?);
-            lent.map_or("failed".into(), |value| value.text.clone())
+            match lent {
+                Ok(value) => value.text.clone(),
+                Err(Some(error)) => format!("failed {error}"),
+                Err(None) => "failed".into(),
+            }
         }
         ["extend", ref words @ ..] => done(cache.extend(pairs_of(of, words)?)),
         ["get_mut", key, value] => written(cache.get_mut(&of.key(key)), of.value(value)?),

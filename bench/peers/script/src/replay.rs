@@ -9,10 +9,14 @@ const MOST: usize = 40;
 
 /// M for each miss, H for each hit, and the number of misses.
 pub fn replay(capacity: usize, words: &[&str]) -> Option<String> {
+    let (folded, words) = match words {
+        ["fold", words @ ..] => (true, words),
+        _ => (false, words),
+    };
     let keys = keys_of(words)?;
     let of = Of {
         capacity,
-        folded: false,
+        folded,
         weigh: Weigh::Nothing,
     };
     let mut cache: Made<ZeroWeightScale> = made(capacity, None)?;
